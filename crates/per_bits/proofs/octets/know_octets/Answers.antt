@@ -1,0 +1,6 @@
+use Rattle.std.proofs.Common.{arith}
+use Rattle.per_bits.proofs.WholeOctets.{bytes-below}
+use Rattle.per_bits.proofs.octets.know_octets.Goals as goal
+
+pub returns : goal.returns
+returns c = bytes-below c.args.octets.now (λ i. let h = c.type_inv.octets i in omega (arith, h))

@@ -1,0 +1,9 @@
+pub mod Octet
+pub mod Bits
+pub mod Numbers
+pub mod Formats
+pub mod Spelling
+pub mod Reading
+pub mod Writing
+pub mod Written
+pub mod Names

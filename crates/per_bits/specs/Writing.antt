@@ -1,0 +1,131 @@
+-- Writing behind the bits so far.
+use Rattle.std.specs.Prelude.{◌≡◌, ℕ, suc, ◌+◌, ◌-◌, ◌/◌, ◌^◌, ◌&&◌, Bool, false, if◌then◌else◌, nat_le, nat_lt, ◌==◌, List, [], ◌∷◌, ◌++◌, length, Option, Some, None, Result, Ok, Err, ◌⊎◌, is_some}
+use Rattle.std.proofs.Common.{inl, inr}
+use Rattle.per_bits.specs.declared.fault.PerFault.{PerFault}
+use Rattle.per_bits.specs.declared.fault.PerFault.TheVariants.{Range}
+use Rattle.per_bits.specs.declared.fault.PerError.{PerError}
+use Rattle.per_bits.specs.Octet.{all_below}
+use Rattle.per_bits.specs.Bits.{octet_bits, octets_of_bits, pad, ◌>>=◌, Fails}
+use Rattle.per_bits.specs.Formats.{Format, number, octets, octets_between, octet_string, bit_string, bits_between, enumerated, closed, items, open_type, plain, sequence, choice, Fields, done, must, may, skip, fixed, marked, Alternatives, last, either, Value, Values, Chosen, alternatives}
+use Rattle.per_bits.specs.Numbers.{whole}
+use Rattle.per_bits.specs.Spelling.{length_octets}
+
+-- What a function returned, and what it left, is what writing gives, unless memory ran out.
+abbrev pub Wrote : {X : Type 0} → Result X PerError → List Bool → Result (List Bool) PerFault → Type 0
+Wrote (Ok x) after write = write ≡ Ok after
+Wrote (Err e) after write = Fails e write
+
+-- bits as octets, zero bits up to the last octet's end
+unfoldable pub padded : List Bool → List ℕ
+padded bs = octets_of_bits ((length bs + 7) / 8) (bs ++ pad (length bs))
+
+unfoldable pub write_number : ℕ → ℕ → ℕ → List Bool → Result (List Bool) PerFault
+write_number lo hi n out =
+    if nat_le lo n && (nat_le n hi && nat_lt (n - lo) (2 ^ 64)) then Ok (out ++ whole lo hi n (length out))
+    else Err Range
+
+unfoldable pub write_octets : ℕ → List ℕ → List Bool → Result (List Bool) PerFault
+write_octets n os out =
+    if length os == n && all_below 256 os then Ok (if nat_lt n 3 then out ++ octet_bits os else out ++ pad (length out) ++ octet_bits os)
+    else Err Range
+
+-- octets, from the next octet on
+unfoldable pub write_aligned : List ℕ → List Bool → Result (List Bool) PerFault
+write_aligned os out = if all_below 256 os then Ok (out ++ (pad (length out) ++ octet_bits os)) else Err Range
+
+unfoldable pub write_length : ℕ → List Bool → Result (List Bool) PerFault
+write_length n out = if nat_lt n 16384 then Ok (out ++ (pad (length out) ++ octet_bits (length_octets n))) else Err Range
+
+unfoldable pub write_string : List ℕ → List Bool → Result (List Bool) PerFault
+write_string os out = do
+  counted ← write_length (length os) out
+  write_aligned os counted
+
+unfoldable pub write_bits : ℕ → List Bool → List Bool → Result (List Bool) PerFault
+write_bits n b out = if length b == n then Ok (if nat_lt n 17 then out ++ b else out ++ (pad (length out) ++ b)) else Err Range
+
+-- an Extended enumerator is not written
+abbrev pub write_enumerated : ℕ → ℕ ⊎ ℕ → List Bool → Result (List Bool) PerFault
+write_enumerated n (inl k) out = write_number 0 n k (out ++ false ∷ [])
+write_enumerated n (inr k) out = Err Range
+
+unfoldable pub write_each : {A : Type 0} → (A → List Bool → Result (List Bool) PerFault) → List A → List Bool → Result (List Bool) PerFault
+write_each w [] out = Ok out
+write_each w (a ∷ more) out = do
+  after ← w a out
+  write_each w more after
+
+-- a complete encoding
+abbrev pub write_whole : {A : Type 0} → (A → List Bool → Result (List Bool) PerFault) → A → Result (List ℕ) PerFault
+write_whole w a = do
+  bs ← w a []
+  Ok (padded bs)
+
+-- the presence bits; what is not kept is not written
+abbrev pub presence : (fs : Fields) → Values fs → List Bool
+presence done v = []
+presence (must f fs) v = presence fs v.1
+presence (may f fs) v = is_some v.0 ∷ presence fs v.1
+presence (skip f fs) v = false ∷ presence fs v
+presence (fixed lo hi n fs) v = presence fs v
+presence (marked lo hi n fs) v = presence fs v
+
+abbrev pub write_optional : {A : Type 0} → (A → List Bool → Result (List Bool) PerFault) → Option A → List Bool → Result (List Bool) PerFault
+write_optional w None out = Ok out
+write_optional w (Some a) out = w a out
+
+abbrev pub index_of : (alts : Alternatives) → Chosen alts → ℕ
+index_of (last f) v = 0
+index_of (either f alts) (inl v) = 0
+index_of (either f alts) (inr v) = suc (index_of alts v)
+
+abbrev mutual
+  pub write_at : (f : Format) → Value f → List Bool → Result (List Bool) PerFault
+  write_at (number lo hi) n out = write_number lo hi n out
+  write_at (octets n) os out = write_octets n os out
+  write_at (octets_between lo hi) os out = do
+    counted ← write_number lo hi (length os) out
+    write_aligned os counted
+  write_at octet_string os out = write_string os out
+  write_at (bit_string n) b out = write_bits n b out
+  write_at (bits_between lo hi) b out = do
+    counted ← write_number lo hi (length b) out
+    Ok (counted ++ (pad (length counted) ++ b))
+  write_at (enumerated n) v out = write_enumerated n v out
+  write_at (closed f) v out = write_at f v (out ++ false ∷ [])
+  write_at (items lo hi f) vs out = do
+    counted ← write_number lo hi (length vs) out
+    write_each (write_at f) vs counted
+  write_at (open_type f) v out = do
+    os ← write_whole (write_at f) v
+    write_string os out
+  write_at (plain fs) v out = write_fields fs v (out ++ presence fs v)
+  write_at (sequence fs) v out = write_fields fs v (out ++ false ∷ presence fs v)
+  write_at (choice alts) v out = do
+    chosen ← write_number 0 (alternatives alts - 1) (index_of alts v) (out ++ false ∷ [])
+    write_chosen alts v chosen
+
+  pub write_fields : (fs : Fields) → Values fs → List Bool → Result (List Bool) PerFault
+  write_fields done v out = Ok out
+  write_fields (must f fs) v out = do
+    first ← write_at f v.0 out
+    write_fields fs v.1 first
+  write_fields (may f fs) v out = do
+    first ← write_optional (write_at f) v.0 out
+    write_fields fs v.1 first
+  write_fields (skip f fs) v out = write_fields fs v out
+  write_fields (fixed lo hi n fs) v out = do
+    first ← write_number lo hi n out
+    write_fields fs v first
+  write_fields (marked lo hi n fs) v out = do
+    first ← write_number lo hi n out
+    write_fields fs v first
+
+  pub write_chosen : (alts : Alternatives) → Chosen alts → List Bool → Result (List Bool) PerFault
+  write_chosen (last f) v out = write_at f v out
+  write_chosen (either f alts) (inl v) out = write_at f v out
+  write_chosen (either f alts) (inr v) out = write_chosen alts v out
+
+-- the one spelling of a value as a whole octet string, or Range where it has none
+abbrev pub complete_write : (f : Format) → Value f → Result (List ℕ) PerFault
+complete_write f v = write_whole (write_at f) v

@@ -1,0 +1,33 @@
+//! The index of a CHOICE (X.691 clause 23).
+
+ghost use Rattle.std.specs.Prelude.{◌≡◌, ◌++◌, ◌∷◌, ◌≤◌, [], false, IfOk};
+ghost use Rattle.per_bits.specs.declared.fault.PerFault.TheVariants.{Alternative};
+ghost use Rattle.per_bits.specs.Bits.{Answers};
+ghost use Rattle.per_bits.specs.Reading.{closed_at, number_at};
+ghost use Rattle.per_bits.specs.Writing.{write_number, Wrote};
+
+use crate::fault::{PerError, PerFault};
+use crate::reader::BitReader;
+use crate::whole::{offset_of, put_number};
+use crate::writer::BitWriter;
+
+/// The index of an alternative, the last of which has index `last`; an extension bit of 1 is Alternative.
+#[tactic(auto, unfolding(crate::specs::Reading::number_at))]
+pub fn take_choice(last: u64, reader: &mut BitReader) -> Result<u64, PerFault>
+    ensures exact { Answers (λ n. n) result reader.new (closed_at Alternative (number_at 0 last) reader.old) }
+    ensures within { IfOk result (λ n. n ≤ last) }
+{
+    let extended = reader.take_bit()?;
+    if extended {
+        return Err(PerFault::Alternative);
+    }
+    offset_of(last, reader)
+}
+
+/// Writes the index of an alternative, the last of which has index `last`; a greater one is Range.
+pub fn put_choice(last: u64, index: u64, writer: &mut BitWriter) -> Result<(), PerError>
+    ensures { Wrote result writer.new (write_number 0 last index (writer.old ++ false ∷ [])) }
+{
+    writer.put_bit(false)?;
+    put_number(0, last, index, writer)
+}

@@ -1,0 +1,29 @@
+//! What has a spelling in bits.
+
+ghost use Rattle.std.specs.Prelude.{◌≡◌};
+ghost use Rattle.per_bits.specs.Bits.{Place, Gives};
+ghost use Rattle.per_bits.specs.Formats.{Format, Value};
+ghost use Rattle.per_bits.specs.Reading.{read_at};
+ghost use Rattle.per_bits.specs.Writing.{write_at, Wrote};
+
+use crate::fault::PerError;
+use crate::reader::BitReader;
+use crate::writer::BitWriter;
+use std::alloc::Global;
+
+/// A value that is read from bits, of which it may lend octets, and written as bits.
+pub trait Element<'a>: Drop {
+    /// How its values are spelled.
+    ghost format: { Format };
+
+    /// A value without where it lies in memory.
+    ghost view: { Self → Value format };
+
+    /// Reads a value; the first fault from the left is answered.
+    fn read(alloc: Global, reader: &mut BitReader<'a>) -> Result<Self, PerError>
+        ensures { Gives view result reader.new (read_at format reader.old) };
+
+    /// Writes a value, or refuses it as out of range where it has no written spelling.
+    fn write(&self, alloc: Global, writer: &mut BitWriter) -> Result<(), PerError>
+        ensures { Wrote result writer.new (write_at format (view self.now) writer.old) };
+}

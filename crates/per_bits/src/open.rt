@@ -1,0 +1,126 @@
+//! Lengths without a bound, and open types.
+
+ghost use Rattle.std.specs.Prelude.{◌≡◌, ◌<◌, ◌^◌, ◌≤◌, ◌+◌, map, IfOk};
+ghost use Rattle.per_bits.specs.Bits.{Answers, Gives, length_at, open_at, number_bits_at};
+ghost use Rattle.per_bits.specs.Formats.{open_type};
+ghost use Rattle.per_bits.specs.Reading.{read_at, whole_at, small_number_at, complete_at, GivesWhole, inside_at};
+ghost use Rattle.per_bits.specs.Spelling.{length_octets};
+ghost use Rattle.per_bits.specs.Writing.{write_at, Wrote, write_length, write_string, complete_write};
+
+use crate::element::Element;
+use crate::fault::{PerError, PerFault};
+use crate::reader::BitReader;
+use crate::strings::put_open;
+use crate::whole::offset_of;
+use crate::writer::BitWriter;
+use std::alloc::Global;
+
+/// Reads a length without a bound, below 16384 (X.691 clause 11.9); NotFewest for one below 128 in two octets, Fragmented for more.
+#[tactic(auto, unfolding(crate::specs::Bits::length_at))]
+pub fn take_length(reader: &mut BitReader) -> Result<usize, PerFault>
+    ensures { Answers (λ n. n) result reader.new (length_at reader.old) }
+{
+    reader.align()?;
+    let first = take_octet(reader)?;
+    if first < 128 {
+        return Ok(first as usize);
+    }
+    if first >= 192 {
+        return Err(PerFault::Fragmented);
+    }
+    let second = take_octet(reader)?;
+    let length = (first as usize - 128) * 256 + second as usize;
+    if length < 128 {
+        return Err(PerFault::NotFewest);
+    }
+    Ok(length)
+}
+
+/// Reads the octets of an open type (X.691 clause 11.2), lent by the encoding; longer than what is left is Truncated.
+#[tactic(auto, unfolding(crate::specs::Bits::open_at))]
+pub fn take_open<'a>(reader: &mut BitReader<'a>) -> Result<&'a [u8], PerFault>
+    ensures { Answers (λ s. s.now) result reader.new (open_at reader.old) }
+{
+    let length = take_length(reader)?;
+    reader.take_octets(length)
+}
+
+fn take_octet(reader: &mut BitReader) -> Result<u8, PerFault>
+    ensures { Answers (λ n. n) result reader.new (number_bits_at 8 reader.old) }
+{
+    let number = reader.take_bits(8)?;
+    Ok(number as u8)
+}
+
+/// Writes a length without a bound (X.691 clause 11.9); 16384 and more is Range.
+#[tactic(auto, unfolding(crate::specs::Writing::write_length))]
+pub fn put_length(length: usize, writer: &mut BitWriter) -> Result<(), PerError>
+    ensures { Wrote result writer.new (write_length length writer.old) }
+{
+    if length >= 16384 {
+        return Err(PerError::Fault(PerFault::Range));
+    }
+    writer.align()?;
+    if length < 128 {
+        writer.put_octets(&[length as u8])
+    } else {
+        writer.put_octets(&[128 + (length / 256) as u8, (length % 256) as u8])
+    }
+}
+
+/// Reads a complete encoding: a value, padding up to the octet, and nothing after it.
+#[tactic(auto, unfolding(crate::specs::Reading::whole_at))]
+pub fn read_complete<'a, T: Element<'a>>(alloc: Global, octets: &'a [u8]) -> Result<T, PerError>
+    ensures { GivesWhole T.view result (complete_at T.format octets.now) }
+{
+    let mut reader = BitReader::new(octets);
+    let value = T::read(alloc, &mut reader)?;
+    reader.end()?;
+    Ok(value)
+}
+
+/// Writes a value as a complete encoding.
+pub fn write_complete<'a, T: Element<'a>>(alloc: Global, value: &T) -> Result<Vec<u8>, PerError>
+    ensures { GivesWhole (λ v. v.items) result (complete_write T.format (T.view value.now)) }
+{
+    let mut writer = BitWriter::new(alloc);
+    value.write(alloc, &mut writer)?;
+    writer.finish()
+}
+
+/// Reads a value from the octets of an open type.
+pub fn read_open<'a, T: Element<'a>>(
+    alloc: Global,
+    reader: &mut BitReader<'a>,
+) -> Result<T, PerError>
+    ensures { Gives T.view result reader.new (inside_at (read_at T.format) reader.old) }
+{
+    let octets = take_open(reader)?;
+    let value = read_complete::<T>(alloc, octets)?;
+    Ok(value)
+}
+
+/// Writes a value as an open type.
+pub fn write_open<'a, T: Element<'a>>(
+    alloc: Global,
+    value: &T,
+    writer: &mut BitWriter,
+) -> Result<(), PerError>
+    ensures { Wrote result writer.new (write_at (open_type T.format) (T.view value.now) writer.old) }
+{
+    let octets = write_complete::<T>(alloc, value)?;
+    put_open(&octets, writer)
+}
+
+/// Reads a normally small number (X.691 clause 11.6) from 0 to 63; a first bit of 1 is Range.
+#[tactic(auto, unfolding(crate::specs::Reading::number_at))]
+pub fn take_small_number(reader: &mut BitReader) -> Result<u64, PerFault>
+    ensures exact { Answers (λ n. n) result reader.new (small_number_at reader.old) }
+    ensures within { IfOk result (λ n. n ≤ 63) }
+{
+    let extended = reader.take_bit()?;
+    if extended {
+        return Err(PerFault::Range);
+    }
+    offset_of(63, reader)
+}

@@ -1,0 +1,79 @@
+//! Octet strings that are lent by the encoding (X.691 clauses 17 and 30).
+
+ghost use Rattle.std.specs.Prelude.{◌≡◌, length, OnOk, ◌<◌};
+ghost use Rattle.per_bits.specs.Bits.{Gives};
+ghost use Rattle.per_bits.specs.Formats.{octet_string, octets_between};
+ghost use Rattle.per_bits.specs.Reading.{between_at, number_at, read_at};
+ghost use Rattle.per_bits.specs.Writing.{write_at, Wrote, write_aligned, write_length, write_string};
+
+use crate::element::Element;
+use crate::fault::{PerError, PerFault};
+use crate::open::{put_length, take_open};
+use crate::reader::BitReader;
+use crate::whole::{offset_of, put_number};
+use crate::writer::BitWriter;
+use std::alloc::Global;
+
+/// Up to 16383 octets behind their length, lent by the encoding (X.691 clause 17.8).
+#[derive(Clone, Copy, Debug, PartialEq, Eq)]
+pub struct OctetString<'a> {
+    pub octets: &'a [u8],
+}
+
+impl<'a> Element<'a> for OctetString<'a> {
+    ghost format = { octet_string };
+
+    ghost view = { λ s. s.octets.now };
+
+    fn read(_alloc: Global, reader: &mut BitReader<'a>) -> Result<Self, PerError> {
+        let octets = take_open(reader)?;
+        Ok(OctetString { octets })
+    }
+
+    fn write(&self, _alloc: Global, writer: &mut BitWriter) -> Result<(), PerError> {
+        put_open(self.octets, writer)
+    }
+}
+
+/// Writes octets from the next octet on.
+#[tactic(auto, unfolding(crate::specs::Writing::write_aligned))]
+pub fn put_aligned(octets: &[u8], writer: &mut BitWriter) -> Result<(), PerError>
+    ensures { Wrote result writer.new (write_aligned octets.now writer.old) }
+{
+    writer.align()?;
+    writer.put_octets(octets)?;
+    Ok(())
+}
+
+/// Writes a length and its octets, as an open type has them (X.691 clause 11.2); 16384 octets and more is Range.
+#[tactic(auto, unfolding(crate::specs::Writing::write_string))]
+pub fn put_open(octets: &[u8], writer: &mut BitWriter) -> Result<(), PerError>
+    ensures { Wrote result writer.new (write_string octets.now writer.old) }
+{
+    put_length(octets.len(), writer)?;
+    put_aligned(octets, writer)
+}
+
+/// From `MIN` to `MAX` octets or characters, MAX below 65536, lent by the encoding (X.691 clauses 17 and 30).
+#[derive(Clone, Copy, Debug, PartialEq, Eq)]
+pub struct SizedString<'a, const MIN: u64, const MAX: u64> {
+    pub octets: &'a [u8],
+}
+
+impl<'a, const MIN: u64, const MAX: u64> Element<'a> for SizedString<'a, MIN, MAX> {
+    ghost format = { octets_between MIN MAX };
+
+    ghost view = { λ s. s.octets.now };
+
+    #[tactic(auto, unfolding(crate::specs::Reading::between_at, crate::specs::Reading::number_at))]
+    fn read(_alloc: Global, reader: &mut BitReader<'a>) -> Result<Self, PerError> {
+        let more = offset_of(MAX.saturating_sub(MIN), reader)?;
+        let octets = reader.take_octets((MIN + more) as usize)?;
+        Ok(SizedString { octets })
+    }
+
+    fn write(&self, _alloc: Global, writer: &mut BitWriter) -> Result<(), PerError> {
+        put_number(MIN, MAX, self.octets.len() as u64, writer)?;
+        put_aligned(self.octets, writer)
+    }
+}

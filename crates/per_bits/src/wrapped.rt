@@ -1,0 +1,101 @@
+//! Values behind an extension bit or an element's head, and values that may lack.
+
+ghost use Rattle.std.specs.Prelude.{◌≡◌, option_map};
+ghost use Rattle.per_bits.specs.Bits.{Gives};
+ghost use Rattle.per_bits.specs.Formats.{closed, item};
+ghost use Rattle.per_bits.specs.Reading.{read_at, optional_at, number_at, times};
+ghost use Rattle.per_bits.specs.Writing.{write_at, Wrote, write_optional};
+
+use crate::element::Element;
+use crate::fault::{PerError, PerFault};
+use crate::open::{read_open, write_open};
+use crate::reader::BitReader;
+use crate::whole::{offset_of, put_number};
+use crate::writer::BitWriter;
+use std::alloc::Global;
+
+/// A value behind an extension bit that must be 0, else Range: a size or a number with an extensible bound.
+#[derive(Clone, Copy, Debug, PartialEq, Eq, Drop)]
+pub struct Closed<T: Drop> {
+    pub value: T,
+}
+
+impl<'a, T: Element<'a>> Element<'a> for Closed<T> {
+    ghost format = { closed T.format };
+
+    ghost view = { λ c. T.view c.value };
+
+    fn read(alloc: Global, reader: &mut BitReader<'a>) -> Result<Self, PerError> {
+        let extended = reader.take_bit()?;
+        if extended {
+            return Err(PerError::Fault(PerFault::Range));
+        }
+        let value = T::read(alloc, reader)?;
+        Ok(Closed { value })
+    }
+
+    fn write(&self, alloc: Global, writer: &mut BitWriter) -> Result<(), PerError> {
+        writer.put_bit(false)?;
+        self.value.write(alloc, writer)
+    }
+}
+
+/// An element of a list of elements of one id (TS 36.413 clause 9.3.7): any other id is Range at the id, the criticality is not compared.
+#[derive(Clone, Copy, Debug, PartialEq, Eq, Drop)]
+pub struct Listed<T: Drop, const ID: u64, const CRITICALITY: u64> {
+    pub value: T,
+}
+
+impl<'a, T: Element<'a>, const ID: u64, const CRITICALITY: u64> Element<'a>
+    for Listed<T, ID, CRITICALITY> {
+    ghost format = { item ID CRITICALITY T.format };
+
+    ghost view = { λ c. (T.view c.value, tt) };
+
+    #[tactic(auto, unfolding(crate::specs::Reading::number_at, crate::specs::Reading::times))]
+    fn read(alloc: Global, reader: &mut BitReader<'a>) -> Result<Self, PerError> {
+        let id = offset_of(65535, reader)?;
+        if id != ID {
+            return Err(PerError::Fault(PerFault::Range));
+        }
+        offset_of(2, reader)?;
+        let value = read_open::<T>(alloc, reader)?;
+        Ok(Listed { value })
+    }
+
+    fn write(&self, alloc: Global, writer: &mut BitWriter) -> Result<(), PerError> {
+        put_number(0, 65535, ID, writer)?;
+        put_number(0, 2, CRITICALITY, writer)?;
+        write_open::<T>(alloc, &self.value, writer)
+    }
+}
+
+/// Reads a value that may lack, by its presence bit.
+pub fn read_optional<'a, T: Element<'a>>(
+    alloc: Global,
+    present: bool,
+    reader: &mut BitReader<'a>,
+) -> Result<Option<T>, PerError>
+    ensures { Gives (option_map T.view) result reader.new (optional_at present (read_at T.format) reader.old) }
+{
+    if present {
+        let value = T::read(alloc, reader)?;
+        Ok(Some(value))
+    } else {
+        Ok(None)
+    }
+}
+
+/// Writes a value that may lack.
+pub fn put_optional<'a, T: Element<'a>>(
+    alloc: Global,
+    value: &Option<T>,
+    writer: &mut BitWriter,
+) -> Result<(), PerError>
+    ensures { Wrote result writer.new (write_optional (write_at T.format) (option_map T.view value.now) writer.old) }
+{
+    match value {
+        Some(value) => value.write(alloc, writer),
+        None => Ok(()),
+    }
+}
