@@ -1,0 +1,9 @@
+pub mod Field
+pub mod Aes
+pub mod Words
+pub mod Restored
+pub mod Cmac
+pub mod Eia2
+pub mod Expanded
+pub mod Hmac
+pub mod Same

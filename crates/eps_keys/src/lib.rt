@@ -1,0 +1,24 @@
+//! Keys and integrity of EPS NAS signalling: AES-128, CMAC, 128-EIA2, HMAC-SHA-256 and the key
+//! derivations.
+//!
+//! No call takes memory or is refused. Each is proved equal to its function on whole lists in
+//! `specs/`. Nothing is promised of time: AES looks octets up in tables at places that depend on
+//! the key and the message. [`same_octets`] alone is written without a branch on an octet.
+#![tactic(auto)]
+
+mod aes;
+mod derive;
+mod direction;
+mod equal;
+mod mac;
+mod tables;
+mod words;
+
+pub use aes::aes_encrypt;
+pub use derive::{hmac_sha256, kenb, nas_integrity_key, next_hop};
+pub use direction::Direction;
+pub use equal::same_octets;
+pub use mac::{MacKey, cmac, eia2};
+
+#[cfg(test)]
+mod tests;
