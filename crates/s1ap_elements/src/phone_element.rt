@@ -1,0 +1,355 @@
+//! What tells phones apart, and what is told of them, read and written.
+
+ghost use Rattle.std.specs.Prelude.{◌≡◌};
+ghost use Rattle.per_bits.specs.Bits.{Gives, bits};
+ghost use Rattle.per_bits.specs.Reading.{read_at, times};
+ghost use Rattle.per_bits.specs.Writing.{write_at, Wrote};
+ghost use Rattle.per_bits.specs.Names.{view_of_name};
+ghost use Rattle.s1ap_elements.specs.Names.{IsName};
+ghost use Rattle.s1ap_elements.specs.Formats.{tai, tai_item, eutran_cgi, s_tmsi, ue_paging_id, rrc_cause, cn_domain, ue_id_pair, ue_s1ap_ids, security_capabilities, security_context, reset_type};
+ghost use Rattle.s1ap_elements.specs.Phones.{typed_tai, typed_tai_item, typed_eutran_cgi, typed_s_tmsi, ue_paging_id_lists, typed_ue_paging_id, typed_rrc_cause, typed_cn_domain, typed_ue_id_pair, typed_ue_s1ap_ids, typed_security_capabilities, typed_security_context, typed_reset_all, typed_reset_type};
+
+use crate::identity::{CellId, EnbUeId, MTmsi, MmeCode, MmeUeId, Plmn, SecurityKey, Tac};
+use crate::name::take_name;
+use crate::phone::{
+    CnDomain, EutranCgi, ResetAll, ResetType, RrcCause, STmsi, SecurityCapabilities,
+    SecurityContext, Tai, TaiItem, UeIdPair, UePagingId, UeS1apIds,
+};
+use per_bits::{
+    BitField, BitReader, BitWriter, Closed, Element, Enumerated, PerError, PerFault, SizedString,
+    Whole, offset_of, put_choice, put_number, skip_additions, skip_extensions, take_choice,
+};
+use std::alloc::Global;
+
+impl<'a> Element<'a> for Tai {
+    ghost format = { tai };
+
+    ghost view = { typed_tai };
+
+    #[tactic(auto, unfolding(per_bits::specs::Reading::times))]
+    fn read(alloc: Global, reader: &mut BitReader<'a>) -> Result<Self, PerError> {
+        let extended = reader.take_bit()?;
+        let more = reader.take_bit()?;
+        let plmn = Plmn::read(alloc, reader)?;
+        let tac = Tac::read(alloc, reader)?;
+        skip_extensions(more, reader)?;
+        skip_additions(extended, reader)?;
+        Ok(Tai { plmn, tac })
+    }
+
+    #[tactic(auto, unfolding(per_bits::specs::Bits::bits))]
+    fn write(&self, alloc: Global, writer: &mut BitWriter) -> Result<(), PerError> {
+        writer.put_bits(2, 0)?;
+        self.plmn.write(alloc, writer)?;
+        self.tac.write(alloc, writer)
+    }
+}
+
+impl<'a> Element<'a> for TaiItem {
+    ghost format = { tai_item };
+
+    ghost view = { typed_tai_item };
+
+    #[tactic(auto, unfolding(per_bits::specs::Reading::times))]
+    fn read(alloc: Global, reader: &mut BitReader<'a>) -> Result<Self, PerError> {
+        let extended = reader.take_bit()?;
+        let more = reader.take_bit()?;
+        let tai = Tai::read(alloc, reader)?;
+        skip_extensions(more, reader)?;
+        skip_additions(extended, reader)?;
+        Ok(TaiItem { tai })
+    }
+
+    #[tactic(auto, unfolding(per_bits::specs::Bits::bits))]
+    fn write(&self, alloc: Global, writer: &mut BitWriter) -> Result<(), PerError> {
+        writer.put_bits(2, 0)?;
+        self.tai.write(alloc, writer)
+    }
+}
+
+impl<'a> Element<'a> for EutranCgi {
+    ghost format = { eutran_cgi };
+
+    ghost view = { typed_eutran_cgi };
+
+    #[tactic(auto, unfolding(per_bits::specs::Reading::times))]
+    fn read(alloc: Global, reader: &mut BitReader<'a>) -> Result<Self, PerError> {
+        let extended = reader.take_bit()?;
+        let more = reader.take_bit()?;
+        let plmn = Plmn::read(alloc, reader)?;
+        let cell = CellId::read(alloc, reader)?;
+        skip_extensions(more, reader)?;
+        skip_additions(extended, reader)?;
+        Ok(EutranCgi { plmn, cell })
+    }
+
+    #[tactic(auto, unfolding(per_bits::specs::Bits::bits))]
+    fn write(&self, alloc: Global, writer: &mut BitWriter) -> Result<(), PerError> {
+        writer.put_bits(2, 0)?;
+        self.plmn.write(alloc, writer)?;
+        self.cell.write(alloc, writer)
+    }
+}
+
+impl<'a> Element<'a> for STmsi {
+    ghost format = { s_tmsi };
+
+    ghost view = { typed_s_tmsi };
+
+    #[tactic(auto, unfolding(per_bits::specs::Reading::times))]
+    fn read(alloc: Global, reader: &mut BitReader<'a>) -> Result<Self, PerError> {
+        let extended = reader.take_bit()?;
+        let more = reader.take_bit()?;
+        let code = MmeCode::read(alloc, reader)?;
+        let m_tmsi = MTmsi::read(alloc, reader)?;
+        skip_extensions(more, reader)?;
+        skip_additions(extended, reader)?;
+        Ok(STmsi { code, m_tmsi })
+    }
+
+    #[tactic(auto, unfolding(per_bits::specs::Bits::bits))]
+    fn write(&self, alloc: Global, writer: &mut BitWriter) -> Result<(), PerError> {
+        writer.put_bits(2, 0)?;
+        self.code.write(alloc, writer)?;
+        self.m_tmsi.write(alloc, writer)
+    }
+}
+
+impl<'a> Element<'a> for UeIdPair {
+    ghost format = { ue_id_pair };
+
+    ghost view = { typed_ue_id_pair };
+
+    #[tactic(auto, unfolding(per_bits::specs::Reading::times))]
+    fn read(alloc: Global, reader: &mut BitReader<'a>) -> Result<Self, PerError> {
+        let extended = reader.take_bit()?;
+        let more = reader.take_bit()?;
+        let mme_id = MmeUeId::read(reader)?;
+        let enb_id = EnbUeId::read(reader)?;
+        skip_extensions(more, reader)?;
+        skip_additions(extended, reader)?;
+        Ok(UeIdPair { mme_id, enb_id })
+    }
+
+    #[tactic(auto, unfolding(per_bits::specs::Bits::bits))]
+    fn write(&self, alloc: Global, writer: &mut BitWriter) -> Result<(), PerError> {
+        writer.put_bits(2, 0)?;
+        self.mme_id.write(alloc, writer)?;
+        self.enb_id.write(alloc, writer)
+    }
+}
+
+impl<'a> Element<'a> for SecurityCapabilities {
+    ghost format = { security_capabilities };
+
+    ghost view = { typed_security_capabilities };
+
+    #[tactic(auto, unfolding(per_bits::specs::Reading::times))]
+    fn read(alloc: Global, reader: &mut BitReader<'a>) -> Result<Self, PerError> {
+        let extended = reader.take_bit()?;
+        let more = reader.take_bit()?;
+        let encryption = Closed::<BitField<16>>::read(alloc, reader)?.value;
+        let integrity = Closed::<BitField<16>>::read(alloc, reader)?.value;
+        skip_extensions(more, reader)?;
+        skip_additions(extended, reader)?;
+        Ok(SecurityCapabilities {
+            encryption,
+            integrity,
+        })
+    }
+
+    #[tactic(auto, unfolding(per_bits::specs::Bits::bits))]
+    fn write(&self, alloc: Global, writer: &mut BitWriter) -> Result<(), PerError> {
+        writer.put_bits(2, 0)?;
+        writer.put_bit(false)?;
+        self.encryption.write(alloc, writer)?;
+        writer.put_bit(false)?;
+        self.integrity.write(alloc, writer)
+    }
+}
+
+impl<'a> Element<'a> for SecurityContext {
+    ghost format = { security_context };
+
+    ghost view = { typed_security_context };
+
+    #[tactic(auto, unfolding(per_bits::specs::Reading::times))]
+    fn read(alloc: Global, reader: &mut BitReader<'a>) -> Result<Self, PerError> {
+        let extended = reader.take_bit()?;
+        let more = reader.take_bit()?;
+        let chaining_count = Whole::<0, 7>::read(reader)?;
+        let next_hop = SecurityKey::read(alloc, reader)?;
+        skip_extensions(more, reader)?;
+        skip_additions(extended, reader)?;
+        Ok(SecurityContext {
+            chaining_count,
+            next_hop,
+        })
+    }
+
+    #[tactic(auto, unfolding(per_bits::specs::Bits::bits))]
+    fn write(&self, alloc: Global, writer: &mut BitWriter) -> Result<(), PerError> {
+        writer.put_bits(2, 0)?;
+        self.chaining_count.write(alloc, writer)?;
+        self.next_hop.write(alloc, writer)
+    }
+}
+
+impl<'a> Element<'a> for UePagingId<&'a [u8]> {
+    ghost format = { ue_paging_id };
+
+    ghost view = { λ p. typed_ue_paging_id (ue_paging_id_lists p) };
+
+    fn read(alloc: Global, reader: &mut BitReader<'a>) -> Result<Self, PerError> {
+        match take_choice(1, reader)? {
+            0 => Ok(UePagingId::STmsi(STmsi::read(alloc, reader)?)),
+            1 => {
+                let digits = SizedString::<3, 8>::read(alloc, reader)?;
+                Ok(UePagingId::Imsi(digits.octets))
+            }
+            _ => Err(PerError::Fault(PerFault::Range)),
+        }
+    }
+
+    fn write(&self, alloc: Global, writer: &mut BitWriter) -> Result<(), PerError> {
+        match self {
+            UePagingId::STmsi(s_tmsi) => {
+                put_choice(1, 0, writer)?;
+                s_tmsi.write(alloc, writer)
+            }
+            UePagingId::Imsi(digits) => {
+                put_choice(1, 1, writer)?;
+                SizedString::<3, 8> { octets: digits }.write(alloc, writer)
+            }
+        }
+    }
+}
+
+impl<'a> Element<'a> for UeS1apIds {
+    ghost format = { ue_s1ap_ids };
+
+    ghost view = { typed_ue_s1ap_ids };
+
+    fn read(alloc: Global, reader: &mut BitReader<'a>) -> Result<Self, PerError> {
+        match take_choice(1, reader)? {
+            0 => Ok(UeS1apIds::Pair(UeIdPair::read(alloc, reader)?)),
+            1 => Ok(UeS1apIds::MmeUeId(MmeUeId::read(reader)?)),
+            _ => Err(PerError::Fault(PerFault::Range)),
+        }
+    }
+
+    fn write(&self, alloc: Global, writer: &mut BitWriter) -> Result<(), PerError> {
+        match self {
+            UeS1apIds::Pair(pair) => {
+                put_choice(1, 0, writer)?;
+                pair.write(alloc, writer)
+            }
+            UeS1apIds::MmeUeId(mme_id) => {
+                put_choice(1, 1, writer)?;
+                mme_id.write(alloc, writer)
+            }
+        }
+    }
+}
+
+fn rrc_cause_of(name: Enumerated<4>) -> RrcCause
+    requires { IsName name }
+    ensures { typed_rrc_cause result ≡ view_of_name name }
+{
+    match name {
+        Enumerated::Extended(number) => RrcCause::Extended(number),
+        Enumerated::Root(0) => RrcCause::Emergency,
+        Enumerated::Root(1) => RrcCause::HighPriorityAccess,
+        Enumerated::Root(2) => RrcCause::MtAccess,
+        Enumerated::Root(3) => RrcCause::MoSignalling,
+        Enumerated::Root(_) => RrcCause::MoData,
+    }
+}
+
+fn name_of_rrc_cause(cause: RrcCause) -> Enumerated<4>
+    ensures { view_of_name result ≡ typed_rrc_cause cause }
+{
+    match cause {
+        RrcCause::Emergency => Enumerated::Root(0),
+        RrcCause::HighPriorityAccess => Enumerated::Root(1),
+        RrcCause::MtAccess => Enumerated::Root(2),
+        RrcCause::MoSignalling => Enumerated::Root(3),
+        RrcCause::MoData => Enumerated::Root(4),
+        RrcCause::Extended(number) => Enumerated::Extended(number),
+    }
+}
+
+impl<'a> Element<'a> for RrcCause {
+    ghost format = { rrc_cause };
+
+    ghost view = { typed_rrc_cause };
+
+    fn read(_alloc: Global, reader: &mut BitReader<'a>) -> Result<Self, PerError> {
+        let name = take_name::<4>(reader)?;
+        Ok(rrc_cause_of(name))
+    }
+
+    fn write(&self, alloc: Global, writer: &mut BitWriter) -> Result<(), PerError> {
+        name_of_rrc_cause(*self).write(alloc, writer)
+    }
+}
+
+impl<'a> Element<'a> for CnDomain {
+    ghost format = { cn_domain };
+
+    ghost view = { typed_cn_domain };
+
+    #[tactic(auto, unfolding(per_bits::specs::Reading::number_at))]
+    fn read(_alloc: Global, reader: &mut BitReader<'a>) -> Result<Self, PerError> {
+        match offset_of(1, reader)? {
+            0 => Ok(CnDomain::Ps),
+            _ => Ok(CnDomain::Cs),
+        }
+    }
+
+    fn write(&self, _alloc: Global, writer: &mut BitWriter) -> Result<(), PerError> {
+        match self {
+            CnDomain::Ps => put_number(0, 1, 0, writer),
+            CnDomain::Cs => put_number(0, 1, 1, writer),
+        }
+    }
+}
+
+fn reset_all_of(name: Enumerated<0>) -> ResetAll
+    requires { IsName name }
+    ensures { typed_reset_all result ≡ view_of_name name }
+{
+    match name {
+        Enumerated::Extended(number) => ResetAll::Extended(number),
+        Enumerated::Root(_) => ResetAll::ResetAll,
+    }
+}
+
+fn name_of_reset_all(reset: ResetAll) -> Enumerated<0>
+    ensures { view_of_name result ≡ typed_reset_all reset }
+{
+    match reset {
+        ResetAll::ResetAll => Enumerated::Root(0),
+        ResetAll::Extended(number) => Enumerated::Extended(number),
+    }
+}
+
+impl<'a> Element<'a> for ResetType {
+    ghost format = { reset_type };
+
+    ghost view = { typed_reset_type };
+
+    fn read(_alloc: Global, reader: &mut BitReader<'a>) -> Result<Self, PerError> {
+        take_choice(0, reader)?;
+        take_choice(0, reader)?;
+        let name = take_name::<0>(reader)?;
+        Ok(ResetType::All(reset_all_of(name)))
+    }
+
+    fn write(&self, alloc: Global, writer: &mut BitWriter) -> Result<(), PerError> {
+        let ResetType::All(reset) = self;
+        put_choice(0, 0, writer)?;
+        put_choice(0, 0, writer)?;
+        name_of_reset_all(*reset).write(alloc, writer)
+    }
+}

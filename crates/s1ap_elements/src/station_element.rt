@@ -1,0 +1,164 @@
+//! What stations and MMEs tell of themselves, read and written.
+
+ghost use Rattle.std.specs.Prelude.{◌≡◌};
+ghost use Rattle.per_bits.specs.Bits.{Gives, bits};
+ghost use Rattle.per_bits.specs.Reading.{read_at, times};
+ghost use Rattle.per_bits.specs.Writing.{write_at, Wrote};
+ghost use Rattle.per_bits.specs.Names.{view_of_name};
+ghost use Rattle.s1ap_elements.specs.Names.{IsName};
+ghost use Rattle.s1ap_elements.specs.Formats.{enb_id, global_enb_id, supported_ta, served_gummei, paging_drx};
+ghost use Rattle.s1ap_elements.specs.Stations.{typed_enb_id, typed_global_enb_id, typed_supported_ta, typed_served_gummei, typed_paging_drx};
+
+use crate::identity::{MmeCode, MmeGroup, Plmn, Tac};
+use crate::name::take_name;
+use crate::station::{EnbId, GlobalEnbId, PagingDrx, ServedGummei, SupportedTa};
+use per_bits::{
+    BitField, BitReader, BitWriter, Element, Enumerated, Items, PerError, PerFault, put_choice,
+    skip_additions, skip_extensions, take_choice,
+};
+use std::alloc::Global;
+
+impl<'a> Element<'a> for EnbId {
+    ghost format = { enb_id };
+
+    ghost view = { typed_enb_id };
+
+    fn read(alloc: Global, reader: &mut BitReader<'a>) -> Result<Self, PerError> {
+        match take_choice(1, reader)? {
+            0 => Ok(EnbId::Macro(BitField::read(alloc, reader)?)),
+            1 => Ok(EnbId::Home(BitField::read(alloc, reader)?)),
+            _ => Err(PerError::Fault(PerFault::Range)),
+        }
+    }
+
+    fn write(&self, alloc: Global, writer: &mut BitWriter) -> Result<(), PerError> {
+        match self {
+            EnbId::Macro(number) => {
+                put_choice(1, 0, writer)?;
+                number.write(alloc, writer)
+            }
+            EnbId::Home(number) => {
+                put_choice(1, 1, writer)?;
+                number.write(alloc, writer)
+            }
+        }
+    }
+}
+
+impl<'a> Element<'a> for GlobalEnbId {
+    ghost format = { global_enb_id };
+
+    ghost view = { typed_global_enb_id };
+
+    #[tactic(auto, unfolding(per_bits::specs::Reading::times))]
+    fn read(alloc: Global, reader: &mut BitReader<'a>) -> Result<Self, PerError> {
+        let extended = reader.take_bit()?;
+        let more = reader.take_bit()?;
+        let plmn = Plmn::read(alloc, reader)?;
+        let id = EnbId::read(alloc, reader)?;
+        skip_extensions(more, reader)?;
+        skip_additions(extended, reader)?;
+        Ok(GlobalEnbId { plmn, id })
+    }
+
+    #[tactic(auto, unfolding(per_bits::specs::Bits::bits))]
+    fn write(&self, alloc: Global, writer: &mut BitWriter) -> Result<(), PerError> {
+        writer.put_bits(2, 0)?;
+        self.plmn.write(alloc, writer)?;
+        self.id.write(alloc, writer)
+    }
+}
+
+impl<'a> Element<'a> for SupportedTa {
+    ghost format = { supported_ta };
+
+    ghost view = { typed_supported_ta };
+
+    #[tactic(auto, unfolding(per_bits::specs::Reading::times))]
+    fn read(alloc: Global, reader: &mut BitReader<'a>) -> Result<Self, PerError> {
+        let extended = reader.take_bit()?;
+        let more = reader.take_bit()?;
+        let tac = Tac::read(alloc, reader)?;
+        let plmns = Items::<Plmn, 1, 6>::read(alloc, reader)?;
+        skip_extensions(more, reader)?;
+        skip_additions(extended, reader)?;
+        Ok(SupportedTa { tac, plmns })
+    }
+
+    #[tactic(auto, unfolding(per_bits::specs::Bits::bits))]
+    fn write(&self, alloc: Global, writer: &mut BitWriter) -> Result<(), PerError> {
+        writer.put_bits(2, 0)?;
+        self.tac.write(alloc, writer)?;
+        self.plmns.write(alloc, writer)
+    }
+}
+
+impl<'a> Element<'a> for ServedGummei {
+    ghost format = { served_gummei };
+
+    ghost view = { typed_served_gummei };
+
+    #[tactic(auto, unfolding(per_bits::specs::Reading::times))]
+    fn read(alloc: Global, reader: &mut BitReader<'a>) -> Result<Self, PerError> {
+        let extended = reader.take_bit()?;
+        let more = reader.take_bit()?;
+        let plmns = Items::<Plmn, 1, 32>::read(alloc, reader)?;
+        let groups = Items::<MmeGroup, 1, 65535>::read(alloc, reader)?;
+        let codes = Items::<MmeCode, 1, 256>::read(alloc, reader)?;
+        skip_extensions(more, reader)?;
+        skip_additions(extended, reader)?;
+        Ok(ServedGummei {
+            plmns,
+            groups,
+            codes,
+        })
+    }
+
+    #[tactic(auto, unfolding(per_bits::specs::Bits::bits))]
+    fn write(&self, alloc: Global, writer: &mut BitWriter) -> Result<(), PerError> {
+        writer.put_bits(2, 0)?;
+        self.plmns.write(alloc, writer)?;
+        self.groups.write(alloc, writer)?;
+        self.codes.write(alloc, writer)
+    }
+}
+
+fn paging_drx_of(name: Enumerated<3>) -> PagingDrx
+    requires { IsName name }
+    ensures { typed_paging_drx result ≡ view_of_name name }
+{
+    match name {
+        Enumerated::Extended(number) => PagingDrx::Extended(number),
+        Enumerated::Root(0) => PagingDrx::Frames32,
+        Enumerated::Root(1) => PagingDrx::Frames64,
+        Enumerated::Root(2) => PagingDrx::Frames128,
+        Enumerated::Root(_) => PagingDrx::Frames256,
+    }
+}
+
+fn name_of_paging_drx(cycle: PagingDrx) -> Enumerated<3>
+    ensures { view_of_name result ≡ typed_paging_drx cycle }
+{
+    match cycle {
+        PagingDrx::Frames32 => Enumerated::Root(0),
+        PagingDrx::Frames64 => Enumerated::Root(1),
+        PagingDrx::Frames128 => Enumerated::Root(2),
+        PagingDrx::Frames256 => Enumerated::Root(3),
+        PagingDrx::Extended(number) => Enumerated::Extended(number),
+    }
+}
+
+impl<'a> Element<'a> for PagingDrx {
+    ghost format = { paging_drx };
+
+    ghost view = { typed_paging_drx };
+
+    fn read(_alloc: Global, reader: &mut BitReader<'a>) -> Result<Self, PerError> {
+        let name = take_name::<3>(reader)?;
+        Ok(paging_drx_of(name))
+    }
+
+    fn write(&self, alloc: Global, writer: &mut BitWriter) -> Result<(), PerError> {
+        name_of_paging_drx(*self).write(alloc, writer)
+    }
+}

@@ -1,0 +1,6 @@
+pub mod Gathering
+pub mod MessageLaws
+pub mod PduLaws
+pub mod SpelledLaws
+pub mod WrittenLaws
+pub mod NamedLaws

@@ -1,0 +1,209 @@
+-- The rows of each message, and its kind, code and criticality (TS 36.413 clauses 9.1 and 9.3.3).
+use Rattle.std.specs.Prelude.{ℕ, ◌==◌, if◌then◌else◌, Option, Some, None}
+use Rattle.per_bits.specs.Formats.{octet_string}
+use Rattle.s1ap_elements.specs.Formats.{ambr, cause, cn_domain, enb_ue_id, erabs_setup, erabs_to_be_setup, erabs_to_be_switched, eutran_cgi, global_enb_id, mme_ue_id, paging_drx, relative_capacity, reset_type, rrc_cause, s_tmsi, security_capabilities, security_context, security_key, served_gummeis, supported_tas, tai, tai_list, text, ue_index, ue_paging_id, ue_s1ap_ids}
+use Rattle.s1ap_messages.specs.Rows.{Rows, row, end, needed, optional, unkept}
+use Rattle.s1ap_messages.specs.declared.message_type.MessageType.{MessageType}
+use Rattle.s1ap_messages.specs.declared.message_type.MessageType.TheVariants.{SetupRequest, SetupResponse, SetupFailure, InitialUeMessage, DownlinkNasTransport, UplinkNasTransport, NasNonDelivery, CapabilityInfo, ContextSetupRequest, ContextSetupResponse, ContextSetupFailure, ReleaseRequest, ReleaseCommand, ReleaseComplete, Paging, PathSwitchRequest, PathSwitchAcknowledge, PathSwitchFailure, Reset, ResetAcknowledge, ErrorIndication}
+
+-- id, criticality (0 reject, 1 ignore), presence and format of each row
+
+abbrev pub setup_request : Rows
+setup_request = row 59 0 needed global_enb_id (row 60 1 optional text (row 64 0 needed supported_tas (row 137 1 needed paging_drx end)))
+
+abbrev pub setup_response : Rows
+setup_response = row 61 1 unkept text (row 105 0 needed served_gummeis (row 87 1 needed relative_capacity end))
+
+abbrev pub setup_failure : Rows
+setup_failure = row 2 1 needed cause end
+
+abbrev pub initial_ue_message : Rows
+initial_ue_message = row 8 0 needed enb_ue_id (row 26 0 needed octet_string (row 67 0 needed tai (row 100 1 needed eutran_cgi (row 134 1 needed rrc_cause (row 96 0 optional s_tmsi end)))))
+
+abbrev pub downlink_nas_transport : Rows
+downlink_nas_transport = row 0 0 needed mme_ue_id (row 8 0 needed enb_ue_id (row 26 0 needed octet_string end))
+
+abbrev pub uplink_nas_transport : Rows
+uplink_nas_transport = row 0 0 needed mme_ue_id (row 8 0 needed enb_ue_id (row 26 0 needed octet_string (row 100 1 needed eutran_cgi (row 67 1 needed tai end))))
+
+abbrev pub nas_non_delivery : Rows
+nas_non_delivery = row 0 0 needed mme_ue_id (row 8 0 needed enb_ue_id (row 26 1 needed octet_string (row 2 1 needed cause end)))
+
+abbrev pub capability_info : Rows
+capability_info = row 0 0 needed mme_ue_id (row 8 0 needed enb_ue_id (row 74 1 needed octet_string end))
+
+abbrev pub context_setup_request : Rows
+context_setup_request = row 0 0 needed mme_ue_id (row 8 0 needed enb_ue_id (row 66 0 needed ambr (row 24 0 needed erabs_to_be_setup (row 107 0 needed security_capabilities (row 73 0 needed security_key end)))))
+
+abbrev pub context_setup_response : Rows
+context_setup_response = row 0 1 needed mme_ue_id (row 8 1 needed enb_ue_id (row 51 1 needed erabs_setup end))
+
+abbrev pub context_setup_failure : Rows
+context_setup_failure = row 0 1 needed mme_ue_id (row 8 1 needed enb_ue_id (row 2 1 needed cause end))
+
+abbrev pub release_request : Rows
+release_request = row 0 0 needed mme_ue_id (row 8 0 needed enb_ue_id (row 2 1 needed cause end))
+
+abbrev pub release_command : Rows
+release_command = row 99 0 needed ue_s1ap_ids (row 2 1 needed cause end)
+
+abbrev pub release_complete : Rows
+release_complete = row 0 1 needed mme_ue_id (row 8 1 needed enb_ue_id end)
+
+abbrev pub paging : Rows
+paging = row 80 1 needed ue_index (row 43 1 needed ue_paging_id (row 109 1 needed cn_domain (row 46 1 needed tai_list end)))
+
+abbrev pub path_switch_request : Rows
+path_switch_request = row 8 0 needed enb_ue_id (row 22 0 needed erabs_to_be_switched (row 88 0 needed mme_ue_id (row 100 1 needed eutran_cgi (row 67 1 needed tai (row 107 1 needed security_capabilities end)))))
+
+abbrev pub path_switch_acknowledge : Rows
+path_switch_acknowledge = row 0 1 needed mme_ue_id (row 8 1 needed enb_ue_id (row 40 0 needed security_context end))
+
+abbrev pub path_switch_failure : Rows
+path_switch_failure = row 0 1 needed mme_ue_id (row 8 1 needed enb_ue_id (row 2 1 needed cause end))
+
+abbrev pub reset : Rows
+reset = row 2 1 needed cause (row 92 0 needed reset_type end)
+
+abbrev pub reset_acknowledge : Rows
+reset_acknowledge = end
+
+abbrev pub error_indication : Rows
+error_indication = row 0 1 optional mme_ue_id (row 8 1 optional enb_ue_id (row 2 1 optional cause end))
+
+-- ---- messages by their types
+
+abbrev pub rows_of : MessageType → Rows
+rows_of SetupRequest = setup_request
+rows_of SetupResponse = setup_response
+rows_of SetupFailure = setup_failure
+rows_of InitialUeMessage = initial_ue_message
+rows_of DownlinkNasTransport = downlink_nas_transport
+rows_of UplinkNasTransport = uplink_nas_transport
+rows_of NasNonDelivery = nas_non_delivery
+rows_of CapabilityInfo = capability_info
+rows_of ContextSetupRequest = context_setup_request
+rows_of ContextSetupResponse = context_setup_response
+rows_of ContextSetupFailure = context_setup_failure
+rows_of ReleaseRequest = release_request
+rows_of ReleaseCommand = release_command
+rows_of ReleaseComplete = release_complete
+rows_of Paging = paging
+rows_of PathSwitchRequest = path_switch_request
+rows_of PathSwitchAcknowledge = path_switch_acknowledge
+rows_of PathSwitchFailure = path_switch_failure
+rows_of Reset = reset
+rows_of ResetAcknowledge = reset_acknowledge
+rows_of ErrorIndication = error_indication
+
+-- 0 initiating, 1 successful outcome, 2 unsuccessful outcome
+abbrev pub kind_of : MessageType → ℕ
+kind_of SetupRequest = 0
+kind_of SetupResponse = 1
+kind_of SetupFailure = 2
+kind_of InitialUeMessage = 0
+kind_of DownlinkNasTransport = 0
+kind_of UplinkNasTransport = 0
+kind_of NasNonDelivery = 0
+kind_of CapabilityInfo = 0
+kind_of ContextSetupRequest = 0
+kind_of ContextSetupResponse = 1
+kind_of ContextSetupFailure = 2
+kind_of ReleaseRequest = 0
+kind_of ReleaseCommand = 0
+kind_of ReleaseComplete = 1
+kind_of Paging = 0
+kind_of PathSwitchRequest = 0
+kind_of PathSwitchAcknowledge = 1
+kind_of PathSwitchFailure = 2
+kind_of Reset = 0
+kind_of ResetAcknowledge = 1
+kind_of ErrorIndication = 0
+
+-- of the procedure
+abbrev pub code_of : MessageType → ℕ
+code_of SetupRequest = 17
+code_of SetupResponse = 17
+code_of SetupFailure = 17
+code_of InitialUeMessage = 12
+code_of DownlinkNasTransport = 11
+code_of UplinkNasTransport = 13
+code_of NasNonDelivery = 16
+code_of CapabilityInfo = 22
+code_of ContextSetupRequest = 9
+code_of ContextSetupResponse = 9
+code_of ContextSetupFailure = 9
+code_of ReleaseRequest = 18
+code_of ReleaseCommand = 23
+code_of ReleaseComplete = 23
+code_of Paging = 10
+code_of PathSwitchRequest = 3
+code_of PathSwitchAcknowledge = 3
+code_of PathSwitchFailure = 3
+code_of Reset = 14
+code_of ResetAcknowledge = 14
+code_of ErrorIndication = 15
+
+-- 0 reject, 1 ignore
+abbrev pub criticality_of : MessageType → ℕ
+criticality_of SetupRequest = 0
+criticality_of SetupResponse = 0
+criticality_of SetupFailure = 0
+criticality_of InitialUeMessage = 1
+criticality_of DownlinkNasTransport = 1
+criticality_of UplinkNasTransport = 1
+criticality_of NasNonDelivery = 1
+criticality_of CapabilityInfo = 1
+criticality_of ContextSetupRequest = 0
+criticality_of ContextSetupResponse = 0
+criticality_of ContextSetupFailure = 0
+criticality_of ReleaseRequest = 1
+criticality_of ReleaseCommand = 0
+criticality_of ReleaseComplete = 0
+criticality_of Paging = 1
+criticality_of PathSwitchRequest = 0
+criticality_of PathSwitchAcknowledge = 0
+criticality_of PathSwitchFailure = 0
+criticality_of Reset = 0
+criticality_of ResetAcknowledge = 0
+criticality_of ErrorIndication = 1
+
+unfoldable pub initiating : ℕ → Option MessageType
+initiating code =
+    if code == 3 then Some PathSwitchRequest else
+    if code == 9 then Some ContextSetupRequest else
+    if code == 10 then Some Paging else
+    if code == 11 then Some DownlinkNasTransport else
+    if code == 12 then Some InitialUeMessage else
+    if code == 13 then Some UplinkNasTransport else
+    if code == 14 then Some Reset else
+    if code == 15 then Some ErrorIndication else
+    if code == 16 then Some NasNonDelivery else
+    if code == 17 then Some SetupRequest else
+    if code == 18 then Some ReleaseRequest else
+    if code == 22 then Some CapabilityInfo else
+    if code == 23 then Some ReleaseCommand else
+    None
+
+unfoldable pub successful : ℕ → Option MessageType
+successful code =
+    if code == 3 then Some PathSwitchAcknowledge else
+    if code == 9 then Some ContextSetupResponse else
+    if code == 14 then Some ResetAcknowledge else
+    if code == 17 then Some SetupResponse else
+    if code == 23 then Some ReleaseComplete else
+    None
+
+unfoldable pub unsuccessful : ℕ → Option MessageType
+unsuccessful code =
+    if code == 3 then Some PathSwitchFailure else
+    if code == 9 then Some ContextSetupFailure else
+    if code == 17 then Some SetupFailure else
+    None
+
+-- the message of a kind and a procedure's code
+unfoldable pub type_of : ℕ → ℕ → Option MessageType
+type_of kind code =
+    if kind == 0 then initiating code
+    else if kind == 1 then successful code
+    else unsuccessful code

@@ -1,0 +1,310 @@
+//! Messages and octets.
+
+ghost use Rattle.std.specs.Prelude.{◌≡◌};
+ghost use Rattle.per_bits.specs.Reading.{GivesWhole};
+ghost use Rattle.per_bits.specs.Writing.{write_whole};
+ghost use Rattle.s1ap_messages.specs.Answers.{Answers, Encodes};
+ghost use Rattle.s1ap_messages.specs.Pdus.{lists, typed, decoded, encoded};
+ghost use Rattle.s1ap_messages.specs.Profile.{rows_of, kind_of, code_of, criticality_of, initiating, successful, unsuccessful, type_of};
+ghost use Rattle.s1ap_messages.specs.Reading.{decode_typed, read_typed};
+ghost use Rattle.s1ap_messages.specs.Writing.{encode_typed, write_message};
+
+use crate::context::{
+    read_context_setup_failure, read_context_setup_request, read_context_setup_response,
+    read_release_command, read_release_complete, read_release_request, write_context_setup_failure,
+    write_context_setup_request, write_context_setup_response, write_release_command,
+    write_release_complete, write_release_request,
+};
+use crate::fault::{EncodeFault, S1apFault};
+use crate::frame::{frame_octets, read_frame};
+use crate::interface::{
+    read_error_indication, read_reset, read_reset_acknowledge, write_error_indication, write_reset,
+    write_reset_acknowledge,
+};
+use crate::message_type::MessageType;
+use crate::movement::{
+    read_paging, read_path_switch_acknowledge, read_path_switch_failure, read_path_switch_request,
+    write_paging, write_path_switch_acknowledge, write_path_switch_failure,
+    write_path_switch_request,
+};
+use crate::pdu::{Pdu, S1apPdu};
+use crate::setup::{
+    read_setup_failure, read_setup_request, read_setup_response, write_setup_failure,
+    write_setup_request, write_setup_response,
+};
+use crate::transport::{
+    read_capability_info, read_downlink_nas_transport, read_initial_ue_message,
+    read_nas_non_delivery, read_uplink_nas_transport, write_capability_info,
+    write_downlink_nas_transport, write_initial_ue_message, write_nas_non_delivery,
+    write_uplink_nas_transport,
+};
+use per_bits::PerError;
+use std::alloc::Global;
+
+#[tactic(auto, unfolding(crate::specs::Profile::initiating))]
+fn initiating(code: u8) -> Option<MessageType>
+    ensures { result ≡ initiating code }
+{
+    match code {
+        3 => Some(MessageType::PathSwitchRequest),
+        9 => Some(MessageType::ContextSetupRequest),
+        10 => Some(MessageType::Paging),
+        11 => Some(MessageType::DownlinkNasTransport),
+        12 => Some(MessageType::InitialUeMessage),
+        13 => Some(MessageType::UplinkNasTransport),
+        14 => Some(MessageType::Reset),
+        15 => Some(MessageType::ErrorIndication),
+        16 => Some(MessageType::NasNonDelivery),
+        17 => Some(MessageType::SetupRequest),
+        18 => Some(MessageType::ReleaseRequest),
+        22 => Some(MessageType::CapabilityInfo),
+        23 => Some(MessageType::ReleaseCommand),
+        _ => None,
+    }
+}
+
+#[tactic(auto, unfolding(crate::specs::Profile::successful))]
+fn successful(code: u8) -> Option<MessageType>
+    ensures { result ≡ successful code }
+{
+    match code {
+        3 => Some(MessageType::PathSwitchAcknowledge),
+        9 => Some(MessageType::ContextSetupResponse),
+        14 => Some(MessageType::ResetAcknowledge),
+        17 => Some(MessageType::SetupResponse),
+        23 => Some(MessageType::ReleaseComplete),
+        _ => None,
+    }
+}
+
+#[tactic(auto, unfolding(crate::specs::Profile::unsuccessful))]
+fn unsuccessful(code: u8) -> Option<MessageType>
+    ensures { result ≡ unsuccessful code }
+{
+    match code {
+        3 => Some(MessageType::PathSwitchFailure),
+        9 => Some(MessageType::ContextSetupFailure),
+        17 => Some(MessageType::SetupFailure),
+        _ => None,
+    }
+}
+
+// The message of a kind and a procedure's code.
+#[tactic(auto, unfolding(crate::specs::Profile::type_of))]
+fn type_of(kind: u8, code: u8) -> Option<MessageType>
+    ensures { result ≡ type_of kind code }
+{
+    match kind {
+        0 => initiating(code),
+        1 => successful(code),
+        _ => unsuccessful(code),
+    }
+}
+
+fn read_message<'a>(
+    alloc: Global,
+    message_type: MessageType,
+    octets: &'a [u8],
+) -> Result<S1apPdu<'a>, S1apFault>
+    ensures { Answers (λ m. typed (lists m)) result (read_typed message_type octets.now) }
+{
+    match message_type {
+        MessageType::SetupRequest => read_setup_request(alloc, octets),
+        MessageType::SetupResponse => read_setup_response(alloc, octets),
+        MessageType::SetupFailure => read_setup_failure(alloc, octets),
+        MessageType::InitialUeMessage => read_initial_ue_message(alloc, octets),
+        MessageType::DownlinkNasTransport => read_downlink_nas_transport(alloc, octets),
+        MessageType::UplinkNasTransport => read_uplink_nas_transport(alloc, octets),
+        MessageType::NasNonDelivery => read_nas_non_delivery(alloc, octets),
+        MessageType::CapabilityInfo => read_capability_info(alloc, octets),
+        MessageType::ContextSetupRequest => read_context_setup_request(alloc, octets),
+        MessageType::ContextSetupResponse => read_context_setup_response(alloc, octets),
+        MessageType::ContextSetupFailure => read_context_setup_failure(alloc, octets),
+        MessageType::ReleaseRequest => read_release_request(alloc, octets),
+        MessageType::ReleaseCommand => read_release_command(alloc, octets),
+        MessageType::ReleaseComplete => read_release_complete(alloc, octets),
+        MessageType::Paging => read_paging(alloc, octets),
+        MessageType::PathSwitchRequest => read_path_switch_request(alloc, octets),
+        MessageType::PathSwitchAcknowledge => read_path_switch_acknowledge(alloc, octets),
+        MessageType::PathSwitchFailure => read_path_switch_failure(alloc, octets),
+        MessageType::Reset => read_reset(alloc, octets),
+        MessageType::ResetAcknowledge => read_reset_acknowledge(alloc, octets),
+        MessageType::ErrorIndication => read_error_indication(alloc, octets),
+    }
+}
+
+#[tactic(auto, unfolding(crate::specs::Reading::decode_typed))]
+fn read_pdu<'a>(alloc: Global, octets: &'a [u8]) -> Result<S1apPdu<'a>, S1apFault>
+    ensures { Answers (λ m. typed (lists m)) result (decode_typed octets.now) }
+{
+    let frame = read_frame(octets)?;
+    match type_of(frame.kind, frame.code) {
+        Some(message_type) => read_message(alloc, message_type, frame.octets),
+        None => Err(S1apFault::UnknownProcedure(frame.criticality)),
+    }
+}
+
+/// The message that the octets spell, or their first fault (TS 36.413 clause 9.1).
+///
+/// The octets are lent to the message. The frame's faults come first, then an unknown procedure, then
+/// those of the elements from the left, and a missing element last. NoMemory stands where a growth was
+/// refused. Criticalities are not compared.
+pub fn decode<'a>(alloc: Global, octets: &'a [u8]) -> Result<S1apPdu<'a>, S1apFault>
+    ensures { Answers lists result (decoded octets.now) }
+{
+    read_pdu(alloc, octets)
+}
+
+fn write_content(alloc: Global, message: &S1apPdu) -> Result<Vec<u8>, PerError>
+    ensures { GivesWhole (λ v. v.items) result (write_whole (write_message (rows_of (typed (lists message.now)).0)) (typed (lists message.now)).1) }
+{
+    match message {
+        Pdu::SetupRequest(m) => write_setup_request(alloc, m),
+        Pdu::SetupResponse(m) => write_setup_response(alloc, m),
+        Pdu::SetupFailure(m) => write_setup_failure(alloc, m),
+        Pdu::InitialUeMessage(m) => write_initial_ue_message(alloc, m),
+        Pdu::DownlinkNasTransport(m) => write_downlink_nas_transport(alloc, m),
+        Pdu::UplinkNasTransport(m) => write_uplink_nas_transport(alloc, m),
+        Pdu::NasNonDelivery(m) => write_nas_non_delivery(alloc, m),
+        Pdu::CapabilityInfo(m) => write_capability_info(alloc, m),
+        Pdu::ContextSetupRequest(m) => write_context_setup_request(alloc, m),
+        Pdu::ContextSetupResponse(m) => write_context_setup_response(alloc, m),
+        Pdu::ContextSetupFailure(m) => write_context_setup_failure(alloc, m),
+        Pdu::ReleaseRequest(m) => write_release_request(alloc, m),
+        Pdu::ReleaseCommand(m) => write_release_command(alloc, m),
+        Pdu::ReleaseComplete(m) => write_release_complete(alloc, m),
+        Pdu::Paging(m) => write_paging(alloc, m),
+        Pdu::PathSwitchRequest(m) => write_path_switch_request(alloc, m),
+        Pdu::PathSwitchAcknowledge(m) => write_path_switch_acknowledge(alloc, m),
+        Pdu::PathSwitchFailure(m) => write_path_switch_failure(alloc, m),
+        Pdu::Reset(m) => write_reset(alloc, m),
+        Pdu::ResetAcknowledge => write_reset_acknowledge(alloc),
+        Pdu::ErrorIndication(m) => write_error_indication(alloc, m),
+    }
+}
+
+impl<'a> S1apPdu<'a> {
+    /// Which message it is.
+    pub fn message_type(&self) -> MessageType
+        ensures { result ≡ (typed (lists self.now)).0 }
+    {
+        match self {
+            Pdu::SetupRequest(_) => MessageType::SetupRequest,
+            Pdu::SetupResponse(_) => MessageType::SetupResponse,
+            Pdu::SetupFailure(_) => MessageType::SetupFailure,
+            Pdu::InitialUeMessage(_) => MessageType::InitialUeMessage,
+            Pdu::DownlinkNasTransport(_) => MessageType::DownlinkNasTransport,
+            Pdu::UplinkNasTransport(_) => MessageType::UplinkNasTransport,
+            Pdu::NasNonDelivery(_) => MessageType::NasNonDelivery,
+            Pdu::CapabilityInfo(_) => MessageType::CapabilityInfo,
+            Pdu::ContextSetupRequest(_) => MessageType::ContextSetupRequest,
+            Pdu::ContextSetupResponse(_) => MessageType::ContextSetupResponse,
+            Pdu::ContextSetupFailure(_) => MessageType::ContextSetupFailure,
+            Pdu::ReleaseRequest(_) => MessageType::ReleaseRequest,
+            Pdu::ReleaseCommand(_) => MessageType::ReleaseCommand,
+            Pdu::ReleaseComplete(_) => MessageType::ReleaseComplete,
+            Pdu::Paging(_) => MessageType::Paging,
+            Pdu::PathSwitchRequest(_) => MessageType::PathSwitchRequest,
+            Pdu::PathSwitchAcknowledge(_) => MessageType::PathSwitchAcknowledge,
+            Pdu::PathSwitchFailure(_) => MessageType::PathSwitchFailure,
+            Pdu::Reset(_) => MessageType::Reset,
+            Pdu::ResetAcknowledge => MessageType::ResetAcknowledge,
+            Pdu::ErrorIndication(_) => MessageType::ErrorIndication,
+        }
+    }
+}
+
+impl MessageType {
+    /// 0 where it begins a procedure, 1 for a successful and 2 for an unsuccessful outcome.
+    pub fn kind(self) -> u8
+        ensures { result ≡ kind_of self }
+    {
+        match self {
+            MessageType::SetupResponse
+            | MessageType::ContextSetupResponse
+            | MessageType::ReleaseComplete
+            | MessageType::PathSwitchAcknowledge
+            | MessageType::ResetAcknowledge => 1,
+            MessageType::SetupFailure
+            | MessageType::ContextSetupFailure
+            | MessageType::PathSwitchFailure => 2,
+            _ => 0,
+        }
+    }
+
+    /// The code of its procedure (TS 36.413 clause 9.3.6).
+    pub fn code(self) -> u8
+        ensures { result ≡ code_of self }
+    {
+        match self {
+            MessageType::SetupRequest => 17,
+            MessageType::SetupResponse => 17,
+            MessageType::SetupFailure => 17,
+            MessageType::InitialUeMessage => 12,
+            MessageType::DownlinkNasTransport => 11,
+            MessageType::UplinkNasTransport => 13,
+            MessageType::NasNonDelivery => 16,
+            MessageType::CapabilityInfo => 22,
+            MessageType::ContextSetupRequest => 9,
+            MessageType::ContextSetupResponse => 9,
+            MessageType::ContextSetupFailure => 9,
+            MessageType::ReleaseRequest => 18,
+            MessageType::ReleaseCommand => 23,
+            MessageType::ReleaseComplete => 23,
+            MessageType::Paging => 10,
+            MessageType::PathSwitchRequest => 3,
+            MessageType::PathSwitchAcknowledge => 3,
+            MessageType::PathSwitchFailure => 3,
+            MessageType::Reset => 14,
+            MessageType::ResetAcknowledge => 14,
+            MessageType::ErrorIndication => 15,
+        }
+    }
+
+    /// The criticality of its procedure: 0 reject, 1 ignore (TS 36.413 clause 9.3.3).
+    pub fn criticality(self) -> u8
+        ensures { result ≡ criticality_of self }
+    {
+        match self {
+            MessageType::InitialUeMessage
+            | MessageType::DownlinkNasTransport
+            | MessageType::UplinkNasTransport
+            | MessageType::NasNonDelivery
+            | MessageType::CapabilityInfo
+            | MessageType::ReleaseRequest
+            | MessageType::Paging
+            | MessageType::ErrorIndication => 1,
+            _ => 0,
+        }
+    }
+}
+
+#[tactic(auto, unfolding(crate::specs::Writing::encode_typed))]
+fn message_octets(alloc: Global, message: &S1apPdu) -> Result<Vec<u8>, PerError>
+    ensures { GivesWhole (λ v. v.items) result (encode_typed (typed (lists message.now))) }
+{
+    let message_type = message.message_type();
+    let content = write_content(alloc, message)?;
+    frame_octets(
+        alloc,
+        message_type.kind(),
+        message_type.code(),
+        message_type.criticality(),
+        &content,
+    )
+}
+
+/// The octets of a message: its rows in their order, with the criticalities of the standard's table.
+///
+/// NotWritable where a part has no spelling: an extended name, or a number, a string or a list out of
+/// its range. NoMemory where a growth was refused.
+#[tactic(auto, unfolding(crate::specs::Pdus::encoded))]
+pub fn encode(alloc: Global, message: &S1apPdu) -> Result<Vec<u8>, EncodeFault>
+    ensures { Encodes (λ v. v.items) result (encoded (lists message.now)) }
+{
+    match message_octets(alloc, message) {
+        Ok(octets) => Ok(octets),
+        Err(PerError::NoMemory) => Err(EncodeFault::NoMemory),
+        Err(PerError::Fault(_)) => Err(EncodeFault::NotWritable),
+    }
+}

@@ -1,0 +1,27 @@
+//! Why octets are no message, and why a message is not written.
+
+/// Why octets are no message: the first fault from the left, a missing element last.
+#[derive(Debug, Drop)]
+pub enum S1apFault {
+    /// Octets that spell nothing at some place.
+    Syntax(per_bits::PerFault),
+    /// A procedure of no row, with its criticality: 0 reject, 1 ignore, 2 notify.
+    UnknownProcedure(u8),
+    /// The id of the first row whose element must stand and does not.
+    MissingElement(u16),
+    /// The id of an element that stands a second time.
+    RepeatedElement(u16),
+    /// The id of an element of no row that is marked reject.
+    RefusedElement(u16),
+    /// A growth of memory was refused.
+    NoMemory,
+}
+
+/// Why a message is not written.
+#[derive(Debug, Drop)]
+pub enum EncodeFault {
+    /// A part has no spelling: an extended name, a number, a string or a list out of its range.
+    NotWritable = 1,
+    /// A growth of memory was refused.
+    NoMemory = 2,
+}

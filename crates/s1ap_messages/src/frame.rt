@@ -1,0 +1,63 @@
+//! What stands around the elements of a message.
+
+ghost use Rattle.std.specs.Prelude.{◌≡◌, ◌≤◌, IfOk};
+ghost use Rattle.per_bits.specs.Reading.{GivesWhole, whole_at, number_at, closed_at, times};
+ghost use Rattle.per_bits.specs.Writing.{Wrote, write_whole};
+ghost use Rattle.s1ap_messages.specs.Reading.{frame_at};
+ghost use Rattle.s1ap_messages.specs.Writing.{write_frame};
+ghost use Rattle.s1ap_messages.specs.Answers.{AnswersWhole};
+
+use per_bits::{
+    BitReader, BitWriter, PerError, PerFault, offset_of, put_number, put_open, take_open,
+};
+use std::alloc::Global;
+
+/// Kind, code, criticality and octets of a message.
+#[derive(Clone, Copy)]
+pub struct Frame<'a> {
+    pub kind: u8,
+    pub code: u8,
+    pub criticality: u8,
+    pub octets: &'a [u8],
+}
+
+#[tactic(auto, unfolding(crate::specs::Reading::frame_at, per_bits::specs::Reading::whole_at, per_bits::specs::Reading::number_at, per_bits::specs::Reading::times))]
+pub fn read_frame<'a>(octets: &'a [u8]) -> Result<Frame<'a>, PerFault>
+    ensures kinds { IfOk result (λ f. f.kind ≤ 2) }
+    ensures exact { AnswersWhole (λ f. (f.kind, (f.code, (f.criticality, (f.octets.now, tt))))) result (whole_at frame_at octets.now) }
+{
+    let mut reader = BitReader::new(octets);
+    let extended = reader.take_bit()?;
+    if extended {
+        return Err(PerFault::Alternative);
+    }
+    let kind = offset_of(2, &mut reader)?;
+    let code = offset_of(255, &mut reader)?;
+    let criticality = offset_of(2, &mut reader)?;
+    let content = take_open(&mut reader)?;
+    reader.end()?;
+    Ok(Frame {
+        kind: kind as u8,
+        code: code as u8,
+        criticality: criticality as u8,
+        octets: content,
+    })
+}
+
+pub fn frame_octets(
+    alloc: Global,
+    kind: u8,
+    code: u8,
+    criticality: u8,
+    content: &[u8],
+) -> Result<Vec<u8>, PerError>
+    ensures { GivesWhole (λ v. v.items) result (write_whole (write_frame kind code criticality) content.now) }
+{
+    let mut writer = BitWriter::new(alloc);
+    writer.put_bit(false)?;
+    put_number(0, 2, kind as u64, &mut writer)?;
+    put_number(0, 255, code as u64, &mut writer)?;
+    put_number(0, 2, criticality as u64, &mut writer)?;
+    put_open(content, &mut writer)?;
+    writer.finish()
+}

@@ -1,0 +1,22 @@
+//! Laws of messages.
+
+ghost use Rattle.std.specs.Prelude.{◌≡◌, ℕ, List, Ok, Some};
+ghost use Rattle.s1ap_messages.specs.declared.pdu.Pdu.{Pdu};
+ghost use Rattle.s1ap_messages.specs.Pdus.{SpellsMessage, decoded, encoded};
+
+/// Octets are decoded exactly where they spell a message.
+pub fn decoded_exactly()
+    ensures decoded { (m : Pdu (List ℕ)) (os : List ℕ) → SpellsMessage m os → decoded os ≡ Ok m }
+    ensures spelled { (m : Pdu (List ℕ)) (os : List ℕ) → decoded os ≡ Ok m → SpellsMessage m os }
+{}
+
+/// Octets spell at most one message.
+pub fn one_message()
+    ensures { (m n : Pdu (List ℕ)) (os : List ℕ) → SpellsMessage m os → SpellsMessage n os → m ≡ n }
+{}
+
+/// What is written of a message spells it, and is decoded as it and as nothing else.
+pub fn what_is_encoded()
+    ensures spelled { (m : Pdu (List ℕ)) (os : List ℕ) → encoded m ≡ Some os → SpellsMessage m os }
+    ensures decoded { (m : Pdu (List ℕ)) (os : List ℕ) → encoded m ≡ Some os → decoded os ≡ Ok m }
+{}

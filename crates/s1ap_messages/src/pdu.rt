@@ -1,0 +1,214 @@
+//! Messages as values. `B` is what holds octets: a slice of the message in code, a list in contracts.
+
+use s1ap_elements::{
+    Ambr, Cause, CnDomain, EnbUeId, ErabsSetup, ErabsToBeSetup, ErabsToBeSwitched, EutranCgi,
+    GlobalEnbId, MmeUeId, PagingDrx, RelativeCapacity, ResetType, RrcCause, STmsi,
+    SecurityCapabilities, SecurityContext, SecurityKey, ServedGummeis, SupportedTas, Tai, TaiList,
+    UeIndex, UePagingId, UeS1apIds,
+};
+
+/// A station sets the interface up (TS 36.413 clause 9.1.8.4).
+#[derive(Drop)]
+pub struct SetupRequest<B: Drop> {
+    pub station: GlobalEnbId,
+    /// The printable name of the station, 1 to 150 octets.
+    pub name: Option<B>,
+    pub supported_tas: SupportedTas,
+    pub paging_drx: PagingDrx,
+}
+
+/// An MME takes a station (TS 36.413 clause 9.1.8.5).
+#[derive(Drop)]
+pub struct SetupResponse {
+    pub served_gummeis: ServedGummeis,
+    pub capacity: RelativeCapacity,
+}
+
+/// An MME refuses a station (TS 36.413 clause 9.1.8.6).
+#[derive(Drop)]
+pub struct SetupFailure {
+    pub cause: Cause,
+}
+
+/// The first NAS message of a phone that wants a connection (TS 36.413 clause 9.1.7.1).
+#[derive(Drop)]
+pub struct InitialUeMessage<B: Drop> {
+    pub enb_id: EnbUeId,
+    /// A NAS message.
+    pub nas: B,
+    pub tai: Tai,
+    pub cell: EutranCgi,
+    pub rrc_cause: RrcCause,
+    pub s_tmsi: Option<STmsi>,
+}
+
+/// A NAS message to a phone (TS 36.413 clause 9.1.7.2).
+#[derive(Drop)]
+pub struct DownlinkNasTransport<B: Drop> {
+    pub mme_id: MmeUeId,
+    pub enb_id: EnbUeId,
+    /// A NAS message.
+    pub nas: B,
+}
+
+/// A NAS message from a phone (TS 36.413 clause 9.1.7.3).
+#[derive(Drop)]
+pub struct UplinkNasTransport<B: Drop> {
+    pub mme_id: MmeUeId,
+    pub enb_id: EnbUeId,
+    /// A NAS message.
+    pub nas: B,
+    pub cell: EutranCgi,
+    pub tai: Tai,
+}
+
+/// A NAS message was not brought to its phone (TS 36.413 clause 9.1.7.4).
+#[derive(Drop)]
+pub struct NasNonDelivery<B: Drop> {
+    pub mme_id: MmeUeId,
+    pub enb_id: EnbUeId,
+    /// A NAS message.
+    pub nas: B,
+    pub cause: Cause,
+}
+
+/// What a phone's radio can do, as octets (TS 36.413 clause 9.1.10).
+#[derive(Drop)]
+pub struct CapabilityInfo<B: Drop> {
+    pub mme_id: MmeUeId,
+    pub enb_id: EnbUeId,
+    /// The radio capability, as the station has it.
+    pub radio_capability: B,
+}
+
+/// A station is to serve a phone's bearers (TS 36.413 clause 9.1.4.1).
+#[derive(Drop)]
+pub struct ContextSetupRequest<'a, B: Drop> {
+    pub mme_id: MmeUeId,
+    pub enb_id: EnbUeId,
+    pub ambr: Ambr,
+    pub erabs: ErabsToBeSetup<'a, B>,
+    pub capabilities: SecurityCapabilities,
+    pub key: SecurityKey,
+}
+
+/// A station serves a phone's bearers (TS 36.413 clause 9.1.4.3).
+#[derive(Drop)]
+pub struct ContextSetupResponse<'a> {
+    pub mme_id: MmeUeId,
+    pub enb_id: EnbUeId,
+    pub erabs: ErabsSetup<'a>,
+}
+
+/// A station does not serve a phone's bearers (TS 36.413 clause 9.1.4.4).
+#[derive(Drop)]
+pub struct ContextSetupFailure {
+    pub mme_id: MmeUeId,
+    pub enb_id: EnbUeId,
+    pub cause: Cause,
+}
+
+/// A station asks that an association ends (TS 36.413 clause 9.1.4.5).
+#[derive(Drop)]
+pub struct ReleaseRequest {
+    pub mme_id: MmeUeId,
+    pub enb_id: EnbUeId,
+    pub cause: Cause,
+}
+
+/// An association ends (TS 36.413 clause 9.1.4.6).
+#[derive(Drop)]
+pub struct ReleaseCommand {
+    pub ids: UeS1apIds,
+    pub cause: Cause,
+}
+
+/// An association has ended (TS 36.413 clause 9.1.4.7).
+#[derive(Drop)]
+pub struct ReleaseComplete {
+    pub mme_id: MmeUeId,
+    pub enb_id: EnbUeId,
+}
+
+/// A phone is called (TS 36.413 clause 9.1.6).
+#[derive(Drop)]
+pub struct Paging<B: Drop> {
+    pub ue_index: UeIndex,
+    pub paging_id: UePagingId<B>,
+    pub domain: CnDomain,
+    pub tai_list: TaiList,
+}
+
+/// A phone has come to this station (TS 36.413 clause 9.1.5.8).
+#[derive(Drop)]
+pub struct PathSwitchRequest<'a> {
+    pub enb_id: EnbUeId,
+    pub erabs: ErabsToBeSwitched<'a>,
+    /// The MME's number of the association.
+    pub source_mme_id: MmeUeId,
+    pub cell: EutranCgi,
+    pub tai: Tai,
+    pub capabilities: SecurityCapabilities,
+}
+
+/// A phone's bearers end at its new station (TS 36.413 clause 9.1.5.9).
+#[derive(Drop)]
+pub struct PathSwitchAcknowledge {
+    pub mme_id: MmeUeId,
+    pub enb_id: EnbUeId,
+    /// The next hop.
+    pub context: SecurityContext,
+}
+
+/// A phone's bearers are not switched (TS 36.413 clause 9.1.5.10).
+#[derive(Drop)]
+pub struct PathSwitchFailure {
+    pub mme_id: MmeUeId,
+    pub enb_id: EnbUeId,
+    pub cause: Cause,
+}
+
+/// The interface, or a part of it, is set back (TS 36.413 clause 9.1.8.1).
+#[derive(Drop)]
+pub struct Reset {
+    pub cause: Cause,
+    pub reset_type: ResetType,
+}
+
+/// Something is wrong with a message (TS 36.413 clause 9.1.8.3).
+#[derive(Drop)]
+pub struct ErrorIndication {
+    pub mme_id: Option<MmeUeId>,
+    pub enb_id: Option<EnbUeId>,
+    pub cause: Option<Cause>,
+}
+
+/// A message of the interface.
+#[derive(Drop)]
+pub enum Pdu<'a, B: Drop> {
+    SetupRequest(SetupRequest<B>),
+    SetupResponse(SetupResponse),
+    SetupFailure(SetupFailure),
+    InitialUeMessage(InitialUeMessage<B>),
+    DownlinkNasTransport(DownlinkNasTransport<B>),
+    UplinkNasTransport(UplinkNasTransport<B>),
+    NasNonDelivery(NasNonDelivery<B>),
+    CapabilityInfo(CapabilityInfo<B>),
+    ContextSetupRequest(ContextSetupRequest<'a, B>),
+    ContextSetupResponse(ContextSetupResponse<'a>),
+    ContextSetupFailure(ContextSetupFailure),
+    ReleaseRequest(ReleaseRequest),
+    ReleaseCommand(ReleaseCommand),
+    ReleaseComplete(ReleaseComplete),
+    Paging(Paging<B>),
+    PathSwitchRequest(PathSwitchRequest<'a>),
+    PathSwitchAcknowledge(PathSwitchAcknowledge),
+    PathSwitchFailure(PathSwitchFailure),
+    Reset(Reset),
+    /// The interface was set back (TS 36.413 clause 9.1.8.2).
+    ResetAcknowledge,
+    ErrorIndication(ErrorIndication),
+}
+
+/// A message that lends its octets from where it was read.
+pub type S1apPdu<'a> = Pdu<'a, &'a [u8]>;
