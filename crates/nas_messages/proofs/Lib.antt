@@ -1,0 +1,3 @@
+pub mod EmmLaws
+pub mod EsmLaws
+pub mod ProtectionLaws

@@ -1,0 +1,31 @@
+//! The NAS messages between a phone and an MME (TS 24.301): octets to values that lend their octets, and values to octets,
+//! in both directions; and the protected form. Decoding and splitting take no memory.
+#![tactic(auto)]
+
+mod emm_decoding;
+mod emm_encoding;
+mod emm_types;
+mod esm_decoding;
+mod esm_encoding;
+mod esm_types;
+mod laws;
+mod protection;
+
+pub use emm_decoding::decode_emm;
+pub use emm_encoding::encode_emm;
+pub use emm_types::{
+    AreaUpdateAccept, AreaUpdateRequest, AttachAccept, AttachReject, AttachRequest,
+    AuthenticationRequest, DetachRequest, Direction, Emm, EmmMessage, EmmType, SecurityModeCommand,
+};
+pub use esm_decoding::decode_esm;
+pub use esm_encoding::encode_esm;
+pub use esm_types::{ActivateRequest, Esm, EsmBody, EsmMessage, EsmType};
+pub use laws::{
+    decoded_esm_is_spelled, decoded_is_spelled, encoded_esm_is_decoded, encoded_is_decoded,
+    fault_is_named, fault_of_esm_is_named, one_esm_message, one_message, protected_is_split,
+    spelled_esm_is_decoded, spelled_is_decoded, split_is_protected,
+};
+pub use protection::{Protected, SecurityHeader, join_protected, split_protected};
+
+#[cfg(test)]
+mod tests;
