@@ -1,0 +1,3 @@
+pub mod Estimates
+pub mod Parts
+pub mod Accepted

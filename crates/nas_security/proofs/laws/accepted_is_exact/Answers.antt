@@ -1,0 +1,5 @@
+use Rattle.nas_security.proofs.Accepted.{accepted_so, so_accepted}
+use Rattle.nas_security.proofs.laws.accepted_is_exact.Goals as goal
+
+pub returns : goal.returns
+returns c mac last allowed octets count message = (accepted_so mac last allowed octets count message, so_accepted mac last allowed octets count message)
