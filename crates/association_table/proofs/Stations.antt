@@ -1,0 +1,235 @@
+-- The entries of a station, and how they are found by the seats.
+use Rattle.std.proofs.Common.{◌≡◌, ℕ, zero, suc, ◌+◌, ◌*◌, ◌^◌, ◌<◌, ◌≤◌, List, [], ◌∷◌, length, get_or, map, refl, sym, ◌∙◌, ap, subst, arith}
+use Rattle.std.specs.Prelude.{nat_lt, nat_le, ◌==◌, Option, Some, None, Bool, true, false, cond, if◌then◌else◌, option_map}
+use Rattle.std.proofs.lemmas.Bool.Decides.{nat_tests}
+use Rattle.ordered_lists.specs.Ordered.{place, add, ordered, AllOver, Rising, Every}
+use Rattle.ordered_lists.specs.Indexed.{every-ordered}
+use Rattle.association_table.specs.declared.association.Association.{Association}
+use Rattle.association_table.specs.declared.places.Seat.{Seat}
+use Rattle.association_table.specs.Table.{id_of, found, opened, closed, moved, at_station, elsewhere, first_from}
+use Rattle.slab.specs.Slab.{Slab}
+use Rattle.association_table.specs.declared.places.Held.{Held}
+use Rattle.association_table.specs.declared.places.Place.{Place}
+use Rattle.association_table.proofs.Entries.{rising_entries}
+use Rattle.association_table.specs.Kept.{IsKept, entries_of, seat_of, seat_rank, seating, IsId, IsSeat, first_seat}
+
+-- ---- the search among the seats
+
+seat_over : (e n j : ℕ) (ss : List Seat) → e * 2 ^ 32 + 2 ^ 32 ≤ j → AllOver seat_rank j ss → Every IsSeat ss → first_seat e n ss ≡ None
+seat_over e n j [] le h s = refl
+seat_over e n j (y ∷ ys) le h s =
+    let ih = seat_over e n j ys le h.1 s.1 in
+    let lt : j < seat_rank y = h.0 in
+    let small : y.id < 2 ^ 32 = s.0 in
+    let other : y.station ≡ e → ⊥ = λ q. absurd (omega arith) in
+    grind (arith, nat_tests)
+
+passed : (e n : ℕ) (y : Seat) → seat_rank y < e * 2 ^ 32 + n → y.station ≡ e → y.id < n
+passed e n y lt q = omega arith
+
+pub seat_end : (e n : ℕ) (ss : List Seat) → place seat_rank (e * 2 ^ 32 + n) ss ≡ length ss → first_seat e n ss ≡ None
+seat_end e n [] p = refl
+seat_end e n (y ∷ ys) p =
+    let ih = seat_end e n ys in
+    let past = passed e n y in
+    grind (arith, nat_tests)
+
+next_station : (e n : ℕ) (y : Seat) → e * 2 ^ 32 + n ≤ seat_rank y → y.id < 2 ^ 32 → (y.station ≡ e → ⊥) → e * 2 ^ 32 + 2 ^ 32 ≤ seat_rank y
+next_station e n y le small other = omega arith
+
+pub seat_absent : (e n i : ℕ) (s : Seat) (ss : List Seat) → Rising seat_rank ss → Every IsSeat ss → i ≡ place seat_rank (e * 2 ^ 32 + n) ss → i < length ss → s ≡ get_or ss i s → (s.station ≡ e → ⊥)
+    → first_seat e n ss ≡ None
+seat_absent e n i s [] h small p lt q other = refl
+seat_absent e n zero s (y ∷ ys) h small p lt q other =
+    let at_front : s ≡ y = q in
+    let apart : y.station ≡ e → ⊥ = subst (λ (z : Seat). z.station ≡ e → ⊥) at_front other in
+    let le : e * 2 ^ 32 + n ≤ seat_rank y = grind (arith, nat_tests) in
+    let rest = seat_over e n (seat_rank y) ys (next_station e n y le small.0 apart) h.0 small.1 in
+    grind (arith, nat_tests)
+seat_absent e n (suc i) s (y ∷ ys) h small p lt q other =
+    let ih = seat_absent e n i s ys h.1 small.1 in
+    let past = passed e n y in
+    grind (arith, nat_tests)
+
+pub seat_found : (e n i : ℕ) (s : Seat) (ss : List Seat) → i ≡ place seat_rank (e * 2 ^ 32 + n) ss → i < length ss → s ≡ get_or ss i s → s.station ≡ e → first_seat e n ss ≡ Some s.id
+seat_found e n i s [] p lt q same = absurd (omega arith)
+seat_found e n zero s (y ∷ ys) p lt q same =
+    let at_front : s ≡ y = q in
+    let there : y.station ≡ e = subst (λ (z : Seat). z.station ≡ e) at_front same in
+    let le : e * 2 ^ 32 + n ≤ seat_rank y = grind (arith, nat_tests) in
+    let high : n ≤ y.id = omega arith in
+    let id : s.id ≡ y.id = ap (λ (z : Seat). z.id) at_front in
+    grind (arith, nat_tests)
+seat_found e n (suc i) s (y ∷ ys) p lt q same =
+    let ih = seat_found e n i s ys in
+    let past = passed e n y in
+    grind (arith, nat_tests)
+
+-- ---- the seats are those of the entries
+
+seat_map_by : (a : Association) (s : Option ℕ) (f : Option Association) (b c : Bool) → s ≡ option_map id_of f
+    → cond b (cond c (Some a.id) s) s ≡ option_map id_of (cond b (cond c (Some a) f) f)
+seat_map_by a s f true true ih = refl
+seat_map_by a s f true false ih = ih
+seat_map_by a s f false c ih = ih
+
+seat_map : (e n : ℕ) (zs : List Association) → first_seat e n (map seat_of zs) ≡ option_map id_of (first_from e n zs)
+seat_map e n [] = refl
+seat_map e n (a ∷ zs) = seat_map_by a _ _ (a.station == e) (nat_le n a.id) (seat_map e n zs)
+
+-- an entry stands before the others of its station
+abbrev IsBefore : Association → Association → Type 0
+IsBefore a z = z.station ≡ a.station → seating a < seating z
+
+first_add : (e n : ℕ) (a : Association) (zs : List Association) → Every (IsBefore a) zs → first_from e n (add seating a zs) ≡ first_from e n (a ∷ zs)
+first_add e n a [] h = refl
+first_add e n a (y ∷ ys) h =
+    let ih = first_add e n a ys h.1 in
+    let before : y.station ≡ a.station → seating a < seating y = h.0 in
+    grind (arith, nat_tests)
+
+befores : (a : Association) (es : List Association) → AllOver id_of a.id es → Every (IsBefore a) es
+befores a [] h = tt
+befores a (z ∷ zs) h = let lt : a.id < z.id = h.0 in ((λ q. omega arith), befores a zs h.1)
+
+first_ordered : (e n : ℕ) (es : List Association) → Rising id_of es → first_from e n (ordered seating es) ≡ first_from e n es
+first_ordered e n [] h = refl
+first_ordered e n (a ∷ es) h =
+    first_add e n a (ordered seating es) (every-ordered (IsBefore a) seating es (befores a es h.0))
+    ∙ ap (λ f. if a.station == e then (if nat_le n a.id then Some a else f) else f) (first_ordered e n es h.1)
+
+pub first_by_seats : (e n : ℕ) (es : List Association) → Rising id_of es → first_seat e n (map seat_of (ordered seating es)) ≡ option_map id_of (first_from e n es)
+first_by_seats e n es h = seat_map e n (ordered seating es) ∙ ap (option_map id_of) (first_ordered e n es h)
+
+seats_small_by : (zs : List Association) → Every IsId zs → Every IsSeat (map seat_of zs)
+seats_small_by [] h = tt
+seats_small_by (z ∷ zs) h = (h.0, seats_small_by zs h.1)
+
+pub seats_small : (es : List Association) → Every IsId es → Every IsSeat (map seat_of (ordered seating es))
+seats_small es h = seats_small_by (ordered seating es) (every-ordered IsId seating es h)
+
+-- ---- the first entry of a station
+
+pub first_is : (e n : ℕ) (a : Association) (es : List Association) → first_from e n es ≡ Some a → (a.station ≡ e) × (n ≤ a.id)
+first_is e n a [] q = absurd (cc)
+first_is e n a (y ∷ ys) q = let ih = first_is e n a ys in (grind (arith, nat_tests), grind (arith, nat_tests))
+
+first_over : (e n j : ℕ) (a : Association) (es : List Association) → AllOver id_of j es → first_from e n es ≡ Some a → j < a.id
+first_over e n j a [] h q = absurd (cc)
+first_over e n j a (y ∷ ys) h q = let ih = first_over e n j a ys h.1 in let lt : j < y.id = h.0 in grind (arith, nat_tests)
+
+pub first_found : (e n : ℕ) (a : Association) (es : List Association) → Rising id_of es → first_from e n es ≡ Some a → found a.id es ≡ Some a
+first_found e n a [] h q = absurd (cc)
+first_found e n a (y ∷ ys) h q = let ih = first_found e n a ys h.1 in let over = first_over e n y.id a ys h.0 in grind (arith, nat_tests)
+
+mapped_some : (id : ℕ) (o : Option Association) → option_map id_of o ≡ Some id → (a : Association) × (o ≡ Some a) × (a.id ≡ id)
+mapped_some id None q = absurd (cc)
+mapped_some id (Some a) q = (a, refl, (cc))
+
+pub first_by_id : (e n id : ℕ) (es : List Association) → Rising id_of es → option_map id_of (first_from e n es) ≡ Some id → found id es ≡ first_from e n es
+first_by_id e n id es h q =
+    let a = mapped_some id (first_from e n es) q in
+    ap (λ i. found i es) (sym a.2) ∙ first_found e n a.0 es h a.1 ∙ sym a.1
+
+pub mapped_none : (o : Option Association) → option_map id_of o ≡ None → o ≡ None
+mapped_none None q = refl
+mapped_none (Some a) q = absurd (cc)
+
+-- ---- clearing a station
+
+pub elsewhere_closed : (e n : ℕ) (a : Association) (es : List Association) → Rising id_of es → first_from e n es ≡ Some a → elsewhere e (closed a.id es) ≡ elsewhere e es
+elsewhere_closed e n a [] h q = refl
+elsewhere_closed e n a (y ∷ ys) h q =
+    let ih = elsewhere_closed e n a ys h.1 in
+    let over = first_over e n y.id a ys h.0 in
+    grind (arith, nat_tests)
+
+pub none_elsewhere : (e : ℕ) (es : List Association) → first_from e 0 es ≡ None → elsewhere e es ≡ es
+none_elsewhere e [] q = refl
+none_elsewhere e (y ∷ ys) q = let ih = none_elsewhere e ys in grind (arith, nat_tests)
+
+pub length_closed : (id : ℕ) (a : Association) (es : List Association) → found id es ≡ Some a → length (closed id es) < length es
+length_closed id a [] q = absurd (cc)
+length_closed id a (y ∷ ys) q = let ih = length_closed id a ys in grind (arith, nat_tests)
+
+-- ---- listing a station
+
+-- the entries of a station whose ids are at least the number
+abbrev pub station_from : ℕ → ℕ → List Association → List Association
+station_from e n [] = []
+station_from e n (a ∷ es) = if a.station == e then (if nat_le n a.id then a ∷ station_from e n es else station_from e n es) else station_from e n es
+
+pub from_zero : (e : ℕ) (es : List Association) → station_from e 0 es ≡ at_station e es
+from_zero e [] = refl
+from_zero e (y ∷ ys) = let ih = from_zero e ys in grind (arith, nat_tests)
+
+pub from_none : (e n : ℕ) (es : List Association) → first_from e n es ≡ None → station_from e n es ≡ []
+from_none e n [] q = refl
+from_none e n (y ∷ ys) q = let ih = from_none e n ys in grind (arith, nat_tests)
+
+same_from : (e n m j : ℕ) (es : List Association) → AllOver id_of j es → n ≤ j + 1 → m ≤ j + 1 → station_from e n es ≡ station_from e m es
+same_from e n m j [] h p q = refl
+same_from e n m j (y ∷ ys) h p q =
+    let ih = same_from e n m j ys h.1 p q in
+    let lt : j < y.id = h.0 in
+    grind (arith, nat_tests)
+
+from_some_by : (e n : ℕ) (a y : Association) (ys : List Association) (b c : Bool) → (y.station == e) ≡ b → nat_le n y.id ≡ c → AllOver id_of y.id ys
+    → cond b (cond c (Some y) (first_from e n ys)) (first_from e n ys) ≡ Some a
+    → (first_from e n ys ≡ Some a → station_from e n ys ≡ a ∷ station_from e (a.id + 1) ys)
+    → cond b (cond c (y ∷ station_from e n ys) (station_from e n ys)) (station_from e n ys) ≡ a ∷ station_from e (a.id + 1) (y ∷ ys)
+from_some_by e n a y ys true true s t over q ih =
+    let same : y ≡ a = cc in
+    let le : n ≤ y.id = grind (arith, nat_tests) in
+    let rest = same_from e n (y.id + 1) y.id ys over (omega arith) (omega arith) in
+    let skip : station_from e (y.id + 1) (y ∷ ys) ≡ station_from e (y.id + 1) ys = grind (arith, nat_tests) in
+    subst (λ (z : Association). y ∷ station_from e n ys ≡ z ∷ station_from e (z.id + 1) (y ∷ ys)) same (ap (λ zs. y ∷ zs) (rest ∙ sym skip))
+from_some_by e n a y ys true false s t over q ih =
+    let lt = first_over e n y.id a ys over q in
+    let skip : station_from e (a.id + 1) (y ∷ ys) ≡ station_from e (a.id + 1) ys = grind (arith, nat_tests) in
+    ih q ∙ ap (λ zs. a ∷ zs) (sym skip)
+from_some_by e n a y ys false c s t over q ih =
+    let skip : station_from e (a.id + 1) (y ∷ ys) ≡ station_from e (a.id + 1) ys = grind (arith, nat_tests) in
+    ih q ∙ ap (λ zs. a ∷ zs) (sym skip)
+
+pub from_some : (e n : ℕ) (a : Association) (es : List Association) → Rising id_of es → first_from e n es ≡ Some a → station_from e n es ≡ a ∷ station_from e (a.id + 1) es
+from_some e n a [] h q = absurd (cc)
+from_some e n a (y ∷ ys) h q = from_some_by e n a y ys (y.station == e) (nat_le n y.id) refl refl h.0 q (from_some e n a ys h.1)
+
+-- ---- moving
+
+found_over : (id j : ℕ) (a : Association) (es : List Association) → AllOver id_of j es → found id es ≡ Some a → j < id
+found_over id j a [] h q = absurd (cc)
+found_over id j a (y ∷ ys) h q = let ih = found_over id j a ys h.1 in let lt : j < y.id = h.0 in grind (arith, nat_tests)
+
+add_over : (a : Association) (es : List Association) → AllOver id_of a.id es → opened a es ≡ a ∷ es
+add_over a [] h = refl
+add_over a (y ∷ ys) h = let lt : a.id < y.id = h.0 in grind (arith, nat_tests)
+
+moved_by : (id station enb_id : ℕ) (a y : Association) (ys : List Association) (b : Bool) → (y.id == id) ≡ b → AllOver id_of y.id ys → cond b (Some y) (found id ys) ≡ Some a
+    → (found id ys ≡ Some a → opened (record { id = id; owner = a.owner; station = station; enb_id = enb_id }) (closed id ys) ≡ moved id station enb_id ys)
+    → opened (record { id = id; owner = a.owner; station = station; enb_id = enb_id }) (cond b ys (y ∷ closed id ys))
+    ≡ cond b (record { id = id; owner = y.owner; station = station; enb_id = enb_id } ∷ ys) (y ∷ moved id station enb_id ys)
+moved_by id station enb_id a y ys true s over q ih =
+    let same : y ≡ a = cc in
+    let at_id : y.id ≡ id = grind (arith, nat_tests) in
+    ap (λ (z : Association). opened (record { id = id; owner = z.owner; station = station; enb_id = enb_id }) ys) (sym same)
+    ∙ add_over (record { id = id; owner = y.owner; station = station; enb_id = enb_id }) ys (subst (λ i. AllOver id_of i ys) at_id over)
+moved_by id station enb_id a y ys false s over q ih =
+    let lt : y.id < id = found_over id y.id a ys over q in
+    let rest = ih q in
+    let under : nat_lt y.id id ≡ true = grind (arith, nat_tests) in
+    rw under (ap (λ zs. y ∷ zs) rest)
+
+pub moved_is : (id station enb_id : ℕ) (a : Association) (es : List Association) → Rising id_of es → found id es ≡ Some a
+    → opened (record { id = id; owner = a.owner; station = station; enb_id = enb_id }) (closed id es) ≡ moved id station enb_id es
+moved_is id station enb_id a [] h q = absurd (cc)
+moved_is id station enb_id a (y ∷ ys) h q = moved_by id station enb_id a y ys (y.id == id) refl h.0 q (moved_is id station enb_id a ys h.1)
+
+-- ---- the answer of the search
+
+rising_of : (s : Slab Held) (ps : List Place) (seats : List Seat) → IsKept s ps seats → Rising id_of (entries_of s ps)
+rising_of s ps seats k = rising_entries s ps k.rising
+
+pub first_answer : (s : Slab Held) (ps : List Place) (seats : List Seat) → IsKept s ps seats → (e n : ℕ) → first_seat e n seats ≡ option_map id_of (first_from e n (entries_of s ps))
+first_answer s ps seats k e n = ap (first_seat e n) k.seats ∙ first_by_seats e n (entries_of s ps) (rising_of s ps seats k)

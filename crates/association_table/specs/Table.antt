@@ -1,0 +1,40 @@
+-- What a caller sees of the associations: the entries by id.
+use Rattle.std.specs.Prelude.{ℕ, List, [], ◌∷◌, Option, Some, None, ◌==◌, nat_le, if◌then◌else◌}
+use Rattle.association_table.specs.declared.association.Association.{Association}
+use Rattle.ordered_lists.specs.Ordered.{at, add, without}
+
+pub record Table : Type 0 where
+  pub entries : List Association  -- by rising id
+  pub room : ℕ  -- so many more can be opened with no allocation
+
+abbrev pub id_of : Association → ℕ
+id_of a = a.id
+
+abbrev pub found : ℕ → List Association → Option Association
+found id es = at id_of id es
+
+abbrev pub opened : Association → List Association → List Association
+opened a es = add id_of a es
+
+abbrev pub closed : ℕ → List Association → List Association
+closed id es = without id_of id es
+
+-- the entry with the id has another station and eNB UE id
+abbrev pub moved : ℕ → ℕ → ℕ → List Association → List Association
+moved id station enb_id [] = []
+moved id station enb_id (a ∷ es) =
+    if a.id == id then record { id = id; owner = a.owner; station = station; enb_id = enb_id } ∷ es else a ∷ moved id station enb_id es
+
+-- the entries of a station, and the others
+abbrev pub at_station : ℕ → List Association → List Association
+at_station e [] = []
+at_station e (a ∷ es) = if a.station == e then a ∷ at_station e es else at_station e es
+
+abbrev pub elsewhere : ℕ → List Association → List Association
+elsewhere e [] = []
+elsewhere e (a ∷ es) = if a.station == e then elsewhere e es else a ∷ elsewhere e es
+
+-- the first entry of a station whose id is at least the number
+abbrev pub first_from : ℕ → ℕ → List Association → Option Association
+first_from e n [] = None
+first_from e n (a ∷ es) = if a.station == e then (if nat_le n a.id then Some a else first_from e n es) else first_from e n es

@@ -1,0 +1,40 @@
+//! An association, and why a change of the map was refused.
+
+/// Whose association it is.
+#[derive(Clone, Copy, PartialEq, Eq, Debug)]
+pub enum Owner {
+    /// A phone that is not known yet: the association's station and eNB UE id name it.
+    Stranger,
+    /// A subscriber, by its slot.
+    Subscriber(u32),
+}
+
+/// An entry of the map: the association with this id.
+#[derive(Clone, Copy, PartialEq, Eq, Debug)]
+pub struct Association {
+    /// MME UE S1AP ID (TS 36.413 clause 9.2.3.3).
+    pub id: u32,
+    pub owner: Owner,
+    /// The number of the station.
+    pub station: u8,
+    /// eNB UE S1AP ID (TS 36.413 clause 9.2.3.4).
+    pub enb_id: u32,
+}
+
+/// Why an association was not opened, in the order of the checks.
+#[derive(Clone, Copy, PartialEq, Eq, Debug)]
+pub enum OpenFault {
+    /// The id has an association.
+    Taken,
+    /// A growth was refused.
+    NoMemory,
+}
+
+/// Why an association was not moved, in the order of the checks.
+#[derive(Clone, Copy, PartialEq, Eq, Debug)]
+pub enum MoveFault {
+    /// The id has no association.
+    Unknown,
+    /// A growth was refused. Moving within the place that the association has needs none, so this isn't answered today.
+    NoMemory,
+}

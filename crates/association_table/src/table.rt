@@ -1,0 +1,237 @@
+//! The map.
+
+ghost use Rattle.std.specs.Prelude.{◌≡◌, ℕ, ◌+◌, ◌-◌, ◌*◌, ◌<◌, ◌≤◌, ◌^◌, ◌↔◌, List, [], IfOk, OnOk, OnErr, IsTrue, IsSome, Option, Some, None, Err, is_some, IsOk, if◌then◌else◌};
+ghost use Rattle.association_table.specs.declared.association.OpenFault.TheVariants.{Taken};
+ghost use Rattle.association_table.specs.declared.association.MoveFault.TheVariants.{Unknown};
+ghost use Rattle.ordered_lists.specs.Ordered.{Rising};
+ghost use Rattle.association_table.specs.Table.{id_of, found, opened, closed, moved, at_station, elsewhere, first_from};
+
+use crate::association::{Association, MoveFault, OpenFault};
+use crate::places::{
+    Held, Place, Seat, add_place, add_seat, find_place, first_seat, take_place, take_seat,
+};
+use slab::Slab;
+use std::alloc::{AllocError, Global};
+use std::marker::Model;
+
+fn id_of(association: Association) -> u32
+    ensures { result ≡ association.id }
+{
+    association.id
+}
+
+/// The associations by id. Contracts see the entries by rising id, and for how many more there is room.
+#[derive(Drop)]
+pub struct Associations {
+    slab: Slab<Held>,
+    by_id: Vec<Place>,
+    by_station: Vec<Seat>,
+    alloc: Global,
+}
+
+impl Model for Associations {
+    ghost use Rattle.std.specs.Prelude.{◌-◌, min, vec_len};
+    ghost use Rattle.std.specs.Vec.{vec_capacity};
+    ghost use Rattle.slab.specs.Slab.{slab_len};
+    ghost use Rattle.association_table.specs.Table.{Table};
+
+    ghost Value = { Table };
+
+    ghost use Rattle.association_table.specs.Kept.{entries_of, IsKept};
+
+    ghost view = { λ t. record { entries = entries_of t.slab t.by_id.items; room = min (t.slab.capacity - slab_len t.slab) (min (vec_capacity t.by_id - vec_len t.by_id) (vec_capacity t.by_station - vec_len t.by_station)) } };
+
+    ghost invariant = { λ t. IsKept t.slab t.by_id.items t.by_station.items };
+}
+
+impl Associations {
+    /// No associations.
+    pub fn new(alloc: Global) -> Self
+        ensures { result.entries ≡ [] }
+    {
+        Associations {
+            slab: Slab::new(alloc),
+            by_id: Vec::new(alloc),
+            by_station: Vec::new(alloc),
+            alloc,
+        }
+    }
+
+    /// The association with an id, if there is one. Takes no memory. The entries stand by rising id, each id once.
+    pub fn find(&self, id: u32) -> Option<Association>
+        ensures value { result ≡ found id self.now.entries }
+        ensures order { Rising id_of self.now.entries }
+    {
+        let place = find_place(&self.by_id, id)?;
+        match self.slab.get(place.key) {
+            Some(held) => Some(Association {
+                id,
+                owner: held.owner,
+                station: held.station,
+                enb_id: held.enb_id,
+            }),
+            None => None,
+        }
+    }
+
+    /// Makes room for so many more. Where that is refused the entries are as they were.
+    pub fn reserve(&mut self, more: usize) -> Result<(), AllocError>
+        ensures entries { self.new.entries ≡ self.old.entries }
+        ensures room { OnOk result (more ≤ self.new.room) }
+        ensures kept { self.old.room ≤ self.new.room }
+    {
+        self.slab.reserve(more)?;
+        self.by_id.reserve(more)?;
+        self.by_station.reserve(more)?;
+        Ok(())
+    }
+
+    /// Opens an association: Taken where its id has one, else NoMemory where room for it was refused. All growths come first,
+    /// and a refused call leaves the entries as they were.
+    pub fn open(&mut self, association: Association) -> Result<(), OpenFault>
+        ensures entries { OnOk result (self.new.entries ≡ opened association self.old.entries) }
+        ensures taken { (result ≡ Err Taken) ↔ IsSome (found association.id self.old.entries) }
+        ensures err { OnErr result (self.new.entries ≡ self.old.entries) }
+        ensures room { self.old.room ≤ self.new.room + 1 }
+    {
+        if self.find(association.id).is_some() {
+            return Err(OpenFault::Taken);
+        }
+        if self.reserve(1).is_err() {
+            return Err(OpenFault::NoMemory);
+        }
+        self.open_reserved(association);
+        Ok(())
+    }
+
+    /// Opens an association whose id is free, where there is room. Takes no memory.
+    pub fn open_reserved(&mut self, association: Association)
+        requires free { found association.id self.old.entries ≡ None }
+        requires room { 0 < self.old.room }
+        ensures entries { self.new.entries ≡ opened association self.old.entries }
+        ensures room { self.old.room ≤ self.new.room + 1 }
+    {
+        let id = id_of(association);
+        let seat = Seat {
+            station: association.station,
+            id,
+        };
+        let key = self.slab.insert_reserved(Held {
+            owner: association.owner,
+            station: association.station,
+            enb_id: association.enb_id,
+        });
+        add_place(&mut self.by_id, Place { id, key });
+        add_seat(&mut self.by_station, seat);
+    }
+
+    /// Moves an association to another station and eNB UE id; Unknown where there is none. Takes no memory.
+    pub fn move_to(&mut self, id: u32, station: u8, enb_id: u32) -> Result<(), MoveFault>
+        ensures entries { OnOk result (self.new.entries ≡ moved id station enb_id self.old.entries) }
+        ensures known { IsSome (found id self.old.entries) → IsOk result }
+        ensures unknown { found id self.old.entries ≡ None → result ≡ Err Unknown }
+        ensures err { OnErr result (self.new ≡ self.old) }
+        ensures room { self.old.room ≤ self.new.room }
+    {
+        let Some(association) = self.find(id) else {
+            return Err(MoveFault::Unknown);
+        };
+        self.close_found(association);
+        self.open_reserved(Association {
+            id,
+            owner: association.owner,
+            station,
+            enb_id,
+        });
+        Ok(())
+    }
+
+    /// Closes the association with an id, and answers whether there was one. Takes no memory, and leaves room for another.
+    pub fn close(&mut self, id: u32) -> bool
+        ensures answer { result ≡ is_some (found id self.old.entries) }
+        ensures entries { self.new.entries ≡ closed id self.old.entries }
+        ensures gone { found id self.new.entries ≡ None }
+        ensures room { self.old.room + (if result then 1 else 0) ≤ self.new.room }
+    {
+        let Some(association) = self.find(id) else {
+            return false;
+        };
+        self.close_found(association);
+        true
+    }
+
+    fn close_found(&mut self, association: Association)
+        requires { found association.id self.old.entries ≡ Some association }
+        ensures entries { self.new.entries ≡ closed association.id self.old.entries }
+        ensures gone { found association.id self.new.entries ≡ None }
+        ensures room { self.old.room + 1 ≤ self.new.room }
+    {
+        let place = take_place(&mut self.by_id, association.id).unwrap();
+        let _ = self.slab.try_remove(place.key);
+        let seat = Seat {
+            station: association.station,
+            id: association.id,
+        };
+        take_seat(&mut self.by_station, seat);
+    }
+
+    /// The station's association with the lowest id of at least `least`.
+    fn first_at(&self, station: u8, least: u64) -> Option<Association>
+        requires { least ≤ 2 ^ 32 }
+        ensures value { result ≡ first_from station least self.now.entries }
+        ensures order { Rising id_of self.now.entries }
+    {
+        match first_seat(&self.by_station, station, least) {
+            Some(id) => self.find(id),
+            None => None,
+        }
+    }
+
+    /// The associations of a station, by id.
+    pub fn entries_at(&self, station: u8) -> Result<Vec<Association>, AllocError>
+        ensures { IfOk result (λ entries. entries.items ≡ at_station station self.now.entries) }
+    {
+        let mut entries = Vec::new(self.alloc);
+        let mut least = 0;
+        while let Some(association) = self.first_at(station, least) {
+            entries.push(association)?;
+            least = u64::from(id_of(association)) + 1;
+        }
+        Ok(entries)
+    }
+
+    /// Closes all associations of a station. Takes no memory.
+    pub fn clear_station(&mut self, station: u8)
+        ensures entries { self.new.entries ≡ elsewhere station self.old.entries }
+        ensures room { self.old.room ≤ self.new.room }
+    {
+        while let Some(association) = self.first_at(station, 0) {
+            self.close_found(association);
+        }
+    }
+
+    /// Closes all associations of a station and answers them by id. NoMemory where room for the answer was refused: then the
+    /// entries are as they were.
+    pub fn close_station(&mut self, station: u8) -> Result<Vec<Association>, AllocError>
+        ensures answer { IfOk result (λ entries. entries.items ≡ at_station station self.old.entries) }
+        ensures entries { OnOk result (self.new.entries ≡ elsewhere station self.old.entries) }
+        ensures err { OnErr result (self.new ≡ self.old) }
+        ensures room { self.old.room ≤ self.new.room }
+    {
+        let entries = self.entries_at(station)?;
+        self.clear_station(station);
+        Ok(entries)
+    }
+
+    /// An equal map: the same entries.
+    pub fn copy(&self) -> Result<Associations, AllocError>
+        ensures { IfOk result (λ copy. copy.entries ≡ self.now.entries) }
+    {
+        Ok(Associations {
+            slab: self.slab.clone()?,
+            by_id: self.by_id.clone()?,
+            by_station: self.by_station.clone()?,
+            alloc: self.alloc,
+        })
+    }
+}

@@ -1,0 +1,166 @@
+//! Slots, and the ids that are made of them.
+
+ghost use Rattle.std.specs.Prelude.{◌≡◌, ◌+◌, ◌*◌, ◌<◌, ◌≤◌, ◌^◌, SomeIff};
+ghost use Rattle.identity_slots.specs.Ids.{next_counter, id_of, stranger_id};
+
+use std::marker::Model;
+
+/// How many slots there are.
+pub(crate) const SLOTS: u32 = 2048;
+
+/// How many ids each slot has.
+pub(crate) const COUNTERS: u32 = 0x10_0000;
+
+/// The first id of a stranger: ids of slots are below it.
+pub(crate) const STRANGERS: u32 = 0x8000_0000;
+
+/// The number of a subscriber, 0 to 2047, in the order of provisioning.
+#[derive(Clone, Copy, PartialEq, Eq)]
+pub struct Slot {
+    number: u32,
+}
+
+impl Model for Slot {
+    ghost use Rattle.std.specs.Prelude.{ℕ, ◌<◌};
+
+    ghost Value = { ℕ };
+
+    ghost view = { λ s. s.number };
+
+    ghost invariant = { λ s. s.number < 2048 };
+
+    ghost inverse = { λ n. record { number = n } };
+}
+
+impl Slot {
+    /// The slot with a number below 2048.
+    pub fn try_new(number: u32) -> Option<Slot>
+        ensures { SomeIff result (number < 2048) number }
+    {
+        if number < SLOTS {
+            Some(Slot { number })
+        } else {
+            None
+        }
+    }
+
+    /// Its number.
+    pub fn get(self) -> u32
+        ensures value { result ≡ self }
+        ensures small { self < 2048 }
+    {
+        self.number
+    }
+
+    /// The next id, and the counter that it was made with, modulo 2^20: the slot and the counter in one number.
+    fn id_after(self, counter: u32) -> (u32, u32)
+        requires { counter < 2 ^ 20 }
+        ensures id { result.0 ≡ id_of self (next_counter counter) }
+        ensures counter { result.1 ≡ next_counter counter }
+        ensures small { next_counter counter < 2 ^ 20 }
+        ensures slot { self < 2048 }
+    {
+        let next = (counter + 1) % COUNTERS;
+        (self.get() * COUNTERS + next, next)
+    }
+}
+
+/// The MME UE S1AP ID of an association (TS 36.413 clause 9.2.3.3). Below 2^31 it is made of a slot and a counter; from there
+/// on it is that of a stranger, made of its station and its eNB UE id.
+#[derive(Clone, Copy, PartialEq, Eq)]
+pub struct AssociationId {
+    id: u32,
+}
+
+impl Model for AssociationId {
+    ghost use Rattle.std.specs.Prelude.{ℕ};
+
+    ghost Value = { ℕ };
+
+    ghost view = { λ i. i.id };
+
+    ghost inverse = { λ n. record { id = n } };
+}
+
+impl AssociationId {
+    /// The id with this number, as it is received.
+    pub fn new(id: u32) -> AssociationId
+        ensures { result ≡ id }
+    {
+        AssociationId { id }
+    }
+
+    /// Its number.
+    pub fn get(self) -> u32
+        ensures { result ≡ self }
+    {
+        self.id
+    }
+
+    /// The slot's next id after this counter below 2^20, and the next counter.
+    pub fn after(slot: Slot, counter: u32) -> (AssociationId, u32)
+        requires { counter < 2 ^ 20 }
+        ensures id { result.0 ≡ id_of slot (next_counter counter) }
+        ensures counter { result.1 ≡ next_counter counter }
+        ensures small { next_counter counter < 2 ^ 20 }
+        ensures below_strangers { id_of slot (next_counter counter) < 2 ^ 31 }
+    {
+        let (id, next) = slot.id_after(counter);
+        (AssociationId { id }, next)
+    }
+
+    /// The id of the stranger at a station below 128 with an eNB UE id below 2^24.
+    pub fn of_stranger(station: u8, enb_id: u32) -> AssociationId
+        requires station { station < 128 }
+        requires enb_id { enb_id < 2 ^ 24 }
+        ensures { result ≡ stranger_id station enb_id }
+    {
+        AssociationId {
+            id: STRANGERS + u32::from(station) * 0x100_0000 + enb_id,
+        }
+    }
+}
+
+/// An M-TMSI (TS 23.003 clause 2.4), made of a slot and a counter.
+#[derive(Clone, Copy, PartialEq, Eq)]
+pub struct Tmsi {
+    tmsi: u32,
+}
+
+impl Model for Tmsi {
+    ghost use Rattle.std.specs.Prelude.{ℕ};
+
+    ghost Value = { ℕ };
+
+    ghost view = { λ t. t.tmsi };
+
+    ghost inverse = { λ n. record { tmsi = n } };
+}
+
+impl Tmsi {
+    /// The M-TMSI with this number, as it is received.
+    pub fn new(tmsi: u32) -> Tmsi
+        ensures { result ≡ tmsi }
+    {
+        Tmsi { tmsi }
+    }
+
+    /// Its number.
+    pub fn get(self) -> u32
+        ensures { result ≡ self }
+    {
+        self.tmsi
+    }
+
+    /// The slot's next M-TMSI after this counter below 2^20, and the next counter.
+    pub fn after(slot: Slot, counter: u32) -> (Tmsi, u32)
+        requires { counter < 2 ^ 20 }
+        ensures id { result.0 ≡ id_of slot (next_counter counter) }
+        ensures counter { result.1 ≡ next_counter counter }
+        ensures small { next_counter counter < 2 ^ 20 }
+        ensures below_strangers { id_of slot (next_counter counter) < 2 ^ 31 }
+    {
+        let (tmsi, next) = slot.id_after(counter);
+        (Tmsi { tmsi }, next)
+    }
+}

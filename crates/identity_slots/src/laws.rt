@@ -1,0 +1,9 @@
+//! Why octets may be compared as numbers.
+
+ghost use Rattle.identity_slots.specs.Provisioned.{EightOctetsApart, FourOctetsApart};
+
+/// No two strings of eight octets, and none of four, are one number.
+pub fn octets_apart()
+    ensures eight { EightOctetsApart }
+    ensures four { FourOctetsApart }
+{}

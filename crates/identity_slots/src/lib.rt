@@ -1,0 +1,15 @@
+//! What is provisioned of each subscriber, by slot, and the ids that are made of slots: association ids (TS 36.413 clause
+//! 9.2.3.3) and M-TMSIs (TS 23.003 clause 2.4).
+#![tactic(auto)]
+
+mod ids;
+mod laws;
+mod profile;
+mod provision;
+#[cfg(test)]
+mod tests;
+
+pub use ids::{AssociationId, Slot, Tmsi};
+pub use laws::octets_apart;
+pub use profile::{Profile, Vector, Xres};
+pub use provision::{Provision, ProvisionFault};

@@ -1,0 +1,143 @@
+//! A subscriber's profile and its authentication vectors.
+
+ghost use Rattle.std.specs.Prelude.{◌≡◌, ◌≤◌, ◌++◌, ◌∷◌, [], IfSome, IsSome, OnOk, OnErr, length};
+
+use arrayvec::ArrayVec;
+use nas_elements::Imsi;
+use std::alloc::{AllocError, Global};
+use std::marker::Model;
+
+/// What is provisioned of a subscriber.
+#[derive(Clone, Copy)]
+pub struct Profile {
+    pub imsi: Imsi,
+    /// Its IPv4 address.
+    pub address: [u8; 4],
+    /// The IPv4 address of its S-GW.
+    pub gateway: [u8; 4],
+    /// The S-GW's tunnel end for it.
+    pub teid: [u8; 4],
+}
+
+/// An expected answer of 4 to 16 octets (TS 33.401 clause 6.1.1).
+#[derive(Drop)]
+pub struct Xres {
+    octets: ArrayVec<u8, 16>,
+}
+
+impl Model for Xres {
+    ghost use Rattle.std.specs.Prelude.{List, ℕ, ◌≤◌, length};
+
+    ghost Value = { List ℕ };
+
+    ghost view = { λ x. x.octets.items };
+
+    ghost invariant = { λ x. (4 ≤ length x.octets.items) × (length x.octets.items ≤ 16) };
+}
+
+impl Xres {
+    /// These octets, where they are 4 to 16.
+    pub fn try_new(octets: &[u8]) -> Option<Xres>
+        ensures value { IfSome result (λ xres. xres ≡ octets.now) }
+        ensures some { (4 ≤ length octets.now) → (length octets.now ≤ 16) → IsSome result }
+        ensures long { IfSome result (λ _. (4 ≤ length octets.now) × (length octets.now ≤ 16)) }
+    {
+        if octets.len() < 4 {
+            return None;
+        }
+        match ArrayVec::try_from(octets) {
+            Ok(octets) => Some(Xres { octets }),
+            Err(_) => None,
+        }
+    }
+
+    /// Its octets.
+    pub fn as_slice(&self) -> &[u8]
+        ensures value { result.now ≡ self.now }
+        ensures long { (4 ≤ length self.now) × (length self.now ≤ 16) }
+    {
+        self.octets.as_slice()
+    }
+}
+
+impl Clone for Xres {
+    ghost use Rattle.std.specs.Prelude.{◌≡◌};
+
+    ghost is_clone = { λ x y. y ≡ x };
+
+    fn clone(&self) -> Result<Xres, AllocError> {
+        Ok(Xres {
+            octets: self.octets.clone()?,
+        })
+    }
+}
+
+/// An authentication vector (TS 33.401 clause 6.1.2).
+#[derive(Drop)]
+pub struct Vector {
+    pub rand: [u8; 16],
+    pub autn: [u8; 16],
+    pub xres: Xres,
+    pub kasme: [u8; 32],
+}
+
+impl Clone for Vector {
+    ghost use Rattle.std.specs.Prelude.{◌≡◌};
+
+    ghost is_clone = { λ x y. y ≡ x };
+
+    fn clone(&self) -> Result<Vector, AllocError> {
+        Ok(Vector {
+            rand: self.rand,
+            autn: self.autn,
+            xres: self.xres.clone()?,
+            kasme: self.kasme,
+        })
+    }
+}
+
+/// The vectors of a subscriber, in the order in which they were given.
+#[derive(Drop)]
+pub(crate) struct Vectors {
+    items: Vec<Vector>,
+}
+
+impl Model for Vectors {
+    ghost use Rattle.std.specs.Prelude.{List};
+    ghost use Rattle.identity_slots.specs.declared.profile.Vector.{Vector};
+
+    ghost Value = { List Vector };
+
+    ghost view = { λ v. v.items.items };
+}
+
+impl Vectors {
+    pub(crate) fn new(alloc: Global) -> Vectors
+        ensures { result ≡ [] }
+    {
+        Vectors {
+            items: Vec::new(alloc),
+        }
+    }
+
+    pub(crate) fn len(&self) -> usize
+        ensures { result ≡ length self.now }
+    {
+        self.items.len()
+    }
+
+    pub(crate) fn as_slice(&self) -> &[Vector]
+        ensures { result.now ≡ self.now }
+    {
+        self.items.as_slice()
+    }
+
+    /// Adds a vector, or leaves them as they are.
+    pub(crate) fn push(&mut self, vector: Vector) -> Result<(), AllocError>
+        ensures items { OnOk result (self.new ≡ self.old ++ vector ∷ []) }
+        ensures err { OnErr result (self.new ≡ self.old) }
+    {
+        self.items.push(vector)?;
+        Ok(())
+    }
+}

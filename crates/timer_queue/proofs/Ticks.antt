@@ -1,0 +1,107 @@
+-- What a tick makes of the queue.
+use Rattle.std.proofs.Common.{◌≡◌, ℕ, ◌+◌, ◌-◌, ◌*◌, ◌^◌, ◌<◌, ◌≤◌, List, [], ◌∷◌, map, refl, sym, ◌∙◌, ap, arith}
+use Rattle.std.specs.Prelude.{nat_lt, nat_le, Bool, true, false, cond}
+use Rattle.std.proofs.lemmas.Bool.Decides.{nat_tests}
+use Rattle.ordered_lists.specs.Ordered.{add, ordered, AllOver, Rising, Every}
+use Rattle.ordered_lists.specs.Indexed.{every-ordered}
+use Rattle.timer_queue.specs.Countdowns.{Countdown}
+use Rattle.timer_queue.specs.declared.queue.Deadline.{Deadline}
+use Rattle.timer_queue.specs.Rank.{rank}
+use Rattle.timer_queue.specs.Countdowns.{due_of, aged}
+use Rattle.timer_queue.specs.Queued.{name, moment, as_left, running_at, leading, later_than, IsQueue, AreLate}
+use Rattle.timer_queue.proofs.Changes.{rank_small}
+
+-- an entry that is due stands before the others that are due
+abbrev IsAfter : ℕ → Deadline → Deadline → Type 0
+IsAfter next e z = z.deadline ≤ next → name e < name z
+
+due_add_by : (c : ℕ) (e y : Deadline) (ys : List Deadline) (b : Bool) → nat_lt (name y) (name e) ≡ b → e.deadline ≤ c + 1 → IsAfter (c + 1) e y
+    → due_of (map (as_left c) (add name e ys)) ≡ e.timer ∷ due_of (map (as_left c) ys)
+    → due_of (map (as_left c) (cond b (y ∷ add name e ys) (e ∷ y ∷ ys))) ≡ e.timer ∷ due_of (map (as_left c) (y ∷ ys))
+due_add_by c e y ys true t due after ih =
+    let later : nat_le (y.deadline - c) 1 ≡ false = grind (arith, nat_tests) in
+    rw later ih
+due_add_by c e y ys false t due after ih =
+    let now : nat_le (e.deadline - c) 1 ≡ true = grind (arith, nat_tests) in
+    rw now refl
+
+due_add : (c : ℕ) (e : Deadline) (zs : List Deadline) → e.deadline ≤ c + 1 → Every (IsAfter (c + 1) e) zs → due_of (map (as_left c) (add name e zs)) ≡ e.timer ∷ due_of (map (as_left c) zs)
+due_add c e [] due h = let now : nat_le (e.deadline - c) 1 ≡ true = grind (arith, nat_tests) in rw now refl
+due_add c e (y ∷ ys) due h = due_add_by c e y ys (nat_lt (name y) (name e)) refl due h.0 (due_add c e ys due h.1)
+
+aged_add : (c : ℕ) (e : Deadline) (zs : List Deadline) → e.deadline ≤ c + 1 → aged (map (as_left c) (add name e zs)) ≡ aged (map (as_left c) zs)
+aged_add c e [] due = let now : nat_le (e.deadline - c) 1 ≡ true = grind (arith, nat_tests) in rw now refl
+aged_add c e (y ∷ ys) due =
+    let now : nat_le (e.deadline - c) 1 ≡ true = grind (arith, nat_tests) in
+    let ih = aged_add c e ys due in
+    grind (arith, nat_tests)
+
+due_none : (c : ℕ) (zs : List Deadline) → Every (λ z. c + 1 < z.deadline) zs → due_of (map (as_left c) zs) ≡ []
+due_none c [] h = refl
+due_none c (z ∷ zs) h = let lt : c + 1 < z.deadline = h.0 in let later : nat_le (z.deadline - c) 1 ≡ false = grind (arith, nat_tests) in rw later (due_none c zs h.1)
+
+aged_all : (c : ℕ) (zs : List Deadline) → Every (λ z. c + 1 < z.deadline) zs → aged (map (as_left c) zs) ≡ map (as_left (c + 1)) zs
+aged_all c [] h = refl
+aged_all c (z ∷ zs) h =
+    let lt : c + 1 < z.deadline = h.0 in
+    let later : nat_le (z.deadline - c) 1 ≡ false = grind (arith, nat_tests) in
+    let one : (z.deadline - c) - 1 ≡ z.deadline - (c + 1) = omega arith in
+    rw later (ap (λ n. record { timer = z.timer; ticks = n } ∷ aged (map (as_left c) zs)) one ∙ ap (λ cs. as_left (c + 1) z ∷ cs) (aged_all c zs h.1))
+
+after_by : (c a r b s : ℕ) → a * 2 ^ 64 + r < b * 2 ^ 64 + s → c < a → a ≤ c + 1 → b ≤ c + 1 → s < 2 ^ 64 → r < s
+after_by c a r b s lt la le me small = omega arith
+
+afters : (c : ℕ) (e : Deadline) (es : List Deadline) → c < e.deadline → e.deadline ≤ c + 1 → AllOver moment (moment e) es → Every (IsAfter (c + 1) e) es
+afters c e [] la le h = tt
+afters c e (z ∷ zs) la le h = ((λ me. after_by c e.deadline (rank e.timer) z.deadline (rank z.timer) h.0 la le me (rank_small z.timer)), afters c e zs la le h.1)
+
+later_by : (n a r b s : ℕ) → a * 2 ^ 64 + r < b * 2 ^ 64 + s → n < a → s < 2 ^ 64 → n < b
+later_by n a r b s lt la small = omega arith
+
+laters : (n : ℕ) (e : Deadline) (es : List Deadline) → n < e.deadline → AllOver moment (moment e) es → Every (λ z. n < z.deadline) es
+laters n e [] la h = tt
+laters n e (z ∷ zs) la h = (later_by n e.deadline (rank e.timer) z.deadline (rank z.timer) h.0 la (rank_small z.timer), laters n e zs la h.1)
+
+due_is_by : (c : ℕ) (e : Deadline) (es : List Deadline) (b : Bool) → nat_le e.deadline (c + 1) ≡ b → AllOver moment (moment e) es → c < e.deadline → leading (c + 1) es ≡ due_of (running_at c es)
+    → cond b (e.timer ∷ leading (c + 1) es) [] ≡ due_of (running_at c (e ∷ es))
+due_is_by c e es true t over la ih =
+    let le : e.deadline ≤ c + 1 = grind (arith, nat_tests) in
+    ap (λ ts. e.timer ∷ ts) ih ∙ sym (due_add c e (ordered name es) le (every-ordered (IsAfter (c + 1) e) name es (afters c e es la le over)))
+due_is_by c e es false t over la ih =
+    let gt : c + 1 < e.deadline = grind (arith, nat_tests) in
+    sym (due_none c (ordered name (e ∷ es)) (every-ordered (λ z. c + 1 < z.deadline) name (e ∷ es) (gt, laters (c + 1) e es gt over)))
+
+due_in : (c : ℕ) (queue : List Deadline) → Rising moment queue → AreLate c queue → leading (c + 1) queue ≡ due_of (running_at c queue)
+due_in c [] r l = refl
+due_in c (e ∷ es) r l = due_is_by c e es (nat_le e.deadline (c + 1)) refl r.0 l.0 (due_in c es r.1 l.1)
+
+pub due_is : (c : ℕ) (queue : List Deadline) → IsQueue queue → AreLate c queue → leading (c + 1) queue ≡ due_of (running_at c queue)
+due_is c queue h l = due_in c queue h.rising l
+
+aged_is_by : (c : ℕ) (e : Deadline) (es : List Deadline) (b : Bool) → nat_le e.deadline (c + 1) ≡ b → AllOver moment (moment e) es → running_at (c + 1) (later_than (c + 1) es) ≡ aged (running_at c es)
+    → running_at (c + 1) (cond b (later_than (c + 1) es) (e ∷ es)) ≡ aged (running_at c (e ∷ es))
+aged_is_by c e es true t over ih =
+    let le : e.deadline ≤ c + 1 = grind (arith, nat_tests) in
+    ih ∙ sym (aged_add c e (ordered name es) le)
+aged_is_by c e es false t over ih =
+    let gt : c + 1 < e.deadline = grind (arith, nat_tests) in
+    sym (aged_all c (ordered name (e ∷ es)) (every-ordered (λ z. c + 1 < z.deadline) name (e ∷ es) (gt, laters (c + 1) e es gt over)))
+
+pub aged_is : (c : ℕ) (queue : List Deadline) → Rising moment queue → running_at (c + 1) (later_than (c + 1) queue) ≡ aged (running_at c queue)
+aged_is c [] r = refl
+aged_is c (e ∷ es) r = aged_is_by c e es (nat_le e.deadline (c + 1)) refl r.0 (aged_is c es r.1)
+
+late_after_by : (n : ℕ) (e : Deadline) (es : List Deadline) (b : Bool) → nat_le e.deadline n ≡ b → AllOver moment (moment e) es → AreLate n (later_than n es) → AreLate n (cond b (later_than n es) (e ∷ es))
+late_after_by n e es true t over ih = ih
+late_after_by n e es false t over ih = let gt : n < e.deadline = grind (arith, nat_tests) in (gt, laters n e es gt over)
+
+pub late_after : (n : ℕ) (queue : List Deadline) → Rising moment queue → AreLate n (later_than n queue)
+late_after n [] r = tt
+late_after n (e ∷ es) r = late_after_by n e es (nat_le e.deadline n) refl r.0 (late_after n es r.1)
+
+counting_by : (c : ℕ) (zs : List Deadline) → Every (λ z. c < z.deadline) zs → Every (λ (x : Countdown). 1 ≤ x.ticks) (map (as_left c) zs)
+counting_by c [] h = tt
+counting_by c (z ∷ zs) h = let lt : c < z.deadline = h.0 in ((omega arith), counting_by c zs h.1)
+
+pub counting : (c : ℕ) (queue : List Deadline) → AreLate c queue → Every (λ (x : Countdown). 1 ≤ x.ticks) (running_at c queue)
+counting c queue l = counting_by c (ordered name queue) (every-ordered (λ z. c < z.deadline) name queue l)

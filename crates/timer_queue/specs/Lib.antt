@@ -1,0 +1,3 @@
+pub mod Rank
+pub mod Countdowns
+pub mod Queued

@@ -1,0 +1,45 @@
+-- The queue of deadlines and its index.
+use Rattle.std.specs.Prelude.{◌≡◌, ℕ, ◌+◌, ◌-◌, ◌*◌, ◌^◌, ◌<◌, List, [], ◌∷◌, map, Option, option_map, nat_le, if◌then◌else◌, nat_eq}
+use Rattle.std.specs.HashMap.{HashMap, get}
+use Rattle.timer_queue.specs.declared.timer.Timer.{Timer}
+use Rattle.timer_queue.specs.Countdowns.{Countdown}
+use Rattle.timer_queue.specs.declared.queue.Deadline.{Deadline}
+use Rattle.timer_queue.specs.Rank.{rank}
+use Rattle.ordered_lists.specs.Ordered.{at, ordered, Rising, Every, Distinct}
+
+abbrev pub name : Deadline → ℕ
+name e = rank e.timer
+
+-- the order of the queue: by deadline, then by timer
+abbrev pub moment : Deadline → ℕ
+moment e = e.deadline * 2 ^ 64 + rank e.timer
+
+-- a deadline as a countdown
+abbrev pub as_left : ℕ → Deadline → Countdown
+as_left clock e = record { timer = e.timer; ticks = e.deadline - clock }
+
+abbrev pub running_at : ℕ → List Deadline → List Countdown
+running_at clock queue = map (as_left clock) (ordered name queue)
+
+abbrev pub deadline_at : ℕ → List Deadline → Option ℕ
+deadline_at r queue = option_map (λ (e : Deadline). e.deadline) (at name r queue)
+
+-- the part of the queue that is due at the clock, and the rest
+abbrev pub leading : ℕ → List Deadline → List Timer
+leading clock [] = []
+leading clock (e ∷ es) = if nat_le e.deadline clock then e.timer ∷ leading clock es else []
+
+abbrev pub later_than : ℕ → List Deadline → List Deadline
+later_than clock [] = []
+later_than clock (e ∷ es) = if nat_le e.deadline clock then later_than clock es else e ∷ es
+
+pub record IsQueue (queue : List Deadline) : Type 0 where
+  pub rising : Rising moment queue
+  pub distinct : Distinct name queue
+
+abbrev pub AreLate : ℕ → List Deadline → Type 0
+AreLate clock queue = Every (λ e. clock < e.deadline) queue
+
+-- the index gives the deadline of each timer
+abbrev pub IsIndex : {S : Type 0} → HashMap ℕ ℕ S → List Deadline → Type 0
+IsIndex index queue = (r : ℕ) → get nat_eq index r ≡ deadline_at r queue
