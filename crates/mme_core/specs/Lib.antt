@@ -1,0 +1,3 @@
+pub mod Config
+pub mod Stations
+pub mod World

@@ -1,0 +1,92 @@
+//! What the MME says to stations.
+
+ghost use Rattle.std.specs.Prelude.{◌≡◌, ◌≤◌, ◌∷◌, [], IfOk, Ok, Err};
+ghost use Rattle.s1ap_messages.specs.Pdus.{lists};
+ghost use Rattle.mme_core.specs.Stations.{setup_response, setup_failure, indication, cause_of, cause_of_unknown};
+
+use crate::config::Config;
+use per_bits::Items;
+use s1ap_elements::{
+    Cause, MiscCause, MmeCode, MmeGroup, Plmn, ProtocolCause, RelativeCapacity, ServedGummei,
+};
+use s1ap_messages::{ErrorIndication, Pdu, S1apFault, S1apPdu, SetupFailure, SetupResponse};
+use std::alloc::{AllocError, Global};
+
+// A list of one value.
+fn only<T: Drop, const MAX: usize>(alloc: Global, value: T) -> Result<Items<T, 1, MAX>, AllocError>
+    requires { 1 ≤ MAX }
+    ensures { IfOk result (λ items. items ≡ value ∷ []) }
+{
+    let mut values = Vec::new(alloc);
+    values.push(value)?;
+    match Items::try_new(values) {
+        Some(items) => Ok(items),
+        None => unreachable!(),
+    }
+}
+
+fn whole_capacity() -> RelativeCapacity
+    ensures { result ≡ 255 }
+{
+    match RelativeCapacity::try_new(255) {
+        Some(capacity) => capacity,
+        None => unreachable!(),
+    }
+}
+
+/// S1 SETUP RESPONSE with the one network, group and code (TS 36.413 clause 8.7.3.2).
+pub fn setup_response<'a>(alloc: Global, config: &Config) -> Result<S1apPdu<'a>, AllocError>
+    ensures { IfOk result (λ m. lists m ≡ setup_response config.now) }
+{
+    let gummei = ServedGummei {
+        plmns: only::<Plmn, 32>(alloc, config.plmn)?,
+        groups: only::<MmeGroup, 65535>(alloc, config.group)?,
+        codes: only::<MmeCode, 256>(alloc, config.code)?,
+    };
+    let served_gummeis = only::<ServedGummei, 8>(alloc, gummei)?;
+    Ok(Pdu::SetupResponse(SetupResponse {
+        served_gummeis,
+        capacity: whole_capacity(),
+    }))
+}
+
+/// S1 SETUP FAILURE (TS 36.413 clause 8.7.3.3).
+pub fn setup_failure<'a>() -> S1apPdu<'a>
+    ensures { lists result ≡ setup_failure }
+{
+    Pdu::SetupFailure(SetupFailure {
+        cause: Cause::Misc(MiscCause::UnknownPlmn),
+    })
+}
+
+/// ERROR INDICATION without ids (TS 36.413 clause 8.7.2).
+pub fn indication<'a>(cause: Cause) -> S1apPdu<'a>
+    ensures { lists result ≡ indication cause }
+{
+    Pdu::ErrorIndication(ErrorIndication {
+        mme_id: None,
+        enb_id: None,
+        cause: Some(cause),
+    })
+}
+
+/// The cause that octets with a fault are answered with, if any (TS 36.413 clause 10).
+pub fn cause_of(fault: &S1apFault) -> Option<Cause>
+    ensures { result ≡ cause_of fault.now }
+{
+    match fault {
+        S1apFault::Syntax(_) => Some(Cause::Protocol(ProtocolCause::TransferSyntaxError)),
+        S1apFault::UnknownProcedure(0)
+        | S1apFault::MissingElement(_)
+        | S1apFault::RefusedElement(_) => {
+            Some(Cause::Protocol(ProtocolCause::AbstractSyntaxErrorReject))
+        }
+        S1apFault::UnknownProcedure(2) => Some(Cause::Protocol(
+            ProtocolCause::AbstractSyntaxErrorIgnoreAndNotify,
+        )),
+        S1apFault::RepeatedElement(_) => Some(Cause::Protocol(
+            ProtocolCause::FalselyConstructedMessage,
+        )),
+        S1apFault::UnknownProcedure(_) | S1apFault::NoMemory => None,
+    }
+}

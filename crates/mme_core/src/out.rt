@@ -1,0 +1,96 @@
+//! What an MME sends.
+
+ghost use Rattle.std.specs.Prelude.{◌≡◌, ◌++◌, ◌∷◌, [], ℕ, List, OnOk, OnErr, length};
+
+use crate::station::StationNumber;
+use std::alloc::{AllocError, Global};
+use std::marker::Model;
+
+/// For whom a message is sent.
+#[derive(Clone, Copy, Debug, PartialEq, Eq)]
+pub enum Owner {
+    /// The station itself.
+    Station(StationNumber),
+    /// A phone that isn't known, by its station and its number there.
+    Stranger(StationNumber, u32),
+    /// A subscriber, by slot.
+    Subscriber(u32),
+}
+
+/// The octets of one message; a contract sees their list.
+#[derive(Drop)]
+pub struct SentOctets {
+    octets: Vec<u8>,
+}
+
+impl Model for SentOctets {
+    ghost Value = { List ℕ };
+
+    ghost view = { λ o. o.octets.items };
+}
+
+impl SentOctets {
+    /// These octets.
+    pub fn new(octets: Vec<u8>) -> SentOctets
+        ensures { result ≡ octets.items }
+    {
+        SentOctets { octets }
+    }
+
+    /// The octets.
+    pub fn as_slice(&self) -> &[u8]
+        ensures { result.now ≡ self.now }
+    {
+        self.octets.as_slice()
+    }
+}
+
+/// A message that is sent to a station.
+#[derive(Drop)]
+pub struct Out {
+    pub owner: Owner,
+    pub station: StationNumber,
+    pub octets: SentOctets,
+}
+
+/// What is sent at one event, in order: for stations, strangers and subscribers; a contract sees the list.
+#[derive(Drop)]
+pub struct Outs {
+    items: Vec<Out>,
+}
+
+impl Model for Outs {
+    ghost use Rattle.std.specs.Prelude.{List};
+    ghost use Rattle.mme_core.specs.declared.out.Out.{Out};
+
+    ghost Value = { List Out };
+
+    ghost view = { λ o. o.items.items };
+}
+
+impl Outs {
+    /// Nothing; takes no memory.
+    pub fn new(alloc: Global) -> Outs
+        ensures { result ≡ [] }
+    {
+        Outs {
+            items: Vec::new(alloc),
+        }
+    }
+
+    /// One message more.
+    pub fn push(&mut self, out: Out) -> Result<(), AllocError>
+        ensures ok { OnOk result (self.new ≡ self.old ++ out ∷ []) }
+        ensures err { OnErr result (self.new ≡ self.old) }
+    {
+        self.items.push(out)?;
+        Ok(())
+    }
+
+    /// The messages.
+    pub fn as_slice(&self) -> &[Out]
+        ensures { result.now ≡ self.now }
+    {
+        self.items.as_slice()
+    }
+}
