@@ -1,0 +1,15 @@
+use Rattle.std.proofs.Common.{[], arith, rules}
+use Rattle.std.proofs.lemmas.Grind.{common_steps}
+use Rattle.std.proofs.lemmas.Bool.Decides.{nat_tests}
+use Rattle.mme_main.proofs.Known.{Appends-nil}
+use Rattle.mme_main.proofs.Taken.{nil-from_length, whole-end, Finishes-from_line}
+use Rattle.mme_main.proofs.player.Player.finish.Goals as goal
+
+pub returns-then-is_empty-clause-finishes : goal.returns-then-is_empty-clause-finishes
+returns-then-is_empty-clause-finishes g c =
+    ([], Appends-nil _, whole-end c.args.self.now (nil-from_length _ (grind (arith, common_steps, nat_tests, c.args.self.now.pending.ok.0))))
+
+pub returns-clause-finishes : goal.returns-clause-finishes
+returns-clause-finishes g c =
+    let takes = c.end_line.ensures.takes in
+    (takes.0, takes.1, Finishes-from_line c.args.self.now c.end_line.new.self takes.0 c.end_line.result c.requires.ready (search rules) takes.2 c.end_line.ensures.cleared)

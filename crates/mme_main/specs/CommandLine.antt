@@ -1,0 +1,31 @@
+-- The command line that the program takes, and its exit status.
+use Rattle.std.specs.Prelude.{ℕ, List, codes, Option, option_map}
+use Rattle.clap.specs.Words.{App, Text, Row, first_of, new_app, new_rule, subcommand_of, with_rule, with_subcommand}
+use Rattle.mme_main.specs.declared.command.Choice.{Choice}
+use Rattle.mme_main.specs.declared.command.Choice.TheVariants.{Play}
+use Rattle.mme_main.specs.declared.fault.PlayFault.{PlayFault}
+use Rattle.mme_main.specs.declared.fault.PlayFault.TheVariants.{Trace, Read, Write, NoMemory}
+
+abbrev pub play_app : App
+play_app = with_rule (new_app (codes "play")) (new_rule (codes "FILE"))
+
+abbrev pub mme_app : App
+mme_app = with_subcommand (new_app (codes "mme")) play_app.top
+
+-- a subcommand with its FILE, where there is one
+abbrev pub with_file : Text × List Row → Text × Option Text
+with_file found = (found.0, first_of (codes "FILE") found.1)
+
+-- what the words ask for, as the command line library reads them
+abbrev pub asked_of : List Text → Option (Text × Option Text)
+asked_of words = option_map with_file (subcommand_of mme_app words)
+
+abbrev pub choice_of : Choice → Text × Option Text
+choice_of (Play file) = (codes "play", option_map (λ s. s.now) file)
+
+-- the exit status of a run that ends with a fault
+abbrev pub status_of : PlayFault → ℕ
+status_of (Trace line fault) = 1
+status_of Read = 3
+status_of Write = 3
+status_of NoMemory = 4

@@ -1,0 +1,87 @@
+//! Plays a trace from a file or standard input to standard output.
+#![tactic(auto)]
+
+mod acts;
+mod answers;
+mod command;
+mod fault;
+mod play;
+mod player;
+mod watched;
+
+use command::{Choice, CommandFault, command};
+use fault::PlayFault;
+use play::run_play;
+use std::alloc::{AllocError, Global};
+use std::env;
+use std::fs::File;
+use std::io::{BufWriter, ErrorKind, Read, Write};
+use std::process::ExitCode;
+use watched::Watched;
+
+/// The first word of each command line, as usage texts show it.
+const NAME: &str = "mme";
+
+fn main(rt: HostRuntime) -> ExitCode {
+    let alloc = rt.alloc();
+    let args = match env::args(&rt) {
+        Ok(args) => args,
+        Err(error) if error.kind() == ErrorKind::OutOfMemory => return out_of_memory(&rt),
+        Err(_) => return ExitCode::from(2),
+    };
+    let Ok(given) = args.collect::<Vec<String>>(alloc) else {
+        return out_of_memory(&rt);
+    };
+    let Ok(words) = words_of(alloc, given.as_slice()) else {
+        return out_of_memory(&rt);
+    };
+    match command(alloc, words.as_slice()) {
+        Ok(Choice::Play(None)) => played(&rt, rt.stdin()),
+        Ok(Choice::Play(Some(path))) => match File::open(&rt, path) {
+            Ok(file) => played(&rt, file),
+            Err(_) => ended(&rt, Err(PlayFault::Read)),
+        },
+        Err(CommandFault::Usage(error)) => {
+            let _ = rt.eprint(&error);
+            ExitCode::from(2)
+        }
+        Err(CommandFault::NoMemory) => out_of_memory(&rt),
+    }
+}
+
+/// The words of a command line, with the program's name as the first.
+fn words_of(alloc: Global, given: &[String]) -> Result<Vec<&str>, AllocError> {
+    let mut words: Vec<&str> = Vec::new(alloc);
+    words.push(NAME)?;
+    for word in given.iter().skip(1) {
+        words.push(word.as_str())?;
+    }
+    Ok(words)
+}
+
+fn out_of_memory(rt: &impl Eprint) -> ExitCode {
+    ended(rt, Err(PlayFault::NoMemory))
+}
+
+/// Plays the trace that the reader gives to standard output, in large pieces.
+fn played<R: Read + Drop>(rt: &HostRuntime, reader: R) -> ExitCode {
+    let Ok(writer) = BufWriter::new(rt.alloc(), rt.stdout()) else {
+        return out_of_memory(rt);
+    };
+    let mut reader = Watched::new(reader);
+    let mut writer = Watched::new(writer);
+    let result = run_play(rt.alloc(), &mut reader, &mut writer);
+    ended(rt, result)
+}
+
+/// The exit status, with a text on standard error unless it is 0.
+fn ended(rt: &impl Eprint, outcome: Result<(), PlayFault>) -> ExitCode {
+    let Err(fault) = outcome else {
+        return ExitCode::SUCCESS;
+    };
+    let _ = rt.eprintln(format_args!("{NAME}: {fault}"));
+    ExitCode::from(fault.status())
+}
+
+#[cfg(test)]
+mod tests;

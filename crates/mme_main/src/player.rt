@@ -1,0 +1,140 @@
+//! The lines of a trace, as their octets come.
+
+ghost use Rattle.std.specs.Prelude.{◌≡◌, ◌<◌, ◌+◌, ◌∷◌, [], ◌^◌, None, length, OnOk, IsErrOf, true};
+ghost use Rattle.mme_main.specs.Text.{line_effect};
+ghost use Rattle.mme_main.specs.Play.{Acts, Adds, Takes, Finishes, IsReady};
+
+use crate::acts::act_on_line;
+use crate::fault::{PlayFault, fault_in_line};
+use crate::watched::Watched;
+use mme_core::Mme;
+use std::alloc::Global;
+use std::io::Write;
+use trace_text::{LONGEST_LINE, TraceFault, parse_line};
+
+/// How far a trace has been played.
+#[derive(Drop)]
+pub struct Player {
+    /// The MME, once there is one.
+    pub mme: Option<Mme>,
+    /// The number of the line that comes, counted from 1.
+    pub line: u64,
+    /// The octets of that line that have come.
+    pub pending: Vec<u8>,
+}
+
+impl Player {
+    /// Nothing has been played.
+    pub fn new(alloc: Global) -> Player
+        ensures mme { result.mme ≡ None }
+        ensures line { result.line ≡ 1 }
+        ensures pending { result.pending.items ≡ [] }
+    {
+        Player {
+            mme: None,
+            line: 1,
+            pending: Vec::new(alloc),
+        }
+    }
+
+    /// Plays a piece of the trace: each line that ends in it.
+    pub fn feed<W: Write>(
+        &mut self,
+        alloc: Global,
+        piece: &[u8],
+        writer: &mut Watched<W>,
+    ) -> Result<(), PlayFault>
+        requires ready { IsReady self.old }
+        requires counted { self.old.line + length piece.now < 2 ^ 64 }
+        ensures takes { Adds (W.contents writer.old.inner) (W.contents writer.new.inner) (Takes self.old piece.now result self.new) }
+        ensures write { IsErrOf result PlayFault.Write → writer.new.failed ≡ true }
+    {
+        for octet in piece {
+            match self.take_octet(alloc, *octet, writer) {
+                Ok(()) => {}
+                Err(fault) => return Err(fault),
+            }
+        }
+        Ok(())
+    }
+
+    fn take_octet<W: Write>(
+        &mut self,
+        alloc: Global,
+        octet: u8,
+        writer: &mut Watched<W>,
+    ) -> Result<(), PlayFault>
+        requires ready { IsReady self.old }
+        requires counted { self.old.line + 1 < 2 ^ 64 }
+        ensures takes { Adds (W.contents writer.old.inner) (W.contents writer.new.inner) (Takes self.old (octet ∷ []) result self.new) }
+        ensures write { IsErrOf result PlayFault.Write → writer.new.failed ≡ true }
+    {
+        if octet == b'\n' {
+            return self.end_line(alloc, writer);
+        }
+        if self.pending.len() >= LONGEST_LINE {
+            return Err(PlayFault::Trace(self.line, TraceFault::TooLong));
+        }
+        match self.pending.push(octet) {
+            Ok(()) => Ok(()),
+            Err(_) => Err(PlayFault::NoMemory),
+        }
+    }
+
+    /// Plays the last line, if it lacks its LF.
+    pub fn finish<W: Write>(
+        &mut self,
+        alloc: Global,
+        writer: &mut Watched<W>,
+    ) -> Result<(), PlayFault>
+        requires ready { IsReady self.old }
+        requires counted { self.old.line + 1 < 2 ^ 64 }
+        ensures finishes { Adds (W.contents writer.old.inner) (W.contents writer.new.inner) (Finishes self.old result) }
+        ensures write { IsErrOf result PlayFault.Write → writer.new.failed ≡ true }
+    {
+        if self.pending.is_empty() {
+            return Ok(());
+        }
+        self.end_line(alloc, writer)
+    }
+
+    fn end_line<W: Write>(
+        &mut self,
+        alloc: Global,
+        writer: &mut Watched<W>,
+    ) -> Result<(), PlayFault>
+        requires ready { IsReady self.old }
+        requires counted { self.old.line + 1 < 2 ^ 64 }
+        ensures takes { Adds (W.contents writer.old.inner) (W.contents writer.new.inner) (Takes self.old (10 ∷ []) result self.new) }
+        ensures cleared { OnOk result (self.new.pending.items ≡ []) }
+        ensures write { IsErrOf result PlayFault.Write → writer.new.failed ≡ true }
+    {
+        let number = self.line;
+        let text = self.pending.as_slice();
+        match play_line(alloc, &mut self.mme, number, text, writer) {
+            Ok(()) => {
+                self.line += 1;
+                self.pending.clear();
+                Ok(())
+            }
+            Err(fault) => Err(fault),
+        }
+    }
+}
+
+/// One line, given without its LF.
+fn play_line<W: Write>(
+    alloc: Global,
+    mme: &mut Option<Mme>,
+    number: u64,
+    text: &[u8],
+    writer: &mut Watched<W>,
+) -> Result<(), PlayFault>
+    ensures acts { Adds (W.contents writer.old.inner) (W.contents writer.new.inner) (Acts number (line_effect mme.old text.now) result mme.new) }
+    ensures write { IsErrOf result PlayFault.Write → writer.new.failed ≡ true }
+{
+    match parse_line(alloc, text) {
+        Ok(line) => act_on_line(alloc, mme, number, line, writer),
+        Err(fault) => Err(fault_in_line(number, fault)),
+    }
+}

@@ -1,0 +1,12 @@
+-- What an access point name may be.
+use Rattle.std.specs.Prelude.{◌||◌, ◌&&◌, ◌==◌, ℕ, Bool, List, length, nat_le, not}
+use Rattle.std.specs.List.{list_all}
+use Rattle.std.specs.Char.{is_ascii_alphanumeric}
+
+-- a letter, a digit or a hyphen
+abbrev pub is_label_octet : ℕ → Bool
+is_label_octet c = is_ascii_alphanumeric c || (c == 45)
+
+-- a label of 1 to 63 of these (TS 23.003 clause 9.1)
+abbrev pub is_apn_label : List ℕ → Bool
+is_apn_label xs = not (length xs == 0) && nat_le (length xs) 63 && list_all is_label_octet xs

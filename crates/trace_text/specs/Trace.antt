@@ -1,0 +1,177 @@
+-- The lines of a trace and of its answers, as functions on lists of octets.
+use Rattle.std.specs.Prelude.{ℕ, ◌+◌, ◌*◌, ◌-◌, ◌==◌, Bool, true, nat_lt, nat_le, List, [], ◌∷◌, ◌++◌, length, codes, Option, Some, None, Result, Ok, Err, if◌then◌else◌}
+use Rattle.std.specs.List.{slice_split}
+use Rattle.std.specs.Str.{bytes_eq}
+use Rattle.std.specs.Char.{is_ascii_digit}
+use Rattle.std.specs.Fmt.{decimal}
+use Rattle.hex.specs.Hex.{decode_of, encode_lower}
+use Rattle.hex.specs.declared.error.FromHexError.{FromHexError}
+use Rattle.trace_text.specs.Fields.{is_apn_label}
+use Rattle.trace_text.specs.declared.line.Line.{Line}
+use Rattle.trace_text.specs.declared.line.Line.TheVariants.{Skip, Mme, Up, Lost, In}
+use Rattle.trace_text.specs.declared.answer.Answer.{Answer}
+use Rattle.trace_text.specs.declared.answer.Answer.TheVariants.{Sent, Refused}
+use Rattle.trace_text.specs.declared.answer.AnswerOwner.{AnswerOwner}
+use Rattle.trace_text.specs.declared.answer.AnswerOwner.TheVariants.{Station, Stranger, Subscriber}
+use Rattle.trace_text.specs.declared.fault.TraceFault.{TraceFault}
+use Rattle.trace_text.specs.declared.fault.TraceFault.TheVariants.{UnknownWord, FieldCount, BadNumber, BadHex, TooLong, Order, Provision, NoMemory}
+
+-- the number that a program reports for a fault
+abbrev pub number_of_fault : TraceFault → ℕ
+number_of_fault UnknownWord = 1
+number_of_fault FieldCount = 2
+number_of_fault BadNumber = 3
+number_of_fault BadHex = 4
+number_of_fault TooLong = 5
+number_of_fault Order = 6
+number_of_fault Provision = 7
+number_of_fault NoMemory = 8
+
+infixl 10 ◌>>=◌
+abbrev pub ◌>>=◌ : {A B : Type 0} → Result A TraceFault → (A → Result B TraceFault) → Result B TraceFault
+Ok x >>= f = f x
+Err e >>= f = Err e
+
+-- ---- numbers
+
+-- decimal digits after those that make v
+abbrev pub decimal_from : ℕ → List ℕ → Option ℕ
+decimal_from v [] = Some v
+decimal_from v (c ∷ cs) = if is_ascii_digit c then decimal_from (v * 10 + (c - 48)) cs else None
+
+-- a number in decimal digits, leading zeros allowed
+abbrev pub decimal_of : List ℕ → Option ℕ
+decimal_of [] = None
+decimal_of (c ∷ cs) = decimal_from 0 (c ∷ cs)
+
+abbrev pub capped : ℕ → Option ℕ → Option ℕ
+capped most None = None
+capped most (Some v) = if nat_le v most then Some v else None
+
+abbrev pub at_least : ℕ → Option ℕ → Result ℕ TraceFault
+at_least least None = Err BadNumber
+at_least least (Some v) = if nat_le least v then Ok v else Err BadNumber
+
+-- a number from `least` to `most`
+abbrev pub number_in : ℕ → ℕ → List ℕ → Result ℕ TraceFault
+number_in least most text = at_least least (capped most (decimal_of text))
+
+-- ---- networks
+
+-- one decimal digit
+abbrev pub digit_of : ℕ → Result ℕ TraceFault
+digit_of c = if is_ascii_digit c then Ok (c - 48) else Err BadNumber
+
+-- the three digits of a country
+abbrev pub country_of : List ℕ → Result (ℕ × ℕ × ℕ) TraceFault
+country_of (a ∷ b ∷ c ∷ []) = digit_of a >>= (λ x. digit_of b >>= (λ y. digit_of c >>= (λ z. Ok (x, y, z))))
+country_of _ = Err BadNumber
+
+-- the two or three digits of a network in its country, where two follow the filler 15
+abbrev pub network_of : List ℕ → Result (ℕ × ℕ × ℕ) TraceFault
+network_of (a ∷ b ∷ []) = digit_of a >>= (λ x. digit_of b >>= (λ y. Ok (15, x, y)))
+network_of (a ∷ b ∷ c ∷ []) = digit_of a >>= (λ x. digit_of b >>= (λ y. digit_of c >>= (λ z. Ok (x, y, z))))
+network_of _ = Err BadNumber
+
+-- two digits in an octet, the first in its low half
+abbrev pub packed : ℕ → ℕ → ℕ
+packed first second = 16 * second + first
+
+-- the digits of country and network, two in an octet (TS 36.413 clause 9.2.3.8)
+abbrev pub plmn_octets : ℕ × ℕ × ℕ → ℕ × ℕ × ℕ → List ℕ
+plmn_octets c n = packed c.0 c.1 ∷ packed c.2 n.0 ∷ packed n.1 n.2 ∷ []
+
+abbrev pub plmn_of : List ℕ → List ℕ → Result (List ℕ) TraceFault
+plmn_of country network = country_of country >>= (λ c. network_of network >>= (λ n. Ok (plmn_octets c n)))
+
+-- ---- octets and names
+
+abbrev pub hex_of : Result (List ℕ) FromHexError → Result (List ℕ) TraceFault
+hex_of (Ok octets) = Ok octets
+hex_of (Err e) = Err BadHex
+
+-- octets: `-` alone for none, or hex digits of either case
+abbrev pub octets_of : List ℕ → Result (List ℕ) TraceFault
+octets_of text = if length text == 0 then Err BadHex else (if bytes_eq text (codes "-") then Ok [] else hex_of (decode_of text))
+
+-- n octets in hex
+abbrev pub sized_of : ℕ → List ℕ → Result (List ℕ) TraceFault
+sized_of n text = if length text == 2 * n then hex_of (decode_of text) else Err BadHex
+
+abbrev pub label_of : List ℕ → Result (List ℕ) TraceFault
+label_of text = if is_apn_label text then Ok text else Err BadNumber
+
+-- ---- lines
+
+abbrev pub station_of : List ℕ → Result ℕ TraceFault
+station_of text = number_in 0 127 text
+
+abbrev pub rate_of : List ℕ → Result ℕ TraceFault
+rate_of text = number_in 1 10000000000 text
+
+abbrev pub mme_of : List ℕ → List ℕ → List ℕ → List ℕ → List ℕ → List ℕ → List ℕ → Result Line TraceFault
+mme_of country network group code apn down up =
+    plmn_of country network >>= (λ p. sized_of 2 group >>= (λ g. sized_of 1 code >>= (λ c.
+    label_of apn >>= (λ a. rate_of down >>= (λ d. rate_of up >>= (λ u.
+    Ok (Mme (record { plmn = p; group = g; code = c; apn = a; down = d; up = u }))))))))
+
+abbrev pub read_mme : List (List ℕ) → Result Line TraceFault
+read_mme (country ∷ network ∷ group ∷ code ∷ apn ∷ down ∷ up ∷ []) = mme_of country network group code apn down up
+read_mme _ = Err FieldCount
+
+abbrev pub read_up : List (List ℕ) → Result Line TraceFault
+read_up (station ∷ []) = station_of station >>= (λ e. Ok (Up e))
+read_up _ = Err FieldCount
+
+abbrev pub read_lost : List (List ℕ) → Result Line TraceFault
+read_lost (station ∷ []) = station_of station >>= (λ e. Ok (Lost e))
+read_lost _ = Err FieldCount
+
+abbrev pub read_in : List (List ℕ) → Result Line TraceFault
+read_in (station ∷ octets ∷ []) = station_of station >>= (λ e. octets_of octets >>= (λ o. Ok (In e o)))
+read_in _ = Err FieldCount
+
+abbrev pub read_words : List (List ℕ) → Result Line TraceFault
+read_words [] = Err UnknownWord
+read_words (word ∷ fields) =
+    if bytes_eq word (codes "mme") then read_mme fields
+    else if bytes_eq word (codes "up") then read_up fields
+    else if bytes_eq word (codes "lost") then read_lost fields
+    else if bytes_eq word (codes "in") then read_in fields
+    else Err UnknownWord
+
+-- nothing, or a comment
+abbrev pub is_skipped : List ℕ → Bool
+is_skipped [] = true
+is_skipped (c ∷ cs) = c == 35
+
+-- what a line of a trace says, without its LF; its words are parted by single spaces
+unfoldable pub line_of : List ℕ → Result Line TraceFault
+line_of text =
+    if nat_lt 40000 (length text) then Err TooLong
+    else if is_skipped text then Ok Skip
+    else read_words (slice_split (λ c. c == 32) text)
+
+-- ---- answers
+
+-- octets in an answer: lower case, `-` for none
+abbrev pub shown : List ℕ → List ℕ
+shown [] = codes "-"
+shown (b ∷ bs) = encode_lower (b ∷ bs)
+
+-- whom a message is for
+abbrev pub owner_text : AnswerOwner → List ℕ
+owner_text (Station e) = codes "out e" ++ decimal e ++ codes " "
+owner_text (Stranger e b) = codes "out x" ++ decimal e ++ codes "." ++ decimal b ++ codes " "
+owner_text (Subscriber slot) = codes "out s" ++ decimal slot ++ codes " "
+
+unfoldable pub sent_text : AnswerOwner → ℕ → List ℕ → List ℕ
+sent_text owner e octets = owner_text owner ++ (decimal e ++ codes " ") ++ shown octets ++ codes "\n"
+
+unfoldable pub refused_text : ℕ → List ℕ
+refused_text k = codes "refused " ++ decimal k ++ codes "\n"
+
+-- the line of an answer, with its LF
+abbrev pub answer_text : Answer → List ℕ
+answer_text (Sent owner e octets) = sent_text owner e octets.now
+answer_text (Refused k) = refused_text k

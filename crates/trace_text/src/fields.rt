@@ -1,0 +1,145 @@
+//! The fields of a line, each from its text.
+
+ghost use Rattle.std.specs.Prelude.{◌≡◌, ◌⊎◌, ◌<◌, ◌≤◌, ◌^◌, ◌*◌, length, IfOk, Ok, Err};
+ghost use Rattle.trace_text.specs.Trace.{capped, decimal_of, number_in, station_of, rate_of, digit_of, country_of, network_of, plmn_of, octets_of, sized_of, label_of};
+
+use crate::fault::TraceFault;
+use crate::values::{ApnLabel, BitRate, TraceOctets, TraceStation};
+use hex::FromHexError;
+use std::alloc::Global;
+
+/// A number in decimal digits that is at most `most`.
+pub(crate) fn decimal(text: &[u8], most: u64) -> Option<u64>
+    requires { most < 2 ^ 60 }
+    ensures { result ≡ capped most (decimal_of text.now) }
+{
+    if text.is_empty() {
+        return None;
+    }
+    let mut value = 0u64;
+    for byte in text {
+        if !byte.is_ascii_digit() {
+            return None;
+        }
+        value = value * 10 + u64::from(*byte - b'0');
+        if value > most {
+            return None;
+        }
+    }
+    Some(value)
+}
+
+/// A number in decimal digits from `least` to `most`.
+fn number(text: &[u8], least: u64, most: u64) -> Result<u64, TraceFault>
+    requires { most < 2 ^ 60 }
+    ensures value { result ≡ number_in least most text.now }
+    ensures range { IfOk result (λ n. (least ≤ n) × (n ≤ most)) }
+{
+    match decimal(text, most) {
+        Some(value) if value >= least => Ok(value),
+        _ => Err(TraceFault::BadNumber),
+    }
+}
+
+pub(crate) fn station(text: &[u8]) -> Result<TraceStation, TraceFault>
+    ensures { result ≡ station_of text.now }
+{
+    match TraceStation::try_new(number(text, 0, 127)? as u8) {
+        Some(station) => Ok(station),
+        None => unreachable!(),
+    }
+}
+
+pub(crate) fn bit_rate(text: &[u8]) -> Result<BitRate, TraceFault>
+    ensures { result ≡ rate_of text.now }
+{
+    match BitRate::try_new(number(text, 1, 10_000_000_000)?) {
+        Some(rate) => Ok(rate),
+        None => unreachable!(),
+    }
+}
+
+fn digit(octet: u8) -> Result<u8, TraceFault>
+    ensures value { result ≡ digit_of octet }
+    ensures small { IfOk result (λ d. d ≤ 9) }
+{
+    if octet.is_ascii_digit() {
+        Ok(octet - b'0')
+    } else {
+        Err(TraceFault::BadNumber)
+    }
+}
+
+/// The three digits of a country.
+fn country(text: &[u8]) -> Result<(u8, u8, u8), TraceFault>
+    ensures value { result ≡ country_of text.now }
+    ensures small { IfOk result (λ d. (d.0 ≤ 15) × (d.1 ≤ 15) × (d.2 ≤ 15)) }
+{
+    match text {
+        [a, b, c] => Ok((digit(*a)?, digit(*b)?, digit(*c)?)),
+        _ => Err(TraceFault::BadNumber),
+    }
+}
+
+/// The two or three digits of a network, with the filler before two.
+fn network(text: &[u8]) -> Result<(u8, u8, u8), TraceFault>
+    ensures value { result ≡ network_of text.now }
+    ensures small { IfOk result (λ d. (d.0 ≤ 15) × (d.1 ≤ 15) × (d.2 ≤ 15)) }
+{
+    match text {
+        [a, b] => Ok((15, digit(*a)?, digit(*b)?)),
+        [a, b, c] => Ok((digit(*a)?, digit(*b)?, digit(*c)?)),
+        _ => Err(TraceFault::BadNumber),
+    }
+}
+
+/// The octets that name a network, from the digits of its country and its own.
+pub(crate) fn plmn(country_text: &[u8], network_text: &[u8]) -> Result<[u8; 3], TraceFault>
+    ensures { result ≡ plmn_of country_text.now network_text.now }
+{
+    let of_country = country(country_text)?;
+    let of_network = network(network_text)?;
+    Ok([
+        16 * of_country.1 + of_country.0,
+        16 * of_network.0 + of_country.2,
+        16 * of_network.2 + of_network.1,
+    ])
+}
+
+pub(crate) fn octets(alloc: Global, text: &[u8]) -> Result<TraceOctets, TraceFault>
+    ensures { (result ≡ Err TraceFault.NoMemory) ⊎ (result ≡ octets_of text.now) }
+{
+    if text.is_empty() {
+        return Err(TraceFault::BadHex);
+    }
+    if text == b"-".as_slice() {
+        return Ok(TraceOctets::new(Vec::new(alloc)));
+    }
+    match hex::decode(alloc, text) {
+        Ok(bytes) => Ok(TraceOctets::new(bytes)),
+        Err(FromHexError::OutOfMemory) => Err(TraceFault::NoMemory),
+        Err(_) => Err(TraceFault::BadHex),
+    }
+}
+
+/// So many octets, no more and no fewer.
+pub(crate) fn sized_octets<const N: usize>(text: &[u8]) -> Result<[u8; N], TraceFault>
+    requires { N < 2 ^ 32 }
+    ensures { result ≡ sized_of N text.now }
+{
+    let mut octets = [0u8; N];
+    match hex::decode_to_slice(text, &mut octets) {
+        Ok(()) => Ok(octets),
+        Err(_) => Err(TraceFault::BadHex),
+    }
+}
+
+pub(crate) fn label(alloc: Global, text: &[u8]) -> Result<ApnLabel, TraceFault>
+    ensures { (result ≡ Err TraceFault.NoMemory) ⊎ (result ≡ label_of text.now) }
+{
+    match ApnLabel::try_new(alloc, text) {
+        Ok(Some(label)) => Ok(label),
+        Ok(None) => Err(TraceFault::BadNumber),
+        Err(_) => Err(TraceFault::NoMemory),
+    }
+}

@@ -1,0 +1,16 @@
+//! The lines of a trace: what each says, and the lines of its answers.
+#![tactic(auto)]
+
+mod answer;
+mod fault;
+mod fields;
+mod line;
+mod values;
+
+pub use answer::{Answer, AnswerOwner, write_answer};
+pub use fault::TraceFault;
+pub use line::{LONGEST_LINE, Line, MmeLine, parse_line};
+pub use values::{ApnLabel, BitRate, TraceOctets, TraceStation};
+
+#[cfg(test)]
+mod tests;

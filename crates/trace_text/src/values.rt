@@ -1,0 +1,177 @@
+//! What stands in the fields of a line.
+
+ghost use Rattle.std.specs.Prelude.{◌≡◌, ◌<◌, ◌≤◌, ◌↔◌, IsSome, IfSome, IfOk, IsTrue, if◌then◌else◌};
+ghost use Rattle.std.specs.List.{list_all};
+ghost use Rattle.trace_text.specs.Fields.{is_apn_label, is_label_octet};
+
+use std::alloc::{AllocError, Global};
+use std::marker::Model;
+
+/// A station by its number, 0 to 127; a contract sees the number.
+#[derive(Clone, Copy, Debug, PartialEq, Eq)]
+pub struct TraceStation {
+    number: u8,
+}
+
+impl Model for TraceStation {
+    ghost use Rattle.std.specs.Prelude.{ℕ, ◌<◌};
+
+    ghost Value = { ℕ };
+
+    ghost view = { λ s. s.number };
+
+    ghost invariant = { λ s. s.number < 128 };
+
+    ghost inverse = { λ n. record { number = n } };
+}
+
+impl TraceStation {
+    /// The station of that number, where it is below 128.
+    pub fn try_new(number: u8) -> Option<TraceStation>
+        ensures some { IsSome result ↔ (number < 128) }
+        ensures value { IfSome result (λ s. s ≡ number) }
+    {
+        if number < 128 {
+            Some(TraceStation { number })
+        } else {
+            None
+        }
+    }
+
+    /// The number.
+    pub fn get(self) -> u8
+        ensures value { result ≡ self }
+        ensures bound { result < 128 }
+    {
+        self.number
+    }
+}
+
+/// A bit rate, 1 to 10^10 bits a second (TS 36.413 clause 9.2.1.20); a contract sees the number.
+#[derive(Clone, Copy, Debug, PartialEq, Eq)]
+pub struct BitRate {
+    rate: u64,
+}
+
+impl Model for BitRate {
+    ghost use Rattle.std.specs.Prelude.{ℕ, ◌≤◌};
+
+    ghost Value = { ℕ };
+
+    ghost view = { λ r. r.rate };
+
+    ghost invariant = { λ r. (1 ≤ r.rate) × (r.rate ≤ 10000000000) };
+
+    ghost inverse = { λ n. record { rate = n } };
+}
+
+impl BitRate {
+    /// The rate of that many bits a second, where it is from 1 to 10^10.
+    pub fn try_new(rate: u64) -> Option<BitRate>
+        ensures some { IsSome result ↔ ((1 ≤ rate) × (rate ≤ 10000000000)) }
+        ensures value { IfSome result (λ r. r ≡ rate) }
+    {
+        if rate < 1 || rate > 10_000_000_000 {
+            return None;
+        }
+        Some(BitRate { rate })
+    }
+
+    /// The bits a second.
+    pub fn get(self) -> u64
+        ensures value { result ≡ self }
+        ensures least { 1 ≤ result }
+        ensures most { result ≤ 10000000000 }
+    {
+        self.rate
+    }
+}
+
+/// The octets of a message; a contract sees their list.
+#[derive(Drop)]
+pub struct TraceOctets {
+    octets: Vec<u8>,
+}
+
+impl Model for TraceOctets {
+    ghost use Rattle.std.specs.Prelude.{ℕ, List};
+
+    ghost Value = { List ℕ };
+
+    ghost view = { λ o. o.octets.items };
+}
+
+impl TraceOctets {
+    /// These octets.
+    pub fn new(octets: Vec<u8>) -> TraceOctets
+        ensures { result ≡ octets.items }
+    {
+        TraceOctets { octets }
+    }
+
+    /// The octets.
+    pub fn as_slice(&self) -> &[u8]
+        ensures { result.now ≡ self.now }
+    {
+        self.octets.as_slice()
+    }
+}
+
+/// An access point name of one label: 1 to 63 letters, digits and hyphens (TS 23.003 clause 9.1); a contract sees its octets.
+#[derive(Drop)]
+pub struct ApnLabel {
+    label: Vec<u8>,
+}
+
+impl Model for ApnLabel {
+    ghost use Rattle.std.specs.Prelude.{◌≡◌, ℕ, List, true};
+    ghost use Rattle.trace_text.specs.Fields.{is_apn_label};
+
+    ghost Value = { List ℕ };
+
+    ghost view = { λ a. a.label.items };
+
+    ghost invariant = { λ a. is_apn_label a.label.items ≡ true };
+}
+
+impl ApnLabel {
+    /// The name of this label, where it is one.
+    pub fn try_new(alloc: Global, label: &[u8]) -> Result<Option<ApnLabel>, AllocError>
+        ensures { IfOk result (λ made. made ≡ (if is_apn_label label.now then Some label.now else None)) }
+    {
+        if !is_apn_label(label) {
+            return Ok(None);
+        }
+        let label = Vec::from_slice(alloc, label)?;
+        Ok(Some(ApnLabel { label }))
+    }
+
+    /// The octets of the label.
+    pub fn as_slice(&self) -> &[u8]
+        ensures value { result.now ≡ self.now }
+        ensures label { IsTrue (is_apn_label self.now) }
+    {
+        self.label.as_slice()
+    }
+}
+
+fn is_apn_label(text: &[u8]) -> bool
+    ensures { result ≡ is_apn_label text.now }
+{
+    if text.is_empty() || text.len() > 63 {
+        return false;
+    }
+    are_label_octets(text)
+}
+
+fn are_label_octets(text: &[u8]) -> bool
+    ensures { result ≡ list_all is_label_octet text.now }
+{
+    text.iter().all(|octet| is_label_octet(*octet))
+}
+
+fn is_label_octet(octet: u8) -> bool
+    ensures { result ≡ is_label_octet octet }
+{
+    octet.is_ascii_alphanumeric() || octet == b'-'
+}
