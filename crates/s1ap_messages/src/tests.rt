@@ -4,8 +4,8 @@ use super::*;
 use octets::*;
 use per_bits::PerFault;
 use s1ap_elements::{
-    Address, Cause, EnbId, MiscCause, NasCause, PagingDrx, ProtocolCause, RadioNetworkCause, RrcCause,
-    UeS1apIds,
+    Address, Cause, EnbId, MiscCause, NasCause, PagingDrx, ProtocolCause, RadioNetworkCause,
+    RrcCause, UeS1apIds,
 };
 use std::test::*;
 
