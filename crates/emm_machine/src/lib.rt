@@ -1,0 +1,34 @@
+//! The mobility management of one subscriber (TS 24.301 clause 5, TS 36.413 clause 8): what an MME sends for it, and what it
+//! keeps of it.
+//!
+//! A [`Subscriber`] is told of events and answers with S1AP messages. Each step is proved to be that of `solo_step` in
+//! `specs/`, a function on values; where memory is refused nothing changes.
+#![tactic(auto)]
+
+mod actions;
+mod attaching;
+mod connected;
+mod draft;
+mod event;
+mod heard;
+mod idle;
+mod messages;
+mod network;
+mod octets;
+mod pdus;
+mod serving;
+mod setting;
+mod solo;
+mod stations;
+mod subscriber;
+
+pub use draft::Draft;
+pub use event::{Entry, SoloEvent, UeBody, UeMessage};
+pub use network::{AggregateBitRate, Apn, Network};
+pub use octets::{Answer, Answers, Mark, SentOctets};
+pub use solo::{
+    Asked, Connection, Context, Countdown, Counter, Phase, Protection, RadioKeys, Repeat, Solo,
+    Stations, Timer,
+};
+pub use stations::{EnbWorld, StationNumber, StationState};
+pub use subscriber::{EcmState, EmmState, States, Subscriber};

@@ -1,0 +1,278 @@
+//! One subscriber.
+
+ghost use Rattle.std.specs.Prelude.{◌≡◌, IfOk, OnErr, OnOk, length};
+ghost use Rattle.emm_machine.specs.Does.{Does};
+ghost use Rattle.emm_machine.specs.Steps.{item_of, row, solo_step};
+ghost use Rattle.emm_machine.specs.Words.{ecm_of, emm_of, fresh_solo, pages_in, procedure_left, states_of};
+
+use crate::draft::{Draft, Stop};
+use crate::event::SoloEvent;
+use crate::network::Network;
+use crate::octets::Answers;
+use crate::setting::{Setting, Vectors};
+use crate::solo::{Asked, Connection, Counter, Phase, Repeat, Solo};
+use crate::stations::{EnbWorld, StationNumber};
+use esm_machine::{Bearer, BearerState};
+use identity_slots::{Profile, Slot, Vector};
+use nas_elements::UeCapability;
+use per_bits::Octets;
+use s1ap_elements::{Cause, NasCause, Tai};
+use std::alloc::{AllocError, Global};
+use std::marker::Model;
+
+/// The state of mobility management (TS 24.301 clause 5.1.3.4).
+#[derive(Clone, Copy, PartialEq, Eq, Debug)]
+pub enum EmmState {
+    Deregistered,
+    CommonProcedureInitiated,
+    Registered,
+    DeregisteredInitiated,
+}
+
+/// Whether the phone has a connection (TS 23.401 clause 4.6.3).
+#[derive(Clone, Copy, PartialEq, Eq, Debug)]
+pub enum EcmState {
+    Idle,
+    Connected,
+}
+
+/// The states of a subscriber.
+#[derive(Clone, Copy, PartialEq, Eq, Debug)]
+pub struct States {
+    pub emm: EmmState,
+    pub ecm: EcmState,
+    /// The state of the default bearer (TS 24.301 clause 6.1.3.3).
+    pub esm: BearerState,
+}
+
+fn emm_of(phase: Phase) -> EmmState
+    ensures { result ≡ emm_of phase }
+{
+    match phase {
+        Phase::Deregistered => EmmState::Deregistered,
+        Phase::Authenticating
+        | Phase::SecurityMode
+        | Phase::EsmInformation
+        | Phase::Accepting
+        | Phase::Updating => EmmState::CommonProcedureInitiated,
+        Phase::Registered => EmmState::Registered,
+        Phase::Detaching => EmmState::DeregisteredInitiated,
+    }
+}
+
+#[tactic(auto, unfolding(nas_elements::specs::Capability::capability_of))]
+fn fresh_solo() -> Solo
+    ensures { result ≡ fresh_solo }
+{
+    let Ok(capability) = UeCapability::read(&[0, 0]) else {
+        unreachable!()
+    };
+    Solo {
+        phase: Phase::Deregistered,
+        connection: None,
+        context: None,
+        associations: Counter::new(),
+        tmsis: Counter::new(),
+        tmsi: None,
+        next_vector: 0,
+        tai: Tai {
+            plmn: Octets::new([0; 3]),
+            tac: Octets::new([0; 2]),
+        },
+        asked: Asked {
+            capability,
+            combined_attach: false,
+            initial_update: false,
+        },
+        bearer: Bearer::new(),
+        repeat: None,
+        procedure: None,
+        reachable: None,
+    }
+}
+
+impl Draft {
+    // The row of an event.
+    #[tactic(auto, unfolding(crate::specs::Steps::row))]
+    fn row(
+        &mut self,
+        alloc: Global,
+        setting: &Setting,
+        event: &SoloEvent,
+        world: &EnbWorld,
+    ) -> Result<(), Stop>
+        ensures { Does result self.new (row setting.now (item_of event.now world.now) self.old) }
+    {
+        match event {
+            SoloEvent::Nothing => Ok(()),
+            SoloEvent::Initial(entry) => self.initial(alloc, setting, entry),
+            SoloEvent::Claim(id, entry) => Ok(self.claim(alloc, setting, *id, entry)?),
+            SoloEvent::Message(message) => self.message(alloc, setting, message),
+            SoloEvent::Displaced(id) => {
+                self.displaced(*id);
+                Ok(())
+            }
+            SoloEvent::StationGone(station) => {
+                self.station_gone(*station);
+                Ok(())
+            }
+            SoloEvent::Tick => self.tick(alloc, setting),
+            SoloEvent::Data => Ok(self.data_waits(alloc, setting, world)?),
+            SoloEvent::Cancel => self.cancelled(alloc),
+        }
+    }
+}
+
+// The step of a state, on a copy.
+#[tactic(auto, unfolding(crate::specs::Steps::solo_step))]
+fn drafted(
+    alloc: Global,
+    setting: &Setting,
+    solo: &Solo,
+    event: &SoloEvent,
+    world: &EnbWorld,
+) -> Result<Draft, AllocError>
+    ensures { IfOk result (λ d. d ≡ solo_step setting.now solo.now (item_of event.now world.now)) }
+{
+    let mut draft = Draft::from_state(alloc, solo)?;
+    match draft.row(alloc, setting, event, world) {
+        Ok(()) => Ok(draft),
+        Err(Stop::NoMemory) => Err(AllocError),
+        Err(Stop::Spent) => {
+            let mut draft = Draft::from_state(alloc, solo)?;
+            draft.fall(alloc, Cause::Nas(NasCause::Unspecified))?;
+            draft.wipe();
+            Ok(draft)
+        }
+    }
+}
+
+/// A subscriber; a contract sees what never changes of it, and the state of its machine.
+#[derive(Drop)]
+pub struct Subscriber {
+    setting: Setting,
+    solo: Solo,
+    alloc: Global,
+}
+
+impl Model for Subscriber {
+    ghost use Rattle.emm_machine.specs.Whole.{Whole};
+
+    ghost Value = { Whole };
+
+    ghost view = { λ s. record { setting = s.setting; solo = s.solo } };
+}
+
+impl Subscriber {
+    /// A subscriber who was never seen, with its vectors in the order in which they are taken.
+    pub fn new(
+        alloc: Global,
+        network: &Network,
+        slot: Slot,
+        profile: &Profile,
+        vectors: Vec<Vector>,
+    ) -> Result<Subscriber, AllocError>
+        ensures { IfOk result (λ s. s ≡ record {
+          setting = record { network = network.now; slot = slot; profile = profile.now; vectors = vectors.items };
+          solo = fresh_solo;
+        }) }
+    {
+        let setting = Setting {
+            network: network.clone()?,
+            slot,
+            profile: *profile,
+            vectors: Vectors::new(vectors),
+        };
+        Ok(Subscriber {
+            setting,
+            solo: fresh_solo(),
+            alloc,
+        })
+    }
+
+    /// What an event would leave and send; nothing changes.
+    pub fn prepare(&self, event: &SoloEvent, world: &EnbWorld) -> Result<Draft, AllocError>
+        ensures { IfOk result (λ d. d ≡ solo_step self.now.setting self.now.solo (item_of event.now world.now)) }
+    {
+        drafted(self.alloc, &self.setting, &self.solo, event, world)
+    }
+
+    /// The state is that of a step that was prepared, whose messages are returned; takes no memory.
+    pub fn commit(&mut self, draft: Draft) -> Answers
+        ensures answers { result ≡ draft.sent }
+        ensures state { self.new ≡ record self.old { solo = draft.solo } }
+    {
+        let Draft {
+            solo,
+            sent,
+            accepted: _,
+        } = draft;
+        self.solo = solo;
+        sent
+    }
+
+    /// One event: what is sent. Where memory is refused nothing changes.
+    pub fn step(&mut self, event: &SoloEvent, world: &EnbWorld) -> Result<Answers, AllocError>
+        ensures answers { IfOk result (λ answers. answers ≡ (solo_step self.old.setting self.old.solo (item_of event.now world.now)).sent) }
+        ensures state { OnOk result (self.new ≡ record self.old { solo = (solo_step self.old.setting self.old.solo (item_of event.now world.now)).solo }) }
+        ensures err { OnErr result (self.new ≡ self.old) }
+    {
+        let draft = self.prepare(event, world)?;
+        Ok(self.commit(draft))
+    }
+
+    /// The connection: its association, station and number there.
+    pub fn connection(&self) -> Option<Connection>
+        ensures { result ≡ self.now.solo.connection }
+    {
+        self.solo.connection
+    }
+
+    /// The ticks left of a procedure, and until a phone that is idle is taken to be gone.
+    pub fn countdowns(&self) -> (Option<u32>, Option<u32>)
+        ensures procedure { result.0 ≡ procedure_left self.now.solo }
+        ensures reachable { result.1 ≡ self.now.solo.reachable }
+    {
+        let procedure = match self.solo.procedure {
+            Some(countdown) => Some(countdown.left),
+            None => None,
+        };
+        (procedure, self.solo.reachable)
+    }
+
+    /// The states.
+    pub fn states(&self) -> States
+        ensures { result ≡ states_of self.now.solo }
+    {
+        States {
+            emm: emm_of(self.solo.phase),
+            ecm: if self.solo.connection.is_some() {
+                EcmState::Connected
+            } else {
+                EcmState::Idle
+            },
+            esm: self.solo.bearer.state(),
+        }
+    }
+
+    /// Whether the paging to repeat goes to a station.
+    pub fn pages_at(&self, station: StationNumber) -> bool
+        ensures { result ≡ pages_in self.now.solo.repeat station }
+    {
+        match &self.solo.repeat {
+            Some(Repeat::Paging(stations)) => stations.contain(station),
+            Some(Repeat::Nas(_, _)) | None => false,
+        }
+    }
+
+    /// An equal subscriber.
+    pub fn copy(&self) -> Result<Subscriber, AllocError>
+        ensures { IfOk result (λ s. s ≡ self.now) }
+    {
+        Ok(Subscriber {
+            setting: self.setting.clone()?,
+            solo: self.solo.copy(self.alloc)?,
+            alloc: self.alloc,
+        })
+    }
+}
