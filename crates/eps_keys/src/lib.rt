@@ -10,6 +10,7 @@ mod aes;
 mod derive;
 mod direction;
 mod equal;
+mod laws;
 mod mac;
 mod tables;
 mod words;
@@ -18,6 +19,7 @@ pub use aes::aes_encrypt;
 pub use derive::{hmac_sha256, kenb, nas_integrity_key, next_hop};
 pub use direction::Direction;
 pub use equal::same_octets;
+pub use laws::same_is_equal;
 pub use mac::{MacKey, cmac, eia2};
 
 #[cfg(test)]

@@ -7,6 +7,8 @@ use Rattle.s1ap_elements.specs.declared.cause.ProtocolCause.TheVariants.{Transfe
 use Rattle.s1ap_elements.specs.declared.cause.MiscCause.TheVariants.{UnknownPlmn}
 use Rattle.s1ap_elements.specs.declared.station.SupportedTa.{SupportedTa}
 use Rattle.s1ap_elements.specs.declared.station.ServedGummei.{ServedGummei}
+use Rattle.s1ap_messages.specs.declared.criticality.Criticality.{Criticality}
+use Rattle.s1ap_messages.specs.declared.criticality.Criticality.TheVariants.{Reject, Ignore, Notify}
 use Rattle.s1ap_messages.specs.declared.fault.S1apFault.{S1apFault}
 use Rattle.s1ap_messages.specs.declared.fault.S1apFault.TheVariants.{Syntax, UnknownProcedure, MissingElement, RepeatedElement, RefusedElement, NoMemory}
 use Rattle.s1ap_messages.specs.declared.pdu.Pdu.{Pdu}
@@ -45,11 +47,10 @@ abbrev pub indication : Cause → Pdu (List ℕ)
 indication cause = pdu.ErrorIndication (record { mme_id = None; enb_id = None; cause = Some cause })
 
 -- the cause that octets with a fault are answered with; an unknown procedure by its criticality
-abbrev pub cause_of_unknown : ℕ → Option Cause
-cause_of_unknown criticality =
-    if criticality == 0 then Some (Protocol AbstractSyntaxErrorReject)
-    else if criticality == 2 then Some (Protocol AbstractSyntaxErrorIgnoreAndNotify)
-    else None
+abbrev pub cause_of_unknown : Criticality → Option Cause
+cause_of_unknown Reject = Some (Protocol AbstractSyntaxErrorReject)
+cause_of_unknown Ignore = None
+cause_of_unknown Notify = Some (Protocol AbstractSyntaxErrorIgnoreAndNotify)
 
 abbrev pub cause_of : S1apFault → Option Cause
 cause_of (Syntax f) = Some (Protocol TransferSyntaxError)

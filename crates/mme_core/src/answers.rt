@@ -9,7 +9,9 @@ use per_bits::Items;
 use s1ap_elements::{
     Cause, MiscCause, MmeCode, MmeGroup, Plmn, ProtocolCause, RelativeCapacity, ServedGummei,
 };
-use s1ap_messages::{ErrorIndication, Pdu, S1apFault, S1apPdu, SetupFailure, SetupResponse};
+use s1ap_messages::{
+    Criticality, ErrorIndication, Pdu, S1apFault, S1apPdu, SetupFailure, SetupResponse,
+};
 use std::alloc::{AllocError, Global};
 
 // A list of one value.
@@ -76,17 +78,17 @@ pub fn cause_of(fault: &S1apFault) -> Option<Cause>
 {
     match fault {
         S1apFault::Syntax(_) => Some(Cause::Protocol(ProtocolCause::TransferSyntaxError)),
-        S1apFault::UnknownProcedure(0)
+        S1apFault::UnknownProcedure(Criticality::Reject)
         | S1apFault::MissingElement(_)
         | S1apFault::RefusedElement(_) => {
             Some(Cause::Protocol(ProtocolCause::AbstractSyntaxErrorReject))
         }
-        S1apFault::UnknownProcedure(2) => Some(Cause::Protocol(
+        S1apFault::UnknownProcedure(Criticality::Notify) => Some(Cause::Protocol(
             ProtocolCause::AbstractSyntaxErrorIgnoreAndNotify,
         )),
         S1apFault::RepeatedElement(_) => Some(Cause::Protocol(
             ProtocolCause::FalselyConstructedMessage,
         )),
-        S1apFault::UnknownProcedure(_) | S1apFault::NoMemory => None,
+        S1apFault::UnknownProcedure(Criticality::Ignore) | S1apFault::NoMemory => None,
     }
 }

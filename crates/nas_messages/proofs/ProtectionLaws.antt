@@ -59,16 +59,21 @@ where_so : {A : Type 0} (b : Bool) (o : Option A) (y : A) → cond b o None ≡ 
 where_so true o y e = (refl, e)
 where_so false o y e = absurd cc
 
+-- six octets and more, of which the first is of a protected message, are in the protected form
+pub parts_form : (os : List ℕ) (h : SecurityHeader) → 6 ≤ length os → slice_index os 0 % 16 ≡ 7 → header_of (slice_index os 0 / 16) ≡ Some h → os ≡ protected_form (protected_from h os)
+unfolding protected_form
+parts_form os h long low e =
+    let code : header_code h ≡ slice_index os 0 / 16 = header_is (slice_index os 0 / 16) h e in
+    let kind : slice_index os 0 ≡ header_code h * 16 + 7 = omega (arith, low, code) in
+    six_and_more os long ∙ ap (λ (n : ℕ). n ∷ slice_index os 1 ∷ slice_index os 2 ∷ slice_index os 3 ∷ slice_index os 4 ∷ slice_index os 5 ∷ drop 6 os) kind
+
 pub split_takes : (os : List ℕ) (p : Protected (List ℕ)) → split os ≡ Some p → (os ≡ protected_form p) × (length p.mac ≡ 4)
-unfolding split protected_form
+unfolding split
 split_takes os p e =
     let g = where_so (leb 6 (length os) && eqb (slice_index os 0 % 16) 7) (option_map (λ header. protected_from header os) (header_of (slice_index os 0 / 16))) p e in
     let a = both_true (leb 6 (length os)) (eqb (slice_index os 0 % 16) 7) g.0 in
     let h = from_header os (header_of (slice_index os 0 / 16)) p g.1 in
-    let code : header_code h.0 ≡ slice_index os 0 / 16 = header_is (slice_index os 0 / 16) h.0 h.1 in
-    let low = eqb-true _ _ a.1 in
-    let kind : slice_index os 0 ≡ header_code h.0 * 16 + 7 = omega (arith, low, code) in
-    let whole : os ≡ protected_form (protected_from h.0 os) = six_and_more os (leb-true _ _ a.0) ∙ ap (λ (n : ℕ). n ∷ slice_index os 1 ∷ slice_index os 2 ∷ slice_index os 3 ∷ slice_index os 4 ∷ slice_index os 5 ∷ drop 6 os) kind in
+    let whole = parts_form os h.0 (leb-true _ _ a.0) (eqb-true _ _ a.1) h.1 in
     subst (λ (x : Protected (List ℕ)). (os ≡ protected_form x) × (length x.mac ≡ 4)) h.2 (whole, refl)
 
 -- what is in the protected form is split

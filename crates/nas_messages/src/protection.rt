@@ -1,6 +1,6 @@
 //! The protected form of a message (TS 24.301 clause 9.1).
 
-ghost use Rattle.std.specs.Prelude.{◌≡◌, IfOk};
+ghost use Rattle.std.specs.Prelude.{◌≡◌, IfOk, IfSome, length};
 ghost use Rattle.nas_messages.specs.Protection.{header_code, header_of, protected_form, seen_split, split, unlent};
 
 use std::alloc::{AllocError, Global};
@@ -62,7 +62,8 @@ fn header_of(code: u8) -> Option<SecurityHeader>
 /// security header type than 1 to 4. Takes no memory. The MAC isn't checked.
 #[tactic(auto, unfolding(crate::specs::Protection::split))]
 pub fn split_protected<'a>(octets: &'a [u8]) -> Option<Protected<&'a [u8]>>
-    ensures { seen_split result ≡ split octets.entry.now }
+    ensures value { seen_split result ≡ split octets.entry.now }
+    ensures form { IfSome result (λ p. (octets.entry.now ≡ protected_form (unlent p)) × (length p.mac ≡ 4)) }
 {
     if octets.len() < 6 {
         return None;

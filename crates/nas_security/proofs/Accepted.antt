@@ -1,7 +1,6 @@
 -- When octets are accepted.
-use Rattle.std.proofs.Common.{◌≡◌, ℕ, ◌/◌, ◌%◌, ◌^◌, ◌<◌, ◌≤◌, ◌==◌, ◌&&◌, Bool, true, false, cond, List, ◌∷◌, take, drop, slice_index, Option, Some, None, Result, Ok, Err, refl, sym, ap, ◌∙◌}
+use Rattle.std.proofs.Common.{◌≡◌, ℕ, ◌/◌, ◌%◌, ◌^◌, ◌<◌, ◌≤◌, ◌==◌, ◌&&◌, ◌↔◌, Bool, true, false, cond, List, ◌∷◌, take, drop, slice_index, Option, Some, None, Result, Ok, Err, refl, sym, ap, ◌∙◌}
 use Rattle.eps_keys.specs.Same.{same_octets}
-use Rattle.eps_keys.proofs.Same.{same-true, same-self}
 use Rattle.eps_keys.specs.declared.direction.Direction.TheVariants.{Uplink}
 use Rattle.nas_messages.specs.declared.protection.SecurityHeader.{SecurityHeader}
 use Rattle.nas_messages.specs.declared.protection.Protected.{Protected}
@@ -14,16 +13,20 @@ use Rattle.nas_security.specs.Context.{Mac}
 use Rattle.nas_security.specs.Laws.{IsAccepted}
 use Rattle.nas_security.proofs.Estimates.{estimated}
 
+-- the law of the test of two MACs
+abbrev pub SameIsEqual : Type 0
+SameIsEqual = (xs ys : List ℕ) → (same_octets xs ys ≡ true) ↔ (xs ≡ ys)
+
 -- an answer that is Ok came from the branch that isn't a fault
 where_ok : {A : Type 0} (b : Bool) (r : Result A SecurityFault) (f : SecurityFault) (x : A) → cond b r (Err f) ≡ Ok x → (b ≡ true) × (r ≡ Ok x)
 where_ok true r f x e = (refl, e)
 where_ok false r f x e = absurd (cc)
 
-from_estimate : (mac : Mac) (last : Option ℕ) (allowed : List SecurityHeader) (octets : List ℕ) (count : ℕ) (message : List ℕ) (p : Protected (List ℕ))
+from_estimate : SameIsEqual → (mac : Mac) (last : Option ℕ) (allowed : List SecurityHeader) (octets : List ℕ) (count : ℕ) (message : List ℕ) (p : Protected (List ℕ))
     → split octets ≡ Some p → is_allowed allowed p.header ≡ true
     → (o : Option ℕ) → estimate last p.sequence (2 ^ 8) ≡ o → accepted_under mac p o ≡ Ok (count, message) → IsAccepted mac last allowed octets count message
-from_estimate mac last allowed octets count message p form header None counted e = absurd (cc)
-from_estimate mac last allowed octets count message p form header (Some n) counted e =
+from_estimate same mac last allowed octets count message p form header None counted e = absurd (cc)
+from_estimate same mac last allowed octets count message p form header (Some n) counted e =
     let answer : Answer = Ok (n, p.message) in
     let found = where_ok (same_octets p.mac (mac n Uplink (p.sequence ∷ p.message))) answer BadMac (count, message) e in
     let there : ℕ × List ℕ = (n, p.message) in
@@ -37,34 +40,34 @@ from_estimate mac last allowed octets count message p form header (Some n) count
       content = content;
       header = header;
       counted = counted ∙ ap Some same_count;
-      right = same-true _ _ found.0 ∙ ap (λ (k : ℕ). mac k Uplink (p.sequence ∷ p.message)) same_count ∙ ap (λ (m : List ℕ). mac count Uplink (p.sequence ∷ m)) content;
+      right = (same p.mac (mac n Uplink (p.sequence ∷ p.message))).0 found.0 ∙ ap (λ (k : ℕ). mac k Uplink (p.sequence ∷ p.message)) same_count ∙ ap (λ (m : List ℕ). mac count Uplink (p.sequence ∷ m)) content;
     }
 
-from_form : (mac : Mac) (last : Option ℕ) (allowed : List SecurityHeader) (octets : List ℕ) (count : ℕ) (message : List ℕ)
+from_form : SameIsEqual → (mac : Mac) (last : Option ℕ) (allowed : List SecurityHeader) (octets : List ℕ) (count : ℕ) (message : List ℕ)
     → (o : Option (Protected (List ℕ))) → split octets ≡ o → accepted_parts mac last allowed o ≡ Ok (count, message) → IsAccepted mac last allowed octets count message
-from_form mac last allowed octets count message None form e = absurd (cc)
-from_form mac last allowed octets count message (Some p) form e =
+from_form same mac last allowed octets count message None form e = absurd (cc)
+from_form same mac last allowed octets count message (Some p) form e =
     let found = where_ok (is_allowed allowed p.header) (accepted_under mac p (estimate last p.sequence (2 ^ 8))) WrongHeader (count, message) e in
-    from_estimate mac last allowed octets count message p form found.0 (estimate last p.sequence (2 ^ 8)) refl found.1
+    from_estimate same mac last allowed octets count message p form found.0 (estimate last p.sequence (2 ^ 8)) refl found.1
 
-pub accepted_so : (mac : Mac) (last : Option ℕ) (allowed : List SecurityHeader) (octets : List ℕ) (count : ℕ) (message : List ℕ)
+pub accepted_so : SameIsEqual → (mac : Mac) (last : Option ℕ) (allowed : List SecurityHeader) (octets : List ℕ) (count : ℕ) (message : List ℕ)
     → accepted mac last allowed octets ≡ Ok (count, message) → IsAccepted mac last allowed octets count message
 unfolding accepted
-accepted_so mac last allowed octets count message e = from_form mac last allowed octets count message (split octets) refl e
+accepted_so same mac last allowed octets count message e = from_form same mac last allowed octets count message (split octets) refl e
 
-pub so_accepted : (mac : Mac) (last : Option ℕ) (allowed : List SecurityHeader) (octets : List ℕ) (count : ℕ) (message : List ℕ)
+pub so_accepted : SameIsEqual → (mac : Mac) (last : Option ℕ) (allowed : List SecurityHeader) (octets : List ℕ) (count : ℕ) (message : List ℕ)
     → IsAccepted mac last allowed octets count message → accepted mac last allowed octets ≡ Ok (count, message)
 unfolding accepted
-so_accepted mac last allowed octets count message h =
+so_accepted same mac last allowed octets count message h =
     let p = h.parts in
-    let equal : same_octets p.mac (mac count Uplink (p.sequence ∷ p.message)) ≡ true =
-    ap (λ (m : List ℕ). same_octets p.mac (mac count Uplink (p.sequence ∷ m))) h.content ∙ ap (same_octets p.mac) (sym h.right) ∙ same-self p.mac in
+    let right = h.right ∙ ap (λ (m : List ℕ). mac count Uplink (p.sequence ∷ m)) (sym h.content) in
+    let equal = (same p.mac (mac count Uplink (p.sequence ∷ p.message))).1 right in
     rw (h.form, h.header, h.counted, equal, h.content) refl
 
-pub fresh : (mac : Mac) (last : Option ℕ) (allowed : List SecurityHeader) (octets : List ℕ) (count : ℕ) (message : List ℕ)
+pub fresh : SameIsEqual → (mac : Mac) (last : Option ℕ) (allowed : List SecurityHeader) (octets : List ℕ) (count : ℕ) (message : List ℕ)
     → accepted mac last allowed octets ≡ Ok (count, message) → (first_after last ≤ count) × (count < 2 ^ 24)
-fresh mac last allowed octets count message e =
-    let h = accepted_so mac last allowed octets count message e in
+fresh same mac last allowed octets count message e =
+    let h = accepted_so same mac last allowed octets count message e in
     let estimate_is = estimated last h.parts.sequence (2 ^ 8) count h.counted in (estimate_is.above, estimate_is.fits)
 
 short_counted : (mac : Mac) (octets : List ℕ) (o : Option ℕ) (count : ℕ) → short_under mac octets o ≡ Ok count → o ≡ Some count

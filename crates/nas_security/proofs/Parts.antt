@@ -1,9 +1,8 @@
 -- What the MAC of a protected message is over.
-use Rattle.std.proofs.Common.{◌≡◌, ℕ, ◌+◌, ◌-◌, ◌*◌, ◌≤◌, List, [], ◌∷◌, ◌++◌, length, take, drop, Some, refl, ap, ◌∙◌, arith, length-drop}
+use Rattle.std.proofs.Common.{◌≡◌, ℕ, ◌+◌, ◌-◌, ◌*◌, ◌≤◌, List, [], ◌∷◌, ◌++◌, length, take, drop, refl, ap, ◌∙◌, arith, length-drop}
 use Rattle.std.proofs.lemmas.List.{take_all}
 use Rattle.nas_messages.specs.declared.protection.Protected.{Protected}
-use Rattle.nas_messages.specs.Protection.{protected_form, header_code, split}
-use Rattle.nas_messages.proofs.ProtectionLaws.{split_takes}
+use Rattle.nas_messages.specs.Protection.{protected_form, header_code}
 
 behind : (code sequence : ℕ) (mac message : List ℕ) → length mac ≡ 4 → drop 5 (code ∷ mac ++ sequence ∷ message) ≡ sequence ∷ message
 behind code s [] m e = absurd (omega (arith, e))
@@ -13,15 +12,13 @@ behind code s (a ∷ b ∷ c ∷ []) m e = absurd (omega (arith, e))
 behind code s (a ∷ b ∷ c ∷ d ∷ []) m e = refl
 behind code s (a ∷ b ∷ c ∷ d ∷ more ∷ rest) m e = absurd (omega (arith, e))
 
-pub authenticated : (octets : List ℕ) (p : Protected (List ℕ)) → split octets ≡ Some p → drop 5 octets ≡ p.sequence ∷ p.message
+pub authenticated : (octets : List ℕ) (p : Protected (List ℕ)) → (octets ≡ protected_form p) × (length p.mac ≡ 4) → drop 5 octets ≡ p.sequence ∷ p.message
 unfolding protected_form
-authenticated octets p e =
-    let whole = split_takes octets p e in
-    ap (drop 5) whole.0 ∙ behind (header_code p.header * 16 + 7) p.sequence p.mac p.message whole.1
+authenticated octets p form = ap (drop 5) form.0 ∙ behind (header_code p.header * 16 + 7) p.sequence p.mac p.message form.1
 
-pub long : (octets : List ℕ) (p : Protected (List ℕ)) → split octets ≡ Some p → 6 ≤ length octets
-long octets p e =
-    let rest = ap length (authenticated octets p e) in omega (arith, length-drop 5 octets, rest)
+pub long : (octets : List ℕ) (p : Protected (List ℕ)) → (octets ≡ protected_form p) × (length p.mac ≡ 4) → 6 ≤ length octets
+long octets p form =
+    let rest = ap length (authenticated octets p form) in omega (arith, length-drop 5 octets, rest)
 
 -- a slice from a place to the end
 pub rest_of : (m : List ℕ) (k : ℕ) → take (length m - k) (drop k m) ≡ drop k m

@@ -1,4 +1,4 @@
-//! Laws of counts and of what is accepted: each is the contract of a function that does nothing.
+//! Laws of counts and of what is accepted: each is the contract of a function that computes nothing.
 
 ghost use Rattle.std.specs.Prelude.{◌≡◌, ◌≤◌, ◌<◌, ◌%◌, ◌^◌, ◌↔◌, ℕ, List, Option, Some, None, Ok};
 ghost use Rattle.nas_messages.specs.declared.protection.SecurityHeader.{SecurityHeader};
@@ -6,6 +6,8 @@ ghost use Rattle.nas_security.specs.Accepting.{accepted, short_accepted};
 ghost use Rattle.nas_security.specs.Context.{Mac};
 ghost use Rattle.nas_security.specs.Counts.{IsEstimate, estimate, first_after};
 ghost use Rattle.nas_security.specs.Laws.{IsAccepted};
+
+use eps_keys::same_is_equal;
 
 /// An estimate is the least count of 24 bits above the last one with the low bits; where there is
 /// none, no such count has them.
@@ -23,7 +25,9 @@ pub fn accepted_is_exact()
         (count : ℕ) (message : List ℕ)
         → (accepted mac last allowed octets ≡ Ok (count, message))
         ↔ IsAccepted mac last allowed octets count message }
-{}
+{
+    same_is_equal();
+}
 
 /// An accepted count has 24 bits and is above the last accepted one: none is accepted twice.
 pub fn accepted_is_fresh()
@@ -34,4 +38,6 @@ pub fn accepted_is_fresh()
     ensures short { (mac : Mac) (last : Option ℕ) (ksi : ℕ) (octets : List ℕ) (count : ℕ)
         → short_accepted mac last ksi octets ≡ Ok count
         → (first_after last ≤ count) × (count < 2 ^ 24) }
-{}
+{
+    same_is_equal();
+}

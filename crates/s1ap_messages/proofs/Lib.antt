@@ -1,3 +1,4 @@
+pub mod Criticalities
 pub mod Gathering
 pub mod MessageLaws
 pub mod PduLaws

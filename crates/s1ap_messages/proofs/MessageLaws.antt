@@ -12,6 +12,7 @@ use Rattle.per_bits.proofs.FormatLaws.{complete_takes, complete_again}
 use Rattle.per_bits.proofs.BitLaws.{bind_ok, ok_is}
 use Rattle.per_bits.specs.Formats.{plain, items, must, done, number, octet_string, Fields, flag_of, flags_after}
 use Rattle.per_bits.specs.Reading.{fields_at}
+use Rattle.s1ap_messages.specs.declared.criticality.Criticality.{Criticality}
 use Rattle.s1ap_messages.specs.Spelling.{Raw, id_of, criticality_of, octets_of, has_id, may_skip, OfRow, AreElements, IsKept, message, IsMessage}
 use Rattle.s1ap_messages.specs.Rows.{Rows, row, end, needed, optional, unkept, Slots, Kept, no_slots}
 use Rattle.s1ap_messages.specs.Reading.{◌>>>◌, syntax_of, pass_at, fill_slot, put_at, pure_fill, pure_put, put_all, elements_at, fill_at, needed_of, kept_of, message_at}
@@ -76,7 +77,7 @@ fill_to f id None s after t h =
     (e, (a.0.1, syntax_some (number_at 0 2 s) a.0 a.1, subst (λ w. open_at a.0.1 ≡ Ok (b.0.0, w)) u (syntax_some (open_at a.0.1) b.0 b.1), refl), pure_is f e d.0 after d.1 v)
 
 -- what was put, by cases on whether it is the first row's
-abbrev RowPut : (b : Bool) (i c : ℕ) (f : Format) (rs : Rows) (slots : Option (Value f) × Slots rs) (id : ℕ) (s : Place) → Result ((Option (Value f) × Slots rs) × Place) S1apFault
+abbrev RowPut : (b : Bool) (i : ℕ) (c : Criticality) (f : Format) (rs : Rows) (slots : Option (Value f) × Slots rs) (id : ℕ) (s : Place) → Result ((Option (Value f) × Slots rs) × Place) S1apFault
 RowPut b i c f rs slots id s = cond b (fill_slot f id slots.0 s >>> λ first. Ok ((first.0, slots.1), first.1)) (put_at rs id slots.1 s >>> λ others. Ok ((slots.0, others.0), others.1))
 
 abbrev RowPure : (b : Bool) (f : Format) (rs : Rows) (slots : Option (Value f) × Slots rs) (e : Raw) → Result (Option (Value f) × Slots rs) S1apFault
@@ -86,7 +87,7 @@ may_put : (b : Bool) (id : ℕ) → b ≡ true → cond b (okay {A = Unit {0}} t
 may_put true id e = refl
 may_put false id e = absurd cc
 
-row_to : (b : Bool) (i c : ℕ) (f : Format) (rs : Rows) (slots after : Option (Value f) × Slots rs) (id : ℕ) (s t : Place)
+row_to : (b : Bool) (i : ℕ) (c : Criticality) (f : Format) (rs : Rows) (slots after : Option (Value f) × Slots rs) (id : ℕ) (s t : Place)
     → ((more : Slots rs) → put_at rs id slots.1 s ≡ Ok (more, t) → (e : Raw) × Tail id s e t × (pure_put rs slots.1 e ≡ Ok more))
     → RowPut b i c f rs slots id s ≡ Ok (after, t) → (e : Raw) × Tail id s e t × (RowPure b f rs slots e ≡ Ok after)
 row_to true i c f rs slots after id s t ih h =
@@ -176,7 +177,7 @@ fill_all : (f : Format) → Option (Value f) → List Raw → Result (Option (Va
 fill_all f slot [] = Ok slot
 fill_all f slot (e ∷ es) = pure_fill f slot e >>> λ after. fill_all f after es
 
-split_step : (b : Bool) (i c : ℕ) (p : _) (f : Format) (rs : Rows) (slots after : Slots (row i c p f rs)) (e : Raw) (es ours others : List Raw)
+split_step : (b : Bool) (i : ℕ) (c : Criticality) (p : _) (f : Format) (rs : Rows) (slots after : Slots (row i c p f rs)) (e : Raw) (es ours others : List Raw)
     → ((now : Slots (row i c p f rs)) → put_all (row i c p f rs) now es ≡ Ok after → (fill_all f now.0 ours ≡ Ok after.0) × (put_all rs now.1 others ≡ Ok after.1))
     → (RowPure b f rs slots e >>> λ now. put_all (row i c p f rs) now es) ≡ Ok after
     → (fill_all f slots.0 (cond b (e ∷ ours) ours) ≡ Ok after.0) × (put_all rs slots.1 (cond (not b) (e ∷ others) others) ≡ Ok after.1)
@@ -198,7 +199,7 @@ split_step false i c p f rs slots after e es ours others ih h =
     let both = ih made (ap (λ (x : Option (Value f) × Slots rs). put_all (row i c p f rs) x es) k ∙ a.2) in
     (both.0, rw b.1 both.1)
 
-split : (i c : ℕ) (p : _) (f : Format) (rs : Rows) (slots after : Slots (row i c p f rs)) (es : List Raw)
+split : (i : ℕ) (c : Criticality) (p : _) (f : Format) (rs : Rows) (slots after : Slots (row i c p f rs)) (es : List Raw)
     → put_all (row i c p f rs) slots es ≡ Ok after → (fill_all f slots.0 (filter (has_id i) es) ≡ Ok after.0) × (put_all rs slots.1 (filter (λ e. not (has_id i e)) es) ≡ Ok after.1)
 unfolding fill_all
 split i c p f rs slots after [] h =
@@ -307,13 +308,13 @@ fill_from f None after s t e k h =
     let same : Some b.0 ≡ after = ok_same (Some b.0) after b.2 in
     fills f (id_of e) (criticality_of e) (octets_of e) s k.0 t b.0 k.1 k.2 (syntax_some (complete_at f (octets_of e)) b.0 b.1) ∙ ap (λ (x : Option (Value f)). okay {A = Option (Value f) × Place} (x, t)) same
 
-row_yes : (i c : ℕ) (f : Format) (rs : Rows) (slots : Option (Value f) × Slots rs) (id : ℕ) (s t : Place) (after : Option (Value f)) → fill_slot f id slots.0 s ≡ Ok (after, t) → RowPut true i c f rs slots id s ≡ Ok ((after, slots.1), t)
+row_yes : (i : ℕ) (c : Criticality) (f : Format) (rs : Rows) (slots : Option (Value f) × Slots rs) (id : ℕ) (s t : Place) (after : Option (Value f)) → fill_slot f id slots.0 s ≡ Ok (after, t) → RowPut true i c f rs slots id s ≡ Ok ((after, slots.1), t)
 row_yes i c f rs slots id s t after h = rw h refl
 
-row_no : (i c : ℕ) (f : Format) (rs : Rows) (slots : Option (Value f) × Slots rs) (id : ℕ) (s t : Place) (more : Slots rs) → put_at rs id slots.1 s ≡ Ok (more, t) → RowPut false i c f rs slots id s ≡ Ok ((slots.0, more), t)
+row_no : (i : ℕ) (c : Criticality) (f : Format) (rs : Rows) (slots : Option (Value f) × Slots rs) (id : ℕ) (s t : Place) (more : Slots rs) → put_at rs id slots.1 s ≡ Ok (more, t) → RowPut false i c f rs slots id s ≡ Ok ((slots.0, more), t)
 row_no i c f rs slots id s t more h = rw h refl
 
-row_from : (b : Bool) (i c : ℕ) (f : Format) (rs : Rows) (slots after : Option (Value f) × Slots rs) (s t : Place) (e : Raw) → Tail (id_of e) s e t
+row_from : (b : Bool) (i : ℕ) (c : Criticality) (f : Format) (rs : Rows) (slots after : Option (Value f) × Slots rs) (s t : Place) (e : Raw) → Tail (id_of e) s e t
     → ((more : Slots rs) → pure_put rs slots.1 e ≡ Ok more → put_at rs (id_of e) slots.1 s ≡ Ok (more, t))
     → RowPure b f rs slots e ≡ Ok after → RowPut b i c f rs slots (id_of e) s ≡ Ok (after, t)
 row_from true i c f rs slots after s t e k ih h =
@@ -362,7 +363,7 @@ elements_from rs (suc n) slots after s t es h k =
 abbrev RowSlots : Format → Rows → Type 0
 RowSlots f rs = Option (Value f) × Slots rs
 
-join_step : (b : Bool) (i c : ℕ) (p : _) (f : Format) (rs : Rows) (slots after : RowSlots f rs) (e : Raw) (es ours others : List Raw)
+join_step : (b : Bool) (i : ℕ) (c : Criticality) (p : _) (f : Format) (rs : Rows) (slots after : RowSlots f rs) (e : Raw) (es ours others : List Raw)
     → ((now : RowSlots f rs) → fill_all f now.0 ours ≡ Ok after.0 → put_all rs now.1 others ≡ Ok after.1 → put_all (row i c p f rs) now es ≡ Ok after)
     → fill_all f slots.0 (cond b (e ∷ ours) ours) ≡ Ok after.0 → put_all rs slots.1 (cond (not b) (e ∷ others) others) ≡ Ok after.1
     → (RowPure b f rs slots e >>> λ now. put_all (row i c p f rs) now es) ≡ Ok after
@@ -374,7 +375,7 @@ join_step false i c p f rs slots after e es ours others ih h k =
     let a = bind_some (pure_put rs slots.1 e) (λ x. put_all rs x others) after.1 k in
     rw a.1 (ih (slots.0, a.0) h a.2)
 
-join : (i c : ℕ) (p : _) (f : Format) (rs : Rows) (slots after : RowSlots f rs) (es : List Raw)
+join : (i : ℕ) (c : Criticality) (p : _) (f : Format) (rs : Rows) (slots after : RowSlots f rs) (es : List Raw)
     → fill_all f slots.0 (filter (has_id i) es) ≡ Ok after.0 → put_all rs slots.1 (filter (λ e. not (has_id i e)) es) ≡ Ok after.1 → put_all (row i c p f rs) slots es ≡ Ok after
 unfolding fill_all
 join i c p f rs slots after [] h k =
@@ -402,10 +403,10 @@ elements_put end (e ∷ es) slots m = skip_step (may_skip (id_of e) (criticality
 elements_put (row i c p f rs) es slots m =
     join i c p f rs (None, no_slots rs) slots es (row_filled f slots.0 (filter (has_id i) es) m.0) (elements_put rs (filter (λ e. not (has_id i e)) es) slots.1 m.1)
 
-kept_needed : (i c : ℕ) (f : Format) (rs : Rows) (o : Option (Value f)) (others : Slots rs) (v : Value f) (more : Kept rs) → o ≡ Some v → kept_of rs others ≡ Ok more → kept_of (row i c needed f rs) (o, others) ≡ Ok (v, more)
+kept_needed : (i : ℕ) (c : Criticality) (f : Format) (rs : Rows) (o : Option (Value f)) (others : Slots rs) (v : Value f) (more : Kept rs) → o ≡ Some v → kept_of rs others ≡ Ok more → kept_of (row i c needed f rs) (o, others) ≡ Ok (v, more)
 kept_needed i c f rs o others v more p q = rw (p, q) refl
 
-kept_optional : (i c : ℕ) (f : Format) (rs : Rows) (o v : Option (Value f)) (others : Slots rs) (more : Kept rs) → o ≡ v → kept_of rs others ≡ Ok more → kept_of (row i c optional f rs) (o, others) ≡ Ok (v, more)
+kept_optional : (i : ℕ) (c : Criticality) (f : Format) (rs : Rows) (o v : Option (Value f)) (others : Slots rs) (more : Kept rs) → o ≡ v → kept_of rs others ≡ Ok more → kept_of (row i c optional f rs) (o, others) ≡ Ok (v, more)
 kept_optional i c f rs o v others more p q = rw (p, q) refl
 
 kept_again : (rs : Rows) (slots : Slots rs) (v : Kept rs) → IsKept rs slots v → kept_of rs slots ≡ Ok v

@@ -10,6 +10,8 @@ use Rattle.per_bits.specs.Spelling.{Spells, SpellsWhole}
 use Rattle.per_bits.specs.Writing.{write_at, write_each, write_number, write_string, write_whole, padded, complete_write}
 use Rattle.per_bits.proofs.BitLaws.{bind_ok}
 use Rattle.per_bits.proofs.WritingLaws.{Adds, written, whole_written, complete_written}
+use Rattle.s1ap_messages.specs.declared.criticality.Criticality.{Criticality}
+use Rattle.s1ap_messages.specs.Criticalities.{criticality_number}
 use Rattle.s1ap_messages.specs.Rows.{Rows, row, end, needed, optional, unkept, Slots, Kept, has_row, are_distinct}
 use Rattle.s1ap_messages.specs.declared.message_type.MessageType.{MessageType}
 use Rattle.s1ap_messages.specs.declared.message_type.MessageType.TheVariants.{SetupRequest, SetupResponse, SetupFailure, InitialUeMessage, DownlinkNasTransport, UplinkNasTransport, NasNonDelivery, CapabilityInfo, ContextSetupRequest, ContextSetupResponse, ContextSetupFailure, ReleaseRequest, ReleaseCommand, ReleaseComplete, Paging, PathSwitchRequest, PathSwitchAcknowledge, PathSwitchFailure, Reset, ResetAcknowledge, ErrorIndication}
@@ -39,12 +41,12 @@ record Written (id : ℕ) (f : Format) (v : Value f) (out new : List Bool) : Typ
   holds : Holds id f v e
   same : write_at raw e out ≡ Ok new
 
-element_written : (id c : ℕ) (f : Format) (v : Value f) (out new : List Bool) → write_element id c f v out ≡ Ok new → Written id f v out new
+element_written : (id : ℕ) (c : Criticality) (f : Format) (v : Value f) (out new : List Bool) → write_element id c f v out ≡ Ok new → Written id f v out new
 element_written id c f v out new h =
-    let a = bind_ok (write_number 0 65535 id out) (λ a. write_number 0 2 c a >>= λ b. write_at (open_type f) v b) new h in
-    let b = bind_ok (write_number 0 2 c a.0) (λ b. write_at (open_type f) v b) new a.2 in
+    let a = bind_ok (write_number 0 65535 id out) (λ a. write_number 0 2 (criticality_number c) a >>= λ b. write_at (open_type f) v b) new h in
+    let b = bind_ok (write_number 0 2 (criticality_number c) a.0) (λ b. write_at (open_type f) v b) new a.2 in
     let o = bind_ok (complete_write f v) (λ os. write_string os b.0) new b.2 in
-    record { e = (id, (c, (o.0, tt))); holds = (refl, complete_written f v o.0 o.1); same = raw_written out a.0 b.0 new id c o.0 a.1 b.1 o.2 }
+    record { e = (id, (criticality_number c, (o.0, tt))); holds = (refl, complete_written f v o.0 o.1); same = raw_written out a.0 b.0 new id (criticality_number c) o.0 a.1 b.1 o.2 }
 
 record Elements (rs : Rows) (v : Kept rs) (n : ℕ) (out new : List Bool) : Type 0 where
   es : List Raw
@@ -244,5 +246,5 @@ own_type ErrorIndication = refl
 pub typed_written : (m : Typed) (os : List ℕ) → encode_typed m ≡ Ok os → SpellsTyped m os
 unfolding encode_typed
 typed_written m os h =
-    let i = bind_ok (write_whole (write_message (rows_of m.0)) m.1) (λ inner. write_whole (write_frame (kind_of m.0) (code_of m.0) (criticality_of m.0)) inner) os h in
-    ((kind_of m.0, (code_of m.0, (criticality_of m.0, (i.0, tt)))), whole_written SpellsFrame write_framed frame_adds _ os i.2, own_type m.0, message_written (rows_of m.0) m.1 i.0 (distinct m.0) i.1)
+    let i = bind_ok (write_whole (write_message (rows_of m.0)) m.1) (λ inner. write_whole (write_frame (kind_of m.0) (code_of m.0) (criticality_number (criticality_of m.0))) inner) os h in
+    ((kind_of m.0, (code_of m.0, (criticality_number (criticality_of m.0), (i.0, tt)))), whole_written SpellsFrame write_framed frame_adds _ os i.2, own_type m.0, message_written (rows_of m.0) m.1 i.0 (distinct m.0) i.1)

@@ -1,3 +1,4 @@
+pub mod Criticalities
 pub mod Rows
 pub mod Profile
 pub mod Typed

@@ -3,73 +3,75 @@ use Rattle.std.specs.Prelude.{ℕ, ◌==◌, if◌then◌else◌, Option, Some, 
 use Rattle.per_bits.specs.Formats.{octet_string}
 use Rattle.s1ap_elements.specs.Formats.{ambr, cause, cn_domain, enb_ue_id, erabs_setup, erabs_to_be_setup, erabs_to_be_switched, eutran_cgi, global_enb_id, mme_ue_id, paging_drx, relative_capacity, reset_type, rrc_cause, s_tmsi, security_capabilities, security_context, security_key, served_gummeis, supported_tas, tai, tai_list, text, ue_index, ue_paging_id, ue_s1ap_ids}
 use Rattle.s1ap_messages.specs.Rows.{Rows, row, end, needed, optional, unkept}
+use Rattle.s1ap_messages.specs.declared.criticality.Criticality.{Criticality}
+use Rattle.s1ap_messages.specs.declared.criticality.Criticality.TheVariants.{Reject, Ignore}
 use Rattle.s1ap_messages.specs.declared.message_type.MessageType.{MessageType}
 use Rattle.s1ap_messages.specs.declared.message_type.MessageType.TheVariants.{SetupRequest, SetupResponse, SetupFailure, InitialUeMessage, DownlinkNasTransport, UplinkNasTransport, NasNonDelivery, CapabilityInfo, ContextSetupRequest, ContextSetupResponse, ContextSetupFailure, ReleaseRequest, ReleaseCommand, ReleaseComplete, Paging, PathSwitchRequest, PathSwitchAcknowledge, PathSwitchFailure, Reset, ResetAcknowledge, ErrorIndication}
 
--- id, criticality (0 reject, 1 ignore), presence and format of each row
+-- id, criticality, presence and format of each row
 
 abbrev pub setup_request : Rows
-setup_request = row 59 0 needed global_enb_id (row 60 1 optional text (row 64 0 needed supported_tas (row 137 1 needed paging_drx end)))
+setup_request = row 59 Reject needed global_enb_id (row 60 Ignore optional text (row 64 Reject needed supported_tas (row 137 Ignore needed paging_drx end)))
 
 abbrev pub setup_response : Rows
-setup_response = row 61 1 unkept text (row 105 0 needed served_gummeis (row 87 1 needed relative_capacity end))
+setup_response = row 61 Ignore unkept text (row 105 Reject needed served_gummeis (row 87 Ignore needed relative_capacity end))
 
 abbrev pub setup_failure : Rows
-setup_failure = row 2 1 needed cause end
+setup_failure = row 2 Ignore needed cause end
 
 abbrev pub initial_ue_message : Rows
-initial_ue_message = row 8 0 needed enb_ue_id (row 26 0 needed octet_string (row 67 0 needed tai (row 100 1 needed eutran_cgi (row 134 1 needed rrc_cause (row 96 0 optional s_tmsi end)))))
+initial_ue_message = row 8 Reject needed enb_ue_id (row 26 Reject needed octet_string (row 67 Reject needed tai (row 100 Ignore needed eutran_cgi (row 134 Ignore needed rrc_cause (row 96 Reject optional s_tmsi end)))))
 
 abbrev pub downlink_nas_transport : Rows
-downlink_nas_transport = row 0 0 needed mme_ue_id (row 8 0 needed enb_ue_id (row 26 0 needed octet_string end))
+downlink_nas_transport = row 0 Reject needed mme_ue_id (row 8 Reject needed enb_ue_id (row 26 Reject needed octet_string end))
 
 abbrev pub uplink_nas_transport : Rows
-uplink_nas_transport = row 0 0 needed mme_ue_id (row 8 0 needed enb_ue_id (row 26 0 needed octet_string (row 100 1 needed eutran_cgi (row 67 1 needed tai end))))
+uplink_nas_transport = row 0 Reject needed mme_ue_id (row 8 Reject needed enb_ue_id (row 26 Reject needed octet_string (row 100 Ignore needed eutran_cgi (row 67 Ignore needed tai end))))
 
 abbrev pub nas_non_delivery : Rows
-nas_non_delivery = row 0 0 needed mme_ue_id (row 8 0 needed enb_ue_id (row 26 1 needed octet_string (row 2 1 needed cause end)))
+nas_non_delivery = row 0 Reject needed mme_ue_id (row 8 Reject needed enb_ue_id (row 26 Ignore needed octet_string (row 2 Ignore needed cause end)))
 
 abbrev pub capability_info : Rows
-capability_info = row 0 0 needed mme_ue_id (row 8 0 needed enb_ue_id (row 74 1 needed octet_string end))
+capability_info = row 0 Reject needed mme_ue_id (row 8 Reject needed enb_ue_id (row 74 Ignore needed octet_string end))
 
 abbrev pub context_setup_request : Rows
-context_setup_request = row 0 0 needed mme_ue_id (row 8 0 needed enb_ue_id (row 66 0 needed ambr (row 24 0 needed erabs_to_be_setup (row 107 0 needed security_capabilities (row 73 0 needed security_key end)))))
+context_setup_request = row 0 Reject needed mme_ue_id (row 8 Reject needed enb_ue_id (row 66 Reject needed ambr (row 24 Reject needed erabs_to_be_setup (row 107 Reject needed security_capabilities (row 73 Reject needed security_key end)))))
 
 abbrev pub context_setup_response : Rows
-context_setup_response = row 0 1 needed mme_ue_id (row 8 1 needed enb_ue_id (row 51 1 needed erabs_setup end))
+context_setup_response = row 0 Ignore needed mme_ue_id (row 8 Ignore needed enb_ue_id (row 51 Ignore needed erabs_setup end))
 
 abbrev pub context_setup_failure : Rows
-context_setup_failure = row 0 1 needed mme_ue_id (row 8 1 needed enb_ue_id (row 2 1 needed cause end))
+context_setup_failure = row 0 Ignore needed mme_ue_id (row 8 Ignore needed enb_ue_id (row 2 Ignore needed cause end))
 
 abbrev pub release_request : Rows
-release_request = row 0 0 needed mme_ue_id (row 8 0 needed enb_ue_id (row 2 1 needed cause end))
+release_request = row 0 Reject needed mme_ue_id (row 8 Reject needed enb_ue_id (row 2 Ignore needed cause end))
 
 abbrev pub release_command : Rows
-release_command = row 99 0 needed ue_s1ap_ids (row 2 1 needed cause end)
+release_command = row 99 Reject needed ue_s1ap_ids (row 2 Ignore needed cause end)
 
 abbrev pub release_complete : Rows
-release_complete = row 0 1 needed mme_ue_id (row 8 1 needed enb_ue_id end)
+release_complete = row 0 Ignore needed mme_ue_id (row 8 Ignore needed enb_ue_id end)
 
 abbrev pub paging : Rows
-paging = row 80 1 needed ue_index (row 43 1 needed ue_paging_id (row 109 1 needed cn_domain (row 46 1 needed tai_list end)))
+paging = row 80 Ignore needed ue_index (row 43 Ignore needed ue_paging_id (row 109 Ignore needed cn_domain (row 46 Ignore needed tai_list end)))
 
 abbrev pub path_switch_request : Rows
-path_switch_request = row 8 0 needed enb_ue_id (row 22 0 needed erabs_to_be_switched (row 88 0 needed mme_ue_id (row 100 1 needed eutran_cgi (row 67 1 needed tai (row 107 1 needed security_capabilities end)))))
+path_switch_request = row 8 Reject needed enb_ue_id (row 22 Reject needed erabs_to_be_switched (row 88 Reject needed mme_ue_id (row 100 Ignore needed eutran_cgi (row 67 Ignore needed tai (row 107 Ignore needed security_capabilities end)))))
 
 abbrev pub path_switch_acknowledge : Rows
-path_switch_acknowledge = row 0 1 needed mme_ue_id (row 8 1 needed enb_ue_id (row 40 0 needed security_context end))
+path_switch_acknowledge = row 0 Ignore needed mme_ue_id (row 8 Ignore needed enb_ue_id (row 40 Reject needed security_context end))
 
 abbrev pub path_switch_failure : Rows
-path_switch_failure = row 0 1 needed mme_ue_id (row 8 1 needed enb_ue_id (row 2 1 needed cause end))
+path_switch_failure = row 0 Ignore needed mme_ue_id (row 8 Ignore needed enb_ue_id (row 2 Ignore needed cause end))
 
 abbrev pub reset : Rows
-reset = row 2 1 needed cause (row 92 0 needed reset_type end)
+reset = row 2 Ignore needed cause (row 92 Reject needed reset_type end)
 
 abbrev pub reset_acknowledge : Rows
 reset_acknowledge = end
 
 abbrev pub error_indication : Rows
-error_indication = row 0 1 optional mme_ue_id (row 8 1 optional enb_ue_id (row 2 1 optional cause end))
+error_indication = row 0 Ignore optional mme_ue_id (row 8 Ignore optional enb_ue_id (row 2 Ignore optional cause end))
 
 -- ---- messages by their types
 
@@ -145,28 +147,28 @@ code_of ResetAcknowledge = 14
 code_of ErrorIndication = 15
 
 -- 0 reject, 1 ignore
-abbrev pub criticality_of : MessageType → ℕ
-criticality_of SetupRequest = 0
-criticality_of SetupResponse = 0
-criticality_of SetupFailure = 0
-criticality_of InitialUeMessage = 1
-criticality_of DownlinkNasTransport = 1
-criticality_of UplinkNasTransport = 1
-criticality_of NasNonDelivery = 1
-criticality_of CapabilityInfo = 1
-criticality_of ContextSetupRequest = 0
-criticality_of ContextSetupResponse = 0
-criticality_of ContextSetupFailure = 0
-criticality_of ReleaseRequest = 1
-criticality_of ReleaseCommand = 0
-criticality_of ReleaseComplete = 0
-criticality_of Paging = 1
-criticality_of PathSwitchRequest = 0
-criticality_of PathSwitchAcknowledge = 0
-criticality_of PathSwitchFailure = 0
-criticality_of Reset = 0
-criticality_of ResetAcknowledge = 0
-criticality_of ErrorIndication = 1
+abbrev pub criticality_of : MessageType → Criticality
+criticality_of SetupRequest = Reject
+criticality_of SetupResponse = Reject
+criticality_of SetupFailure = Reject
+criticality_of InitialUeMessage = Ignore
+criticality_of DownlinkNasTransport = Ignore
+criticality_of UplinkNasTransport = Ignore
+criticality_of NasNonDelivery = Ignore
+criticality_of CapabilityInfo = Ignore
+criticality_of ContextSetupRequest = Reject
+criticality_of ContextSetupResponse = Reject
+criticality_of ContextSetupFailure = Reject
+criticality_of ReleaseRequest = Ignore
+criticality_of ReleaseCommand = Reject
+criticality_of ReleaseComplete = Reject
+criticality_of Paging = Ignore
+criticality_of PathSwitchRequest = Reject
+criticality_of PathSwitchAcknowledge = Reject
+criticality_of PathSwitchFailure = Reject
+criticality_of Reset = Reject
+criticality_of ResetAcknowledge = Reject
+criticality_of ErrorIndication = Ignore
 
 unfoldable pub initiating : ℕ → Option MessageType
 initiating code =

@@ -7,6 +7,7 @@ use Rattle.s1ap_messages.specs.declared.fault.S1apFault.TheVariants.{Syntax, Unk
 use Rattle.per_bits.specs.Bits.{Place, start, ◌>>=◌, bit_at, open_at, end_at}
 use Rattle.per_bits.specs.Formats.{Format, Value}
 use Rattle.per_bits.specs.Reading.{number_at, closed_at, skipped_at, additions_at, read_at, whole_at, complete_at}
+use Rattle.s1ap_messages.specs.Criticalities.{criticality_named}
 use Rattle.s1ap_messages.specs.Rows.{Rows, row, end, needed, optional, unkept, Slots, Kept, no_slots}
 use Rattle.s1ap_messages.specs.declared.message_type.MessageType.{MessageType}
 use Rattle.s1ap_messages.specs.Profile.{type_of, rows_of}
@@ -86,7 +87,7 @@ unfoldable pub read_typed : MessageType → List ℕ → Result Typed S1apFault
 read_typed t os = message_at (rows_of t) os >>> λ v. Ok (typed_of t v)
 
 abbrev pub read_of : Option MessageType → Frame → Result Typed S1apFault
-read_of None fr = Err (UnknownProcedure fr.1.1.0)
+read_of None fr = Err (UnknownProcedure (criticality_named fr.1.1.0))
 read_of (Some t) fr = read_typed t fr.1.1.1.0
 
 -- the message that octets spell, or the first fault

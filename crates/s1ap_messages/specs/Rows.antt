@@ -1,6 +1,7 @@
 -- Rows of messages, and the values that they have.
 use Rattle.std.specs.Prelude.{ℕ, Bool, true, false, eqb, not, ◌&&◌, ◌||◌, Option, None}
 use Rattle.per_bits.specs.Formats.{Format, Value}
+use Rattle.s1ap_messages.specs.declared.criticality.Criticality.{Criticality}
 
 -- ---- rows
 
@@ -13,7 +14,7 @@ pub data Presence : Type 0 where
 -- the rows of a message: id, criticality, presence, and what it holds
 pub data Rows : Type 0 where
   end : Rows
-  row : ℕ → ℕ → Presence → Format → Rows → Rows
+  row : ℕ → Criticality → Presence → Format → Rows → Rows
 
 -- what was read of each row so far
 abbrev pub Slots : Rows → Type 0

@@ -4,17 +4,19 @@ use Rattle.per_bits.specs.declared.fault.PerFault.{PerFault}
 use Rattle.per_bits.specs.Bits.{◌>>=◌}
 use Rattle.per_bits.specs.Formats.{Format, Value, open_type}
 use Rattle.per_bits.specs.Writing.{write_at, write_number, write_string, write_whole}
+use Rattle.s1ap_messages.specs.declared.criticality.Criticality.{Criticality}
+use Rattle.s1ap_messages.specs.Criticalities.{criticality_number}
 use Rattle.s1ap_messages.specs.Rows.{Rows, row, end, needed, optional, unkept, Kept}
 use Rattle.s1ap_messages.specs.Profile.{rows_of, kind_of, code_of, criticality_of}
 use Rattle.s1ap_messages.specs.Typed.{Typed}
 
-abbrev pub write_element : ℕ → ℕ → (f : Format) → Value f → List Bool → Result (List Bool) PerFault
+abbrev pub write_element : ℕ → Criticality → (f : Format) → Value f → List Bool → Result (List Bool) PerFault
 write_element id c f v out = do
   a ← write_number 0 65535 id out
-  b ← write_number 0 2 c a
+  b ← write_number 0 2 (criticality_number c) a
   write_at (open_type f) v b
 
-abbrev pub write_some : ℕ → ℕ → (f : Format) → Option (Value f) → List Bool → Result (List Bool) PerFault
+abbrev pub write_some : ℕ → Criticality → (f : Format) → Option (Value f) → List Bool → Result (List Bool) PerFault
 write_some id c f None out = Ok out
 write_some id c f (Some v) out = write_element id c f v out
 
@@ -59,4 +61,4 @@ write_pdu kind code c rs v = do
 
 -- the octets of a message, or Range where it is not writable
 unfoldable pub encode_typed : Typed → Result (List ℕ) PerFault
-encode_typed m = write_pdu (kind_of m.0) (code_of m.0) (criticality_of m.0) (rows_of m.0) m.1
+encode_typed m = write_pdu (kind_of m.0) (code_of m.0) (criticality_number (criticality_of m.0)) (rows_of m.0) m.1

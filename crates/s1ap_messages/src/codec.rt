@@ -15,6 +15,7 @@ use crate::context::{
     write_context_setup_request, write_context_setup_response, write_release_command,
     write_release_complete, write_release_request,
 };
+use crate::criticality::Criticality;
 use crate::fault::{EncodeFault, S1apFault};
 use crate::frame::{frame_octets, read_frame};
 use crate::interface::{
@@ -133,7 +134,7 @@ fn read_message<'a>(
     }
 }
 
-#[tactic(auto, unfolding(crate::specs::Reading::decode_typed))]
+#[tactic(auto, using(crate::proofs::Criticalities::named_again), unfolding(crate::specs::Reading::decode_typed))]
 fn read_pdu<'a>(alloc: Global, octets: &'a [u8]) -> Result<S1apPdu<'a>, S1apFault>
     ensures { Answers (λ m. typed (lists m)) result (decode_typed octets.now) }
 {
@@ -261,8 +262,8 @@ impl MessageType {
         }
     }
 
-    /// The criticality of its procedure: 0 reject, 1 ignore (TS 36.413 clause 9.3.3).
-    pub fn criticality(self) -> u8
+    /// The criticality of its procedure, Reject or Ignore (TS 36.413 clause 9.3.3).
+    pub fn criticality(self) -> Criticality
         ensures { result ≡ criticality_of self }
     {
         match self {
@@ -273,8 +274,8 @@ impl MessageType {
             | MessageType::CapabilityInfo
             | MessageType::ReleaseRequest
             | MessageType::Paging
-            | MessageType::ErrorIndication => 1,
-            _ => 0,
+            | MessageType::ErrorIndication => Criticality::Ignore,
+            _ => Criticality::Reject,
         }
     }
 }

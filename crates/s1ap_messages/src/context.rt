@@ -66,12 +66,12 @@ pub fn write_context_setup_request(
     ensures { GivesWhole (λ v. v.items) result (write_whole (write_message context_setup_request) (typed_context_setup_request (context_setup_request_lists m.now))) }
 {
     write_rows!(alloc,
-        needed 0 0 &m.mme_id,
-        needed 8 0 &m.enb_id,
-        needed 66 0 &m.ambr,
-        needed 24 0 &m.erabs,
-        needed 107 0 &m.capabilities,
-        needed 73 0 &m.key)
+        needed 0 Reject &m.mme_id,
+        needed 8 Reject &m.enb_id,
+        needed 66 Reject &m.ambr,
+        needed 24 Reject &m.erabs,
+        needed 107 Reject &m.capabilities,
+        needed 73 Reject &m.key)
 }
 
 #[derive(Drop)]
@@ -110,9 +110,9 @@ pub fn write_context_setup_response(
     ensures { GivesWhole (λ v. v.items) result (write_whole (write_message context_setup_response) (typed_context_setup_response m.now)) }
 {
     write_rows!(alloc,
-        needed 0 1 &m.mme_id,
-        needed 8 1 &m.enb_id,
-        needed 51 1 &m.erabs)
+        needed 0 Ignore &m.mme_id,
+        needed 8 Ignore &m.enb_id,
+        needed 51 Ignore &m.erabs)
 }
 
 #[derive(Drop)]
@@ -151,9 +151,9 @@ pub fn write_context_setup_failure(
     ensures { GivesWhole (λ v. v.items) result (write_whole (write_message context_setup_failure) (typed_context_setup_failure m.now)) }
 {
     write_rows!(alloc,
-        needed 0 1 &m.mme_id,
-        needed 8 1 &m.enb_id,
-        needed 2 1 &m.cause)
+        needed 0 Ignore &m.mme_id,
+        needed 8 Ignore &m.enb_id,
+        needed 2 Ignore &m.cause)
 }
 
 #[derive(Drop)]
@@ -186,9 +186,9 @@ pub fn write_release_request(alloc: Global, m: &ReleaseRequest) -> Result<Vec<u8
     ensures { GivesWhole (λ v. v.items) result (write_whole (write_message release_request) (typed_release_request m.now)) }
 {
     write_rows!(alloc,
-        needed 0 0 &m.mme_id,
-        needed 8 0 &m.enb_id,
-        needed 2 1 &m.cause)
+        needed 0 Reject &m.mme_id,
+        needed 8 Reject &m.enb_id,
+        needed 2 Ignore &m.cause)
 }
 
 #[derive(Drop)]
@@ -220,8 +220,8 @@ pub fn write_release_command(alloc: Global, m: &ReleaseCommand) -> Result<Vec<u8
     ensures { GivesWhole (λ v. v.items) result (write_whole (write_message release_command) (typed_release_command m.now)) }
 {
     write_rows!(alloc,
-        needed 99 0 &m.ids,
-        needed 2 1 &m.cause)
+        needed 99 Reject &m.ids,
+        needed 2 Ignore &m.cause)
 }
 
 #[derive(Drop)]
@@ -253,6 +253,6 @@ pub fn write_release_complete(alloc: Global, m: &ReleaseComplete) -> Result<Vec<
     ensures { GivesWhole (λ v. v.items) result (write_whole (write_message release_complete) (typed_release_complete m.now)) }
 {
     write_rows!(alloc,
-        needed 0 1 &m.mme_id,
-        needed 8 1 &m.enb_id)
+        needed 0 Ignore &m.mme_id,
+        needed 8 Ignore &m.enb_id)
 }

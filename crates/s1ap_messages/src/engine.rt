@@ -4,11 +4,14 @@ ghost use Rattle.std.specs.Prelude.{◌≡◌, ◌≤◌, option_map};
 ghost use Rattle.per_bits.specs.Bits.{Place, Answers};
 ghost use Rattle.per_bits.specs.Reading.{number_at};
 ghost use Rattle.per_bits.specs.Writing.{Wrote};
+ghost use Rattle.s1ap_messages.specs.Criticalities.{criticality_number};
 ghost use Rattle.s1ap_messages.specs.Rows.{Rows, Slots};
+ghost use Rattle.s1ap_messages.specs.Spelling.{may_skip};
 ghost use Rattle.s1ap_messages.specs.Reading.{put_at, pass_at, fill_slot, elements_at, fill_at};
 ghost use Rattle.s1ap_messages.specs.Writing.{write_element, write_some, one_if};
 ghost use Rattle.s1ap_messages.specs.Answers.{Reads};
 
+use crate::criticality::{Criticality, take_criticality};
 use crate::fault::S1apFault;
 use per_bits::{
     BitReader, BitWriter, Element, PerError, PerFault, offset_of, put_number, read_complete,
@@ -28,7 +31,6 @@ pub trait Message<'a>: Drop {
 }
 
 /// An element of a row.
-#[tactic(auto, unfolding(per_bits::specs::Reading::number_at))]
 pub fn fill<'a, T: Element<'a>>(
     alloc: Global,
     id: u16,
@@ -40,20 +42,29 @@ pub fn fill<'a, T: Element<'a>>(
     if slot.is_some() {
         return Err(S1apFault::RepeatedElement(id));
     }
-    offset_of(2, reader)?;
+    take_criticality(reader)?;
     let octets = take_open(reader)?;
     let value = read_complete::<T>(alloc, octets)?;
     *slot = Some(value);
     Ok(())
 }
 
+// Whether an element of no row is passed over.
+fn may_skip(id: u16, criticality: Criticality) -> bool
+    ensures { result ≡ may_skip id (criticality_number criticality) }
+{
+    match criticality {
+        Criticality::Reject => id == 75 || id == 127 || id == 128,
+        Criticality::Ignore | Criticality::Notify => true,
+    }
+}
+
 /// An element of no row.
-#[tactic(auto, unfolding(per_bits::specs::Reading::number_at))]
 pub fn pass(id: u16, reader: &mut BitReader) -> Result<(), S1apFault>
     ensures { Reads result (tt, reader.new) (pass_at id reader.old) }
 {
-    let criticality = offset_of(2, reader)?;
-    if criticality != 0 || id == 75 || id == 127 || id == 128 {
+    let criticality = take_criticality(reader)?;
+    if may_skip(id, criticality) {
         take_open(reader)?;
         Ok(())
     } else {
@@ -106,14 +117,14 @@ pub fn fill_message<'a, M: Message<'a>>(
 pub fn put_element<'a, T: Element<'a>>(
     alloc: Global,
     id: u16,
-    criticality: u8,
+    criticality: Criticality,
     value: &T,
     writer: &mut BitWriter,
 ) -> Result<(), PerError>
     ensures { Wrote result writer.new (write_element id criticality T.format (T.view value.now) writer.old) }
 {
     put_number(0, 65535, id as u64, writer)?;
-    put_number(0, 2, criticality as u64, writer)?;
+    put_number(0, 2, criticality.number() as u64, writer)?;
     write_open::<T>(alloc, value, writer)
 }
 
@@ -121,7 +132,7 @@ pub fn put_element<'a, T: Element<'a>>(
 pub fn put_some<'a, T: Element<'a>>(
     alloc: Global,
     id: u16,
-    criticality: u8,
+    criticality: Criticality,
     value: &Option<T>,
     writer: &mut BitWriter,
 ) -> Result<(), PerError>

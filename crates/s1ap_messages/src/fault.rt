@@ -1,12 +1,14 @@
 //! Why octets are no message, and why a message is not written.
 
+use crate::criticality::Criticality;
+
 /// Why octets are no message: the first fault from the left, a missing element last.
 #[derive(Debug, Drop)]
 pub enum S1apFault {
     /// Octets that spell nothing at some place.
     Syntax(per_bits::PerFault),
-    /// A procedure of no row, with its criticality: 0 reject, 1 ignore, 2 notify.
-    UnknownProcedure(u8),
+    /// A procedure of no row, with its criticality.
+    UnknownProcedure(Criticality),
     /// The id of the first row whose element must stand and does not.
     MissingElement(u16),
     /// The id of an element that stands a second time.

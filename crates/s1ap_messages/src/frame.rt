@@ -3,10 +3,12 @@
 ghost use Rattle.std.specs.Prelude.{◌≡◌, ◌≤◌, IfOk};
 ghost use Rattle.per_bits.specs.Reading.{GivesWhole, whole_at, number_at, closed_at, times};
 ghost use Rattle.per_bits.specs.Writing.{Wrote, write_whole};
+ghost use Rattle.s1ap_messages.specs.Criticalities.{criticality_number};
 ghost use Rattle.s1ap_messages.specs.Reading.{frame_at};
 ghost use Rattle.s1ap_messages.specs.Writing.{write_frame};
 ghost use Rattle.s1ap_messages.specs.Answers.{AnswersWhole};
 
+use crate::criticality::{Criticality, take_criticality};
 use per_bits::{
     BitReader, BitWriter, PerError, PerFault, offset_of, put_number, put_open, take_open,
 };
@@ -17,14 +19,14 @@ use std::alloc::Global;
 pub struct Frame<'a> {
     pub kind: u8,
     pub code: u8,
-    pub criticality: u8,
+    pub criticality: Criticality,
     pub octets: &'a [u8],
 }
 
 #[tactic(auto, unfolding(crate::specs::Reading::frame_at, per_bits::specs::Reading::whole_at, per_bits::specs::Reading::number_at, per_bits::specs::Reading::times))]
 pub fn read_frame<'a>(octets: &'a [u8]) -> Result<Frame<'a>, PerFault>
     ensures kinds { IfOk result (λ f. f.kind ≤ 2) }
-    ensures exact { AnswersWhole (λ f. (f.kind, (f.code, (f.criticality, (f.octets.now, tt))))) result (whole_at frame_at octets.now) }
+    ensures exact { AnswersWhole (λ f. (f.kind, (f.code, (criticality_number f.criticality, (f.octets.now, tt))))) result (whole_at frame_at octets.now) }
 {
     let mut reader = BitReader::new(octets);
     let extended = reader.take_bit()?;
@@ -33,13 +35,13 @@ pub fn read_frame<'a>(octets: &'a [u8]) -> Result<Frame<'a>, PerFault>
     }
     let kind = offset_of(2, &mut reader)?;
     let code = offset_of(255, &mut reader)?;
-    let criticality = offset_of(2, &mut reader)?;
+    let criticality = take_criticality(&mut reader)?;
     let content = take_open(&mut reader)?;
     reader.end()?;
     Ok(Frame {
         kind: kind as u8,
         code: code as u8,
-        criticality: criticality as u8,
+        criticality,
         octets: content,
     })
 }
@@ -48,16 +50,16 @@ pub fn frame_octets(
     alloc: Global,
     kind: u8,
     code: u8,
-    criticality: u8,
+    criticality: Criticality,
     content: &[u8],
 ) -> Result<Vec<u8>, PerError>
-    ensures { GivesWhole (λ v. v.items) result (write_whole (write_frame kind code criticality) content.now) }
+    ensures { GivesWhole (λ v. v.items) result (write_whole (write_frame kind code (criticality_number criticality)) content.now) }
 {
     let mut writer = BitWriter::new(alloc);
     writer.put_bit(false)?;
     put_number(0, 2, kind as u64, &mut writer)?;
     put_number(0, 255, code as u64, &mut writer)?;
-    put_number(0, 2, criticality as u64, &mut writer)?;
+    put_number(0, 2, criticality.number() as u64, &mut writer)?;
     put_open(content, &mut writer)?;
     writer.finish()
 }

@@ -48,8 +48,8 @@ pub fn write_reset(alloc: Global, m: &Reset) -> Result<Vec<u8>, PerError>
     ensures { GivesWhole (λ v. v.items) result (write_whole (write_message reset) (typed_reset m.now)) }
 {
     write_rows!(alloc,
-        needed 2 1 &m.cause,
-        needed 92 0 &m.reset_type)
+        needed 2 Ignore &m.cause,
+        needed 92 Reject &m.reset_type)
 }
 
 #[derive(Drop)]
@@ -114,7 +114,7 @@ pub fn write_error_indication(alloc: Global, m: &ErrorIndication) -> Result<Vec<
     ensures { GivesWhole (λ v. v.items) result (write_whole (write_message error_indication) (typed_error_indication m.now)) }
 {
     write_rows!(alloc,
-        optional 0 1 &m.mme_id,
-        optional 8 1 &m.enb_id,
-        optional 2 1 &m.cause)
+        optional 0 Ignore &m.mme_id,
+        optional 8 Ignore &m.enb_id,
+        optional 2 Ignore &m.cause)
 }

@@ -35,13 +35,13 @@ macro_rules! needed {
 macro_rules! write_rows {
     (@count needed $value:expr) => { 1 };
     (@count optional $value:expr) => { count_some($value) };
-    (@put $alloc:expr, $writer:expr, needed $row:literal $criticality:literal $value:expr) => {
-        put_element($alloc, $row, $criticality, $value, $writer)?
+    (@put $alloc:expr, $writer:expr, needed $row:literal $criticality:ident $value:expr) => {
+        put_element($alloc, $row, $crate::criticality::Criticality::$criticality, $value, $writer)?
     };
-    (@put $alloc:expr, $writer:expr, optional $row:literal $criticality:literal $value:expr) => {
-        put_some($alloc, $row, $criticality, $value, $writer)?
+    (@put $alloc:expr, $writer:expr, optional $row:literal $criticality:ident $value:expr) => {
+        put_some($alloc, $row, $crate::criticality::Criticality::$criticality, $value, $writer)?
     };
-    ($alloc:expr, $($presence:ident $row:literal $criticality:literal $value:expr),*) => {{
+    ($alloc:expr, $($presence:ident $row:literal $criticality:ident $value:expr),*) => {{
         let mut writer = BitWriter::new($alloc);
         writer.put_bit(false)?;
         let mut count = 0;
@@ -55,6 +55,7 @@ macro_rules! write_rows {
 mod codec;
 mod context;
 mod convert;
+mod criticality;
 mod engine;
 mod fault;
 mod frame;
@@ -67,6 +68,7 @@ mod setup;
 mod transport;
 
 pub use codec::{decode, encode};
+pub use criticality::Criticality;
 pub use fault::{EncodeFault, S1apFault};
 pub use laws::{decoded_exactly, one_message, what_is_encoded};
 pub use message_type::MessageType;

@@ -56,10 +56,10 @@ pub fn write_paging(alloc: Global, m: &Paging<&[u8]>) -> Result<Vec<u8>, PerErro
     ensures { GivesWhole (λ v. v.items) result (write_whole (write_message paging) (typed_paging (paging_lists m.now))) }
 {
     write_rows!(alloc,
-        needed 80 1 &m.ue_index,
-        needed 43 1 &m.paging_id,
-        needed 109 1 &m.domain,
-        needed 46 1 &m.tai_list)
+        needed 80 Ignore &m.ue_index,
+        needed 43 Ignore &m.paging_id,
+        needed 109 Ignore &m.domain,
+        needed 46 Ignore &m.tai_list)
 }
 
 #[derive(Drop)]
@@ -98,12 +98,12 @@ pub fn write_path_switch_request(alloc: Global, m: &PathSwitchRequest) -> Result
     ensures { GivesWhole (λ v. v.items) result (write_whole (write_message path_switch_request) (typed_path_switch_request m.now)) }
 {
     write_rows!(alloc,
-        needed 8 0 &m.enb_id,
-        needed 22 0 &m.erabs,
-        needed 88 0 &m.source_mme_id,
-        needed 100 1 &m.cell,
-        needed 67 1 &m.tai,
-        needed 107 1 &m.capabilities)
+        needed 8 Reject &m.enb_id,
+        needed 22 Reject &m.erabs,
+        needed 88 Reject &m.source_mme_id,
+        needed 100 Ignore &m.cell,
+        needed 67 Ignore &m.tai,
+        needed 107 Ignore &m.capabilities)
 }
 
 #[derive(Drop)]
@@ -142,9 +142,9 @@ pub fn write_path_switch_acknowledge(
     ensures { GivesWhole (λ v. v.items) result (write_whole (write_message path_switch_acknowledge) (typed_path_switch_acknowledge m.now)) }
 {
     write_rows!(alloc,
-        needed 0 1 &m.mme_id,
-        needed 8 1 &m.enb_id,
-        needed 40 0 &m.context)
+        needed 0 Ignore &m.mme_id,
+        needed 8 Ignore &m.enb_id,
+        needed 40 Reject &m.context)
 }
 
 #[derive(Drop)]
@@ -180,7 +180,7 @@ pub fn write_path_switch_failure(alloc: Global, m: &PathSwitchFailure) -> Result
     ensures { GivesWhole (λ v. v.items) result (write_whole (write_message path_switch_failure) (typed_path_switch_failure m.now)) }
 {
     write_rows!(alloc,
-        needed 0 1 &m.mme_id,
-        needed 8 1 &m.enb_id,
-        needed 2 1 &m.cause)
+        needed 0 Ignore &m.mme_id,
+        needed 8 Ignore &m.enb_id,
+        needed 2 Ignore &m.cause)
 }

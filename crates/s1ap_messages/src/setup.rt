@@ -53,10 +53,10 @@ pub fn write_setup_request(alloc: Global, m: &SetupRequest<&[u8]>) -> Result<Vec
     ensures { GivesWhole (λ v. v.items) result (write_whole (write_message setup_request) (typed_setup_request (setup_request_lists m.now))) }
 {
     write_rows!(alloc,
-        needed 59 0 &m.station,
-        optional 60 1 &name_of_octets(m.name),
-        needed 64 0 &m.supported_tas,
-        needed 137 1 &m.paging_drx)
+        needed 59 Reject &m.station,
+        optional 60 Ignore &name_of_octets(m.name),
+        needed 64 Reject &m.supported_tas,
+        needed 137 Ignore &m.paging_drx)
 }
 
 #[derive(Drop)]
@@ -89,8 +89,8 @@ pub fn write_setup_response(alloc: Global, m: &SetupResponse) -> Result<Vec<u8>,
     ensures { GivesWhole (λ v. v.items) result (write_whole (write_message setup_response) (typed_setup_response m.now)) }
 {
     write_rows!(alloc,
-        needed 105 0 &m.served_gummeis,
-        needed 87 1 &m.capacity)
+        needed 105 Reject &m.served_gummeis,
+        needed 87 Ignore &m.capacity)
 }
 
 #[derive(Drop)]
@@ -121,5 +121,5 @@ pub fn write_setup_failure(alloc: Global, m: &SetupFailure) -> Result<Vec<u8>, P
     ensures { GivesWhole (λ v. v.items) result (write_whole (write_message setup_failure) (typed_setup_failure m.now)) }
 {
     write_rows!(alloc,
-        needed 2 1 &m.cause)
+        needed 2 Ignore &m.cause)
 }

@@ -241,13 +241,13 @@ fn procedures(rt: HostRuntime) {
     assert!(rt;
         matches!(
             decode(rt.alloc(), &[0x00, 0x05, 0x40, 0x01, 0x00]),
-            Err(S1apFault::UnknownProcedure(1))
+            Err(S1apFault::UnknownProcedure(Criticality::Ignore))
         )
     );
     assert!(rt;
         matches!(
             decode(rt.alloc(), &[0x20, 0x0c, 0x80, 0x00]),
-            Err(S1apFault::UnknownProcedure(2))
+            Err(S1apFault::UnknownProcedure(Criticality::Notify))
         )
     );
     assert!(rt;

@@ -61,12 +61,12 @@ pub fn write_initial_ue_message(
     ensures { GivesWhole (λ v. v.items) result (write_whole (write_message initial_ue_message) (typed_initial_ue_message (initial_ue_message_lists m.now))) }
 {
     write_rows!(alloc,
-        needed 8 0 &m.enb_id,
-        needed 26 0 &OctetString { octets: m.nas },
-        needed 67 0 &m.tai,
-        needed 100 1 &m.cell,
-        needed 134 1 &m.rrc_cause,
-        optional 96 0 &m.s_tmsi)
+        needed 8 Reject &m.enb_id,
+        needed 26 Reject &OctetString { octets: m.nas },
+        needed 67 Reject &m.tai,
+        needed 100 Ignore &m.cell,
+        needed 134 Ignore &m.rrc_cause,
+        optional 96 Reject &m.s_tmsi)
 }
 
 #[derive(Drop)]
@@ -105,9 +105,9 @@ pub fn write_downlink_nas_transport(
     ensures { GivesWhole (λ v. v.items) result (write_whole (write_message downlink_nas_transport) (typed_downlink_nas_transport (downlink_nas_transport_lists m.now))) }
 {
     write_rows!(alloc,
-        needed 0 0 &m.mme_id,
-        needed 8 0 &m.enb_id,
-        needed 26 0 &OctetString { octets: m.nas })
+        needed 0 Reject &m.mme_id,
+        needed 8 Reject &m.enb_id,
+        needed 26 Reject &OctetString { octets: m.nas })
 }
 
 #[derive(Drop)]
@@ -148,11 +148,11 @@ pub fn write_uplink_nas_transport(
     ensures { GivesWhole (λ v. v.items) result (write_whole (write_message uplink_nas_transport) (typed_uplink_nas_transport (uplink_nas_transport_lists m.now))) }
 {
     write_rows!(alloc,
-        needed 0 0 &m.mme_id,
-        needed 8 0 &m.enb_id,
-        needed 26 0 &OctetString { octets: m.nas },
-        needed 100 1 &m.cell,
-        needed 67 1 &m.tai)
+        needed 0 Reject &m.mme_id,
+        needed 8 Reject &m.enb_id,
+        needed 26 Reject &OctetString { octets: m.nas },
+        needed 100 Ignore &m.cell,
+        needed 67 Ignore &m.tai)
 }
 
 #[derive(Drop)]
@@ -186,10 +186,10 @@ pub fn write_nas_non_delivery(alloc: Global, m: &NasNonDelivery<&[u8]>) -> Resul
     ensures { GivesWhole (λ v. v.items) result (write_whole (write_message nas_non_delivery) (typed_nas_non_delivery (nas_non_delivery_lists m.now))) }
 {
     write_rows!(alloc,
-        needed 0 0 &m.mme_id,
-        needed 8 0 &m.enb_id,
-        needed 26 1 &OctetString { octets: m.nas },
-        needed 2 1 &m.cause)
+        needed 0 Reject &m.mme_id,
+        needed 8 Reject &m.enb_id,
+        needed 26 Ignore &OctetString { octets: m.nas },
+        needed 2 Ignore &m.cause)
 }
 
 #[derive(Drop)]
@@ -222,7 +222,7 @@ pub fn write_capability_info(alloc: Global, m: &CapabilityInfo<&[u8]>) -> Result
     ensures { GivesWhole (λ v. v.items) result (write_whole (write_message capability_info) (typed_capability_info (capability_info_lists m.now))) }
 {
     write_rows!(alloc,
-        needed 0 0 &m.mme_id,
-        needed 8 0 &m.enb_id,
-        needed 74 1 &OctetString { octets: m.radio_capability })
+        needed 0 Reject &m.mme_id,
+        needed 8 Reject &m.enb_id,
+        needed 74 Ignore &OctetString { octets: m.radio_capability })
 }
