@@ -1,18 +1,25 @@
 -- The lines of a trace and of its answers, as functions on lists of octets.
-use Rattle.std.specs.Prelude.{ℕ, ◌+◌, ◌*◌, ◌-◌, ◌==◌, Bool, true, nat_lt, nat_le, List, [], ◌∷◌, ◌++◌, length, codes, Option, Some, None, Result, Ok, Err, if◌then◌else◌}
+use Rattle.std.specs.Prelude.{ℕ, ◌+◌, ◌*◌, ◌-◌, ◌/◌, ◌%◌, ◌==◌, ◌&&◌, Bool, true, nat_lt, nat_le, List, [], ◌∷◌, ◌++◌, length, slice_index, codes, Option, Some, None, Result, Ok, Err, ok_or, if◌then◌else◌}
 use Rattle.std.specs.List.{slice_split}
 use Rattle.std.specs.Str.{bytes_eq}
 use Rattle.std.specs.Char.{is_ascii_digit}
 use Rattle.std.specs.Fmt.{decimal}
 use Rattle.hex.specs.Hex.{decode_of, encode_lower}
 use Rattle.hex.specs.declared.error.FromHexError.{FromHexError}
+use Rattle.nas_elements.specs.Digits.{imsi_of_text, imsi_text}
 use Rattle.trace_text.specs.Fields.{is_apn_label}
 use Rattle.trace_text.specs.declared.line.Line.{Line}
-use Rattle.trace_text.specs.declared.line.Line.TheVariants.{Skip, Mme, Up, Lost, In}
+use Rattle.trace_text.specs.declared.line.Line.TheVariants.{Skip, Mme, Sub, Vec, Up, Lost, In, Tick, Data, Cancel, Show}
 use Rattle.trace_text.specs.declared.answer.Answer.{Answer}
-use Rattle.trace_text.specs.declared.answer.Answer.TheVariants.{Sent, Refused}
+use Rattle.trace_text.specs.declared.answer.Answer.TheVariants.{Sent, Refused, State}
 use Rattle.trace_text.specs.declared.answer.AnswerOwner.{AnswerOwner}
 use Rattle.trace_text.specs.declared.answer.AnswerOwner.TheVariants.{Station, Stranger, Subscriber}
+use Rattle.trace_text.specs.declared.answer.EmmState.{EmmState}
+use Rattle.trace_text.specs.declared.answer.EmmState.TheVariants.{Deregistered, CommonProcedureInitiated, Registered, DeregisteredInitiated}
+use Rattle.trace_text.specs.declared.answer.EcmState.{EcmState}
+use Rattle.trace_text.specs.declared.answer.EcmState.TheVariants.{Idle, Connected}
+use Rattle.trace_text.specs.declared.answer.EsmState.{EsmState}
+use Rattle.trace_text.specs.declared.answer.EsmState.TheVariants.{Inactive, ActivePending, Active}
 use Rattle.trace_text.specs.declared.fault.TraceFault.{TraceFault}
 use Rattle.trace_text.specs.declared.fault.TraceFault.TheVariants.{UnknownWord, FieldCount, BadNumber, BadHex, TooLong, Order, Provision, NoMemory}
 
@@ -101,6 +108,17 @@ sized_of n text = if length text == 2 * n then hex_of (decode_of text) else Err 
 abbrev pub label_of : List ℕ → Result (List ℕ) TraceFault
 label_of text = if is_apn_label text then Ok text else Err BadNumber
 
+-- 4 to 16 octets in hex
+abbrev pub xres_sized : List ℕ → Result (List ℕ) TraceFault
+xres_sized octets = if nat_le 4 (length octets) && nat_le (length octets) 16 then Ok octets else Err BadHex
+
+abbrev pub xres_of : List ℕ → Result (List ℕ) TraceFault
+xres_of text = hex_of (decode_of text) >>= xres_sized
+
+-- a subscriber's IMSI, in its fourteen or fifteen digits
+abbrev pub subscriber_of : List ℕ → Result (List ℕ) TraceFault
+subscriber_of text = ok_or (imsi_of_text text) BadNumber
+
 -- ---- lines
 
 abbrev pub station_of : List ℕ → Result ℕ TraceFault
@@ -108,6 +126,9 @@ station_of text = number_in 0 127 text
 
 abbrev pub rate_of : List ℕ → Result ℕ TraceFault
 rate_of text = number_in 1 10000000000 text
+
+abbrev pub ticks_of : List ℕ → Result ℕ TraceFault
+ticks_of text = number_in 1 1000000 text
 
 abbrev pub mme_of : List ℕ → List ℕ → List ℕ → List ℕ → List ℕ → List ℕ → List ℕ → Result Line TraceFault
 mme_of country network group code apn down up =
@@ -118,6 +139,24 @@ mme_of country network group code apn down up =
 abbrev pub read_mme : List (List ℕ) → Result Line TraceFault
 read_mme (country ∷ network ∷ group ∷ code ∷ apn ∷ down ∷ up ∷ []) = mme_of country network group code apn down up
 read_mme _ = Err FieldCount
+
+abbrev pub sub_of : List ℕ → List ℕ → List ℕ → List ℕ → Result Line TraceFault
+sub_of imsi address gateway teid =
+    subscriber_of imsi >>= (λ i. sized_of 4 address >>= (λ a. sized_of 4 gateway >>= (λ g. sized_of 4 teid >>= (λ t.
+    Ok (Sub (record { imsi = i; address = a; gateway = g; teid = t }))))))
+
+abbrev pub read_sub : List (List ℕ) → Result Line TraceFault
+read_sub (imsi ∷ address ∷ gateway ∷ teid ∷ []) = sub_of imsi address gateway teid
+read_sub _ = Err FieldCount
+
+abbrev pub vec_of : List ℕ → List ℕ → List ℕ → List ℕ → List ℕ → Result Line TraceFault
+vec_of imsi rand autn xres kasme =
+    subscriber_of imsi >>= (λ i. sized_of 16 rand >>= (λ r. sized_of 16 autn >>= (λ a. xres_of xres >>= (λ x. sized_of 32 kasme >>= (λ k.
+    Ok (Vec i (record { rand = r; autn = a; xres = x; kasme = k })))))))
+
+abbrev pub read_vec : List (List ℕ) → Result Line TraceFault
+read_vec (imsi ∷ rand ∷ autn ∷ xres ∷ kasme ∷ []) = vec_of imsi rand autn xres kasme
+read_vec _ = Err FieldCount
 
 abbrev pub read_up : List (List ℕ) → Result Line TraceFault
 read_up (station ∷ []) = station_of station >>= (λ e. Ok (Up e))
@@ -131,14 +170,42 @@ abbrev pub read_in : List (List ℕ) → Result Line TraceFault
 read_in (station ∷ octets ∷ []) = station_of station >>= (λ e. octets_of octets >>= (λ o. Ok (In e o)))
 read_in _ = Err FieldCount
 
+abbrev pub read_tick : List (List ℕ) → Result Line TraceFault
+read_tick (ticks ∷ []) = ticks_of ticks >>= (λ n. Ok (Tick n))
+read_tick _ = Err FieldCount
+
+abbrev pub read_data : List (List ℕ) → Result Line TraceFault
+read_data (imsi ∷ []) = subscriber_of imsi >>= (λ i. Ok (Data i))
+read_data _ = Err FieldCount
+
+abbrev pub read_cancel : List (List ℕ) → Result Line TraceFault
+read_cancel (imsi ∷ []) = subscriber_of imsi >>= (λ i. Ok (Cancel i))
+read_cancel _ = Err FieldCount
+
+abbrev pub read_show : List (List ℕ) → Result Line TraceFault
+read_show (imsi ∷ []) = subscriber_of imsi >>= (λ i. Ok (Show i))
+read_show _ = Err FieldCount
+
+-- a line of what happens, or a question
+abbrev pub read_event : List ℕ → List (List ℕ) → Result Line TraceFault
+read_event word fields =
+    if bytes_eq word (codes "up") then read_up fields
+    else if bytes_eq word (codes "lost") then read_lost fields
+    else if bytes_eq word (codes "in") then read_in fields
+    else if bytes_eq word (codes "tick") then read_tick fields
+    else if bytes_eq word (codes "data") then read_data fields
+    else if bytes_eq word (codes "cancel") then read_cancel fields
+    else if bytes_eq word (codes "show") then read_show fields
+    else Err UnknownWord
+
+-- a line of what is provisioned, or another
 abbrev pub read_words : List (List ℕ) → Result Line TraceFault
 read_words [] = Err UnknownWord
 read_words (word ∷ fields) =
     if bytes_eq word (codes "mme") then read_mme fields
-    else if bytes_eq word (codes "up") then read_up fields
-    else if bytes_eq word (codes "lost") then read_lost fields
-    else if bytes_eq word (codes "in") then read_in fields
-    else Err UnknownWord
+    else if bytes_eq word (codes "sub") then read_sub fields
+    else if bytes_eq word (codes "vec") then read_vec fields
+    else read_event word fields
 
 -- nothing, or a comment
 abbrev pub is_skipped : List ℕ → Bool
@@ -152,12 +219,44 @@ line_of text =
     else if is_skipped text then Ok Skip
     else read_words (slice_split (λ c. c == 32) text)
 
--- ---- answers
+-- ---- how a line is written
 
--- octets in an answer: lower case, `-` for none
+-- octets: lower case, `-` for none
 abbrev pub shown : List ℕ → List ℕ
 shown [] = codes "-"
 shown (b ∷ bs) = encode_lower (b ∷ bs)
+
+-- a text, a space and a field
+infixl 10 ◌␣◌
+abbrev pub ◌␣◌ : List ℕ → List ℕ → List ℕ
+text ␣ field = text ++ 32 ∷ field
+
+-- the digits of a country, of the octets that name a network in it
+abbrev pub country_text : List ℕ → List ℕ
+country_text p = decimal (slice_index p 0 % 16) ++ decimal (slice_index p 0 / 16) ++ decimal (slice_index p 1 % 16)
+
+-- the digits of the network: two where the filler stands before them
+abbrev pub network_text : List ℕ → List ℕ
+network_text p =
+    if slice_index p 1 / 16 == 15 then decimal (slice_index p 2 % 16) ++ decimal (slice_index p 2 / 16)
+    else decimal (slice_index p 1 / 16) ++ decimal (slice_index p 2 % 16) ++ decimal (slice_index p 2 / 16)
+
+-- a line without its LF: numbers without leading zeros, octets in lower case
+unfoldable pub line_text : Line → List ℕ
+line_text Skip = []
+line_text (Mme m) =
+    codes "mme" ␣ country_text m.plmn ␣ network_text m.plmn ␣ encode_lower m.group ␣ encode_lower m.code ␣ m.apn ␣ decimal m.down ␣ decimal m.up
+line_text (Sub p) = codes "sub" ␣ imsi_text p.imsi ␣ encode_lower p.address ␣ encode_lower p.gateway ␣ encode_lower p.teid
+line_text (Vec i v) = codes "vec" ␣ imsi_text i ␣ encode_lower v.rand ␣ encode_lower v.autn ␣ encode_lower v.xres ␣ encode_lower v.kasme
+line_text (Up e) = codes "up" ␣ decimal e
+line_text (Lost e) = codes "lost" ␣ decimal e
+line_text (In e octets) = codes "in" ␣ decimal e ␣ shown octets
+line_text (Tick n) = codes "tick" ␣ decimal n
+line_text (Data i) = codes "data" ␣ imsi_text i
+line_text (Cancel i) = codes "cancel" ␣ imsi_text i
+line_text (Show i) = codes "show" ␣ imsi_text i
+
+-- ---- answers
 
 -- whom a message is for
 abbrev pub owner_text : AnswerOwner → List ℕ
@@ -171,7 +270,29 @@ sent_text owner e octets = owner_text owner ++ (decimal e ++ codes " ") ++ shown
 unfoldable pub refused_text : ℕ → List ℕ
 refused_text k = codes "refused " ++ decimal k ++ codes "\n"
 
+-- the states of a subscriber (TS 24.301 clause 5.1.3)
+abbrev pub emm_word : EmmState → List ℕ
+emm_word Deregistered = codes "DEREGISTERED"
+emm_word CommonProcedureInitiated = codes "COMMON-PROCEDURE-INITIATED"
+emm_word Registered = codes "REGISTERED"
+emm_word DeregisteredInitiated = codes "DEREGISTERED-INITIATED"
+
+-- whether it has a connection (TS 23.401 clause 4.6.3)
+abbrev pub ecm_word : EcmState → List ℕ
+ecm_word Idle = codes "IDLE"
+ecm_word Connected = codes "CONNECTED"
+
+-- the states of its default bearer (TS 24.301 clause 6.1.3)
+abbrev pub esm_word : EsmState → List ℕ
+esm_word Inactive = codes "INACTIVE"
+esm_word ActivePending = codes "ACTIVE-PENDING"
+esm_word Active = codes "ACTIVE"
+
+unfoldable pub state_text : List ℕ → EmmState → EcmState → EsmState → List ℕ
+state_text imsi emm ecm esm = (codes "state" ␣ imsi_text imsi ␣ emm_word emm ␣ ecm_word ecm ␣ esm_word esm) ++ codes "\n"
+
 -- the line of an answer, with its LF
 abbrev pub answer_text : Answer → List ℕ
 answer_text (Sent owner e octets) = sent_text owner e octets.now
 answer_text (Refused k) = refused_text k
+answer_text (State imsi emm ecm esm) = state_text imsi emm ecm esm

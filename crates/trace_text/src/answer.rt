@@ -2,8 +2,10 @@
 
 ghost use Rattle.std.specs.Prelude.{◌≡◌, ◌++◌, IfOk, codes, string_bytes};
 ghost use Rattle.std.specs.Fmt.{decimal};
-ghost use Rattle.trace_text.specs.Trace.{answer_text, sent_text, owner_text, shown};
+ghost use Rattle.trace_text.specs.Trace.{answer_text, sent_text, state_text, owner_text, shown, emm_word, ecm_word, esm_word};
 
+use crate::written::push_field;
+use nas_elements::Imsi;
 use std::alloc::{AllocError, Global};
 
 /// For whom a message is sent.
@@ -17,6 +19,75 @@ pub enum AnswerOwner {
     Subscriber(u32),
 }
 
+/// How a subscriber is registered (TS 24.301 clause 5.1.3).
+#[derive(Clone, Copy, Debug, PartialEq, Eq)]
+pub enum EmmState {
+    /// It isn't.
+    Deregistered,
+    /// It waits for the answer to a common procedure.
+    CommonProcedureInitiated,
+    /// It is.
+    Registered,
+    /// It is told that it no longer is.
+    DeregisteredInitiated,
+}
+
+/// Whether a subscriber has a connection (TS 23.401 clause 4.6.3).
+#[derive(Clone, Copy, Debug, PartialEq, Eq)]
+pub enum EcmState {
+    /// It has none.
+    Idle,
+    /// It has one.
+    Connected,
+}
+
+/// How far a subscriber's default bearer is (TS 24.301 clause 6.1.3).
+#[derive(Clone, Copy, Debug, PartialEq, Eq)]
+pub enum EsmState {
+    /// There is none.
+    Inactive,
+    /// It is offered.
+    ActivePending,
+    /// It is there.
+    Active,
+}
+
+impl EmmState {
+    fn word(self) -> &'static str
+        ensures { result.now ≡ emm_word self }
+    {
+        match self {
+            EmmState::Deregistered => "DEREGISTERED",
+            EmmState::CommonProcedureInitiated => "COMMON-PROCEDURE-INITIATED",
+            EmmState::Registered => "REGISTERED",
+            EmmState::DeregisteredInitiated => "DEREGISTERED-INITIATED",
+        }
+    }
+}
+
+impl EcmState {
+    fn word(self) -> &'static str
+        ensures { result.now ≡ ecm_word self }
+    {
+        match self {
+            EcmState::Idle => "IDLE",
+            EcmState::Connected => "CONNECTED",
+        }
+    }
+}
+
+impl EsmState {
+    fn word(self) -> &'static str
+        ensures { result.now ≡ esm_word self }
+    {
+        match self {
+            EsmState::Inactive => "INACTIVE",
+            EsmState::ActivePending => "ACTIVE-PENDING",
+            EsmState::Active => "ACTIVE",
+        }
+    }
+}
+
 /// What a line of the answers says.
 #[derive(Clone, Copy)]
 pub enum Answer<'a> {
@@ -24,16 +95,19 @@ pub enum Answer<'a> {
     Sent(AnswerOwner, u8, &'a [u8]),
     /// `refused K`: the event was refused with the fault of that number.
     Refused(u8),
+    /// `state IMSI EMM ECM ESM`: the states of the subscriber of that IMSI.
+    State(Imsi, EmmState, EcmState, EsmState),
 }
 
 /// The line of an answer, with its LF.
 #[tactic(auto, unfolding(crate::specs::Trace::sent_text, crate::specs::Trace::refused_text))]
-pub fn write_answer(alloc: Global, answer: Answer<'_>) -> Result<String, AllocError>
-    ensures { IfOk result (λ text. string_bytes text ≡ answer_text answer.entry) }
+pub fn write_answer(alloc: Global, answer: &Answer<'_>) -> Result<String, AllocError>
+    ensures { IfOk result (λ text. string_bytes text ≡ answer_text answer.now) }
 {
     match answer {
-        Answer::Sent(owner, station, octets) => write_sent(alloc, owner, station, octets),
+        Answer::Sent(owner, station, octets) => write_sent(alloc, *owner, *station, octets),
         Answer::Refused(fault) => format!(in alloc; "refused {fault}\n"),
+        Answer::State(imsi, emm, ecm, esm) => write_state(alloc, imsi, *emm, *ecm, *esm),
     }
 }
 
@@ -74,7 +148,26 @@ fn write_stranger(alloc: Global, station: u8, phone: u32) -> Result<String, Allo
     Ok(text)
 }
 
-fn write_octets(alloc: Global, octets: &[u8]) -> Result<String, AllocError>
+#[tactic(auto, unfolding(crate::specs::Trace::state_text))]
+fn write_state(
+    alloc: Global,
+    imsi: &Imsi,
+    emm: EmmState,
+    ecm: EcmState,
+    esm: EsmState,
+) -> Result<String, AllocError>
+    ensures { IfOk result (λ text. string_bytes text ≡ state_text imsi.now emm ecm esm) }
+{
+    let mut text = String::from_str(alloc, "state")?;
+    push_field(&mut text, imsi.digits().as_str())?;
+    push_field(&mut text, emm.word())?;
+    push_field(&mut text, ecm.word())?;
+    push_field(&mut text, esm.word())?;
+    text.push_str("\n")?;
+    Ok(text)
+}
+
+pub(crate) fn write_octets(alloc: Global, octets: &[u8]) -> Result<String, AllocError>
     ensures { IfOk result (λ text. string_bytes text ≡ shown octets.now) }
 {
     if octets.is_empty() {

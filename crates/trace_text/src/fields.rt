@@ -1,11 +1,13 @@
 //! The fields of a line, each from its text.
 
 ghost use Rattle.std.specs.Prelude.{◌≡◌, ◌⊎◌, ◌<◌, ◌≤◌, ◌^◌, ◌*◌, length, IfOk, Ok, Err};
-ghost use Rattle.trace_text.specs.Trace.{capped, decimal_of, number_in, station_of, rate_of, digit_of, country_of, network_of, plmn_of, octets_of, sized_of, label_of};
+ghost use Rattle.trace_text.specs.Trace.{capped, decimal_of, number_in, station_of, rate_of, digit_of, country_of, network_of, plmn_of, octets_of, sized_of, label_of, ticks_of, xres_of, subscriber_of};
 
 use crate::fault::TraceFault;
-use crate::values::{ApnLabel, BitRate, TraceOctets, TraceStation};
+use crate::values::{ApnLabel, BitRate, TraceOctets, TraceStation, TraceTicks};
 use hex::FromHexError;
+use identity_slots::Xres;
+use nas_elements::Imsi;
 use std::alloc::Global;
 
 /// A number in decimal digits that is at most `most`.
@@ -55,6 +57,15 @@ pub(crate) fn bit_rate(text: &[u8]) -> Result<BitRate, TraceFault>
 {
     match BitRate::try_new(number(text, 1, 10_000_000_000)?) {
         Some(rate) => Ok(rate),
+        None => unreachable!(),
+    }
+}
+
+pub(crate) fn ticks(text: &[u8]) -> Result<TraceTicks, TraceFault>
+    ensures { result ≡ ticks_of text.now }
+{
+    match TraceTicks::try_new(number(text, 1, 1_000_000)? as u32) {
+        Some(ticks) => Ok(ticks),
         None => unreachable!(),
     }
 }
@@ -141,5 +152,24 @@ pub(crate) fn label(alloc: Global, text: &[u8]) -> Result<ApnLabel, TraceFault>
         Ok(Some(label)) => Ok(label),
         Ok(None) => Err(TraceFault::BadNumber),
         Err(_) => Err(TraceFault::NoMemory),
+    }
+}
+
+pub(crate) fn imsi(text: &[u8]) -> Result<Imsi, TraceFault>
+    ensures { result ≡ subscriber_of text.now }
+{
+    match str::from_utf8(text) {
+        Ok(digits) => Imsi::try_from_digits(digits).ok_or(TraceFault::BadNumber),
+        Err(_) => Err(TraceFault::BadNumber),
+    }
+}
+
+pub(crate) fn xres(alloc: Global, text: &[u8]) -> Result<Xres, TraceFault>
+    ensures { (result ≡ Err TraceFault.NoMemory) ⊎ (result ≡ xres_of text.now) }
+{
+    match hex::decode(alloc, text) {
+        Ok(octets) => Xres::try_new(octets.as_slice()).ok_or(TraceFault::BadHex),
+        Err(FromHexError::OutOfMemory) => Err(TraceFault::NoMemory),
+        Err(_) => Err(TraceFault::BadHex),
     }
 }

@@ -6,11 +6,13 @@ mod fault;
 mod fields;
 mod line;
 mod values;
+mod written;
 
-pub use answer::{Answer, AnswerOwner, write_answer};
+pub use answer::{Answer, AnswerOwner, EcmState, EmmState, EsmState, write_answer};
 pub use fault::TraceFault;
 pub use line::{LONGEST_LINE, Line, MmeLine, parse_line};
-pub use values::{ApnLabel, BitRate, TraceOctets, TraceStation};
+pub use values::{ApnLabel, BitRate, TraceOctets, TraceStation, TraceTicks};
+pub use written::write_line;
 
 #[cfg(test)]
 mod tests;

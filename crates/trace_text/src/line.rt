@@ -2,11 +2,13 @@
 
 ghost use Rattle.std.specs.Prelude.{◌≡◌, ◌⊎◌, ◌==◌, map, IfOk, Ok, Err};
 ghost use Rattle.std.specs.List.{slice_split};
-ghost use Rattle.trace_text.specs.Trace.{line_of, mme_of, read_mme, read_up, read_lost, read_in, read_words};
+ghost use Rattle.trace_text.specs.Trace.{line_of, mme_of, sub_of, vec_of, read_mme, read_sub, read_vec, read_up, read_lost, read_in, read_tick, read_data, read_cancel, read_show, read_event, read_words};
 
 use crate::fault::TraceFault;
-use crate::fields::{bit_rate, label, octets, plmn, sized_octets, station};
-use crate::values::{ApnLabel, BitRate, TraceOctets, TraceStation};
+use crate::fields::{bit_rate, imsi, label, octets, plmn, sized_octets, station, ticks, xres};
+use crate::values::{ApnLabel, BitRate, TraceOctets, TraceStation, TraceTicks};
+use identity_slots::{Profile, Vector};
+use nas_elements::Imsi;
 use std::alloc::{AllocError, Global};
 
 /// What a line of a trace says.
@@ -16,12 +18,24 @@ pub enum Line {
     Skip,
     /// `mme ..`: what the MME is.
     Mme(MmeLine),
+    /// `sub IMSI ADDRESS SGW TEID`: a subscriber is provisioned.
+    Sub(Profile),
+    /// `vec IMSI RAND AUTN XRES KASME`: a subscriber is given an authentication vector.
+    Vec(Imsi, Vector),
     /// `up E`: a station connects.
     Up(TraceStation),
     /// `lost E`: a station's connection is lost.
     Lost(TraceStation),
     /// `in E OCTETS`: a station sends one whole message.
     In(TraceStation, TraceOctets),
+    /// `tick N`: so many seconds pass.
+    Tick(TraceTicks),
+    /// `data IMSI`: downlink data waits for a subscriber.
+    Data(Imsi),
+    /// `cancel IMSI`: a subscription is withdrawn.
+    Cancel(Imsi),
+    /// `show IMSI`: the states of a subscriber are asked for.
+    Show(Imsi),
 }
 
 /// The fields of `mme MCC MNC GROUP CODE APN AMBRDOWN AMBRUP`.
@@ -77,14 +91,38 @@ fn parse_words(alloc: Global, words: &[&[u8]]) -> Result<Line, TraceFault>
     if *word == b"mme".as_slice() {
         return parse_mme(alloc, fields);
     }
-    if *word == b"up".as_slice() {
+    if *word == b"sub".as_slice() {
+        return parse_sub(fields);
+    }
+    if *word == b"vec".as_slice() {
+        return parse_vec(alloc, fields);
+    }
+    parse_event(alloc, word, fields)
+}
+
+fn parse_event(alloc: Global, word: &[u8], fields: &[&[u8]]) -> Result<Line, TraceFault>
+    ensures { (result ≡ Err TraceFault.NoMemory) ⊎ (result ≡ read_event word.now (map (λ f. f.now) fields.now)) }
+{
+    if word == b"up".as_slice() {
         return parse_up(fields);
     }
-    if *word == b"lost".as_slice() {
+    if word == b"lost".as_slice() {
         return parse_lost(fields);
     }
-    if *word == b"in".as_slice() {
+    if word == b"in".as_slice() {
         return parse_in(alloc, fields);
+    }
+    if word == b"tick".as_slice() {
+        return parse_tick(fields);
+    }
+    if word == b"data".as_slice() {
+        return parse_data(fields);
+    }
+    if word == b"cancel".as_slice() {
+        return parse_cancel(fields);
+    }
+    if word == b"show".as_slice() {
+        return parse_show(fields);
     }
     Err(TraceFault::UnknownWord)
 }
@@ -123,6 +161,63 @@ fn mme_line(
     }))
 }
 
+fn parse_sub(fields: &[&[u8]]) -> Result<Line, TraceFault>
+    ensures { result ≡ read_sub (map (λ f. f.now) fields.now) }
+{
+    match fields {
+        [subscriber, address, gateway, teid] => sub_line(subscriber, address, gateway, teid),
+        _ => Err(TraceFault::FieldCount),
+    }
+}
+
+fn sub_line(
+    subscriber: &[u8],
+    address: &[u8],
+    gateway: &[u8],
+    teid: &[u8],
+) -> Result<Line, TraceFault>
+    ensures { result ≡ sub_of subscriber.now address.now gateway.now teid.now }
+{
+    Ok(Line::Sub(Profile {
+        imsi: imsi(subscriber)?,
+        address: sized_octets::<4>(address)?,
+        gateway: sized_octets::<4>(gateway)?,
+        teid: sized_octets::<4>(teid)?,
+    }))
+}
+
+fn parse_vec(alloc: Global, fields: &[&[u8]]) -> Result<Line, TraceFault>
+    ensures { (result ≡ Err TraceFault.NoMemory) ⊎ (result ≡ read_vec (map (λ f. f.now) fields.now)) }
+{
+    match fields {
+        [subscriber, rand, autn, answer, kasme] => {
+            vec_line(alloc, subscriber, rand, autn, answer, kasme)
+        }
+        _ => Err(TraceFault::FieldCount),
+    }
+}
+
+fn vec_line(
+    alloc: Global,
+    subscriber: &[u8],
+    rand: &[u8],
+    autn: &[u8],
+    answer: &[u8],
+    kasme: &[u8],
+) -> Result<Line, TraceFault>
+    ensures { (result ≡ Err TraceFault.NoMemory)
+        ⊎ (result ≡ vec_of subscriber.now rand.now autn.now answer.now kasme.now) }
+{
+    let of = imsi(subscriber)?;
+    let vector = Vector {
+        rand: sized_octets::<16>(rand)?,
+        autn: sized_octets::<16>(autn)?,
+        xres: xres(alloc, answer)?,
+        kasme: sized_octets::<32>(kasme)?,
+    };
+    Ok(Line::Vec(of, vector))
+}
+
 fn parse_up(fields: &[&[u8]]) -> Result<Line, TraceFault>
     ensures { result ≡ read_up (map (λ f. f.now) fields.now) }
 {
@@ -149,6 +244,42 @@ fn parse_in(alloc: Global, fields: &[&[u8]]) -> Result<Line, TraceFault>
             let from = station(number)?;
             Ok(Line::In(from, octets(alloc, hex)?))
         }
+        _ => Err(TraceFault::FieldCount),
+    }
+}
+
+fn parse_tick(fields: &[&[u8]]) -> Result<Line, TraceFault>
+    ensures { result ≡ read_tick (map (λ f. f.now) fields.now) }
+{
+    match fields {
+        [number] => Ok(Line::Tick(ticks(number)?)),
+        _ => Err(TraceFault::FieldCount),
+    }
+}
+
+fn parse_data(fields: &[&[u8]]) -> Result<Line, TraceFault>
+    ensures { result ≡ read_data (map (λ f. f.now) fields.now) }
+{
+    match fields {
+        [subscriber] => Ok(Line::Data(imsi(subscriber)?)),
+        _ => Err(TraceFault::FieldCount),
+    }
+}
+
+fn parse_cancel(fields: &[&[u8]]) -> Result<Line, TraceFault>
+    ensures { result ≡ read_cancel (map (λ f. f.now) fields.now) }
+{
+    match fields {
+        [subscriber] => Ok(Line::Cancel(imsi(subscriber)?)),
+        _ => Err(TraceFault::FieldCount),
+    }
+}
+
+fn parse_show(fields: &[&[u8]]) -> Result<Line, TraceFault>
+    ensures { result ≡ read_show (map (λ f. f.now) fields.now) }
+{
+    match fields {
+        [subscriber] => Ok(Line::Show(imsi(subscriber)?)),
         _ => Err(TraceFault::FieldCount),
     }
 }

@@ -87,6 +87,46 @@ impl BitRate {
     }
 }
 
+/// A number of ticks, 1 to 1000000; a contract sees the number.
+#[derive(Clone, Copy, Debug, PartialEq, Eq)]
+pub struct TraceTicks {
+    ticks: u32,
+}
+
+impl Model for TraceTicks {
+    ghost use Rattle.std.specs.Prelude.{ℕ, ◌≤◌};
+
+    ghost Value = { ℕ };
+
+    ghost view = { λ t. t.ticks };
+
+    ghost invariant = { λ t. (1 ≤ t.ticks) × (t.ticks ≤ 1000000) };
+
+    ghost inverse = { λ n. record { ticks = n } };
+}
+
+impl TraceTicks {
+    /// That many ticks, where they are from 1 to 1000000.
+    pub fn try_new(ticks: u32) -> Option<TraceTicks>
+        ensures some { IsSome result ↔ ((1 ≤ ticks) × (ticks ≤ 1000000)) }
+        ensures value { IfSome result (λ t. t ≡ ticks) }
+    {
+        if ticks < 1 || ticks > 1_000_000 {
+            return None;
+        }
+        Some(TraceTicks { ticks })
+    }
+
+    /// The number.
+    pub fn get(self) -> u32
+        ensures value { result ≡ self }
+        ensures least { 1 ≤ result }
+        ensures most { result ≤ 1000000 }
+    {
+        self.ticks
+    }
+}
+
 /// The octets of a message; a contract sees their list.
 #[derive(Drop)]
 pub struct TraceOctets {
@@ -152,6 +192,15 @@ impl ApnLabel {
         ensures label { IsTrue (is_apn_label self.now) }
     {
         self.label.as_slice()
+    }
+
+    pub(crate) fn as_str(&self) -> &str
+        ensures { result.now ≡ self.now }
+    {
+        match str::from_utf8(self.label.as_slice()) {
+            Ok(text) => text,
+            Err(_) => unreachable!(),
+        }
     }
 }
 
