@@ -31,6 +31,24 @@ pub enum UeBody<B> {
     Notice,
 }
 
+impl<'a> UeBody<&'a [u8]> {
+    ghost use Rattle.std.specs.Prelude.{◌≡◌};
+
+    /// The same.
+    pub fn again(&self) -> UeBody<&'a [u8]>
+        ensures { result ≡ self.now }
+    {
+        match self {
+            UeBody::Uplink { nas, tai } => UeBody::Uplink { nas, tai: *tai },
+            UeBody::ReleaseRequest { cause } => UeBody::ReleaseRequest { cause: *cause },
+            UeBody::ReleaseComplete => UeBody::ReleaseComplete,
+            UeBody::ContextSetupFailure => UeBody::ContextSetupFailure,
+            UeBody::PathSwitch => UeBody::PathSwitch,
+            UeBody::Notice => UeBody::Notice,
+        }
+    }
+}
+
 /// A message of a station with the MME's number of an association: for PATH SWITCH REQUEST the source's.
 #[derive(Clone, Copy)]
 pub struct UeMessage<B> {

@@ -133,7 +133,7 @@ fn is_initial_header(header: SecurityHeader) -> bool
 /// The octets of an INITIAL UE MESSAGE's NAS message by which it is known: those behind the header, where it is protected
 /// under a context.
 #[tactic(auto, unfolding(crate::specs::Hearing::initial_octets))]
-pub(crate) fn initial_octets<'a>(octets: &'a [u8]) -> &'a [u8]
+pub fn initial_octets<'a>(octets: &'a [u8]) -> &'a [u8]
     ensures { result.now ≡ initial_octets octets.entry.now }
 {
     match split_protected(octets) {

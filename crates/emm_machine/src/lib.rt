@@ -24,8 +24,10 @@ mod subscriber;
 
 pub use draft::Draft;
 pub use event::{Entry, SoloEvent, UeBody, UeMessage};
+pub use heard::initial_octets;
 pub use network::{AggregateBitRate, Apn, Network};
 pub use octets::{Answer, Answers, Mark, SentOctets};
+pub use pdus::{error_indication, path_switch_failure, release_command};
 pub use solo::{
     Asked, Connection, Context, Countdown, Counter, Phase, Protection, RadioKeys, Repeat, Solo,
     Stations, Timer,

@@ -65,11 +65,7 @@ pub(crate) fn downlink<'a>(connection: Connection, nas: &'a [u8]) -> S1apPdu<'a>
 
 /// UE CONTEXT RELEASE COMMAND with the pair of numbers (TS 36.413 clause 8.3.3.2).
 #[tactic(auto, unfolding(crate::specs::Pdus::release_command))]
-pub(crate) fn release_command<'a>(
-    mme_id: AssociationId,
-    enb_id: EnbUeId,
-    cause: Cause,
-) -> S1apPdu<'a>
+pub fn release_command<'a>(mme_id: AssociationId, enb_id: EnbUeId, cause: Cause) -> S1apPdu<'a>
     ensures { lists result ≡ release_command mme_id enb_id cause }
 {
     let ids = UeS1apIds::Pair(UeIdPair {
@@ -81,11 +77,7 @@ pub(crate) fn release_command<'a>(
 
 /// ERROR INDICATION with the numbers that were received (TS 36.413 clause 8.7.2).
 #[tactic(auto, unfolding(crate::specs::Pdus::error_indication))]
-pub(crate) fn error_indication<'a>(
-    mme_id: AssociationId,
-    enb_id: EnbUeId,
-    cause: Cause,
-) -> S1apPdu<'a>
+pub fn error_indication<'a>(mme_id: AssociationId, enb_id: EnbUeId, cause: Cause) -> S1apPdu<'a>
     ensures { lists result ≡ error_indication mme_id enb_id cause }
 {
     Pdu::ErrorIndication(ErrorIndication {
@@ -97,11 +89,7 @@ pub(crate) fn error_indication<'a>(
 
 /// PATH SWITCH REQUEST FAILURE with the numbers that were received (TS 36.413 clause 8.4.4.3).
 #[tactic(auto, unfolding(crate::specs::Pdus::path_switch_failure))]
-pub(crate) fn path_switch_failure<'a>(
-    mme_id: AssociationId,
-    enb_id: EnbUeId,
-    cause: Cause,
-) -> S1apPdu<'a>
+pub fn path_switch_failure<'a>(mme_id: AssociationId, enb_id: EnbUeId, cause: Cause) -> S1apPdu<'a>
     ensures { lists result ≡ path_switch_failure mme_id enb_id cause }
 {
     Pdu::PathSwitchFailure(PathSwitchFailure {

@@ -19,6 +19,7 @@ use per_bits::Octets;
 use s1ap_elements::{Cause, NasCause, Tai};
 use std::alloc::{AllocError, Global};
 use std::marker::Model;
+use std::mem::swap;
 
 /// The state of mobility management (TS 24.301 clause 5.1.3.4).
 #[derive(Clone, Copy, PartialEq, Eq, Debug)]
@@ -197,18 +198,19 @@ impl Subscriber {
         drafted(self.alloc, &self.setting, &self.solo, event, world)
     }
 
-    /// The state is that of a step that was prepared, whose messages are returned; takes no memory.
-    pub fn commit(&mut self, draft: Draft) -> Answers
-        ensures answers { result ≡ draft.sent }
-        ensures state { self.new ≡ record self.old { solo = draft.solo } }
+    /// The state is this one, of a step that was prepared; takes no memory.
+    pub fn settle(&mut self, solo: Solo)
+        ensures { self.new ≡ record self.old { solo = solo } }
     {
-        let Draft {
-            solo,
-            sent,
-            accepted: _,
-        } = draft;
         self.solo = solo;
-        sent
+    }
+
+    /// The state is that one, and the one it was is given back; takes no memory.
+    pub fn exchange(&mut self, solo: &mut Solo)
+        ensures new { self.new ≡ record self.old { solo = solo.old } }
+        ensures old { solo.new ≡ self.old.solo }
+    {
+        swap(&mut self.solo, solo);
     }
 
     /// One event: what is sent. Where memory is refused nothing changes.
@@ -217,8 +219,13 @@ impl Subscriber {
         ensures state { OnOk result (self.new ≡ record self.old { solo = (solo_step self.old.setting self.old.solo (item_of event.now world.now)).solo }) }
         ensures err { OnErr result (self.new ≡ self.old) }
     {
-        let draft = self.prepare(event, world)?;
-        Ok(self.commit(draft))
+        let Draft {
+            solo,
+            sent,
+            accepted: _,
+        } = self.prepare(event, world)?;
+        self.settle(solo);
+        Ok(sent)
     }
 
     /// The connection: its association, station and number there.

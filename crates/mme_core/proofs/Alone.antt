@@ -1,97 +1,135 @@
--- Each station goes as its own machine, whatever the others do.
-use Rattle.std.proofs.Common.{◌≡◌, ℕ, ◌<◌, List, [], ◌∷◌, ◌++◌, length, Bool, true, false, ◌==◌, Option, Some, None, Result, refl, sym, ◌∙◌, ap, subst, arith, inl, inr}
-use Rattle.std.specs.Prelude.{if◌then◌else◌}
-use Rattle.std.specs.List.{AllByRecursion}
-use Rattle.std.proofs.lemmas.List.{length-set, get_or-set_same, get_or-set_other}
-use Rattle.mme_core.proofs.Runs.{world_run_push}
-use Rattle.std.proofs.lemmas.Bool.{cases_eq, eq-eqb, ne_eqb}
+-- Each subscriber is alone: what the MME sends it and its state are those of its own machine over its own items.
+use Rattle.std.proofs.Common.{◌≡◌, ◌≢◌, ℕ, suc, zero, ◌+◌, ◌<◌, ◌≤◌, List, [], ◌∷◌, ◌++◌, map, Option, Some, None, Result, Ok, Err, refl, sym, ◌∙◌, ap, arith}
+use Rattle.std.specs.Prelude.{slice_get}
+use Rattle.std.proofs.lemmas.Bool.Decides.{nat_tests}
+use Rattle.std.proofs.lemmas.List.{append-nil}
+use Rattle.emm_machine.specs.declared.octets.Answer.{Answer}
+use Rattle.emm_machine.specs.Steps.{Item, Nothing}
+use Rattle.emm_machine.specs.Whole.{Whole}
 use Rattle.mme_core.specs.declared.event.Event.{Event}
 use Rattle.mme_core.specs.declared.event.StepFault.{StepFault}
 use Rattle.mme_core.specs.declared.out.Out.{Out}
-use Rattle.mme_core.specs.declared.station.StationState.{StationState}
-use Rattle.mme_core.specs.declared.station.StationState.TheVariants.{Down}
-use Rattle.mme_core.specs.Stations.{station_of, own_state, unless, station_run}
-use Rattle.mme_core.specs.World.{World, station_at, fault_of, stepped, moved, world_after, world_run, reply, replies, own_reply, alone_replies, is_no_memory, taken}
+use Rattle.mme_core.specs.declared.out.Owner.{Owner}
+use Rattle.mme_core.specs.declared.out.Owner.TheVariants.{Stranger}
+use Rattle.mme_core.specs.Projection.{Told, alone_after, answer_told, is_slot, item_for, owned_by, projection, told, told_alone, told_in, told_of}
+use Rattle.mme_core.specs.Sight.{Sight}
+use Rattle.mme_core.specs.Stations.{Heard, answered_unknown, foreign_answers, out_of}
+use Rattle.mme_core.specs.World.{World, each_after, each_sends, fault_of, front_sends, happens, items_of, moved, outputs, replies, reply, reply_of, sight_after, sight_moved, slot_out, station_of, station_out, station_sends, unless, whole_after, whole_step, world_after, world_run}
+use Rattle.mme_core.proofs.Calling.{at_nothing, silent, stays}
+use Rattle.mme_core.proofs.Strangers.{AreStrangers, strangers_are}
 
--- the event is of one of the stations
-abbrev pub IsOf : ℕ → Event → Type 0
-IsOf count event = station_of event < count
+-- what two outputs in a row hold of a slot
+pub owned_by-append : (slot : ℕ) (xs ys : List Out) → owned_by slot (xs ++ ys) ≡ owned_by slot xs ++ owned_by slot ys
+owned_by-append slot [] ys = refl
+owned_by-append slot (x ∷ xs) ys = grind (arith, owned_by-append slot xs ys)
 
-abbrev pub AreOf : ℕ → List Event → Type 0
-AreOf count events = AllByRecursion (IsOf count) events
+owned_by_station : (slot e : ℕ) (xs : List (List ℕ)) → owned_by slot (map (station_out e) xs) ≡ []
+owned_by_station slot e [] = refl
+owned_by_station slot e (x ∷ xs) = owned_by_station slot e xs
 
-pub AreOf-push : (count : ℕ) (es : List Event) (e : Event) → AreOf count es → IsOf count e → AreOf count (es ++ e ∷ [])
-AreOf-push count [] e h k = (k, tt)
-AreOf-push count (x ∷ es) e h k = (h.0, AreOf-push count es e h.1 k)
+owned_by_stations : (slot : ℕ) (o : Option ℕ) (xs : List (List ℕ)) → owned_by slot (station_sends o xs) ≡ []
+owned_by_stations slot None xs = refl
+owned_by_stations slot (Some e) xs = owned_by_station slot e xs
 
-kept : (b : Bool) (count : ℕ) (e : Event) (es : List Event) → IsOf count e → AreOf count es → AreOf count (if b then es else e ∷ es)
-kept true count e es h k = k
-kept false count e es h k = (h, k)
+owned_by_strangers : (slot : ℕ) (xs : List Out) → AreStrangers xs → owned_by slot xs ≡ []
+owned_by_strangers slot [] h = refl
+owned_by_strangers slot (x ∷ xs) h = ap (λ (o : Owner). owned_by slot (record { owner = o; station = x.station; octets = x.octets } ∷ xs)) h.0.2 ∙ owned_by_strangers slot xs h.1
 
-pub AreOf-taken : (count : ℕ) (es : List Event) (rs : List (Result (List Out) StepFault)) → AreOf count es → AreOf count (taken es rs)
-AreOf-taken count [] rs h = tt
-AreOf-taken count (e ∷ es) [] h = tt
-AreOf-taken count (e ∷ es) (r ∷ rs) h = kept (is_no_memory r) count e (taken es rs) h.0 (AreOf-taken count es rs h.1)
+pub owned_by_front : (slot : ℕ) (s : Sight) (e : Event) → owned_by slot (front_sends s e) ≡ []
+owned_by_front slot s e =
+    let rest = (happens s e).strangers in
+    owned_by-append slot (station_sends (station_of e) (happens s e).sends) rest
+    ∙ ap (λ zs. zs ++ owned_by slot rest) (owned_by_stations slot (station_of e) (happens s e).sends)
+    ∙ owned_by_strangers slot rest (strangers_are s e)
+
+owned_by_itself : (slot n : ℕ) (xs : List Answer) → n ≡ slot → map told_of (owned_by slot (map (slot_out n) xs)) ≡ map answer_told xs
+owned_by_itself slot n [] e = refl
+owned_by_itself slot n (x ∷ xs) e = grind (arith, nat_tests, owned_by_itself slot n xs e)
+
+pub owned_by_other : (slot n : ℕ) (xs : List Answer) → n ≢ slot → owned_by slot (map (slot_out n) xs) ≡ []
+owned_by_other slot n [] e = refl
+owned_by_other slot n (x ∷ xs) e = grind (arith, nat_tests, owned_by_other slot n xs e)
+
+-- the slots from n on send nothing for a slot below n
+owned_by_later : (slot n : ℕ) (items : ℕ → Item) (ws : List Whole) → slot < n → owned_by slot (each_sends items n ws) ≡ []
+owned_by_later slot n items [] lt = refl
+owned_by_later slot n items (w ∷ ws) lt =
+    owned_by-append slot (map (slot_out n) (whole_step w (items n)).sent) (each_sends items (n + 1) ws)
+    ∙ ap (λ zs. zs ++ owned_by slot (each_sends items (n + 1) ws)) (owned_by_other slot n (whole_step w (items n)).sent (λ same. omega arith))
+    ∙ owned_by_later slot (n + 1) items ws (omega arith)
+
+told-append : (xs ys : List Out) → map told_of (xs ++ ys) ≡ map told_of xs ++ map told_of ys
+told-append [] ys = refl
+told-append (x ∷ xs) ys = ap (λ zs. told_of x ∷ zs) (told-append xs ys)
+
+-- what is sent for a slot is what its machine sends
+pub owned_by_each : (slot n k : ℕ) (items : ℕ → Item) (ws : List Whole) (w : Whole) → slot ≡ n + k → slice_get ws k ≡ Some w → map told_of (owned_by slot (each_sends items n ws)) ≡ map answer_told (whole_step w (items slot)).sent
+owned_by_each slot n k items [] w e h = cc
+owned_by_each slot n zero items (x ∷ ws) w e h =
+    let here : x ≡ w = cc in
+    let at : n ≡ slot = omega arith in
+    ap (map told_of) (owned_by-append slot (map (slot_out n) (whole_step x (items n)).sent) (each_sends items (n + 1) ws)
+    ∙ ap (λ zs. owned_by slot (map (slot_out n) (whole_step x (items n)).sent) ++ zs) (owned_by_later slot (n + 1) items ws (omega arith))
+    ∙ append-nil _)
+    ∙ owned_by_itself slot n (whole_step x (items n)).sent at
+    ∙ ap (λ y. map answer_told (whole_step y (items n)).sent) here ∙ ap (λ m. map answer_told (whole_step w (items m)).sent) at
+owned_by_each slot n (suc k) items (x ∷ ws) w e h =
+    ap (map told_of) (owned_by-append slot (map (slot_out n) (whole_step x (items n)).sent) (each_sends items (n + 1) ws)
+    ∙ ap (λ zs. zs ++ owned_by slot (each_sends items (n + 1) ws)) (owned_by_other slot n (whole_step x (items n)).sent (λ same. omega arith)))
+    ∙ owned_by_each slot (n + 1) k items ws w (omega arith) h
+
+slice_get-each_after : (n k : ℕ) (items : ℕ → Item) (ws : List Whole) (w : Whole) → slice_get ws k ≡ Some w → slice_get (each_after items n ws) k ≡ Some (whole_after w (items (n + k)))
+slice_get-each_after n k items [] w h = cc
+slice_get-each_after n zero items (x ∷ ws) w h =
+    let here : x ≡ w = cc in
+    ap (λ y. Some (whole_after y (items n))) here ∙ ap (λ m. Some (whole_after w (items m))) (omega arith)
+slice_get-each_after n (suc k) items (x ∷ ws) w h =
+    slice_get-each_after (n + 1) k items ws w h ∙ ap (λ m. Some (whole_after w (items m))) (omega arith)
 
 -- ---- one event
 
-same_by : (o : Option StepFault) (w v : World) → w.config ≡ v.config → (unless o w v).config ≡ w.config
-same_by None w v e = sym e
-same_by (Some f) w v e = refl
+told_by : (slot : ℕ) (o : Option StepFault) (outs : List Out) (w : Whole) (i : Item) → map told_of (owned_by slot outs) ≡ map answer_told (whole_step w i).sent → told_in slot (reply_of o outs) ≡ map answer_told (whole_step w (unless o Nothing i)).sent
+told_by slot None outs w i h = h
+told_by slot (Some fault) outs w i h = ap (λ d. map answer_told d.sent) (sym (at_nothing w.setting w.solo))
 
-same_config : (w : World) (event : Event) → (world_after w event).config ≡ w.config
-same_config w event = same_by (fault_of w event) w (moved w event) refl
+pub told_once : (w : World) (e : Event) (slot : ℕ) (x : Whole) → slice_get w.subscribers slot ≡ Some x → told_in slot (reply w e) ≡ map answer_told (whole_step x (item_for slot w.sight e)).sent
+told_once w e slot x h =
+    let items = items_of w.sight e in
+    told_by slot (fault_of w.sight e) (outputs w e) x (items slot)
+    (ap (map told_of) (owned_by-append slot (front_sends w.sight e) (each_sends items 0 w.subscribers)
+    ∙ ap (λ zs. zs ++ owned_by slot (each_sends items 0 w.subscribers)) (owned_by_front slot w.sight e))
+    ∙ owned_by_each slot 0 slot items w.subscribers x (omega arith) h)
 
-long_by : (o : Option StepFault) (w v : World) → length v.stations ≡ length w.stations → length (unless o w v).stations ≡ length w.stations
-long_by None w v e = e
-long_by (Some f) w v e = refl
+after_by : (slot : ℕ) (o : Option StepFault) (w v : World) (x : Whole) (i : Item) → slice_get w.subscribers slot ≡ Some x → slice_get v.subscribers slot ≡ Some (whole_after x i)
+    → slice_get (unless o w v).subscribers slot ≡ Some (whole_after x (unless o Nothing i))
+after_by slot None w v x i h k = k
+after_by slot (Some fault) w v x i h k = h ∙ ap Some (sym (stays x))
 
-same_length : (w : World) (event : Event) → length (world_after w event).stations ≡ length w.stations
-same_length w event = long_by (fault_of w event) w (moved w event) (length-set w.stations (station_of event) (stepped w event).state)
+pub after_once : (w : World) (e : Event) (slot : ℕ) (x : Whole) → slice_get w.subscribers slot ≡ Some x → slice_get (world_after w e).subscribers slot ≡ Some (whole_after x (item_for slot w.sight e))
+after_once w e slot x h =
+    after_by slot (fault_of w.sight e) w (moved w e) x (items_of w.sight e slot) h
+    (slice_get-each_after 0 slot (items_of w.sight e) w.subscribers x h ∙ ap (λ m. Some (whole_after x (items_of w.sight e m))) (omega arith))
 
-own_by : (o : Option StepFault) (w v : World) (e : ℕ) (x : StationState) → station_at v.stations e ≡ x → station_at (unless o w v).stations e ≡ unless o (station_at w.stations e) x
-own_by None w v e x h = h
-own_by (Some f) w v e x h = refl
+sight_by : (o : Option StepFault) (w v : World) → (unless o w v).sight ≡ unless o w.sight v.sight
+sight_by None w v = refl
+sight_by (Some fault) w v = refl
 
-other_by : (o : Option StepFault) (w v : World) (e : ℕ) → station_at v.stations e ≡ station_at w.stations e → station_at (unless o w v).stations e ≡ station_at w.stations e
-other_by None w v e h = h
-other_by (Some f) w v e h = refl
+pub sight_once : (w : World) (e : Event) → (world_after w e).sight ≡ sight_after w.sight e
+sight_once w e = sight_by (fault_of w.sight e) w (moved w e)
 
-own_event : (w : World) (event : Event) → station_of event < length w.stations → station_at (world_after w event).stations (station_of event) ≡ own_state w.config (station_at w.stations (station_of event)) event
-own_event w event lt =
-    own_by (fault_of w event) w (moved w event) (station_of event) (stepped w event).state (get_or-set_same w.stations (station_of event) (stepped w event).state Down lt)
+-- ---- a list of events, whatever else it holds
 
-other_event : (w : World) (event : Event) (e : ℕ) → (e ≡ station_of event → ⊥) → station_at (world_after w event).stations e ≡ station_at w.stations e
-other_event w event e ne = other_by (fault_of w event) w (moved w event) e (get_or-set_other w.stations (station_of event) e (stepped w event).state Down ne)
+pub told_each : (w : World) (es : List Event) (slot : ℕ) (x : Whole) → slice_get w.subscribers slot ≡ Some x → told slot (replies w es) ≡ told_alone x (projection slot w.sight es)
+told_each w [] slot x h = refl
+told_each w (e ∷ es) slot x h =
+    let i = item_for slot w.sight e in
+    ap (λ zs. zs ∷ told slot (replies (world_after w e) es)) (told_once w e slot x h)
+    ∙ ap (λ zs. map answer_told (whole_step x i).sent ∷ zs) (told_each (world_after w e) es slot (whole_after x i) (after_once w e slot x h)
+    ∙ ap (λ s. told_alone (whole_after x i) (projection slot s es)) (sight_once w e))
 
-turn : (w : World) (event : Event) (e : ℕ) → e < length w.stations → station_at (world_after w event).stations e ≡ (if station_of event == e then own_state w.config (station_at w.stations e) event else station_at w.stations e)
-turn w event e lt = elim (cases_eq (station_of event) e) [
-  | inl is ↦
-      rw (eq-eqb (station_of event) e is)
-      (subst (λ n. station_at (world_after w event).stations n ≡ own_state w.config (station_at w.stations n) event) is (own_event w event (rw is lt)))
-  | inr ne ↦ rw (ne_eqb (station_of event) e ne) (other_event w event e (λ k. ne (sym k)))
-]
-
--- ---- a list of events
-
-pub config_along : (w : World) (es : List Event) → (world_run w es).config ≡ w.config
-config_along w [] = refl
-config_along w (x ∷ es) = config_along (world_after w x) es ∙ same_config w x
-
-pub station_along : (w : World) (e : ℕ) (es : List Event) → e < length w.stations → station_at (world_run w es).stations e ≡ station_run w.config e (station_at w.stations e) es
-station_along w e [] lt = refl
-station_along w e (x ∷ es) lt =
-    station_along (world_after w x) e es (let k = same_length w x in omega (arith, k))
-    ∙ ap (λ c. station_run c e (station_at (world_after w x).stations e) es) (same_config w x)
-    ∙ ap (λ s. station_run w.config e s es) (turn w x e lt)
-
-reply_along : (w : World) (before : List Event) (e : Event) → station_of e < length w.stations → reply (world_run w before) e ≡ own_reply w.config (station_run w.config (station_of e) (station_at w.stations (station_of e)) before) e
-reply_along w before e lt =
-    ap (λ c. own_reply c (station_at (world_run w before).stations (station_of e)) e) (config_along w before)
-    ∙ ap (λ s. own_reply w.config s e) (station_along w (station_of e) before lt)
-
-pub replies_alone : (w : World) (before es : List Event) → AreOf (length w.stations) es → replies (world_run w before) es ≡ alone_replies w before es
-replies_alone w before [] h = refl
-replies_alone w before (e ∷ es) h =
-    let rest : replies (world_after (world_run w before) e) es ≡ alone_replies w (before ++ e ∷ []) es = ap (λ v. replies v es) (sym (world_run_push w before e)) ∙ replies_alone w (before ++ e ∷ []) es h.1 in
-    rw (reply_along w before e h.0, rest) refl
+pub ends_alone : (w : World) (es : List Event) (slot : ℕ) (x : Whole) → slice_get w.subscribers slot ≡ Some x → slice_get (world_run w es).subscribers slot ≡ Some (alone_after x (projection slot w.sight es))
+ends_alone w [] slot x h = h
+ends_alone w (e ∷ es) slot x h =
+    let i = item_for slot w.sight e in
+    ends_alone (world_after w e) es slot (whole_after x i) (after_once w e slot x h)
+    ∙ ap (λ s. Some (alone_after (whole_after x i) (projection slot s es))) (sight_once w e)

@@ -1,3 +1,4 @@
-pub mod Faults
-pub mod Runs
+pub mod Calling
+pub mod Strangers
 pub mod Alone
+pub mod Runs

@@ -1,12 +1,19 @@
--- A run goes on by one event, and each station of it as its own machine.
+-- A run goes on by one event.
 use Rattle.std.proofs.Common.{◌≡◌, ◌≢◌, List, [], ◌∷◌, ◌++◌, length, Bool, true, false, Option, Some, None, Result, Ok, Err, refl, sym, ◌∙◌, ap, arith}
 use Rattle.std.specs.Prelude.{if◌then◌else◌, IfOk, OnOk, IfErr, OnErr}
 use Rattle.mme_core.specs.declared.event.Event.{Event}
 use Rattle.mme_core.specs.declared.event.StepFault.{StepFault}
-use Rattle.mme_core.specs.declared.event.StepFault.TheVariants.{NotUp, AlreadyUp, NoMemory}
+use Rattle.mme_core.specs.declared.event.StepFault.TheVariants.{NotUp, AlreadyUp, ClockSpent, NoMemory, UnknownImsi}
 use Rattle.mme_core.specs.declared.out.Out.{Out}
-use Rattle.mme_core.specs.Stations.{unless}
-use Rattle.mme_core.specs.World.{World, fault_of, reply, reply_of, replies, world_after, world_run, is_no_memory, taken, given}
+use Rattle.mme_core.specs.World.{World, fault_of, moved, outputs, reply, reply_of, replies, unless, world_after, world_run, is_no_memory, taken, given}
+
+-- a refused event changes nothing
+refused_by : (o : Option StepFault) (w v : World) (outs : List Out) (fault : StepFault) → reply_of o outs ≡ Err fault → unless o w v ≡ w
+refused_by None w v outs fault h = cc
+refused_by (Some x) w v outs fault h = refl
+
+pub refused_stays : (w : World) (e : Event) (fault : StepFault) → reply w e ≡ Err fault → world_after w e ≡ w
+refused_stays w e fault h = refused_by (fault_of w.sight e) w (moved w e) (outputs w e) fault h
 
 push_cases : {X : Type 0} (b c : Bool) (x y : X) (xs ys : List X) → ys ≡ (if c then xs else xs ++ y ∷ []) → (if b then ys else x ∷ ys) ≡ (if c then (if b then xs else x ∷ xs) else (if b then xs else x ∷ xs) ++ y ∷ [])
 push_cases true true x y xs ys h = h
@@ -14,11 +21,11 @@ push_cases true false x y xs ys h = h
 push_cases false true x y xs ys h = ap (λ zs. x ∷ zs) h
 push_cases false false x y xs ys h = ap (λ zs. x ∷ zs) h
 
-given_push : (rs : List (Result (List Out) StepFault)) (r : Result (List Out) StepFault) → given (rs ++ r ∷ []) ≡ (if is_no_memory r then given rs else given rs ++ r ∷ [])
+pub given_push : (rs : List (Result (List Out) StepFault)) (r : Result (List Out) StepFault) → given (rs ++ r ∷ []) ≡ (if is_no_memory r then given rs else given rs ++ r ∷ [])
 given_push [] r = refl
 given_push (x ∷ rs) r = push_cases (is_no_memory x) (is_no_memory r) x r (given rs) (given (rs ++ r ∷ [])) (given_push rs r)
 
-taken_push : (es : List Event) (e : Event) (rs : List (Result (List Out) StepFault)) (r : Result (List Out) StepFault) → length es ≡ length rs → taken (es ++ e ∷ []) (rs ++ r ∷ []) ≡ (if is_no_memory r then taken es rs else taken es rs ++ e ∷ [])
+pub taken_push : (es : List Event) (e : Event) (rs : List (Result (List Out) StepFault)) (r : Result (List Out) StepFault) → length es ≡ length rs → taken (es ++ e ∷ []) (rs ++ r ∷ []) ≡ (if is_no_memory r then taken es rs else taken es rs ++ e ∷ [])
 taken_push [] e [] r h = refl
 taken_push [] e (x ∷ rs) r h = absurd (omega arith)
 taken_push (y ∷ es) e [] r h = absurd (omega arith)
@@ -44,27 +51,24 @@ ran_kept w es rs now next e r len h t same =
     record { replies = g ∙ h.replies ∙ ap (replies w) (sym k); state = same ∙ h.state ∙ ap (world_run w) (sym k) }
 
 ran_on : (w : World) (es : List Event) (rs : List (Result (List Out) StepFault)) (now next : World) (e : Event) (r : Result (List Out) StepFault) → length es ≡ length rs → Ran w es rs now → is_no_memory r ≡ false → reply now e ≡ r → next ≡ world_after now e → Ran w (es ++ e ∷ []) (rs ++ r ∷ []) next
-ran_on w es rs now next e r len h t said after =
+ran_on w es rs now next e r len h t own after =
     let g : given (rs ++ r ∷ []) ≡ given rs ++ r ∷ [] = given_push rs r ∙ ap (λ b. if b then given rs else given rs ++ r ∷ []) t in
     let k : taken (es ++ e ∷ []) (rs ++ r ∷ []) ≡ taken es rs ++ e ∷ [] = taken_push es e rs r len ∙ ap (λ b. if b then taken es rs else taken es rs ++ e ∷ []) t in
     record {
-      replies = g ∙ ap (λ zs. zs ++ r ∷ []) h.replies ∙ ap (λ x. replies w (taken es rs) ++ x ∷ []) (sym said ∙ ap (λ v. reply v e) h.state)
+      replies = g ∙ ap (λ zs. zs ++ r ∷ []) h.replies ∙ ap (λ x. replies w (taken es rs) ++ x ∷ []) (sym own ∙ ap (λ v. reply v e) h.state)
           ∙ sym (replies_push w (taken es rs) e) ∙ ap (replies w) (sym k);
       state = after ∙ ap (λ v. world_after v e) h.state ∙ sym (world_run_push w (taken es rs) e) ∙ ap (world_run w) (sym k);
     }
 
--- a refused event leaves the world
-refused_by : (o : Option StepFault) (outs : List Out) (before after : World) (fault : StepFault) → reply_of o outs ≡ Err fault → unless o before after ≡ before
-refused_by None outs before after fault h = absurd cc
-refused_by (Some f) outs before after fault h = refl
-
-refused_stays : (w : World) (e : Event) (fault : StepFault) → reply w e ≡ Err fault → world_after w e ≡ w
-refused_stays w e fault h = refused_by (fault_of w e) _ w _ fault h
+ran_refused : (w : World) (es : List Event) (rs : List (Result (List Out) StepFault)) (now next : World) (e : Event) (fault : StepFault) → length es ≡ length rs → Ran w es rs now → is_no_memory (Err fault) ≡ false → reply now e ≡ Err fault → next ≡ now → Ran w (es ++ e ∷ []) (rs ++ Err fault ∷ []) next
+ran_refused w es rs now next e fault len h t own same = ran_on w es rs now next e (Err fault) len h t own (same ∙ sym (refused_stays now e fault own))
 
 pub ran_more : (w : World) (es : List Event) (rs : List (Result (List Out) StepFault)) (now next : World) (e : Event) (r : Result (List Out) StepFault) → length es ≡ length rs → Ran w es rs now
     → IfOk r (λ outs. reply now e ≡ Ok outs) → OnOk r (next ≡ world_after now e) → IfErr r (λ fault. fault ≢ NoMemory → reply now e ≡ Err fault) → OnErr r (next ≡ now)
     → Ran w (es ++ e ∷ []) (rs ++ r ∷ []) next
 ran_more w es rs now next e (Ok outs) len h a b c d = ran_on w es rs now next e (Ok outs) len h refl a b
 ran_more w es rs now next e (Err NoMemory) len h a b c d = ran_kept w es rs now next e (Err NoMemory) len h refl d
-ran_more w es rs now next e (Err NotUp) len h a b c d = let r = c (λ k. cc) in ran_on w es rs now next e (Err NotUp) len h refl r (d ∙ sym (refused_stays now e NotUp r))
-ran_more w es rs now next e (Err AlreadyUp) len h a b c d = let r = c (λ k. cc) in ran_on w es rs now next e (Err AlreadyUp) len h refl r (d ∙ sym (refused_stays now e AlreadyUp r))
+ran_more w es rs now next e (Err NotUp) len h a b c d = ran_refused w es rs now next e NotUp len h refl (c (λ k. cc)) d
+ran_more w es rs now next e (Err AlreadyUp) len h a b c d = ran_refused w es rs now next e AlreadyUp len h refl (c (λ k. cc)) d
+ran_more w es rs now next e (Err ClockSpent) len h a b c d = ran_refused w es rs now next e ClockSpent len h refl (c (λ k. cc)) d
+ran_more w es rs now next e (Err UnknownImsi) len h a b c d = ran_refused w es rs now next e UnknownImsi len h refl (c (λ k. cc)) d

@@ -1,3 +1,6 @@
-pub mod Config
+pub mod Sight
+pub mod Naming
 pub mod Stations
 pub mod World
+pub mod Seen
+pub mod Projection

@@ -1,8 +1,10 @@
--- The machine of one station (TS 36.413 clauses 8.7.3 and 8.7.2), and the world of all stations.
-use Rattle.std.specs.Prelude.{ℕ, Bool, List, [], ◌∷◌, Option, Some, None, Result, Ok, Err, ◌==◌, if◌then◌else◌, bytes_eq}
+-- What is said to stations, and what a station that is not down makes of what it sends (TS 36.413 clauses 8.7.3 and 8.7.2).
+use Rattle.std.specs.Prelude.{ℕ, ◌-◌, ◌/◌, ◌%◌, ◌^◌, nat_lt, Bool, List, [], ◌∷◌, map, Option, Some, None, Result, Ok, Err, if◌then◌else◌, bytes_eq}
 use Rattle.std.specs.List.{list_any}
 use Rattle.s1ap_elements.specs.declared.cause.Cause.{Cause}
-use Rattle.s1ap_elements.specs.declared.cause.Cause.TheVariants.{Protocol, Misc}
+use Rattle.s1ap_elements.specs.declared.cause.Cause.TheVariants.{RadioNetwork, Nas, Protocol, Misc}
+use Rattle.s1ap_elements.specs.declared.cause.RadioNetworkCause.TheVariants.{UnknownMmeUeS1apId}
+use Rattle.s1ap_elements.specs.declared.cause.NasCause.TheVariants.{Unspecified}
 use Rattle.s1ap_elements.specs.declared.cause.ProtocolCause.TheVariants.{TransferSyntaxError, AbstractSyntaxErrorReject, AbstractSyntaxErrorIgnoreAndNotify, MessageNotCompatible, FalselyConstructedMessage}
 use Rattle.s1ap_elements.specs.declared.cause.MiscCause.TheVariants.{UnknownPlmn}
 use Rattle.s1ap_elements.specs.declared.station.SupportedTa.{SupportedTa}
@@ -14,13 +16,23 @@ use Rattle.s1ap_messages.specs.declared.fault.S1apFault.TheVariants.{Syntax, Unk
 use Rattle.s1ap_messages.specs.declared.pdu.Pdu.{Pdu}
 use Rattle.s1ap_messages.specs.declared.pdu.Pdu.TheVariants as pdu
 use Rattle.s1ap_messages.specs.Pdus.{decoded, encoded}
+use Rattle.s1ap_messages.specs.declared.pdu.InitialUeMessage.{InitialUeMessage}
+use Rattle.identity_slots.specs.declared.profile.Profile.{Profile}
+use Rattle.identity_slots.specs.Ids.{stranger_id}
+use Rattle.identity_slots.specs.Provisioned.{slot_of_id}
+use Rattle.emm_machine.specs.declared.event.Entry.{Entry}
+use Rattle.emm_machine.specs.declared.event.UeBody.{UeBody}
+use Rattle.emm_machine.specs.declared.event.UeBody.TheVariants.{Uplink, ReleaseRequest, ReleaseComplete, ContextSetupFailure, PathSwitch, Notice}
+use Rattle.emm_machine.specs.declared.event.UeMessage.{UeMessage}
+use Rattle.emm_machine.specs.declared.stations.StationState.{StationState}
+use Rattle.emm_machine.specs.declared.stations.StationState.TheVariants.{Down, Up, Ready}
+use Rattle.emm_machine.specs.Pdus.{error_indication, path_switch_failure, release_command}
+use Rattle.emm_machine.specs.Steps.{Item, Initial, Message, StationGone}
 use Rattle.mme_core.specs.declared.config.Config.{Config}
-use Rattle.mme_core.specs.declared.event.Event.{Event}
-use Rattle.mme_core.specs.declared.event.Event.TheVariants.{Up as UpEvent, Lost as LostEvent, In as InEvent}
-use Rattle.mme_core.specs.declared.event.StepFault.{StepFault}
-use Rattle.mme_core.specs.declared.event.StepFault.TheVariants.{NotUp, AlreadyUp}
-use Rattle.mme_core.specs.declared.station.StationState.{StationState}
-use Rattle.mme_core.specs.declared.station.StationState.TheVariants.{Down, Up, Ready}
+use Rattle.mme_core.specs.declared.out.Out.{Out}
+use Rattle.mme_core.specs.declared.out.Owner.{Owner}
+use Rattle.mme_core.specs.declared.out.Owner.TheVariants.{Stranger}
+use Rattle.mme_core.specs.Naming.{named_slot}
 
 -- ---- what the MME says to stations
 
@@ -34,7 +46,7 @@ sent message = written_octets (encoded message)
 
 -- the one network, group and code of the MME
 abbrev pub served_gummei : Config → ServedGummei
-served_gummei config = record { plmns = config.plmn ∷ []; groups = config.group ∷ []; codes = config.code ∷ [] }
+served_gummei config = record { plmns = config.network.plmn ∷ []; groups = config.network.group ∷ []; codes = config.network.code ∷ [] }
 
 abbrev pub setup_response : Config → Pdu (List ℕ)
 setup_response config = pdu.SetupResponse (record { served_gummeis = served_gummei config ∷ []; capacity = 255 })
@@ -64,103 +76,132 @@ abbrev pub indicated : Option Cause → List (List ℕ)
 indicated None = []
 indicated (Some cause) = sent (indication cause)
 
--- ---- the machine of one station
+-- ---- messages for nobody's phone
 
--- its state after an event of its own, and what it is sent
-pub record StationStepped : Type 0 where
+-- a message that names nobody is answered as to a phone without an association (TS 36.413 clauses 10.6 and 8.4.4.3)
+abbrev pub answered_unknown : UeBody (List ℕ) → UeMessage (List ℕ) → List (List ℕ)
+answered_unknown ReleaseComplete m = []
+answered_unknown PathSwitch m = sent (path_switch_failure m.mme_id m.enb_id (RadioNetwork UnknownMmeUeS1apId))
+answered_unknown (Uplink nas tai) m = sent (error_indication m.mme_id m.enb_id (RadioNetwork UnknownMmeUeS1apId))
+answered_unknown (ReleaseRequest cause) m = sent (error_indication m.mme_id m.enb_id (RadioNetwork UnknownMmeUeS1apId))
+answered_unknown ContextSetupFailure m = sent (error_indication m.mme_id m.enb_id (RadioNetwork UnknownMmeUeS1apId))
+answered_unknown Notice m = sent (error_indication m.mme_id m.enb_id (RadioNetwork UnknownMmeUeS1apId))
+
+-- a message of an owner to a station
+abbrev pub out_of : Owner → ℕ → List ℕ → Out
+out_of owner station octets = record { owner = owner; station = station; octets = octets }
+
+-- the stranger with this id, which no association has
+abbrev pub stranger_answers : UeMessage (List ℕ) → List Out
+stranger_answers m = map (out_of (Stranger ((m.mme_id - 2 ^ 31) / 2 ^ 24) ((m.mme_id - 2 ^ 31) % 2 ^ 24)) m.station) (answered_unknown m.body m)
+
+-- a foreign INITIAL UE MESSAGE is turned away
+abbrev pub foreign_answers : ℕ → ℕ → List Out
+foreign_answers e enb_id = map (out_of (Stranger e enb_id) e) (sent (release_command (stranger_id e enb_id) enb_id (Nas Unspecified)))
+
+-- ---- what a station makes of a message
+
+-- who is called by an event, with which item
+pub data Calls : Type 0 where
+  NoOne : Calls
+  One : ℕ → Item → Calls
+  Everyone : Item → Calls
+
+-- the station's state, what it is told for itself, what it is told for a stranger, and who is called
+pub record Heard : Type 0 where
   pub state : StationState
   pub sends : List (List ℕ)
+  pub strangers : List Out
+  pub calls : Calls
 
-abbrev pub stays : StationState → List (List ℕ) → StationStepped
-stays state sends = record { state = state; sends = sends }
+abbrev pub says : StationState → List (List ℕ) → Heard
+says state sends = record { state = state; sends = sends; strangers = []; calls = NoOne }
+
+abbrev pub calling : StationState → Calls → Heard
+calling state calls = record { state = state; sends = []; strangers = []; calls = calls }
+
+abbrev pub telling : StationState → List Out → Heard
+telling state strangers = record { state = state; sends = []; strangers = strangers; calls = NoOne }
 
 abbrev pub is_broadcast : List ℕ → List (List ℕ) → Bool
 is_broadcast plmn plmns = list_any (λ p. bytes_eq p plmn) plmns
-
--- the state, where there is a new one, and what is said
-abbrev pub heard : StationState → Option StationState → Option (List ℕ) → StationStepped
-heard state None says = stays state (written_octets says)
-heard state (Some new) says = stays new (written_octets says)
 
 -- whether some tracking area broadcasts the network
 abbrev pub broadcasts : List ℕ → List SupportedTa → Bool
 broadcasts plmn tas = list_any (λ ta. is_broadcast plmn ta.plmns) tas
 
-abbrev pub set_up : Config → List SupportedTa → StationStepped
-set_up config tas =
-    if broadcasts config.plmn tas then stays (Ready tas) (sent (setup_response config))
-    else stays Up (sent setup_failure)
+-- S1 SETUP REQUEST: the station begins anew, whatever the answer
+abbrev pub set_up : Config → ℕ → List SupportedTa → Heard
+set_up config e tas =
+    if broadcasts config.network.plmn tas
+    then record { state = Ready tas; sends = sent (setup_response config); strangers = []; calls = Everyone (StationGone e) }
+    else record { state = Up; sends = sent setup_failure; strangers = []; calls = Everyone (StationGone e) }
 
 -- a message that the state of the station doesn't take
-abbrev pub not_compatible : StationState → StationStepped
-not_compatible state = stays state (sent (indication (Protocol MessageNotCompatible)))
+abbrev pub not_compatible : StationState → Heard
+not_compatible state = says state (sent (indication (Protocol MessageNotCompatible)))
 
 -- a reset of the whole interface, of a station that is set up (TS 36.413 clause 8.7.1)
-abbrev pub reset : StationState → StationStepped
-reset Down = not_compatible Down
-reset Up = not_compatible Up
-reset (Ready tas) = stays (Ready tas) (sent pdu.ResetAcknowledge)
+abbrev pub reset : ℕ → StationState → Heard
+reset e Down = not_compatible Down
+reset e Up = not_compatible Up
+reset e (Ready tas) = record { state = Ready tas; sends = sent pdu.ResetAcknowledge; strangers = []; calls = Everyone (StationGone e) }
 
--- what a station that is not down is sent for the octets that it sends; no phone is served yet
-abbrev pub hears : Config → StationState → Result (Pdu (List ℕ)) S1apFault → StationStepped
-hears config state (Err fault) = stays state (indicated (cause_of fault))
-hears config state (Ok (pdu.SetupRequest m)) = set_up config m.supported_tas
-hears config state (Ok (pdu.Reset m)) = reset state
-hears config state (Ok (pdu.ErrorIndication m)) = stays state []
-hears config state (Ok pdu.ResetAcknowledge) = stays state []
-hears config state (Ok (pdu.SetupResponse m)) = not_compatible state
-hears config state (Ok (pdu.SetupFailure m)) = not_compatible state
-hears config state (Ok (pdu.InitialUeMessage m)) = not_compatible state
-hears config state (Ok (pdu.DownlinkNasTransport m)) = not_compatible state
-hears config state (Ok (pdu.UplinkNasTransport m)) = not_compatible state
-hears config state (Ok (pdu.NasNonDelivery m)) = not_compatible state
-hears config state (Ok (pdu.CapabilityInfo m)) = not_compatible state
-hears config state (Ok (pdu.ContextSetupRequest m)) = not_compatible state
-hears config state (Ok (pdu.ContextSetupResponse m)) = not_compatible state
-hears config state (Ok (pdu.ContextSetupFailure m)) = not_compatible state
-hears config state (Ok (pdu.ReleaseRequest m)) = not_compatible state
-hears config state (Ok (pdu.ReleaseCommand m)) = not_compatible state
-hears config state (Ok (pdu.ReleaseComplete m)) = not_compatible state
-hears config state (Ok (pdu.Paging m)) = not_compatible state
-hears config state (Ok (pdu.PathSwitchRequest m)) = not_compatible state
-hears config state (Ok (pdu.PathSwitchAcknowledge m)) = not_compatible state
-hears config state (Ok (pdu.PathSwitchFailure m)) = not_compatible state
+abbrev pub entry_of : ℕ → InitialUeMessage (List ℕ) → Entry (List ℕ)
+entry_of e m = record { station = e; enb_id = m.enb_id; nas = m.nas; tai = m.tai }
 
-abbrev pub station_step : Config → StationState → Event → StationStepped
-station_step config state (UpEvent e) = stays Up []
-station_step config state (LostEvent e) = stays Down []
-station_step config state (InEvent e octets) = hears config state (decoded octets.now)
+abbrev pub entered : Option ℕ → ℕ → StationState → InitialUeMessage (List ℕ) → Heard
+entered (Some slot) e state m = calling state (One slot (Initial (entry_of e m)))
+entered None e state m = telling state (foreign_answers e m.enb_id)
 
--- ---- what is refused
+-- INITIAL UE MESSAGE, of a station that is set up
+abbrev pub enters : Config → List Profile → ℕ → StationState → InitialUeMessage (List ℕ) → Heard
+enters c ps e Down m = not_compatible Down
+enters c ps e Up m = not_compatible Up
+enters c ps e (Ready tas) m = entered (named_slot c.network ps m.nas m.s_tmsi) e (Ready tas) m
 
-abbrev pub if_down : StationState → Option StepFault → Option StepFault → Option StepFault
-if_down Down x y = x
-if_down Up x y = y
-if_down (Ready tas) x y = y
+-- a message with an id of a slot
+abbrev pub told_slot : Option ℕ → StationState → UeMessage (List ℕ) → Heard
+told_slot (Some slot) state m = calling state (One slot (Message m))
+told_slot None state m = says state (answered_unknown m.body m)
 
--- the fault of an event of a station in that state, want of memory apart
-abbrev pub fault_in : StationState → Event → Option StepFault
-fault_in state (UpEvent e) = if_down state None (Some AlreadyUp)
-fault_in state (LostEvent e) = if_down state (Some NotUp) None
-fault_in state (InEvent e octets) = if_down state (Some NotUp) None
+abbrev pub told : List Profile → StationState → UeMessage (List ℕ) → Heard
+told ps state m = if nat_lt m.mme_id (2 ^ 31) then told_slot (slot_of_id m.mme_id ps) state m else telling state (stranger_answers m)
 
--- the station that an event is of
-abbrev pub station_of : Event → ℕ
-station_of (UpEvent e) = e
-station_of (LostEvent e) = e
-station_of (InEvent e octets) = e
+-- a message with an MME UE id, of a station that is set up
+abbrev pub tells : List Profile → StationState → UeMessage (List ℕ) → Heard
+tells ps Down m = not_compatible Down
+tells ps Up m = not_compatible Up
+tells ps (Ready tas) m = told ps (Ready tas) m
 
--- nothing happens at an event that is refused
-abbrev pub unless : {A : Type 0} → Option StepFault → A → A → A
-unless None before after = after
-unless (Some fault) before after = before
+abbrev pub ue_message : ℕ → ℕ → ℕ → UeBody (List ℕ) → UeMessage (List ℕ)
+ue_message e mme_id enb_id body = record { station = e; mme_id = mme_id; enb_id = enb_id; body = body }
 
--- one station's state after an event of its own
-abbrev pub own_state : Config → StationState → Event → StationState
-own_state config state event = unless (fault_in state event) state (station_step config state event).state
+-- what a station that is not down makes of the message that it sends
+abbrev pub hears_message : Config → List Profile → ℕ → StationState → Pdu (List ℕ) → Heard
+hears_message c ps e state (pdu.SetupRequest m) = set_up c e m.supported_tas
+hears_message c ps e state (pdu.Reset m) = reset e state
+hears_message c ps e state (pdu.ErrorIndication m) = says state []
+hears_message c ps e state pdu.ResetAcknowledge = says state []
+hears_message c ps e state (pdu.InitialUeMessage m) = enters c ps e state m
+hears_message c ps e state (pdu.UplinkNasTransport m) = tells ps state (ue_message e m.mme_id m.enb_id (Uplink m.nas m.tai))
+hears_message c ps e state (pdu.NasNonDelivery m) = tells ps state (ue_message e m.mme_id m.enb_id Notice)
+hears_message c ps e state (pdu.CapabilityInfo m) = tells ps state (ue_message e m.mme_id m.enb_id Notice)
+hears_message c ps e state (pdu.ContextSetupResponse m) = tells ps state (ue_message e m.mme_id m.enb_id Notice)
+hears_message c ps e state (pdu.ContextSetupFailure m) = tells ps state (ue_message e m.mme_id m.enb_id ContextSetupFailure)
+hears_message c ps e state (pdu.ReleaseRequest m) = tells ps state (ue_message e m.mme_id m.enb_id (ReleaseRequest m.cause))
+hears_message c ps e state (pdu.ReleaseComplete m) = tells ps state (ue_message e m.mme_id m.enb_id ReleaseComplete)
+hears_message c ps e state (pdu.PathSwitchRequest m) = tells ps state (ue_message e m.source_mme_id m.enb_id PathSwitch)
+hears_message c ps e state (pdu.SetupResponse m) = not_compatible state
+hears_message c ps e state (pdu.SetupFailure m) = not_compatible state
+hears_message c ps e state (pdu.DownlinkNasTransport m) = not_compatible state
+hears_message c ps e state (pdu.ContextSetupRequest m) = not_compatible state
+hears_message c ps e state (pdu.ReleaseCommand m) = not_compatible state
+hears_message c ps e state (pdu.Paging m) = not_compatible state
+hears_message c ps e state (pdu.PathSwitchAcknowledge m) = not_compatible state
+hears_message c ps e state (pdu.PathSwitchFailure m) = not_compatible state
 
--- one station over a list of events, from a state: by its own events alone
-abbrev pub station_run : Config → ℕ → StationState → List Event → StationState
-station_run config e state [] = state
-station_run config e state (event ∷ events) =
-    station_run config e (if station_of event == e then own_state config state event else state) events
+-- and of the octets
+abbrev pub hears : Config → List Profile → ℕ → StationState → Result (Pdu (List ℕ)) S1apFault → Heard
+hears c ps e state (Err fault) = says state (indicated (cause_of fault))
+hears c ps e state (Ok m) = hears_message c ps e state m

@@ -1,60 +1,179 @@
 -- The whole MME, and the whole output of an event.
-use Rattle.std.specs.Prelude.{ℕ, Bool, true, false, List, [], ◌∷◌, ◌++◌, map, replicate, Option, Some, None, Result, Ok, Err, if◌then◌else◌, slice_index_or, slice_set}
+use Rattle.std.specs.Prelude.{ℕ, ◌+◌, ◌^◌, ◌==◌, nat_lt, Bool, true, false, List, [], ◌∷◌, ◌++◌, map, Option, Some, None, is_some, Result, Ok, Err, if◌then◌else◌, slice_set}
+use Rattle.identity_slots.specs.declared.profile.Profile.{Profile}
+use Rattle.identity_slots.specs.declared.profile.Vector.{Vector}
+use Rattle.identity_slots.specs.Provisioned.{Provisioned, slot_of_imsi, vectors_at}
+use Rattle.s1ap_messages.specs.Pdus.{decoded}
+use Rattle.emm_machine.specs.declared.draft.Draft.{Draft}
+use Rattle.emm_machine.specs.declared.octets.Answer.{Answer}
+use Rattle.emm_machine.specs.declared.network.Network.{Network}
+use Rattle.emm_machine.specs.declared.setting.Setting.{Setting}
+use Rattle.emm_machine.specs.declared.stations.StationState.{StationState}
+use Rattle.emm_machine.specs.declared.stations.StationState.TheVariants.{Down, Up, Ready}
+use Rattle.emm_machine.specs.Stations.{no_stations, station_at}
+use Rattle.emm_machine.specs.Steps.{Item, Nothing, StationGone, Tick, Data, Cancel, solo_step}
+use Rattle.emm_machine.specs.Whole.{Whole}
+use Rattle.emm_machine.specs.Words.{fresh_solo}
 use Rattle.mme_core.specs.declared.config.Config.{Config}
 use Rattle.mme_core.specs.declared.event.Event.{Event}
+use Rattle.mme_core.specs.declared.event.Event.TheVariants.{Up as UpEvent, Lost as LostEvent, In as InEvent, Tick as TickEvent, Data as DataEvent, Cancel as CancelEvent}
 use Rattle.mme_core.specs.declared.event.StepFault.{StepFault}
-use Rattle.mme_core.specs.declared.event.StepFault.TheVariants.{NotUp, AlreadyUp, NoMemory}
+use Rattle.mme_core.specs.declared.event.StepFault.TheVariants.{NotUp, AlreadyUp, ClockSpent, NoMemory, UnknownImsi}
 use Rattle.mme_core.specs.declared.out.Out.{Out}
-use Rattle.mme_core.specs.declared.out.Owner.TheVariants.{Station}
-use Rattle.mme_core.specs.declared.station.StationState.{StationState}
-use Rattle.mme_core.specs.declared.station.StationState.TheVariants.{Down}
-use Rattle.mme_core.specs.Stations.{StationStepped, station_step, station_of, fault_in, unless, station_run}
+use Rattle.mme_core.specs.declared.out.Owner.TheVariants.{Station, Subscriber}
+use Rattle.mme_core.specs.Sight.{Sight}
+use Rattle.mme_core.specs.Stations.{Calls, NoOne, One, Everyone, Heard, calling, hears, says}
 
--- what the MME is: its configuration, its clock and its stations by number
-pub record World : Type 0 where
-  pub config : Config
-  pub clock : ℕ
-  pub stations : List StationState
+-- ---- what is refused
 
-abbrev pub station_at : List StationState → ℕ → StationState
-station_at stations e = slice_index_or stations e Down
+-- nothing happens at an event that is refused
+abbrev pub unless : {A : Type 0} → Option StepFault → A → A → A
+unless None before after = after
+unless (Some fault) before after = before
 
--- 128 stations that are down
-unfoldable pub no_stations : List StationState
-no_stations = replicate 128 Down
+abbrev pub if_down : StationState → Option StepFault → Option StepFault → Option StepFault
+if_down Down x y = x
+if_down Up x y = y
+if_down (Ready tas) x y = y
 
-abbrev pub fresh_world : Config → World
-fresh_world config = record { config = config; clock = config.clock; stations = no_stations }
-
--- the state of the station that an event is of
-abbrev pub state_for : World → Event → StationState
-state_for w event = station_at w.stations (station_of event)
+abbrev pub if_known : Option ℕ → Option StepFault
+if_known None = Some UnknownImsi
+if_known (Some slot) = None
 
 -- the fault of an event, want of memory apart
-abbrev pub fault_of : World → Event → Option StepFault
-fault_of w event = fault_in (state_for w event) event
+abbrev pub fault_of : Sight → Event → Option StepFault
+fault_of s (UpEvent e) = if_down (station_at s.stations e) None (Some AlreadyUp)
+fault_of s (LostEvent e) = if_down (station_at s.stations e) (Some NotUp) None
+fault_of s (InEvent e octets) = if_down (station_at s.stations e) (Some NotUp) None
+fault_of s TickEvent = if nat_lt s.clock (2 ^ 62) then None else Some ClockSpent
+fault_of s (DataEvent imsi) = if_known (slot_of_imsi imsi s.profiles)
+fault_of s (CancelEvent imsi) = if_known (slot_of_imsi imsi s.profiles)
 
-abbrev pub stepped : World → Event → StationStepped
-stepped w event = station_step w.config (state_for w event) event
+-- ---- what an event that is not refused makes of the station that it is of, and whom it calls
+
+-- the station that an event is of
+abbrev pub station_of : Event → Option ℕ
+station_of (UpEvent e) = Some e
+station_of (LostEvent e) = Some e
+station_of (InEvent e octets) = Some e
+station_of TickEvent = None
+station_of (DataEvent imsi) = None
+station_of (CancelEvent imsi) = None
+
+abbrev pub one_if : Option ℕ → Item → Calls
+one_if None item = NoOne
+one_if (Some slot) item = One slot item
+
+-- where an event is of no station, the state that is named here is no station's
+unfoldable pub happens : Sight → Event → Heard
+happens s (UpEvent e) = says Up []
+happens s (LostEvent e) = calling Down (Everyone (StationGone e))
+happens s (InEvent e octets) = hears s.config s.profiles e (station_at s.stations e) (decoded octets.now)
+happens s TickEvent = calling Down (Everyone Tick)
+happens s (DataEvent imsi) = calling Down (one_if (slot_of_imsi imsi s.profiles) (Data s.stations))
+happens s (CancelEvent imsi) = calling Down (one_if (slot_of_imsi imsi s.profiles) Cancel)
+
+abbrev pub clock_after : ℕ → Event → ℕ
+clock_after clock (UpEvent e) = clock
+clock_after clock (LostEvent e) = clock
+clock_after clock (InEvent e octets) = clock
+clock_after clock TickEvent = clock + 1
+clock_after clock (DataEvent imsi) = clock
+clock_after clock (CancelEvent imsi) = clock
+
+abbrev pub stations_by : Option ℕ → List StationState → StationState → List StationState
+stations_by None stations state = stations
+stations_by (Some e) stations state = slice_set stations e state
+
+abbrev pub sight_moved : Sight → Event → Sight
+sight_moved s event = record {
+  config = s.config;
+  clock = clock_after s.clock event;
+  stations = stations_by (station_of event) s.stations (happens s event).state;
+  profiles = s.profiles;
+}
+
+-- the clock and the stations after an event
+abbrev pub sight_after : Sight → Event → Sight
+sight_after s event = unless (fault_of s event) s (sight_moved s event)
+
+abbrev pub sight_run : Sight → List Event → Sight
+sight_run s [] = s
+sight_run s (event ∷ events) = sight_run (sight_after s event) events
+
+-- ---- the subscribers
+
+-- what a slot is called with
+abbrev pub called : Calls → ℕ → Item
+called NoOne slot = Nothing
+called (One n item) slot = if n == slot then item else Nothing
+called (Everyone item) slot = item
+
+abbrev pub whole_step : Whole → Item → Draft
+whole_step w item = solo_step w.setting w.solo item
+
+abbrev pub whole_after : Whole → Item → Whole
+whole_after w item = record { setting = w.setting; solo = (whole_step w item).solo }
+
+-- each subscriber after its own item, from slot n on
+abbrev pub each_after : (ℕ → Item) → ℕ → List Whole → List Whole
+each_after items n [] = []
+each_after items n (w ∷ ws) = whole_after w (items n) ∷ each_after items (n + 1) ws
+
+abbrev pub slot_out : ℕ → Answer → Out
+slot_out slot a = record { owner = Subscriber slot; station = a.station; octets = a.octets }
+
+-- what each subscriber sends at its own item, by slot
+abbrev pub each_sends : (ℕ → Item) → ℕ → List Whole → List Out
+each_sends items n [] = []
+each_sends items n (w ∷ ws) = map (slot_out n) (whole_step w (items n)).sent ++ each_sends items (n + 1) ws
+
+-- subscribers who were never seen, from a slot on
+abbrev pub fresh_subscribers : Network → ℕ → List Profile → List (List Vector) → List Whole
+fresh_subscribers n slot [] vectors = []
+fresh_subscribers n slot (p ∷ ps) vectors =
+    record { setting = record { network = n; slot = slot; profile = p; vectors = vectors_at slot vectors }; solo = fresh_solo } ∷ fresh_subscribers n (slot + 1) ps vectors
+
+-- ---- the MME
+
+pub record World : Type 0 where
+  pub sight : Sight
+  pub subscribers : List Whole
+
+abbrev pub fresh_world : Config → Provisioned → World
+fresh_world config p = record {
+  sight = record { config = config; clock = config.clock; stations = no_stations; profiles = p.profiles };
+  subscribers = fresh_subscribers config.network 0 p.profiles p.vectors;
+}
+
+abbrev pub items_of : Sight → Event → ℕ → Item
+items_of s event = called (happens s event).calls
 
 abbrev pub moved : World → Event → World
-moved w event = record { config = w.config; clock = w.clock; stations = slice_set w.stations (station_of event) (stepped w event).state }
+moved w event = record { sight = sight_moved w.sight event; subscribers = each_after (items_of w.sight event) 0 w.subscribers }
 
 -- the MME after an event
 abbrev pub world_after : World → Event → World
-world_after w event = unless (fault_of w event) w (moved w event)
+world_after w event = unless (fault_of w.sight event) w (moved w event)
 
 abbrev pub world_run : World → List Event → World
 world_run w [] = w
 world_run w (event ∷ events) = world_run (world_after w event) events
 
--- ---- output
+-- ---- output: of the station, then of strangers, then of subscribers by slot
 
 abbrev pub station_out : ℕ → List ℕ → Out
 station_out e octets = record { owner = Station e; station = e; octets = octets }
 
+abbrev pub station_sends : Option ℕ → List (List ℕ) → List Out
+station_sends None sends = []
+station_sends (Some e) sends = map (station_out e) sends
+
+abbrev pub front_sends : Sight → Event → List Out
+front_sends s event = station_sends (station_of event) (happens s event).sends ++ (happens s event).strangers
+
 abbrev pub outputs : World → Event → List Out
-outputs w event = map (station_out (station_of event)) (stepped w event).sends
+outputs w event = front_sends w.sight event ++ each_sends (items_of w.sight event) 0 w.subscribers
 
 abbrev pub reply_of : Option StepFault → List Out → Result (List Out) StepFault
 reply_of None outs = Ok outs
@@ -62,7 +181,7 @@ reply_of (Some fault) outs = Err fault
 
 -- the whole output of an event, or its fault
 abbrev pub reply : World → Event → Result (List Out) StepFault
-reply w event = reply_of (fault_of w event) (outputs w event)
+reply w event = reply_of (fault_of w.sight event) (outputs w event)
 
 abbrev pub replies : World → List Event → List (Result (List Out) StepFault)
 replies w [] = []
@@ -75,6 +194,8 @@ is_no_memory (Ok outs) = false
 is_no_memory (Err NoMemory) = true
 is_no_memory (Err NotUp) = false
 is_no_memory (Err AlreadyUp) = false
+is_no_memory (Err ClockSpent) = false
+is_no_memory (Err UnknownImsi) = false
 
 abbrev pub taken : List Event → List (Result (List Out) StepFault) → List Event
 taken [] rs = []
@@ -84,15 +205,3 @@ taken (e ∷ es) (r ∷ rs) = if is_no_memory r then taken es rs else e ∷ take
 abbrev pub given : List (Result (List Out) StepFault) → List (Result (List Out) StepFault)
 given [] = []
 given (r ∷ rs) = if is_no_memory r then given rs else r ∷ given rs
-
--- ---- each station by its own machine
-
--- the whole output of an event, or its fault, from the state of the station that it is of
-abbrev pub own_reply : Config → StationState → Event → Result (List Out) StepFault
-own_reply config state event = reply_of (fault_in state event) (map (station_out (station_of event)) (station_step config state event).sends)
-
--- the replies to events after those before, each from its station's own run over the events before it
-abbrev pub alone_replies : World → List Event → List Event → List (Result (List Out) StepFault)
-alone_replies w before [] = []
-alone_replies w before (event ∷ events) =
-    own_reply w.config (station_run w.config (station_of event) (station_at w.stations (station_of event)) before) event ∷ alone_replies w (before ++ event ∷ []) events

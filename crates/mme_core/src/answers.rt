@@ -41,9 +41,9 @@ pub fn setup_response<'a>(alloc: Global, config: &Config) -> Result<S1apPdu<'a>,
     ensures { IfOk result (λ m. lists m ≡ setup_response config.now) }
 {
     let gummei = ServedGummei {
-        plmns: only::<Plmn, 32>(alloc, config.plmn)?,
-        groups: only::<MmeGroup, 65535>(alloc, config.group)?,
-        codes: only::<MmeCode, 256>(alloc, config.code)?,
+        plmns: only::<Plmn, 32>(alloc, config.network.plmn)?,
+        groups: only::<MmeGroup, 65535>(alloc, config.network.group)?,
+        codes: only::<MmeCode, 256>(alloc, config.network.code)?,
     };
     let served_gummeis = only::<ServedGummei, 8>(alloc, gummei)?;
     Ok(Pdu::SetupResponse(SetupResponse {

@@ -1,79 +1,11 @@
 //! What an MME is given when it begins.
 
-ghost use Rattle.std.specs.Prelude.{◌≡◌, ◌↔◌, ℕ, List, IsSome, IfSome, IsTrue};
-ghost use Rattle.mme_core.specs.Config.{IsLabel, is_label_octet};
-
-use arrayvec::ArrayVec;
-use per_bits::Whole;
-use s1ap_elements::{MmeCode, MmeGroup, Plmn};
-use std::marker::Model;
-
-/// A maximum bit rate of all bearers of a phone, 1 to 10^10 bits a second (TS 36.413 clause 9.2.1.20).
-pub type AggregateBitRate = Whole<1, 10000000000>;
-
-/// An access point name of one label, 1 to 63 letters, digits and hyphens (TS 23.003 clause 9.1); a contract sees its octets.
-#[derive(Drop)]
-pub struct Apn {
-    label: ArrayVec<u8, 63>,
-}
-
-impl Model for Apn {
-    ghost use Rattle.std.specs.Prelude.{ℕ, List};
-
-    ghost Value = { List ℕ };
-
-    ghost use Rattle.mme_core.specs.Config.{IsLabel};
-
-    ghost view = { λ a. a.label.items };
-
-    ghost invariant = { λ a. IsLabel a.label.items };
-}
-
-impl Apn {
-    /// The name of this label, where it is one; takes no memory.
-    pub fn try_new(label: &[u8]) -> Option<Apn>
-        ensures some { IsSome result ↔ IsLabel label.now }
-        ensures value { IfSome result (λ a. a ≡ label.now) }
-    {
-        if label.is_empty() || !label.iter().all(|octet| is_label_octet(*octet)) {
-            return None;
-        }
-        let mut octets = ArrayVec::new();
-        match octets.try_extend_from_slice(label) {
-            Ok(()) => Some(Apn { label: octets }),
-            Err(_) => None,
-        }
-    }
-
-    /// The octets of the label.
-    pub fn as_slice(&self) -> &[u8]
-        ensures { result.now ≡ self.now }
-    {
-        self.label.as_slice()
-    }
-}
-
-fn is_label_octet(octet: u8) -> bool
-    ensures { result ≡ is_label_octet octet }
-{
-    octet.is_ascii_alphanumeric() || octet == b'-'
-}
+use emm_machine::Network;
 
 /// The MME's network, group and code, what it grants each phone, and the clock that it starts at.
 #[derive(Drop)]
 pub struct Config {
-    /// The network, packed as S1AP has it.
-    pub plmn: Plmn,
-    /// The group of MMEs.
-    pub group: MmeGroup,
-    /// The MME in its group.
-    pub code: MmeCode,
-    /// Where bearers lead.
-    pub apn: Apn,
-    /// Downlink rate of each phone.
-    pub down: AggregateBitRate,
-    /// Uplink rate of each phone.
-    pub up: AggregateBitRate,
+    pub network: Network,
     /// The clock, in ticks, at most 2^62.
     pub clock: u64,
 }

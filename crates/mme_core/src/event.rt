@@ -3,11 +3,12 @@
 ghost use Rattle.std.specs.Prelude.{◌≡◌};
 ghost use Rattle.mme_core.specs.declared.event.StepFault.TheVariants.{NoMemory};
 
-use crate::station::StationNumber;
+use emm_machine::StationNumber;
+use nas_elements::Imsi;
 use std::alloc::{AllocError, AllocFailed};
 
 /// What happens to an MME.
-#[derive(Clone, Copy, Debug, PartialEq, Eq)]
+#[derive(Clone, Copy)]
 pub enum Event<'a> {
     /// A station connects.
     Up(StationNumber),
@@ -15,11 +16,16 @@ pub enum Event<'a> {
     Lost(StationNumber),
     /// A station sends one whole message.
     In(StationNumber, &'a [u8]),
+    /// A second has passed.
+    Tick,
+    /// Downlink data waits for a subscriber.
+    Data(Imsi),
+    /// A subscription is withdrawn.
+    Cancel(Imsi),
 }
 
 impl<'a> Event<'a> {
     ghost use Rattle.std.specs.Prelude.{◌≡◌};
-    ghost use Rattle.mme_core.specs.Stations.{station_of};
 
     /// The same event.
     pub fn again(&self) -> Event<'a>
@@ -29,15 +35,9 @@ impl<'a> Event<'a> {
             Event::Up(station) => Event::Up(*station),
             Event::Lost(station) => Event::Lost(*station),
             Event::In(station, octets) => Event::In(*station, octets),
-        }
-    }
-
-    /// The station that the event is of.
-    pub fn station(&self) -> StationNumber
-        ensures { result ≡ station_of self.now }
-    {
-        match self {
-            Event::Up(station) | Event::Lost(station) | Event::In(station, _) => *station,
+            Event::Tick => Event::Tick,
+            Event::Data(imsi) => Event::Data(*imsi),
+            Event::Cancel(imsi) => Event::Cancel(*imsi),
         }
     }
 }
@@ -49,8 +49,12 @@ pub enum StepFault {
     NotUp = 1,
     /// The station is not down.
     AlreadyUp = 2,
+    /// The clock is at its last tick, 2^62.
+    ClockSpent = 3,
     /// A growth of memory was refused.
     NoMemory = 4,
+    /// Nobody is provisioned with the IMSI.
+    UnknownImsi = 5,
 }
 
 impl From<AllocError> for StepFault {

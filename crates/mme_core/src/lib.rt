@@ -1,16 +1,19 @@
-//! The mobility management entity: what it sends for each owner, and no more.
+//! The MME of the LTE core network: stations, subscribers, and what it sends at each event.
+//!
+//! Events go in one at a time by [`Mme::step`] or in a list by [`Mme::run`]. What a subscriber is sent is proved to be what its
+//! one machine sends over the items that the events have for it, whatever else they hold.
 #![tactic(auto)]
 
 mod answers;
+mod calls;
 mod config;
 mod event;
 mod hearing;
 mod mme;
+mod naming;
 mod out;
-mod station;
 
-pub use config::{AggregateBitRate, Apn, Config};
+pub use config::Config;
 pub use event::{Event, StepFault};
 pub use mme::Mme;
-pub use out::{Out, Outs, Owner, SentOctets};
-pub use station::{StationNumber, StationState};
+pub use out::{Out, Outs, Owner};

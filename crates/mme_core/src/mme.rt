@@ -1,25 +1,43 @@
 //! The MME.
 
-ghost use Rattle.std.specs.Prelude.{◌≡◌, ◌≢◌, ◌<◌, ◌++◌, ◌∷◌, [], ℕ, map, length, IfOk, IfErr, OnOk, OnErr, IsTrue, Ok, Err, Some, None};
+ghost use Rattle.std.specs.Prelude.{◌≡◌, ◌≢◌, ◌+◌, ◌<◌, ◌≤◌, ◌++◌, [], ℕ, map, length, slice_get, option_map, IfOk, IfErr, OnOk, OnErr, Ok, Err, Some, None};
+ghost use Rattle.identity_slots.specs.Provisioned.{slot_of_imsi};
+ghost use Rattle.emm_machine.specs.Stations.{station_at};
+ghost use Rattle.emm_machine.specs.Whole.{Whole};
+ghost use Rattle.emm_machine.specs.Words.{states_of};
 ghost use Rattle.mme_core.specs.declared.event.StepFault.TheVariants.{NoMemory};
 ghost use Rattle.mme_core.specs.declared.event.Event.TheVariants as events;
-ghost use Rattle.mme_core.specs.Stations.{station_run, written_octets};
-ghost use Rattle.mme_core.specs.World.{World, fresh_world, fault_of, outputs, moved, world_after, world_run, reply, replies, station_at, station_out, taken, given, alone_replies};
+ghost use Rattle.mme_core.specs.Projection.{alone_after, projection, station_run, states_at, told, told_alone};
+ghost use Rattle.emm_machine.specs.Steps.{item_of};
+ghost use Rattle.mme_core.specs.Seen.{IsFor, calls_of, settled, solos_after, with_solo, with_solos};
+ghost use Rattle.mme_core.specs.Stations.{Everyone, One, written_octets};
+ghost use Rattle.mme_core.specs.World.{World, called, each_after, each_sends, fresh_subscribers, fresh_world, given, replies, reply, slot_out, station_out, taken, world_after, world_run};
 
+use crate::calls::{Calls, Prepared, Summons};
 use crate::config::Config;
 use crate::event::{Event, StepFault};
 use crate::hearing::hears;
-use crate::out::{Out, Outs, Owner, SentOctets};
-use crate::station::{StationNumber, StationState};
+use crate::out::{Out, Outs, Owner};
+use emm_machine::{
+    Answers, Draft, EnbWorld, Network, SentOctets, Solo, SoloEvent, States, StationNumber,
+    StationState, Subscriber,
+};
+use identity_slots::{Provision, Slot, Vector};
+use nas_elements::Imsi;
 use std::alloc::{AllocError, Global};
 use std::marker::Model;
 
-/// An MME with its stations; a contract sees its configuration, clock and stations.
+/// The last tick of the clock.
+const LAST_TICK: u64 = 1 << 62;
+
+/// An MME with its stations and its subscribers; a contract sees what every owner may see, and each subscriber.
 #[derive(Drop)]
 pub struct Mme {
     config: Config,
     clock: u64,
-    stations: Vec<StationState>,
+    stations: EnbWorld,
+    provision: Provision,
+    subscribers: Vec<Subscriber>,
     alloc: Global,
 }
 
@@ -29,27 +47,47 @@ impl Model for Mme {
 
     ghost Value = { World };
 
-    ghost view = { λ m. record { config = m.config; clock = m.clock; stations = m.stations.items } };
+    ghost view = { λ m. record {
+      sight = record { config = m.config; clock = m.clock; stations = m.stations; profiles = m.provision.profiles };
+      subscribers = m.subscribers.items;
+    } };
 
-    ghost invariant = { λ m. length m.stations.items ≡ 128 };
+    ghost invariant = { λ m. length m.subscribers.items ≡ length m.provision.profiles };
 }
 
 impl Mme {
-    /// An MME whose stations are all down.
-    pub fn new(alloc: Global, config: Config) -> Result<Mme, AllocError>
-        ensures { IfOk result (λ m. m ≡ fresh_world config) }
+    /// An MME whose stations are all down, and whose subscribers were never seen.
+    pub fn new(alloc: Global, config: Config, provision: Provision) -> Result<Mme, AllocError>
+        ensures { IfOk result (λ m. m ≡ fresh_world config provision) }
     {
-        let mut stations = Vec::with_capacity(alloc, 128)?;
-        for _ in 0..128usize {
-            stations.push(StationState::Down)?;
-        }
+        let subscribers = fresh_subscribers(alloc, &config.network, &provision)?;
+        let stations = EnbWorld::new(alloc)?;
         let clock = config.clock;
         Ok(Mme {
             config,
             clock,
             stations,
+            provision,
+            subscribers,
             alloc,
         })
+    }
+
+    /// The slot of an IMSI, if it is provisioned. Takes no memory.
+    pub fn slot_of_imsi(&self, imsi: Imsi) -> Option<Slot>
+        ensures { result ≡ slot_of_imsi imsi self.now.sight.profiles }
+    {
+        self.provision.slot_of_imsi(imsi)
+    }
+
+    /// The states of a slot, if it is provisioned. Takes no memory.
+    pub fn states(&self, slot: Slot) -> Option<States>
+        ensures { result ≡ states_at slot self.now }
+    {
+        match self.subscribers.as_slice().get(slot.get() as usize) {
+            Some(subscriber) => Some(subscriber.states()),
+            None => None,
+        }
     }
 
     /// One event: what is sent, or why it is refused. A refused event leaves the MME as it was.
@@ -63,6 +101,9 @@ impl Mme {
             Event::Up(station) => self.up(station),
             Event::Lost(station) => self.lost(station),
             Event::In(station, octets) => self.hear(station, octets),
+            Event::Tick => self.tick(),
+            Event::Data(imsi) => self.data(imsi),
+            Event::Cancel(imsi) => self.cancel(imsi),
         }
     }
 
@@ -70,15 +111,17 @@ impl Mme {
     pub fn run(&mut self, events: &[Event]) -> Result<Vec<Result<Outs, StepFault>>, AllocError>
         ensures count { IfOk result (λ rs. length rs.items ≡ length events.now) }
         ensures replies { IfOk result (λ rs. given rs.items ≡ replies self.old (taken events.now rs.items)) }
-        ensures alone { IfOk result (λ rs. given rs.items ≡ alone_replies self.old [] (taken events.now rs.items)) }
         ensures after { IfOk result (λ rs. self.new ≡ world_run self.old (taken events.now rs.items)) }
+        ensures told { IfOk result (λ rs. (slot : ℕ) (w : Whole) → slice_get self.old.subscribers slot ≡ Some w →
+            told slot (given rs.items) ≡ told_alone w (projection slot self.old.sight (taken events.now rs.items))) }
+        ensures states { IfOk result (λ rs. (slot : ℕ) (w : Whole) → slice_get self.old.subscribers slot ≡ Some w →
+            slice_get self.new.subscribers slot ≡ Some (alone_after w (projection slot self.old.sight (taken events.now rs.items)))) }
         ensures stations { IfOk result (λ rs. (e : ℕ) → e < 128 →
-            station_at self.new.stations e ≡ station_run self.old.config e (station_at self.old.stations e) (taken events.now rs.items)) }
+            station_at self.new.sight.stations e ≡ station_run self.old.sight e (station_at self.old.sight.stations e) (taken events.now rs.items)) }
         ensures err { OnErr result (self.new ≡ self.old) }
     {
         let mut replies = Vec::with_capacity(self.alloc, events.len())?;
         for event in events {
-            let _station = event.station().get();
             let reply = self.step(event.again());
             replies.push_reserved(reply);
         }
@@ -91,10 +134,9 @@ impl Mme {
         ensures refused { IfErr result (λ fault. fault ≢ NoMemory → reply self.old (events.Up station) ≡ Err fault) }
         ensures err { OnErr result (self.new ≡ self.old) }
     {
-        let place = station.get() as usize;
-        match &self.stations[place] {
+        match self.stations.get(station) {
             StationState::Down => {
-                self.stations[place] = StationState::Up;
+                self.stations.set(station, StationState::Up);
                 Ok(Outs::new(self.alloc))
             }
             StationState::Up | StationState::Ready(_) => Err(StepFault::AlreadyUp),
@@ -107,14 +149,23 @@ impl Mme {
         ensures refused { IfErr result (λ fault. fault ≢ NoMemory → reply self.old (events.Lost station) ≡ Err fault) }
         ensures err { OnErr result (self.new ≡ self.old) }
     {
-        let place = station.get() as usize;
-        match &self.stations[place] {
-            StationState::Down => Err(StepFault::NotUp),
-            StationState::Up | StationState::Ready(_) => {
-                self.stations[place] = StationState::Down;
-                Ok(Outs::new(self.alloc))
-            }
+        if let StationState::Down = self.stations.get(station) {
+            return Err(StepFault::NotUp);
         }
+        let mut outs = Outs::new(self.alloc);
+        let summons = Summons {
+            event: SoloEvent::StationGone(station),
+        };
+        let solos = prepare_everyone(
+            self.alloc,
+            self.subscribers.as_slice(),
+            &summons.event,
+            &self.stations,
+            &mut outs,
+        )?;
+        self.stations.set(station, StationState::Down);
+        settle_everyone(&mut self.subscribers, solos);
+        Ok(outs)
     }
 
     fn hear(&mut self, station: StationNumber, octets: &[u8]) -> Result<Outs, StepFault>
@@ -123,16 +174,265 @@ impl Mme {
         ensures refused { IfErr result (λ fault. fault ≢ NoMemory → reply self.old (events.In station octets.entry) ≡ Err fault) }
         ensures err { OnErr result (self.new ≡ self.old) }
     {
-        let place = station.get() as usize;
-        if let StationState::Down = &self.stations[place] {
+        let state = self.stations.get(station);
+        if let StationState::Down = state {
             return Err(StepFault::NotUp);
         }
-        let heard = hears(self.alloc, &self.config, &self.stations[place], octets)?;
-        let outs = outs_to(self.alloc, station, heard.says)?;
-        if let Some(state) = heard.state {
-            self.stations[place] = state;
+        let heard = hears(
+            self.alloc,
+            &self.config,
+            &self.provision,
+            station,
+            state,
+            octets,
+        )?;
+        let mut outs = outs_to(self.alloc, station, heard.says)?;
+        if let Some(out) = heard.stranger {
+            outs.push(out)?;
         }
+        let prepared = prepare(
+            self.alloc,
+            self.subscribers.as_slice(),
+            &heard.calls,
+            &self.stations,
+            &mut outs,
+        )?;
+        if let Some(state) = heard.state {
+            self.stations.set(station, state);
+        }
+        settle(&mut self.subscribers, prepared);
         Ok(outs)
+    }
+
+    fn tick(&mut self) -> Result<Outs, StepFault>
+        ensures reply { IfOk result (λ outs. reply self.old events.Tick ≡ Ok outs) }
+        ensures after { OnOk result (self.new ≡ world_after self.old events.Tick) }
+        ensures refused { IfErr result (λ fault. fault ≢ NoMemory → reply self.old events.Tick ≡ Err fault) }
+        ensures err { OnErr result (self.new ≡ self.old) }
+    {
+        if self.clock >= LAST_TICK {
+            return Err(StepFault::ClockSpent);
+        }
+        let summons = Summons {
+            event: SoloEvent::Tick,
+        };
+        let mut outs = Outs::new(self.alloc);
+        let solos = prepare_everyone(
+            self.alloc,
+            self.subscribers.as_slice(),
+            &summons.event,
+            &self.stations,
+            &mut outs,
+        )?;
+        self.clock += 1;
+        settle_everyone(&mut self.subscribers, solos);
+        Ok(outs)
+    }
+
+    fn data(&mut self, imsi: Imsi) -> Result<Outs, StepFault>
+        ensures reply { IfOk result (λ outs. reply self.old (events.Data imsi) ≡ Ok outs) }
+        ensures after { OnOk result (self.new ≡ world_after self.old (events.Data imsi)) }
+        ensures refused { IfErr result (λ fault. fault ≢ NoMemory → reply self.old (events.Data imsi) ≡ Err fault) }
+        ensures err { OnErr result (self.new ≡ self.old) }
+    {
+        let Some(slot) = self.provision.slot_of_imsi(imsi) else {
+            return Err(StepFault::UnknownImsi);
+        };
+        let summons = Summons {
+            event: SoloEvent::Data,
+        };
+        let mut outs = Outs::new(self.alloc);
+        let prepared = prepare_one(
+            self.alloc,
+            self.subscribers.as_slice(),
+            slot,
+            &summons.event,
+            &self.stations,
+            &mut outs,
+        )?;
+        settle(&mut self.subscribers, prepared);
+        Ok(outs)
+    }
+
+    fn cancel(&mut self, imsi: Imsi) -> Result<Outs, StepFault>
+        ensures reply { IfOk result (λ outs. reply self.old (events.Cancel imsi) ≡ Ok outs) }
+        ensures after { OnOk result (self.new ≡ world_after self.old (events.Cancel imsi)) }
+        ensures refused { IfErr result (λ fault. fault ≢ NoMemory → reply self.old (events.Cancel imsi) ≡ Err fault) }
+        ensures err { OnErr result (self.new ≡ self.old) }
+    {
+        let Some(slot) = self.provision.slot_of_imsi(imsi) else {
+            return Err(StepFault::UnknownImsi);
+        };
+        let summons = Summons {
+            event: SoloEvent::Cancel,
+        };
+        let mut outs = Outs::new(self.alloc);
+        let prepared = prepare_one(
+            self.alloc,
+            self.subscribers.as_slice(),
+            slot,
+            &summons.event,
+            &self.stations,
+            &mut outs,
+        )?;
+        settle(&mut self.subscribers, prepared);
+        Ok(outs)
+    }
+}
+
+// What a subscriber sends, behind what is sent so far.
+fn send_all(alloc: Global, outs: &mut Outs, slot: Slot, answers: &Answers) -> Result<(), AllocError>
+    ensures { OnOk result (outs.new ≡ outs.old ++ map (slot_out slot) answers.now) }
+{
+    for answer in answers.as_slice() {
+        outs.push(Out {
+            owner: Owner::Subscriber(slot),
+            station: answer.station,
+            octets: answer.octets.copy(alloc)?,
+        })?;
+    }
+    Ok(())
+}
+
+// The slot of a place.
+fn slot_of(place: usize) -> Slot
+    requires { place < 2048 }
+    ensures { result ≡ place }
+{
+    match Slot::try_new(place as u32) {
+        Some(slot) => slot,
+        None => unreachable!(),
+    }
+}
+
+// The subscribers of a provisioning, who were never seen.
+fn fresh_subscribers(
+    alloc: Global,
+    network: &Network,
+    provision: &Provision,
+) -> Result<Vec<Subscriber>, AllocError>
+    ensures { IfOk result (λ v. v.items ≡ fresh_subscribers network.now 0 provision.now.profiles provision.now.vectors) }
+{
+    let count = provision.len();
+    let mut subscribers = Vec::with_capacity(alloc, count)?;
+    for place in 0..count {
+        let slot = slot_of(place);
+        let vectors = copied(alloc, provision.vectors(slot))?;
+        let profile = provision.profile(slot);
+        subscribers.push(Subscriber::new(alloc, network, slot, profile, vectors)?)?;
+    }
+    Ok(subscribers)
+}
+
+fn copied(alloc: Global, vectors: &[Vector]) -> Result<Vec<Vector>, AllocError>
+    ensures { IfOk result (λ v. v.items ≡ vectors.now) }
+{
+    let mut copies = Vec::with_capacity(alloc, vectors.len())?;
+    for vector in vectors {
+        copies.push(vector.clone()?)?;
+    }
+    Ok(copies)
+}
+
+// Everyone's step, on copies: the states after it; what is sent stands behind what is sent so far.
+fn prepare_everyone(
+    alloc: Global,
+    subscribers: &[Subscriber],
+    event: &SoloEvent,
+    stations: &EnbWorld,
+    outs: &mut Outs,
+) -> Result<Vec<Solo>, AllocError>
+    requires { length subscribers.now ≤ 2048 }
+    ensures solos { IfOk result (λ ss. ss.items ≡ solos_after (item_of event.now stations.now) subscribers.now) }
+    ensures sends { OnOk result (outs.new ≡ outs.old ++ each_sends (called (Everyone (item_of event.now stations.now))) 0 subscribers.now) }
+{
+    let mut solos = Vec::with_capacity(alloc, subscribers.len())?;
+    for (place, subscriber) in subscribers.iter().enumerate() {
+        let Draft {
+            solo,
+            sent,
+            accepted: _,
+        } = subscriber.prepare(event, stations)?;
+        send_all(alloc, outs, slot_of(place), &sent)?;
+        solos.push(solo)?;
+    }
+    Ok(solos)
+}
+
+// One subscriber's step, likewise.
+fn prepare_one(
+    alloc: Global,
+    subscribers: &[Subscriber],
+    slot: Slot,
+    event: &SoloEvent,
+    stations: &EnbWorld,
+    outs: &mut Outs,
+) -> Result<Prepared, AllocError>
+    ensures after { IfOk result (λ p. settled p subscribers.now ≡ each_after (called (One slot (item_of event.now stations.now))) 0 subscribers.now) }
+    ensures fits { IfOk result (λ p. IsFor p subscribers.now) }
+    ensures sends { OnOk result (outs.new ≡ outs.old ++ each_sends (called (One slot (item_of event.now stations.now))) 0 subscribers.now) }
+{
+    let place = slot.get() as usize;
+    if place >= subscribers.len() {
+        return Ok(Prepared::Nobody);
+    }
+    let Draft {
+        solo,
+        sent,
+        accepted: _,
+    } = subscribers[place].prepare(event, stations)?;
+    send_all(alloc, outs, slot, &sent)?;
+    Ok(Prepared::One(slot, solo))
+}
+
+// The states of those who are called, and what they send behind what is sent so far.
+fn prepare(
+    alloc: Global,
+    subscribers: &[Subscriber],
+    calls: &Calls,
+    stations: &EnbWorld,
+    outs: &mut Outs,
+) -> Result<Prepared, AllocError>
+    requires few { length subscribers.now ≤ 2048 }
+    ensures after { IfOk result (λ p. settled p subscribers.now ≡ each_after (called (calls_of calls.now stations.now)) 0 subscribers.now) }
+    ensures fits { IfOk result (λ p. IsFor p subscribers.now) }
+    ensures sends { OnOk result (outs.new ≡ outs.old ++ each_sends (called (calls_of calls.now stations.now)) 0 subscribers.now) }
+{
+    match calls {
+        Calls::NoOne => Ok(Prepared::Nobody),
+        Calls::One(slot, event) => { prepare_one(alloc, subscribers, *slot, event, stations, outs) }
+        Calls::Everyone(event) => {
+            let solos = prepare_everyone(alloc, subscribers, event, stations, outs)?;
+            Ok(Prepared::Everyone(solos))
+        }
+    }
+}
+
+fn settle_everyone(subscribers: &mut Vec<Subscriber>, mut solos: Vec<Solo>)
+    requires { length solos.items ≡ length subscribers.old.items }
+    ensures { subscribers.new.items ≡ with_solos solos.items subscribers.old.items }
+{
+    for place in 0..solos.len() {
+        subscribers[place].exchange(&mut solos[place]);
+    }
+}
+
+fn settle_one(subscribers: &mut Vec<Subscriber>, slot: Slot, solo: Solo)
+    requires { slot < length subscribers.old.items }
+    ensures { subscribers.new.items ≡ with_solo slot solo subscribers.old.items }
+{
+    subscribers[slot.get() as usize].settle(solo);
+}
+
+// The states that were prepared are theirs.
+fn settle(subscribers: &mut Vec<Subscriber>, prepared: Prepared)
+    requires { IsFor prepared subscribers.old.items }
+    ensures { subscribers.new.items ≡ settled prepared subscribers.old.items }
+{
+    match prepared {
+        Prepared::Nobody => {}
+        Prepared::One(slot, solo) => settle_one(subscribers, slot, solo),
+        Prepared::Everyone(solos) => settle_everyone(subscribers, solos),
     }
 }
 

@@ -1,48 +1,21 @@
 //! What an MME sends.
 
-ghost use Rattle.std.specs.Prelude.{◌≡◌, ◌++◌, ◌∷◌, [], ℕ, List, OnOk, OnErr, length};
+ghost use Rattle.std.specs.Prelude.{◌≡◌, ◌++◌, ◌∷◌, [], OnOk, OnErr};
 
-use crate::station::StationNumber;
+use emm_machine::{SentOctets, StationNumber};
+use identity_slots::Slot;
 use std::alloc::{AllocError, Global};
 use std::marker::Model;
 
 /// For whom a message is sent.
-#[derive(Clone, Copy, Debug, PartialEq, Eq)]
+#[derive(Clone, Copy, PartialEq, Eq)]
 pub enum Owner {
     /// The station itself.
     Station(StationNumber),
     /// A phone that isn't known, by its station and its number there.
     Stranger(StationNumber, u32),
     /// A subscriber, by slot.
-    Subscriber(u32),
-}
-
-/// The octets of one message; a contract sees their list.
-#[derive(Drop)]
-pub struct SentOctets {
-    octets: Vec<u8>,
-}
-
-impl Model for SentOctets {
-    ghost Value = { List ℕ };
-
-    ghost view = { λ o. o.octets.items };
-}
-
-impl SentOctets {
-    /// These octets.
-    pub fn new(octets: Vec<u8>) -> SentOctets
-        ensures { result ≡ octets.items }
-    {
-        SentOctets { octets }
-    }
-
-    /// The octets.
-    pub fn as_slice(&self) -> &[u8]
-        ensures { result.now ≡ self.now }
-    {
-        self.octets.as_slice()
-    }
+    Subscriber(Slot),
 }
 
 /// A message that is sent to a station.
