@@ -65,6 +65,7 @@ impl<W: Write> Watched<W> {
         ensures bound { WritesAtMost result buf.now }
         ensures bytes { WriteAppends (W.contents self.old.inner) (W.contents self.new.inner) result buf.now }
         ensures failed { MatchResult result (λ n. n ≡ 0 → 0 < length buf.now → self.new.failed ≡ true) (λ _. self.new.failed ≡ true) }
+        ensures calls { self.new.calls ≡ min (self.old.calls + 1) (2 ^ 64 - 1) }
     {
         self.calls = self.calls.saturating_add(1);
         match self.inner.write(buf) {
@@ -85,6 +86,7 @@ impl<W: Write> Watched<W> {
     pub fn flush(&mut self) -> io::Result<()>
         ensures bytes { Keeps (W.contents self.old.inner) (W.contents self.new.inner) }
         ensures failed { MatchResult result (λ _. self.new.failed ≡ self.old.failed) (λ _. self.new.failed ≡ true) }
+        ensures calls { self.new.calls ≡ min (self.old.calls + 1) (2 ^ 64 - 1) }
     {
         self.calls = self.calls.saturating_add(1);
         match self.inner.flush() {
