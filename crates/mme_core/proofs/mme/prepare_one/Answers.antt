@@ -1,0 +1,41 @@
+use Rattle.std.proofs.Common.{◌≡◌, ◌++◌, length, refl, arith, sym, ◌∙◌, ap, Some, map, get_or}
+use Rattle.std.specs.Prelude.{slice_get}
+use Rattle.std.proofs.lemmas.List.{append-nil}
+use Rattle.std.proofs.lemmas.Option.{slice_get_read}
+use Rattle.emm_machine.specs.Steps.{item_of}
+use Rattle.mme_core.proofs.Calling.{after_call, sends_call, call_past}
+use Rattle.mme_core.proofs.mme.prepare_one.Goals as goal
+
+pub returns-then-place-subscribers-clause-after : goal.returns-then-place-subscribers-clause-after
+returns-then-place-subscribers-clause-after c =
+    sym (call_past c.args.slot (item_of c.args.event.now c.args.stations.now) c.args.subscribers.now (omega (arith, c.if-place-subscribers.true, c.get-place.ensures.value))).0
+
+pub returns-then-place-subscribers-clause-sends : goal.returns-then-place-subscribers-clause-sends
+returns-then-place-subscribers-clause-sends c =
+    sym (ap (λ zs. c.args.outs.now ++ zs) (call_past c.args.slot (item_of c.args.event.now c.args.stations.now) c.args.subscribers.now (omega (arith, c.if-place-subscribers.true, c.get-place.ensures.value))).1 ∙ append-nil c.args.outs.now)
+
+pub returns-clause-after : goal.returns-clause-after
+returns-clause-after c =
+    let ws = c.args.subscribers.now in
+    let item = item_of c.args.event.now c.args.stations.now in
+    let x = c.index-subscribers-place.result in
+    let at : slice_get ws c.args.slot ≡ Some x = slice_get_read ws (length ws) c.args.slot x refl (omega (arith, c.if-place-subscribers.false, c.get-place.ensures.value)) (c.index-subscribers-place.is ∙ ap (λ n. get_or ws n x) c.get-place.ensures.value) in
+    let e = after_call c.args.slot item ws x at in
+    let d = c.in_ok-solo.ensures in
+    ?
+
+pub returns-clause-sends : goal.returns-clause-sends
+returns-clause-sends c =
+    let ws = c.args.subscribers.now in
+    let item = item_of c.args.event.now c.args.stations.now in
+    let x = c.index-subscribers-place.result in
+    let at : slice_get ws c.args.slot ≡ Some x = slice_get_read ws (length ws) c.args.slot x refl (omega (arith, c.if-place-subscribers.false, c.get-place.ensures.value)) (c.index-subscribers-place.is ∙ ap (λ n. get_or ws n x) c.get-place.ensures.value) in
+    let e = sends_call c.args.slot item ws x at in
+    let d = c.in_ok-solo.ensures in
+    let s = c.sent.view_is in
+    let g = c.send_all.ensures in
+    let g2 = c.in_ok-send_all.ensures in
+    let i = c.index-subscribers-place.is in
+    let q = c.in_ok-solo.sent-is in
+    let r = c.in_ok-solo.solo-is in
+    ?
