@@ -1,12 +1,10 @@
 -- One event that is not refused: what it makes, from what its station hears and whom it calls.
 use Rattle.std.proofs.Common.{◌≡◌, ◌≢◌, ◌<◌, ◌≤◌, ◌^◌, ℕ, List, [], ◌∷◌, ◌++◌, length, map, Option, Some, None, Result, Ok, Err, refl, sym, ◌∙◌, ap, arith}
-use Rattle.std.specs.Prelude.{slice_set, slice_index_or, unwrap_or, nat_lt, if◌then◌else◌}
+use Rattle.std.specs.Prelude.{nat_lt, if◌then◌else◌}
 use Rattle.std.proofs.lemmas.Bool.Decides.{nat_tests}
-use Rattle.std.proofs.lemmas.List.{set-get_or}
 use Rattle.emm_machine.specs.declared.solo.Solo.{Solo}
 use Rattle.emm_machine.specs.declared.stations.StationState.{StationState}
 use Rattle.emm_machine.specs.declared.stations.StationState.TheVariants.{Down, Up, Ready}
-use Rattle.emm_machine.specs.Stations.{station_at}
 use Rattle.emm_machine.specs.Steps.{Item}
 use Rattle.emm_machine.specs.Whole.{Whole}
 use Rattle.mme_core.specs.declared.calls.Prepared.{Prepared}
@@ -65,13 +63,6 @@ prepared_settled calls ws xs zs p same made theirs =
 pub as_many : (calls : Calls) (ws zs : List Whole) → zs ≡ each_after (called calls) 0 ws → length ws ≤ 2048 → length zs ≤ 2048
 as_many calls ws zs e few = let l = ap length e ∙ each_after_length (called calls) 0 ws in omega (arith, l, few)
 
--- what is sent where nothing was said before
-pub sent_alone : (calls : Calls) (ws xs : List Whole) (none outs : List Out) → xs ≡ ws → none ≡ [] → outs ≡ none ++ each_sends (called calls) 0 xs → outs ≡ each_sends (called calls) 0 ws
-sent_alone calls ws xs none outs same empty sent = sent ∙ ap (λ os. os ++ each_sends (called calls) 0 xs) empty ∙ ap (each_sends (called calls) 0) same
-
--- ---- a station whose state is new, or as it was
-
-pub station_set : (stations : List StationState) (e : ℕ) (state : Option StationState) (now : List StationState) → ((s : StationState) → state ≡ Some s → now ≡ slice_set stations e s) → (state ≡ None → now ≡ stations)
-    → now ≡ slice_set stations e (unwrap_or state (station_at stations e))
-station_set stations e None now some none = none refl ∙ sym (set-get_or stations e Down)
-station_set stations e (Some s) now some none = some s refl
+-- what they send stands behind what was said before
+pub sent_behind : (calls : Calls) (ws xs : List Whole) (said before outs : List Out) → xs ≡ ws → before ≡ said → outs ≡ before ++ each_sends (called calls) 0 xs → outs ≡ said ++ each_sends (called calls) 0 ws
+sent_behind calls ws xs said before outs same is sent = sent ∙ ap (λ os. os ++ each_sends (called calls) 0 xs) is ∙ ap (λ ys. said ++ each_sends (called calls) 0 ys) same

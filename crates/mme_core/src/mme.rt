@@ -1,6 +1,6 @@
 //! The MME.
 
-ghost use Rattle.std.specs.Prelude.{◌≡◌, ◌≢◌, ◌+◌, ◌<◌, ◌≤◌, ◌++◌, [], ℕ, map, length, slice_get, option_map, IfOk, IfErr, OnOk, OnErr, Ok, Err, Some, None};
+ghost use Rattle.std.specs.Prelude.{◌≡◌, ◌≢◌, ◌+◌, ◌<◌, ◌≤◌, ◌++◌, [], ℕ, map, length, slice_get, slice_set, option_map, unwrap_or, IfOk, IfErr, OnOk, OnErr, Ok, Err, Some, None};
 ghost use Rattle.identity_slots.specs.Provisioned.{slot_of_imsi};
 ghost use Rattle.emm_machine.specs.Stations.{station_at};
 ghost use Rattle.emm_machine.specs.Whole.{Whole};
@@ -201,9 +201,7 @@ impl Mme {
             &self.stations,
             &mut outs,
         )?;
-        if let Some(state) = state {
-            self.stations.set(station, state);
-        }
+        settle_station(&mut self.stations, station, state);
         settle(&mut self.subscribers, prepared);
         Ok(outs)
     }
@@ -438,6 +436,15 @@ fn settle(subscribers: &mut Vec<Subscriber>, prepared: Prepared)
         Prepared::Nobody => {}
         Prepared::One(slot, solo) => settle_one(subscribers, slot, solo),
         Prepared::Everyone(solos) => settle_everyone(subscribers, solos),
+    }
+}
+
+// A station's new state, where it has one.
+fn settle_station(stations: &mut EnbWorld, station: StationNumber, state: Option<StationState>)
+    ensures { stations.new ≡ slice_set stations.old station (unwrap_or state (station_at stations.old station)) }
+{
+    if let Some(state) = state {
+        stations.set(station, state);
     }
 }
 

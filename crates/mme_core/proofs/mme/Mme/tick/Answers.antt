@@ -4,7 +4,7 @@ use Rattle.emm_machine.specs.Steps.{Tick}
 use Rattle.mme_core.specs.declared.event.Event.TheVariants as events
 use Rattle.mme_core.specs.Stations.{Everyone, calling}
 use Rattle.mme_core.specs.World.{World, fault_of, happens, reply, world_after}
-use Rattle.mme_core.proofs.Steps.{reply_so, after_so, clock_goes_on, everyone_settled, as_many, sent_alone}
+use Rattle.mme_core.proofs.Steps.{reply_so, after_so, clock_goes_on, everyone_settled, as_many, sent_behind}
 use Rattle.mme_core.specs.contracts.mme.Mme.{the_view}
 use Rattle.mme_core.proofs.mme.Mme.tick.Goals as goal
 
@@ -22,7 +22,7 @@ returns-clause-reply c =
     let fine : fault_of w.sight e ≡ None = clock_goes_on w.sight.clock c.if-self-ge-LAST_TICK.false in
     subst (λ (v : World). reply v e ≡ Ok c.prepare_everyone.new.outs) c.self.view_is
       (reply_so w e (calling Down (Everyone Tick)) c.prepare_everyone.new.outs fine refl
-        (sent_alone (Everyone Tick) w.subscribers c.as_slice.result.now c.new-outs.result _ c.as_slice.ensures.value c.new-outs.ensures c.in_ok-solos.ensures.sends))
+        (sent_behind (Everyone Tick) w.subscribers c.as_slice.result.now [] c.new-outs.result _ c.as_slice.ensures.value c.new-outs.ensures c.in_ok-solos.ensures.sends))
 
 pub returns-clause-after : goal.returns-clause-after
 unfolding happens
@@ -30,6 +30,6 @@ returns-clause-after c =
     let e = events.Tick in
     let w = the_view c.self.inside in
     let fine : fault_of w.sight e ≡ None = clock_goes_on w.sight.clock c.if-self-ge-LAST_TICK.false in
-    subst (λ (v : World). _ ≡ world_after v e) c.self.view_is
-      (after_so w e (calling Down (Everyone Tick)) _ c.settle_everyone.new.subscribers.items fine refl refl
-        (everyone_settled Tick w.subscribers c.as_slice.result.now _ c.in_ok-solos.solos.items c.as_slice.ensures.value c.in_ok-solos.ensures.solos c.settle_everyone.ensures))
+    after_so w e (calling Down (Everyone Tick)) _ c.settle_everyone.new.subscribers.items fine refl refl
+      (everyone_settled Tick w.subscribers c.as_slice.result.now _ c.in_ok-solos.solos.items c.as_slice.ensures.value c.in_ok-solos.ensures.solos c.settle_everyone.ensures)
+    ∙ ap (λ (v : World). world_after v e) c.self.view_is

@@ -24,7 +24,7 @@ returns-in-Down-clause-after c =
     let e = events.Up c.args.station in
     let w = the_view c.self.inside in
     let fine : fault_of w.sight e ≡ None = ap (λ s. if_down s None (Some AlreadyUp)) (sym c.get.ensures ∙ c.in-Down.is) in
-    subst (λ (v : World). _ ≡ world_after v e) c.self.view_is
-      (after_so w e (says Up []) _ w.subscribers fine refl
-        (ap (λ xs. record { config = w.sight.config; clock = w.sight.clock; stations = xs; profiles = w.sight.profiles }) c.set.ensures)
-        (sym (after_nothing 0 _ w.subscribers (λ m le. refl))))
+    after_so w e (says Up []) _ w.subscribers fine refl
+      (ap (λ xs. record { config = w.sight.config; clock = w.sight.clock; stations = xs; profiles = w.sight.profiles }) c.set.ensures)
+      (sym (after_nothing 0 _ w.subscribers (λ m le. refl)))
+    ∙ ap (λ (v : World). world_after v e) c.self.view_is
