@@ -42,7 +42,7 @@ pub struct Mme {
 }
 
 impl Model for Mme {
-    ghost use Rattle.std.specs.Prelude.{◌≤◌, length};
+    ghost use Rattle.std.specs.Prelude.{◌≡◌, ◌≤◌, length};
     ghost use Rattle.mme_core.specs.World.{World};
 
     ghost Value = { World };
@@ -52,7 +52,7 @@ impl Model for Mme {
       subscribers = m.subscribers.items;
     } };
 
-    ghost invariant = { λ m. length m.subscribers.items ≤ 2048 };
+    ghost invariant = { λ m. (length m.subscribers.items ≤ 2048) × (length m.stations ≡ 128) };
 }
 
 impl Mme {

@@ -14,8 +14,11 @@ pub invariant_of-self : goal.invariant_of-self
 invariant_of-self c =
     let ws = c.self.inside.subscribers.items in
     let calls = One c.in-Some.slot (Data c.self.inside.stations) in
-    as_many calls ws c.settle.new.subscribers.items
-      (prepared_settled calls ws c.as_slice.result.now _ c.in_ok-prepared.prepared c.as_slice.ensures.value c.in_ok-prepared.ensures.after c.settle.ensures) c.self.invariant
+    (
+      as_many calls ws c.settle.new.subscribers.items
+        (prepared_settled calls ws c.as_slice.result.now _ c.in_ok-prepared.prepared c.as_slice.ensures.value c.in_ok-prepared.ensures.after c.settle.ensures) c.self.invariant.0,
+      c.self.invariant.1,
+    )
 
 pub returns-clause-reply : goal.returns-clause-reply
 unfolding happens

@@ -1,6 +1,7 @@
 use Rattle.std.proofs.Common.{◌≡◌, ◌++◌, [], length, map, sym, ◌∙◌, ap, refl, subst, Ok, Some, None}
 use Rattle.std.specs.Prelude.{slice_set, unwrap_or}
 use Rattle.s1ap_messages.specs.Pdus.{decoded}
+use Rattle.std.proofs.lemmas.List.{length-set}
 use Rattle.mme_core.specs.declared.event.Event.TheVariants as events
 use Rattle.mme_core.specs.declared.event.StepFault.TheVariants.{NotUp}
 use Rattle.mme_core.specs.Seen.{calls_of, listed, seen}
@@ -14,8 +15,11 @@ pub invariant_of-self : goal.invariant_of-self
 invariant_of-self c =
     let ws = c.self.inside.subscribers.items in
     let calls = calls_of c.in_ok-heard.heard.calls c.self.inside.stations in
-    as_many calls ws c.settle.new.subscribers.items
-      (prepared_settled calls ws c.as_slice.result.now _ c.in_ok-prepared.prepared c.as_slice.ensures.value c.in_ok-prepared.ensures.after c.settle.ensures) c.self.invariant
+    (
+      as_many calls ws c.settle.new.subscribers.items
+        (prepared_settled calls ws c.as_slice.result.now _ c.in_ok-prepared.prepared c.as_slice.ensures.value c.in_ok-prepared.ensures.after c.settle.ensures) c.self.invariant.0,
+      ap length c.settle_station.ensures ∙ length-set c.self.inside.stations c.args.station _ ∙ c.self.invariant.1,
+    )
 
 pub returns-clause-reply : goal.returns-clause-reply
 unfolding happens

@@ -1,6 +1,7 @@
 use Rattle.std.proofs.Common.{◌≡◌, ◌++◌, [], length, sym, ◌∙◌, ap, refl, subst, Ok, Some, None, arith}
 use Rattle.emm_machine.specs.declared.stations.StationState.TheVariants.{Down}
 use Rattle.emm_machine.specs.Steps.{StationGone}
+use Rattle.std.proofs.lemmas.List.{length-set}
 use Rattle.mme_core.specs.declared.event.Event.TheVariants as events
 use Rattle.mme_core.specs.declared.event.StepFault.TheVariants.{NotUp}
 use Rattle.mme_core.specs.Stations.{Everyone, calling}
@@ -13,8 +14,11 @@ pub invariant_of-self : goal.invariant_of-self
 invariant_of-self c =
     let item = StationGone c.args.station in
     let ws = c.self.inside.subscribers.items in
-    as_many (Everyone item) ws c.settle_everyone.new.subscribers.items
-      (everyone_settled item ws c.as_slice.result.now _ c.in_ok-solos.solos.items c.as_slice.ensures.value c.in_ok-solos.ensures.solos c.settle_everyone.ensures) c.self.invariant
+    (
+      as_many (Everyone item) ws c.settle_everyone.new.subscribers.items
+        (everyone_settled item ws c.as_slice.result.now _ c.in_ok-solos.solos.items c.as_slice.ensures.value c.in_ok-solos.ensures.solos c.settle_everyone.ensures) c.self.invariant.0,
+      ap length c.set.ensures ∙ length-set c.self.inside.stations c.args.station Down ∙ c.self.invariant.1,
+    )
 
 pub returns-clause-reply : goal.returns-clause-reply
 unfolding happens

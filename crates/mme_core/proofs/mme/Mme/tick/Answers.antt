@@ -11,8 +11,11 @@ use Rattle.mme_core.proofs.mme.Mme.tick.Goals as goal
 pub invariant_of-self : goal.invariant_of-self
 invariant_of-self c =
     let ws = c.self.inside.subscribers.items in
-    as_many (Everyone Tick) ws c.settle_everyone.new.subscribers.items
-      (everyone_settled Tick ws c.as_slice.result.now _ c.in_ok-solos.solos.items c.as_slice.ensures.value c.in_ok-solos.ensures.solos c.settle_everyone.ensures) c.self.invariant
+    (
+      as_many (Everyone Tick) ws c.settle_everyone.new.subscribers.items
+        (everyone_settled Tick ws c.as_slice.result.now _ c.in_ok-solos.solos.items c.as_slice.ensures.value c.in_ok-solos.ensures.solos c.settle_everyone.ensures) c.self.invariant.0,
+      c.self.invariant.1,
+    )
 
 pub returns-clause-reply : goal.returns-clause-reply
 unfolding happens

@@ -1,5 +1,6 @@
-use Rattle.std.proofs.Common.{◌≡◌, ◌++◌, [], sym, ◌∙◌, ap, refl, subst, Ok, Some, None}
+use Rattle.std.proofs.Common.{◌≡◌, ◌++◌, [], length, sym, ◌∙◌, ap, refl, subst, Ok, Some, None}
 use Rattle.emm_machine.specs.declared.stations.StationState.TheVariants.{Up}
+use Rattle.std.proofs.lemmas.List.{length-set}
 use Rattle.mme_core.specs.declared.event.Event.TheVariants as events
 use Rattle.mme_core.specs.declared.event.StepFault.TheVariants.{AlreadyUp}
 use Rattle.mme_core.specs.Stations.{says}
@@ -8,6 +9,9 @@ use Rattle.mme_core.proofs.Calling.{after_nothing, sends_nothing}
 use Rattle.mme_core.proofs.Steps.{reply_so, after_so}
 use Rattle.mme_core.specs.contracts.mme.Mme.{the_view}
 use Rattle.mme_core.proofs.mme.Mme.up.Goals as goal
+
+pub invariant_of-self : goal.invariant_of-self
+invariant_of-self c = (c.self.invariant.0, ap length c.set.ensures ∙ length-set c.self.inside.stations c.args.station Up ∙ c.self.invariant.1)
 
 pub returns-in-Down-clause-reply : goal.returns-in-Down-clause-reply
 unfolding happens
