@@ -17,6 +17,12 @@ pub(crate) struct Summons<'a> {
     pub event: SoloEvent<'a>,
 }
 
+/// Calls that are lent to subscribers.
+#[derive(Drop)]
+pub(crate) struct Called<'a> {
+    pub calls: Calls<'a>,
+}
+
 /// The states of subscribers after an event, which are not theirs yet.
 #[derive(Drop)]
 pub(crate) enum Prepared {

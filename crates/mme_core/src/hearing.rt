@@ -162,17 +162,6 @@ fn hears_reset<'a>(
     }
 }
 
-fn calling<'a>(calls: Calls<'a>) -> Heard<'a>
-    ensures { (state : StationState) (stations : List StationState) → seen state stations result ≡ calling state (calls_of calls.entry stations) }
-{
-    Heard {
-        state: None,
-        says: None,
-        stranger: None,
-        calls,
-    }
-}
-
 // A message that is sent for a stranger, where it has a written form.
 fn telling<'a>(owner: Owner, station: StationNumber, octets: Option<SentOctets>) -> Heard<'a>
     ensures { (state : StationState) (stations : List StationState) → seen state stations result
@@ -235,7 +224,12 @@ fn enters<'a>(
                         nas: message.nas,
                         tai: message.tai,
                     };
-                    Ok(calling(Calls::One(slot, SoloEvent::Initial(entry))))
+                    Ok(Heard {
+                        state: None,
+                        says: None,
+                        stranger: None,
+                        calls: Calls::One(slot, SoloEvent::Initial(entry)),
+                    })
                 }
                 None => turns_away(alloc, station, message.enb_id),
             }
@@ -301,7 +295,12 @@ fn told<'a>(
                 enb_id: message.enb_id,
                 body: message.body.again(),
             });
-            Ok(calling(Calls::One(slot, event)))
+            Ok(Heard {
+                state: None,
+                says: None,
+                stranger: None,
+                calls: Calls::One(slot, event),
+            })
         }
         None => Ok(says(answered_unknown(alloc, message)?)),
     }

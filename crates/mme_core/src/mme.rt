@@ -1,6 +1,6 @@
 //! The MME.
 
-ghost use Rattle.std.specs.Prelude.{◌≡◌, ◌≢◌, ◌+◌, ◌<◌, ◌≤◌, ◌++◌, [], ℕ, map, length, slice_get, option_map, IfOk, IfErr, OnOk, OnErr, Ok, Err, Some, None};
+ghost use Rattle.std.specs.Prelude.{◌≡◌, ◌≢◌, ◌+◌, ◌<◌, ◌≤◌, ◌++◌, [], ℕ, map, length, slice_get, slice_set, option_map, unwrap_or, IfOk, IfErr, OnOk, OnErr, Ok, Err, Some, None};
 ghost use Rattle.identity_slots.specs.Provisioned.{slot_of_imsi};
 ghost use Rattle.emm_machine.specs.Stations.{station_at};
 ghost use Rattle.emm_machine.specs.Whole.{Whole};
@@ -9,14 +9,14 @@ ghost use Rattle.mme_core.specs.declared.event.StepFault.TheVariants.{NoMemory};
 ghost use Rattle.mme_core.specs.declared.event.Event.TheVariants as events;
 ghost use Rattle.mme_core.specs.Projection.{alone_after, projection, station_run, states_at, told, told_alone};
 ghost use Rattle.emm_machine.specs.Steps.{item_of};
-ghost use Rattle.mme_core.specs.Seen.{IsFor, calls_of, settled, solos_after, with_solo, with_solos};
+ghost use Rattle.mme_core.specs.Seen.{IsFor, calls_of, listed, settled, solos_after, with_solo, with_solos};
 ghost use Rattle.mme_core.specs.Stations.{Everyone, One, written_octets};
 ghost use Rattle.mme_core.specs.World.{World, called, each_after, each_sends, fresh_subscribers, fresh_world, given, replies, reply, slot_out, station_out, taken, world_after, world_run};
 
-use crate::calls::{Calls, Prepared, Summons};
+use crate::calls::{Called, Calls, Prepared, Summons};
 use crate::config::Config;
 use crate::event::{Event, StepFault};
-use crate::hearing::hears;
+use crate::hearing::{Heard, hears};
 use crate::out::{Out, Outs, Owner};
 use emm_machine::{
     Answers, Draft, EnbWorld, Network, SentOctets, Solo, SoloEvent, States, StationNumber,
@@ -42,7 +42,7 @@ pub struct Mme {
 }
 
 impl Model for Mme {
-    ghost use Rattle.std.specs.Prelude.{◌≡◌, length};
+    ghost use Rattle.std.specs.Prelude.{◌≡◌, ◌≤◌, length};
     ghost use Rattle.mme_core.specs.World.{World};
 
     ghost Value = { World };
@@ -52,7 +52,7 @@ impl Model for Mme {
       subscribers = m.subscribers.items;
     } };
 
-    ghost invariant = { λ m. length m.subscribers.items ≡ length m.provision.profiles };
+    ghost invariant = { λ m. (length m.subscribers.items ≤ 2048) × (length m.stations ≡ 128) };
 }
 
 impl Mme {
@@ -186,20 +186,22 @@ impl Mme {
             state,
             octets,
         )?;
-        let mut outs = outs_to(self.alloc, station, heard.says)?;
-        if let Some(out) = heard.stranger {
-            outs.push(out)?;
-        }
+        let Heard {
+            state,
+            says,
+            stranger,
+            calls,
+        } = heard;
+        let called = Called { calls };
+        let mut outs = outs_to(self.alloc, station, says, stranger)?;
         let prepared = prepare(
             self.alloc,
             self.subscribers.as_slice(),
-            &heard.calls,
+            &called.calls,
             &self.stations,
             &mut outs,
         )?;
-        if let Some(state) = heard.state {
-            self.stations.set(station, state);
-        }
+        settle_station(&mut self.stations, station, state);
         settle(&mut self.subscribers, prepared);
         Ok(outs)
     }
@@ -311,7 +313,8 @@ fn fresh_subscribers(
     network: &Network,
     provision: &Provision,
 ) -> Result<Vec<Subscriber>, AllocError>
-    ensures { IfOk result (λ v. v.items ≡ fresh_subscribers network.now 0 provision.now.profiles provision.now.vectors) }
+    ensures value { IfOk result (λ v. v.items ≡ fresh_subscribers network.now 0 provision.now.profiles provision.now.vectors) }
+    ensures few { IfOk result (λ v. length v.items ≤ 2048) }
 {
     let count = provision.len();
     let mut subscribers = Vec::with_capacity(alloc, count)?;
@@ -436,13 +439,23 @@ fn settle(subscribers: &mut Vec<Subscriber>, prepared: Prepared)
     }
 }
 
-// At most one message to a station, for the station itself.
+// A station's new state, where it has one.
+fn settle_station(stations: &mut EnbWorld, station: StationNumber, state: Option<StationState>)
+    ensures { stations.new ≡ slice_set stations.old station (unwrap_or state (station_at stations.old station)) }
+{
+    if let Some(state) = state {
+        stations.set(station, state);
+    }
+}
+
+// At most one message to a station for the station itself, and at most one for a stranger.
 fn outs_to(
     alloc: Global,
     station: StationNumber,
     says: Option<SentOctets>,
+    stranger: Option<Out>,
 ) -> Result<Outs, AllocError>
-    ensures { IfOk result (λ outs. outs ≡ map (station_out station) (written_octets says)) }
+    ensures { IfOk result (λ outs. outs ≡ map (station_out station) (written_octets says) ++ listed stranger) }
 {
     let mut outs = Outs::new(alloc);
     if let Some(octets) = says {
@@ -452,6 +465,9 @@ fn outs_to(
             station,
             octets,
         })?;
+    }
+    if let Some(out) = stranger {
+        outs.push(out)?;
     }
     Ok(outs)
 }
