@@ -1,14 +1,11 @@
 -- The texts of answers, one after another.
-use Rattle.std.proofs.Common.{◌≡◌, ℕ, ◌+◌, ◌<◌, List, [], ◌∷◌, ◌++◌, length, Option, Some, Result, Ok, Err, take, drop, get_or, refl, sym, ap, ◌∙◌, append_assoc, append-nil}
-use Rattle.std.specs.Prelude.{OnOk}
+use Rattle.std.proofs.Common.{◌≡◌, ℕ, ◌+◌, ◌<◌, List, [], ◌∷◌, ◌++◌, length, Err, take, drop, get_or, refl, sym, ap, ◌∙◌, append_assoc, append-nil}
 use Rattle.std.proofs.lemmas.List.{take_more, take-append-drop}
-use Rattle.mme_core.specs.World.{World, reply}
-use Rattle.mme_core.specs.declared.event.Event.{Event}
 use Rattle.mme_core.specs.declared.out.Out.{Out}
 use Rattle.mme_main.specs.declared.fault.PlayFault.{PlayFault}
 use Rattle.mme_main.specs.declared.fault.PlayFault.TheVariants.{Trace, Read, Write, NoMemory}
-use Rattle.mme_main.specs.Text.{answers_of, out_text, reply_text, left_by, happened}
-use Rattle.mme_main.specs.Play.{IsPrefix, Puts, Acts}
+use Rattle.mme_main.specs.Words.{answers_of, out_text}
+use Rattle.mme_main.specs.Play.{IsPrefix, Puts}
 use Rattle.mme_main.proofs.Fronts.{IsPrefix-of, IsPrefix-after, IsPrefix-more}
 
 pub answers_of-append : (xs ys : List Out) → answers_of (xs ++ ys) ≡ answers_of xs ++ answers_of ys
@@ -30,26 +27,9 @@ front_of-front : (front text all : List ℕ) → IsPrefix front text → IsPrefi
 front_of-front front text all p q = IsPrefix-of front (text ++ q.0) all (sym q.1) (IsPrefix-more front text q.0 p)
 
 -- a text that is not wholly written, behind one that is
-pub Puts-after : (before text all written : List ℕ) (fault : PlayFault) → IsPrefix (before ++ text) all → Puts text (Err fault) written → Puts all (Err fault) (before ++ written)
-Puts-after before text all written NoMemory p h = front_of-front (before ++ written) (before ++ text) all (IsPrefix-after before written text h) p
-Puts-after before text all written Write p h = front_of-front (before ++ written) (before ++ text) all (IsPrefix-after before written text h) p
-Puts-after before text all written Read p h = absurd h
-Puts-after before text all written (Trace line fault) p h = absurd h
-
-pub Puts-text : (text same written : List ℕ) (result : Result (Unit {0}) PlayFault) → text ≡ same → Puts text result written → Puts same result written
-Puts-text text same written (Ok _) e h = h ∙ e
-Puts-text text same written (Err NoMemory) e h = IsPrefix-of written text same e h
-Puts-text text same written (Err Write) e h = IsPrefix-of written text same e h
-Puts-text text same written (Err Read) e h = absurd h
-Puts-text text same written (Err (Trace line fault)) e h = absurd h
-
--- an event that is played
-pub Acts-event : (line : ℕ) (world new : World) (event : Event) (result : Result (Unit {0}) PlayFault) (written : List ℕ)
-    → Puts (reply_text (reply world event)) result written → OnOk result (new ≡ left_by world event (reply world event))
-    → Acts line (happened (Some world) event) result (Some new) written
-Acts-event line world new event (Ok _) written p e =
-    sym (ap (λ (w : World). let r : Option World × List ℕ = (Some w, written) in Ok r) e ∙ ap (λ v. let r : Option World × List ℕ = (Some (left_by world event (reply world event)), v) in Ok r) p)
-Acts-event line world new event (Err NoMemory) written p e = p
-Acts-event line world new event (Err Write) written p e = p
-Acts-event line world new event (Err Read) written p e = absurd p
-Acts-event line world new event (Err (Trace number fault)) written p e = absurd p
+pub Puts-after : (A B : Type 0) (before text all written : List ℕ) (fault : PlayFault) → IsPrefix (before ++ text) all
+    → Puts {A = A} text (Err fault) written → Puts {A = B} all (Err fault) (before ++ written)
+Puts-after A B before text all written NoMemory p h = front_of-front (before ++ written) (before ++ text) all (IsPrefix-after before written text h) p
+Puts-after A B before text all written Write p h = front_of-front (before ++ written) (before ++ text) all (IsPrefix-after before written text h) p
+Puts-after A B before text all written Read p h = absurd h
+Puts-after A B before text all written (Trace line fault) p h = absurd h

@@ -1,9 +1,10 @@
 -- A run of the program, one turn after another.
-use Rattle.std.proofs.Common.{◌≡◌, ℕ, ◌+◌, Bool, true, List, [], ◌++◌, Option, None, Result, Ok, Err, inl, inr, sym, ap, ◌∙◌, append_assoc, append-nil, arith, length}
+use Rattle.std.proofs.Common.{◌≡◌, ℕ, ◌+◌, Bool, true, List, [], ◌++◌, Option, Result, Ok, Err, inl, inr, sym, ap, ◌∙◌, append_assoc, append-nil, arith, length}
 use Rattle.std.specs.Io.KnownBytes.{Appends, Consumes, Keeps}
 use Rattle.mme_main.specs.declared.fault.PlayFault.{PlayFault}
 use Rattle.mme_main.specs.declared.fault.PlayFault.TheVariants.{Trace, Read, Write, NoMemory}
 use Rattle.mme_main.specs.declared.player.Player.{Player}
+use Rattle.mme_main.specs.declared.progress.Progress.TheVariants.{Nothing}
 use Rattle.mme_main.specs.Text.{prepended, play, lines_of, played_of}
 use Rattle.mme_main.specs.Play.{breaks, whole, IsReady, IsPrefix, Takes, Finishes, Tells, Reaches, Plays}
 use Rattle.mme_main.proofs.Known.{Appends-nil, Appends-then, Consumes-nil, Consumes-then, Consumes-keeps, Consumes-same}
@@ -19,14 +20,14 @@ pub record Playing (left_old left_new held_old held_new : Option (List ℕ)) (pl
   pub ready : IsReady player
   pub counted : player.line ≡ 1 + breaks read
 
-pub Playing-start : (left held : Option (List ℕ)) (player : Player) → player.mme ≡ None → player.line ≡ 1 → player.pending.items ≡ [] → Playing left left held held player
+pub Playing-start : (left held : Option (List ℕ)) (player : Player) → player.progress ≡ Nothing → player.line ≡ 1 → player.pending.items ≡ [] → Playing left left held held player
 Playing-start left held player m l p = record {
   read = [];
   written = [];
   consumed = Consumes-nil left;
   appended = Appends-nil held;
   follows = λ more. sym (ap (λ w. play w player.line (lines_of (player.pending.items ++ more))) m
-      ∙ ap (λ n. play None n (lines_of (player.pending.items ++ more))) l ∙ ap (λ v. play None 1 (lines_of (v ++ more))) p);
+      ∙ ap (λ n. play Nothing n (lines_of (player.pending.items ++ more))) l ∙ ap (λ v. play Nothing 1 (lines_of (v ++ more))) p);
   ready = (ap breaks p, omega (arith, ap length p));
   counted = l;
 }
@@ -125,7 +126,7 @@ Plays-read left_old left_mid left_new held_old held_new player ended playing kep
   Consumes-same left_old left_new _ _ (append-nil playing.read) (Consumes-then left_old left_mid left_new playing.read [] playing.consumed (Consumes-keeps left_mid left_new kept)),
   playing.appended,
   (
-    (play player.mme player.line (lines_of (player.pending.items ++ []))).text,
+    (play player.progress player.line (lines_of (player.pending.items ++ []))).text,
     ap (λ v. v.text) (ap played_of (sym (append-nil playing.read)) ∙ playing.follows []),
   ),
   tt,

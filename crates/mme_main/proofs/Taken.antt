@@ -9,7 +9,9 @@ use Rattle.trace_text.specs.declared.fault.TraceFault.TheVariants.{TooLong}
 use Rattle.mme_main.specs.declared.fault.PlayFault.{PlayFault}
 use Rattle.mme_main.specs.declared.fault.PlayFault.TheVariants.{Trace, Read, Write, NoMemory}
 use Rattle.mme_main.specs.declared.player.Player.{Player}
-use Rattle.mme_main.specs.Text.{Progress, Effect, Played, prepended, ends, play, then_play, line_effect, lines_of}
+use Rattle.mme_main.specs.declared.progress.Progress.{Progress}
+use Rattle.mme_main.specs.Effects.{Effect}
+use Rattle.mme_main.specs.Text.{Played, prepended, ends, play, then_play, line_effect, lines_of}
 use Rattle.mme_main.specs.Play.{breaks, whole, IsReady, IsPrefix, Acts, effect_text, Takes, Finishes}
 use Rattle.mme_main.proofs.Fronts.{IsPrefix-of, IsPrefix-after, IsPrefix-more}
 use Rattle.mme_main.proofs.Lines.{lines_of-at, lines_of-front, lines_of-last, lines_of-nil, line_of-long}
@@ -140,23 +142,23 @@ Takes-piece old new written piece same result e h = let P : List ℕ → Type 0 
 -- ---- a line, as a piece
 
 -- a line that is done
-pub Takes-line : (old new : Player) (written : List ℕ) → IsReady old → line_effect old.mme old.pending.items ≡ Ok (new.mme, written)
+pub Takes-line : (old new : Player) (written : List ℕ) → IsReady old → line_effect old.progress old.pending.items ≡ Ok (new.progress, written)
     → new.line ≡ old.line + 1 → new.pending.items ≡ [] → Takes old (10 ∷ []) (Ok tt) new written
 Takes-line old new written ready h l p = (
-  (λ more. line_played old.mme old.line old.pending.items ready.0 more
-      ∙ effect_then old.line (line_effect old.mme old.pending.items) (Ok (new.mme, written)) (λ w. play w (old.line + 1) (lines_of more)) h
-      ∙ ap (λ n. prepended written (play new.mme n (lines_of more))) (sym l)
-      ∙ ap (λ v. prepended written (play new.mme new.line (lines_of (v ++ more)))) (sym p)),
+  (λ more. line_played old.progress old.line old.pending.items ready.0 more
+      ∙ effect_then old.line (line_effect old.progress old.pending.items) (Ok (new.progress, written)) (λ w. play w (old.line + 1) (lines_of more)) h
+      ∙ ap (λ n. prepended written (play new.progress n (lines_of more))) (sym l)
+      ∙ ap (λ v. prepended written (play new.progress new.line (lines_of (v ++ more)))) (sym p)),
   (ap breaks p, omega (arith, ap length p)),
   l,
 )
 
-line-prefix : (old : Player) (written : List ℕ) → IsReady old → IsPrefix written (effect_text (line_effect old.mme old.pending.items))
+line-prefix : (old : Player) (written : List ℕ) → IsReady old → IsPrefix written (effect_text (line_effect old.progress old.pending.items))
     → (more : List ℕ) → IsPrefix written ((whole old (10 ∷ more)).text)
 line-prefix old written ready p more =
     let rest : Progress → Played = λ w. play w (old.line + 1) (lines_of more) in
-    IsPrefix-of written _ _ (sym (ap (λ v. v.text) (line_played old.mme old.line old.pending.items ready.0 more)))
-    (effect-prefix old.line (line_effect old.mme old.pending.items) rest written p)
+    IsPrefix-of written _ _ (sym (ap (λ v. v.text) (line_played old.progress old.line old.pending.items ready.0 more)))
+    (effect-prefix old.line (line_effect old.progress old.pending.items) rest written p)
 
 ends-at : (line number : ℕ) (written : List ℕ) (fault : TraceFault) → number ≡ line → written ≡ [] → ends [] (Some (line, fault)) ≡ ends written (Some (number, fault))
 ends-at line number written fault n w = sym (ap (λ m. ends written (Some (m, fault))) n ∙ ap (λ v. ends v (Some (line, fault))) w)
@@ -167,10 +169,10 @@ Acts-text line progress new text same written result e h = let P : List ℕ → 
 
 -- a line that is not
 pub Takes-line_fault : (old new : Player) (progress : Progress) (written : List ℕ) (fault : PlayFault) → IsReady old
-    → Acts old.line (line_effect old.mme old.pending.items) (Err fault) progress written → Takes old (10 ∷ []) (Err fault) new written
+    → Acts old.line (line_effect old.progress old.pending.items) (Err fault) progress written → Takes old (10 ∷ []) (Err fault) new written
 Takes-line_fault old new progress written (Trace number fault) ready h = (
-  (λ more. line_played old.mme old.line old.pending.items ready.0 more
-      ∙ effect_then old.line (line_effect old.mme old.pending.items) (Err fault) (λ w. play w (old.line + 1) (lines_of more)) h.0
+  (λ more. line_played old.progress old.line old.pending.items ready.0 more
+      ∙ effect_then old.line (line_effect old.progress old.pending.items) (Err fault) (λ w. play w (old.line + 1) (lines_of more)) h.0
       ∙ ends-at old.line number written fault h.1 h.2),
   inr (omega (arith, h.1)),
 )
@@ -192,11 +194,11 @@ octet_too_many progress line pending octet unbroken other long more =
     ∙ line_too_long progress line (pending ++ octet ∷ []) (unbroken_more pending octet unbroken other) (grind (arith, common_steps)) more
 
 pub Takes-octet : (old new : Player) (octet : ℕ) → IsReady old → octet ≢ 10 → length old.pending.items < 40000
-    → new.mme ≡ old.mme → new.line ≡ old.line → new.pending.items ≡ old.pending.items ++ octet ∷ [] → Takes old (octet ∷ []) (Ok tt) new []
+    → new.progress ≡ old.progress → new.line ≡ old.line → new.pending.items ≡ old.pending.items ++ octet ∷ [] → Takes old (octet ∷ []) (Ok tt) new []
 Takes-octet old new octet ready other short m l p = (
-  (λ more. octet_joins old.mme old.line old.pending.items new.pending.items octet p more
+  (λ more. octet_joins old.progress old.line old.pending.items new.pending.items octet p more
       ∙ ap (λ w. play w old.line (lines_of (new.pending.items ++ more))) (sym m)
-      ∙ ap (λ n. play new.mme n (lines_of (new.pending.items ++ more))) (sym l)),
+      ∙ ap (λ n. play new.progress n (lines_of (new.pending.items ++ more))) (sym l)),
   (ap breaks p ∙ unbroken_more old.pending.items octet ready.0 other, omega (arith, ap length p ∙ length-append old.pending.items (octet ∷ []))),
   omega (arith, l, breaks-other octet other),
 )
@@ -206,12 +208,12 @@ Takes-octet old new octet ready other short m l p = (
 -- nothing more comes
 pub whole-end : (player : Player) → player.pending.items ≡ [] → whole player [] ≡ ends [] None
 whole-end player e =
-    ap (λ v. play player.mme player.line (lines_of (v ++ []))) e ∙ ap (play player.mme player.line) lines_of-nil ∙ play-nil player.mme player.line
+    ap (λ v. play player.progress player.line (lines_of (v ++ []))) e ∙ ap (play player.progress player.line) lines_of-nil ∙ play-nil player.progress player.line
 
 -- a last line is played as one that has its LF
 whole-last : (player : Player) → IsReady player → 0 < length player.pending.items → whole player [] ≡ whole player (10 ∷ [])
 whole-last player ready some =
-    ap (play player.mme player.line) (ap lines_of (append-nil player.pending.items) ∙ lines_of-last player.pending.items ready.0 some)
+    ap (play player.progress player.line) (ap lines_of (append-nil player.pending.items) ∙ lines_of-last player.pending.items ready.0 some)
 
 pub Finishes-from_line : (old new : Player) (written : List ℕ) (result : Result (Unit {0}) PlayFault) → IsReady old → 0 < length old.pending.items
     → Takes old (10 ∷ []) result new written → OnOk result (new.pending.items ≡ []) → Finishes old result written

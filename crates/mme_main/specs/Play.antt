@@ -7,7 +7,13 @@ use Rattle.trace_text.specs.declared.fault.TraceFault.TheVariants.{UnknownWord, 
 use Rattle.mme_main.specs.declared.fault.PlayFault.{PlayFault}
 use Rattle.mme_main.specs.declared.fault.PlayFault.TheVariants.{Trace, Read, Write, NoMemory}
 use Rattle.mme_main.specs.declared.player.Player.{Player}
-use Rattle.mme_main.specs.Text.{Progress, Effect, Played, prepended, ends, play, lines_of, played_of}
+use Rattle.mme_main.specs.declared.progress.Progress.{Progress}
+use Rattle.mme_main.specs.declared.progress.Progress.TheVariants.{Nothing, Provisioning, Running}
+use Rattle.identity_slots.specs.declared.provision.ProvisionFault.{ProvisionFault}
+use Rattle.identity_slots.specs.declared.provision.ProvisionFault.TheVariants as provision
+use Rattle.mme_core.specs.World.{World}
+use Rattle.mme_main.specs.Effects.{Effect}
+use Rattle.mme_main.specs.Text.{Played, prepended, ends, play, lines_of, played_of}
 
 -- how many LFs there are
 abbrev pub breaks : List ℕ → ℕ
@@ -24,7 +30,7 @@ Adds held_old held_new P = (written : List ℕ) × Appends held_old held_new wri
 -- ---- one text, one line
 
 -- what is written of a text, by the answer
-abbrev pub Puts : List ℕ → Result (Unit {0}) PlayFault → List ℕ → Type 0
+abbrev pub Puts : {A : Type 0} → List ℕ → Result A PlayFault → List ℕ → Type 0
 Puts text (Ok _) written = written ≡ text
 Puts text (Err NoMemory) written = IsPrefix written text
 Puts text (Err Write) written = IsPrefix written text
@@ -43,6 +49,26 @@ Acts line effect (Err Write) new written = IsPrefix written (effect_text effect)
 Acts line effect (Err Read) new written = ⊥
 Acts line effect (Err (Trace number fault)) new written = (effect ≡ Err fault) × (number ≡ line) × (written ≡ [])
 
+-- the MME runs, and it is this one, or the line of that number has a fault
+abbrev pub Is : Result World TraceFault → Progress → Type 0
+Is wanted Nothing = ⊥
+Is wanted (Provisioning config provisioned) = ⊥
+Is wanted (Running world) = wanted ≡ Ok world
+
+abbrev pub Runs : ℕ → Result World TraceFault → Result (Unit {0}) PlayFault → Progress → Type 0
+Runs line wanted (Ok _) new = Is wanted new
+Runs line wanted (Err NoMemory) new = ⊤
+Runs line wanted (Err Write) new = ⊥
+Runs line wanted (Err Read) new = ⊥
+Runs line wanted (Err (Trace number fault)) new = (wanted ≡ Err fault) × (number ≡ line)
+
+-- the fault of a line whose subscriber or vector was not added
+abbrev pub in_provision : ℕ → ProvisionFault → PlayFault
+in_provision line provision.RepeatedImsi = Trace line Provision
+in_provision line provision.RepeatedAddress = Trace line Provision
+in_provision line provision.Full = Trace line Provision
+in_provision line provision.NoMemory = NoMemory
+
 -- the fault of a line, with its number
 abbrev pub in_line : ℕ → TraceFault → PlayFault
 in_line line fault.NoMemory = NoMemory
@@ -58,7 +84,7 @@ in_line line Provision = Trace line Provision
 
 -- all that the trace gives from here on, where these octets are still to come
 abbrev pub whole : Player → List ℕ → Played
-whole player more = play player.mme player.line (lines_of (player.pending.items ++ more))
+whole player more = play player.progress player.line (lines_of (player.pending.items ++ more))
 
 -- less than a line stands there
 abbrev pub IsReady : Player → Type 0

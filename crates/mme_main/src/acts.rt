@@ -1,117 +1,184 @@
 //! What each line of a trace does.
 
-ghost use Rattle.std.specs.Prelude.{◌≡◌, ◌≢◌, [], IfErr, OnOk, IsErrOf, None, Some, true};
+ghost use Rattle.std.specs.Prelude.{◌≡◌, true, is_ok, IfOk, OnOk, IsErrOf};
 ghost use Rattle.mme_core.specs.World.{reply};
-ghost use Rattle.mme_main.specs.Text.{config_of, effect_of, happened, left_by, reply_text, started};
+ghost use Rattle.mme_main.specs.Effects.{effect_of, happened, left_by, passed, shown, states_of_imsi, ticked, told};
+ghost use Rattle.mme_main.specs.Words.{reply_text};
 ghost use Rattle.mme_main.specs.Play.{Acts, Adds, Puts};
+ghost use Rattle.mme_main.specs.declared.progress.Progress.TheVariants.{Running};
 
-use crate::answers::{write_all, write_one};
+use crate::answers::{write_all, write_refusal, write_states};
 use crate::fault::PlayFault;
+use crate::progress::{Progress, add, give, run, start};
 use crate::watched::Watched;
-use mme_core::{AggregateBitRate, Apn, Config, Event, Mme, StationNumber, StepFault};
-use per_bits::Octets;
+use emm_machine::{States, StationNumber};
+use mme_core::{Event, Mme, StepFault};
+use nas_elements::Imsi;
 use std::alloc::Global;
 use std::io::Write;
-use trace_text::{Answer, ApnLabel, BitRate, Line, MmeLine, TraceFault, TraceStation};
+use trace_text::{Line, TraceFault, TraceStation};
 
 /// Does what the line of that number says, and writes its answers.
-#[tactic(auto, unfolding(crate::specs::Text::effect_of))]
+#[tactic(auto, unfolding(crate::specs::Effects::effect_of))]
 pub(crate) fn act_on_line<W: Write>(
     alloc: Global,
-    mme: &mut Option<Mme>,
+    progress: &mut Progress,
     number: u64,
     line: Line,
     writer: &mut Watched<W>,
 ) -> Result<(), PlayFault>
-    ensures acts { Adds (W.contents writer.old.inner) (W.contents writer.new.inner) (Acts number (effect_of mme.old line) result mme.new) }
+    ensures acts { Adds (W.contents writer.old.inner) (W.contents writer.new.inner) (Acts number (effect_of progress.old line) result progress.new) }
     ensures write { IsErrOf result PlayFault.Write → writer.new.failed ≡ true }
 {
     match line {
         Line::Skip => Ok(()),
-        Line::Mme(fields) => start(alloc, mme, number, fields),
+        Line::Mme(fields) => start(alloc, progress, number, &fields),
+        Line::Sub(profile) => add(progress, number, profile),
+        Line::Vec(imsi, vector) => give(progress, number, imsi, vector),
         Line::Up(station) => {
             let event = Event::Up(station_number(station));
-            play_event(alloc, mme, number, &event, writer)
+            play_event(alloc, progress, number, &event, writer)
         }
         Line::Lost(station) => {
             let event = Event::Lost(station_number(station));
-            play_event(alloc, mme, number, &event, writer)
+            play_event(alloc, progress, number, &event, writer)
         }
         Line::In(station, octets) => {
             let event = Event::In(station_number(station), octets.as_slice());
-            play_event(alloc, mme, number, &event, writer)
+            play_event(alloc, progress, number, &event, writer)
         }
+        Line::Tick(ticks) => play_ticks(alloc, progress, number, ticks.get(), writer),
+        Line::Data(imsi) => play_event(alloc, progress, number, &Event::Data(imsi), writer),
+        Line::Cancel(imsi) => play_event(alloc, progress, number, &Event::Cancel(imsi), writer),
+        Line::Show(imsi) => show(alloc, progress, number, imsi, writer),
     }
 }
 
-/// Makes the MME, where there is none.
-fn start(
-    alloc: Global,
-    mme: &mut Option<Mme>,
-    number: u64,
-    fields: MmeLine,
-) -> Result<(), PlayFault>
-    ensures acts { Acts number (started mme.old fields) result mme.new [] }
-    ensures write { IfErr result (λ fault. fault ≢ PlayFault.Write) }
-{
-    if mme.is_some() {
-        return Err(PlayFault::Trace(number, TraceFault::Order));
-    }
-    match Mme::new(alloc, config(&fields)) {
-        Ok(made) => {
-            *mme = Some(made);
-            Ok(())
-        }
-        Err(_) => Err(PlayFault::NoMemory),
-    }
-}
-
-/// Plays one event and writes its answers, where there is an MME.
+/// Plays one event and writes its answers.
 fn play_event<W: Write>(
     alloc: Global,
-    mme: &mut Option<Mme>,
+    progress: &mut Progress,
     number: u64,
     event: &Event<'_>,
     writer: &mut Watched<W>,
 ) -> Result<(), PlayFault>
-    ensures acts { Adds (W.contents writer.old.inner) (W.contents writer.new.inner) (Acts number (happened mme.old event.now) result mme.new) }
+    ensures acts { Adds (W.contents writer.old.inner) (W.contents writer.new.inner) (Acts number (happened progress.old event.now) result progress.new) }
     ensures write { IsErrOf result PlayFault.Write → writer.new.failed ≡ true }
 {
-    let Some(mme) = mme else {
-        return Err(PlayFault::Trace(number, TraceFault::Order));
-    };
-    step_event(alloc, mme, event, writer)
+    run(alloc, progress, number)?;
+    match progress {
+        Progress::Running(mme) => match step_event(alloc, mme, event, writer) {
+            Ok(_) => Ok(()),
+            Err(fault) => Err(fault),
+        },
+        Progress::Nothing | Progress::Provisioning(_, _) => unreachable!(),
+    }
 }
 
+/// Plays so many ticks and writes their answers.
+fn play_ticks<W: Write>(
+    alloc: Global,
+    progress: &mut Progress,
+    number: u64,
+    count: u32,
+    writer: &mut Watched<W>,
+) -> Result<(), PlayFault>
+    ensures acts { Adds (W.contents writer.old.inner) (W.contents writer.new.inner) (Acts number (passed progress.old count) result progress.new) }
+    ensures write { IsErrOf result PlayFault.Write → writer.new.failed ≡ true }
+{
+    run(alloc, progress, number)?;
+    match progress {
+        Progress::Running(mme) => step_ticks(alloc, mme, count, writer),
+        Progress::Nothing | Progress::Provisioning(_, _) => unreachable!(),
+    }
+}
+
+/// Writes the states of the subscriber of that IMSI.
+fn show<W: Write>(
+    alloc: Global,
+    progress: &mut Progress,
+    number: u64,
+    imsi: Imsi,
+    writer: &mut Watched<W>,
+) -> Result<(), PlayFault>
+    ensures acts { Adds (W.contents writer.old.inner) (W.contents writer.new.inner) (Acts number (shown progress.old imsi) result progress.new) }
+    ensures write { IsErrOf result PlayFault.Write → writer.new.failed ≡ true }
+{
+    run(alloc, progress, number)?;
+    match progress {
+        Progress::Running(mme) => tell(alloc, mme, number, imsi, writer),
+        Progress::Nothing | Progress::Provisioning(_, _) => unreachable!(),
+    }
+}
+
+/// One event: whether it was taken.
 fn step_event<W: Write>(
     alloc: Global,
     mme: &mut Mme,
     event: &Event<'_>,
     writer: &mut Watched<W>,
-) -> Result<(), PlayFault>
+) -> Result<bool, PlayFault>
     ensures put { Adds (W.contents writer.old.inner) (W.contents writer.new.inner) (Puts (reply_text (reply mme.old event.now)) result) }
     ensures after { OnOk result (mme.new ≡ left_by mme.old event.now (reply mme.old event.now)) }
+    ensures taken { IfOk result (λ taken. taken ≡ is_ok (reply mme.old event.now)) }
     ensures write { IsErrOf result PlayFault.Write → writer.new.failed ≡ true }
 {
     match mme.step(event.again()) {
-        Ok(outs) => write_all(alloc, outs.as_slice(), writer),
-        Err(StepFault::NotUp) => write_one(alloc, Answer::Refused(1), writer),
-        Err(StepFault::AlreadyUp) => write_one(alloc, Answer::Refused(2), writer),
+        Ok(outs) => {
+            write_all(alloc, outs.as_slice(), writer)?;
+            Ok(true)
+        }
         Err(StepFault::NoMemory) => Err(PlayFault::NoMemory),
+        Err(StepFault::NotUp) => write_refusal(alloc, 1, writer),
+        Err(StepFault::AlreadyUp) => write_refusal(alloc, 2, writer),
+        Err(StepFault::ClockSpent) => write_refusal(alloc, 3, writer),
+        Err(StepFault::UnknownImsi) => write_refusal(alloc, 5, writer),
     }
 }
 
-fn config(fields: &MmeLine) -> Config
-    ensures { result ≡ config_of fields.now }
+/// Ticks, one after another, up to the first that is refused.
+fn step_ticks<W: Write>(
+    alloc: Global,
+    mme: &mut Mme,
+    count: u32,
+    writer: &mut Watched<W>,
+) -> Result<(), PlayFault>
+    ensures put { Adds (W.contents writer.old.inner) (W.contents writer.new.inner) (Puts (ticked count mme.old).1 result) }
+    ensures after { OnOk result (mme.new ≡ (ticked count mme.old).0) }
+    ensures write { IsErrOf result PlayFault.Write → writer.new.failed ≡ true }
 {
-    Config {
-        plmn: Octets::new(fields.plmn),
-        group: Octets::new(fields.group),
-        code: Octets::new(fields.code),
-        apn: apn(&fields.apn),
-        down: bit_rate(fields.down),
-        up: bit_rate(fields.up),
-        clock: 0,
+    for _tick in 0..count {
+        match step_event(alloc, mme, &Event::Tick, writer) {
+            Ok(true) => {}
+            Ok(false) => return Ok(()),
+            Err(fault) => return Err(fault),
+        }
+    }
+    Ok(())
+}
+
+fn tell<W: Write>(
+    alloc: Global,
+    mme: &Mme,
+    number: u64,
+    imsi: Imsi,
+    writer: &mut Watched<W>,
+) -> Result<(), PlayFault>
+    ensures acts { Adds (W.contents writer.old.inner) (W.contents writer.new.inner) (Acts number (told imsi mme.now (states_of_imsi imsi mme.now)) result (Running mme.now)) }
+    ensures write { IsErrOf result PlayFault.Write → writer.new.failed ≡ true }
+{
+    match states_of_imsi(mme, imsi) {
+        Some(states) => write_states(alloc, imsi, states, writer),
+        None => Err(PlayFault::Trace(number, TraceFault::Provision)),
+    }
+}
+
+fn states_of_imsi(mme: &Mme, imsi: Imsi) -> Option<States>
+    ensures { result ≡ states_of_imsi imsi mme.now }
+{
+    match mme.slot_of_imsi(imsi) {
+        Some(slot) => mme.states(slot),
+        None => None,
     }
 }
 
@@ -120,24 +187,6 @@ fn station_number(station: TraceStation) -> StationNumber
 {
     match StationNumber::try_new(station.get()) {
         Some(number) => number,
-        None => unreachable!(),
-    }
-}
-
-fn bit_rate(rate: BitRate) -> AggregateBitRate
-    ensures { result ≡ rate }
-{
-    match AggregateBitRate::try_new(rate.get()) {
-        Some(rate) => rate,
-        None => unreachable!(),
-    }
-}
-
-fn apn(label: &ApnLabel) -> Apn
-    ensures { result ≡ label.now }
-{
-    match Apn::try_new(label.as_slice()) {
-        Some(apn) => apn,
         None => unreachable!(),
     }
 }

@@ -1,17 +1,22 @@
 //! The answers of one event, written as they come.
 
-ghost use Rattle.std.specs.Prelude.{◌≡◌, ℕ, List, length, take, true, false, IsErrOf, IsTrue};
+ghost use Rattle.std.specs.Prelude.{◌≡◌, ℕ, List, length, take, true, false, IfOk, IsErrOf, IsTrue};
 ghost use Rattle.std.specs.Io.KnownBytes.{Appends};
-ghost use Rattle.trace_text.specs.Trace.{answer_text};
-ghost use Rattle.mme_main.specs.Text.{answer_owner, answers_of, out_text};
+ghost use Rattle.trace_text.specs.Trace.{answer_text, refused_text};
+ghost use Rattle.mme_main.specs.Words.{answer_owner, answers_of, ecm_shown, emm_shown, esm_shown, out_text, refusal_number, states_text};
 ghost use Rattle.mme_main.specs.Play.{Adds, Puts};
 
 use crate::fault::PlayFault;
 use crate::watched::Watched;
+use emm_machine::{EcmState, EmmState, States};
+use esm_machine::BearerState;
 use mme_core::{Out, Owner};
+use nas_elements::Imsi;
 use std::alloc::Global;
 use std::io::Write;
-use trace_text::{Answer, AnswerOwner, write_answer};
+use trace_text::{
+    Answer, AnswerOwner, EcmState as EcmWord, EmmState as EmmWord, EsmState, write_answer,
+};
 
 /// Writes these octets; at `false` the writer failed, and has the first of them.
 fn write_whole<W: Write>(writer: &mut Watched<W>, octets: &[u8]) -> bool
@@ -34,12 +39,12 @@ fn write_whole<W: Write>(writer: &mut Watched<W>, octets: &[u8]) -> bool
 }
 
 /// Writes the line of one answer.
-pub(crate) fn write_one<W: Write>(
+fn write_one<W: Write>(
     alloc: Global,
-    answer: Answer<'_>,
+    answer: &Answer<'_>,
     writer: &mut Watched<W>,
 ) -> Result<(), PlayFault>
-    ensures put { Adds (W.contents writer.old.inner) (W.contents writer.new.inner) (Puts (answer_text answer.entry) result) }
+    ensures put { Adds (W.contents writer.old.inner) (W.contents writer.new.inner) (Puts (answer_text answer.now) result) }
     ensures write { IsErrOf result PlayFault.Write → writer.new.failed ≡ true }
 {
     let Ok(text) = write_answer(alloc, answer) else {
@@ -75,7 +80,7 @@ fn write_out<W: Write>(alloc: Global, out: &Out, writer: &mut Watched<W>) -> Res
 {
     let owner = answer_owner(out.owner);
     let answer = Answer::Sent(owner, out.station.get(), out.octets.as_slice());
-    write_one(alloc, answer, writer)
+    write_one(alloc, &answer, writer)
 }
 
 fn answer_owner(owner: Owner) -> AnswerOwner
@@ -84,6 +89,68 @@ fn answer_owner(owner: Owner) -> AnswerOwner
     match owner {
         Owner::Station(station) => AnswerOwner::Station(station.get()),
         Owner::Stranger(station, phone) => AnswerOwner::Stranger(station.get(), phone),
-        Owner::Subscriber(slot) => AnswerOwner::Subscriber(slot),
+        Owner::Subscriber(slot) => AnswerOwner::Subscriber(slot.get()),
+    }
+}
+
+/// Writes the line of a refusal; `false`, since the event was not taken.
+pub(crate) fn write_refusal<W: Write>(
+    alloc: Global,
+    number: u8,
+    writer: &mut Watched<W>,
+) -> Result<bool, PlayFault>
+    ensures put { Adds (W.contents writer.old.inner) (W.contents writer.new.inner) (Puts (refused_text number) result) }
+    ensures taken { IfOk result (λ taken. taken ≡ false) }
+    ensures write { IsErrOf result PlayFault.Write → writer.new.failed ≡ true }
+{
+    match write_one(alloc, &Answer::Refused(number), writer) {
+        Ok(()) => Ok(false),
+        Err(fault) => Err(fault),
+    }
+}
+
+/// Writes the line of a subscriber's states.
+pub(crate) fn write_states<W: Write>(
+    alloc: Global,
+    imsi: Imsi,
+    states: States,
+    writer: &mut Watched<W>,
+) -> Result<(), PlayFault>
+    ensures put { Adds (W.contents writer.old.inner) (W.contents writer.new.inner) (Puts (states_text imsi states) result) }
+    ensures write { IsErrOf result PlayFault.Write → writer.new.failed ≡ true }
+{
+    let emm = emm_shown(states.emm);
+    let ecm = ecm_shown(states.ecm);
+    let answer = Answer::State(imsi, emm, ecm, esm_shown(states.esm));
+    write_one(alloc, &answer, writer)
+}
+
+fn emm_shown(state: EmmState) -> EmmWord
+    ensures { result ≡ emm_shown state }
+{
+    match state {
+        EmmState::Deregistered => EmmWord::Deregistered,
+        EmmState::CommonProcedureInitiated => EmmWord::CommonProcedureInitiated,
+        EmmState::Registered => EmmWord::Registered,
+        EmmState::DeregisteredInitiated => EmmWord::DeregisteredInitiated,
+    }
+}
+
+fn ecm_shown(state: EcmState) -> EcmWord
+    ensures { result ≡ ecm_shown state }
+{
+    match state {
+        EcmState::Idle => EcmWord::Idle,
+        EcmState::Connected => EcmWord::Connected,
+    }
+}
+
+fn esm_shown(state: BearerState) -> EsmState
+    ensures { result ≡ esm_shown state }
+{
+    match state {
+        BearerState::Inactive => EsmState::Inactive,
+        BearerState::ActivePending => EsmState::ActivePending,
+        BearerState::Active => EsmState::Active,
     }
 }

@@ -7,6 +7,7 @@ mod command;
 mod fault;
 mod play;
 mod player;
+mod progress;
 mod watched;
 
 use command::{Choice, CommandFault, command};

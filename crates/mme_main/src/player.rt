@@ -1,13 +1,14 @@
 //! The lines of a trace, as their octets come.
 
-ghost use Rattle.std.specs.Prelude.{◌≡◌, ◌<◌, ◌+◌, ◌∷◌, [], ◌^◌, None, length, OnOk, IsErrOf, true};
+ghost use Rattle.std.specs.Prelude.{◌≡◌, ◌<◌, ◌+◌, ◌∷◌, [], ◌^◌, length, OnOk, IsErrOf, true};
+ghost use Rattle.mme_main.specs.declared.progress.Progress.TheVariants.{Nothing};
 ghost use Rattle.mme_main.specs.Text.{line_effect};
 ghost use Rattle.mme_main.specs.Play.{Acts, Adds, Takes, Finishes, IsReady};
 
 use crate::acts::act_on_line;
 use crate::fault::{PlayFault, fault_in_line};
+use crate::progress::Progress;
 use crate::watched::Watched;
-use mme_core::Mme;
 use std::alloc::Global;
 use std::io::Write;
 use trace_text::{LONGEST_LINE, TraceFault, parse_line};
@@ -15,8 +16,8 @@ use trace_text::{LONGEST_LINE, TraceFault, parse_line};
 /// How far a trace has been played.
 #[derive(Drop)]
 pub struct Player {
-    /// The MME, once there is one.
-    pub mme: Option<Mme>,
+    /// What the lines before have left.
+    pub progress: Progress,
     /// The number of the line that comes, counted from 1.
     pub line: u64,
     /// The octets of that line that have come.
@@ -26,12 +27,12 @@ pub struct Player {
 impl Player {
     /// Nothing has been played.
     pub fn new(alloc: Global) -> Player
-        ensures mme { result.mme ≡ None }
+        ensures progress { result.progress ≡ Nothing }
         ensures line { result.line ≡ 1 }
         ensures pending { result.pending.items ≡ [] }
     {
         Player {
-            mme: None,
+            progress: Progress::Nothing,
             line: 1,
             pending: Vec::new(alloc),
         }
@@ -111,7 +112,7 @@ impl Player {
     {
         let number = self.line;
         let text = self.pending.as_slice();
-        match play_line(alloc, &mut self.mme, number, text, writer) {
+        match play_line(alloc, &mut self.progress, number, text, writer) {
             Ok(()) => {
                 self.line += 1;
                 self.pending.clear();
@@ -125,16 +126,16 @@ impl Player {
 /// One line, given without its LF.
 fn play_line<W: Write>(
     alloc: Global,
-    mme: &mut Option<Mme>,
+    progress: &mut Progress,
     number: u64,
     text: &[u8],
     writer: &mut Watched<W>,
 ) -> Result<(), PlayFault>
-    ensures acts { Adds (W.contents writer.old.inner) (W.contents writer.new.inner) (Acts number (line_effect mme.old text.now) result mme.new) }
+    ensures acts { Adds (W.contents writer.old.inner) (W.contents writer.new.inner) (Acts number (line_effect progress.old text.now) result progress.new) }
     ensures write { IsErrOf result PlayFault.Write → writer.new.failed ≡ true }
 {
     match parse_line(alloc, text) {
-        Ok(line) => act_on_line(alloc, mme, number, line, writer),
+        Ok(line) => act_on_line(alloc, progress, number, line, writer),
         Err(fault) => Err(fault_in_line(number, fault)),
     }
 }

@@ -95,6 +95,19 @@ fn stations_in_order(rt: HostRuntime) -> Result<(), Fail> {
 }
 
 #[test]
+fn states_are_shown(rt: HostRuntime) -> Result<(), Fail> {
+    let trace =
+        b"mme 001 01 8001 01 internet 1 1\nsub 001010000000001 0a000001 0a000064 00000001\n# none\nshow 001010000000001\ntick 2\ncancel 001010000000001\ncancel 00101000000002\n".as_slice();
+    let (outcome, held) = played(rt.alloc(), trace);
+    assert_eq!(rt; outcome, Ok(()));
+    assert!(rt;
+        held.as_slice()
+            == b"state 001010000000001 DEREGISTERED IDLE INACTIVE\nrefused 5\n".as_slice()
+    );
+    Ok(())
+}
+
+#[test]
 fn lines_before_a_fault_are_answered(rt: HostRuntime) -> Result<(), Fail> {
     let trace = begun(rt.alloc(), b"in 0 -\nin 0 0g\nin 0 -\n".as_slice())?;
     let (outcome, held) = played(rt.alloc(), trace.as_slice());
@@ -105,7 +118,7 @@ fn lines_before_a_fault_are_answered(rt: HostRuntime) -> Result<(), Fail> {
 
 #[test]
 fn faults_have_their_lines(rt: HostRuntime) -> Result<(), Fail> {
-    let rows: [(&[u8], u64, TraceFault); 7] = [
+    let rows: [(&[u8], u64, TraceFault); 10] = [
         (b"up 0\n".as_slice(), 1, TraceFault::Order),
         (b"\n#\nfly 0\n".as_slice(), 3, TraceFault::UnknownWord),
         (b"mme 001\n".as_slice(), 1, TraceFault::FieldCount),
@@ -116,6 +129,17 @@ fn faults_have_their_lines(rt: HostRuntime) -> Result<(), Fail> {
             b"mme 001 01 8001 01 a 1 1\nmme 001 01 8001 01 a 1 1".as_slice(),
             2,
             TraceFault::Order,
+        ),
+        (b"tick 1".as_slice(), 1, TraceFault::Order),
+        (
+            b"mme 001 01 8001 01 a 1 1\nup 0\nsub 001010000000001 0a000001 0a000064 00000001\n".as_slice(),
+            3,
+            TraceFault::Order,
+        ),
+        (
+            b"mme 001 01 8001 01 a 1 1\nshow 001010000000001".as_slice(),
+            2,
+            TraceFault::Provision,
         ),
     ];
     for (trace, line, fault) in rows {

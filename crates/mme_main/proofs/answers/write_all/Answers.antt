@@ -1,5 +1,5 @@
 use Rattle.std.proofs.Common.{◌+◌, ◌++◌, sym, take, arith}
-use Rattle.mme_main.specs.Text.{answers_of, out_text}
+use Rattle.mme_main.specs.Words.{answers_of, out_text}
 use Rattle.mme_main.proofs.Known.{Appends-then, Appends-same}
 use Rattle.mme_main.proofs.Answered.{answers_of-more, answers_of-front, Puts-after}
 use Rattle.mme_main.proofs.answers.write_all.Goals as goal
@@ -14,7 +14,7 @@ returns-in-Err-clause-put g c =
     let before = answers_of (take i outs) in (
       before ++ put.0,
       Appends-then (held c.args.writer.now.inner) (held c.loop-out.writer.inner) (held c.write_out.new.writer.inner) before put.0 c.loop-out.invariant put.1,
-      Puts-after before (out_text out) (answers_of outs) put.0 c.in-Err.fault (answers_of-front outs i out (omega arith) c.out-item.is) put.2,
+      Puts-after (Unit {0}) (Unit {0}) before (out_text out) (answers_of outs) put.0 c.in-Err.fault (answers_of-front outs i out (omega arith) c.out-item.is) put.2,
     )
 
 pub loop-out-preserved : goal.loop-out-preserved

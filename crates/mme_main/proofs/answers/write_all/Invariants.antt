@@ -1,6 +1,6 @@
 use Rattle.std.proofs.Common.{take}
 use Rattle.std.specs.Io.KnownBytes.{Appends}
-use Rattle.mme_main.specs.Text.{answers_of}
+use Rattle.mme_main.specs.Words.{answers_of}
 use Rattle.mme_main.proofs.answers.write_all.Given as goal
 
 abbrev pub invariant-loop-out : goal.invariant-loop-out

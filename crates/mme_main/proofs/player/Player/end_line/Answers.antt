@@ -6,15 +6,15 @@ use Rattle.mme_main.proofs.player.Player.end_line.Goals as goal
 pub returns-in-Ok-clause-takes : goal.returns-in-Ok-clause-takes
 returns-in-Ok-clause-takes g c =
     let old = c.args.self.now in
-    let new : Player = record { mme = c.play_line.new.mme; line = old.line + 1; pending = c.clear.new.self } in
+    let new : Player = record { progress = c.play_line.new.progress; line = old.line + 1; pending = c.clear.new.self } in
     let acts = rw c.as_slice-text.ensures.value at c.in-Ok.ensures.acts in
     (acts.0, acts.1, Takes-line old new acts.0 c.requires.ready acts.2 refl c.clear.ensures.items)
 
 pub returns-in-Err-clause-takes : goal.returns-in-Err-clause-takes
 returns-in-Err-clause-takes g c =
     let old = c.args.self.now in
-    let new : Player = record { mme = c.play_line.new.mme; line = old.line; pending = old.pending } in
-    let mme = c.play_line.new.mme in
+    let new : Player = record { progress = c.play_line.new.progress; line = old.line; pending = old.pending } in
+    let mme = c.play_line.new.progress in
     let fault = c.in-Err.fault in
     let acts = c.in-Err.ensures.acts in
-    (acts.0, acts.1, Takes-line_fault old new mme acts.0 fault c.requires.ready (Acts-text old.line old.mme mme c.as_slice-text.result.now old.pending.items acts.0 (Err fault) c.as_slice-text.ensures.value acts.2))
+    (acts.0, acts.1, Takes-line_fault old new mme acts.0 fault c.requires.ready (Acts-text old.line old.progress mme c.as_slice-text.result.now old.pending.items acts.0 (Err fault) c.as_slice-text.ensures.value acts.2))

@@ -1,0 +1,69 @@
+-- What is written of an event, and of a subscriber who is shown.
+use Rattle.std.specs.Prelude.{ℕ, List, [], ◌∷◌, ◌++◌, Result, Ok, Err}
+use Rattle.esm_machine.specs.declared.bearer.BearerState.{BearerState}
+use Rattle.esm_machine.specs.declared.bearer.BearerState.TheVariants as bearer
+use Rattle.emm_machine.specs.declared.subscriber.EmmState.{EmmState}
+use Rattle.emm_machine.specs.declared.subscriber.EmmState.TheVariants as emm
+use Rattle.emm_machine.specs.declared.subscriber.EcmState.{EcmState}
+use Rattle.emm_machine.specs.declared.subscriber.EcmState.TheVariants as ecm
+use Rattle.emm_machine.specs.declared.subscriber.States.{States}
+use Rattle.mme_core.specs.declared.event.StepFault.{StepFault}
+use Rattle.mme_core.specs.declared.event.StepFault.TheVariants.{NotUp, AlreadyUp, ClockSpent, NoMemory, UnknownImsi}
+use Rattle.mme_core.specs.declared.out.Out.{Out}
+use Rattle.mme_core.specs.declared.out.Owner.{Owner}
+use Rattle.mme_core.specs.declared.out.Owner.TheVariants.{Station, Stranger, Subscriber}
+use Rattle.trace_text.specs.Trace.{sent_text, refused_text, state_text}
+use Rattle.trace_text.specs.declared.answer.AnswerOwner.{AnswerOwner}
+use Rattle.trace_text.specs.declared.answer.AnswerOwner.TheVariants as owner
+use Rattle.trace_text.specs.declared.answer.EmmState.{EmmState as EmmWord}
+use Rattle.trace_text.specs.declared.answer.EmmState.TheVariants as emm_words
+use Rattle.trace_text.specs.declared.answer.EcmState.{EcmState as EcmWord}
+use Rattle.trace_text.specs.declared.answer.EcmState.TheVariants as ecm_words
+use Rattle.trace_text.specs.declared.answer.EsmState.{EsmState as EsmWord}
+use Rattle.trace_text.specs.declared.answer.EsmState.TheVariants as esm_words
+
+-- ---- the answer to an event
+
+abbrev pub answer_owner : Owner → AnswerOwner
+answer_owner (Station e) = owner.Station e
+answer_owner (Stranger e b) = owner.Stranger e b
+answer_owner (Subscriber slot) = owner.Subscriber slot
+
+abbrev pub out_text : Out → List ℕ
+out_text out = sent_text (answer_owner out.owner) out.station out.octets
+
+abbrev pub answers_of : List Out → List ℕ
+answers_of [] = []
+answers_of (out ∷ outs) = out_text out ++ answers_of outs
+
+-- the number that a refusal is written with
+abbrev pub refusal_number : StepFault → ℕ
+refusal_number NotUp = 1
+refusal_number AlreadyUp = 2
+refusal_number ClockSpent = 3
+refusal_number NoMemory = 4
+refusal_number UnknownImsi = 5
+
+abbrev pub reply_text : Result (List Out) StepFault → List ℕ
+reply_text (Ok outs) = answers_of outs
+reply_text (Err fault) = refused_text (refusal_number fault)
+
+-- ---- the states of a subscriber
+
+abbrev pub emm_shown : EmmState → EmmWord
+emm_shown emm.Deregistered = emm_words.Deregistered
+emm_shown emm.CommonProcedureInitiated = emm_words.CommonProcedureInitiated
+emm_shown emm.Registered = emm_words.Registered
+emm_shown emm.DeregisteredInitiated = emm_words.DeregisteredInitiated
+
+abbrev pub ecm_shown : EcmState → EcmWord
+ecm_shown ecm.Idle = ecm_words.Idle
+ecm_shown ecm.Connected = ecm_words.Connected
+
+abbrev pub esm_shown : BearerState → EsmWord
+esm_shown bearer.Inactive = esm_words.Inactive
+esm_shown bearer.ActivePending = esm_words.ActivePending
+esm_shown bearer.Active = esm_words.Active
+
+abbrev pub states_text : List ℕ → States → List ℕ
+states_text imsi s = state_text imsi (emm_shown s.emm) (ecm_shown s.ecm) (esm_shown s.esm)
