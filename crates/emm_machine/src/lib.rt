@@ -34,3 +34,6 @@ pub use solo::{
 };
 pub use stations::{EnbWorld, StationNumber, StationState};
 pub use subscriber::{EcmState, EmmState, States, Subscriber};
+
+#[cfg(test)]
+mod tests;
