@@ -1,5 +1,5 @@
 -- Each subscriber is alone: what the MME sends it and its state are those of its own machine over its own items.
-use Rattle.std.proofs.Common.{◌≡◌, ◌≢◌, ℕ, suc, zero, ◌+◌, ◌<◌, ◌≤◌, List, [], ◌∷◌, ◌++◌, map, Option, Some, None, Result, Ok, Err, refl, sym, ◌∙◌, ap, arith}
+use Rattle.std.proofs.Common.{◌≡◌, ◌≢◌, ℕ, suc, zero, ◌+◌, ◌<◌, List, [], ◌∷◌, ◌++◌, map, Option, Some, None, refl, sym, ◌∙◌, ap, arith}
 use Rattle.std.specs.Prelude.{slice_get}
 use Rattle.std.proofs.lemmas.Bool.Decides.{nat_tests}
 use Rattle.std.proofs.lemmas.List.{append-nil}
@@ -10,12 +10,10 @@ use Rattle.mme_core.specs.declared.event.Event.{Event}
 use Rattle.mme_core.specs.declared.event.StepFault.{StepFault}
 use Rattle.mme_core.specs.declared.out.Out.{Out}
 use Rattle.mme_core.specs.declared.out.Owner.{Owner}
-use Rattle.mme_core.specs.declared.out.Owner.TheVariants.{Stranger}
-use Rattle.mme_core.specs.Projection.{Told, alone_after, answer_told, is_slot, item_for, owned_by, projection, told, told_alone, told_in, told_of}
+use Rattle.mme_core.specs.Projection.{alone_after, answer_told, item_for, owned_by, projection, told, told_alone, told_in, told_of}
 use Rattle.mme_core.specs.Sight.{Sight}
-use Rattle.mme_core.specs.Stations.{Heard, answered_unknown, foreign_answers, out_of}
-use Rattle.mme_core.specs.World.{World, each_after, each_sends, fault_of, front_sends, happens, items_of, moved, outputs, replies, reply, reply_of, sight_after, sight_moved, slot_out, station_of, station_out, station_sends, unless, whole_after, whole_step, world_after, world_run}
-use Rattle.mme_core.proofs.Calling.{at_nothing, silent, stays}
+use Rattle.mme_core.specs.World.{World, each_after, each_sends, fault_of, front_sends, happens, items_of, moved, outputs, replies, reply, reply_of, sight_after, slot_out, station_of, station_out, station_sends, unless, whole_after, whole_step, world_after, world_run}
+use Rattle.mme_core.proofs.Calling.{at_nothing, stays}
 use Rattle.mme_core.proofs.Strangers.{AreStrangers, strangers_are}
 
 -- what two outputs in a row hold of a slot

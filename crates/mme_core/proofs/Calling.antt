@@ -1,5 +1,5 @@
 -- A call of one, of all and of nobody.
-use Rattle.std.proofs.Common.{◌≡◌, ◌≢◌, ℕ, suc, zero, ◌+◌, ◌<◌, ◌≤◌, List, [], ◌∷◌, ◌++◌, length, set, map, Option, Some, None, refl, sym, ◌∙◌, ap, arith}
+use Rattle.std.proofs.Common.{◌≡◌, ◌≢◌, ℕ, suc, zero, ◌+◌, ◌≤◌, List, [], ◌∷◌, ◌++◌, length, set, map, Some, refl, sym, ◌∙◌, ap, arith}
 use Rattle.std.specs.Prelude.{slice_get}
 use Rattle.std.proofs.lemmas.Bool.Decides.{nat_tests}
 use Rattle.std.proofs.lemmas.List.{append-nil}
@@ -8,9 +8,8 @@ use Rattle.emm_machine.specs.declared.solo.Solo.{Solo}
 use Rattle.emm_machine.specs.Actions.{untouched}
 use Rattle.emm_machine.specs.Steps.{Item, Nothing, row, solo_step}
 use Rattle.emm_machine.specs.Whole.{Whole}
-use Rattle.mme_core.specs.declared.out.Out.{Out}
-use Rattle.mme_core.specs.Seen.{in_state, solos_after, with_solos}
-use Rattle.mme_core.specs.Stations.{Calls, NoOne, One, Everyone}
+use Rattle.mme_core.specs.Seen.{solos_after, with_solos}
+use Rattle.mme_core.specs.Stations.{One, Everyone}
 use Rattle.mme_core.specs.World.{called, each_after, each_sends, slot_out, whole_after, whole_step}
 
 -- nothing reaches a subscriber: it stays, and sends nothing

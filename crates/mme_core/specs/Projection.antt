@@ -1,5 +1,5 @@
 -- Each owner alone: what of a list of events is a slot's, and what its machine sends over it.
-use Rattle.std.specs.Prelude.{◌≡◌, ◌≤◌, ℕ, ◌==◌, Bool, true, false, List, [], ◌∷◌, ◌++◌, map, filter, Option, Some, None, Result, Ok, Err, slice_get, option_map, if◌then◌else◌}
+use Rattle.std.specs.Prelude.{◌≡◌, ◌≤◌, ℕ, ◌==◌, Bool, false, List, [], ◌∷◌, map, filter, Option, Some, None, Result, Ok, Err, slice_get, option_map, if◌then◌else◌}
 use Rattle.emm_machine.specs.declared.octets.Answer.{Answer}
 use Rattle.emm_machine.specs.declared.stations.StationState.{StationState}
 use Rattle.emm_machine.specs.Steps.{Item, Nothing, solo_after, solo_answers}
@@ -12,7 +12,7 @@ use Rattle.mme_core.specs.declared.out.Out.{Out}
 use Rattle.mme_core.specs.declared.out.Owner.{Owner}
 use Rattle.mme_core.specs.declared.out.Owner.TheVariants.{Station, Stranger, Subscriber}
 use Rattle.mme_core.specs.Sight.{Sight}
-use Rattle.mme_core.specs.World.{World, fault_of, happens, items_of, sight_after, station_of, station_out, station_sends, unless, whole_step}
+use Rattle.mme_core.specs.World.{World, fault_of, happens, items_of, sight_after, station_of, unless}
 
 -- ---- one subscriber
 

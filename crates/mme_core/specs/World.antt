@@ -1,5 +1,5 @@
 -- The whole MME, and the whole output of an event.
-use Rattle.std.specs.Prelude.{ℕ, ◌+◌, ◌^◌, ◌==◌, nat_lt, Bool, true, false, List, [], ◌∷◌, ◌++◌, map, Option, Some, None, is_some, Result, Ok, Err, if◌then◌else◌, slice_set}
+use Rattle.std.specs.Prelude.{ℕ, ◌+◌, ◌^◌, ◌==◌, nat_lt, Bool, true, false, List, [], ◌∷◌, ◌++◌, map, Option, Some, None, Result, Ok, Err, if◌then◌else◌, slice_set}
 use Rattle.identity_slots.specs.declared.profile.Profile.{Profile}
 use Rattle.identity_slots.specs.declared.profile.Vector.{Vector}
 use Rattle.identity_slots.specs.Provisioned.{Provisioned, slot_of_imsi, vectors_at}
@@ -7,7 +7,6 @@ use Rattle.s1ap_messages.specs.Pdus.{decoded}
 use Rattle.emm_machine.specs.declared.draft.Draft.{Draft}
 use Rattle.emm_machine.specs.declared.octets.Answer.{Answer}
 use Rattle.emm_machine.specs.declared.network.Network.{Network}
-use Rattle.emm_machine.specs.declared.setting.Setting.{Setting}
 use Rattle.emm_machine.specs.declared.stations.StationState.{StationState}
 use Rattle.emm_machine.specs.declared.stations.StationState.TheVariants.{Down, Up, Ready}
 use Rattle.emm_machine.specs.Stations.{no_stations, station_at}

@@ -19,7 +19,7 @@ loop-place-preserved c =
     let push : c.push.new.self.items ≡ l.subscribers.items ++ c.in_ok-new.field-0 ∷ [] = c.in_ok-push.ensures.items in
     record {
       made = fresh_pushed l.subscribers.items c.push.new.self.items (fresh_subscribers n l.place (drop l.place ps) vs) (fresh_subscribers n (l.place + 1) (drop (l.place + 1) ps) vs)
-        (fresh_subscribers n 0 ps vs) c.in_ok-new.field-0 (fresh_one n l.place p own) push (c.in_ok-new.ensures ∙ ap (λ k. fresh_one n k p own) slot)
-        (fresh_more n l.place ps vs p own at_p at_v) l.invariant.made;
+          (fresh_subscribers n 0 ps vs) c.in_ok-new.field-0 (fresh_one n l.place p own) push (c.in_ok-new.ensures ∙ ap (λ k. fresh_one n k p own) slot)
+          (fresh_more n l.place ps vs p own at_p at_v) l.invariant.made;
       count = omega (arith, ap length push, length_push l.subscribers.items c.in_ok-new.field-0, l.invariant.count);
     }

@@ -1,4 +1,4 @@
-use Rattle.std.proofs.Common.{◌≡◌, ◌++◌, sym, ◌∙◌, ap, refl}
+use Rattle.std.proofs.Common.{◌++◌, sym, ◌∙◌, ap, refl}
 use Rattle.std.proofs.lemmas.List.{append-nil}
 use Rattle.emm_machine.specs.Steps.{item_of}
 use Rattle.mme_core.proofs.Calling.{after_nothing, sends_nothing}

@@ -1,4 +1,4 @@
-use Rattle.std.proofs.Common.{◌≡◌, ◌++◌, [], length, map, sym, ◌∙◌, ap, refl, subst, Ok, Some, None}
+use Rattle.std.proofs.Common.{◌≡◌, ◌++◌, length, map, sym, ◌∙◌, ap, subst, Ok, Some, None}
 use Rattle.std.specs.Prelude.{slice_set, unwrap_or}
 use Rattle.s1ap_messages.specs.Pdus.{decoded}
 use Rattle.std.proofs.lemmas.List.{length-set}
@@ -14,10 +14,9 @@ use Rattle.mme_core.proofs.mme.Mme.hear.Goals as goal
 pub invariant_of-self : goal.invariant_of-self
 invariant_of-self c =
     let ws = c.self.inside.subscribers.items in
-    let calls = calls_of c.in_ok-heard.heard.calls c.self.inside.stations in
-    (
+    let calls = calls_of c.in_ok-heard.heard.calls c.self.inside.stations in (
       as_many calls ws c.settle.new.subscribers.items
-        (prepared_settled calls ws c.as_slice.result.now _ c.in_ok-prepared.prepared c.as_slice.ensures.value c.in_ok-prepared.ensures.after c.settle.ensures) c.self.invariant.0,
+          (prepared_settled calls ws c.as_slice.result.now _ c.in_ok-prepared.prepared c.as_slice.ensures.value c.in_ok-prepared.ensures.after c.settle.ensures) c.self.invariant.0,
       ap length c.settle_station.ensures ∙ length-set c.self.inside.stations c.args.station _ ∙ c.self.invariant.1,
     )
 
@@ -31,11 +30,11 @@ returns-clause-reply c =
     let h = seen s w.sight.stations x in
     let fine : fault_of w.sight e ≡ None = ap (λ s. if_down s (Some NotUp) None) (sym c.get-state.ensures) ∙ not_down s (Some NotUp) None c.in_default.not-Down in
     let is : happens w.sight e ≡ h =
-      ap (λ s. hears w.sight.config w.sight.profiles c.args.station s (decoded c.args.octets.now)) (sym c.get-state.ensures) ∙ sym (c.in_ok-heard.ensures.rows w.sight.stations) in
+    ap (λ s. hears w.sight.config w.sight.profiles c.args.station s (decoded c.args.octets.now)) (sym c.get-state.ensures) ∙ sym (c.in_ok-heard.ensures.rows w.sight.stations) in
     subst (λ (v : World). reply v e ≡ Ok c.prepare.new.outs) c.self.view_is
-      (reply_so w e h c.prepare.new.outs fine is
-        (sent_behind h.calls w.subscribers c.as_slice.result.now (map (station_out c.args.station) (written_octets x.says) ++ listed x.stranger) c.in_ok-outs.outs _
-          c.as_slice.ensures.value c.in_ok-outs.ensures c.in_ok-prepared.ensures.sends))
+    (reply_so w e h c.prepare.new.outs fine is
+    (sent_behind h.calls w.subscribers c.as_slice.result.now (map (station_out c.args.station) (written_octets x.says) ++ listed x.stranger) c.in_ok-outs.outs _
+    c.as_slice.ensures.value c.in_ok-outs.ensures c.in_ok-prepared.ensures.sends))
 
 pub returns-clause-after : goal.returns-clause-after
 unfolding happens
@@ -47,9 +46,9 @@ returns-clause-after c =
     let h = seen s w.sight.stations x in
     let fine : fault_of w.sight e ≡ None = ap (λ s. if_down s (Some NotUp) None) (sym c.get-state.ensures) ∙ not_down s (Some NotUp) None c.in_default.not-Down in
     let is : happens w.sight e ≡ h =
-      ap (λ s. hears w.sight.config w.sight.profiles c.args.station s (decoded c.args.octets.now)) (sym c.get-state.ensures) ∙ sym (c.in_ok-heard.ensures.rows w.sight.stations) in
+    ap (λ s. hears w.sight.config w.sight.profiles c.args.station s (decoded c.args.octets.now)) (sym c.get-state.ensures) ∙ sym (c.in_ok-heard.ensures.rows w.sight.stations) in
     after_so w e h _ c.settle.new.subscribers.items fine is
-      (ap (λ xs. record { config = w.sight.config; clock = w.sight.clock; stations = xs; profiles = w.sight.profiles })
-        (c.settle_station.ensures ∙ ap (λ s. slice_set w.sight.stations c.args.station (unwrap_or x.state s)) (sym c.get-state.ensures)))
-      (prepared_settled h.calls w.subscribers c.as_slice.result.now _ c.in_ok-prepared.prepared c.as_slice.ensures.value c.in_ok-prepared.ensures.after c.settle.ensures)
+    (ap (λ xs. record { config = w.sight.config; clock = w.sight.clock; stations = xs; profiles = w.sight.profiles })
+    (c.settle_station.ensures ∙ ap (λ s. slice_set w.sight.stations c.args.station (unwrap_or x.state s)) (sym c.get-state.ensures)))
+    (prepared_settled h.calls w.subscribers c.as_slice.result.now _ c.in_ok-prepared.prepared c.as_slice.ensures.value c.in_ok-prepared.ensures.after c.settle.ensures)
     ∙ ap (λ (v : World). world_after v e) c.self.view_is

@@ -1,4 +1,4 @@
-use Rattle.std.proofs.Common.{◌≡◌, length, ap, ◌∙◌}
+use Rattle.std.proofs.Common.{length, ap, ◌∙◌}
 use Rattle.std.proofs.lemmas.List.{length-replicate}
 use Rattle.emm_machine.specs.declared.stations.StationState.TheVariants.{Down}
 use Rattle.emm_machine.specs.Stations.{no_stations}

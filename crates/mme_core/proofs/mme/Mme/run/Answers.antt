@@ -1,4 +1,4 @@
-use Rattle.std.proofs.Common.{◌≡◌, ◌<◌, length, arith, ap, ◌∙◌, sym, take, ◌+◌, ◌++◌, ◌∷◌, [], length-take}
+use Rattle.std.proofs.Common.{◌≡◌, length, arith, ap, ◌∙◌, sym, take, ◌+◌, ◌++◌, ◌∷◌, [], length-take}
 use Rattle.std.specs.Prelude.{slice_get}
 use Rattle.std.proofs.lemmas.List.{take_all, take_more, length_push}
 use Rattle.mme_core.specs.Projection.{told}

@@ -1,4 +1,4 @@
-use Rattle.std.proofs.Common.{◌≡◌, ◌++◌, [], length, sym, ◌∙◌, ap, refl, subst, Ok, Some, None, arith}
+use Rattle.std.proofs.Common.{◌≡◌, [], ◌∙◌, ap, refl, subst, Ok, None}
 use Rattle.emm_machine.specs.declared.stations.StationState.TheVariants.{Down}
 use Rattle.emm_machine.specs.Steps.{Tick}
 use Rattle.mme_core.specs.declared.event.Event.TheVariants as events
@@ -10,10 +10,9 @@ use Rattle.mme_core.proofs.mme.Mme.tick.Goals as goal
 
 pub invariant_of-self : goal.invariant_of-self
 invariant_of-self c =
-    let ws = c.self.inside.subscribers.items in
-    (
+    let ws = c.self.inside.subscribers.items in (
       as_many (Everyone Tick) ws c.settle_everyone.new.subscribers.items
-        (everyone_settled Tick ws c.as_slice.result.now _ c.in_ok-solos.solos.items c.as_slice.ensures.value c.in_ok-solos.ensures.solos c.settle_everyone.ensures) c.self.invariant.0,
+          (everyone_settled Tick ws c.as_slice.result.now _ c.in_ok-solos.solos.items c.as_slice.ensures.value c.in_ok-solos.ensures.solos c.settle_everyone.ensures) c.self.invariant.0,
       c.self.invariant.1,
     )
 
@@ -24,8 +23,8 @@ returns-clause-reply c =
     let w = the_view c.self.inside in
     let fine : fault_of w.sight e ≡ None = clock_goes_on w.sight.clock c.if-self-ge-LAST_TICK.false in
     subst (λ (v : World). reply v e ≡ Ok c.prepare_everyone.new.outs) c.self.view_is
-      (reply_so w e (calling Down (Everyone Tick)) c.prepare_everyone.new.outs fine refl
-        (sent_behind (Everyone Tick) w.subscribers c.as_slice.result.now [] c.new-outs.result _ c.as_slice.ensures.value c.new-outs.ensures c.in_ok-solos.ensures.sends))
+    (reply_so w e (calling Down (Everyone Tick)) c.prepare_everyone.new.outs fine refl
+    (sent_behind (Everyone Tick) w.subscribers c.as_slice.result.now [] c.new-outs.result _ c.as_slice.ensures.value c.new-outs.ensures c.in_ok-solos.ensures.sends))
 
 pub returns-clause-after : goal.returns-clause-after
 unfolding happens
@@ -34,5 +33,5 @@ returns-clause-after c =
     let w = the_view c.self.inside in
     let fine : fault_of w.sight e ≡ None = clock_goes_on w.sight.clock c.if-self-ge-LAST_TICK.false in
     after_so w e (calling Down (Everyone Tick)) _ c.settle_everyone.new.subscribers.items fine refl refl
-      (everyone_settled Tick w.subscribers c.as_slice.result.now _ c.in_ok-solos.solos.items c.as_slice.ensures.value c.in_ok-solos.ensures.solos c.settle_everyone.ensures)
+    (everyone_settled Tick w.subscribers c.as_slice.result.now _ c.in_ok-solos.solos.items c.as_slice.ensures.value c.in_ok-solos.ensures.solos c.settle_everyone.ensures)
     ∙ ap (λ (v : World). world_after v e) c.self.view_is

@@ -1,4 +1,4 @@
-use Rattle.std.proofs.Common.{◌≡◌, ◌++◌, [], length, sym, ◌∙◌, ap, refl, subst, Ok, Some, None}
+use Rattle.std.proofs.Common.{◌≡◌, [], length, sym, ◌∙◌, ap, refl, subst, Ok, Some, None}
 use Rattle.emm_machine.specs.declared.stations.StationState.TheVariants.{Up}
 use Rattle.std.proofs.lemmas.List.{length-set}
 use Rattle.mme_core.specs.declared.event.Event.TheVariants as events
@@ -20,7 +20,7 @@ returns-in-Down-clause-reply c =
     let w = the_view c.self.inside in
     let fine : fault_of w.sight e ≡ None = ap (λ s. if_down s None (Some AlreadyUp)) (sym c.get.ensures ∙ c.in-Down.is) in
     subst (λ (v : World). reply v e ≡ Ok c.new.result) c.self.view_is
-      (reply_so w e (says Up []) c.new.result fine refl (c.new.ensures ∙ sym (sends_nothing 0 _ w.subscribers (λ m le. refl))))
+    (reply_so w e (says Up []) c.new.result fine refl (c.new.ensures ∙ sym (sends_nothing 0 _ w.subscribers (λ m le. refl))))
 
 pub returns-in-Down-clause-after : goal.returns-in-Down-clause-after
 unfolding happens
@@ -29,6 +29,6 @@ returns-in-Down-clause-after c =
     let w = the_view c.self.inside in
     let fine : fault_of w.sight e ≡ None = ap (λ s. if_down s None (Some AlreadyUp)) (sym c.get.ensures ∙ c.in-Down.is) in
     after_so w e (says Up []) _ w.subscribers fine refl
-      (ap (λ xs. record { config = w.sight.config; clock = w.sight.clock; stations = xs; profiles = w.sight.profiles }) c.set.ensures)
-      (sym (after_nothing 0 _ w.subscribers (λ m le. refl)))
+    (ap (λ xs. record { config = w.sight.config; clock = w.sight.clock; stations = xs; profiles = w.sight.profiles }) c.set.ensures)
+    (sym (after_nothing 0 _ w.subscribers (λ m le. refl)))
     ∙ ap (λ (v : World). world_after v e) c.self.view_is
