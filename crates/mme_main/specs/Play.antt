@@ -49,14 +49,15 @@ Acts line effect (Err Write) new written = IsPrefix written (effect_text effect)
 Acts line effect (Err Read) new written = ⊥
 Acts line effect (Err (Trace number fault)) new written = (effect ≡ Err fault) × (number ≡ line) × (written ≡ [])
 
--- the MME runs, and it is this one, or the line of that number has a fault
-abbrev pub Is : Result World TraceFault → Progress → Type 0
-Is wanted Nothing = ⊥
-Is wanted (Provisioning config provisioned) = ⊥
-Is wanted (Running world) = wanted ≡ Ok world
+-- the MME runs, and is the one that was wanted
+abbrev pub RunsAs : Result World TraceFault → Progress → Type 0
+RunsAs wanted Nothing = ⊥
+RunsAs wanted (Provisioning config provisioned) = ⊥
+RunsAs wanted (Running world) = wanted ≡ Ok world
 
+-- the same, or the line of that number has the fault that was met
 abbrev pub Runs : ℕ → Result World TraceFault → Result (Unit {0}) PlayFault → Progress → Type 0
-Runs line wanted (Ok _) new = Is wanted new
+Runs line wanted (Ok _) new = RunsAs wanted new
 Runs line wanted (Err NoMemory) new = ⊤
 Runs line wanted (Err Write) new = ⊥
 Runs line wanted (Err Read) new = ⊥
