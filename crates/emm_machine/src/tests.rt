@@ -137,10 +137,10 @@ fn paging(rt: HostRuntime) -> Result<(), Fail> {
     let second =
         "2 000a4027000004 005040020040 002b4006001000000001 006d400100 002e400b00002f40060000f1100001";
     let mut trial = Trial::resting(rt.alloc())?;
-    assert!(rt; trial.told(&SoloEvent::Data, &[first, second])?);
-    assert!(rt; trial.told(&SoloEvent::Data, &[])?);
+    assert!(rt; trial.has_data(&[first, second])?);
+    assert!(rt; trial.has_data(&[])?);
     assert!(rt; trial.subscriber.pages_at(station(0)?));
-    assert!(rt; trial.told(&SoloEvent::StationGone(station(0)?), &[])?);
+    assert!(rt; trial.loses_station(0)?);
     assert!(rt; !trial.subscriber.pages_at(station(0)?));
     assert!(rt; trial.passes(10, &[second])?);
     assert!(rt; trial.passes(10, &[])?);
@@ -202,11 +202,11 @@ fn detach(rt: HostRuntime) -> Result<(), Fail> {
 #[test]
 fn cancel(rt: HostRuntime) -> Result<(), Fail> {
     let mut idle = Trial::resting(rt.alloc())?;
-    assert!(rt; idle.told(&SoloEvent::Cancel, &[])?);
+    assert!(rt; idle.is_cancelled(&[])?);
     assert!(rt; idle.subscriber.states() == GONE);
     let mut trial = Trial::attached(rt.alloc())?;
     let request = "0 000b401d000003 000000020001 000800020001 001a000a09 27bab31b3602074502";
-    assert!(rt; trial.told(&SoloEvent::Cancel, &[request])?);
+    assert!(rt; trial.is_cancelled(&[request])?);
     assert!(rt; trial.subscriber.states().emm == EmmState::DeregisteredInitiated);
     assert!(rt; trial.says("17c15cfcaa020746", &[RELEASE_DETACH])?);
     assert!(rt; trial.subscriber.states() == GONE);

@@ -142,6 +142,12 @@ fn body_of<'a>(said: Said) -> UeBody<&'a [u8]> {
     }
 }
 
+// An event that is lent.
+#[derive(Drop)]
+struct Lent<'a> {
+    event: SoloEvent<'a>,
+}
+
 #[derive(Drop)]
 pub struct Trial {
     alloc: Global,
@@ -184,7 +190,7 @@ impl Trial {
     }
 
     // Whether an event sends these messages, and no more.
-    pub fn told(&mut self, event: &SoloEvent, wanted: &[&str]) -> Result<bool, Fail> {
+    fn told(&mut self, event: &SoloEvent, wanted: &[&str]) -> Result<bool, Fail> {
         let answers = self.subscriber.step(event, &self.world)?;
         let mut is_so = answers.as_slice().len() == wanted.len();
         for (answer, text) in answers.as_slice().iter().zip(wanted) {
@@ -200,13 +206,15 @@ impl Trial {
     // INITIAL UE MESSAGE at station 0.
     pub fn enters(&mut self, enb_id: u64, nas: &str, wanted: &[&str]) -> Result<bool, Fail> {
         let octets = octets(self.alloc, nas.as_bytes())?;
-        let event = SoloEvent::Initial(Entry {
-            station: station(0)?,
-            enb_id: Whole::try_new(enb_id).ok_or("enb id")?,
-            nas: octets.as_slice(),
-            tai: area(1),
-        });
-        self.told(&event, wanted)
+        let lent = Lent {
+            event: SoloEvent::Initial(Entry {
+                station: station(0)?,
+                enb_id: Whole::try_new(enb_id).ok_or("enb id")?,
+                nas: octets.as_slice(),
+                tai: area(1),
+            }),
+        };
+        self.told(&lent.event, wanted)
     }
 
     // A station's number, an association and the phone's number there.
@@ -216,38 +224,66 @@ impl Trial {
         said: Said,
         wanted: &[&str],
     ) -> Result<bool, Fail> {
-        let event = SoloEvent::Message(UeMessage {
-            station: station(from.0)?,
-            mme_id: AssociationId::new(from.1),
-            enb_id: Whole::try_new(from.2).ok_or("enb id")?,
-            body: body_of(said),
-        });
-        self.told(&event, wanted)
+        let lent = Lent {
+            event: SoloEvent::Message(UeMessage {
+                station: station(from.0)?,
+                mme_id: AssociationId::new(from.1),
+                enb_id: Whole::try_new(from.2).ok_or("enb id")?,
+                body: body_of(said),
+            }),
+        };
+        self.told(&lent.event, wanted)
     }
 
     // UPLINK NAS TRANSPORT on the connection.
     pub fn says(&mut self, nas: &str, wanted: &[&str]) -> Result<bool, Fail> {
         let octets = octets(self.alloc, nas.as_bytes())?;
         let connection = self.subscriber.connection().ok_or("idle")?;
-        let event = SoloEvent::Message(UeMessage {
-            station: connection.station,
-            mme_id: connection.id,
-            enb_id: connection.enb_id,
-            body: UeBody::Uplink {
-                nas: octets.as_slice(),
-                tai: area(1),
-            },
-        });
-        self.told(&event, wanted)
+        let lent = Lent {
+            event: SoloEvent::Message(UeMessage {
+                station: connection.station,
+                mme_id: connection.id,
+                enb_id: connection.enb_id,
+                body: UeBody::Uplink {
+                    nas: octets.as_slice(),
+                    tai: area(1),
+                },
+            }),
+        };
+        self.told(&lent.event, wanted)
     }
 
     // Whether the last of so many ticks sends these messages, and the others none.
     pub fn passes(&mut self, ticks: usize, wanted: &[&str]) -> Result<bool, Fail> {
+        let tick = Lent {
+            event: SoloEvent::Tick,
+        };
         let mut is_so = true;
         for _ in 1..ticks {
-            is_so = self.told(&SoloEvent::Tick, &[])? && is_so;
+            is_so = self.told(&tick.event, &[])? && is_so;
         }
-        Ok(self.told(&SoloEvent::Tick, wanted)? && is_so)
+        Ok(self.told(&tick.event, wanted)? && is_so)
+    }
+
+    pub fn has_data(&mut self, wanted: &[&str]) -> Result<bool, Fail> {
+        let lent = Lent {
+            event: SoloEvent::Data,
+        };
+        self.told(&lent.event, wanted)
+    }
+
+    pub fn is_cancelled(&mut self, wanted: &[&str]) -> Result<bool, Fail> {
+        let lent = Lent {
+            event: SoloEvent::Cancel,
+        };
+        self.told(&lent.event, wanted)
+    }
+
+    pub fn loses_station(&mut self, number: u8) -> Result<bool, Fail> {
+        let lent = Lent {
+            event: SoloEvent::StationGone(station(number)?),
+        };
+        self.told(&lent.event, &[])
     }
 
     // Challenged on association 1.
