@@ -10,11 +10,12 @@ use Rattle.mme_core.specs.declared.event.Event.{Event}
 use Rattle.mme_core.specs.declared.event.StepFault.{StepFault}
 use Rattle.mme_core.specs.declared.out.Out.{Out}
 use Rattle.mme_core.specs.declared.out.Owner.{Owner}
+use Rattle.mme_core.specs.declared.out.Owner.TheVariants.{Stranger}
 use Rattle.mme_core.specs.Projection.{alone_after, answer_told, item_for, owned_by, projection, told, told_alone, told_in, told_of}
 use Rattle.mme_core.specs.Sight.{Sight}
 use Rattle.mme_core.specs.World.{World, each_after, each_sends, fault_of, front_sends, happens, items_of, moved, outputs, replies, reply, reply_of, sight_after, slot_out, station_of, station_out, station_sends, unless, whole_after, whole_step, world_after, world_run}
 use Rattle.mme_core.proofs.Calling.{at_nothing, stays}
-use Rattle.mme_core.proofs.Strangers.{AreStrangers, strangers_are}
+use Rattle.mme_core.proofs.Strangers.{AreOf, strangers_are}
 
 -- what two outputs in a row hold of a slot
 pub owned_by-append : (slot : ℕ) (xs ys : List Out) → owned_by slot (xs ++ ys) ≡ owned_by slot xs ++ owned_by slot ys
@@ -29,16 +30,16 @@ owned_by_stations : (slot : ℕ) (o : Option ℕ) (xs : List (List ℕ)) → own
 owned_by_stations slot None xs = refl
 owned_by_stations slot (Some e) xs = owned_by_station slot e xs
 
-owned_by_strangers : (slot : ℕ) (xs : List Out) → AreStrangers xs → owned_by slot xs ≡ []
-owned_by_strangers slot [] h = refl
-owned_by_strangers slot (x ∷ xs) h = ap (λ (o : Owner). owned_by slot (record { owner = o; station = x.station; octets = x.octets } ∷ xs)) h.0.2 ∙ owned_by_strangers slot xs h.1
+owned_by_stranger : (slot e b : ℕ) (xs : List Out) → AreOf (Stranger e b) xs → owned_by slot xs ≡ []
+owned_by_stranger slot e b [] h = refl
+owned_by_stranger slot e b (x ∷ xs) h = ap (λ (o : Owner). owned_by slot (record { owner = o; station = x.station; octets = x.octets } ∷ xs)) h.0 ∙ owned_by_stranger slot e b xs h.1
 
 pub owned_by_front : (slot : ℕ) (s : Sight) (e : Event) → owned_by slot (front_sends s e) ≡ []
 owned_by_front slot s e =
     let rest = (happens s e).strangers in
     owned_by-append slot (station_sends (station_of e) (happens s e).sends) rest
     ∙ ap (λ zs. zs ++ owned_by slot rest) (owned_by_stations slot (station_of e) (happens s e).sends)
-    ∙ owned_by_strangers slot rest (strangers_are s e)
+    ∙ (let h = strangers_are s e in owned_by_stranger slot h.0 h.1 rest h.2)
 
 owned_by_itself : (slot n : ℕ) (xs : List Answer) → n ≡ slot → map told_of (owned_by slot (map (slot_out n) xs)) ≡ map answer_told xs
 owned_by_itself slot n [] e = refl

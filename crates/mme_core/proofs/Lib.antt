@@ -2,6 +2,8 @@ pub mod Calling
 pub mod Strangers
 pub mod Alone
 pub mod Fresh
+pub mod Front
+pub mod Order
 pub mod Runs
 pub mod Stations
 pub mod Steps

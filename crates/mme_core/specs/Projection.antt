@@ -1,5 +1,5 @@
 -- Each owner alone: what of a list of events is a slot's, and what its machine sends over it.
-use Rattle.std.specs.Prelude.{◌≡◌, ◌≤◌, ℕ, ◌==◌, Bool, false, List, [], ◌∷◌, map, filter, Option, Some, None, Result, Ok, Err, slice_get, option_map, if◌then◌else◌}
+use Rattle.std.specs.Prelude.{◌≡◌, ◌≤◌, ℕ, ◌==◌, Bool, true, false, List, [], ◌∷◌, map, filter, not, Option, Some, None, Result, Ok, Err, slice_get, option_map, if◌then◌else◌}
 use Rattle.emm_machine.specs.declared.octets.Answer.{Answer}
 use Rattle.emm_machine.specs.declared.stations.StationState.{StationState}
 use Rattle.emm_machine.specs.Steps.{Item, Nothing, solo_after, solo_answers}
@@ -12,7 +12,7 @@ use Rattle.mme_core.specs.declared.out.Out.{Out}
 use Rattle.mme_core.specs.declared.out.Owner.{Owner}
 use Rattle.mme_core.specs.declared.out.Owner.TheVariants.{Station, Stranger, Subscriber}
 use Rattle.mme_core.specs.Sight.{Sight}
-use Rattle.mme_core.specs.World.{World, fault_of, happens, items_of, sight_after, station_of, unless}
+use Rattle.mme_core.specs.World.{World, fault_of, front_sends, happens, items_of, sight_after, station_of, unless}
 
 -- ---- one subscriber
 
@@ -65,7 +65,7 @@ alone_after w items = record { setting = w.setting; solo = solo_after w.setting 
 
 -- ---- the owners of an output, in their order
 
--- stations, then strangers by station and eNB UE id, then subscribers by slot
+-- stations by number, then one stranger, then subscribers by slot
 abbrev pub Reaches : Owner → Owner → Type 0
 Reaches (Station a) (Station b) = a ≤ b
 Reaches (Station a) (Stranger e b) = Unit {0}
@@ -84,6 +84,28 @@ AllFrom owner (o ∷ os) = Reaches owner o.owner × AllFrom owner os
 abbrev pub AreInOrder : List Out → Type 0
 AreInOrder [] = Unit {0}
 AreInOrder (o ∷ os) = AllFrom o.owner os × AreInOrder os
+
+-- each output in the order of its owners
+abbrev pub AllInOrder : List (Result (List Out) StepFault) → Type 0
+AllInOrder [] = Unit {0}
+AllInOrder (Ok outs ∷ rs) = AreInOrder outs × AllInOrder rs
+AllInOrder (Err fault ∷ rs) = AllInOrder rs
+
+-- ---- stations and strangers: what is sent for them is by what every owner may see, and by no subscriber
+
+abbrev pub is_subscriber : Owner → Bool
+is_subscriber (Station e) = false
+is_subscriber (Stranger e b) = false
+is_subscriber (Subscriber n) = true
+
+abbrev pub front_in : Result (List Out) StepFault → List Out
+front_in (Ok outs) = filter (λ o. not (is_subscriber o.owner)) outs
+front_in (Err fault) = []
+
+-- what is sent for stations and strangers over a list of events, by event
+abbrev pub front_alone : Sight → List Event → List (List Out)
+front_alone s [] = []
+front_alone s (event ∷ events) = unless (fault_of s event) [] (front_sends s event) ∷ front_alone (sight_after s event) events
 
 -- ---- one station
 

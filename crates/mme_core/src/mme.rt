@@ -7,7 +7,7 @@ ghost use Rattle.emm_machine.specs.Whole.{Whole};
 ghost use Rattle.emm_machine.specs.Words.{states_of};
 ghost use Rattle.mme_core.specs.declared.event.StepFault.TheVariants.{NoMemory};
 ghost use Rattle.mme_core.specs.declared.event.Event.TheVariants as events;
-ghost use Rattle.mme_core.specs.Projection.{alone_after, projection, station_run, states_at, told, told_alone};
+ghost use Rattle.mme_core.specs.Projection.{AllInOrder, AreInOrder, alone_after, front_alone, front_in, projection, station_run, states_at, told, told_alone};
 ghost use Rattle.emm_machine.specs.Steps.{item_of};
 ghost use Rattle.mme_core.specs.Seen.{IsFor, calls_of, listed, settled, solos_after, with_solo, with_solos};
 ghost use Rattle.mme_core.specs.Stations.{Everyone, One, written_octets};
@@ -94,6 +94,7 @@ impl Mme {
     pub fn step(&mut self, event: Event) -> Result<Outs, StepFault>
         ensures reply { IfOk result (λ outs. reply self.old event.entry ≡ Ok outs) }
         ensures after { OnOk result (self.new ≡ world_after self.old event.entry) }
+        ensures order { IfOk result (λ outs. AreInOrder outs) }
         ensures refused { IfErr result (λ fault. fault ≢ NoMemory → reply self.old event.entry ≡ Err fault) }
         ensures err { OnErr result (self.new ≡ self.old) }
     {
@@ -116,6 +117,8 @@ impl Mme {
             told slot (given rs.items) ≡ told_alone w (projection slot self.old.sight (taken events.now rs.items))) }
         ensures states { IfOk result (λ rs. (slot : ℕ) (w : Whole) → slice_get self.old.subscribers slot ≡ Some w →
             slice_get self.new.subscribers slot ≡ Some (alone_after w (projection slot self.old.sight (taken events.now rs.items)))) }
+        ensures front { IfOk result (λ rs. map front_in (given rs.items) ≡ front_alone self.old.sight (taken events.now rs.items)) }
+        ensures order { IfOk result (λ rs. AllInOrder rs.items) }
         ensures stations { IfOk result (λ rs. (e : ℕ) → e < 128 →
             station_at self.new.sight.stations e ≡ station_run self.old.sight e (station_at self.old.sight.stations e) (taken events.now rs.items)) }
         ensures err { OnErr result (self.new ≡ self.old) }

@@ -1,9 +1,11 @@
-use Rattle.std.proofs.Common.{◌≡◌, length, arith, ap, ◌∙◌, sym, take, ◌+◌, ◌++◌, ◌∷◌, [], length-take}
+use Rattle.std.proofs.Common.{◌≡◌, length, arith, ap, ◌∙◌, sym, take, ◌+◌, ◌++◌, ◌∷◌, [], length-take, map}
 use Rattle.std.specs.Prelude.{slice_get}
 use Rattle.std.proofs.lemmas.List.{take_all, take_more, length_push}
-use Rattle.mme_core.specs.Projection.{told}
+use Rattle.mme_core.specs.Projection.{front_in, told}
 use Rattle.mme_core.specs.World.{World, replies, world_run, taken}
 use Rattle.mme_core.proofs.Alone.{told_each, ends_alone}
+use Rattle.mme_core.proofs.Front.{front_each}
+use Rattle.mme_core.proofs.Order.{run_order}
 use Rattle.mme_core.proofs.Runs.{ran_more}
 use Rattle.mme_core.proofs.Stations.{station_ends}
 use Rattle.mme_core.proofs.mme.Mme.run.Goals as goal
@@ -51,3 +53,16 @@ returns-clause-stations c =
     let all : take l.event-index es ≡ es = take_all l.event-index es (let t = c.loop-event-test.false in omega (arith, t)) in
     let long : length w.sight.stations ≡ 128 = sym (ap (λ (v : World). length v.sight.stations) c.self.view_is) ∙ c.self.invariant.1 in
     λ e lt. station_ends w l.self e (taken es l.replies.items) (l.invariant.ran.state ∙ ap (λ xs. world_run w (taken xs l.replies.items)) all) (omega (arith, long, lt))
+
+pub returns-clause-front : goal.returns-clause-front
+returns-clause-front c =
+    let w = c.args.self.now in
+    let l = c.loop-event in
+    let es = c.args.events.now in
+    let all : take l.event-index es ≡ es = take_all l.event-index es (let t = c.loop-event-test.false in omega (arith, t)) in
+    ap (map front_in) (l.invariant.ran.replies ∙ ap (λ xs. replies w (taken xs l.replies.items)) all) ∙ front_each w (taken es l.replies.items)
+
+pub returns-clause-order : goal.returns-clause-order
+returns-clause-order c =
+    let l = c.loop-event in
+    run_order c.args.self.now (taken (take l.event-index c.args.events.now) l.replies.items) l.replies.items l.invariant.ran.replies
