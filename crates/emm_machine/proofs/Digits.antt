@@ -1,5 +1,5 @@
 -- Digits as a number, modulo 1024.
-use Rattle.std.proofs.Common.{suc, ◌≡◌, ℕ, ◌+◌, ◌*◌, ◌-◌, ◌%◌, ◌<◌, List, [], ◌∷◌, length, get_or, drop, refl, arith, add-one, drop-cons}
+use Rattle.std.proofs.Common.{suc, ◌≡◌, ℕ, ◌+◌, ◌*◌, ◌-◌, ◌%◌, ◌<◌, List, [], ◌∷◌, length, get_or, drop, arith, add-one, drop-cons}
 use Rattle.emm_machine.specs.Pdus.{number_from}
 
 -- only the remainder of what stands before matters

@@ -1,6 +1,6 @@
 -- The rows of an attach (TS 24.301 clause 5.5.1): its request, authentication and security mode, and its acceptance.
 -- A row goes from a step under way to the step with the row done; none where a downlink count is spent.
-use Rattle.std.specs.Prelude.{ℕ, ◌+◌, ◌-◌, ◌%◌, ◌==◌, Bool, true, false, if◌then◌else◌, List, [], ◌∷◌, replicate, not, slice_get, Option, Some, None, Result, Ok, Err}
+use Rattle.std.specs.Prelude.{ℕ, ◌+◌, ◌-◌, ◌%◌, ◌==◌, Bool, true, false, if◌then◌else◌, List, [], ◌∷◌, replicate, slice_get, Option, Some, None, Ok, Err}
 use Rattle.std.specs.Option.{option_map_or}
 use Rattle.eps_keys.specs.Hmac.{kenb, nas_integrity_key, next_hop}
 use Rattle.eps_keys.specs.Same.{same_octets}
@@ -22,13 +22,11 @@ use Rattle.emm_machine.specs.declared.heard.Heard.{Heard}
 use Rattle.emm_machine.specs.declared.heard.Heard.TheVariants as heards
 use Rattle.emm_machine.specs.declared.messages.Grant.{Grant}
 use Rattle.emm_machine.specs.declared.setting.Setting.{Setting}
-use Rattle.emm_machine.specs.declared.solo.Asked.{Asked}
 use Rattle.emm_machine.specs.declared.solo.Context.{Context}
 use Rattle.emm_machine.specs.declared.solo.Phase.TheVariants.{Accepting, Authenticating, EsmInformation, SecurityMode}
 use Rattle.emm_machine.specs.declared.solo.Protection.TheVariants.{Plain, Under}
 use Rattle.emm_machine.specs.declared.solo.RadioKeys.{RadioKeys}
 use Rattle.emm_machine.specs.declared.solo.Repeat.TheVariants as repeats
-use Rattle.emm_machine.specs.declared.solo.Solo.{Solo}
 use Rattle.emm_machine.specs.declared.solo.Timer.TheVariants.{T3450, T3460, T3489}
 use Rattle.emm_machine.specs.Actions.{fall, mac_of, protect, release, send, set_up_with, start, wipe}
 use Rattle.emm_machine.specs.Does.{◌>>=◌}

@@ -19,7 +19,6 @@ use Rattle.emm_machine.specs.declared.solo.Context.{Context}
 use Rattle.emm_machine.specs.declared.solo.RadioKeys.{RadioKeys}
 use Rattle.emm_machine.specs.declared.solo.Repeat.{Repeat}
 use Rattle.emm_machine.specs.declared.solo.Repeat.TheVariants as repeats
-use Rattle.emm_machine.specs.declared.solo.Solo.{Solo}
 use Rattle.emm_machine.specs.Actions.{emit, fall, is_at, is_registered, lost}
 use Rattle.emm_machine.specs.Pdus.{error_indication, path_switch_acknowledge, path_switch_failure}
 use Rattle.emm_machine.specs.Serving.{uplink}

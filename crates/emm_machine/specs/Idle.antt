@@ -16,7 +16,6 @@ use Rattle.emm_machine.specs.declared.solo.Phase.TheVariants.{Deregistered, Auth
 use Rattle.emm_machine.specs.declared.solo.Protection.TheVariants.{Plain, Under}
 use Rattle.emm_machine.specs.declared.solo.Repeat.{Repeat}
 use Rattle.emm_machine.specs.declared.solo.Repeat.TheVariants as repeats
-use Rattle.emm_machine.specs.declared.solo.Solo.{Solo}
 use Rattle.emm_machine.specs.declared.solo.Timer.{Timer}
 use Rattle.emm_machine.specs.declared.solo.Timer.TheVariants.{T3413, T3422, T3450, T3460, T3489}
 use Rattle.emm_machine.specs.declared.stations.StationState.{StationState}
@@ -25,7 +24,7 @@ use Rattle.emm_machine.specs.Actions.{emit, ended, fall, protect, release, send,
 use Rattle.emm_machine.specs.Does.{◌>>=◌}
 use Rattle.emm_machine.specs.Messages.{network_detach}
 use Rattle.emm_machine.specs.Pdus.{paging}
-use Rattle.emm_machine.specs.Timers.{repeats_of, ticks_of}
+use Rattle.emm_machine.specs.Timers.{ticks_of}
 
 -- ---- paging (TS 24.301 clause 5.6.2, TS 36.413 clause 8.5)
 

@@ -1,5 +1,5 @@
 -- The S1AP messages that the machine sends.
-use Rattle.std.specs.Prelude.{ℕ, ◌+◌, ◌*◌, ◌-◌, ◌/◌, ◌%◌, ◌==◌, Bool, false, List, [], ◌∷◌, ◌++◌, replicate, slice_index, Option, Some, None}
+use Rattle.std.specs.Prelude.{ℕ, ◌+◌, ◌*◌, ◌-◌, ◌/◌, ◌%◌, ◌==◌, Bool, false, List, [], ◌∷◌, slice_index, Option, Some}
 use Rattle.std.specs.Int.{w32, to_be_bytes}
 use Rattle.per_bits.specs.Bits.{octet_bits}
 use Rattle.identity_slots.specs.declared.profile.Profile.{Profile}

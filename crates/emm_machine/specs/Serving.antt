@@ -1,5 +1,5 @@
 -- The rows of a phone that is known: its INITIAL UE MESSAGEs, and its protected messages.
-use Rattle.std.specs.Prelude.{ℕ, ◌==◌, Bool, true, false, if◌then◌else◌, List, [], ◌∷◌, Option, Some, None, Result, Ok, Err, not}
+use Rattle.std.specs.Prelude.{ℕ, Bool, true, false, if◌then◌else◌, List, [], ◌∷◌, Option, Some, None, Result, Ok, Err}
 use Rattle.std.specs.Option.{option_map_or}
 use Rattle.eps_keys.specs.Hmac.{kenb}
 use Rattle.esm_machine.specs.declared.reaction.Reaction.{Reaction}
@@ -21,15 +21,13 @@ use Rattle.emm_machine.specs.declared.heard.Heard.{Heard}
 use Rattle.emm_machine.specs.declared.heard.Heard.TheVariants as heards
 use Rattle.emm_machine.specs.declared.messages.Grant.{Grant}
 use Rattle.emm_machine.specs.declared.setting.Setting.{Setting}
-use Rattle.emm_machine.specs.declared.solo.Asked.{Asked}
 use Rattle.emm_machine.specs.declared.solo.Context.{Context}
 use Rattle.emm_machine.specs.declared.solo.Phase.{Phase}
 use Rattle.emm_machine.specs.declared.solo.Phase.TheVariants.{Deregistered, Authenticating, SecurityMode, EsmInformation, Accepting, Updating, Registered, Detaching}
 use Rattle.emm_machine.specs.declared.solo.Protection.TheVariants.{Under}
 use Rattle.emm_machine.specs.declared.solo.Repeat.TheVariants as repeats
-use Rattle.emm_machine.specs.declared.solo.Solo.{Solo}
 use Rattle.emm_machine.specs.declared.solo.Timer.TheVariants.{T3450}
-use Rattle.emm_machine.specs.Actions.{connect, connect_on, ended, fall, is_registered, mac_of, protect, refuse, release, send, set_up, start, turn_away, wipe}
+use Rattle.emm_machine.specs.Actions.{connect, connect_on, ended, fall, is_registered, mac_of, protect, refuse, release, set_up, start, turn_away, wipe}
 use Rattle.emm_machine.specs.Attaching.{accept, attach, counted_up, detach_plainly, given_tmsi, in_authenticating, in_security_mode, keyed, took}
 use Rattle.emm_machine.specs.Does.{◌>>=◌}
 use Rattle.emm_machine.specs.Hearing.{cause_of_fault, heard, initial_octets, is_esm}

@@ -1,10 +1,9 @@
 -- What is seen of a state.
-use Rattle.std.specs.Prelude.{ℕ, ◌+◌, ◌-◌, ◌*◌, ◌<◌, ◌==◌, Bool, true, false, List, [], replicate, Option, Some, None, is_some}
+use Rattle.std.specs.Prelude.{ℕ, ◌==◌, Bool, true, false, replicate, Option, Some, None, is_some}
 use Rattle.std.specs.List.{list_any}
 use Rattle.std.specs.Option.{option_map_or}
 use Rattle.esm_machine.specs.Requests.{inactive}
 use Rattle.emm_machine.specs.declared.solo.Asked.{Asked}
-use Rattle.emm_machine.specs.declared.solo.Countdown.{Countdown}
 use Rattle.emm_machine.specs.declared.solo.Phase.{Phase}
 use Rattle.emm_machine.specs.declared.solo.Phase.TheVariants as phases
 use Rattle.emm_machine.specs.declared.solo.Repeat.{Repeat}

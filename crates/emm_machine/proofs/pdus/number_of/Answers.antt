@@ -1,4 +1,4 @@
-use Rattle.std.proofs.Common.{◌≡◌, ◌+◌, ◌*◌, ◌-◌, ◌%◌, ◌<◌, sym, ap, ◌∙◌, arith, get_or, drop}
+use Rattle.std.proofs.Common.{◌≡◌, ◌+◌, ◌*◌, ◌-◌, ◌%◌, sym, ap, ◌∙◌, arith, get_or, drop}
 use Rattle.emm_machine.specs.Pdus.{number_from}
 use Rattle.emm_machine.proofs.Digits.{digit_more}
 use Rattle.emm_machine.proofs.pdus.number_of.Goals as goal
