@@ -109,6 +109,8 @@ impl Mme {
     }
 
     /// Events in order, each by `step`; room for all replies is made first, and a refused run has taken no event.
+    /// In the replies each slot has what its machine alone sends over its own items, and stations and strangers have what the
+    /// events and the provisioning make for them, whatever the subscribers do.
     pub fn run(&mut self, events: &[Event]) -> Result<Vec<Result<Outs, StepFault>>, AllocError>
         ensures count { IfOk result (λ rs. length rs.items ≡ length events.now) }
         ensures replies { IfOk result (λ rs. given rs.items ≡ replies self.old (taken events.now rs.items)) }
