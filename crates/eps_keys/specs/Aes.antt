@@ -57,7 +57,7 @@ mixed_column a b c d =
 abbrev pub substituted_column : ℕ → ℕ → ℕ → ℕ → List ℕ
 substituted_column a b c d = substitute a ∷ substitute b ∷ substitute c ∷ substitute d ∷ []
 
--- what the substituted octet of row 0, 1, 2 or 3 gives to each row of the product
+-- what a substituted octet gives to each row of the product (FIPS 197 clause 5.1.3), by the row that it stands in
 
 abbrev pub row_0 : ℕ → List ℕ
 row_0 s = product s 2 ∷ product s 1 ∷ product s 1 ∷ product s 3 ∷ []
