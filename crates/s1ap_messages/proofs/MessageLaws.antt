@@ -14,7 +14,7 @@ use Rattle.per_bits.specs.Formats.{plain, items, must, done, number, octet_strin
 use Rattle.per_bits.specs.Reading.{fields_at}
 use Rattle.s1ap_messages.specs.declared.criticality.Criticality.{Criticality}
 use Rattle.s1ap_messages.specs.Spelling.{Raw, id_of, criticality_of, octets_of, has_id, may_skip, OfRow, AreElements, IsKept, message, IsMessage}
-use Rattle.s1ap_messages.specs.Rows.{Rows, row, end, needed, optional, unkept, Slots, Kept, no_slots}
+use Rattle.s1ap_messages.specs.Rows.{Rows, ie, end, needed, optional, unkept, Slots, Kept, no_slots}
 use Rattle.s1ap_messages.specs.Reading.{◌>>>◌, syntax_of, pass_at, fill_slot, put_at, pure_fill, pure_put, put_all, elements_at, fill_at, needed_of, kept_of, message_at}
 
 -- ---- steps that did not fail
@@ -115,7 +115,7 @@ put_to : (rs : Rows) (id : ℕ) (slots : Slots rs) (s : Place) (after : Slots rs
 put_to end id slots s after t h =
     let k = pass_to id s after t h in
     (k.0, k.1, may_put (may_skip (id_of k.0) (criticality_of k.0)) (id_of k.0) k.2)
-put_to (row i c p f rs) id slots s after t h =
+put_to (ie i c p f rs) id slots s after t h =
     let k = row_to (eqb id i) i c f rs slots after id s t (λ more. put_to rs id slots.1 s more t) h in
     (k.0, k.1, subst (λ j. RowPure (eqb j i) f rs slots k.0 ≡ Ok after) (sym k.1.3) k.2)
 
@@ -177,30 +177,30 @@ fill_all : (f : Format) → Option (Value f) → List Raw → Result (Option (Va
 fill_all f slot [] = Ok slot
 fill_all f slot (e ∷ es) = pure_fill f slot e >>> λ after. fill_all f after es
 
-split_step : (b : Bool) (i : ℕ) (c : Criticality) (p : _) (f : Format) (rs : Rows) (slots after : Slots (row i c p f rs)) (e : Raw) (es ours others : List Raw)
-    → ((now : Slots (row i c p f rs)) → put_all (row i c p f rs) now es ≡ Ok after → (fill_all f now.0 ours ≡ Ok after.0) × (put_all rs now.1 others ≡ Ok after.1))
-    → (RowPure b f rs slots e >>> λ now. put_all (row i c p f rs) now es) ≡ Ok after
+split_step : (b : Bool) (i : ℕ) (c : Criticality) (p : _) (f : Format) (rs : Rows) (slots after : Slots (ie i c p f rs)) (e : Raw) (es ours others : List Raw)
+    → ((now : Slots (ie i c p f rs)) → put_all (ie i c p f rs) now es ≡ Ok after → (fill_all f now.0 ours ≡ Ok after.0) × (put_all rs now.1 others ≡ Ok after.1))
+    → (RowPure b f rs slots e >>> λ now. put_all (ie i c p f rs) now es) ≡ Ok after
     → (fill_all f slots.0 (cond b (e ∷ ours) ours) ≡ Ok after.0) × (put_all rs slots.1 (cond (not b) (e ∷ others) others) ≡ Ok after.1)
 unfolding fill_all
 split_step true i c p f rs slots after e es ours others ih h =
     let last : Option (Value f) → Result (Option (Value f) × Slots rs) S1apFault = λ slot. Ok (slot, slots.1) in
-    let a = bind_some (pure_fill f slots.0 e >>> last) (λ now. put_all (row i c p f rs) now es) after h in
+    let a = bind_some (pure_fill f slots.0 e >>> last) (λ now. put_all (ie i c p f rs) now es) after h in
     let b = bind_some (pure_fill f slots.0 e) last a.0 a.1 in
     let made : Option (Value f) × Slots rs = (b.0, slots.1) in
     let k : made ≡ a.0 = ok_same made a.0 b.2 in
-    let both = ih made (ap (λ (x : Option (Value f) × Slots rs). put_all (row i c p f rs) x es) k ∙ a.2) in
+    let both = ih made (ap (λ (x : Option (Value f) × Slots rs). put_all (ie i c p f rs) x es) k ∙ a.2) in
     (rw b.1 both.0, both.1)
 split_step false i c p f rs slots after e es ours others ih h =
     let last : Slots rs → Result (Option (Value f) × Slots rs) S1apFault = λ more. Ok (slots.0, more) in
-    let a = bind_some (pure_put rs slots.1 e >>> last) (λ now. put_all (row i c p f rs) now es) after h in
+    let a = bind_some (pure_put rs slots.1 e >>> last) (λ now. put_all (ie i c p f rs) now es) after h in
     let b = bind_some (pure_put rs slots.1 e) last a.0 a.1 in
     let made : Option (Value f) × Slots rs = (slots.0, b.0) in
     let k : made ≡ a.0 = ok_same made a.0 b.2 in
-    let both = ih made (ap (λ (x : Option (Value f) × Slots rs). put_all (row i c p f rs) x es) k ∙ a.2) in
+    let both = ih made (ap (λ (x : Option (Value f) × Slots rs). put_all (ie i c p f rs) x es) k ∙ a.2) in
     (both.0, rw b.1 both.1)
 
-split : (i : ℕ) (c : Criticality) (p : _) (f : Format) (rs : Rows) (slots after : Slots (row i c p f rs)) (es : List Raw)
-    → put_all (row i c p f rs) slots es ≡ Ok after → (fill_all f slots.0 (filter (has_id i) es) ≡ Ok after.0) × (put_all rs slots.1 (filter (λ e. not (has_id i e)) es) ≡ Ok after.1)
+split : (i : ℕ) (c : Criticality) (p : _) (f : Format) (rs : Rows) (slots after : Slots (ie i c p f rs)) (es : List Raw)
+    → put_all (ie i c p f rs) slots es ≡ Ok after → (fill_all f slots.0 (filter (has_id i) es) ≡ Ok after.0) × (put_all rs slots.1 (filter (λ e. not (has_id i e)) es) ≡ Ok after.1)
 unfolding fill_all
 split i c p f rs slots after [] h =
     let k : slots ≡ after = ok_same slots after h in
@@ -233,7 +233,7 @@ are_elements end [] slots h = tt
 are_elements end (e ∷ es) slots h =
     let a = bind_some (pure_put end tt e) (λ after. put_all end after es) slots h in
     (skipped_case (may_skip (id_of e) (criticality_of e)) (id_of e) a.0 a.1, are_elements end es slots a.2)
-are_elements (row i c p f rs) es slots h =
+are_elements (ie i c p f rs) es slots h =
     let k = split i c p f rs (None, no_slots rs) slots es h in
     (of_row f (filter (has_id i) es) slots.0 k.0, are_elements rs (filter (λ e. not (has_id i e)) es) slots.1 k.1)
 
@@ -243,18 +243,18 @@ needed_some id (Some w) v h = ap (λ (x : _). Some x) (ok_same w v h)
 
 is_kept : (rs : Rows) (slots : Slots rs) (v : Kept rs) → kept_of rs slots ≡ Ok v → IsKept rs slots v
 is_kept end slots v h = tt
-is_kept (row i c needed f rs) slots v h =
+is_kept (ie i c needed f rs) slots v h =
     let a = bind_some (needed_of i slots.0) (λ x. kept_of rs slots.1 >>> λ more. okay {A = Value f × Kept rs} (x, more)) v h in
     let g : Kept rs → Result (Value f × Kept rs) S1apFault = λ more. Ok (a.0, more) in
     let b = bind_some (kept_of rs slots.1) g v a.2 in
     let made : Value f × Kept rs = (a.0, b.0) in
     subst (λ (x : Value f × Kept rs). (slots.0 ≡ Some x.0) × IsKept rs slots.1 x.1) (ok_same made v b.2) (needed_some i slots.0 a.0 a.1, is_kept rs slots.1 b.0 b.1)
-is_kept (row i c optional f rs) slots v h =
+is_kept (ie i c optional f rs) slots v h =
     let g : Kept rs → Result (Option (Value f) × Kept rs) S1apFault = λ more. Ok (slots.0, more) in
     let b = bind_some (kept_of rs slots.1) g v h in
     let made : Option (Value f) × Kept rs = (slots.0, b.0) in
     subst (λ (x : Option (Value f) × Kept rs). (slots.0 ≡ x.0) × IsKept rs slots.1 x.1) (ok_same made v b.2) (refl, is_kept rs slots.1 b.0 b.1)
-is_kept (row i c unkept f rs) slots v h = is_kept rs slots.1 v h
+is_kept (ie i c unkept f rs) slots v h = is_kept rs slots.1 v h
 
 pub message_to : (rs : Rows) (v : Kept rs) (os : List ℕ) → message_at rs os ≡ Ok v → IsMessage rs v os
 message_to rs v os h =
@@ -330,7 +330,7 @@ row_from false i c f rs slots after s t e k ih h =
 
 put_from : (rs : Rows) (slots after : Slots rs) (s t : Place) (e : Raw) → Tail (id_of e) s e t → pure_put rs slots e ≡ Ok after → put_at rs (id_of e) slots s ≡ Ok (after, t)
 put_from end slots after s t e k h = passes (id_of e) (criticality_of e) (octets_of e) s k.0 t k.1 k.2 (skipped_case (may_skip (id_of e) (criticality_of e)) (id_of e) after h)
-put_from (row i c p f rs) slots after s t e k h = row_from (has_id i e) i c f rs slots after s t e k (λ more. put_from rs slots.1 more s t e k) h
+put_from (ie i c p f rs) slots after s t e k h = row_from (has_id i e) i c f rs slots after s t e k (λ more. put_from rs slots.1 more s t e k) h
 
 steps : (rs : Rows) (n : ℕ) (slots now after : Slots rs) (s u v t : Place) (id : ℕ) → number_at 0 65535 s ≡ Ok (id, u) → put_at rs id slots u ≡ Ok (now, v) → elements_at rs n now v ≡ Ok (after, t) → elements_at rs (suc n) slots s ≡ Ok (after, t)
 unfolding elements_at
@@ -364,9 +364,9 @@ abbrev RowSlots : Format → Rows → Type 0
 RowSlots f rs = Option (Value f) × Slots rs
 
 join_step : (b : Bool) (i : ℕ) (c : Criticality) (p : _) (f : Format) (rs : Rows) (slots after : RowSlots f rs) (e : Raw) (es ours others : List Raw)
-    → ((now : RowSlots f rs) → fill_all f now.0 ours ≡ Ok after.0 → put_all rs now.1 others ≡ Ok after.1 → put_all (row i c p f rs) now es ≡ Ok after)
+    → ((now : RowSlots f rs) → fill_all f now.0 ours ≡ Ok after.0 → put_all rs now.1 others ≡ Ok after.1 → put_all (ie i c p f rs) now es ≡ Ok after)
     → fill_all f slots.0 (cond b (e ∷ ours) ours) ≡ Ok after.0 → put_all rs slots.1 (cond (not b) (e ∷ others) others) ≡ Ok after.1
-    → (RowPure b f rs slots e >>> λ now. put_all (row i c p f rs) now es) ≡ Ok after
+    → (RowPure b f rs slots e >>> λ now. put_all (ie i c p f rs) now es) ≡ Ok after
 unfolding fill_all
 join_step true i c p f rs slots after e es ours others ih h k =
     let a = bind_some (pure_fill f slots.0 e) (λ x. fill_all f x ours) after.0 h in
@@ -376,7 +376,7 @@ join_step false i c p f rs slots after e es ours others ih h k =
     rw a.1 (ih (slots.0, a.0) h a.2)
 
 join : (i : ℕ) (c : Criticality) (p : _) (f : Format) (rs : Rows) (slots after : RowSlots f rs) (es : List Raw)
-    → fill_all f slots.0 (filter (has_id i) es) ≡ Ok after.0 → put_all rs slots.1 (filter (λ e. not (has_id i e)) es) ≡ Ok after.1 → put_all (row i c p f rs) slots es ≡ Ok after
+    → fill_all f slots.0 (filter (has_id i) es) ≡ Ok after.0 → put_all rs slots.1 (filter (λ e. not (has_id i e)) es) ≡ Ok after.1 → put_all (ie i c p f rs) slots es ≡ Ok after
 unfolding fill_all
 join i c p f rs slots after [] h k =
     let a : slots.0 ≡ after.0 = ok_same slots.0 after.0 h in
@@ -400,20 +400,20 @@ skip_step false id es e h = absurd cc
 elements_put : (rs : Rows) (es : List Raw) (slots : Slots rs) → AreElements rs slots es → put_all rs (no_slots rs) es ≡ Ok slots
 elements_put end [] slots m = refl
 elements_put end (e ∷ es) slots m = skip_step (may_skip (id_of e) (criticality_of e)) (id_of e) es m.0 (elements_put end es tt m.1)
-elements_put (row i c p f rs) es slots m =
+elements_put (ie i c p f rs) es slots m =
     join i c p f rs (None, no_slots rs) slots es (row_filled f slots.0 (filter (has_id i) es) m.0) (elements_put rs (filter (λ e. not (has_id i e)) es) slots.1 m.1)
 
-kept_needed : (i : ℕ) (c : Criticality) (f : Format) (rs : Rows) (o : Option (Value f)) (others : Slots rs) (v : Value f) (more : Kept rs) → o ≡ Some v → kept_of rs others ≡ Ok more → kept_of (row i c needed f rs) (o, others) ≡ Ok (v, more)
+kept_needed : (i : ℕ) (c : Criticality) (f : Format) (rs : Rows) (o : Option (Value f)) (others : Slots rs) (v : Value f) (more : Kept rs) → o ≡ Some v → kept_of rs others ≡ Ok more → kept_of (ie i c needed f rs) (o, others) ≡ Ok (v, more)
 kept_needed i c f rs o others v more p q = rw (p, q) refl
 
-kept_optional : (i : ℕ) (c : Criticality) (f : Format) (rs : Rows) (o v : Option (Value f)) (others : Slots rs) (more : Kept rs) → o ≡ v → kept_of rs others ≡ Ok more → kept_of (row i c optional f rs) (o, others) ≡ Ok (v, more)
+kept_optional : (i : ℕ) (c : Criticality) (f : Format) (rs : Rows) (o v : Option (Value f)) (others : Slots rs) (more : Kept rs) → o ≡ v → kept_of rs others ≡ Ok more → kept_of (ie i c optional f rs) (o, others) ≡ Ok (v, more)
 kept_optional i c f rs o v others more p q = rw (p, q) refl
 
 kept_again : (rs : Rows) (slots : Slots rs) (v : Kept rs) → IsKept rs slots v → kept_of rs slots ≡ Ok v
 kept_again end slots v m = refl
-kept_again (row i c needed f rs) slots v m = kept_needed i c f rs slots.0 slots.1 v.0 v.1 m.0 (kept_again rs slots.1 v.1 m.1)
-kept_again (row i c optional f rs) slots v m = kept_optional i c f rs slots.0 v.0 slots.1 v.1 m.0 (kept_again rs slots.1 v.1 m.1)
-kept_again (row i c unkept f rs) slots v m = kept_again rs slots.1 v m
+kept_again (ie i c needed f rs) slots v m = kept_needed i c f rs slots.0 slots.1 v.0 v.1 m.0 (kept_again rs slots.1 v.1 m.1)
+kept_again (ie i c optional f rs) slots v m = kept_optional i c f rs slots.0 v.0 slots.1 v.1 m.0 (kept_again rs slots.1 v.1 m.1)
+kept_again (ie i c unkept f rs) slots v m = kept_again rs slots.1 v m
 
 -- ---- the whole octets
 

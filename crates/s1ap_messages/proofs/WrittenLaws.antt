@@ -12,7 +12,7 @@ use Rattle.per_bits.proofs.BitLaws.{bind_ok}
 use Rattle.per_bits.proofs.WritingLaws.{Adds, written, whole_written, complete_written}
 use Rattle.s1ap_messages.specs.declared.criticality.Criticality.{Criticality}
 use Rattle.s1ap_messages.specs.Criticalities.{criticality_number}
-use Rattle.s1ap_messages.specs.Rows.{Rows, row, end, needed, optional, unkept, Slots, Kept, has_row, are_distinct}
+use Rattle.s1ap_messages.specs.Rows.{Rows, ie, end, needed, optional, unkept, Slots, Kept, has_row, are_distinct}
 use Rattle.s1ap_messages.specs.declared.message_type.MessageType.{MessageType}
 use Rattle.s1ap_messages.specs.declared.message_type.MessageType.TheVariants.{SetupRequest, SetupResponse, SetupFailure, InitialUeMessage, DownlinkNasTransport, UplinkNasTransport, NasNonDelivery, CapabilityInfo, ContextSetupRequest, ContextSetupResponse, ContextSetupFailure, ReleaseRequest, ReleaseCommand, ReleaseComplete, Paging, PathSwitchRequest, PathSwitchAcknowledge, PathSwitchFailure, Reset, ResetAcknowledge, ErrorIndication}
 use Rattle.s1ap_messages.specs.Profile.{rows_of, kind_of, code_of, criticality_of, initiating, successful, unsuccessful, type_of}
@@ -28,10 +28,10 @@ Holds id f v e = (id_of e ≡ id) × SpellsWhole f v (octets_of e)
 
 abbrev pub AreWritten : (rs : Rows) → Kept rs → List Raw → Type 0
 AreWritten end v es = es ≡ []
-AreWritten (row id c needed f rs) v es = (e : Raw) × (more : List Raw) × (es ≡ e ∷ more) × Holds id f v.0 e × AreWritten rs v.1 more
-AreWritten (row id c optional f rs) (None, v) es = AreWritten rs v es
-AreWritten (row id c optional f rs) (Some x, v) es = (e : Raw) × (more : List Raw) × (es ≡ e ∷ more) × Holds id f x e × AreWritten rs v more
-AreWritten (row id c unkept f rs) v es = AreWritten rs v es
+AreWritten (ie id c needed f rs) v es = (e : Raw) × (more : List Raw) × (es ≡ e ∷ more) × Holds id f v.0 e × AreWritten rs v.1 more
+AreWritten (ie id c optional f rs) (None, v) es = AreWritten rs v es
+AreWritten (ie id c optional f rs) (Some x, v) es = (e : Raw) × (more : List Raw) × (es ≡ e ∷ more) × Holds id f x e × AreWritten rs v more
+AreWritten (ie id c unkept f rs) v es = AreWritten rs v es
 
 raw_written : (out a b new : List Bool) (id c : ℕ) (os : List ℕ) → write_number 0 65535 id out ≡ Ok a → write_number 0 2 c a ≡ Ok b → write_string os b ≡ Ok new → write_at raw (id, (c, (os, tt))) out ≡ Ok new
 raw_written out a b new id c os p q r = rw (append-nil out, p, q, r) refl
@@ -64,20 +64,20 @@ one_more n m e es h = omega (arith, h)
 rows_written : (rs : Rows) (v : Kept rs) (n : ℕ) (out new : List Bool) → write_rows rs v out ≡ Ok new → Elements rs v n out new
 unfolding write_each
 rows_written end v n out new h = record { es = []; written = refl; count = omega arith; same = h }
-rows_written (row id c needed f rs) v n out new h =
+rows_written (ie id c needed f rs) v n out new h =
     let a = bind_ok (write_element id c f v.0 out) (λ first. write_rows rs v.1 first) new h in
     let w = element_written id c f v.0 out a.0 a.1 in
     let k = rows_written rs v.1 (n + 1) a.0 new a.2 in
     record { es = w.e ∷ k.es; written = (w.e, k.es, refl, w.holds, k.written); count = one_more n _ w.e k.es k.count; same = more_written w.e k.es out a.0 new w.same k.same }
-rows_written (row id c optional f rs) (None, v) n out new h =
+rows_written (ie id c optional f rs) (None, v) n out new h =
     let k = rows_written rs v (n + 0) out new h in
     record { es = k.es; written = k.written; count = (let q = k.count in omega (arith, q)); same = k.same }
-rows_written (row id c optional f rs) (Some x, v) n out new h =
+rows_written (ie id c optional f rs) (Some x, v) n out new h =
     let a = bind_ok (write_element id c f x out) (λ first. write_rows rs v first) new h in
     let w = element_written id c f x out a.0 a.1 in
     let k = rows_written rs v (n + 1) a.0 new a.2 in
     record { es = w.e ∷ k.es; written = (w.e, k.es, refl, w.holds, k.written); count = one_more n _ w.e k.es k.count; same = more_written w.e k.es out a.0 new w.same k.same }
-rows_written (row id c unkept f rs) v n out new h =
+rows_written (ie id c unkept f rs) v n out new h =
     let k = rows_written rs v n out new h in
     record { es = k.es; written = k.written; count = k.count; same = k.same }
 
@@ -101,26 +101,26 @@ or_parts true b h = absurd cc
 
 all_other : (rs : Rows) (v : Kept rs) (es : List Raw) (id : ℕ) → has_row id rs ≡ false → AreWritten rs v es → AllOther id es
 all_other end v es id h w = subst (λ (l : List Raw). AllOther id l) (sym w) tt
-all_other (row i c needed f rs) v es id h w =
+all_other (ie i c needed f rs) v es id h w =
     let p = or_parts (eqb i id) (has_row id rs) h in
     subst (λ (l : List Raw). AllOther id l) (sym w.2) (ap (λ (n : ℕ). eqb n id) w.3.0 ∙ p.0, all_other rs v.1 w.1 id p.1 w.4)
-all_other (row i c optional f rs) (None, v) es id h w = all_other rs v es id (or_parts (eqb i id) (has_row id rs) h).1 w
-all_other (row i c optional f rs) (Some x, v) es id h w =
+all_other (ie i c optional f rs) (None, v) es id h w = all_other rs v es id (or_parts (eqb i id) (has_row id rs) h).1 w
+all_other (ie i c optional f rs) (Some x, v) es id h w =
     let p = or_parts (eqb i id) (has_row id rs) h in
     subst (λ (l : List Raw). AllOther id l) (sym w.2) (ap (λ (n : ℕ). eqb n id) w.3.0 ∙ p.0, all_other rs v w.1 id p.1 w.4)
-all_other (row i c unkept f rs) v es id h w = all_other rs v es id (or_parts (eqb i id) (has_row id rs) h).1 w
+all_other (ie i c unkept f rs) v es id h w = all_other rs v es id (or_parts (eqb i id) (has_row id rs) h).1 w
 
 abbrev slots_of : (rs : Rows) → Kept rs → Slots rs
 slots_of end v = tt
-slots_of (row id c needed f rs) v = (Some v.0, slots_of rs v.1)
-slots_of (row id c optional f rs) v = (v.0, slots_of rs v.1)
-slots_of (row id c unkept f rs) v = (None, slots_of rs v)
+slots_of (ie id c needed f rs) v = (Some v.0, slots_of rs v.1)
+slots_of (ie id c optional f rs) v = (v.0, slots_of rs v.1)
+slots_of (ie id c unkept f rs) v = (None, slots_of rs v)
 
 slots_kept : (rs : Rows) (v : Kept rs) → IsKept rs (slots_of rs v) v
 slots_kept end v = tt
-slots_kept (row id c needed f rs) v = (refl, slots_kept rs v.1)
-slots_kept (row id c optional f rs) v = (refl, slots_kept rs v.1)
-slots_kept (row id c unkept f rs) v = slots_kept rs v
+slots_kept (ie id c needed f rs) v = (refl, slots_kept rs v.1)
+slots_kept (ie id c optional f rs) v = (refl, slots_kept rs v.1)
+slots_kept (ie id c unkept f rs) v = slots_kept rs v
 
 abbrev RowElements : (id : ℕ) (f : Format) (rs : Rows) → Option (Value f) → Slots rs → List Raw → Type 0
 RowElements id f rs o slots es = OfRow f o (filter (has_id id) es) × AreElements rs slots (filter (λ e. not (has_id id e)) es)
@@ -141,18 +141,18 @@ not_false true h = absurd cc
 
 elements_are : (rs : Rows) (v : Kept rs) (es : List Raw) → are_distinct rs ≡ true → AreWritten rs v es → AreElements rs (slots_of rs v) es
 elements_are end v es d w = subst (λ (l : List Raw). AreElements end tt l) (sym w) tt
-elements_are (row id c needed f rs) v es d w =
+elements_are (ie id c needed f rs) v es d w =
     let p = and_parts (not (has_row id rs)) (are_distinct rs) d in
     subst (λ (l : List Raw). RowElements id f rs (Some v.0) (slots_of rs v.1) l) (sym w.2)
     (with_one id f rs v.0 (slots_of rs v.1) w.0 w.1 w.3 (all_other rs v.1 w.1 id (not_false _ p.0) w.4) (elements_are rs v.1 w.1 p.1 w.4))
-elements_are (row id c optional f rs) (None, v) es d w =
+elements_are (ie id c optional f rs) (None, v) es d w =
     let p = and_parts (not (has_row id rs)) (are_distinct rs) d in
     with_none id f rs (slots_of rs v) es (all_other rs v es id (not_false _ p.0) w) (elements_are rs v es p.1 w)
-elements_are (row id c optional f rs) (Some x, v) es d w =
+elements_are (ie id c optional f rs) (Some x, v) es d w =
     let p = and_parts (not (has_row id rs)) (are_distinct rs) d in
     subst (λ (l : List Raw). RowElements id f rs (Some x) (slots_of rs v) l) (sym w.2)
     (with_one id f rs x (slots_of rs v) w.0 w.1 w.3 (all_other rs v w.1 id (not_false _ p.0) w.4) (elements_are rs v w.1 p.1 w.4))
-elements_are (row id c unkept f rs) v es d w =
+elements_are (ie id c unkept f rs) v es d w =
     let p = and_parts (not (has_row id rs)) (are_distinct rs) d in
     with_none id f rs (slots_of rs v) es (all_other rs v es id (not_false _ p.0) w) (elements_are rs v es p.1 w)
 

@@ -8,7 +8,7 @@ use Rattle.per_bits.specs.Bits.{Place, start, ◌>>=◌, bit_at, open_at, end_at
 use Rattle.per_bits.specs.Formats.{Format, Value}
 use Rattle.per_bits.specs.Reading.{number_at, closed_at, skipped_at, additions_at, read_at, whole_at, complete_at}
 use Rattle.s1ap_messages.specs.Criticalities.{criticality_named}
-use Rattle.s1ap_messages.specs.Rows.{Rows, row, end, needed, optional, unkept, Slots, Kept, no_slots}
+use Rattle.s1ap_messages.specs.Rows.{Rows, ie, end, needed, optional, unkept, Slots, Kept, no_slots}
 use Rattle.s1ap_messages.specs.declared.message_type.MessageType.{MessageType}
 use Rattle.s1ap_messages.specs.Profile.{type_of, rows_of}
 use Rattle.s1ap_messages.specs.Typed.{Typed, typed_of}
@@ -42,7 +42,7 @@ fill_slot f id None s =
 
 abbrev pub put_at : (rs : Rows) → ℕ → Slots rs → Place → Result (Slots rs × Place) S1apFault
 put_at end id slots s = pass_at id s
-put_at (row i c p f rs) id slots s =
+put_at (ie i c p f rs) id slots s =
     cond (eqb id i)
     (fill_slot f id slots.0 s >>> λ first. Ok ((first.0, slots.1), first.1))
     (put_at rs id slots.1 s >>> λ others. Ok ((slots.0, others.0), others.1))
@@ -66,9 +66,9 @@ needed_of id (Some v) = Ok v
 
 abbrev pub kept_of : (rs : Rows) → Slots rs → Result (Kept rs) S1apFault
 kept_of end slots = Ok tt
-kept_of (row id c needed f rs) slots = needed_of id slots.0 >>> λ v. kept_of rs slots.1 >>> λ more. Ok (v, more)
-kept_of (row id c optional f rs) slots = kept_of rs slots.1 >>> λ more. Ok (slots.0, more)
-kept_of (row id c unkept f rs) slots = kept_of rs slots.1
+kept_of (ie id c needed f rs) slots = needed_of id slots.0 >>> λ v. kept_of rs slots.1 >>> λ more. Ok (v, more)
+kept_of (ie id c optional f rs) slots = kept_of rs slots.1 >>> λ more. Ok (slots.0, more)
+kept_of (ie id c unkept f rs) slots = kept_of rs slots.1
 
 abbrev pub message_at : (rs : Rows) → List ℕ → Result (Kept rs) S1apFault
 message_at rs os = fill_at rs (no_slots rs) os >>> λ slots. kept_of rs slots
@@ -102,7 +102,7 @@ pure_fill f None e = syntax_of (complete_at f (octets_of e)) >>> λ v. Ok (Some 
 
 abbrev pub pure_put : (rs : Rows) → Slots rs → Raw → Result (Slots rs) S1apFault
 pure_put end slots e = cond (may_skip (id_of e) (criticality_of e)) (Ok tt) (Err (RefusedElement (id_of e)))
-pure_put (row i c p f rs) slots e = cond (has_id i e) (pure_fill f slots.0 e >>> λ first. Ok (first, slots.1)) (pure_put rs slots.1 e >>> λ others. Ok (slots.0, others))
+pure_put (ie i c p f rs) slots e = cond (has_id i e) (pure_fill f slots.0 e >>> λ first. Ok (first, slots.1)) (pure_put rs slots.1 e >>> λ others. Ok (slots.0, others))
 
 abbrev pub put_all : (rs : Rows) → Slots rs → List Raw → Result (Slots rs) S1apFault
 put_all rs slots [] = Ok slots

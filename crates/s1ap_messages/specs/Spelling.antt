@@ -3,7 +3,7 @@ use Rattle.std.specs.Prelude.{◌≡◌, ℕ, ◌+◌, Bool, true, eqb, not, ◌
 use Rattle.std.specs.List.{AllByRecursion}
 use Rattle.per_bits.specs.Formats.{Format, Value, octet_string, plain, sequence, items, number, must, done, raw}
 use Rattle.per_bits.specs.Spelling.{Spells, SpellsWhole, SpellsClosed, SpellsNumber, Whole}
-use Rattle.s1ap_messages.specs.Rows.{Rows, row, end, needed, optional, unkept, Slots, Kept}
+use Rattle.s1ap_messages.specs.Rows.{Rows, ie, end, needed, optional, unkept, Slots, Kept}
 use Rattle.s1ap_messages.specs.Profile.{type_of, rows_of}
 use Rattle.s1ap_messages.specs.Typed.{Typed}
 
@@ -37,14 +37,14 @@ OfRow f (Some v) es = (e : Raw) × (es ≡ e ∷ []) × SpellsWhole f v (octets_
 -- each row has its elements, and what is of no row may be skipped
 abbrev pub AreElements : (rs : Rows) → Slots rs → List Raw → Type 0
 AreElements end slots es = AllByRecursion (λ e. may_skip (id_of e) (criticality_of e) ≡ true) es
-AreElements (row id c p f rs) slots es = OfRow f slots.0 (filter (has_id id) es) × AreElements rs slots.1 (filter (λ e. not (has_id id e)) es)
+AreElements (ie id c p f rs) slots es = OfRow f slots.0 (filter (has_id id) es) × AreElements rs slots.1 (filter (λ e. not (has_id id e)) es)
 
 -- what a message has of what was read
 abbrev pub IsKept : (rs : Rows) → Slots rs → Kept rs → Type 0
 IsKept end slots v = Unit {0}
-IsKept (row id c needed f rs) slots v = (slots.0 ≡ Some v.0) × IsKept rs slots.1 v.1
-IsKept (row id c optional f rs) slots v = (slots.0 ≡ v.0) × IsKept rs slots.1 v.1
-IsKept (row id c unkept f rs) slots v = IsKept rs slots.1 v
+IsKept (ie id c needed f rs) slots v = (slots.0 ≡ Some v.0) × IsKept rs slots.1 v.1
+IsKept (ie id c optional f rs) slots v = (slots.0 ≡ v.0) × IsKept rs slots.1 v.1
+IsKept (ie id c unkept f rs) slots v = IsKept rs slots.1 v
 
 -- the elements of a message, as its octets have them
 abbrev pub message : Format

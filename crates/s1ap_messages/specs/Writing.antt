@@ -6,7 +6,7 @@ use Rattle.per_bits.specs.Formats.{Format, Value, open_type}
 use Rattle.per_bits.specs.Writing.{write_at, write_number, write_string, write_whole}
 use Rattle.s1ap_messages.specs.declared.criticality.Criticality.{Criticality}
 use Rattle.s1ap_messages.specs.Criticalities.{criticality_number}
-use Rattle.s1ap_messages.specs.Rows.{Rows, row, end, needed, optional, unkept, Kept}
+use Rattle.s1ap_messages.specs.Rows.{Rows, ie, end, needed, optional, unkept, Kept}
 use Rattle.s1ap_messages.specs.Profile.{rows_of, kind_of, code_of, criticality_of}
 use Rattle.s1ap_messages.specs.Typed.{Typed}
 
@@ -27,19 +27,19 @@ one_if (Some v) = 1
 -- how many elements there are, and so many more
 abbrev pub count_of : (rs : Rows) → Kept rs → ℕ → ℕ
 count_of end v n = n
-count_of (row id c needed f rs) v n = count_of rs v.1 (n + 1)
-count_of (row id c optional f rs) v n = count_of rs v.1 (n + one_if v.0)
-count_of (row id c unkept f rs) v n = count_of rs v n
+count_of (ie id c needed f rs) v n = count_of rs v.1 (n + 1)
+count_of (ie id c optional f rs) v n = count_of rs v.1 (n + one_if v.0)
+count_of (ie id c unkept f rs) v n = count_of rs v n
 
 abbrev pub write_rows : (rs : Rows) → Kept rs → List Bool → Result (List Bool) PerFault
 write_rows end v out = Ok out
-write_rows (row id c needed f rs) v out = do
+write_rows (ie id c needed f rs) v out = do
   first ← write_element id c f v.0 out
   write_rows rs v.1 first
-write_rows (row id c optional f rs) v out = do
+write_rows (ie id c optional f rs) v out = do
   first ← write_some id c f v.0 out
   write_rows rs v.1 first
-write_rows (row id c unkept f rs) v out = write_rows rs v out
+write_rows (ie id c unkept f rs) v out = write_rows rs v out
 
 abbrev pub write_message : (rs : Rows) → Kept rs → List Bool → Result (List Bool) PerFault
 write_message rs v out = do
