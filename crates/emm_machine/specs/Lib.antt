@@ -13,3 +13,4 @@ pub mod Idle
 pub mod Steps
 pub mod Whole
 pub mod Words
+pub mod Freshness

@@ -33,8 +33,9 @@ fn is_extended(cause: Cause) -> bool
     )
 }
 
-// A cause of a later release isn't written.
-fn cause_of_request(cause: Cause) -> Cause
+/// The cause by which a requested release is commanded: the request's, but a cause of a later release isn't written (TS 36.413
+/// clause 8.3.3.2).
+pub fn cause_of_request(cause: Cause) -> Cause
     ensures { result ≡ cause_of_request cause }
 {
     if is_extended(cause) {

@@ -12,6 +12,7 @@ mod draft;
 mod event;
 mod heard;
 mod idle;
+mod laws;
 mod messages;
 mod network;
 mod octets;
@@ -22,12 +23,17 @@ mod solo;
 mod stations;
 mod subscriber;
 
+pub use connected::cause_of_request;
 pub use draft::Draft;
 pub use event::{Entry, SoloEvent, UeBody, UeMessage};
 pub use heard::initial_octets;
+pub use laws::{
+    accepted_counts_are_fresh, in_use_is_kept, sent_counts_are_fresh, vector_makes_one_context,
+};
+pub use messages::{attach_reject, service_reject, update_reject};
 pub use network::{AggregateBitRate, Apn, Network};
 pub use octets::{Answer, Answers, Mark, SentOctets};
-pub use pdus::{error_indication, path_switch_failure, release_command};
+pub use pdus::{downlink, error_indication, path_switch_failure, release_command};
 pub use solo::{
     Asked, Connection, Context, Countdown, Counter, Phase, Protection, RadioKeys, Repeat, Solo,
     Stations, Timer,

@@ -62,7 +62,7 @@ struct Lent<'a> {
 
 /// ATTACH REJECT without an ESM message (TS 24.301 clause 8.2.3).
 #[tactic(auto, unfolding(crate::specs::Messages::attach_reject, nas_elements::specs::Optionals::rule_of))]
-pub(crate) fn attach_reject(alloc: Global, cause: u8) -> Result<Vec<u8>, AllocError>
+pub fn attach_reject(alloc: Global, cause: u8) -> Result<Vec<u8>, AllocError>
     ensures { IfOk result (λ o. o.items ≡ attach_reject cause None) }
 {
     let lent = Lent {
@@ -239,7 +239,7 @@ fn update_octets<'a>(
 
 /// TRACKING AREA UPDATE REJECT (TS 24.301 clause 8.2.28).
 #[tactic(auto, unfolding(crate::specs::Messages::update_reject))]
-pub(crate) fn update_reject(alloc: Global, cause: u8) -> Result<Vec<u8>, AllocError>
+pub fn update_reject(alloc: Global, cause: u8) -> Result<Vec<u8>, AllocError>
     ensures { IfOk result (λ o. o.items ≡ update_reject cause) }
 {
     let lent = Lent {
@@ -250,7 +250,7 @@ pub(crate) fn update_reject(alloc: Global, cause: u8) -> Result<Vec<u8>, AllocEr
 
 /// SERVICE REJECT (TS 24.301 clause 8.2.24).
 #[tactic(auto, unfolding(crate::specs::Messages::service_reject))]
-pub(crate) fn service_reject(alloc: Global, cause: u8) -> Result<Vec<u8>, AllocError>
+pub fn service_reject(alloc: Global, cause: u8) -> Result<Vec<u8>, AllocError>
     ensures { IfOk result (λ o. o.items ≡ service_reject cause) }
 {
     let lent = Lent {

@@ -77,7 +77,7 @@ impl Model for Answers {
 
 impl Answers {
     /// Nothing; takes no memory.
-    pub(crate) fn new(alloc: Global) -> Answers
+    pub fn new(alloc: Global) -> Answers
         ensures { result ≡ [] }
     {
         Answers {
@@ -85,8 +85,10 @@ impl Answers {
         }
     }
 
-    pub(crate) fn push(&mut self, answer: Answer) -> Result<(), AllocError>
+    /// One message more; refused, there are as many as before.
+    pub fn push(&mut self, answer: Answer) -> Result<(), AllocError>
         ensures ok { OnOk result (self.new ≡ self.old ++ answer ∷ []) }
+        ensures err { OnErr result (self.new ≡ self.old) }
     {
         self.items.push(answer)?;
         Ok(())

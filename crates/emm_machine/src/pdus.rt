@@ -53,7 +53,7 @@ pub(crate) fn mme_ue_id(id: AssociationId) -> MmeUeId
 
 /// DOWNLINK NAS TRANSPORT (TS 36.413 clause 8.6.2.2).
 #[tactic(auto, unfolding(crate::specs::Pdus::downlink))]
-pub(crate) fn downlink<'a>(connection: Connection, nas: &'a [u8]) -> S1apPdu<'a>
+pub fn downlink<'a>(connection: Connection, nas: &'a [u8]) -> S1apPdu<'a>
     ensures { lists result ≡ downlink connection nas.entry.now }
 {
     Pdu::DownlinkNasTransport(DownlinkNasTransport {

@@ -1,8 +1,8 @@
 pub mod Calling
-pub mod Strangers
+pub mod Owned
+pub mod Turns
 pub mod Alone
 pub mod Fresh
-pub mod Front
 pub mod Order
 pub mod Runs
 pub mod Stations

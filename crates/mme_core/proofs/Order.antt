@@ -1,9 +1,16 @@
 -- The owners of every output stand in their order.
-use Rattle.std.proofs.Common.{◌≡◌, ℕ, ◌+◌, ◌≤◌, List, [], ◌∷◌, ◌++◌, map, Option, Some, None, Result, Ok, Err, refl, sym, subst, arith}
+use Rattle.std.proofs.Common.{◌≡◌, ℕ, ◌+◌, ◌<◌, ◌≤◌, List, [], ◌∷◌, ◌++◌, map, Option, Some, None, Result, Ok, Err, refl, sym, subst, arith}
 use Rattle.std.specs.Prelude.{IfOk}
 use Rattle.emm_machine.specs.declared.octets.Answer.{Answer}
 use Rattle.emm_machine.specs.Steps.{Item}
 use Rattle.emm_machine.specs.Whole.{Whole}
+use Rattle.identity_slots.specs.declared.profile.Profile.{Profile}
+use Rattle.ordered_lists.specs.Ordered.{AllOver, Rising}
+use Rattle.stranger_machine.specs.declared.table.Known.{Known}
+use Rattle.stranger_machine.specs.declared.turn.Notice.{Notice}
+use Rattle.stranger_machine.specs.Machine.{notes, stranger_step}
+use Rattle.stranger_machine.specs.Table.{Reach, Nobody, One, Each, known_id, stranger_at}
+use Rattle.mme_core.proofs.Turns.{rising_once}
 use Rattle.mme_core.specs.declared.event.Event.{Event}
 use Rattle.mme_core.specs.declared.event.StepFault.{StepFault}
 use Rattle.mme_core.specs.declared.event.StepFault.TheVariants.{NotUp, AlreadyUp, ClockSpent, NoMemory, UnknownImsi}
@@ -11,12 +18,11 @@ use Rattle.mme_core.specs.declared.out.Out.{Out}
 use Rattle.mme_core.specs.declared.out.Owner.{Owner}
 use Rattle.mme_core.specs.declared.out.Owner.TheVariants.{Station, Stranger, Subscriber}
 use Rattle.mme_core.specs.Projection.{AllFrom, AllInOrder, AreInOrder, Reaches}
-use Rattle.mme_core.specs.World.{World, each_sends, fault_of, given, happens, items_of, outputs, replies, reply, reply_of, slot_out, station_of, station_out, station_sends, whole_step, world_after}
-use Rattle.mme_core.proofs.Strangers.{AreOf, strangers_are}
+use Rattle.mme_core.specs.World.{World, each_known, each_sends, fault_of, given, happens, items_of, outputs, owner_out, replies, reply, reply_of, slot_out, station_of, station_sends, stranger_out, strangers_in, strangers_send, whole_step, world_after}
 
 reaches_itself : (o : Owner) → Reaches o o
 reaches_itself (Station a) = omega arith
-reaches_itself (Stranger e b) = (refl, refl)
+reaches_itself (Stranger a) = omega arith
 reaches_itself (Subscriber a) = omega arith
 
 from_append : (p : Owner) (xs ys : List Out) → AllFrom p xs → AllFrom p ys → AllFrom p (xs ++ ys)
@@ -28,35 +34,27 @@ abbrev AllBefore : List Out → List Out → Type 0
 AllBefore [] ys = Unit {0}
 AllBefore (x ∷ xs) ys = AllFrom x.owner ys × AllBefore xs ys
 
-before_append : (xs ys zs : List Out) → AllBefore xs zs → AllBefore ys zs → AllBefore (xs ++ ys) zs
-before_append [] ys zs h k = k
-before_append (x ∷ xs) ys zs h k = (h.0, before_append xs ys zs h.1 k)
-
 order_append : (xs ys : List Out) → AreInOrder xs → AreInOrder ys → AllBefore xs ys → AreInOrder (xs ++ ys)
 order_append [] ys h k b = k
 order_append (x ∷ xs) ys h k b = (from_append x.owner xs ys h.0 b.0, order_append xs ys h.1 k b.1)
 
+before_append : (xs ys zs : List Out) → AllBefore xs zs → AllBefore ys zs → AllBefore (xs ++ ys) zs
+before_append [] ys zs h k = k
+before_append (x ∷ xs) ys zs h k = (h.0, before_append xs ys zs h.1 k)
+
 -- ---- of one owner
 
-from_own : (p o : Owner) (xs : List Out) → Reaches p o → AreOf o xs → AllFrom p xs
-from_own p o [] r h = tt
-from_own p o (x ∷ xs) r h = (subst (Reaches p) (sym h.0) r, from_own p o xs r h.1)
+from_own : (p o : Owner) (sent : List Answer) → Reaches p o → AllFrom p (map (owner_out o) sent)
+from_own p o [] r = tt
+from_own p o (a ∷ sent) r = (r, from_own p o sent r)
 
-order_own : (o : Owner) (xs : List Out) → AreOf o xs → AreInOrder xs
-order_own o [] h = tt
-order_own o (x ∷ xs) h = (subst (λ p. AllFrom p xs) (sym h.0) (from_own o o xs (reaches_itself o) h.1), order_own o xs h.1)
+order_own : (o : Owner) (sent : List Answer) → AreInOrder (map (owner_out o) sent)
+order_own o [] = tt
+order_own o (a ∷ sent) = (from_own o o sent (reaches_itself o), order_own o sent)
 
-before_own : (o : Owner) (xs ys : List Out) → AreOf o xs → AllFrom o ys → AllBefore xs ys
-before_own o [] ys h f = tt
-before_own o (x ∷ xs) ys h f = (subst (λ p. AllFrom p ys) (sym h.0) f, before_own o xs ys h.1 f)
-
-slot_own : (n : ℕ) (xs : List Answer) → AreOf (Subscriber n) (map (slot_out n) xs)
-slot_own n [] = tt
-slot_own n (x ∷ xs) = (refl, slot_own n xs)
-
-station_own : (e : ℕ) (xs : List (List ℕ)) → AreOf (Station e) (map (station_out e) xs)
-station_own e [] = tt
-station_own e (x ∷ xs) = (refl, station_own e xs)
+before_own : (o : Owner) (sent : List Answer) (ys : List Out) → AllFrom o ys → AllBefore (map (owner_out o) sent) ys
+before_own o [] ys f = tt
+before_own o (a ∷ sent) ys f = (f, before_own o sent ys f)
 
 -- ---- subscribers by slot
 
@@ -64,52 +62,81 @@ from_each : (p : Owner) (items : ℕ → Item) (n : ℕ) (ws : List Whole) → (
 from_each p items n [] r = tt
 from_each p items n (w ∷ ws) r =
     let own = (whole_step w (items n)).sent in
-    from_append p (map (slot_out n) own) (each_sends items (n + 1) ws)
-    (from_own p (Subscriber n) (map (slot_out n) own) (r n (omega arith)) (slot_own n own))
-    (from_each p items (n + 1) ws (λ m le. r m (omega arith)))
+    from_append p (map (slot_out n) own) (each_sends items (n + 1) ws) (from_own p (Subscriber n) own (r n (omega arith))) (from_each p items (n + 1) ws (λ m le. r m (omega arith)))
 
 order_each : (items : ℕ → Item) (n : ℕ) (ws : List Whole) → AreInOrder (each_sends items n ws)
 order_each items n [] = tt
 order_each items n (w ∷ ws) =
     let own = (whole_step w (items n)).sent in
-    order_append (map (slot_out n) own) (each_sends items (n + 1) ws)
-    (order_own (Subscriber n) (map (slot_out n) own) (slot_own n own)) (order_each items (n + 1) ws)
-    (before_own (Subscriber n) (map (slot_out n) own) (each_sends items (n + 1) ws) (slot_own n own) (from_each (Subscriber n) items (n + 1) ws (λ m le. omega arith)))
+    order_append (map (slot_out n) own) (each_sends items (n + 1) ws) (order_own (Subscriber n) own) (order_each items (n + 1) ws)
+    (before_own (Subscriber n) own (each_sends items (n + 1) ws) (from_each (Subscriber n) items (n + 1) ws (λ m le. omega arith)))
+
+-- ---- strangers by id
+
+from_known : (p : Owner) (notice : Notice) (ks : List Known) (n : ℕ) → AllOver known_id n ks → ((m : ℕ) → n < m → Reaches p (Stranger m)) → AllFrom p (each_known notice ks)
+from_known p notice [] n h r = tt
+from_known p notice (k ∷ ks) n h r =
+    let own = (notes k.id (Some k.stranger) notice).sent in
+    from_append p (map (stranger_out k.id) own) (each_known notice ks) (from_own p (Stranger k.id) own (r k.id h.0)) (from_known p notice ks n h.1 r)
+
+order_known : (notice : Notice) (ks : List Known) → Rising known_id ks → AreInOrder (each_known notice ks)
+order_known notice [] h = tt
+order_known notice (k ∷ ks) h =
+    let own = (notes k.id (Some k.stranger) notice).sent in
+    order_append (map (stranger_out k.id) own) (each_known notice ks) (order_own (Stranger k.id) own) (order_known notice ks h.1)
+    (before_own (Stranger k.id) own (each_known notice ks) (from_known (Stranger k.id) notice ks k.id h.0 (λ m lt. omega arith)))
+
+known_before : (notice : Notice) (ks : List Known) (ys : List Out) → ((id : ℕ) → AllFrom (Stranger id) ys) → AllBefore (each_known notice ks) ys
+known_before notice [] ys f = tt
+known_before notice (k ∷ ks) ys f =
+    let own = (notes k.id (Some k.stranger) notice).sent in
+    before_append (map (stranger_out k.id) own) (each_known notice ks) ys (before_own (Stranger k.id) own ys (f k.id)) (known_before notice ks ys f)
+
+all_known : (p : Owner) (notice : Notice) (ks : List Known) → ((m : ℕ) → Reaches p (Stranger m)) → AllFrom p (each_known notice ks)
+all_known p notice [] r = tt
+all_known p notice (k ∷ ks) r =
+    let own = (notes k.id (Some k.stranger) notice).sent in
+    from_append p (map (stranger_out k.id) own) (each_known notice ks) (from_own p (Stranger k.id) own (r k.id)) (all_known p notice ks r)
+
+order_strangers : (ps : List Profile) (r : Reach) (ks : List Known) → Rising known_id ks → AreInOrder (strangers_send ps r ks)
+order_strangers ps Nobody ks h = tt
+order_strangers ps (One id input) ks h = order_own (Stranger id) (stranger_step ps id (stranger_at id ks) input).sent
+order_strangers ps (Each notice) ks h = order_known notice ks h
+
+strangers_before : (ps : List Profile) (r : Reach) (ks : List Known) (ys : List Out) → ((id : ℕ) → AllFrom (Stranger id) ys) → AllBefore (strangers_send ps r ks) ys
+strangers_before ps Nobody ks ys f = tt
+strangers_before ps (One id input) ks ys f = before_own (Stranger id) (stranger_step ps id (stranger_at id ks) input).sent ys (f id)
+strangers_before ps (Each notice) ks ys f = known_before notice ks ys f
+
+from_strangers : (p : Owner) (ps : List Profile) (r : Reach) (ks : List Known) → ((m : ℕ) → Reaches p (Stranger m)) → AllFrom p (strangers_send ps r ks)
+from_strangers p ps Nobody ks f = tt
+from_strangers p ps (One id input) ks f = from_own p (Stranger id) (stranger_step ps id (stranger_at id ks) input).sent (f id)
+from_strangers p ps (Each notice) ks f = all_known p notice ks f
 
 -- ---- a station
 
-order_station : (o : Option ℕ) (xs : List (List ℕ)) → AreInOrder (station_sends o xs)
-order_station None xs = tt
-order_station (Some e) xs = order_own (Station e) (map (station_out e) xs) (station_own e xs)
+order_station : (o : Option ℕ) (sent : List Answer) → AreInOrder (station_sends o sent)
+order_station None sent = tt
+order_station (Some e) sent = order_own (Station e) sent
 
-before_station : (o : Option ℕ) (xs : List (List ℕ)) (ys : List Out) → ((e : ℕ) → AllFrom (Station e) ys) → AllBefore (station_sends o xs) ys
-before_station None xs ys f = tt
-before_station (Some e) xs ys f = before_own (Station e) (map (station_out e) xs) ys (station_own e xs) (f e)
+before_station : (o : Option ℕ) (sent : List Answer) (ys : List Out) → ((e : ℕ) → AllFrom (Station e) ys) → AllBefore (station_sends o sent) ys
+before_station None sent ys f = tt
+before_station (Some e) sent ys f = before_own (Station e) sent ys (f e)
 
 -- ---- the whole output
 
-pub output_order : (w : World) (e : Event) → AreInOrder (outputs w e)
-output_order w e =
-    let h = happens w.sight e in
-    let s = strangers_are w.sight e in
-    let stations = station_sends (station_of e) h.sends in
-    let each = each_sends (items_of w.sight e) 0 w.subscribers in
-    order_append (stations ++ h.strangers) each
-    (order_append stations h.strangers (order_station (station_of e) h.sends) (order_own (Stranger s.0 s.1) h.strangers s.2)
-    (before_station (station_of e) h.sends h.strangers (λ n. from_own (Station n) (Stranger s.0 s.1) h.strangers tt s.2)))
-    (order_each (items_of w.sight e) 0 w.subscribers)
-    (before_append stations h.strangers each
-    (before_station (station_of e) h.sends each (λ n. from_each (Station n) (items_of w.sight e) 0 w.subscribers (λ m le. tt)))
-    (before_own (Stranger s.0 s.1) h.strangers each s.2 (from_each (Stranger s.0 s.1) (items_of w.sight e) 0 w.subscribers (λ m le. tt))))
+pub parts_order : (o : Option ℕ) (sends : List Answer) (ps : List Profile) (r : Reach) (ks : List Known) (items : ℕ → Item) (ws : List Whole) → Rising known_id ks
+    → AreInOrder (station_sends o sends ++ (strangers_send ps r ks ++ each_sends items 0 ws))
+parts_order o sends ps r ks items ws h =
+    let others = strangers_send ps r ks in
+    let each = each_sends items 0 ws in
+    order_append (station_sends o sends) (others ++ each) (order_station o sends)
+    (order_append others each (order_strangers ps r ks h) (order_each items 0 ws) (strangers_before ps r ks each (λ id. from_each (Stranger id) items 0 ws (λ m le. tt))))
+    (before_station o sends (others ++ each)
+    (λ n. from_append (Station n) others each (from_strangers (Station n) ps r ks (λ m. tt)) (from_each (Station n) items 0 ws (λ m le. tt))))
 
-of_reply : (o : Option StepFault) (xs outs : List Out) → AreInOrder xs → reply_of o xs ≡ Ok outs → AreInOrder outs
-of_reply None xs outs h e = let same : xs ≡ outs = cc in subst AreInOrder same h
-of_reply (Some fault) xs outs h e = absurd cc
-
--- a reply that is the MME's is in order
-pub reply_order : (w : World) (e : Event) (r : Result (List Out) StepFault) → IfOk r (λ outs. reply w e ≡ Ok outs) → IfOk r (λ outs. AreInOrder outs)
-reply_order w e (Ok outs) h = of_reply (fault_of w.sight e) (outputs w e) outs (output_order w e) h
-reply_order w e (Err fault) h = tt
+pub output_order : (w : World) (e : Event) → Rising known_id w.strangers → AreInOrder (outputs w e)
+output_order w e h = parts_order (station_of e) (happens w.sight e).sends w.sight.profiles (happens w.sight e).reach w.strangers (items_of w.sight (strangers_in w) e) w.subscribers h
 
 -- ---- a list of replies
 
@@ -117,9 +144,10 @@ order_cons : (o : Option StepFault) (outs : List Out) (rs : List (Result (List O
 order_cons None outs rs h k = (h, k)
 order_cons (Some fault) outs rs h k = k
 
-replies_order : (w : World) (es : List Event) → AllInOrder (replies w es)
-replies_order w [] = tt
-replies_order w (e ∷ es) = order_cons (fault_of w.sight e) (outputs w e) (replies (world_after w e) es) (output_order w e) (replies_order (world_after w e) es)
+replies_order : (w : World) (es : List Event) → Rising known_id w.strangers → AllInOrder (replies w es)
+replies_order w [] h = tt
+replies_order w (e ∷ es) h =
+    order_cons (fault_of w.sight e) (outputs w e) (replies (world_after w e) es) (output_order w e h) (replies_order (world_after w e) es (rising_once w e h))
 
 of_given : (rs : List (Result (List Out) StepFault)) → AllInOrder (given rs) → AllInOrder rs
 of_given [] h = tt
@@ -131,5 +159,5 @@ of_given (Err ClockSpent ∷ rs) h = of_given rs h
 of_given (Err UnknownImsi ∷ rs) h = of_given rs h
 
 -- all replies of a run
-pub run_order : (w : World) (es : List Event) (rs : List (Result (List Out) StepFault)) → given rs ≡ replies w es → AllInOrder rs
-run_order w es rs h = of_given rs (subst AllInOrder (sym h) (replies_order w es))
+pub run_order : (w : World) (es : List Event) (rs : List (Result (List Out) StepFault)) → Rising known_id w.strangers → given rs ≡ replies w es → AllInOrder rs
+run_order w es rs r h = of_given rs (subst AllInOrder (sym h) (replies_order w es r))

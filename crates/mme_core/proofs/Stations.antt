@@ -11,7 +11,7 @@ use Rattle.mme_core.specs.declared.event.StepFault.{StepFault}
 use Rattle.mme_core.specs.Projection.{own_state, station_run}
 use Rattle.mme_core.specs.Sight.{Sight}
 use Rattle.mme_core.specs.World.{World, fault_of, happens, sight_after, sight_moved, sight_run, station_of, stations_by, unless, world_after, world_run}
-use Rattle.mme_core.proofs.Alone.{sight_once}
+use Rattle.mme_core.proofs.Turns.{sight_once}
 
 -- what every owner may see after a run
 pub sight_along : (w : World) (es : List Event) → (world_run w es).sight ≡ sight_run w.sight es

@@ -1,48 +1,88 @@
 -- One event that is not refused: what it makes, from what its station hears and whom it calls.
-use Rattle.std.proofs.Common.{◌≡◌, ◌≢◌, ◌<◌, ◌≤◌, ◌^◌, ℕ, List, ◌++◌, length, Option, Some, None, Ok, refl, sym, ◌∙◌, ap, arith}
-use Rattle.std.specs.Prelude.{nat_lt, if◌then◌else◌}
+use Rattle.std.proofs.Common.{◌≡◌, ◌≢◌, ◌<◌, ◌^◌, ℕ, suc, List, [], ◌∷◌, ◌++◌, length, Option, Some, None, Result, Ok, Err, refl, sym, ◌∙◌, ap, arith}
+use Rattle.std.specs.Prelude.{if◌then◌else◌, nat_lt, slice_get, slice_set, unwrap_or, IfOk, IfErr}
+use Rattle.std.specs.Option.{option_map_or}
 use Rattle.std.proofs.lemmas.Bool.Decides.{nat_tests}
+use Rattle.std.proofs.lemmas.List.{length-set}
+use Rattle.emm_machine.specs.Stations.{station_at}
 use Rattle.emm_machine.specs.declared.solo.Solo.{Solo}
 use Rattle.emm_machine.specs.declared.stations.StationState.{StationState}
-use Rattle.emm_machine.specs.declared.stations.StationState.TheVariants.{Down, Up, Ready}
 use Rattle.emm_machine.specs.Steps.{Item}
 use Rattle.emm_machine.specs.Whole.{Whole}
 use Rattle.mme_core.specs.declared.calls.Prepared.{Prepared}
 use Rattle.mme_core.specs.declared.event.Event.{Event}
-use Rattle.mme_core.specs.declared.event.StepFault.{StepFault}
-use Rattle.mme_core.specs.declared.event.StepFault.TheVariants.{ClockSpent}
 use Rattle.mme_core.specs.declared.out.Out.{Out}
-use Rattle.mme_core.specs.Seen.{settled, solos_after, with_solos}
+use Rattle.mme_core.specs.declared.calls.Prepared.TheVariants as prepared
+use Rattle.mme_core.specs.Seen.{changed, in_state, settled, solos_after, with_solos}
 use Rattle.mme_core.specs.Sight.{Sight}
+use Rattle.emm_machine.specs.declared.stations.StationState.TheVariants.{Down, Up, Ready as ReadyState}
+use Rattle.stranger_machine.specs.Table.{reached}
+use Rattle.mme_core.specs.declared.event.StepFault.{StepFault}
+use Rattle.mme_core.specs.declared.event.StepFault.TheVariants.{ClockSpent, NoMemory}
+use Rattle.mme_core.specs.declared.mme.Moves.{Moves}
+use Rattle.mme_core.specs.declared.mme.Ready.{Ready}
+use Rattle.mme_core.specs.Ready.{placed, ready_world}
 use Rattle.mme_core.specs.Stations.{Calls, Everyone, Heard}
-use Rattle.mme_core.specs.World.{World, called, clock_after, each_after, each_sends, fault_of, happens, if_down, moved, outputs, reply, reply_of, sight_moved, station_of, station_sends, stations_by, unless, world_after}
-use Rattle.mme_core.proofs.Calling.{all_settled, each_after_length}
+use Rattle.mme_core.specs.World.{World, called, calls_by, clock_after, each_after, each_sends, fault_of, happens, if_down, moved, outputs, reply, reply_of, sight_moved, station_of, station_sends, stations_by, strangers_in, strangers_send, unless, world_after}
+use Rattle.mme_core.proofs.Calling.{all_settled}
 
--- a sight after an event, by what was heard
-abbrev pub sight_by : Sight → Event → Heard → Sight
-sight_by s e h = record { config = s.config; clock = clock_after s.clock e; stations = stations_by (station_of e) s.stations h.state; profiles = s.profiles }
-
--- the reply of an event that is not refused
-pub reply_so : (w : World) (e : Event) (h : Heard) (outs : List Out) → fault_of w.sight e ≡ None → happens w.sight e ≡ h
-    → outs ≡ (station_sends (station_of e) h.sends ++ h.strangers) ++ each_sends (called h.calls) 0 w.subscribers → reply w e ≡ Ok outs
+-- what is prepared for an event that is not refused, from what its station hears: the reply
+pub reply_so : (w : World) (e : Event) (h : Heard) (outs : List Out) → fault_of w.sight e ≡ None → h ≡ happens w.sight e
+    → outs ≡ station_sends (station_of e) h.sends ++ (strangers_send w.sight.profiles h.reach w.strangers ++ each_sends (called (calls_by h.reach h.calls w.sight.profiles (strangers_in w))) 0 w.subscribers)
+    → reply w e ≡ Ok outs
 reply_so w e h outs fine is sent =
     ap (λ o. reply_of o (outputs w e)) fine
-    ∙ ap Ok (ap (λ (x : Heard). (station_sends (station_of e) x.sends ++ x.strangers) ++ each_sends (called x.calls) 0 w.subscribers) is ∙ sym sent)
+    ∙ ap Ok (sym (sent ∙ ap (λ (x : Heard). station_sends (station_of e) x.sends ++ (strangers_send w.sight.profiles x.reach w.strangers
+    ++ each_sends (called (calls_by x.reach x.calls w.sight.profiles (strangers_in w))) 0 w.subscribers)) is))
+
+abbrev pub sight_by : Sight → Event → StationState → Sight
+sight_by s e state = record { config = s.config; clock = clock_after s.clock e; stations = stations_by (station_of e) s.stations state; profiles = s.profiles }
 
 -- and the MME after it
-pub after_so : (w : World) (e : Event) (h : Heard) (s : Sight) (ws : List Whole) → fault_of w.sight e ≡ None → happens w.sight e ≡ h
-    → s ≡ sight_by w.sight e h → ws ≡ each_after (called h.calls) 0 w.subscribers → (record { sight = s; subscribers = ws }) ≡ world_after w e
-after_so w e h s ws fine is seen each =
-    ap (λ (x : Sight). record { sight = x; subscribers = ws }) (seen ∙ ap (sight_by w.sight e) (sym is))
-    ∙ ap (λ xs. record { sight = sight_moved w.sight e; subscribers = xs }) (each ∙ ap (λ (x : Heard). each_after (called x.calls) 0 w.subscribers) (sym is))
+pub after_so : (w v : World) (e : Event) (h : Heard) → fault_of w.sight e ≡ None → h ≡ happens w.sight e
+    → v.sight ≡ sight_by w.sight e h.state → v.strangers ≡ reached w.sight.profiles h.reach w.strangers
+    → v.subscribers ≡ each_after (called (calls_by h.reach h.calls w.sight.profiles (strangers_in w))) 0 w.subscribers → v ≡ world_after w e
+after_so w v e h fine is seen others each =
+    ap (λ (x : Sight). record { sight = x; strangers = v.strangers; subscribers = v.subscribers }) (seen ∙ ap (λ (x : Heard). sight_by w.sight e x.state) is)
+    ∙ ap (λ ks. record { sight = sight_moved w.sight e; strangers = ks; subscribers = v.subscribers }) (others ∙ ap (λ (x : Heard). reached w.sight.profiles x.reach w.strangers) is)
+    ∙ ap (λ xs. record { sight = sight_moved w.sight e; strangers = reached w.sight.profiles (happens w.sight e).reach w.strangers; subscribers = xs })
+    (each ∙ ap (λ (x : Heard). each_after (called (calls_by x.reach x.calls w.sight.profiles (strangers_in w))) 0 w.subscribers) is)
     ∙ ap (λ o. unless o w (moved w e)) (sym fine)
+
+-- ---- what was prepared
+
+abbrev pub sent_by : World → Event → Heard → List Out
+sent_by w e h =
+    station_sends (station_of e) h.sends ++ (strangers_send w.sight.profiles h.reach w.strangers ++ each_sends (called (calls_by h.reach h.calls w.sight.profiles (strangers_in w))) 0 w.subscribers)
+
+pub reply_ready : (w : World) (e : Event) (h : Heard) (r : Result Ready StepFault) → fault_of w.sight e ≡ None → h ≡ happens w.sight e
+    → IfOk r (λ x. x.outs ≡ sent_by w e h) → IfOk r (λ x. reply w e ≡ Ok x.outs)
+reply_ready w e h (Ok x) fine is sent = reply_so w e h x.outs fine is sent
+reply_ready w e h (Err fault) fine is sent = tt
+
+-- what every owner may see, where it moves so
+abbrev pub sight_with : Moves → Sight → Sight
+sight_with m s = record { config = s.config; clock = m.clock; stations = placed m.station m.state s.stations; profiles = s.profiles }
+
+pub after_ready : (w : World) (e : Event) (h : Heard) (m : Moves) (r : Result Ready StepFault) → fault_of w.sight e ≡ None → h ≡ happens w.sight e
+    → sight_with m w.sight ≡ sight_by w.sight e h.state
+    → IfOk r (λ x. x.moves ≡ m) → IfOk r (λ x. changed x.change w.strangers ≡ reached w.sight.profiles h.reach w.strangers)
+    → IfOk r (λ x. settled x.prepared w.subscribers ≡ each_after (called (calls_by h.reach h.calls w.sight.profiles (strangers_in w))) 0 w.subscribers)
+    → IfOk r (λ x. ready_world x w ≡ world_after w e)
+after_ready w e h m (Ok x) fine is seen moves others each =
+    after_so w (ready_world x w) e h fine is (ap (λ (n : Moves). sight_with n w.sight) moves ∙ seen) others each
+after_ready w e h m (Err fault) fine is seen moves others each = tt
+
+pub memory_refuses : (w : World) (e : Event) (r : Result Ready StepFault) → IfErr r (λ fault. fault ≡ NoMemory) → IfErr r (λ fault. fault ≢ NoMemory → reply w e ≡ Err fault)
+memory_refuses w e (Ok x) h = tt
+memory_refuses w e (Err fault) h = λ ne. absurd (ne h)
 
 -- ---- what is not refused
 
 pub not_down : (s : StationState) (x y : Option StepFault) → s ≢ Down → if_down s x y ≡ y
 not_down Down x y ne = absurd (ne refl)
 not_down Up x y ne = refl
-not_down (Ready tas) x y ne = refl
+not_down (ReadyState tas) x y ne = refl
 
 pub clock_goes_on : (clock : ℕ) → clock < 2 ^ 62 → (if nat_lt clock (2 ^ 62) then None else Some ClockSpent) ≡ None
 clock_goes_on clock lt = grind (arith, nat_tests)
@@ -54,15 +94,21 @@ pub everyone_settled : (item : Item) (ws xs zs : List Whole) (ss : List Solo) �
 everyone_settled item ws xs zs ss same made theirs =
     theirs ∙ ap (λ ys. with_solos ys ws) (made ∙ ap (solos_after item) same) ∙ all_settled item 0 ws
 
--- those who were called are in the states that were prepared
-pub prepared_settled : (calls : Calls) (ws xs zs : List Whole) (p : Prepared) → xs ≡ ws → settled p xs ≡ each_after (called calls) 0 xs → zs ≡ settled p ws → zs ≡ each_after (called calls) 0 ws
-prepared_settled calls ws xs zs p same made theirs =
-    theirs ∙ ap (settled p) (sym same) ∙ made ∙ ap (each_after (called calls) 0) same
-
 -- as many as before
-pub as_many : (calls : Calls) (ws zs : List Whole) → zs ≡ each_after (called calls) 0 ws → length ws ≤ 2048 → length zs ≤ 2048
-as_many calls ws zs e few = let l = ap length e ∙ each_after_length (called calls) 0 ws in omega (arith, l, few)
+solo_many : (n : ℕ) (s : Solo) (ws : List Whole) (o : Option Whole) → length (option_map_or (λ w. slice_set ws n (in_state s w)) o ws) ≡ length ws
+solo_many n s ws None = refl
+solo_many n s ws (Some w) = length-set ws n (in_state s w)
 
--- what they send stands behind what was said before
-pub sent_behind : (calls : Calls) (ws xs : List Whole) (said before outs : List Out) → xs ≡ ws → before ≡ said → outs ≡ before ++ each_sends (called calls) 0 xs → outs ≡ said ++ each_sends (called calls) 0 ws
-sent_behind calls ws xs said before outs same is sent = sent ∙ ap (λ os. os ++ each_sends (called calls) 0 xs) is ∙ ap (λ ys. said ++ each_sends (called calls) 0 ys) same
+solos_many : (ss : List Solo) (ws : List Whole) → length (with_solos ss ws) ≡ length ws
+solos_many [] ws = refl
+solos_many (s ∷ ss) [] = refl
+solos_many (s ∷ ss) (w ∷ ws) = ap suc (solos_many ss ws)
+
+pub settled_many : (p : Prepared) (ws : List Whole) → length (settled p ws) ≡ length ws
+settled_many prepared.Nobody ws = refl
+settled_many (prepared.One slot s) ws = solo_many slot s ws (slice_get ws slot)
+settled_many (prepared.Everyone ss) ws = solos_many ss.items ws
+
+pub placed_many : (o : Option ℕ) (state : Option StationState) (stations : List StationState) → length (placed o state stations) ≡ length stations
+placed_many None state stations = refl
+placed_many (Some e) state stations = length-set stations e (unwrap_or state (station_at stations e))

@@ -3,4 +3,5 @@ pub mod Naming
 pub mod Stations
 pub mod World
 pub mod Seen
+pub mod Ready
 pub mod Projection

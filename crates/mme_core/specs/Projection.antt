@@ -1,39 +1,66 @@
--- Each owner alone: what of a list of events is a slot's, and what its machine sends over it.
-use Rattle.std.specs.Prelude.{◌≡◌, ◌≤◌, ℕ, ◌==◌, Bool, true, false, List, [], ◌∷◌, map, filter, not, Option, Some, None, Result, Ok, Err, slice_get, option_map, if◌then◌else◌}
+-- Each owner alone: what of a list of events is a station's, a stranger's or a slot's, and what its machine sends over it.
+use Rattle.std.specs.Prelude.{◌≡◌, ◌≤◌, ℕ, ◌==◌, Bool, true, false, List, [], ◌∷◌, map, filter, Option, Some, None, Result, Ok, Err, slice_get, option_map, if◌then◌else◌}
 use Rattle.emm_machine.specs.declared.octets.Answer.{Answer}
 use Rattle.emm_machine.specs.declared.stations.StationState.{StationState}
 use Rattle.emm_machine.specs.Steps.{Item, Nothing, solo_after, solo_answers}
 use Rattle.emm_machine.specs.declared.subscriber.States.{States}
 use Rattle.emm_machine.specs.Whole.{Whole}
 use Rattle.emm_machine.specs.Words.{states_of}
+use Rattle.stranger_machine.specs.declared.state.Stranger.{Stranger as StrangerState}
+use Rattle.stranger_machine.specs.Machine.{Input, stranger_step}
+use Rattle.stranger_machine.specs.Machine as inputs
+use Rattle.stranger_machine.specs.Table.{input_at}
 use Rattle.mme_core.specs.declared.event.Event.{Event}
 use Rattle.mme_core.specs.declared.event.StepFault.{StepFault}
 use Rattle.mme_core.specs.declared.out.Out.{Out}
 use Rattle.mme_core.specs.declared.out.Owner.{Owner}
 use Rattle.mme_core.specs.declared.out.Owner.TheVariants.{Station, Stranger, Subscriber}
 use Rattle.mme_core.specs.Sight.{Sight}
-use Rattle.mme_core.specs.World.{World, fault_of, front_sends, happens, items_of, sight_after, station_of, unless}
+use Rattle.mme_core.specs.World.{World, fault_of, happens, items_of, sight_after, station_of, unless}
+
+-- ---- one stranger
+
+-- what reaches the stranger with the id at an event
+abbrev pub stranger_input : Sight → ℕ → Event → Input
+stranger_input s id event = unless (fault_of s event) inputs.Nothing (input_at (happens s event).reach id)
+
+-- the strangers after an event, each by its own machine
+abbrev pub strangers_after : Sight → (ℕ → Option StrangerState) → Event → ℕ → Option StrangerState
+strangers_after s g event id = (stranger_step s.profiles id (g id) (stranger_input s id event)).stranger
+
+-- one stranger over a list of events
+abbrev pub stranger_run : Sight → ℕ → Option StrangerState → List Event → Option StrangerState
+stranger_run s id x [] = x
+stranger_run s id x (event ∷ events) = stranger_run (sight_after s event) id (stranger_step s.profiles id x (stranger_input s id event)).stranger events
 
 -- ---- one subscriber
 
--- the item of a slot at an event, by what every owner may see
-abbrev pub item_for : ℕ → Sight → Event → Item
-item_for slot s event = unless (fault_of s event) Nothing (items_of s event slot)
+-- the item of a slot at an event, by what every owner may see and by the strangers
+abbrev pub item_for : ℕ → Sight → (ℕ → Option StrangerState) → Event → Item
+item_for slot s g event = unless (fault_of s event) Nothing (items_of s g event slot)
 
--- the items of a slot over a list, one for each event: by the list, the configuration and the provisioning alone
-abbrev pub projection : ℕ → Sight → List Event → List Item
-projection slot s [] = []
-projection slot s (event ∷ events) = item_for slot s event ∷ projection slot (sight_after s event) events
+-- the items of a slot over a list, one for each event: by the list, the configuration and the provisioning alone, and by the
+-- strangers, who are so too
+abbrev pub projection : ℕ → Sight → (ℕ → Option StrangerState) → List Event → List Item
+projection slot s g [] = []
+projection slot s g (event ∷ events) = item_for slot s g event ∷ projection slot (sight_after s event) (strangers_after s g event) events
 
 -- ---- what of an output is an owner's
 
+abbrev pub is_station : ℕ → Owner → Bool
+is_station e (Station n) = n == e
+is_station e (Stranger id) = false
+is_station e (Subscriber slot) = false
+
+abbrev pub is_stranger : ℕ → Owner → Bool
+is_stranger id (Station e) = false
+is_stranger id (Stranger n) = n == id
+is_stranger id (Subscriber slot) = false
+
 abbrev pub is_slot : ℕ → Owner → Bool
 is_slot slot (Station e) = false
-is_slot slot (Stranger e b) = false
+is_slot slot (Stranger id) = false
 is_slot slot (Subscriber n) = n == slot
-
-abbrev pub owned_by : ℕ → List Out → List Out
-owned_by slot outs = filter (λ o. is_slot slot o.owner) outs
 
 -- a message by its station and its octets
 pub record Told : Type 0 where
@@ -43,38 +70,62 @@ pub record Told : Type 0 where
 abbrev pub told_of : Out → Told
 told_of o = record { station = o.station; octets = o.octets }
 
-abbrev pub told_in : ℕ → Result (List Out) StepFault → List Told
-told_in slot (Ok outs) = map told_of (owned_by slot outs)
-told_in slot (Err fault) = []
+abbrev pub owned_by : (Owner → Bool) → List Out → List Told
+owned_by own outs = map told_of (filter (λ o. own o.owner) outs)
 
--- what a slot is told over a list of replies, by reply
-abbrev pub told : ℕ → List (Result (List Out) StepFault) → List (List Told)
-told slot [] = []
-told slot (r ∷ rs) = told_in slot r ∷ told slot rs
+abbrev pub told_in : (Owner → Bool) → Result (List Out) StepFault → List Told
+told_in own (Ok outs) = owned_by own outs
+told_in own (Err fault) = []
+
+-- what an owner is told over a list of replies, by reply
+abbrev pub told : (Owner → Bool) → List (Result (List Out) StepFault) → List (List Told)
+told own [] = []
+told own (r ∷ rs) = told_in own r ∷ told own rs
 
 abbrev pub answer_told : Answer → Told
 answer_told a = record { station = a.station; octets = a.octets }
 
--- what a subscriber's machine sends over items, by item
-abbrev pub told_alone : Whole → List Item → List (List Told)
-told_alone w items = map (λ sent. map answer_told sent) (solo_answers w.setting w.solo items)
+-- ---- what each owner's machine sends, by event
+
+abbrev pub subscriber_told : Whole → List Item → List (List Told)
+subscriber_told w items = map (λ sent. map answer_told sent) (solo_answers w.setting w.solo items)
 
 -- a subscriber after its machine has run over items
 abbrev pub alone_after : Whole → List Item → Whole
 alone_after w items = record { setting = w.setting; solo = solo_after w.setting w.solo items }
 
+abbrev pub stranger_told : Sight → ℕ → Option StrangerState → List Event → List (List Told)
+stranger_told s id x [] = []
+stranger_told s id x (event ∷ events) =
+    map answer_told (stranger_step s.profiles id x (stranger_input s id event)).sent
+    ∷ stranger_told (sight_after s event) id (stranger_step s.profiles id x (stranger_input s id event)).stranger events
+
+-- what a station is told of its own
+abbrev pub own_sends : Option ℕ → ℕ → List Answer → List Told
+own_sends None e sends = []
+own_sends (Some n) e sends = if n == e then map answer_told sends else []
+
+abbrev pub station_told : Sight → ℕ → List Event → List (List Told)
+station_told s e [] = []
+station_told s e (event ∷ events) = unless (fault_of s event) [] (own_sends (station_of event) e (happens s event).sends) ∷ station_told (sight_after s event) e events
+
+-- nothing at each event
+abbrev pub silence : List Event → List (List Told)
+silence [] = []
+silence (event ∷ events) = [] ∷ silence events
+
 -- ---- the owners of an output, in their order
 
--- stations by number, then one stranger, then subscribers by slot
+-- stations by number, then strangers by id, that is by station and number there, then subscribers by slot
 abbrev pub Reaches : Owner → Owner → Type 0
 Reaches (Station a) (Station b) = a ≤ b
-Reaches (Station a) (Stranger e b) = Unit {0}
+Reaches (Station a) (Stranger b) = Unit {0}
 Reaches (Station a) (Subscriber b) = Unit {0}
-Reaches (Stranger e a) (Station b) = ⊥
-Reaches (Stranger e a) (Stranger f b) = (e ≡ f) × (a ≡ b)
-Reaches (Stranger e a) (Subscriber b) = Unit {0}
+Reaches (Stranger a) (Station b) = ⊥
+Reaches (Stranger a) (Stranger b) = a ≤ b
+Reaches (Stranger a) (Subscriber b) = Unit {0}
 Reaches (Subscriber a) (Station b) = ⊥
-Reaches (Subscriber a) (Stranger e b) = ⊥
+Reaches (Subscriber a) (Stranger b) = ⊥
 Reaches (Subscriber a) (Subscriber b) = a ≤ b
 
 abbrev pub AllFrom : Owner → List Out → Type 0
@@ -90,22 +141,6 @@ abbrev pub AllInOrder : List (Result (List Out) StepFault) → Type 0
 AllInOrder [] = Unit {0}
 AllInOrder (Ok outs ∷ rs) = AreInOrder outs × AllInOrder rs
 AllInOrder (Err fault ∷ rs) = AllInOrder rs
-
--- ---- stations and strangers: what is sent for them is by what every owner may see, and by no subscriber
-
-abbrev pub is_subscriber : Owner → Bool
-is_subscriber (Station e) = false
-is_subscriber (Stranger e b) = false
-is_subscriber (Subscriber n) = true
-
-abbrev pub front_in : Result (List Out) StepFault → List Out
-front_in (Ok outs) = filter (λ o. not (is_subscriber o.owner)) outs
-front_in (Err fault) = []
-
--- what is sent for stations and strangers over a list of events, by event
-abbrev pub front_alone : Sight → List Event → List (List Out)
-front_alone s [] = []
-front_alone s (event ∷ events) = unless (fault_of s event) [] (front_sends s event) ∷ front_alone (sight_after s event) events
 
 -- ---- one station
 

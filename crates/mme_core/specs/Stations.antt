@@ -1,10 +1,8 @@
 -- What is said to stations, and what a station that is not down makes of what it sends (TS 36.413 clauses 8.7.3 and 8.7.2).
-use Rattle.std.specs.Prelude.{ℕ, ◌-◌, ◌/◌, ◌%◌, ◌^◌, nat_lt, Bool, List, [], ◌∷◌, map, Option, Some, None, Result, Ok, Err, if◌then◌else◌, bytes_eq}
+use Rattle.std.specs.Prelude.{ℕ, ◌^◌, nat_lt, Bool, List, [], ◌∷◌, Option, Some, None, Result, Ok, Err, if◌then◌else◌, bytes_eq}
 use Rattle.std.specs.List.{list_any}
 use Rattle.s1ap_elements.specs.declared.cause.Cause.{Cause}
-use Rattle.s1ap_elements.specs.declared.cause.Cause.TheVariants.{RadioNetwork, Nas, Protocol, Misc}
-use Rattle.s1ap_elements.specs.declared.cause.RadioNetworkCause.TheVariants.{UnknownMmeUeS1apId}
-use Rattle.s1ap_elements.specs.declared.cause.NasCause.TheVariants.{Unspecified}
+use Rattle.s1ap_elements.specs.declared.cause.Cause.TheVariants.{Protocol, Misc}
 use Rattle.s1ap_elements.specs.declared.cause.ProtocolCause.TheVariants.{TransferSyntaxError, AbstractSyntaxErrorReject, AbstractSyntaxErrorIgnoreAndNotify, MessageNotCompatible, FalselyConstructedMessage}
 use Rattle.s1ap_elements.specs.declared.cause.MiscCause.TheVariants.{UnknownPlmn}
 use Rattle.s1ap_elements.specs.declared.station.SupportedTa.{SupportedTa}
@@ -15,7 +13,6 @@ use Rattle.s1ap_messages.specs.declared.fault.S1apFault.{S1apFault}
 use Rattle.s1ap_messages.specs.declared.fault.S1apFault.TheVariants.{Syntax, UnknownProcedure, MissingElement, RepeatedElement, RefusedElement, NoMemory}
 use Rattle.s1ap_messages.specs.declared.pdu.Pdu.{Pdu}
 use Rattle.s1ap_messages.specs.declared.pdu.Pdu.TheVariants as pdu
-use Rattle.s1ap_messages.specs.Pdus.{encoded}
 use Rattle.s1ap_messages.specs.declared.pdu.InitialUeMessage.{InitialUeMessage}
 use Rattle.identity_slots.specs.declared.profile.Profile.{Profile}
 use Rattle.identity_slots.specs.Ids.{stranger_id}
@@ -24,25 +21,19 @@ use Rattle.emm_machine.specs.declared.event.Entry.{Entry}
 use Rattle.emm_machine.specs.declared.event.UeBody.{UeBody}
 use Rattle.emm_machine.specs.declared.event.UeBody.TheVariants.{Uplink, ReleaseRequest, ReleaseComplete, ContextSetupFailure, PathSwitch, Notice}
 use Rattle.emm_machine.specs.declared.event.UeMessage.{UeMessage}
+use Rattle.emm_machine.specs.declared.octets.Answer.{Answer}
 use Rattle.emm_machine.specs.declared.stations.StationState.{StationState}
 use Rattle.emm_machine.specs.declared.stations.StationState.TheVariants.{Down, Up, Ready}
-use Rattle.emm_machine.specs.Pdus.{error_indication, path_switch_failure, release_command}
 use Rattle.emm_machine.specs.Steps.{Item, Initial, Message, StationGone}
+use Rattle.stranger_machine.specs.declared.turn.Notice.TheVariants.{Gone}
+use Rattle.stranger_machine.specs.Machine.{Begins, Told, unknown}
+use Rattle.stranger_machine.specs.Table.{Reach, Nobody, Each}
+use Rattle.stranger_machine.specs.Table as table
+use Rattle.stranger_machine.specs.Turns.{said}
 use Rattle.mme_core.specs.declared.config.Config.{Config}
-use Rattle.mme_core.specs.declared.out.Out.{Out}
-use Rattle.mme_core.specs.declared.out.Owner.{Owner}
-use Rattle.mme_core.specs.declared.out.Owner.TheVariants.{Stranger}
 use Rattle.mme_core.specs.Naming.{named_slot}
 
 -- ---- what the MME says to stations
-
--- the octets of a message that has a written form
-abbrev pub written_octets : Option (List ℕ) → List (List ℕ)
-written_octets None = []
-written_octets (Some octets) = octets ∷ []
-
-abbrev pub sent : Pdu (List ℕ) → List (List ℕ)
-sent message = written_octets (encoded message)
 
 -- the one network, group and code of the MME
 abbrev pub served_gummei : Config → ServedGummei
@@ -72,32 +63,9 @@ cause_of (RefusedElement id) = Some (Protocol AbstractSyntaxErrorReject)
 cause_of (RepeatedElement id) = Some (Protocol FalselyConstructedMessage)
 cause_of NoMemory = None
 
-abbrev pub indicated : Option Cause → List (List ℕ)
-indicated None = []
-indicated (Some cause) = sent (indication cause)
-
--- ---- messages for nobody's phone
-
--- a message that names nobody is answered as to a phone without an association (TS 36.413 clauses 10.6 and 8.4.4.3)
-abbrev pub answered_unknown : UeBody (List ℕ) → UeMessage (List ℕ) → List (List ℕ)
-answered_unknown ReleaseComplete m = []
-answered_unknown PathSwitch m = sent (path_switch_failure m.mme_id m.enb_id (RadioNetwork UnknownMmeUeS1apId))
-answered_unknown (Uplink nas tai) m = sent (error_indication m.mme_id m.enb_id (RadioNetwork UnknownMmeUeS1apId))
-answered_unknown (ReleaseRequest cause) m = sent (error_indication m.mme_id m.enb_id (RadioNetwork UnknownMmeUeS1apId))
-answered_unknown ContextSetupFailure m = sent (error_indication m.mme_id m.enb_id (RadioNetwork UnknownMmeUeS1apId))
-answered_unknown Notice m = sent (error_indication m.mme_id m.enb_id (RadioNetwork UnknownMmeUeS1apId))
-
--- a message of an owner to a station
-abbrev pub out_of : Owner → ℕ → List ℕ → Out
-out_of owner station octets = record { owner = owner; station = station; octets = octets }
-
--- the stranger with this id, which no association has
-abbrev pub stranger_answers : UeMessage (List ℕ) → List Out
-stranger_answers m = map (out_of (Stranger ((m.mme_id - 2 ^ 31) / 2 ^ 24) ((m.mme_id - 2 ^ 31) % 2 ^ 24)) m.station) (answered_unknown m.body m)
-
--- a foreign INITIAL UE MESSAGE is turned away
-abbrev pub foreign_answers : ℕ → ℕ → List Out
-foreign_answers e enb_id = map (out_of (Stranger e enb_id) e) (sent (release_command (stranger_id e enb_id) enb_id (Nas Unspecified)))
+abbrev pub indicated : ℕ → Option Cause → List Answer
+indicated e None = []
+indicated e (Some cause) = said e (indication cause)
 
 -- ---- what a station makes of a message
 
@@ -107,21 +75,25 @@ pub data Calls : Type 0 where
   One : ℕ → Item → Calls
   Everyone : Item → Calls
 
--- the station's state, what it is told for itself, what it is told for a stranger, and who is called
+-- the station's state, what it is told for itself, the strangers that are reached, and who is called
 pub record Heard : Type 0 where
   pub state : StationState
-  pub sends : List (List ℕ)
-  pub strangers : List Out
+  pub sends : List Answer
+  pub reach : Reach
   pub calls : Calls
 
-abbrev pub says : StationState → List (List ℕ) → Heard
-says state sends = record { state = state; sends = sends; strangers = []; calls = NoOne }
+abbrev pub says : StationState → List Answer → Heard
+says state sends = record { state = state; sends = sends; reach = Nobody; calls = NoOne }
 
 abbrev pub calling : StationState → Calls → Heard
-calling state calls = record { state = state; sends = []; strangers = []; calls = calls }
+calling state calls = record { state = state; sends = []; reach = Nobody; calls = calls }
 
-abbrev pub telling : StationState → List Out → Heard
-telling state strangers = record { state = state; sends = []; strangers = strangers; calls = NoOne }
+abbrev pub reaching : StationState → Reach → Heard
+reaching state r = record { state = state; sends = []; reach = r; calls = NoOne }
+
+-- the associations of a station end, with what it is told
+abbrev pub begins_anew : ℕ → StationState → List Answer → Heard
+begins_anew e state sends = record { state = state; sends = sends; reach = Each (Gone e); calls = Everyone (StationGone e) }
 
 abbrev pub is_broadcast : List ℕ → List (List ℕ) → Bool
 is_broadcast plmn plmns = list_any (λ p. bytes_eq p plmn) plmns
@@ -134,44 +106,44 @@ broadcasts plmn tas = list_any (λ ta. is_broadcast plmn ta.plmns) tas
 abbrev pub set_up : Config → ℕ → List SupportedTa → Heard
 set_up config e tas =
     if broadcasts config.network.plmn tas
-    then record { state = Ready tas; sends = sent (setup_response config); strangers = []; calls = Everyone (StationGone e) }
-    else record { state = Up; sends = sent setup_failure; strangers = []; calls = Everyone (StationGone e) }
+    then begins_anew e (Ready tas) (said e (setup_response config))
+    else begins_anew e Up (said e setup_failure)
 
 -- a message that the state of the station doesn't take
-abbrev pub not_compatible : StationState → Heard
-not_compatible state = says state (sent (indication (Protocol MessageNotCompatible)))
+abbrev pub not_compatible : ℕ → StationState → Heard
+not_compatible e state = says state (said e (indication (Protocol MessageNotCompatible)))
 
 -- a reset of the whole interface, of a station that is set up (TS 36.413 clause 8.7.1)
 abbrev pub reset : ℕ → StationState → Heard
-reset e Down = not_compatible Down
-reset e Up = not_compatible Up
-reset e (Ready tas) = record { state = Ready tas; sends = sent pdu.ResetAcknowledge; strangers = []; calls = Everyone (StationGone e) }
+reset e Down = not_compatible e Down
+reset e Up = not_compatible e Up
+reset e (Ready tas) = begins_anew e (Ready tas) (said e pdu.ResetAcknowledge)
 
 abbrev pub entry_of : ℕ → InitialUeMessage (List ℕ) → Entry (List ℕ)
 entry_of e m = record { station = e; enb_id = m.enb_id; nas = m.nas; tai = m.tai }
 
 abbrev pub entered : Option ℕ → ℕ → StationState → InitialUeMessage (List ℕ) → Heard
 entered (Some slot) e state m = calling state (One slot (Initial (entry_of e m)))
-entered None e state m = telling state (foreign_answers e m.enb_id)
+entered None e state m = reaching state (table.One (stranger_id e m.enb_id) (Begins (entry_of e m)))
 
 -- INITIAL UE MESSAGE, of a station that is set up
 abbrev pub enters : Config → List Profile → ℕ → StationState → InitialUeMessage (List ℕ) → Heard
-enters c ps e Down m = not_compatible Down
-enters c ps e Up m = not_compatible Up
+enters c ps e Down m = not_compatible e Down
+enters c ps e Up m = not_compatible e Up
 enters c ps e (Ready tas) m = entered (named_slot c.network ps m.nas m.s_tmsi) e (Ready tas) m
 
--- a message with an id of a slot
+-- a message with an id of a slot; one that isn't provisioned is nobody's
 abbrev pub told_slot : Option ℕ → StationState → UeMessage (List ℕ) → Heard
 told_slot (Some slot) state m = calling state (One slot (Message m))
-told_slot None state m = says state (answered_unknown m.body m)
+told_slot None state m = says state (unknown m.body m)
 
 abbrev pub told : List Profile → StationState → UeMessage (List ℕ) → Heard
-told ps state m = if nat_lt m.mme_id (2 ^ 31) then told_slot (slot_of_id m.mme_id ps) state m else telling state (stranger_answers m)
+told ps state m = if nat_lt m.mme_id (2 ^ 31) then told_slot (slot_of_id m.mme_id ps) state m else reaching state (table.One m.mme_id (Told m))
 
 -- a message with an MME UE id, of a station that is set up
 abbrev pub tells : List Profile → StationState → UeMessage (List ℕ) → Heard
-tells ps Down m = not_compatible Down
-tells ps Up m = not_compatible Up
+tells ps Down m = not_compatible m.station Down
+tells ps Up m = not_compatible m.station Up
 tells ps (Ready tas) m = told ps (Ready tas) m
 
 abbrev pub ue_message : ℕ → ℕ → ℕ → UeBody (List ℕ) → UeMessage (List ℕ)
@@ -192,16 +164,16 @@ hears_message c ps e state (pdu.ContextSetupFailure m) = tells ps state (ue_mess
 hears_message c ps e state (pdu.ReleaseRequest m) = tells ps state (ue_message e m.mme_id m.enb_id (ReleaseRequest m.cause))
 hears_message c ps e state (pdu.ReleaseComplete m) = tells ps state (ue_message e m.mme_id m.enb_id ReleaseComplete)
 hears_message c ps e state (pdu.PathSwitchRequest m) = tells ps state (ue_message e m.source_mme_id m.enb_id PathSwitch)
-hears_message c ps e state (pdu.SetupResponse m) = not_compatible state
-hears_message c ps e state (pdu.SetupFailure m) = not_compatible state
-hears_message c ps e state (pdu.DownlinkNasTransport m) = not_compatible state
-hears_message c ps e state (pdu.ContextSetupRequest m) = not_compatible state
-hears_message c ps e state (pdu.ReleaseCommand m) = not_compatible state
-hears_message c ps e state (pdu.Paging m) = not_compatible state
-hears_message c ps e state (pdu.PathSwitchAcknowledge m) = not_compatible state
-hears_message c ps e state (pdu.PathSwitchFailure m) = not_compatible state
+hears_message c ps e state (pdu.SetupResponse m) = not_compatible e state
+hears_message c ps e state (pdu.SetupFailure m) = not_compatible e state
+hears_message c ps e state (pdu.DownlinkNasTransport m) = not_compatible e state
+hears_message c ps e state (pdu.ContextSetupRequest m) = not_compatible e state
+hears_message c ps e state (pdu.ReleaseCommand m) = not_compatible e state
+hears_message c ps e state (pdu.Paging m) = not_compatible e state
+hears_message c ps e state (pdu.PathSwitchAcknowledge m) = not_compatible e state
+hears_message c ps e state (pdu.PathSwitchFailure m) = not_compatible e state
 
 -- and of the octets
 abbrev pub hears : Config → List Profile → ℕ → StationState → Result (Pdu (List ℕ)) S1apFault → Heard
-hears c ps e state (Err fault) = says state (indicated (cause_of fault))
+hears c ps e state (Err fault) = says state (indicated e (cause_of fault))
 hears c ps e state (Ok m) = hears_message c ps e state m

@@ -10,18 +10,28 @@ use Rattle.emm_machine.specs.declared.network.Network.{Network}
 use Rattle.emm_machine.specs.declared.stations.StationState.{StationState}
 use Rattle.emm_machine.specs.declared.stations.StationState.TheVariants.{Down, Up, Ready}
 use Rattle.emm_machine.specs.Stations.{no_stations, station_at}
-use Rattle.emm_machine.specs.Steps.{Item, Nothing, StationGone, Tick, Data, Cancel, solo_step}
+use Rattle.emm_machine.specs.Steps.{Item, Nothing, Tick, Data, Cancel, solo_step}
 use Rattle.emm_machine.specs.Whole.{Whole}
 use Rattle.emm_machine.specs.Words.{fresh_solo}
+use Rattle.stranger_machine.specs.declared.state.Stranger.{Stranger}
+use Rattle.stranger_machine.specs.declared.table.Known.{Known}
+use Rattle.stranger_machine.specs.declared.turn.Notice.{Notice}
+use Rattle.stranger_machine.specs.declared.turn.Notice.TheVariants as notices
+use Rattle.stranger_machine.specs.Machine.{notes, stranger_step}
+use Rattle.stranger_machine.specs.Table.{Reach, Nobody, Each, reached, stranger_at}
+use Rattle.stranger_machine.specs.Table as table
+use Rattle.stranger_machine.specs.Turns.{Call}
 use Rattle.mme_core.specs.declared.config.Config.{Config}
 use Rattle.mme_core.specs.declared.event.Event.{Event}
 use Rattle.mme_core.specs.declared.event.Event.TheVariants.{Up as UpEvent, Lost as LostEvent, In as InEvent, Tick as TickEvent, Data as DataEvent, Cancel as CancelEvent}
 use Rattle.mme_core.specs.declared.event.StepFault.{StepFault}
 use Rattle.mme_core.specs.declared.event.StepFault.TheVariants.{NotUp, AlreadyUp, ClockSpent, NoMemory, UnknownImsi}
 use Rattle.mme_core.specs.declared.out.Out.{Out}
+use Rattle.mme_core.specs.declared.out.Owner.{Owner}
 use Rattle.mme_core.specs.declared.out.Owner.TheVariants.{Station, Subscriber}
+use Rattle.mme_core.specs.declared.out.Owner.TheVariants as owners
 use Rattle.mme_core.specs.Sight.{Sight}
-use Rattle.mme_core.specs.Stations.{Calls, NoOne, One, Everyone, Heard, calling, hears, says}
+use Rattle.mme_core.specs.Stations.{Calls, NoOne, One, Everyone, Heard, begins_anew, calling, hears, says}
 
 -- ---- what is refused
 
@@ -66,9 +76,9 @@ one_if (Some slot) item = One slot item
 -- where an event is of no station, the state that is named here is no station's
 unfoldable pub happens : Sight → Event → Heard
 happens s (UpEvent e) = says Up []
-happens s (LostEvent e) = calling Down (Everyone (StationGone e))
+happens s (LostEvent e) = begins_anew e Down []
 happens s (InEvent e octets) = hears s.config s.profiles e (station_at s.stations e) (decoded octets.now)
-happens s TickEvent = calling Down (Everyone Tick)
+happens s TickEvent = record { state = Down; sends = []; reach = Each notices.Tick; calls = Everyone Tick }
 happens s (DataEvent imsi) = calling Down (one_if (slot_of_imsi imsi s.profiles) (Data s.stations))
 happens s (CancelEvent imsi) = calling Down (one_if (slot_of_imsi imsi s.profiles) Cancel)
 
@@ -102,6 +112,20 @@ sight_run s (event ∷ events) = sight_run (sight_after s event) events
 
 -- ---- the subscribers
 
+-- whom the one stranger calls that an event reaches
+abbrev pub reach_call : List Profile → Reach → (ℕ → Option Stranger) → Option Call
+reach_call ps Nobody g = None
+reach_call ps (table.One id input) g = (stranger_step ps id (g id) input).call
+reach_call ps (Each notice) g = None
+
+-- who is called: by a stranger, else by the event itself
+abbrev pub with_call : Option Call → Calls → Calls
+with_call None calls = calls
+with_call (Some c) calls = One c.slot c.item
+
+abbrev pub calls_by : Reach → Calls → List Profile → (ℕ → Option Stranger) → Calls
+calls_by r calls ps g = with_call (reach_call ps r g) calls
+
 -- what a slot is called with
 abbrev pub called : Calls → ℕ → Item
 called NoOne slot = Nothing
@@ -119,8 +143,11 @@ abbrev pub each_after : (ℕ → Item) → ℕ → List Whole → List Whole
 each_after items n [] = []
 each_after items n (w ∷ ws) = whole_after w (items n) ∷ each_after items (n + 1) ws
 
+abbrev pub owner_out : Owner → Answer → Out
+owner_out owner a = record { owner = owner; station = a.station; octets = a.octets }
+
 abbrev pub slot_out : ℕ → Answer → Out
-slot_out slot a = record { owner = Subscriber slot; station = a.station; octets = a.octets }
+slot_out slot a = owner_out (Subscriber slot) a
 
 -- what each subscriber sends at its own item, by slot
 abbrev pub each_sends : (ℕ → Item) → ℕ → List Whole → List Out
@@ -133,23 +160,49 @@ fresh_subscribers n slot [] vectors = []
 fresh_subscribers n slot (p ∷ ps) vectors =
     record { setting = record { network = n; slot = slot; profile = p; vectors = vectors_at slot vectors }; solo = fresh_solo } ∷ fresh_subscribers n (slot + 1) ps vectors
 
+-- ---- the strangers
+
+abbrev pub stranger_out : ℕ → Answer → Out
+stranger_out id a = owner_out (owners.Stranger id) a
+
+-- what each sends at a notice, by id
+abbrev pub each_known : Notice → List Known → List Out
+each_known notice [] = []
+each_known notice (k ∷ ks) = map (stranger_out k.id) (notes k.id (Some k.stranger) notice).sent ++ each_known notice ks
+
+abbrev pub strangers_send : List Profile → Reach → List Known → List Out
+strangers_send ps Nobody ks = []
+strangers_send ps (table.One id input) ks = map (stranger_out id) (stranger_step ps id (stranger_at id ks) input).sent
+strangers_send ps (Each notice) ks = each_known notice ks
+
 -- ---- the MME
 
 pub record World : Type 0 where
   pub sight : Sight
+  pub strangers : List Known
   pub subscribers : List Whole
 
 abbrev pub fresh_world : Config → Provisioned → World
 fresh_world config p = record {
   sight = record { config = config; clock = config.clock; stations = no_stations; profiles = p.profiles };
+  strangers = [];
   subscribers = fresh_subscribers config.network 0 p.profiles p.vectors;
 }
 
-abbrev pub items_of : Sight → Event → ℕ → Item
-items_of s event = called (happens s event).calls
+-- each stranger by its id
+abbrev pub strangers_in : World → ℕ → Option Stranger
+strangers_in w id = stranger_at id w.strangers
+
+-- by what every owner may see and by the strangers
+abbrev pub items_of : Sight → (ℕ → Option Stranger) → Event → ℕ → Item
+items_of s g event = called (calls_by (happens s event).reach (happens s event).calls s.profiles g)
 
 abbrev pub moved : World → Event → World
-moved w event = record { sight = sight_moved w.sight event; subscribers = each_after (items_of w.sight event) 0 w.subscribers }
+moved w event = record {
+  sight = sight_moved w.sight event;
+  strangers = reached w.sight.profiles (happens w.sight event).reach w.strangers;
+  subscribers = each_after (items_of w.sight (strangers_in w) event) 0 w.subscribers;
+}
 
 -- the MME after an event
 abbrev pub world_after : World → Event → World
@@ -161,18 +214,18 @@ world_run w (event ∷ events) = world_run (world_after w event) events
 
 -- ---- output: of the station, then of strangers, then of subscribers by slot
 
-abbrev pub station_out : ℕ → List ℕ → Out
-station_out e octets = record { owner = Station e; station = e; octets = octets }
+abbrev pub station_out : ℕ → Answer → Out
+station_out e a = owner_out (Station e) a
 
-abbrev pub station_sends : Option ℕ → List (List ℕ) → List Out
+abbrev pub station_sends : Option ℕ → List Answer → List Out
 station_sends None sends = []
 station_sends (Some e) sends = map (station_out e) sends
 
-abbrev pub front_sends : Sight → Event → List Out
-front_sends s event = station_sends (station_of event) (happens s event).sends ++ (happens s event).strangers
-
 abbrev pub outputs : World → Event → List Out
-outputs w event = front_sends w.sight event ++ each_sends (items_of w.sight event) 0 w.subscribers
+outputs w event =
+    station_sends (station_of event) (happens w.sight event).sends
+    ++ (strangers_send w.sight.profiles (happens w.sight event).reach w.strangers
+    ++ each_sends (items_of w.sight (strangers_in w) event) 0 w.subscribers)
 
 abbrev pub reply_of : Option StepFault → List Out → Result (List Out) StepFault
 reply_of None outs = Ok outs

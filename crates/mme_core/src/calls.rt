@@ -1,7 +1,8 @@
-//! Whom an event calls, and the states that it leads to.
+//! Whom an event reaches and calls, and what it leads to.
 
-use emm_machine::{Solo, SoloEvent};
-use identity_slots::Slot;
+use emm_machine::{Entry, Solo, SoloEvent, UeMessage};
+use identity_slots::{AssociationId, Slot};
+use stranger_machine::{After, Call, Notice};
 
 /// Who is told of an event, and what.
 #[derive(Drop)]
@@ -11,16 +12,37 @@ pub(crate) enum Calls<'a> {
     Everyone(SoloEvent<'a>),
 }
 
-/// An event that is lent to subscribers.
+/// The strangers that an event reaches, and what it is to them.
 #[derive(Drop)]
-pub(crate) struct Summons<'a> {
-    pub event: SoloEvent<'a>,
+pub(crate) enum Reach<'a> {
+    Nobody,
+    /// An INITIAL UE MESSAGE that names nobody, by the stranger's id.
+    Begins(AssociationId, Entry<&'a [u8]>),
+    /// A message with a stranger's id.
+    Told(UeMessage<&'a [u8]>),
+    Each(Notice),
 }
 
-/// Calls that are lent to subscribers.
+/// Whom an event reaches and calls, to be lent.
 #[derive(Drop)]
-pub(crate) struct Called<'a> {
+pub(crate) struct Summoned<'a> {
+    pub reach: Reach<'a>,
     pub calls: Calls<'a>,
+}
+
+/// What strangers are after an event, which they are not yet.
+#[derive(Drop)]
+pub(crate) enum Change {
+    Nobody,
+    One(AssociationId, After),
+    Each(Notice),
+}
+
+/// What strangers are after an event, and whom they call.
+#[derive(Drop)]
+pub(crate) struct Turned<'a> {
+    pub change: Change,
+    pub call: Option<Call<'a>>,
 }
 
 /// The states of subscribers after an event, which are not theirs yet.

@@ -1,93 +1,94 @@
 //! What a station that isn't down makes of the octets that it sends, and whom they call.
 
-ghost use Rattle.std.specs.Prelude.{◌≡◌, ◌≢◌, ◌-◌, ◌/◌, ◌%◌, ◌^◌, ◌≤◌, List, IfOk, IfErr, OnOk, Ok, Err, map};
-ghost use Rattle.s1ap_messages.specs.Pdus.{lists, decoded, encoded, initial_ue_message_lists};
+ghost use Rattle.std.specs.Prelude.{◌≡◌, ◌≢◌, ◌^◌, ◌≤◌, List, [], unwrap_or, IfOk, IfErr, OnOk, Ok, Err};
+ghost use Rattle.identity_slots.specs.Ids.{stranger_id};
+ghost use Rattle.s1ap_messages.specs.Pdus.{lists, decoded, initial_ue_message_lists};
 ghost use Rattle.s1ap_messages.specs.declared.fault.S1apFault.TheVariants as faults;
 ghost use Rattle.emm_machine.specs.declared.stations.StationState.{StationState};
 ghost use Rattle.emm_machine.specs.Steps.{body_lists, message_lists};
 ghost use Rattle.mme_core.specs.declared.event.StepFault.TheVariants.{NoMemory};
-ghost use Rattle.mme_core.specs.Seen.{calls_of, seen};
-ghost use Rattle.mme_core.specs.Stations.{answered_unknown, broadcasts, calling, cause_of, entered, enters, foreign_answers, hears, hears_message, indicated, indication, is_broadcast, not_compatible, out_of, reset, says, set_up, stranger_answers, telling, tells, told, told_slot, ue_message, written_octets};
-ghost use Rattle.mme_core.specs.declared.out.Owner.TheVariants as owners;
+ghost use Rattle.mme_core.specs.Seen.{seen};
+ghost use Rattle.mme_core.specs.Stations.{begins_anew, broadcasts, cause_of, entered, enters, hears, hears_message, indicated, indication, is_broadcast, not_compatible, reset, says, set_up, tells, told, told_slot, ue_message};
 
 use crate::answers::{cause_of, indication, setup_failure, setup_response};
-use crate::calls::Calls;
+use crate::calls::{Calls, Reach};
 use crate::config::Config;
 use crate::event::StepFault;
 use crate::naming::named_slot;
-use crate::out::{Out, Owner};
-use emm_machine::{
-    Entry, SentOctets, SoloEvent, StationNumber, StationState, UeBody, UeMessage, error_indication,
-    path_switch_failure, release_command,
-};
+use emm_machine::{Answers, Entry, SoloEvent, StationNumber, StationState, UeBody, UeMessage};
 use identity_slots::{AssociationId, Provision};
-use s1ap_elements::{
-    Cause, EnbUeId, MmeUeId, NasCause, Plmn, ProtocolCause, RadioNetworkCause, SupportedTa,
-};
-use s1ap_messages::{
-    EncodeFault, InitialUeMessage, Pdu, S1apFault, S1apPdu, SetupRequest, decode, encode,
-};
+use s1ap_elements::{Cause, EnbUeId, MmeUeId, Plmn, ProtocolCause, SupportedTa};
+use s1ap_messages::{InitialUeMessage, Pdu, S1apFault, S1apPdu, SetupRequest, decode};
 use std::alloc::Global;
+use stranger_machine::{Notice, saying, unknown};
 
-/// The new state of the station, where it has one, what it is told, what it is told for a stranger, and who is called.
+/// The new state of the station, where it has one, what it is told, the strangers that are reached, and who is called.
 #[derive(Drop)]
 pub(crate) struct Heard<'a> {
     pub state: Option<StationState>,
-    pub says: Option<SentOctets>,
-    pub stranger: Option<Out>,
+    pub says: Answers,
+    pub reach: Reach<'a>,
     pub calls: Calls<'a>,
 }
 
-fn says<'a>(octets: Option<SentOctets>) -> Heard<'a>
-    ensures { (state : StationState) (stations : List StationState) → seen state stations result ≡ says state (written_octets octets) }
+fn says<'a>(sends: Answers) -> Heard<'a>
+    ensures { (state : StationState) (stations : List StationState) → seen state stations result ≡ says state sends }
 {
     Heard {
         state: None,
-        says: octets,
-        stranger: None,
+        says: sends,
+        reach: Reach::Nobody,
         calls: Calls::NoOne,
     }
 }
 
-// The octets of a message that has a written form.
-fn octets_of(alloc: Global, message: &S1apPdu) -> Result<Option<SentOctets>, StepFault>
-    ensures value { IfOk result (λ octets. octets ≡ encoded (lists message.now)) }
-    ensures memory { IfErr result (λ fault. fault ≡ NoMemory) }
+// The associations of a station end, with what it is told, and the state that it begins anew in, where that is another.
+fn begins_anew<'a>(station: StationNumber, state: Option<StationState>, sends: Answers) -> Heard<'a>
+    ensures { (old : StationState) (stations : List StationState) → seen old stations result ≡ begins_anew station (unwrap_or state old) sends }
 {
-    match encode(alloc, message) {
-        Ok(octets) => Ok(Some(SentOctets::new(octets))),
-        Err(EncodeFault::NotWritable) => Ok(None),
-        Err(EncodeFault::NoMemory) => Err(StepFault::NoMemory),
+    Heard {
+        state,
+        says: sends,
+        reach: Reach::Each(Notice::Gone(station)),
+        calls: Calls::Everyone(SoloEvent::StationGone(station)),
     }
 }
 
 // What octets with a fault are answered with.
-fn hears_indication<'a>(alloc: Global, cause: Option<Cause>) -> Result<Heard<'a>, StepFault>
-    ensures rows { IfOk result (λ h. (state : StationState) (stations : List StationState) → seen state stations h ≡ says state (indicated cause)) }
+fn hears_indication<'a>(
+    alloc: Global,
+    station: StationNumber,
+    cause: Option<Cause>,
+) -> Result<Heard<'a>, StepFault>
+    ensures rows { IfOk result (λ h. (state : StationState) (stations : List StationState) → seen state stations h ≡ says state (indicated station cause)) }
     ensures memory { IfErr result (λ fault. fault ≡ NoMemory) }
 {
     match cause {
-        Some(cause) => Ok(says(octets_of(alloc, &indication(cause))?)),
-        None => Ok(says(None)),
+        Some(cause) => Ok(says(saying(alloc, station, &indication(cause))?)),
+        None => Ok(says(Answers::new(alloc))),
     }
 }
 
-fn hears_not_compatible<'a>(alloc: Global) -> Result<Heard<'a>, StepFault>
-    ensures rows { IfOk result (λ h. (state : StationState) (stations : List StationState) → seen state stations h ≡ not_compatible state) }
+fn hears_not_compatible<'a>(alloc: Global, station: StationNumber) -> Result<Heard<'a>, StepFault>
+    ensures rows { IfOk result (λ h. (state : StationState) (stations : List StationState) → seen state stations h ≡ not_compatible station state) }
     ensures memory { IfErr result (λ fault. fault ≡ NoMemory) }
 {
     let cause = Cause::Protocol(ProtocolCause::MessageNotCompatible);
-    hears_indication(alloc, Some(cause))
+    hears_indication(alloc, station, Some(cause))
 }
 
-fn hears_fault<'a>(alloc: Global, fault: S1apFault) -> Result<Heard<'a>, StepFault>
-    ensures rows { IfOk result (λ h. (state : StationState) (stations : List StationState) → seen state stations h ≡ says state (indicated (cause_of fault))) }
+fn hears_fault<'a>(
+    alloc: Global,
+    station: StationNumber,
+    fault: S1apFault,
+) -> Result<Heard<'a>, StepFault>
+    ensures rows { IfOk result (λ h. (state : StationState) (stations : List StationState) → seen state stations h ≡ says state (indicated station (cause_of fault))) }
     ensures other { OnOk result (fault ≢ faults.NoMemory) }
     ensures memory { IfErr result (λ fault. fault ≡ NoMemory) }
 {
     match fault {
         S1apFault::NoMemory => Err(StepFault::NoMemory),
-        _ => hears_indication(alloc, cause_of(&fault)),
+        _ => hears_indication(alloc, station, cause_of(&fault)),
     }
 }
 
@@ -119,24 +120,13 @@ fn hears_setup<'a>(
         supported_tas,
         paging_drx: _,
     } = request;
-    let calls = Calls::Everyone(SoloEvent::StationGone(station));
     if broadcasts(config.network.plmn, supported_tas.as_slice()) {
-        let response = setup_response(alloc, config)?;
-        let says = octets_of(alloc, &response)?;
-        Ok(Heard {
-            state: Some(StationState::Ready(supported_tas)),
-            says,
-            stranger: None,
-            calls,
-        })
+        let sends = saying(alloc, station, &setup_response(alloc, config)?)?;
+        let ready = StationState::Ready(supported_tas);
+        Ok(begins_anew(station, Some(ready), sends))
     } else {
-        let says = octets_of(alloc, &setup_failure())?;
-        Ok(Heard {
-            state: Some(StationState::Up),
-            says,
-            stranger: None,
-            calls,
-        })
+        let sends = saying(alloc, station, &setup_failure())?;
+        Ok(begins_anew(station, Some(StationState::Up), sends))
     }
 }
 
@@ -150,54 +140,18 @@ fn hears_reset<'a>(
 {
     match state {
         StationState::Ready(_) => {
-            let says = octets_of(alloc, &Pdu::ResetAcknowledge)?;
-            Ok(Heard {
-                state: None,
-                says,
-                stranger: None,
-                calls: Calls::Everyone(SoloEvent::StationGone(station)),
-            })
+            let sends = saying(alloc, station, &Pdu::ResetAcknowledge)?;
+            Ok(begins_anew(station, None, sends))
         }
-        StationState::Up | StationState::Down => hears_not_compatible(alloc),
+        StationState::Up | StationState::Down => hears_not_compatible(alloc, station),
     }
 }
 
-// A message that is sent for a stranger, where it has a written form.
-fn telling<'a>(owner: Owner, station: StationNumber, octets: Option<SentOctets>) -> Heard<'a>
-    ensures { (state : StationState) (stations : List StationState) → seen state stations result
-        ≡ telling state (map (out_of owner station) (written_octets octets)) }
+// The id of a stranger.
+fn stranger_id(station: StationNumber, enb_id: EnbUeId) -> AssociationId
+    ensures { result ≡ stranger_id station enb_id }
 {
-    let stranger = match octets {
-        Some(octets) => Some(Out {
-            owner,
-            station,
-            octets,
-        }),
-        None => None,
-    };
-    Heard {
-        state: None,
-        says: None,
-        stranger,
-        calls: Calls::NoOne,
-    }
-}
-
-// A foreign INITIAL UE MESSAGE is turned away.
-fn turns_away<'a>(
-    alloc: Global,
-    station: StationNumber,
-    enb_id: EnbUeId,
-) -> Result<Heard<'a>, StepFault>
-    ensures rows { IfOk result (λ h. (state : StationState) (stations : List StationState) → seen state stations h
-        ≡ telling state (foreign_answers station enb_id)) }
-    ensures memory { IfErr result (λ fault. fault ≡ NoMemory) }
-{
-    let number = enb_id.get() as u32;
-    let id = AssociationId::of_stranger(station.get(), number);
-    let command = release_command(id, enb_id, Cause::Nas(NasCause::Unspecified));
-    let octets = octets_of(alloc, &command)?;
-    Ok(telling(Owner::Stranger(station, number), station, octets))
+    AssociationId::of_stranger(station.get(), enb_id.get() as u32)
 }
 
 fn enters<'a>(
@@ -213,64 +167,44 @@ fn enters<'a>(
     ensures memory { IfErr result (λ fault. fault ≡ NoMemory) }
 {
     match state {
-        StationState::Down | StationState::Up => hears_not_compatible(alloc),
+        StationState::Down | StationState::Up => hears_not_compatible(alloc, station),
         StationState::Ready(_) => {
-            let named = named_slot(&config.network, provision, message.nas, message.s_tmsi);
-            match named {
-                Some(slot) => {
-                    let entry = Entry {
-                        station,
-                        enb_id: message.enb_id,
-                        nas: message.nas,
-                        tai: message.tai,
-                    };
+            let entry = Entry {
+                station,
+                enb_id: message.enb_id,
+                nas: message.nas,
+                tai: message.tai,
+            };
+            match named_slot(&config.network, provision, message.nas, message.s_tmsi) {
+                Some(slot) => Ok(Heard {
+                    state: None,
+                    says: Answers::new(alloc),
+                    reach: Reach::Nobody,
+                    calls: Calls::One(slot, SoloEvent::Initial(entry)),
+                }),
+                None => {
+                    let id = stranger_id(station, message.enb_id);
                     Ok(Heard {
                         state: None,
-                        says: None,
-                        stranger: None,
-                        calls: Calls::One(slot, SoloEvent::Initial(entry)),
+                        says: Answers::new(alloc),
+                        reach: Reach::Begins(id, entry),
+                        calls: Calls::NoOne,
                     })
                 }
-                None => turns_away(alloc, station, message.enb_id),
             }
         }
     }
 }
 
-// The answer to a message that names nobody, if any.
-fn answered_unknown(
-    alloc: Global,
-    message: &UeMessage<&[u8]>,
-) -> Result<Option<SentOctets>, StepFault>
-    ensures rows { IfOk result (λ o. written_octets o ≡ answered_unknown (message_lists message.now).body (message_lists message.now)) }
-    ensures memory { IfErr result (λ fault. fault ≡ NoMemory) }
+// The same message.
+fn again<'a>(message: &UeMessage<&'a [u8]>) -> UeMessage<&'a [u8]>
+    ensures { message_lists result ≡ message_lists message.now }
 {
-    let unknown = Cause::RadioNetwork(RadioNetworkCause::UnknownMmeUeS1apId);
-    match message.body {
-        UeBody::ReleaseComplete => Ok(None),
-        UeBody::PathSwitch => {
-            let failure = path_switch_failure(message.mme_id, message.enb_id, unknown);
-            octets_of(alloc, &failure)
-        }
-        UeBody::Uplink { nas: _, tai: _ }
-        | UeBody::ReleaseRequest { cause: _ }
-        | UeBody::ContextSetupFailure
-        | UeBody::Notice => {
-            let indication = error_indication(message.mme_id, message.enb_id, unknown);
-            octets_of(alloc, &indication)
-        }
-    }
-}
-
-// The stranger whose id is at or above 2^31.
-fn stranger_of(id: AssociationId) -> Owner
-    requires { 2 ^ 31 ≤ id }
-    ensures { result ≡ owners.Stranger ((id - 2 ^ 31) / 2 ^ 24) ((id - 2 ^ 31) % 2 ^ 24) }
-{
-    let pair = id.get() - 0x8000_0000;
-    match StationNumber::try_new((pair / 0x100_0000) as u8) {
-        Some(station) => Owner::Stranger(station, pair % 0x100_0000),
-        None => unreachable!(),
+    UeMessage {
+        station: message.station,
+        mme_id: message.mme_id,
+        enb_id: message.enb_id,
+        body: message.body.again(),
     }
 }
 
@@ -284,25 +218,21 @@ fn told<'a>(
     ensures memory { IfErr result (λ fault. fault ≡ NoMemory) }
 {
     if message.mme_id.get() >= 0x8000_0000 {
-        let octets = answered_unknown(alloc, message)?;
-        return Ok(telling(stranger_of(message.mme_id), message.station, octets));
+        return Ok(Heard {
+            state: None,
+            says: Answers::new(alloc),
+            reach: Reach::Told(again(message)),
+            calls: Calls::NoOne,
+        });
     }
     match provision.slot_of_association(message.mme_id) {
-        Some(slot) => {
-            let event = SoloEvent::Message(UeMessage {
-                station: message.station,
-                mme_id: message.mme_id,
-                enb_id: message.enb_id,
-                body: message.body.again(),
-            });
-            Ok(Heard {
-                state: None,
-                says: None,
-                stranger: None,
-                calls: Calls::One(slot, event),
-            })
-        }
-        None => Ok(says(answered_unknown(alloc, message)?)),
+        Some(slot) => Ok(Heard {
+            state: None,
+            says: Answers::new(alloc),
+            reach: Reach::Nobody,
+            calls: Calls::One(slot, SoloEvent::Message(again(message))),
+        }),
+        None => Ok(says(unknown(alloc, message)?)),
     }
 }
 
@@ -317,7 +247,7 @@ fn tells<'a>(
     ensures memory { IfErr result (λ fault. fault ≡ NoMemory) }
 {
     match state {
-        StationState::Down | StationState::Up => hears_not_compatible(alloc),
+        StationState::Down | StationState::Up => hears_not_compatible(alloc, message.station),
         StationState::Ready(_) => told(alloc, provision, message),
     }
 }
@@ -367,7 +297,7 @@ fn hears_message<'a>(
     match message {
         Pdu::SetupRequest(m) => hears_setup(alloc, config, station, m),
         Pdu::Reset(_) => hears_reset(alloc, station, state),
-        Pdu::ErrorIndication(_) | Pdu::ResetAcknowledge => Ok(says(None)),
+        Pdu::ErrorIndication(_) | Pdu::ResetAcknowledge => Ok(says(Answers::new(alloc))),
         Pdu::InitialUeMessage(m) => enters(alloc, config, provision, station, state, m),
         Pdu::UplinkNasTransport(m) => {
             let body = UeBody::Uplink {
@@ -440,7 +370,7 @@ fn hears_message<'a>(
         | Pdu::ReleaseCommand(_)
         | Pdu::Paging(_)
         | Pdu::PathSwitchAcknowledge(_)
-        | Pdu::PathSwitchFailure(_) => hears_not_compatible(alloc),
+        | Pdu::PathSwitchFailure(_) => hears_not_compatible(alloc, station),
     }
 }
 
@@ -459,6 +389,6 @@ pub(crate) fn hears<'a>(
 {
     match decode(alloc, octets) {
         Ok(message) => hears_message(alloc, config, provision, station, state, message),
-        Err(fault) => hears_fault(alloc, fault),
+        Err(fault) => hears_fault(alloc, station, fault),
     }
 }

@@ -1,58 +1,88 @@
 //! The MME.
 
-ghost use Rattle.std.specs.Prelude.{◌≡◌, ◌≢◌, ◌+◌, ◌<◌, ◌≤◌, ◌++◌, [], ℕ, map, length, slice_get, slice_set, option_map, unwrap_or, IfOk, IfErr, OnOk, OnErr, Ok, Err, Some, None};
+ghost use Rattle.std.specs.Prelude.{◌≡◌, ◌≢◌, ◌+◌, ◌<◌, ◌≤◌, ◌++◌, [], ℕ, List, map, length, slice_get, slice_set, unwrap_or, IfOk, IfErr, IsOk, OnOk, OnErr, Ok, Err, Some, None};
 ghost use Rattle.identity_slots.specs.Provisioned.{slot_of_imsi};
 ghost use Rattle.emm_machine.specs.Stations.{station_at};
 ghost use Rattle.emm_machine.specs.Whole.{Whole};
-ghost use Rattle.emm_machine.specs.Words.{states_of};
-ghost use Rattle.mme_core.specs.declared.event.StepFault.TheVariants.{NoMemory};
-ghost use Rattle.mme_core.specs.declared.event.Event.TheVariants as events;
-ghost use Rattle.mme_core.specs.Projection.{AllInOrder, AreInOrder, alone_after, front_alone, front_in, projection, station_run, states_at, told, told_alone};
+ghost use Rattle.emm_machine.specs.declared.stations.StationState.{StationState};
 ghost use Rattle.emm_machine.specs.Steps.{item_of};
-ghost use Rattle.mme_core.specs.Seen.{IsFor, calls_of, listed, settled, solos_after, with_solo, with_solos};
-ghost use Rattle.mme_core.specs.Stations.{Everyone, One, written_octets};
-ghost use Rattle.mme_core.specs.World.{World, called, each_after, each_sends, fresh_subscribers, fresh_world, given, replies, reply, slot_out, station_out, taken, world_after, world_run};
+ghost use Rattle.emm_machine.specs.declared.stations.StationState.TheVariants as states;
+ghost use Rattle.ordered_lists.specs.Ordered.{Rising};
+ghost use Rattle.stranger_machine.specs.Table.{known_id, reached, stranger_at};
+ghost use Rattle.stranger_machine.specs.Turns.{call_of};
+ghost use Rattle.mme_core.specs.declared.calls.Change.TheVariants as changes;
+ghost use Rattle.mme_core.specs.declared.event.Event.TheVariants as events;
+ghost use Rattle.mme_core.specs.declared.event.StepFault.TheVariants.{NoMemory};
+ghost use Rattle.mme_core.specs.Projection.{AllInOrder, AreInOrder, alone_after, is_slot, is_station, is_stranger, projection, silence, station_run, station_told, states_at, stranger_run, stranger_told, subscriber_told, told};
+ghost use Rattle.mme_core.specs.Seen.{IsFor, calls_of, changed, reach_of, seen, settled, solos_after, with_solo, with_solos};
+ghost use Rattle.mme_core.specs.Stations.{Everyone, One};
+ghost use Rattle.mme_core.specs.Ready.{placed, ready_world};
+ghost use Rattle.mme_core.specs.World.{World, called, calls_by, each_after, each_known, each_sends, fault_of, fresh_subscribers, fresh_world, given, happens, owner_out, reach_call, replies, reply, station_sends, stranger_out, strangers_in, strangers_send, taken, with_call, world_after, world_run};
 
-use crate::calls::{Called, Calls, Prepared, Summons};
+use crate::calls::{Calls, Change, Prepared, Reach, Summoned, Turned};
 use crate::config::Config;
 use crate::event::{Event, StepFault};
 use crate::hearing::{Heard, hears};
 use crate::out::{Out, Outs, Owner};
 use emm_machine::{
-    Answers, Draft, EnbWorld, Network, SentOctets, Solo, SoloEvent, States, StationNumber,
-    StationState, Subscriber,
+    Answers, Draft, EnbWorld, Network, Solo, SoloEvent, States, StationNumber, StationState,
+    Subscriber,
 };
-use identity_slots::{Provision, Slot, Vector};
+use identity_slots::{AssociationId, Provision, Slot, Vector};
 use nas_elements::Imsi;
 use std::alloc::{AllocError, Global};
 use std::marker::Model;
+use stranger_machine::{Call, Known, Notice, Strangers, Turn, begins, told};
 
 /// The last tick of the clock.
 const LAST_TICK: u64 = 1 << 62;
 
-/// An MME with its stations and its subscribers; a contract sees what every owner may see, and each subscriber.
+/// An MME with its stations, strangers and subscribers; a contract sees what every owner may see, the strangers that aren't
+/// closed, and each subscriber.
 #[derive(Drop)]
 pub struct Mme {
     config: Config,
     clock: u64,
     stations: EnbWorld,
     provision: Provision,
+    strangers: Strangers,
     subscribers: Vec<Subscriber>,
     alloc: Global,
 }
 
 impl Model for Mme {
     ghost use Rattle.std.specs.Prelude.{◌≡◌, ◌≤◌, length};
+    ghost use Rattle.ordered_lists.specs.Ordered.{Rising};
+    ghost use Rattle.stranger_machine.specs.Table.{known_id};
     ghost use Rattle.mme_core.specs.World.{World};
 
     ghost Value = { World };
 
     ghost view = { λ m. record {
       sight = record { config = m.config; clock = m.clock; stations = m.stations; profiles = m.provision.profiles };
+      strangers = m.strangers;
       subscribers = m.subscribers.items;
     } };
 
-    ghost invariant = { λ m. (length m.subscribers.items ≤ 2048) × (length m.stations ≡ 128) };
+    ghost invariant = { λ m. (length m.subscribers.items ≤ 2048) × (length m.stations ≡ 128) × Rising known_id m.strangers };
+}
+
+/// What an event makes of the station that it is of, if it is of one, and of the clock.
+#[derive(Drop)]
+pub(crate) struct Moves {
+    station: Option<StationNumber>,
+    state: Option<StationState>,
+    clock: u64,
+}
+
+/// What an event that isn't refused leads to, before it is taken: what it makes of its station and the clock, what strangers and
+/// subscribers are after it, and what is sent.
+#[derive(Drop)]
+pub(crate) struct Ready {
+    moves: Moves,
+    change: Change,
+    prepared: Prepared,
+    outs: Outs,
 }
 
 impl Mme {
@@ -68,6 +98,7 @@ impl Mme {
             clock,
             stations,
             provision,
+            strangers: Strangers::new(alloc),
             subscribers,
             alloc,
         })
@@ -99,30 +130,54 @@ impl Mme {
         ensures err { OnErr result (self.new ≡ self.old) }
     {
         match event {
-            Event::Up(station) => self.up(station),
-            Event::Lost(station) => self.lost(station),
-            Event::In(station, octets) => self.hear(station, octets),
-            Event::Tick => self.tick(),
-            Event::Data(imsi) => self.data(imsi),
-            Event::Cancel(imsi) => self.cancel(imsi),
+            Event::Up(station) => {
+                let ready = self.rise(station);
+                self.conclude(ready)
+            }
+            Event::Lost(station) => {
+                let ready = self.fall(station);
+                self.conclude(ready)
+            }
+            Event::In(station, octets) => {
+                let ready = self.hear(station, octets);
+                self.conclude(ready)
+            }
+            Event::Tick => {
+                let ready = self.tick();
+                self.conclude(ready)
+            }
+            Event::Data(imsi) => {
+                let ready = self.data(imsi);
+                self.conclude(ready)
+            }
+            Event::Cancel(imsi) => {
+                let ready = self.cancel(imsi);
+                self.conclude(ready)
+            }
         }
     }
 
     /// Events in order, each by `step`; room for all replies is made first, and a refused run has taken no event.
-    /// In the replies each slot has what its machine alone sends over its own items, and stations and strangers have what the
-    /// events and the provisioning make for them, whatever the subscribers do.
+    /// In the replies each station, stranger and slot has what its machine alone sends over its own inputs, whatever else the
+    /// list holds, and nothing else is sent; and each is in the state of its machine.
     pub fn run(&mut self, events: &[Event]) -> Result<Vec<Result<Outs, StepFault>>, AllocError>
         ensures count { IfOk result (λ rs. length rs.items ≡ length events.now) }
         ensures replies { IfOk result (λ rs. given rs.items ≡ replies self.old (taken events.now rs.items)) }
         ensures after { IfOk result (λ rs. self.new ≡ world_run self.old (taken events.now rs.items)) }
         ensures told { IfOk result (λ rs. (slot : ℕ) (w : Whole) → slice_get self.old.subscribers slot ≡ Some w →
-            told slot (given rs.items) ≡ told_alone w (projection slot self.old.sight (taken events.now rs.items))) }
+            told (is_slot slot) (given rs.items) ≡ subscriber_told w (projection slot self.old.sight (strangers_in self.old) (taken events.now rs.items))) }
         ensures states { IfOk result (λ rs. (slot : ℕ) (w : Whole) → slice_get self.old.subscribers slot ≡ Some w →
-            slice_get self.new.subscribers slot ≡ Some (alone_after w (projection slot self.old.sight (taken events.now rs.items)))) }
-        ensures front { IfOk result (λ rs. map front_in (given rs.items) ≡ front_alone self.old.sight (taken events.now rs.items)) }
-        ensures order { IfOk result (λ rs. AllInOrder rs.items) }
-        ensures stations { IfOk result (λ rs. (e : ℕ) → e < 128 →
+            slice_get self.new.subscribers slot ≡ Some (alone_after w (projection slot self.old.sight (strangers_in self.old) (taken events.now rs.items)))) }
+        ensures absent { IfOk result (λ rs. (slot : ℕ) → slice_get self.old.subscribers slot ≡ None →
+            told (is_slot slot) (given rs.items) ≡ silence (taken events.now rs.items)) }
+        ensures strangers { IfOk result (λ rs. (id : ℕ) →
+            told (is_stranger id) (given rs.items) ≡ stranger_told self.old.sight id (stranger_at id self.old.strangers) (taken events.now rs.items)) }
+        ensures stranger_states { IfOk result (λ rs. (id : ℕ) →
+            stranger_at id self.new.strangers ≡ stranger_run self.old.sight id (stranger_at id self.old.strangers) (taken events.now rs.items)) }
+        ensures stations { IfOk result (λ rs. (e : ℕ) → told (is_station e) (given rs.items) ≡ station_told self.old.sight e (taken events.now rs.items)) }
+        ensures station_states { IfOk result (λ rs. (e : ℕ) → e < 128 →
             station_at self.new.sight.stations e ≡ station_run self.old.sight e (station_at self.old.sight.stations e) (taken events.now rs.items)) }
+        ensures order { IfOk result (λ rs. AllInOrder rs.items) }
         ensures err { OnErr result (self.new ≡ self.old) }
     {
         let mut replies = Vec::with_capacity(self.alloc, events.len())?;
@@ -133,57 +188,76 @@ impl Mme {
         Ok(replies)
     }
 
-    fn up(&mut self, station: StationNumber) -> Result<Outs, StepFault>
-        ensures reply { IfOk result (λ outs. reply self.old (events.Up station) ≡ Ok outs) }
-        ensures after { OnOk result (self.new ≡ world_after self.old (events.Up station)) }
-        ensures refused { IfErr result (λ fault. fault ≢ NoMemory → reply self.old (events.Up station) ≡ Err fault) }
-        ensures err { OnErr result (self.new ≡ self.old) }
+    // A station connects.
+    fn rise(&self, station: StationNumber) -> Result<Ready, StepFault>
+        ensures reply { IfOk result (λ r. reply self.now (events.Up station) ≡ Ok r.outs) }
+        ensures after { IfOk result (λ r. ready_world r self.now ≡ world_after self.now (events.Up station)) }
+        ensures fits { IfOk result (λ r. IsFor r.prepared self.now.subscribers) }
+        ensures rising { IfOk result (λ r. Rising known_id (changed r.change self.now.strangers)) }
+        ensures order { IfOk result (λ r. AreInOrder r.outs) }
+        ensures refused { IfErr result (λ fault. fault ≢ NoMemory → reply self.now (events.Up station) ≡ Err fault) }
     {
         match self.stations.get(station) {
-            StationState::Down => {
-                self.stations.set(station, StationState::Up);
-                Ok(Outs::new(self.alloc))
-            }
-            StationState::Up | StationState::Ready(_) => Err(StepFault::AlreadyUp),
+            StationState::Down => {}
+            StationState::Up | StationState::Ready(_) => return Err(StepFault::AlreadyUp),
         }
+        let summoned = Summoned {
+            reach: Reach::Nobody,
+            calls: Calls::NoOne,
+        };
+        let moves = Moves {
+            station: Some(station),
+            state: Some(StationState::Up),
+            clock: self.clock,
+        };
+        let says = Answers::new(self.alloc);
+        self.ready(moves, &says, &summoned.reach, &summoned.calls)
     }
 
-    fn lost(&mut self, station: StationNumber) -> Result<Outs, StepFault>
-        ensures reply { IfOk result (λ outs. reply self.old (events.Lost station) ≡ Ok outs) }
-        ensures after { OnOk result (self.new ≡ world_after self.old (events.Lost station)) }
-        ensures refused { IfErr result (λ fault. fault ≢ NoMemory → reply self.old (events.Lost station) ≡ Err fault) }
-        ensures err { OnErr result (self.new ≡ self.old) }
+    // A station's connection is lost.
+    fn fall(&self, station: StationNumber) -> Result<Ready, StepFault>
+        ensures reply { IfOk result (λ r. reply self.now (events.Lost station) ≡ Ok r.outs) }
+        ensures after { IfOk result (λ r. ready_world r self.now ≡ world_after self.now (events.Lost station)) }
+        ensures fits { IfOk result (λ r. IsFor r.prepared self.now.subscribers) }
+        ensures rising { IfOk result (λ r. Rising known_id (changed r.change self.now.strangers)) }
+        ensures order { IfOk result (λ r. AreInOrder r.outs) }
+        ensures refused { IfErr result (λ fault. fault ≢ NoMemory → reply self.now (events.Lost station) ≡ Err fault) }
     {
         if let StationState::Down = self.stations.get(station) {
             return Err(StepFault::NotUp);
         }
-        let mut outs = Outs::new(self.alloc);
-        let summons = Summons {
-            event: SoloEvent::StationGone(station),
+        let summoned = Summoned {
+            reach: Reach::Each(Notice::Gone(station)),
+            calls: Calls::Everyone(SoloEvent::StationGone(station)),
         };
-        let solos = prepare_everyone(
-            self.alloc,
-            self.subscribers.as_slice(),
-            &summons.event,
-            &self.stations,
-            &mut outs,
-        )?;
-        self.stations.set(station, StationState::Down);
-        settle_everyone(&mut self.subscribers, solos);
-        Ok(outs)
+        let moves = Moves {
+            station: Some(station),
+            state: Some(StationState::Down),
+            clock: self.clock,
+        };
+        let says = Answers::new(self.alloc);
+        self.ready(moves, &says, &summoned.reach, &summoned.calls)
     }
 
-    fn hear(&mut self, station: StationNumber, octets: &[u8]) -> Result<Outs, StepFault>
-        ensures reply { IfOk result (λ outs. reply self.old (events.In station octets.entry) ≡ Ok outs) }
-        ensures after { OnOk result (self.new ≡ world_after self.old (events.In station octets.entry)) }
-        ensures refused { IfErr result (λ fault. fault ≢ NoMemory → reply self.old (events.In station octets.entry) ≡ Err fault) }
-        ensures err { OnErr result (self.new ≡ self.old) }
+    // A station sends a message.
+    fn hear(&self, station: StationNumber, octets: &[u8]) -> Result<Ready, StepFault>
+        ensures reply { IfOk result (λ r. reply self.now (events.In station octets.entry) ≡ Ok r.outs) }
+        ensures after { IfOk result (λ r. ready_world r self.now ≡ world_after self.now (events.In station octets.entry)) }
+        ensures fits { IfOk result (λ r. IsFor r.prepared self.now.subscribers) }
+        ensures rising { IfOk result (λ r. Rising known_id (changed r.change self.now.strangers)) }
+        ensures order { IfOk result (λ r. AreInOrder r.outs) }
+        ensures refused { IfErr result (λ fault. fault ≢ NoMemory → reply self.now (events.In station octets.entry) ≡ Err fault) }
     {
         let state = self.stations.get(station);
         if let StationState::Down = state {
             return Err(StepFault::NotUp);
         }
-        let heard = hears(
+        let Heard {
+            state,
+            says,
+            reach,
+            calls,
+        } = hears(
             self.alloc,
             &self.config,
             &self.provision,
@@ -191,114 +265,266 @@ impl Mme {
             state,
             octets,
         )?;
-        let Heard {
+        let summoned = Summoned { reach, calls };
+        let moves = Moves {
+            station: Some(station),
             state,
-            says,
-            stranger,
-            calls,
-        } = heard;
-        let called = Called { calls };
-        let mut outs = outs_to(self.alloc, station, says, stranger)?;
-        let prepared = prepare(
-            self.alloc,
-            self.subscribers.as_slice(),
-            &called.calls,
-            &self.stations,
-            &mut outs,
-        )?;
-        settle_station(&mut self.stations, station, state);
-        settle(&mut self.subscribers, prepared);
-        Ok(outs)
+            clock: self.clock,
+        };
+        self.ready(moves, &says, &summoned.reach, &summoned.calls)
     }
 
-    fn tick(&mut self) -> Result<Outs, StepFault>
-        ensures reply { IfOk result (λ outs. reply self.old events.Tick ≡ Ok outs) }
-        ensures after { OnOk result (self.new ≡ world_after self.old events.Tick) }
-        ensures refused { IfErr result (λ fault. fault ≢ NoMemory → reply self.old events.Tick ≡ Err fault) }
-        ensures err { OnErr result (self.new ≡ self.old) }
+    // A second has passed.
+    fn tick(&self) -> Result<Ready, StepFault>
+        ensures reply { IfOk result (λ r. reply self.now events.Tick ≡ Ok r.outs) }
+        ensures after { IfOk result (λ r. ready_world r self.now ≡ world_after self.now events.Tick) }
+        ensures fits { IfOk result (λ r. IsFor r.prepared self.now.subscribers) }
+        ensures rising { IfOk result (λ r. Rising known_id (changed r.change self.now.strangers)) }
+        ensures order { IfOk result (λ r. AreInOrder r.outs) }
+        ensures refused { IfErr result (λ fault. fault ≢ NoMemory → reply self.now events.Tick ≡ Err fault) }
     {
         if self.clock >= LAST_TICK {
             return Err(StepFault::ClockSpent);
         }
-        let summons = Summons {
-            event: SoloEvent::Tick,
+        let summoned = Summoned {
+            reach: Reach::Each(Notice::Tick),
+            calls: Calls::Everyone(SoloEvent::Tick),
         };
-        let mut outs = Outs::new(self.alloc);
-        let solos = prepare_everyone(
-            self.alloc,
-            self.subscribers.as_slice(),
-            &summons.event,
-            &self.stations,
-            &mut outs,
-        )?;
-        self.clock += 1;
-        settle_everyone(&mut self.subscribers, solos);
-        Ok(outs)
+        let moves = Moves {
+            station: None,
+            state: None,
+            clock: self.clock + 1,
+        };
+        let says = Answers::new(self.alloc);
+        self.ready(moves, &says, &summoned.reach, &summoned.calls)
     }
 
-    fn data(&mut self, imsi: Imsi) -> Result<Outs, StepFault>
-        ensures reply { IfOk result (λ outs. reply self.old (events.Data imsi) ≡ Ok outs) }
-        ensures after { OnOk result (self.new ≡ world_after self.old (events.Data imsi)) }
-        ensures refused { IfErr result (λ fault. fault ≢ NoMemory → reply self.old (events.Data imsi) ≡ Err fault) }
-        ensures err { OnErr result (self.new ≡ self.old) }
+    // Downlink data waits.
+    fn data(&self, imsi: Imsi) -> Result<Ready, StepFault>
+        ensures reply { IfOk result (λ r. reply self.now (events.Data imsi) ≡ Ok r.outs) }
+        ensures after { IfOk result (λ r. ready_world r self.now ≡ world_after self.now (events.Data imsi)) }
+        ensures fits { IfOk result (λ r. IsFor r.prepared self.now.subscribers) }
+        ensures rising { IfOk result (λ r. Rising known_id (changed r.change self.now.strangers)) }
+        ensures order { IfOk result (λ r. AreInOrder r.outs) }
+        ensures refused { IfErr result (λ fault. fault ≢ NoMemory → reply self.now (events.Data imsi) ≡ Err fault) }
     {
         let Some(slot) = self.provision.slot_of_imsi(imsi) else {
             return Err(StepFault::UnknownImsi);
         };
-        let summons = Summons {
-            event: SoloEvent::Data,
+        let summoned = Summoned {
+            reach: Reach::Nobody,
+            calls: Calls::One(slot, SoloEvent::Data),
         };
-        let mut outs = Outs::new(self.alloc);
-        let prepared = prepare_one(
-            self.alloc,
-            self.subscribers.as_slice(),
-            slot,
-            &summons.event,
-            &self.stations,
-            &mut outs,
-        )?;
-        settle(&mut self.subscribers, prepared);
-        Ok(outs)
+        let moves = Moves {
+            station: None,
+            state: None,
+            clock: self.clock,
+        };
+        let says = Answers::new(self.alloc);
+        self.ready(moves, &says, &summoned.reach, &summoned.calls)
     }
 
-    fn cancel(&mut self, imsi: Imsi) -> Result<Outs, StepFault>
-        ensures reply { IfOk result (λ outs. reply self.old (events.Cancel imsi) ≡ Ok outs) }
-        ensures after { OnOk result (self.new ≡ world_after self.old (events.Cancel imsi)) }
-        ensures refused { IfErr result (λ fault. fault ≢ NoMemory → reply self.old (events.Cancel imsi) ≡ Err fault) }
-        ensures err { OnErr result (self.new ≡ self.old) }
+    // A subscription is withdrawn.
+    fn cancel(&self, imsi: Imsi) -> Result<Ready, StepFault>
+        ensures reply { IfOk result (λ r. reply self.now (events.Cancel imsi) ≡ Ok r.outs) }
+        ensures after { IfOk result (λ r. ready_world r self.now ≡ world_after self.now (events.Cancel imsi)) }
+        ensures fits { IfOk result (λ r. IsFor r.prepared self.now.subscribers) }
+        ensures rising { IfOk result (λ r. Rising known_id (changed r.change self.now.strangers)) }
+        ensures order { IfOk result (λ r. AreInOrder r.outs) }
+        ensures refused { IfErr result (λ fault. fault ≢ NoMemory → reply self.now (events.Cancel imsi) ≡ Err fault) }
     {
         let Some(slot) = self.provision.slot_of_imsi(imsi) else {
             return Err(StepFault::UnknownImsi);
         };
-        let summons = Summons {
-            event: SoloEvent::Cancel,
+        let summoned = Summoned {
+            reach: Reach::Nobody,
+            calls: Calls::One(slot, SoloEvent::Cancel),
         };
-        let mut outs = Outs::new(self.alloc);
-        let prepared = prepare_one(
+        let moves = Moves {
+            station: None,
+            state: None,
+            clock: self.clock,
+        };
+        let says = Answers::new(self.alloc);
+        self.ready(moves, &says, &summoned.reach, &summoned.calls)
+    }
+
+    // What an event leads to, on copies.
+    fn ready<'a>(
+        &'a self,
+        moves: Moves,
+        says: &Answers,
+        reach: &Reach<'a>,
+        calls: &Calls<'a>,
+    ) -> Result<Ready, StepFault>
+        ensures sent { IfOk result (λ r. r.outs ≡ station_sends moves.station says.now
+            ++ (strangers_send self.entry.now.sight.profiles (reach_of reach.now) self.entry.now.strangers
+            ++ each_sends (called (calls_by (reach_of reach.now) (calls_of calls.now self.entry.now.sight.stations) self.entry.now.sight.profiles (strangers_in self.entry.now))) 0 self.entry.now.subscribers)) }
+        ensures strangers { IfOk result (λ r. changed r.change self.entry.now.strangers ≡ reached self.entry.now.sight.profiles (reach_of reach.now) self.entry.now.strangers) }
+        ensures subscribers { IfOk result (λ r. settled r.prepared self.entry.now.subscribers
+            ≡ each_after (called (calls_by (reach_of reach.now) (calls_of calls.now self.entry.now.sight.stations) self.entry.now.sight.profiles (strangers_in self.entry.now))) 0 self.entry.now.subscribers) }
+        ensures fits { IfOk result (λ r. IsFor r.prepared self.entry.now.subscribers) }
+        ensures moves { IfOk result (λ r. r.moves ≡ moves) }
+        ensures rising { IfOk result (λ r. Rising known_id (changed r.change self.entry.now.strangers)) }
+        ensures order { IfOk result (λ r. AreInOrder r.outs) }
+        ensures memory { IfErr result (λ fault. fault ≡ NoMemory) }
+    {
+        let mut outs = station_outs(self.alloc, moves.station, says)?;
+        let (provision, strangers) = (&self.provision, &self.strangers);
+        let turned = turn(self.alloc, provision, strangers, reach, &mut outs)?;
+        let prepared = prepare_called(
             self.alloc,
             self.subscribers.as_slice(),
-            slot,
-            &summons.event,
+            &turned.call,
+            calls,
             &self.stations,
             &mut outs,
         )?;
+        let Turned { change, call: _ } = turned;
+        Ok(Ready {
+            moves,
+            change,
+            prepared,
+            outs,
+        })
+    }
+
+    // What was prepared is so, if it was.
+    fn conclude(&mut self, ready: Result<Ready, StepFault>) -> Result<Outs, StepFault>
+        requires fits { IfOk ready (λ r. IsFor r.prepared self.old.subscribers) }
+        requires rising { IfOk ready (λ r. Rising known_id (changed r.change self.old.strangers)) }
+        ensures after { OnOk result (IfOk ready (λ r. self.new ≡ ready_world r self.old)) }
+        ensures outs { IfOk result (λ outs. IfOk ready (λ r. outs ≡ r.outs)) }
+        ensures ok { OnOk result (IsOk ready) }
+        ensures refused { IfErr result (λ fault. fault ≢ NoMemory → ready ≡ Err fault) }
+        ensures err { OnErr result (self.new ≡ self.old) }
+    {
+        match ready {
+            Ok(ready) => self.take(ready),
+            Err(fault) => Err(fault),
+        }
+    }
+
+    // What was prepared is so. Room for a stranger comes first; refused, all is as it was.
+    fn take(&mut self, ready: Ready) -> Result<Outs, StepFault>
+        requires fits { IsFor ready.prepared self.old.subscribers }
+        requires rising { Rising known_id (changed ready.change self.old.strangers) }
+        ensures after { OnOk result (self.new ≡ ready_world ready self.old) }
+        ensures outs { IfOk result (λ outs. outs ≡ ready.outs) }
+        ensures memory { IfErr result (λ fault. fault ≡ NoMemory) }
+        ensures err { OnErr result (self.new ≡ self.old) }
+    {
+        let Ready {
+            moves,
+            change,
+            prepared,
+            outs,
+        } = ready;
+        let Moves {
+            station,
+            state,
+            clock,
+        } = moves;
+        settle_strangers(&mut self.strangers, change)?;
+        settle_station(&mut self.stations, station, state);
+        self.clock = clock;
         settle(&mut self.subscribers, prepared);
         Ok(outs)
     }
 }
 
-// What a subscriber sends, behind what is sent so far.
-fn send_all(alloc: Global, outs: &mut Outs, slot: Slot, answers: &Answers) -> Result<(), AllocError>
-    ensures { OnOk result (outs.new ≡ outs.old ++ map (slot_out slot) answers.now) }
+// What an owner's machine sends, behind what is sent so far.
+fn send_all(
+    alloc: Global,
+    outs: &mut Outs,
+    owner: Owner,
+    answers: &Answers,
+) -> Result<(), AllocError>
+    ensures { OnOk result (outs.new ≡ outs.old ++ map (owner_out owner) answers.now) }
 {
     for answer in answers.as_slice() {
         outs.push(Out {
-            owner: Owner::Subscriber(slot),
+            owner,
             station: answer.station,
             octets: answer.octets.copy(alloc)?,
         })?;
     }
     Ok(())
+}
+
+// What a station is told for itself.
+fn station_outs(
+    alloc: Global,
+    station: Option<StationNumber>,
+    sends: &Answers,
+) -> Result<Outs, AllocError>
+    ensures { IfOk result (λ outs. outs ≡ station_sends station sends.now) }
+{
+    let mut outs = Outs::new(alloc);
+    if let Some(station) = station {
+        send_all(alloc, &mut outs, Owner::Station(station), sends)?;
+    }
+    Ok(outs)
+}
+
+// What each stranger sends at a notice, by id, behind what is sent so far.
+fn send_each(
+    alloc: Global,
+    known: &[Known],
+    notice: &Notice,
+    outs: &mut Outs,
+) -> Result<(), AllocError>
+    ensures { OnOk result (outs.new ≡ outs.old ++ each_known notice.now known.now) }
+{
+    for stranger in known {
+        let sent = stranger.sends(alloc, notice)?;
+        send_all(alloc, outs, Owner::Stranger(stranger.id), &sent)?;
+    }
+    Ok(())
+}
+
+// What strangers do at an event, with what they send behind what is sent so far, and whom they call.
+fn turn<'a>(
+    alloc: Global,
+    provision: &Provision,
+    strangers: &'a Strangers,
+    reach: &Reach<'a>,
+    outs: &mut Outs,
+) -> Result<Turned<'a>, AllocError>
+    ensures sends { OnOk result (outs.new ≡ outs.old ++ strangers_send provision.now.profiles (reach_of reach.now) strangers.entry.now) }
+    ensures change { IfOk result (λ t. changed t.change strangers.entry.now ≡ reached provision.now.profiles (reach_of reach.now) strangers.entry.now) }
+    ensures call { IfOk result (λ t. (stations : List StationState) → call_of stations t.call ≡ reach_call provision.now.profiles (reach_of reach.now) (λ id. stranger_at id strangers.entry.now)) }
+{
+    match reach {
+        Reach::Nobody => Ok(Turned {
+            change: Change::Nobody,
+            call: None,
+        }),
+        Reach::Begins(id, entry) => {
+            let Turn { after, sent, call } = begins(alloc, *id, strangers.find(*id), entry)?;
+            send_all(alloc, outs, Owner::Stranger(*id), &sent)?;
+            Ok(Turned {
+                change: Change::One(*id, after),
+                call,
+            })
+        }
+        Reach::Told(message) => {
+            let id = message.mme_id;
+            let Turn { after, sent, call } = told(alloc, provision, strangers.find(id), message)?;
+            send_all(alloc, outs, Owner::Stranger(id), &sent)?;
+            Ok(Turned {
+                change: Change::One(id, after),
+                call,
+            })
+        }
+        Reach::Each(notice) => {
+            send_each(alloc, strangers.as_slice(), notice, outs)?;
+            Ok(Turned {
+                change: Change::Each(*notice),
+                call: None,
+            })
+        }
+    }
 }
 
 // The slot of a place.
@@ -361,7 +587,7 @@ fn prepare_everyone(
             sent,
             accepted: _,
         } = subscriber.prepare(event, stations)?;
-        send_all(alloc, outs, slot_of(place), &sent)?;
+        send_all(alloc, outs, Owner::Subscriber(slot_of(place)), &sent)?;
         solos.push(solo)?;
     }
     Ok(solos)
@@ -389,7 +615,7 @@ fn prepare_one(
         sent,
         accepted: _,
     } = subscribers[place].prepare(event, stations)?;
-    send_all(alloc, outs, slot, &sent)?;
+    send_all(alloc, outs, Owner::Subscriber(slot), &sent)?;
     Ok(Prepared::One(slot, solo))
 }
 
@@ -413,6 +639,29 @@ fn prepare(
             let solos = prepare_everyone(alloc, subscribers, event, stations, outs)?;
             Ok(Prepared::Everyone(solos))
         }
+    }
+}
+
+// The states of those whom a stranger calls, else of those whom the event calls, likewise.
+fn prepare_called(
+    alloc: Global,
+    subscribers: &[Subscriber],
+    call: &Option<Call>,
+    calls: &Calls,
+    stations: &EnbWorld,
+    outs: &mut Outs,
+) -> Result<Prepared, AllocError>
+    requires few { length subscribers.now ≤ 2048 }
+    ensures after { IfOk result (λ p. settled p subscribers.now ≡ each_after (called (with_call (call_of stations.now call.now) (calls_of calls.now stations.now))) 0 subscribers.now) }
+    ensures fits { IfOk result (λ p. IsFor p subscribers.now) }
+    ensures sends { OnOk result (outs.new ≡ outs.old ++ each_sends (called (with_call (call_of stations.now call.now) (calls_of calls.now stations.now))) 0 subscribers.now) }
+{
+    match call {
+        Some(call) => {
+            let event = &call.event;
+            prepare_one(alloc, subscribers, call.slot, event, stations, outs)
+        }
+        None => prepare(alloc, subscribers, calls, stations, outs),
     }
 }
 
@@ -445,7 +694,7 @@ fn settle(subscribers: &mut Vec<Subscriber>, prepared: Prepared)
 }
 
 // A station's new state, where it has one.
-fn settle_station(stations: &mut EnbWorld, station: StationNumber, state: Option<StationState>)
+fn settle_own(stations: &mut EnbWorld, station: StationNumber, state: Option<StationState>)
     ensures { stations.new ≡ slice_set stations.old station (unwrap_or state (station_at stations.old station)) }
 {
     if let Some(state) = state {
@@ -453,26 +702,31 @@ fn settle_station(stations: &mut EnbWorld, station: StationNumber, state: Option
     }
 }
 
-// At most one message to a station for the station itself, and at most one for a stranger.
-fn outs_to(
-    alloc: Global,
-    station: StationNumber,
-    says: Option<SentOctets>,
-    stranger: Option<Out>,
-) -> Result<Outs, AllocError>
-    ensures { IfOk result (λ outs. outs ≡ map (station_out station) (written_octets says) ++ listed stranger) }
+// The new state of the station that the event is of, if it is of one.
+fn settle_station(
+    stations: &mut EnbWorld,
+    station: Option<StationNumber>,
+    state: Option<StationState>,
+)
+    ensures { stations.new ≡ placed station state stations.old }
 {
-    let mut outs = Outs::new(alloc);
-    if let Some(octets) = says {
-        let owner = Owner::Station(station);
-        outs.push(Out {
-            owner,
-            station,
-            octets,
-        })?;
+    match station {
+        Some(station) => settle_own(stations, station, state),
+        None => {}
     }
-    if let Some(out) = stranger {
-        outs.push(out)?;
+}
+
+// Strangers are what was prepared; refused, they are as they were.
+fn settle_strangers(strangers: &mut Strangers, change: Change) -> Result<(), AllocError>
+    ensures ok { OnOk result (strangers.new ≡ changed change strangers.old) }
+    ensures err { OnErr result (strangers.new ≡ strangers.old) }
+{
+    match change {
+        Change::Nobody => Ok(()),
+        Change::One(id, after) => strangers.settle(id, after),
+        Change::Each(notice) => {
+            strangers.note(notice);
+            Ok(())
+        }
     }
-    Ok(outs)
 }

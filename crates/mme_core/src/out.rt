@@ -3,7 +3,7 @@
 ghost use Rattle.std.specs.Prelude.{◌≡◌, ◌++◌, ◌∷◌, [], OnOk, OnErr};
 
 use emm_machine::{SentOctets, StationNumber};
-use identity_slots::Slot;
+use identity_slots::{AssociationId, Slot};
 use std::alloc::{AllocError, Global};
 use std::marker::Model;
 
@@ -12,8 +12,8 @@ use std::marker::Model;
 pub enum Owner {
     /// The station itself.
     Station(StationNumber),
-    /// A phone that isn't known, by its station and its number there.
-    Stranger(StationNumber, u32),
+    /// A phone that no subscriber is known for, by its id: 2^31, its station and its number there.
+    Stranger(AssociationId),
     /// A subscriber, by slot.
     Subscriber(Slot),
 }

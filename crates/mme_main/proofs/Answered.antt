@@ -1,5 +1,5 @@
 -- The texts of answers, one after another.
-use Rattle.std.proofs.Common.{◌≡◌, ℕ, ◌+◌, ◌<◌, List, [], ◌∷◌, ◌++◌, length, Err, take, drop, get_or, refl, sym, ap, ◌∙◌, append_assoc, append-nil}
+use Rattle.std.proofs.Common.{subst, ◌≡◌, ℕ, ◌+◌, ◌<◌, List, [], ◌∷◌, ◌++◌, length, Err, take, drop, get_or, refl, sym, ap, ◌∙◌, append_assoc, append-nil}
 use Rattle.std.proofs.lemmas.List.{take_more, take-append-drop}
 use Rattle.mme_core.specs.declared.out.Out.{Out}
 use Rattle.mme_main.specs.declared.fault.PlayFault.{PlayFault}
@@ -33,3 +33,10 @@ Puts-after A B before text all written NoMemory p h = front_of-front (before ++ 
 Puts-after A B before text all written Write p h = front_of-front (before ++ written) (before ++ text) all (IsPrefix-after before written text h) p
 Puts-after A B before text all written Read p h = absurd h
 Puts-after A B before text all written (Trace line fault) p h = absurd h
+
+-- a fault leaves as much of a text that is the same
+pub Puts-same : (A B : Type 0) (text other written : List ℕ) (fault : PlayFault) → text ≡ other → Puts {A = A} text (Err fault) written → Puts {A = B} other (Err fault) written
+Puts-same A B text other written NoMemory e h = subst (IsPrefix written) e h
+Puts-same A B text other written Write e h = subst (IsPrefix written) e h
+Puts-same A B text other written Read e h = absurd h
+Puts-same A B text other written (Trace line fault) e h = absurd h

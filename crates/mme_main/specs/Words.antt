@@ -1,5 +1,5 @@
 -- What is written of an event, and of a subscriber who is shown.
-use Rattle.std.specs.Prelude.{ℕ, List, [], ◌∷◌, ◌++◌, Result, Ok, Err}
+use Rattle.std.specs.Prelude.{ℕ, ◌-◌, ◌/◌, ◌%◌, ◌^◌, List, [], ◌∷◌, ◌++◌, Result, Ok, Err}
 use Rattle.esm_machine.specs.declared.bearer.BearerState.{BearerState}
 use Rattle.esm_machine.specs.declared.bearer.BearerState.TheVariants as bearer
 use Rattle.emm_machine.specs.declared.subscriber.EmmState.{EmmState}
@@ -26,7 +26,7 @@ use Rattle.trace_text.specs.declared.answer.EsmState.TheVariants as esm_words
 
 abbrev pub answer_owner : Owner → AnswerOwner
 answer_owner (Station e) = owner.Station e
-answer_owner (Stranger e b) = owner.Stranger e b
+answer_owner (Stranger id) = owner.Stranger ((id - 2 ^ 31) / 2 ^ 24) ((id - 2 ^ 31) % 2 ^ 24)
 answer_owner (Subscriber slot) = owner.Subscriber slot
 
 abbrev pub out_text : Out → List ℕ

@@ -124,10 +124,10 @@ fn step_event<W: Write>(
     ensures write { IsErrOf result PlayFault.Write → writer.new.failed ≡ true }
 {
     match mme.step(event.again()) {
-        Ok(outs) => {
-            write_all(alloc, outs.as_slice(), writer)?;
-            Ok(true)
-        }
+        Ok(outs) => match write_all(alloc, outs.as_slice(), writer) {
+            Ok(()) => Ok(true),
+            Err(fault) => Err(fault),
+        },
         Err(StepFault::NoMemory) => Err(PlayFault::NoMemory),
         Err(StepFault::NotUp) => write_refusal(alloc, 1, writer),
         Err(StepFault::AlreadyUp) => write_refusal(alloc, 2, writer),

@@ -88,7 +88,10 @@ fn answer_owner(owner: Owner) -> AnswerOwner
 {
     match owner {
         Owner::Station(station) => AnswerOwner::Station(station.get()),
-        Owner::Stranger(station, phone) => AnswerOwner::Stranger(station.get(), phone),
+        Owner::Stranger(id) => {
+            let pair = id.get().saturating_sub(0x8000_0000);
+            AnswerOwner::Stranger((pair / 0x100_0000) as u8, pair % 0x100_0000)
+        }
         Owner::Subscriber(slot) => AnswerOwner::Subscriber(slot.get()),
     }
 }

@@ -1,41 +1,46 @@
-use Rattle.std.proofs.Common.{◌≡◌, [], sym, ◌∙◌, ap, refl, subst, Ok, Option, Some, ℕ}
+use Rattle.std.proofs.Common.{◌≡◌, ◌+◌, [], None, Option, Some, ℕ, refl, sym, subst, arith, ◌∙◌, ap}
 use Rattle.identity_slots.specs.Provisioned.{slot_of_imsi}
-use Rattle.emm_machine.specs.declared.stations.StationState.TheVariants.{Down}
-use Rattle.emm_machine.specs.Steps.{Cancel}
+use Rattle.emm_machine.specs.declared.octets.Answer.{Answer}
+use Rattle.emm_machine.specs.declared.stations.StationState.{StationState}
+use Rattle.emm_machine.specs.declared.stations.StationState.TheVariants.{Down, Up}
+use Rattle.emm_machine.specs.Stations.{station_at}
+use Rattle.emm_machine.specs.Steps as items
+use Rattle.s1ap_messages.specs.Pdus.{decoded}
+use Rattle.stranger_machine.specs.declared.turn.Notice.TheVariants as notices
+use Rattle.stranger_machine.specs.Table.{Each, Nobody}
 use Rattle.mme_core.specs.declared.event.Event.TheVariants as events
-use Rattle.mme_core.specs.Stations.{One, calling}
-use Rattle.mme_core.specs.World.{World, happens, if_known, one_if, reply, world_after}
-use Rattle.mme_core.proofs.Steps.{reply_so, after_so, prepared_settled, as_many, sent_behind}
+use Rattle.mme_core.specs.declared.event.StepFault.TheVariants.{AlreadyUp, NotUp}
+use Rattle.mme_core.specs.declared.mme.Moves.{Moves}
+use Rattle.mme_core.specs.Seen.{seen}
+use Rattle.mme_core.specs.Stations.{Everyone, Heard, NoOne, One, hears}
+use Rattle.mme_core.specs.World.{World, fault_of, happens, if_down, if_known, one_if}
 use Rattle.mme_core.specs.contracts.mme.Mme.{the_view}
+use Rattle.mme_core.proofs.Steps.{after_ready, clock_goes_on, not_down, reply_ready, sight_with}
 use Rattle.mme_core.proofs.mme.Mme.cancel.Goals as goal
-
-pub invariant_of-self : goal.invariant_of-self
-invariant_of-self c =
-    let ws = c.self.inside.subscribers.items in
-    let calls = One c.in-Some.slot Cancel in (
-      as_many calls ws c.settle.new.subscribers.items
-          (prepared_settled calls ws c.as_slice.result.now _ c.in_ok-prepared.prepared c.as_slice.ensures.value c.in_ok-prepared.ensures.after c.settle.ensures) c.self.invariant.0,
-      c.self.invariant.1,
-    )
 
 pub returns-clause-reply : goal.returns-clause-reply
 unfolding happens
 returns-clause-reply c =
+    let w = c.args.self.now in
     let e = events.Cancel c.args.imsi in
-    let w = the_view c.self.inside in
-    let calls = One c.in-Some.slot Cancel in
-    let known : slot_of_imsi c.args.imsi w.sight.profiles ≡ Some c.in-Some.slot = sym c.slot_of_imsi.ensures ∙ c.in-Some.is in
-    subst (λ (v : World). reply v e ≡ Ok c.prepare_one.new.outs) c.self.view_is
-    (reply_so w e (calling Down calls) c.prepare_one.new.outs (ap if_known known) (ap (λ (o : Option ℕ). calling Down (one_if o Cancel)) known)
-    (sent_behind calls w.subscribers c.as_slice.result.now [] c.new-outs.result _ c.as_slice.ensures.value c.new-outs.ensures c.in_ok-prepared.ensures.sends))
+    let known : slot_of_imsi c.args.imsi w.sight.profiles ≡ Some c.in-Some.slot = sym (ap (λ (v : World). slot_of_imsi c.args.imsi v.sight.profiles) c.self.view_is) ∙ sym c.slot_of_imsi.ensures ∙ c.in-Some.is in
+    let fine : fault_of w.sight e ≡ None = ap if_known known in
+    let h : Heard = record { state = Down; sends = c.new-says.result; reach = Nobody; calls = One c.in-Some.slot items.Cancel } in
+    let is : h ≡ happens w.sight e =
+    ap (λ x. record { state = Down; sends = x; reach = Nobody; calls = One c.in-Some.slot items.Cancel }) c.new-says.ensures
+    ∙ ap (λ (o : Option ℕ). record { state = Down; sends = []; reach = Nobody; calls = one_if o items.Cancel }) (sym known) in
+    reply_ready w e h c.ready.result fine is c.ready.ensures.sent
 
 pub returns-clause-after : goal.returns-clause-after
 unfolding happens
 returns-clause-after c =
+    let w = c.args.self.now in
     let e = events.Cancel c.args.imsi in
-    let w = the_view c.self.inside in
-    let calls = One c.in-Some.slot Cancel in
-    let known : slot_of_imsi c.args.imsi w.sight.profiles ≡ Some c.in-Some.slot = sym c.slot_of_imsi.ensures ∙ c.in-Some.is in
-    after_so w e (calling Down calls) _ c.settle.new.subscribers.items (ap if_known known) (ap (λ (o : Option ℕ). calling Down (one_if o Cancel)) known) refl
-    (prepared_settled calls w.subscribers c.as_slice.result.now _ c.in_ok-prepared.prepared c.as_slice.ensures.value c.in_ok-prepared.ensures.after c.settle.ensures)
-    ∙ ap (λ (v : World). world_after v e) c.self.view_is
+    let known : slot_of_imsi c.args.imsi w.sight.profiles ≡ Some c.in-Some.slot = sym (ap (λ (v : World). slot_of_imsi c.args.imsi v.sight.profiles) c.self.view_is) ∙ sym c.slot_of_imsi.ensures ∙ c.in-Some.is in
+    let fine : fault_of w.sight e ≡ None = ap if_known known in
+    let h : Heard = record { state = Down; sends = c.new-says.result; reach = Nobody; calls = One c.in-Some.slot items.Cancel } in
+    let is : h ≡ happens w.sight e =
+    ap (λ x. record { state = Down; sends = x; reach = Nobody; calls = One c.in-Some.slot items.Cancel }) c.new-says.ensures
+    ∙ ap (λ (o : Option ℕ). record { state = Down; sends = []; reach = Nobody; calls = one_if o items.Cancel }) (sym known) in
+    after_ready w e h (record { station = None; state = None; clock = c.self.inside.clock }) c.ready.result fine is
+    (ap (λ n. sight_with (record { station = None; state = None; clock = n }) w.sight) (ap (λ (v : World). v.sight.clock) c.self.view_is)) c.ready.ensures.moves c.ready.ensures.strangers c.ready.ensures.subscribers

@@ -1,9 +1,11 @@
-use Rattle.std.proofs.Common.{length, ap, ◌∙◌}
+use Rattle.std.proofs.Common.{length, ap, sym, subst, ◌∙◌}
 use Rattle.std.proofs.lemmas.List.{length-replicate}
 use Rattle.emm_machine.specs.declared.stations.StationState.TheVariants.{Down}
 use Rattle.emm_machine.specs.Stations.{no_stations}
+use Rattle.ordered_lists.specs.Ordered.{Rising}
+use Rattle.stranger_machine.specs.Table.{known_id}
 use Rattle.mme_core.proofs.mme.Mme.new.Goals as goal
 
 pub invariant_of-result : goal.invariant_of-result
 unfolding no_stations
-invariant_of-result c = (c.in_ok-subscribers.ensures.few, ap length c.in_ok-stations.ensures ∙ length-replicate 128 Down)
+invariant_of-result c = (c.in_ok-subscribers.ensures.few, ap length c.in_ok-stations.ensures ∙ length-replicate 128 Down, subst (Rising known_id) (sym c.new-2.ensures) tt)

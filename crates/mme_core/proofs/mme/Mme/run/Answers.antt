@@ -1,10 +1,11 @@
-use Rattle.std.proofs.Common.{◌≡◌, length, arith, ap, ◌∙◌, sym, take, ◌+◌, ◌++◌, ◌∷◌, [], length-take, map}
+use Rattle.std.proofs.Common.{◌≡◌, length, arith, ap, ◌∙◌, sym, subst, take, ◌+◌, ◌++◌, ◌∷◌, [], length-take}
 use Rattle.std.specs.Prelude.{slice_get}
 use Rattle.std.proofs.lemmas.List.{take_all, take_more, length_push}
-use Rattle.mme_core.specs.Projection.{front_in, told}
+use Rattle.ordered_lists.specs.Ordered.{Rising}
+use Rattle.stranger_machine.specs.Table.{known_id, stranger_at}
+use Rattle.mme_core.specs.Projection.{is_slot, is_station, is_stranger, told}
 use Rattle.mme_core.specs.World.{World, replies, world_run, taken}
-use Rattle.mme_core.proofs.Alone.{told_each, ends_alone}
-use Rattle.mme_core.proofs.Front.{front_each}
+use Rattle.mme_core.proofs.Alone.{absent_each, slots_end, slots_told, stations_told, strangers_end, strangers_told}
 use Rattle.mme_core.proofs.Order.{run_order}
 use Rattle.mme_core.proofs.Runs.{ran_more}
 use Rattle.mme_core.proofs.Stations.{station_ends}
@@ -35,7 +36,8 @@ returns-clause-told c =
     let l = c.loop-event in
     let es = c.args.events.now in
     let all : take l.event-index es ≡ es = take_all l.event-index es (let t = c.loop-event-test.false in omega (arith, t)) in
-    λ slot x at. ap (told slot) (l.invariant.ran.replies ∙ ap (λ xs. replies w (taken xs l.replies.items)) all) ∙ told_each w (taken es l.replies.items) slot x at
+    let rising : Rising known_id w.strangers = subst (λ (v : World). Rising known_id v.strangers) c.self.view_is c.self.invariant.2 in
+    λ slot x at. ap (told (is_slot slot)) (l.invariant.ran.replies ∙ ap (λ xs. replies w (taken xs l.replies.items)) all) ∙ slots_told w (taken es l.replies.items) slot x rising at
 
 pub returns-clause-states : goal.returns-clause-states
 returns-clause-states c =
@@ -43,7 +45,34 @@ returns-clause-states c =
     let l = c.loop-event in
     let es = c.args.events.now in
     let all : take l.event-index es ≡ es = take_all l.event-index es (let t = c.loop-event-test.false in omega (arith, t)) in
-    λ slot x at. ap (λ (v : World). slice_get v.subscribers slot) (l.invariant.ran.state ∙ ap (λ xs. world_run w (taken xs l.replies.items)) all) ∙ ends_alone w (taken es l.replies.items) slot x at
+    let rising : Rising known_id w.strangers = subst (λ (v : World). Rising known_id v.strangers) c.self.view_is c.self.invariant.2 in
+    λ slot x at. ap (λ (v : World). slice_get v.subscribers slot) (l.invariant.ran.state ∙ ap (λ xs. world_run w (taken xs l.replies.items)) all) ∙ slots_end w (taken es l.replies.items) slot x rising at
+
+pub returns-clause-absent : goal.returns-clause-absent
+returns-clause-absent c =
+    let w = c.args.self.now in
+    let l = c.loop-event in
+    let es = c.args.events.now in
+    let all : take l.event-index es ≡ es = take_all l.event-index es (let t = c.loop-event-test.false in omega (arith, t)) in
+    λ slot none. ap (told (is_slot slot)) (l.invariant.ran.replies ∙ ap (λ xs. replies w (taken xs l.replies.items)) all) ∙ absent_each w (taken es l.replies.items) slot none
+
+pub returns-clause-strangers : goal.returns-clause-strangers
+returns-clause-strangers c =
+    let w = c.args.self.now in
+    let l = c.loop-event in
+    let es = c.args.events.now in
+    let all : take l.event-index es ≡ es = take_all l.event-index es (let t = c.loop-event-test.false in omega (arith, t)) in
+    let rising : Rising known_id w.strangers = subst (λ (v : World). Rising known_id v.strangers) c.self.view_is c.self.invariant.2 in
+    λ id. ap (told (is_stranger id)) (l.invariant.ran.replies ∙ ap (λ xs. replies w (taken xs l.replies.items)) all) ∙ strangers_told w (taken es l.replies.items) id rising
+
+pub returns-clause-stranger_states : goal.returns-clause-stranger_states
+returns-clause-stranger_states c =
+    let w = c.args.self.now in
+    let l = c.loop-event in
+    let es = c.args.events.now in
+    let all : take l.event-index es ≡ es = take_all l.event-index es (let t = c.loop-event-test.false in omega (arith, t)) in
+    let rising : Rising known_id w.strangers = subst (λ (v : World). Rising known_id v.strangers) c.self.view_is c.self.invariant.2 in
+    λ id. ap (λ (v : World). stranger_at id v.strangers) (l.invariant.ran.state ∙ ap (λ xs. world_run w (taken xs l.replies.items)) all) ∙ strangers_end w (taken es l.replies.items) id rising
 
 pub returns-clause-stations : goal.returns-clause-stations
 returns-clause-stations c =
@@ -51,18 +80,20 @@ returns-clause-stations c =
     let l = c.loop-event in
     let es = c.args.events.now in
     let all : take l.event-index es ≡ es = take_all l.event-index es (let t = c.loop-event-test.false in omega (arith, t)) in
-    let long : length w.sight.stations ≡ 128 = sym (ap (λ (v : World). length v.sight.stations) c.self.view_is) ∙ c.self.invariant.1 in
-    λ e lt. station_ends w l.self e (taken es l.replies.items) (l.invariant.ran.state ∙ ap (λ xs. world_run w (taken xs l.replies.items)) all) (omega (arith, long, lt))
+    λ e. ap (told (is_station e)) (l.invariant.ran.replies ∙ ap (λ xs. replies w (taken xs l.replies.items)) all) ∙ stations_told w (taken es l.replies.items) e
 
-pub returns-clause-front : goal.returns-clause-front
-returns-clause-front c =
+pub returns-clause-station_states : goal.returns-clause-station_states
+returns-clause-station_states c =
     let w = c.args.self.now in
     let l = c.loop-event in
     let es = c.args.events.now in
     let all : take l.event-index es ≡ es = take_all l.event-index es (let t = c.loop-event-test.false in omega (arith, t)) in
-    ap (map front_in) (l.invariant.ran.replies ∙ ap (λ xs. replies w (taken xs l.replies.items)) all) ∙ front_each w (taken es l.replies.items)
+    let long : length w.sight.stations ≡ 128 = sym (ap (λ (v : World). length v.sight.stations) c.self.view_is) ∙ c.self.invariant.1 in
+    λ e lt. station_ends w l.self e (taken es l.replies.items) (l.invariant.ran.state ∙ ap (λ xs. world_run w (taken xs l.replies.items)) all) (omega (arith, long, lt))
 
 pub returns-clause-order : goal.returns-clause-order
 returns-clause-order c =
+    let w = c.args.self.now in
     let l = c.loop-event in
-    run_order c.args.self.now (taken (take l.event-index c.args.events.now) l.replies.items) l.replies.items l.invariant.ran.replies
+    let rising : Rising known_id w.strangers = subst (λ (v : World). Rising known_id v.strangers) c.self.view_is c.self.invariant.2 in
+    run_order w (taken (take l.event-index c.args.events.now) l.replies.items) l.replies.items rising l.invariant.ran.replies

@@ -1,37 +1,40 @@
-use Rattle.std.proofs.Common.{◌≡◌, [], ◌∙◌, ap, refl, subst, Ok, None}
-use Rattle.emm_machine.specs.declared.stations.StationState.TheVariants.{Down}
-use Rattle.emm_machine.specs.Steps.{Tick}
+use Rattle.std.proofs.Common.{◌≡◌, ◌+◌, [], None, Option, Some, ℕ, refl, sym, subst, arith, ◌∙◌, ap}
+use Rattle.identity_slots.specs.Provisioned.{slot_of_imsi}
+use Rattle.emm_machine.specs.declared.octets.Answer.{Answer}
+use Rattle.emm_machine.specs.declared.stations.StationState.{StationState}
+use Rattle.emm_machine.specs.declared.stations.StationState.TheVariants.{Down, Up}
+use Rattle.emm_machine.specs.Stations.{station_at}
+use Rattle.emm_machine.specs.Steps as items
+use Rattle.s1ap_messages.specs.Pdus.{decoded}
+use Rattle.stranger_machine.specs.declared.turn.Notice.TheVariants as notices
+use Rattle.stranger_machine.specs.Table.{Each, Nobody}
 use Rattle.mme_core.specs.declared.event.Event.TheVariants as events
-use Rattle.mme_core.specs.Stations.{Everyone, calling}
-use Rattle.mme_core.specs.World.{World, fault_of, happens, reply, world_after}
-use Rattle.mme_core.proofs.Steps.{reply_so, after_so, clock_goes_on, everyone_settled, as_many, sent_behind}
+use Rattle.mme_core.specs.declared.event.StepFault.TheVariants.{AlreadyUp, NotUp}
+use Rattle.mme_core.specs.declared.mme.Moves.{Moves}
+use Rattle.mme_core.specs.Seen.{seen}
+use Rattle.mme_core.specs.Stations.{Everyone, Heard, NoOne, One, hears}
+use Rattle.mme_core.specs.World.{World, fault_of, happens, if_down, if_known, one_if}
 use Rattle.mme_core.specs.contracts.mme.Mme.{the_view}
+use Rattle.mme_core.proofs.Steps.{after_ready, clock_goes_on, not_down, reply_ready, sight_with}
 use Rattle.mme_core.proofs.mme.Mme.tick.Goals as goal
-
-pub invariant_of-self : goal.invariant_of-self
-invariant_of-self c =
-    let ws = c.self.inside.subscribers.items in (
-      as_many (Everyone Tick) ws c.settle_everyone.new.subscribers.items
-          (everyone_settled Tick ws c.as_slice.result.now _ c.in_ok-solos.solos.items c.as_slice.ensures.value c.in_ok-solos.ensures.solos c.settle_everyone.ensures) c.self.invariant.0,
-      c.self.invariant.1,
-    )
 
 pub returns-clause-reply : goal.returns-clause-reply
 unfolding happens
 returns-clause-reply c =
+    let w = c.args.self.now in
     let e = events.Tick in
-    let w = the_view c.self.inside in
-    let fine : fault_of w.sight e ≡ None = clock_goes_on w.sight.clock c.if-self-ge-LAST_TICK.false in
-    subst (λ (v : World). reply v e ≡ Ok c.prepare_everyone.new.outs) c.self.view_is
-    (reply_so w e (calling Down (Everyone Tick)) c.prepare_everyone.new.outs fine refl
-    (sent_behind (Everyone Tick) w.subscribers c.as_slice.result.now [] c.new-outs.result _ c.as_slice.ensures.value c.new-outs.ensures c.in_ok-solos.ensures.sends))
+    let fine : fault_of w.sight e ≡ None = sym (ap (λ (v : World). fault_of v.sight e) c.self.view_is) ∙ clock_goes_on c.self.inside.clock (let t = c.if-self-ge-LAST_TICK.false in omega (arith, t)) in
+    let h : Heard = record { state = Down; sends = c.new-says.result; reach = Each notices.Tick; calls = Everyone items.Tick } in
+    let is : h ≡ happens w.sight e = ap (λ x. record { state = Down; sends = x; reach = Each notices.Tick; calls = Everyone items.Tick }) c.new-says.ensures in
+    reply_ready w e h c.ready.result fine is c.ready.ensures.sent
 
 pub returns-clause-after : goal.returns-clause-after
 unfolding happens
 returns-clause-after c =
+    let w = c.args.self.now in
     let e = events.Tick in
-    let w = the_view c.self.inside in
-    let fine : fault_of w.sight e ≡ None = clock_goes_on w.sight.clock c.if-self-ge-LAST_TICK.false in
-    after_so w e (calling Down (Everyone Tick)) _ c.settle_everyone.new.subscribers.items fine refl refl
-    (everyone_settled Tick w.subscribers c.as_slice.result.now _ c.in_ok-solos.solos.items c.as_slice.ensures.value c.in_ok-solos.ensures.solos c.settle_everyone.ensures)
-    ∙ ap (λ (v : World). world_after v e) c.self.view_is
+    let fine : fault_of w.sight e ≡ None = sym (ap (λ (v : World). fault_of v.sight e) c.self.view_is) ∙ clock_goes_on c.self.inside.clock (let t = c.if-self-ge-LAST_TICK.false in omega (arith, t)) in
+    let h : Heard = record { state = Down; sends = c.new-says.result; reach = Each notices.Tick; calls = Everyone items.Tick } in
+    let is : h ≡ happens w.sight e = ap (λ x. record { state = Down; sends = x; reach = Each notices.Tick; calls = Everyone items.Tick }) c.new-says.ensures in
+    after_ready w e h (record { station = None; state = None; clock = c.self.inside.clock + 1 }) c.ready.result fine is
+    (ap (λ n. sight_with (record { station = None; state = None; clock = n + 1 }) w.sight) (ap (λ (v : World). v.sight.clock) c.self.view_is)) c.ready.ensures.moves c.ready.ensures.strangers c.ready.ensures.subscribers

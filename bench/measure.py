@@ -1,0 +1,212 @@
+#!/usr/bin/env python3
+"""Measures `mme play` over traces of phones that attach, and checks each answer.
+
+    measure.py PROGRAM [--only WORD ..] [--rounds N] [--ticks N]
+
+The words: attaches, growth, events, ticks, setups, instructions. Times are those of the processor, of one thread; the best of
+the rounds counts, and a run's start and provisioning, measured in the same rounds, are taken off. `instructions` counts them
+by valgrind, which no other work on the machine can change. Ends with 1 where an answer is wrong.
+"""
+import argparse
+import os
+import re
+import subprocess
+import sys
+import tempfile
+
+import attaches
+import lte
+import phones
+
+COUNTS = (20, 200, 2000)
+MOST = 2048
+
+
+class Bench:
+    def __init__(self, program, rounds):
+        self.program, self.rounds, self.wrong = os.path.abspath(program), rounds, 0
+        self.folder = tempfile.TemporaryDirectory()
+
+    def kept(self, name, text):
+        path = os.path.join(self.folder.name, name)
+        with open(path, "w") as file:
+            file.write(text)
+        return path
+
+    def checked(self, what, trace):
+        """The answers are those that are owed."""
+        path = self.kept("checked", trace.text())
+        said = subprocess.run([self.program, "play", path], capture_output=True, text=True)
+        right = said.returncode == 0 and not said.stderr and said.stdout == trace.answer_text()
+        self.wrong += not right
+        print("%s: %d answers %s" % (what, len(trace.answers), "as owed" if right else "WRONG"))
+
+    def seconds(self, path):
+        """The processor's time of one run, its output dropped."""
+        with open(os.devnull, "w") as none:
+            child = subprocess.Popen([self.program, "play", path], stdout=none)
+            _, status, usage = os.wait4(child.pid, 0)
+        child.returncode = os.waitstatus_to_exitcode(status)
+        if child.returncode:
+            raise SystemExit("%s ended with %d" % (path, child.returncode))
+        return usage.ru_utime + usage.ru_stime
+
+    def instructions(self, text):
+        """How many instructions a run takes."""
+        words = ["valgrind", "--tool=callgrind", "--callgrind-out-file=/dev/null", self.program, "play"]
+        said = subprocess.run(words + [self.kept("counted", text)], capture_output=True, text=True).stderr
+        return int(re.search(r"Collected : (\d+)", said).group(1))
+
+    def best(self, traces, rounds=None):
+        """For each trace the least time of the rounds; they are run in turn, so that they meet the same machine."""
+        paths = [self.kept("timed%d" % at, text) for at, text in enumerate(traces)]
+        times = [[self.seconds(path) for path in paths] for _ in range(rounds or self.rounds)]
+        return [min(column) for column in zip(*times)]
+
+
+def before_and_whole(count, more, release=True):
+    """The text of a trace in which so many phones are attached, and with the lines that `more` adds."""
+    trace, station, made = attaches.attached(count, release, show=False)
+    before = trace.text()
+    more(trace, station, made)
+    return before, trace
+
+
+def attaches_per_second(bench):
+    for choices in ({}, {"release": True}, {"release": True, "information": True}):
+        bench.checked("2000 attaches, %s" % choices, attaches.attached(2000, **choices)[0])
+    base = attaches.provisioned(2000)[0].text()
+    whole = attaches.attached(2000, show=False)[0].text()
+    least, most = bench.best([base, whole])
+    print("start and provisioning of 2000: %.4f s; the whole: %.4f s" % (least, most))
+    print("attaches: %.0f a second, %.1f us each" % (2000 / (most - least), (most - least) / 2000 * 1e6))
+
+
+def growth(bench):
+    """Time of one attach with so many subscribers, each attached once."""
+    each = {}
+    for count in COUNTS:
+        base = attaches.provisioned(count)[0].text()
+        whole = attaches.attached(count, show=False)[0].text()
+        least, most = bench.best([base, whole], max(bench.rounds, 6000 // count))
+        each[count] = (most - least) / count
+        print("attach among %d subscribers: %.2f us" % (count, each[count] * 1e6))
+    print("2000 beside 20: %.3f, beside 200: %.3f" % (each[2000] / each[20], each[2000] / each[200]))
+
+
+EVENTS, COUNTED = 20000, 200
+
+
+def statuses(trace, station, phone, count=EVENTS):
+    """EMM STATUS under the context: accepted, nothing is owed."""
+    for _ in range(count):
+        phone.sends(phone.protected_up(b"\x07\x60\x61"))
+
+
+def requests(trace, station, phone, count=EVENTS):
+    """PDN CONNECTIVITY REQUEST: owed PDN CONNECTIVITY REJECT with cause 31."""
+    for _ in range(count):
+        phone.sends(phone.protected_up(lte.pdn_connectivity_request(9, 1, False)))
+        phone.owed_nas(phone.protected_down(b"\x02\x09\xd1\x1f"))
+
+
+def notices(trace, station, phone, count=EVENTS):
+    """Data for a phone that is idle: the first is owed PAGING, and while that is under way the others nothing."""
+    phone.has_data_waiting([station])
+    for _ in range(count - 1):
+        phone.has_data_waiting([])
+
+
+def wrong_ways(trace, station, phone, count=EVENTS):
+    """A message that only an MME sends: owed ERROR INDICATION to the station, and nobody is called."""
+    for _ in range(count):
+        trace.hear(station, lte.downlink_nas(phone.m, 1, b"\x07\x44\x08"))
+        trace.owe("e0", station, lte.s1ap(lte.INITIATING, 15, lte.IGNORE, (lte.IGNORE, lte.cause(((3, 3), 3)))))
+
+
+KINDS = (("uplink NAS, nothing owed", False, statuses), ("uplink NAS, a reject owed", False, requests),
+         ("data notice", True, notices), ("a station's own answer", False, wrong_ways))
+
+
+def events(bench):
+    """Time of one event of one subscriber among so many that are attached."""
+    for what, release, add in KINDS:
+        each = {}
+        for count in (20, 200, MOST):
+            before, trace = before_and_whole(count, lambda t, s, made: add(t, s, made[10]), release)
+            bench.checked("%s among %d" % (what, count), trace)
+            least, most = bench.best([before, trace.text()])
+            each[count] = (most - least) / EVENTS
+            print("%s among %d: %.2f us" % (what, count, each[count] * 1e6))
+        print("%s: %d beside 20: %.3f" % (what, MOST, each[MOST] / each[20]))
+    paged(bench)
+
+
+def paged(bench):
+    """A data notice for each of so many idle phones, each owed PAGING."""
+    for count in (20, 200, MOST):
+        before, trace = before_and_whole(count, lambda t, s, made: [phone.has_data_waiting([s]) for phone in made])
+        bench.checked("a page for each of %d" % count, trace)
+        least, most = bench.best([before, trace.text()], max(bench.rounds, 2000 // count))
+        print("a page for each of %d: %.2f us each" % (count, (most - least) / count * 1e6))
+
+
+def instructions(bench):
+    """Instructions of an attach, of an event of one subscriber and of a tick, with so many subscribers."""
+    def told(what, count, each):
+        print("%s among %d: %.0f instructions" % (what, count, each))
+        sys.stdout.flush()
+
+    for count in COUNTS:
+        base = bench.instructions(attaches.provisioned(count)[0].text())
+        told("attach", count, (bench.instructions(attaches.attached(count, show=False)[0].text()) - base) / count)
+    for what, release, add in KINDS:
+        for count in (20, 200, MOST):
+            before, trace = before_and_whole(count, lambda t, s, made: add(t, s, made[10], COUNTED), release)
+            told(what, count, (bench.instructions(trace.text()) - bench.instructions(before)) / COUNTED)
+    for count in (20, 200, MOST):
+        before, trace = before_and_whole(count, lambda t, s, made: t.say("tick 10"))
+        told("tick", count, (bench.instructions(trace.text()) - bench.instructions(before)) / 10)
+
+
+def ticks(bench, most):
+    """Time of so many ticks with 2048 idle subscribers, and with 2048 who were never seen."""
+    for what, (trace, _, made) in (("2048 idle", attaches.attached(MOST, release=True, show=False)),
+                                   ("2048 never seen", attaches.provisioned(MOST))):
+        before = trace.text()
+        for count in (100, 1000, 3000, most):
+            if count <= most:
+                least, whole = bench.best([before, before + "tick %d\n" % count], 1 if count > 1000 else 3)
+                print("%s, tick %d: %.3f s, %.2f us a tick" % (what, count, whole - least, (whole - least) / count * 1e6))
+                sys.stdout.flush()
+
+
+def set_ups(bench):
+    """Lines of a second where each is an S1 SETUP REQUEST, with so many subscribers."""
+    for count, lines in ((0, 100000), (2, 100000), (MOST, 2000)):
+        trace, station, _ = attaches.provisioned(count)
+        before = trace.text()
+        for _ in range(lines):
+            trace.set_up(station, connects=False)
+        bench.checked("%d set-ups with %d subscribers" % (lines, count), trace)
+        least, most = bench.best([before, trace.text()], 3)
+        print("set-ups with %d subscribers: %.0f lines a second" % (count, lines / (most - least)))
+
+
+def main():
+    parser = argparse.ArgumentParser(description=__doc__, formatter_class=argparse.RawDescriptionHelpFormatter)
+    parser.add_argument("program")
+    parser.add_argument("--only", nargs="*", default=["attaches", "growth", "events", "ticks", "setups"])
+    parser.add_argument("--rounds", type=int, default=10)
+    parser.add_argument("--ticks", type=int, default=3000)
+    given = parser.parse_args()
+    bench = Bench(given.program, given.rounds)
+    for word in given.only:
+        {"attaches": attaches_per_second, "growth": growth, "events": events, "setups": set_ups, "instructions": instructions,
+         "ticks": lambda bench: ticks(bench, given.ticks)}[word](bench)
+        sys.stdout.flush()
+    sys.exit(1 if bench.wrong else 0)
+
+
+if __name__ == "__main__":
+    main()

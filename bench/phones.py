@@ -1,0 +1,266 @@
+"""Phones that attach, are released, update their area and change stations, as lines of a trace for `mme play`, with the answers
+that the MME owes, made from the standards' formats (lte.py) and never from the MME's output.
+"""
+import hashlib
+
+import lte
+
+CONNECTED, IDLE = "REGISTERED CONNECTED ACTIVE", "REGISTERED IDLE ACTIVE"
+UNDER_WAY = "COMMON-PROCEDURE-INITIATED CONNECTED INACTIVE"
+PENDING = "COMMON-PROCEDURE-INITIATED CONNECTED ACTIVE-PENDING"
+
+
+class Network:
+    """The MME: its network's two forms, group, code, access point and bit rates down and up."""
+
+    def __init__(self, country="001", network="01", group="8001", code="01", apn="internet", rates=(10**9, 10**9)):
+        self.words = "mme %s %s %s %s %s %d %d" % (country, network, group, code, apn, *rates)
+        mcc, mnc = [int(x) for x in country], [int(x) for x in network]
+        two = len(mnc) == 2
+        last = 15 if two else mnc[2]
+        self.nas_plmn = bytes([mcc[1] << 4 | mcc[0], last << 4 | mcc[2], mnc[1] << 4 | mnc[0]])
+        packed = [15] + mnc if two else mnc
+        self.s1ap_plmn = bytes([mcc[1] << 4 | mcc[0], packed[0] << 4 | mcc[2], packed[2] << 4 | packed[1]])
+        self.group, self.code = bytes.fromhex(group), bytes.fromhex(code)
+        self.apn, self.rates = apn.encode(), rates
+
+
+class Station:
+    """A station by its number: macro identity, tracking area, cell, address."""
+
+    def __init__(self, number, identity=1, tac=1, cell=0x101):
+        self.number, self.identity, self.tac, self.cell = number, identity, tac, cell
+        self.address = bytes([0xC0, 0xA8, 0, number])
+
+
+class Vector:
+    def __init__(self, rand, autn, xres, kasme):
+        self.rand, self.autn, self.xres, self.kasme = rand, autn, xres, kasme
+
+    @staticmethod
+    def made(name, res=8):
+        """A vector of its own for each name."""
+        text = b"".join(hashlib.sha256(b"%d %s" % (at, name.encode())).digest() for at in range(3))
+        return Vector(text[:16], text[16:32], text[32:32 + res], text[64:96])
+
+    def words(self, imsi):
+        return "vec %s %s" % (imsi, " ".join(x.hex() for x in (self.rand, self.autn, self.xres, self.kasme)))
+
+
+KNOWN_VECTOR = Vector(bytes(range(16)), bytes(range(16, 32)), bytes(range(32, 40)), bytes(range(48, 80)))
+
+
+class Trace:
+    """The lines of a trace and the answers that the MME owes to them."""
+
+    def __init__(self, network=None):
+        self.network, self.lines, self.answers = network or Network(), [], []
+
+    def say(self, line):
+        self.lines.append(line)
+
+    def hear(self, station, octets):
+        self.say("in %d %s" % (station.number, octets.hex()))
+
+    def owe(self, owner, station, octets):
+        self.answers.append("out %s %d %s" % (owner, station.number, octets.hex()))
+
+    def provision(self, phones):
+        """The MME, its subscribers and their vectors."""
+        self.say(self.network.words)
+        for phone in phones:
+            self.say("sub %s %s %s %s" % (phone.imsi, phone.address.hex(), phone.gateway.hex(), phone.teid.hex()))
+        for phone in phones:
+            for vector in phone.vectors:
+                self.say(vector.words(phone.imsi))
+
+    def set_up(self, station, connects=True):
+        """A station connects and sets up its interface."""
+        if connects:
+            self.say("up %d" % station.number)
+        self.hear(station, lte.s1_setup_request(self.network, station))
+        self.owe("e%d" % station.number, station, lte.s1_setup_response(self.network))
+
+    def text(self):
+        return "\n".join(self.lines) + "\n"
+
+    def answer_text(self):
+        return "".join(line + "\n" for line in self.answers)
+
+
+class Phone:
+    """A phone with its subscription, and what the MME keeps of it. Each step adds what the station hears to the trace, and
+    what the MME owes."""
+
+    def __init__(self, trace, slot, vectors=(KNOWN_VECTOR,), capability=b"\xe0\x60", imsi=None):
+        self.trace, self.network, self.slot = trace, trace.network, slot
+        self.imsi = imsi or "00101%010d" % (slot + 1)
+        self.address = (0x0A000001 + slot).to_bytes(4, "big")
+        self.gateway, self.teid = bytes([10, 0, 0, 100]), (slot + 1).to_bytes(4, "big")
+        self.vectors, self.capability = vectors, capability
+        self.associations = self.tmsis = self.place = 0
+        self.station = self.b = None
+
+    # What both sides keep.
+
+    @property
+    def m(self):
+        return self.slot << 20 | self.associations
+
+    @property
+    def tmsi(self):
+        return self.slot << 20 | self.tmsis
+
+    def secured(self, header, count, direction, message):
+        inside = bytes([count & 0xFF]) + message
+        return bytes([header << 4 | 7]) + lte.eia2(self.key, count, direction, inside) + inside
+
+    def protected_up(self, message, header=2):
+        octets = self.secured(header, self.up_count, lte.UP, message)
+        self.up_count += 1
+        return octets
+
+    def protected_down(self, message, header=2):
+        octets = self.secured(header, self.down_count, lte.DOWN, message)
+        self.down_count += 1
+        return octets
+
+    def sends(self, nas):
+        self.trace.hear(self.station, lte.uplink_nas(self.network, self.station, self.m, self.b, nas))
+
+    def sends_first(self, station, b, nas):
+        """An INITIAL UE MESSAGE, which the MME takes a new association for; owed the release of an old one elsewhere."""
+        self.trace.hear(station, lte.initial_ue_message(self.network, station, b, nas))
+        if self.station is not None and (self.station, self.b) != (station, b):
+            self.owed(lte.release_command(self.m, self.b, lte.NORMAL_RELEASE))
+        self.station, self.b = station, b
+        self.associations += 1
+
+    def owed(self, octets):
+        self.trace.owe("s%d" % self.slot, self.station, octets)
+
+    def owed_nas(self, nas):
+        self.owed(lte.downlink_nas(self.m, self.b, nas))
+
+    def shows(self, states):
+        self.trace.say("show " + self.imsi)
+        self.trace.answers.append("state %s %s" % (self.imsi, states))
+
+    # The steps of an attach.
+
+    def asks_to_attach(self, station, b, pdn_type=1, attach_type=1, information=False):
+        """ATTACH REQUEST by IMSI; owed AUTHENTICATION REQUEST."""
+        self.pdn_type, self.attach_type, self.information = pdn_type, attach_type, information
+        esm = lte.pdn_connectivity_request(1, pdn_type, information)
+        nas = lte.attach_request(attach_type, lte.imsi_identity(self.imsi), self.capability, esm)
+        self.sends_first(station, b, nas)
+        self.accepted_tac = station.tac
+        self.vector, self.ksi = self.vectors[self.place], self.place % 7
+        self.place += 1
+        self.owed_nas(lte.authentication_request(self.ksi, self.vector))
+
+    def authenticates(self):
+        """AUTHENTICATION RESPONSE; owed SECURITY MODE COMMAND, the first message of the new context."""
+        self.sends(lte.authentication_response(self.vector.xres))
+        self.key = lte.Cmac(lte.nas_integrity_key(self.vector.kasme))
+        self.up_count = self.down_count = 0
+        self.owed_nas(self.protected_down(lte.security_mode_command(self.ksi, self.capability), header=3))
+
+    def completes_security(self):
+        """SECURITY MODE COMPLETE; owed ESM INFORMATION REQUEST where the phone asked for it, else the acceptance."""
+        count = self.up_count
+        self.sends(self.protected_up(lte.SECURITY_MODE_COMPLETE, header=4))
+        self.radio_key = lte.kenb(self.vector.kasme, count)
+        self.next_hop = lte.next_hop(self.vector.kasme, self.radio_key)
+        self.chaining = 1
+        if self.information:
+            self.owed_nas(self.protected_down(bytes([2, 1, lte.INFORMATION_REQUEST])))
+        else:
+            self.owed_acceptance()
+
+    def gives_information(self):
+        """ESM INFORMATION RESPONSE; owed the acceptance."""
+        self.sends(self.protected_up(bytes([2, 1, lte.INFORMATION_RESPONSE])))
+        self.owed_acceptance()
+
+    def owed_acceptance(self):
+        """INITIAL CONTEXT SETUP REQUEST with the radio key and ATTACH ACCEPT."""
+        self.tmsis += 1
+        esm = lte.activate_default_bearer(self.network, 1, self.address, self.pdn_type)
+        accept = lte.attach_accept(self.network, self.accepted_tac, self.tmsi, self.attach_type, esm)
+        nas = self.protected_down(accept)
+        self.owed(lte.context_setup_request(self.network, self.m, self.b, self, self.radio_key, nas))
+
+    def context_is_set_up(self):
+        """The station's INITIAL CONTEXT SETUP RESPONSE; nothing is owed."""
+        self.trace.hear(self.station, lte.context_setup_response(self.station, self.m, self.b))
+
+    def completes_attach(self):
+        """ATTACH COMPLETE; nothing is owed."""
+        self.sends(self.protected_up(lte.ATTACH_COMPLETE))
+
+    def attach_steps(self, station, b, pdn_type=1, attach_type=1, information=False):
+        """The steps of a whole attach, to be done in this order."""
+        yield lambda: self.asks_to_attach(station, b, pdn_type, attach_type, information)
+        yield self.authenticates
+        yield self.completes_security
+        if information:
+            yield self.gives_information
+        yield self.context_is_set_up
+        yield self.completes_attach
+
+    def attaches(self, station, b, **choices):
+        for step in self.attach_steps(station, b, **choices):
+            step()
+
+    # What follows an attach.
+
+    def is_released(self):
+        """The station asks for the release, since the phone is inactive, and completes it; owed the release."""
+        self.trace.hear(self.station, lte.release_request(self.m, self.b, lte.USER_INACTIVITY))
+        self.owed(lte.release_command(self.m, self.b, lte.USER_INACTIVITY))
+        self.goes()
+
+    def goes(self):
+        """UE CONTEXT RELEASE COMPLETE; nothing is owed."""
+        self.trace.hear(self.station, lte.release_complete(self.m, self.b))
+        self.station = self.b = None
+
+    def has_data_waiting(self, stations):
+        """Downlink data for an idle phone; owed PAGING by each of these stations."""
+        self.trace.say("data " + self.imsi)
+        for station in stations:
+            octets = lte.paging(self.network, self.imsi, self.tmsi, self.accepted_tac)
+            self.trace.owe("s%d" % self.slot, station, octets)
+
+    def owed_update(self, station, update_type):
+        self.accepted_tac = station.tac
+        self.tmsis += 1
+        accept = lte.tau_accept(self.network, station.tac, self.tmsi, update_type)
+        self.owed_nas(self.protected_down(accept))
+
+    def updates_from_idle(self, station, b, update_type=0):
+        """TRACKING AREA UPDATE REQUEST as the first message; owed the acceptance with a new M-TMSI."""
+        nas = self.protected_up(lte.tau_request(update_type, self.ksi, self.network, self.tmsi), header=1)
+        self.sends_first(station, b, nas)
+        self.owed_update(station, update_type)
+
+    def updates(self, update_type=0):
+        """TRACKING AREA UPDATE REQUEST on the connection that is there; owed the acceptance with a new M-TMSI."""
+        self.sends(self.protected_up(lte.tau_request(update_type, self.ksi, self.network, self.tmsi)))
+        self.owed_update(self.station, update_type)
+
+    def completes_update(self, from_idle):
+        """TRACKING AREA UPDATE COMPLETE; owed the release where the update came from idle."""
+        self.sends(self.protected_up(lte.TAU_COMPLETE))
+        if from_idle:
+            self.owed(lte.release_command(self.m, self.b, lte.NORMAL_RELEASE))
+            self.goes()
+
+    def switches_path(self, station, b):
+        """PATH SWITCH REQUEST by another station; owed its acknowledgement with the next hop and its counter."""
+        self.trace.hear(station, lte.path_switch_request(self.network, station, self.m, b, self.capability))
+        self.station, self.b = station, b
+        self.next_hop = lte.next_hop(self.vector.kasme, self.next_hop)
+        self.chaining = (self.chaining + 1) % 8
+        self.owed(lte.path_switch_acknowledge(self.m, b, self.chaining, self.next_hop))

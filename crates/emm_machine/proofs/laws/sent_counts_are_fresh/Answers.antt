@@ -1,0 +1,8 @@
+use Rattle.emm_machine.proofs.FreshRuns.{sends_ahead, sends_once}
+use Rattle.emm_machine.proofs.laws.sent_counts_are_fresh.Goals as goal
+
+pub returns-clause-ahead : goal.returns-clause-ahead
+returns-clause-ahead c = sends_ahead c.accepted_is_fresh.ensures.whole c.accepted_is_fresh.ensures.short
+
+pub returns-clause-once : goal.returns-clause-once
+returns-clause-once c = sends_once c.accepted_is_fresh.ensures.whole c.accepted_is_fresh.ensures.short

@@ -1,0 +1,64 @@
+-- What stays where nothing changes, and a notice in two steps.
+use Rattle.std.proofs.Common.{◌≡◌, ℕ, ◌<◌, List, [], ◌∷◌, Bool, true, false, Option, Some, None, map, refl, sym, ◌∙◌, ap, arith}
+use Rattle.std.specs.Prelude.{◌==◌, if◌then◌else◌, cond, filter, is_some, nat_lt, option_map, unwrap_or}
+use Rattle.std.proofs.lemmas.Bool.Decides.{nat_tests}
+use Rattle.ordered_lists.specs.Ordered.{AllOver, Rising, at, put, without}
+use Rattle.ordered_lists.specs.Laws.{at_over, over_more, without_absent}
+use Rattle.stranger_machine.specs.declared.state.Stranger.{Stranger}
+use Rattle.stranger_machine.specs.declared.table.Known.{Known}
+use Rattle.stranger_machine.specs.declared.turn.Notice.{Notice}
+use Rattle.stranger_machine.specs.Machine.{notes}
+use Rattle.stranger_machine.specs.Table.{known_id, known_if, noted, passed, stays_open, stranger_at, with_stranger}
+
+-- ---- what is there is put where it is
+
+put_past : (id : ℕ) (s : Stranger) (k : Known) (ks : List Known) (b : Bool) → nat_lt k.id id ≡ b → (k.id == id) ≡ false → Rising known_id (k ∷ ks)
+    → stranger_at id ks ≡ Some s → put known_id (record { id = id; stranger = s }) ks ≡ ks
+    → cond b (k ∷ put known_id (record { id = id; stranger = s }) ks) (record { id = id; stranger = s } ∷ k ∷ ks) ≡ k ∷ ks
+put_past id s k ks true l e h is same = ap (λ zs. k ∷ zs) same
+put_past id s k ks false l e h is same =
+    let lt : id < k.id = grind (arith, nat_tests) in
+    let none = ap (option_map (λ (x : Known). x.stranger)) (at_over known_id id ks (over_more known_id id k.id ks (omega arith) h.0)) in
+    absurd cc
+
+put_here : (id : ℕ) (s : Stranger) (k : Known) (ks : List Known) → k.id ≡ id → k.stranger ≡ s → put known_id (record { id = id; stranger = s }) (k ∷ ks) ≡ k ∷ ks
+put_here id s k ks same own =
+    let here : k ≡ record { id = id; stranger = s } = ap (λ n. record { id = n; stranger = k.stranger }) same ∙ ap (λ x. record { id = id; stranger = x }) own in
+    grind (arith, nat_tests)
+
+put_by : (id : ℕ) (s : Stranger) (k : Known) (ks : List Known) (b : Bool) → (k.id == id) ≡ b → Rising known_id (k ∷ ks)
+    → option_map (λ (x : Known). x.stranger) (cond b (Some k) (at known_id id ks)) ≡ Some s
+    → (stranger_at id ks ≡ Some s → put known_id (record { id = id; stranger = s }) ks ≡ ks)
+    → put known_id (record { id = id; stranger = s }) (k ∷ ks) ≡ k ∷ ks
+put_by id s k ks true e h is ih =
+    let same : k.id ≡ id = grind (arith, nat_tests) in
+    let own : k.stranger ≡ s = cc in
+    put_here id s k ks same own
+put_by id s k ks false e h is ih = rw e (put_past id s k ks (nat_lt k.id id) refl e h is (ih is))
+
+pub put_there : (id : ℕ) (s : Stranger) (ks : List Known) → Rising known_id ks → stranger_at id ks ≡ Some s → put known_id (record { id = id; stranger = s }) ks ≡ ks
+put_there id s [] h is = absurd cc
+put_there id s (k ∷ ks) h is = put_by id s k ks (k.id == id) refl h is (put_there id s ks h.1)
+
+none_at : (o : Option Known) → option_map (λ (k : Known). k.stranger) o ≡ None → o ≡ None
+none_at None h = refl
+none_at (Some k) h = absurd cc
+
+there_by : (id : ℕ) (o : Option Stranger) (ks : List Known) → Rising known_id ks → stranger_at id ks ≡ o → with_stranger id o ks ≡ ks
+there_by id None ks h is = without_absent known_id id ks (none_at (at known_id id ks) is)
+there_by id (Some s) ks h is = put_there id s ks h is
+
+pub with_there : (id : ℕ) (ks : List Known) → Rising known_id ks → with_stranger id (stranger_at id ks) ks ≡ ks
+with_there id ks h = there_by id (stranger_at id ks) ks h refl
+
+-- ---- a notice in two steps
+
+noted_if : (notice : Notice) (k : Known) (x : Option Stranger) (fs ns : List Known) → passed notice k ≡ record { id = k.id; stranger = unwrap_or x k.stranger }
+    → map (passed notice) fs ≡ ns → map (passed notice) (if is_some x then k ∷ fs else fs) ≡ known_if k.id x ns
+noted_if notice k None fs ns is h = h
+noted_if notice k (Some s) fs ns is h = ap (λ y. y ∷ map (passed notice) fs) is ∙ ap (λ ys. record { id = k.id; stranger = s } ∷ ys) h
+
+pub noted_is : (notice : Notice) (ks : List Known) → map (passed notice) (filter (stays_open notice) ks) ≡ noted notice ks
+noted_is notice [] = refl
+noted_is notice (k ∷ ks) =
+    noted_if notice k (notes k.id (Some k.stranger) notice).stranger (filter (stays_open notice) ks) (noted notice ks) refl (noted_is notice ks)

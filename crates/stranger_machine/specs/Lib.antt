@@ -1,0 +1,5 @@
+pub mod Turns
+pub mod Machine
+pub mod Seen
+pub mod Table
+pub mod Laws

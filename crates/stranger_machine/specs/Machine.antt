@@ -1,0 +1,189 @@
+-- The machine of one stranger: a phone that no subscriber is known for, at a station and under its number there. It is closed,
+-- waits for an identity (TS 24.301 clause 5.4.4), or is held by the subscriber that it turned out to be.
+use Rattle.std.specs.Prelude.{ℕ, ◌-◌, ◌/◌, ◌^◌, ◌==◌, ◌&&◌, nat_lt, if◌then◌else◌, List, [], ◌∷◌, slice_index, Option, Some, None, Result, Ok, Err}
+use Rattle.identity_slots.specs.declared.profile.Profile.{Profile}
+use Rattle.identity_slots.specs.Provisioned.{slot_of_imsi}
+use Rattle.nas_elements.specs.declared.fault.NasFault.{NasFault}
+use Rattle.nas_elements.specs.declared.fault.NasFault.TheVariants.{TooShort, Mandatory, UnknownType, OptionalPart, NoMemory}
+use Rattle.nas_elements.specs.declared.identity.MobileIdentity.{MobileIdentity}
+use Rattle.nas_elements.specs.declared.identity.MobileIdentity.TheVariants.{Imsi, Temporary}
+use Rattle.nas_messages.specs.declared.emm_types.Direction.TheVariants.{Uplink as UplinkDirection}
+use Rattle.nas_messages.specs.declared.emm_types.Emm.{Emm}
+use Rattle.nas_messages.specs.declared.emm_types.Emm.TheVariants as emm
+use Rattle.nas_messages.specs.Messages.{decoded_emm}
+use Rattle.s1ap_elements.specs.declared.cause.Cause.{Cause}
+use Rattle.s1ap_elements.specs.declared.cause.Cause.TheVariants.{RadioNetwork, Nas}
+use Rattle.s1ap_elements.specs.declared.cause.RadioNetworkCause.TheVariants.{UnknownMmeUeS1apId, UnknownPairUeS1apId}
+use Rattle.s1ap_elements.specs.declared.cause.NasCause.TheVariants.{Unspecified}
+use Rattle.emm_machine.specs.declared.event.Entry.{Entry}
+use Rattle.emm_machine.specs.declared.event.UeBody.{UeBody}
+use Rattle.emm_machine.specs.declared.event.UeBody.TheVariants.{Uplink, ReleaseRequest, ReleaseComplete, ContextSetupFailure, PathSwitch, Notice as NoticeBody}
+use Rattle.emm_machine.specs.declared.event.UeMessage.{UeMessage}
+use Rattle.emm_machine.specs.declared.octets.Answer.{Answer}
+use Rattle.emm_machine.specs.Connected.{cause_of_request}
+use Rattle.emm_machine.specs.Hearing.{initial_octets}
+use Rattle.emm_machine.specs.Messages.{attach_reject, service_reject, update_reject}
+use Rattle.emm_machine.specs.Pdus.{error_indication, path_switch_failure}
+use Rattle.emm_machine.specs.Steps.{Claim, Displaced, Message}
+use Rattle.stranger_machine.specs.declared.state.Kept.{Kept}
+use Rattle.stranger_machine.specs.declared.state.Stranger.{Stranger}
+use Rattle.stranger_machine.specs.declared.state.Stranger.TheVariants.{Waiting, Held}
+use Rattle.stranger_machine.specs.declared.turn.Notice.{Notice}
+use Rattle.stranger_machine.specs.declared.turn.Notice.TheVariants.{Tick, Gone}
+use Rattle.stranger_machine.specs.Turns.{Call, Turn, asked, calling, closing, entry_of, kept_of, place_of, refused, released, said, stays}
+
+-- T3470: the ticks until IDENTITY REQUEST is sent again, and how often it is (TS 24.301 clause 10.2)
+abbrev pub identity_ticks : ℕ
+identity_ticks = 6
+
+abbrev pub identity_repeats : ℕ
+identity_repeats = 4
+
+-- ---- an INITIAL UE MESSAGE that names nobody
+
+-- how a phone that is foreign is met: asked for its identity, refused by a NAS message, or turned away without one
+pub data Welcome : Type 0 where
+  Ask : Welcome
+  Refuse : List ℕ → Welcome
+  TurnAway : Welcome
+
+abbrev pub by_identity : MobileIdentity → Welcome
+by_identity (Imsi digits) = Refuse (attach_reject 8 None)
+by_identity (Temporary g) = Ask
+
+-- an identity of elsewhere can be asked for in an attach alone: any other request is refused with cause 9, identity not derived
+abbrev pub by_message : Emm (List ℕ) → Welcome
+by_message (emm.AttachRequest m) = by_identity m.identity
+by_message (emm.AreaUpdateRequest m) = Refuse (update_reject 9)
+by_message (emm.ServiceRequest octets) = Refuse (service_reject 9)
+by_message _ = TurnAway
+
+-- a request with a part that can't be read is refused with cause 96, by its type
+abbrev pub by_type : ℕ → Welcome
+by_type code = if code == 0x41 then Refuse (attach_reject 96 None) else if code == 0x48 then Refuse (update_reject 96) else TurnAway
+
+abbrev pub by_fault : NasFault → ℕ → Welcome
+by_fault Mandatory code = by_type code
+by_fault OptionalPart code = by_type code
+by_fault TooShort code = TurnAway
+by_fault UnknownType code = TurnAway
+by_fault NoMemory code = TurnAway
+
+abbrev pub by_reading : Result (Emm (List ℕ)) NasFault → ℕ → Welcome
+by_reading (Ok m) code = by_message m
+by_reading (Err fault) code = by_fault fault code
+
+unfoldable pub meet : List ℕ → Welcome
+meet nas = by_reading (decoded_emm UplinkDirection (initial_octets nas)) (slice_index (initial_octets nas) 1)
+
+unfoldable pub welcomed : ℕ → Kept → Welcome → Turn
+welcomed id k Ask = stays (Some (Waiting k identity_ticks identity_repeats)) (asked (place_of id k))
+welcomed id k (Refuse nas) = closing (refused (place_of id k) nas)
+welcomed id k TurnAway = closing (released (place_of id k) (Nas Unspecified))
+
+-- whoever held the id loses it
+abbrev pub displaced_by : ℕ → Option Stranger → Option Call
+displaced_by id None = None
+displaced_by id (Some (Waiting k left repeats)) = None
+displaced_by id (Some (Held slot)) = Some (record { slot = slot; item = Displaced id })
+
+unfoldable pub begins : ℕ → Option Stranger → Entry (List ℕ) → Turn
+begins id s m = calling (displaced_by id s) (welcomed id (kept_of m) (meet m.nas))
+
+-- ---- a message with the id
+
+-- of nobody (TS 36.413 clauses 10.6 and 8.4.4.3)
+unfoldable pub unknown : UeBody (List ℕ) → UeMessage (List ℕ) → List Answer
+unknown ReleaseComplete m = []
+unknown PathSwitch m = said m.station (path_switch_failure m.mme_id m.enb_id (RadioNetwork UnknownMmeUeS1apId))
+unknown (Uplink nas tai) m = said m.station (error_indication m.mme_id m.enb_id (RadioNetwork UnknownMmeUeS1apId))
+unknown (ReleaseRequest cause) m = said m.station (error_indication m.mme_id m.enb_id (RadioNetwork UnknownMmeUeS1apId))
+unknown ContextSetupFailure m = said m.station (error_indication m.mme_id m.enb_id (RadioNetwork UnknownMmeUeS1apId))
+unknown NoticeBody m = said m.station (error_indication m.mme_id m.enb_id (RadioNetwork UnknownMmeUeS1apId))
+
+-- the IMSI of an IDENTITY RESPONSE, which is plain
+abbrev pub imsi_of : MobileIdentity → Option (List ℕ)
+imsi_of (Imsi digits) = Some digits
+imsi_of (Temporary g) = None
+
+abbrev pub told_imsi : Result (Emm (List ℕ)) NasFault → Option (List ℕ)
+told_imsi (Ok (emm.IdentityResponse identity)) = imsi_of identity
+told_imsi _ = None
+
+-- who is provisioned claims the association, with the message that began it
+unfoldable pub claimed_by : Option ℕ → ℕ → Kept → Turn
+claimed_by None id k = closing (refused (place_of id k) (attach_reject 8 None))
+claimed_by (Some slot) id k = record { stranger = Some (Held slot); sent = []; call = Some (record { slot = slot; item = Claim id (entry_of k) }) }
+
+unfoldable pub identified : Option (List ℕ) → List Profile → ℕ → Kept → Stranger → Turn
+identified None ps id k s = stays (Some s) []
+identified (Some imsi) ps id k s = claimed_by (slot_of_imsi imsi ps) id k
+
+-- from its own station and number
+unfoldable pub heeds : UeBody (List ℕ) → List Profile → ℕ → Kept → Stranger → Turn
+heeds (Uplink nas tai) ps id k s = identified (told_imsi (decoded_emm UplinkDirection nas)) ps id k s
+heeds (ReleaseRequest cause) ps id k s = closing (released (place_of id k) (cause_of_request cause))
+heeds ReleaseComplete ps id k s = stays (Some s) []
+heeds ContextSetupFailure ps id k s = stays (Some s) []
+heeds PathSwitch ps id k s = stays (Some s) []
+heeds NoticeBody ps id k s = stays (Some s) []
+
+unfoldable pub checked : List Profile → UeMessage (List ℕ) → Kept → Stranger → Turn
+checked ps m k s =
+    if k.station == m.station && k.enb_id == m.enb_id then heeds m.body ps m.mme_id k s
+    else stays (Some s) (said m.station (error_indication m.mme_id m.enb_id (RadioNetwork UnknownPairUeS1apId)))
+
+-- waiting: UE CONTEXT RELEASE COMPLETE is never answered, and no path switch leads away
+unfoldable pub waiting_told : UeBody (List ℕ) → List Profile → UeMessage (List ℕ) → Kept → Stranger → Turn
+waiting_told ReleaseComplete ps m k s = stays (Some s) []
+waiting_told PathSwitch ps m k s = stays (Some s) (unknown PathSwitch m)
+waiting_told (Uplink nas tai) ps m k s = checked ps m k s
+waiting_told (ReleaseRequest cause) ps m k s = checked ps m k s
+waiting_told ContextSetupFailure ps m k s = checked ps m k s
+waiting_told NoticeBody ps m k s = checked ps m k s
+
+unfoldable pub told : List Profile → Option Stranger → UeMessage (List ℕ) → Turn
+told ps None m = closing (unknown m.body m)
+told ps (Some (Waiting k left repeats)) m = waiting_told m.body ps m k (Waiting k left repeats)
+told ps (Some (Held slot)) m = record { stranger = Some (Held slot); sent = []; call = Some (record { slot = slot; item = Message m }) }
+
+-- ---- what comes to all
+
+-- a second has passed: T3470
+unfoldable pub waits : ℕ → Kept → ℕ → ℕ → Turn
+waits id k left repeats =
+    if nat_lt 1 left then stays (Some (Waiting k (left - 1) repeats)) []
+    else if nat_lt 0 repeats then stays (Some (Waiting k identity_ticks (repeats - 1))) (asked (place_of id k))
+    else closing (released (place_of id k) (Nas Unspecified))
+
+unfoldable pub ticks : ℕ → Option Stranger → Turn
+ticks id None = stays None []
+ticks id (Some (Waiting k left repeats)) = waits id k left repeats
+ticks id (Some (Held slot)) = stays (Some (Held slot)) []
+
+-- the station of a stranger's id
+abbrev pub station_in : ℕ → ℕ
+station_in id = (id - 2 ^ 31) / 2 ^ 24
+
+-- a station was lost, set up anew or reset: its strangers are closed, those too that are held
+unfoldable pub loses : ℕ → Option Stranger → ℕ → Turn
+loses id s e = if station_in id == e then closing [] else stays s []
+
+unfoldable pub notes : ℕ → Option Stranger → Notice → Turn
+notes id s Tick = ticks id s
+notes id s (Gone e) = loses id s e
+
+-- ---- the step
+
+-- what reaches a stranger at an event
+pub data Input : Type 0 where
+  Nothing : Input
+  Begins : Entry (List ℕ) → Input
+  Told : UeMessage (List ℕ) → Input
+  Notes : Notice → Input
+
+unfoldable pub stranger_step : List Profile → ℕ → Option Stranger → Input → Turn
+stranger_step ps id s Nothing = stays s []
+stranger_step ps id s (Begins m) = begins id s m
+stranger_step ps id s (Told m) = told ps s m
+stranger_step ps id s (Notes notice) = notes id s notice

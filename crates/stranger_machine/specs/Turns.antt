@@ -1,0 +1,89 @@
+-- What one stranger does at an event, and what it sends.
+use Rattle.std.specs.Prelude.{ℕ, List, [], ◌++◌, Option, Some, None}
+use Rattle.nas_messages.specs.declared.emm_types.Emm.TheVariants as emm
+use Rattle.nas_messages.specs.Messages.{encoded_emm}
+use Rattle.s1ap_elements.specs.declared.cause.Cause.{Cause}
+use Rattle.s1ap_elements.specs.declared.cause.Cause.TheVariants.{Nas}
+use Rattle.s1ap_elements.specs.declared.cause.NasCause.TheVariants.{NormalRelease}
+use Rattle.s1ap_messages.specs.declared.pdu.Pdu.{Pdu}
+use Rattle.s1ap_messages.specs.Pdus.{encoded}
+use Rattle.emm_machine.specs.declared.event.Entry.{Entry}
+use Rattle.emm_machine.specs.declared.octets.Answer.{Answer}
+use Rattle.emm_machine.specs.declared.solo.Connection.{Connection}
+use Rattle.emm_machine.specs.declared.stations.StationState.{StationState}
+use Rattle.emm_machine.specs.Actions.{answer_of}
+use Rattle.emm_machine.specs.Pdus.{downlink, release_command}
+use Rattle.emm_machine.specs.Steps.{Item, item_of}
+use Rattle.stranger_machine.specs.declared.state.Kept.{Kept}
+use Rattle.stranger_machine.specs.declared.state.Stranger.{Stranger}
+use Rattle.stranger_machine.specs.declared.turn.After.{After}
+use Rattle.stranger_machine.specs.declared.turn.After.TheVariants as after
+use Rattle.stranger_machine.specs.declared.turn.Call.{Call as CallInCode}
+use Rattle.stranger_machine.specs.declared.turn.Turn.{Turn as TurnInCode}
+
+-- a subscriber that a stranger calls, and with what
+pub record Call : Type 0 where
+  pub slot : ℕ
+  pub item : Item
+
+-- the stranger behind an event, what it sends, and whom it calls; a stranger that is none is closed
+pub record Turn : Type 0 where
+  pub stranger : Option Stranger
+  pub sent : List Answer
+  pub call : Option Call
+
+-- it stays, and sends these
+abbrev pub stays : Option Stranger → List Answer → Turn
+stays s sent = record { stranger = s; sent = sent; call = None }
+
+-- it is closed behind these
+abbrev pub closing : List Answer → Turn
+closing sent = record { stranger = None; sent = sent; call = None }
+
+abbrev pub calling : Option Call → Turn → Turn
+calling call t = record t { call = call }
+
+-- ---- what is sent
+
+abbrev pub said : ℕ → Pdu (List ℕ) → List Answer
+said station message = answer_of station None (encoded message)
+
+-- an INITIAL UE MESSAGE as it is kept, and as it was
+abbrev pub kept_of : Entry (List ℕ) → Kept
+kept_of m = record { station = m.station; enb_id = m.enb_id; nas = m.nas; tai = m.tai }
+
+abbrev pub entry_of : Kept → Entry (List ℕ)
+entry_of k = record { station = k.station; enb_id = k.enb_id; nas = k.nas; tai = k.tai }
+
+-- the association of a stranger
+abbrev pub place_of : ℕ → Kept → Connection
+place_of id k = record { id = id; station = k.station; enb_id = k.enb_id }
+
+unfoldable pub released : Connection → Cause → List Answer
+released k cause = said k.station (release_command k.id k.enb_id cause)
+
+-- the NAS message, plain, and a release
+unfoldable pub refused : Connection → List ℕ → List Answer
+refused k nas = said k.station (downlink k nas) ++ released k (Nas NormalRelease)
+
+-- IDENTITY REQUEST for the IMSI (TS 24.301 clause 8.2.18)
+unfoldable pub identity_request : List ℕ
+identity_request = encoded_emm emm.IdentityRequest
+
+unfoldable pub asked : Connection → List Answer
+asked k = said k.station (downlink k identity_request)
+
+-- ---- what functions of the code returned
+
+abbrev pub after_of : After → Option Stranger → Option Stranger
+after_of after.Stays s = s
+after_of after.Closed s = None
+after_of (after.Is x) s = Some x
+
+-- a call is the same for all stations
+abbrev pub call_of : List StationState → Option CallInCode → Option Call
+call_of stations None = None
+call_of stations (Some c) = Some (record { slot = c.slot; item = item_of c.event stations })
+
+abbrev pub turn_of : List StationState → Option Stranger → TurnInCode → Turn
+turn_of stations s t = record { stranger = after_of t.after s; sent = t.sent; call = call_of stations t.call }

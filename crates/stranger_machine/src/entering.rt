@@ -1,0 +1,201 @@
+//! An INITIAL UE MESSAGE that names nobody (TS 36.413 clause 8.6.2.1).
+
+ghost use Rattle.std.specs.Prelude.{◌≡◌, List, IfOk, option_map, slice_index};
+ghost use Rattle.nas_messages.specs.Messages.{lists};
+ghost use Rattle.emm_machine.specs.declared.stations.StationState.{StationState};
+ghost use Rattle.emm_machine.specs.Steps.{entry_lists};
+ghost use Rattle.stranger_machine.specs.Machine.{begins, by_fault, by_identity, by_message, by_type, displaced_by, meet, welcomed};
+ghost use Rattle.stranger_machine.specs.Seen.{refusal_of, welcome_of};
+ghost use Rattle.stranger_machine.specs.Turns.{call_of, kept_of, turn_of};
+
+use crate::sending::{asked, refused, released};
+use crate::state::{Kept, Stranger};
+use crate::turn::{After, Call, Turn};
+use emm_machine::{Entry, SoloEvent, attach_reject, initial_octets, service_reject, update_reject};
+use identity_slots::AssociationId;
+use nas_elements::{MobileIdentity, NasFault};
+use nas_messages::{Direction, Emm, EmmMessage, decode_emm};
+use s1ap_elements::{Cause, NasCause};
+use std::alloc::{AllocError, Global};
+
+/// T3470 in ticks, and how often IDENTITY REQUEST is sent again (TS 24.301 clause 10.2).
+pub(crate) const IDENTITY_TICKS: u32 = 6;
+
+pub(crate) const IDENTITY_REPEATS: u32 = 4;
+
+/// A request that is refused (TS 24.301 clauses 5.5.1.2.5, 5.5.3.2.5 and 5.6.1.5).
+#[derive(Clone, Copy)]
+pub(crate) enum Rejected {
+    Attach(u8),
+    AreaUpdate(u8),
+    Service(u8),
+}
+
+/// How a phone that is foreign is met.
+#[derive(Clone, Copy)]
+pub(crate) enum Welcome {
+    /// It is asked for its identity.
+    Ask,
+    /// Its request is refused, and its association released.
+    Refuse(Rejected),
+    /// Its association is released.
+    TurnAway,
+}
+
+// No such subscriber.
+const NOT_ALLOWED: u8 = 8;
+
+// The identity can't be derived by the network.
+const NOT_DERIVED: u8 = 9;
+
+// Invalid mandatory information.
+const INVALID: u8 = 96;
+
+fn by_identity(identity: &MobileIdentity) -> Welcome
+    ensures { welcome_of result ≡ by_identity identity.now }
+{
+    match identity {
+        MobileIdentity::Imsi(_) => Welcome::Refuse(Rejected::Attach(NOT_ALLOWED)),
+        MobileIdentity::Temporary(_) => Welcome::Ask,
+    }
+}
+
+fn by_message(message: &EmmMessage) -> Welcome
+    ensures { welcome_of result ≡ by_message (lists message.now) }
+{
+    match message {
+        Emm::AttachRequest(request) => by_identity(&request.identity),
+        Emm::AreaUpdateRequest(_) => Welcome::Refuse(Rejected::AreaUpdate(NOT_DERIVED)),
+        Emm::ServiceRequest { octets: _ } => Welcome::Refuse(Rejected::Service(NOT_DERIVED)),
+        _ => Welcome::TurnAway,
+    }
+}
+
+// A request with a part that can't be read, by its type (TS 24.301 clause 9.8).
+fn by_type(code: u8) -> Welcome
+    ensures { welcome_of result ≡ by_type code }
+{
+    match code {
+        0x41 => Welcome::Refuse(Rejected::Attach(INVALID)),
+        0x48 => Welcome::Refuse(Rejected::AreaUpdate(INVALID)),
+        _ => Welcome::TurnAway,
+    }
+}
+
+fn by_fault(fault: NasFault, code: u8) -> Welcome
+    ensures { welcome_of result ≡ by_fault fault code }
+{
+    match fault {
+        NasFault::Mandatory | NasFault::OptionalPart => by_type(code),
+        NasFault::TooShort | NasFault::UnknownType | NasFault::NoMemory => Welcome::TurnAway,
+    }
+}
+
+// A message that is lent to be read.
+#[derive(Drop)]
+struct Decoded<'a> {
+    message: EmmMessage<'a>,
+}
+
+fn second(octets: &[u8]) -> u8
+    ensures { result ≡ slice_index octets.now 1 }
+{
+    match octets.get(1) {
+        Some(octet) => *octet,
+        None => 0,
+    }
+}
+
+// How a phone is met, by its NAS message.
+#[tactic(auto, unfolding(crate::specs::Machine::meet))]
+fn meet(nas: &[u8]) -> Welcome
+    ensures { welcome_of result ≡ meet nas.now }
+{
+    let octets = initial_octets(nas);
+    match decode_emm(octets, Direction::Uplink) {
+        Ok(message) => {
+            let decoded = Decoded { message };
+            by_message(&decoded.message)
+        }
+        Err(fault) => by_fault(fault, second(octets)),
+    }
+}
+
+fn refusal(alloc: Global, rejected: Rejected) -> Result<Vec<u8>, AllocError>
+    ensures { IfOk result (λ o. o.items ≡ refusal_of rejected) }
+{
+    match rejected {
+        Rejected::Attach(cause) => attach_reject(alloc, cause),
+        Rejected::AreaUpdate(cause) => update_reject(alloc, cause),
+        Rejected::Service(cause) => service_reject(alloc, cause),
+    }
+}
+
+// Whoever held the id loses it.
+fn displaced_by<'a>(id: AssociationId, before: Option<&Stranger>) -> Option<Call<'a>>
+    ensures { (stations : List StationState) → call_of stations result ≡ displaced_by id (option_map (λ s. s.now) before.entry) }
+{
+    match before {
+        Some(Stranger::Held(slot)) => Some(Call {
+            slot: *slot,
+            event: SoloEvent::Displaced(id),
+        }),
+        Some(
+            Stranger::Waiting {
+                kept: _,
+                left: _,
+                repeats: _,
+            },
+        )
+        | None => None,
+    }
+}
+
+/// A stranger with this id begins with an INITIAL UE MESSAGE that names nobody: an attach with a temporary identity is asked for
+/// the IMSI, any other request is refused, any other message is turned away by the release alone. Who held the id is called.
+#[tactic(auto, unfolding(crate::specs::Machine::begins, crate::specs::Machine::welcomed))]
+pub fn begins<'a>(
+    alloc: Global,
+    id: AssociationId,
+    before: Option<&Stranger>,
+    entry: &Entry<&'a [u8]>,
+) -> Result<Turn<'a>, AllocError>
+    ensures { (stations : List StationState) → IfOk result (λ t. turn_of stations (option_map (λ s. s.now) before.entry) t
+        ≡ begins id (option_map (λ s. s.now) before.entry) (entry_lists entry.now)) }
+{
+    let call = displaced_by(id, before);
+    let kept = Kept::of_entry(alloc, entry)?;
+    match meet(entry.nas) {
+        Welcome::Ask => {
+            let sent = asked(alloc, kept.place(id))?;
+            let waiting = Stranger::Waiting {
+                kept,
+                left: IDENTITY_TICKS,
+                repeats: IDENTITY_REPEATS,
+            };
+            Ok(Turn {
+                after: After::Is(waiting),
+                sent,
+                call,
+            })
+        }
+        Welcome::Refuse(rejected) => {
+            let nas = refusal(alloc, rejected)?;
+            let sent = refused(alloc, id, &kept, nas.as_slice())?;
+            Ok(Turn {
+                after: After::Closed,
+                sent,
+                call,
+            })
+        }
+        Welcome::TurnAway => {
+            let cause = Cause::Nas(NasCause::Unspecified);
+            let sent = released(alloc, kept.place(id), cause)?;
+            Ok(Turn {
+                after: After::Closed,
+                sent,
+                call,
+            })
+        }
+    }
+}

@@ -1,0 +1,21 @@
+//! Strangers: phones that no subscriber is known for, each at a station and under its number there (TS 24.301 clause 5.4.4,
+//! TS 36.413 clause 8.6.2.1).
+//!
+//! A [`Stranger`] waits for an identity, or is held by the subscriber that it turned out to be; any other is closed. What one
+//! stranger does at an event is a function of its state and the event ([`begins`], [`told`], [`Known::noted`]), and
+//! [`Strangers`] keeps those that aren't closed by their ids.
+#![tactic(auto)]
+
+mod entering;
+mod sending;
+mod state;
+mod table;
+mod telling;
+mod turn;
+
+pub use entering::begins;
+pub use sending::saying;
+pub use state::{Kept, Stranger};
+pub use table::{Known, Strangers};
+pub use telling::{told, unknown};
+pub use turn::{After, Call, Notice, Turn};

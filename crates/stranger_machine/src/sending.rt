@@ -1,0 +1,130 @@
+//! What is sent to a stranger.
+
+ghost use Rattle.std.specs.Prelude.{◌≡◌, ◌++◌, IfOk, OnOk};
+ghost use Rattle.nas_messages.specs.Messages.{encoded_emm};
+ghost use Rattle.s1ap_messages.specs.Pdus.{lists};
+ghost use Rattle.emm_machine.specs.Pdus.{downlink};
+ghost use Rattle.stranger_machine.specs.Turns.{asked, identity_request, place_of, refused, released, said};
+
+use crate::state::Kept;
+use emm_machine::{
+    Answer, Answers, Connection, SentOctets, StationNumber, downlink, release_command,
+};
+use identity_slots::AssociationId;
+use nas_messages::{Emm, EmmMessage, encode_emm};
+use s1ap_elements::{Cause, NasCause};
+use s1ap_messages::{EncodeFault, S1apPdu, encode};
+use std::alloc::{AllocError, Global};
+
+// The message behind what is sent so far; one without a written form isn't sent.
+pub(crate) fn say(
+    alloc: Global,
+    sent: &mut Answers,
+    station: StationNumber,
+    message: &S1apPdu,
+) -> Result<(), AllocError>
+    ensures { OnOk result (sent.new ≡ sent.old ++ said station (lists message.now)) }
+{
+    match encode(alloc, message) {
+        Ok(octets) => sent.push(Answer {
+            station,
+            octets: SentOctets::new(octets),
+            under: None,
+        }),
+        Err(EncodeFault::NotWritable) => Ok(()),
+        Err(EncodeFault::NoMemory) => Err(AllocError),
+    }
+}
+
+/// The message alone, to a station; one without a written form isn't sent.
+pub fn saying(
+    alloc: Global,
+    station: StationNumber,
+    message: &S1apPdu,
+) -> Result<Answers, AllocError>
+    ensures { IfOk result (λ sent. sent ≡ said station (lists message.now)) }
+{
+    let mut sent = Answers::new(alloc);
+    say(alloc, &mut sent, station, message)?;
+    Ok(sent)
+}
+
+// UE CONTEXT RELEASE COMMAND behind what is sent so far.
+#[tactic(auto, unfolding(crate::specs::Turns::released))]
+fn release(
+    alloc: Global,
+    sent: &mut Answers,
+    place: Connection,
+    cause: Cause,
+) -> Result<(), AllocError>
+    ensures { OnOk result (sent.new ≡ sent.old ++ released place cause) }
+{
+    say(
+        alloc,
+        sent,
+        place.station,
+        &release_command(place.id, place.enb_id, cause),
+    )
+}
+
+/// UE CONTEXT RELEASE COMMAND.
+pub(crate) fn released(
+    alloc: Global,
+    place: Connection,
+    cause: Cause,
+) -> Result<Answers, AllocError>
+    ensures { IfOk result (λ sent. sent ≡ released place cause) }
+{
+    let mut sent = Answers::new(alloc);
+    release(alloc, &mut sent, place, cause)?;
+    Ok(sent)
+}
+
+// A NAS message, plain.
+fn telling(alloc: Global, place: Connection, nas: &[u8]) -> Result<Answers, AllocError>
+    ensures { IfOk result (λ sent. sent ≡ said place.station (downlink place nas.now)) }
+{
+    saying(alloc, place.station, &downlink(place, nas))
+}
+
+/// A NAS message, plain, and UE CONTEXT RELEASE COMMAND, on the association with this id.
+#[tactic(auto, unfolding(crate::specs::Turns::refused))]
+pub(crate) fn refused(
+    alloc: Global,
+    id: AssociationId,
+    kept: &Kept,
+    nas: &[u8],
+) -> Result<Answers, AllocError>
+    ensures { IfOk result (λ sent. sent ≡ refused (place_of id kept.now) nas.now) }
+{
+    let mut sent = telling(alloc, kept.place(id), nas)?;
+    let cause = Cause::Nas(NasCause::NormalRelease);
+    release(alloc, &mut sent, kept.place(id), cause)?;
+    Ok(sent)
+}
+
+// A message that is lent to be encoded.
+#[derive(Drop)]
+struct Lent<'a> {
+    message: EmmMessage<'a>,
+}
+
+// IDENTITY REQUEST for the IMSI (TS 24.301 clause 8.2.18).
+#[tactic(auto, unfolding(crate::specs::Turns::identity_request))]
+fn identity_request(alloc: Global) -> Result<Vec<u8>, AllocError>
+    ensures { IfOk result (λ o. o.items ≡ identity_request) }
+{
+    let lent = Lent {
+        message: Emm::IdentityRequest,
+    };
+    encode_emm(alloc, &lent.message)
+}
+
+/// IDENTITY REQUEST.
+#[tactic(auto, unfolding(crate::specs::Turns::asked))]
+pub(crate) fn asked(alloc: Global, place: Connection) -> Result<Answers, AllocError>
+    ensures { IfOk result (λ sent. sent ≡ asked place) }
+{
+    let nas = identity_request(alloc)?;
+    telling(alloc, place, nas.as_slice())
+}

@@ -1,0 +1,67 @@
+//! What is kept of a stranger.
+
+ghost use Rattle.std.specs.Prelude.{◌≡◌, IfOk};
+ghost use Rattle.emm_machine.specs.Steps.{entry_lists};
+ghost use Rattle.stranger_machine.specs.Turns.{entry_of, kept_of, place_of};
+
+use emm_machine::{Connection, Entry, SentOctets, StationNumber};
+use identity_slots::{AssociationId, Slot};
+use s1ap_elements::{EnbUeId, Tai};
+use std::alloc::{AllocError, Global};
+
+/// The INITIAL UE MESSAGE that began an association (TS 36.413 clause 8.6.2.1).
+#[derive(Drop)]
+pub struct Kept {
+    pub station: StationNumber,
+    pub enb_id: EnbUeId,
+    /// Its NAS message.
+    pub nas: SentOctets,
+    pub tai: Tai,
+}
+
+impl Kept {
+    /// A copy of the message.
+    pub fn of_entry(alloc: Global, entry: &Entry<&[u8]>) -> Result<Kept, AllocError>
+        ensures { IfOk result (λ k. k ≡ kept_of (entry_lists entry.now)) }
+    {
+        Ok(Kept {
+            station: entry.station,
+            enb_id: entry.enb_id,
+            nas: SentOctets::new(Vec::from_slice(alloc, entry.nas)?),
+            tai: entry.tai,
+        })
+    }
+
+    /// The message as it was.
+    pub fn entry<'a>(&'a self) -> Entry<&'a [u8]>
+        ensures { entry_lists result ≡ entry_of self.now }
+    {
+        Entry {
+            station: self.station,
+            enb_id: self.enb_id,
+            nas: self.nas.as_slice(),
+            tai: self.tai,
+        }
+    }
+
+    /// The association, by the stranger's id.
+    pub(crate) fn place(&self, id: AssociationId) -> Connection
+        ensures { result ≡ place_of id self.now }
+    {
+        Connection {
+            id,
+            station: self.station,
+            enb_id: self.enb_id,
+        }
+    }
+}
+
+/// A stranger that isn't closed.
+#[derive(Drop)]
+pub enum Stranger {
+    /// It was asked for its identity: the message that began, and of T3470 the ticks left and how often the request may still
+    /// be sent again (TS 24.301 clause 5.4.4).
+    Waiting { kept: Kept, left: u32, repeats: u32 },
+    /// It turned out to be this subscriber, who has its association.
+    Held(Slot),
+}

@@ -1,0 +1,251 @@
+//! A message with a stranger's id.
+
+ghost use Rattle.std.specs.Prelude.{◌≡◌, ◌∷◌, List, [], Ok, Some, None, IfOk, option_map};
+ghost use Rattle.nas_messages.specs.Messages.{decoded_emm, lists};
+ghost use Rattle.nas_messages.specs.declared.emm_types.Direction.TheVariants.{Uplink};
+ghost use Rattle.emm_machine.specs.declared.stations.StationState.{StationState};
+ghost use Rattle.emm_machine.specs.Steps.{Message, message_lists};
+ghost use Rattle.stranger_machine.specs.declared.state.Stranger.{Stranger};
+ghost use Rattle.stranger_machine.specs.declared.turn.After.TheVariants as afters;
+ghost use Rattle.stranger_machine.specs.Machine.{checked, claimed_by, heeds, identified, imsi_of, told, told_imsi, unknown, waiting_told};
+ghost use Rattle.stranger_machine.specs.Turns.{turn_of};
+
+use crate::sending::{refused, released, saying};
+use crate::state::{Kept, Stranger};
+use crate::turn::{After, Call, Turn};
+use emm_machine::{
+    Answers, SoloEvent, UeBody, UeMessage, attach_reject, cause_of_request, error_indication,
+    path_switch_failure,
+};
+use identity_slots::{AssociationId, Provision, Slot};
+use nas_elements::{Imsi, MobileIdentity};
+use nas_messages::{Direction, Emm, EmmMessage, decode_emm};
+use s1ap_elements::{Cause, RadioNetworkCause};
+use std::alloc::{AllocError, Global};
+
+// EMM cause 8: EPS services and non-EPS services not allowed (TS 24.301 clause 9.9.3.9).
+const NOT_ALLOWED: u8 = 8;
+
+/// The answer to a message whose id is nobody's: ERROR INDICATION with the ids that were received, for a path switch its failure,
+/// for a release that is complete nothing (TS 36.413 clauses 10.6 and 8.4.4.3).
+#[tactic(auto, unfolding(crate::specs::Machine::unknown))]
+pub fn unknown(alloc: Global, message: &UeMessage<&[u8]>) -> Result<Answers, AllocError>
+    ensures { IfOk result (λ sent. sent ≡ unknown (message_lists message.now).body (message_lists message.now)) }
+{
+    let cause = Cause::RadioNetwork(RadioNetworkCause::UnknownMmeUeS1apId);
+    match message.body {
+        UeBody::ReleaseComplete => Ok(Answers::new(alloc)),
+        UeBody::PathSwitch => {
+            let failure = path_switch_failure(message.mme_id, message.enb_id, cause);
+            saying(alloc, message.station, &failure)
+        }
+        UeBody::Uplink { nas: _, tai: _ }
+        | UeBody::ReleaseRequest { cause: _ }
+        | UeBody::ContextSetupFailure
+        | UeBody::Notice => {
+            let indication = error_indication(message.mme_id, message.enb_id, cause);
+            saying(alloc, message.station, &indication)
+        }
+    }
+}
+
+// It stays, and sends these.
+fn staying<'a>(sent: Answers) -> Turn<'a>
+    ensures after { result.after ≡ afters.Stays }
+    ensures sent { result.sent ≡ sent }
+    ensures call { result.call ≡ None }
+{
+    Turn {
+        after: After::Stays,
+        sent,
+        call: None,
+    }
+}
+
+fn closing<'a>(sent: Answers) -> Turn<'a>
+    ensures after { result.after ≡ afters.Closed }
+    ensures sent { result.sent ≡ sent }
+    ensures call { result.call ≡ None }
+{
+    Turn {
+        after: After::Closed,
+        sent,
+        call: None,
+    }
+}
+
+fn imsi_of(identity: &MobileIdentity) -> Option<Imsi>
+    ensures { result ≡ imsi_of identity.now }
+{
+    match identity {
+        MobileIdentity::Imsi(imsi) => Some(*imsi),
+        MobileIdentity::Temporary(_) => None,
+    }
+}
+
+// A message that is lent to be read.
+#[derive(Drop)]
+struct Decoded<'a> {
+    message: EmmMessage<'a>,
+}
+
+fn imsi_in(message: &EmmMessage) -> Option<Imsi>
+    ensures { result ≡ told_imsi (Ok (lists message.now)) }
+{
+    match message {
+        Emm::IdentityResponse { identity } => imsi_of(identity),
+        _ => None,
+    }
+}
+
+// The IMSI of a plain IDENTITY RESPONSE (TS 24.301 clause 8.2.19).
+fn told_imsi(nas: &[u8]) -> Option<Imsi>
+    ensures { result ≡ told_imsi (decoded_emm Uplink nas.now) }
+{
+    match decode_emm(nas, Direction::Uplink) {
+        Ok(message) => {
+            let decoded = Decoded { message };
+            imsi_in(&decoded.message)
+        }
+        Err(_) => None,
+    }
+}
+
+// Who is provisioned claims the association; any other is refused.
+#[tactic(auto, unfolding(crate::specs::Machine::identified, crate::specs::Machine::claimed_by))]
+fn identified<'a>(
+    alloc: Global,
+    provision: &Provision,
+    id: AssociationId,
+    kept: &'a Kept,
+    imsi: Option<Imsi>,
+) -> Result<Turn<'a>, AllocError>
+    ensures { (stations : List StationState) (s : Stranger) → IfOk result (λ t. turn_of stations (Some s) t ≡ identified imsi provision.now.profiles id kept.entry.now s) }
+{
+    let Some(imsi) = imsi else {
+        return Ok(staying(Answers::new(alloc)));
+    };
+    match provision.slot_of_imsi(imsi) {
+        Some(slot) => Ok(Turn {
+            after: After::Is(Stranger::Held(slot)),
+            sent: Answers::new(alloc),
+            call: Some(Call {
+                slot,
+                event: SoloEvent::Claim(id, kept.entry()),
+            }),
+        }),
+        None => {
+            let nas = attach_reject(alloc, NOT_ALLOWED)?;
+            Ok(closing(refused(alloc, id, kept, nas.as_slice())?))
+        }
+    }
+}
+
+// A message from the stranger's own station and number.
+#[tactic(auto, unfolding(crate::specs::Machine::heeds))]
+fn heeds<'a>(
+    alloc: Global,
+    provision: &Provision,
+    kept: &'a Kept,
+    message: &UeMessage<&[u8]>,
+) -> Result<Turn<'a>, AllocError>
+    ensures { (stations : List StationState) (s : Stranger) → IfOk result (λ t. turn_of stations (Some s) t
+        ≡ heeds (message_lists message.now).body provision.now.profiles message.now.mme_id kept.entry.now s) }
+{
+    match message.body {
+        UeBody::Uplink { nas, tai: _ } => {
+            identified(alloc, provision, message.mme_id, kept, told_imsi(nas))
+        }
+        UeBody::ReleaseRequest { cause } => {
+            let place = kept.place(message.mme_id);
+            Ok(closing(released(alloc, place, cause_of_request(cause))?))
+        }
+        UeBody::ReleaseComplete
+        | UeBody::ContextSetupFailure
+        | UeBody::PathSwitch
+        | UeBody::Notice => Ok(staying(Answers::new(alloc))),
+    }
+}
+
+#[tactic(auto, unfolding(crate::specs::Machine::checked))]
+fn checked<'a>(
+    alloc: Global,
+    provision: &Provision,
+    kept: &'a Kept,
+    message: &UeMessage<&[u8]>,
+) -> Result<Turn<'a>, AllocError>
+    ensures { (stations : List StationState) (s : Stranger) → IfOk result (λ t. turn_of stations (Some s) t ≡ checked provision.now.profiles (message_lists message.now) kept.entry.now s) }
+{
+    if kept.station == message.station && kept.enb_id == message.enb_id {
+        return heeds(alloc, provision, kept, message);
+    }
+    let cause = Cause::RadioNetwork(RadioNetworkCause::UnknownPairUeS1apId);
+    let indication = error_indication(message.mme_id, message.enb_id, cause);
+    Ok(staying(saying(alloc, message.station, &indication)?))
+}
+
+// A message for a stranger that waits.
+#[tactic(auto, unfolding(crate::specs::Machine::waiting_told))]
+fn waiting_told<'a>(
+    alloc: Global,
+    provision: &Provision,
+    kept: &'a Kept,
+    message: &UeMessage<&[u8]>,
+) -> Result<Turn<'a>, AllocError>
+    ensures { (stations : List StationState) (s : Stranger) → IfOk result (λ t. turn_of stations (Some s) t
+        ≡ waiting_told (message_lists message.now).body provision.now.profiles (message_lists message.now) kept.entry.now s) }
+{
+    match message.body {
+        UeBody::ReleaseComplete => Ok(staying(Answers::new(alloc))),
+        UeBody::PathSwitch => Ok(staying(unknown(alloc, message)?)),
+        UeBody::Uplink { nas: _, tai: _ }
+        | UeBody::ReleaseRequest { cause: _ }
+        | UeBody::ContextSetupFailure
+        | UeBody::Notice => checked(alloc, provision, kept, message),
+    }
+}
+
+// Who holds the association is told.
+fn handed_on<'a>(alloc: Global, slot: Slot, message: &UeMessage<&'a [u8]>) -> Turn<'a>
+    ensures { (stations : List StationState) (s : Stranger) → turn_of stations (Some s) result
+        ≡ record { stranger = Some s; sent = []; call = Some (record { slot = slot; item = Message (message_lists message.now) }) } }
+{
+    Turn {
+        after: After::Stays,
+        sent: Answers::new(alloc),
+        call: Some(Call {
+            slot,
+            event: SoloEvent::Message(UeMessage {
+                station: message.station,
+                mme_id: message.mme_id,
+                enb_id: message.enb_id,
+                body: message.body.again(),
+            }),
+        }),
+    }
+}
+
+/// A message with the stranger's id: one that is closed is nobody, one that waits heeds its identity and its release, and one that
+/// is held hands it on to its subscriber.
+#[tactic(auto, unfolding(crate::specs::Machine::told))]
+pub fn told<'a>(
+    alloc: Global,
+    provision: &Provision,
+    before: Option<&'a Stranger>,
+    message: &UeMessage<&'a [u8]>,
+) -> Result<Turn<'a>, AllocError>
+    ensures { (stations : List StationState) → IfOk result (λ t. turn_of stations (option_map (λ s. s.now) before.entry) t
+        ≡ told provision.now.profiles (option_map (λ s. s.now) before.entry) (message_lists message.now)) }
+{
+    match before {
+        None => Ok(closing(unknown(alloc, message)?)),
+        Some(
+            Stranger::Waiting {
+                kept,
+                left: _,
+                repeats: _,
+            },
+        ) => waiting_told(alloc, provision, kept, message),
+        Some(Stranger::Held(slot)) => Ok(handed_on(alloc, *slot, message)),
+    }
+}

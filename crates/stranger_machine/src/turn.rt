@@ -1,0 +1,38 @@
+//! What one stranger does at an event.
+
+use crate::state::Stranger;
+use emm_machine::{Answers, SoloEvent, StationNumber};
+use identity_slots::Slot;
+
+/// What comes to all strangers.
+#[derive(Clone, Copy)]
+pub enum Notice {
+    /// A second has passed.
+    Tick,
+    /// A station was lost, set up anew or reset.
+    Gone(StationNumber),
+}
+
+/// What a stranger is from now on.
+#[derive(Drop)]
+pub enum After {
+    /// What it was.
+    Stays,
+    Closed,
+    Is(Stranger),
+}
+
+/// A subscriber that a stranger calls, and with what.
+#[derive(Drop)]
+pub struct Call<'a> {
+    pub slot: Slot,
+    pub event: SoloEvent<'a>,
+}
+
+/// What a stranger is behind an event, what it sends, and whom it calls.
+#[derive(Drop)]
+pub struct Turn<'a> {
+    pub after: After,
+    pub sent: Answers,
+    pub call: Option<Call<'a>>,
+}
