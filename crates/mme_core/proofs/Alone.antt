@@ -1,5 +1,5 @@
 -- Each owner is alone over a list of events: what the MME sends it and its state are those of its own machine.
-use Rattle.std.proofs.Common.{◌≡◌, ℕ, List, [], ◌∷◌, map, Option, Some, None, refl, sym, ◌∙◌, ap}
+use Rattle.std.proofs.Common.{◌≡◌, ℕ, List, [], ◌∷◌, map, Option, Some, None, refl, ◌∙◌, ap}
 use Rattle.std.specs.Prelude.{slice_get}
 use Rattle.ordered_lists.specs.Ordered.{Rising}
 use Rattle.emm_machine.specs.Whole.{Whole}

@@ -1,6 +1,5 @@
 -- The owners of every output stand in their order.
-use Rattle.std.proofs.Common.{◌≡◌, ℕ, ◌+◌, ◌<◌, ◌≤◌, List, [], ◌∷◌, ◌++◌, map, Option, Some, None, Result, Ok, Err, refl, sym, subst, arith}
-use Rattle.std.specs.Prelude.{IfOk}
+use Rattle.std.proofs.Common.{◌≡◌, ℕ, ◌+◌, ◌<◌, ◌≤◌, List, [], ◌∷◌, ◌++◌, map, Option, Some, None, Result, Ok, Err, sym, subst, arith}
 use Rattle.emm_machine.specs.declared.octets.Answer.{Answer}
 use Rattle.emm_machine.specs.Steps.{Item}
 use Rattle.emm_machine.specs.Whole.{Whole}
@@ -18,7 +17,7 @@ use Rattle.mme_core.specs.declared.out.Out.{Out}
 use Rattle.mme_core.specs.declared.out.Owner.{Owner}
 use Rattle.mme_core.specs.declared.out.Owner.TheVariants.{Station, Stranger, Subscriber}
 use Rattle.mme_core.specs.Projection.{AllFrom, AllInOrder, AreInOrder, Reaches}
-use Rattle.mme_core.specs.World.{World, each_known, each_sends, fault_of, given, happens, items_of, outputs, owner_out, replies, reply, reply_of, slot_out, station_of, station_sends, stranger_out, strangers_in, strangers_send, whole_step, world_after}
+use Rattle.mme_core.specs.World.{World, each_known, each_sends, fault_of, given, happens, items_of, outputs, owner_out, replies, reply_of, slot_out, station_of, station_sends, stranger_out, strangers_in, strangers_send, whole_step, world_after}
 
 reaches_itself : (o : Owner) → Reaches o o
 reaches_itself (Station a) = omega arith

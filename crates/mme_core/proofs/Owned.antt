@@ -10,13 +10,13 @@ use Rattle.emm_machine.specs.Steps.{Item}
 use Rattle.emm_machine.specs.Whole.{Whole}
 use Rattle.stranger_machine.specs.declared.table.Known.{Known}
 use Rattle.stranger_machine.specs.declared.turn.Notice.{Notice}
-use Rattle.stranger_machine.specs.Machine.{Input, Nothing, Notes, notes, stranger_step}
+use Rattle.stranger_machine.specs.Machine.{Input, Nothing, notes, stranger_step}
 use Rattle.stranger_machine.specs.Table.{Reach, Nobody, One, Each, input_at, known_id, stranger_at}
 use Rattle.stranger_machine.specs.Laws.{at_nothing, at_notice, closed_notes}
 use Rattle.mme_core.specs.declared.out.Out.{Out}
 use Rattle.mme_core.specs.declared.out.Owner.{Owner}
 use Rattle.mme_core.specs.declared.out.Owner.TheVariants.{Station, Stranger, Subscriber}
-use Rattle.mme_core.specs.Projection.{Told, answer_told, is_slot, is_station, is_stranger, own_sends, owned_by, told_of}
+use Rattle.mme_core.specs.Projection.{answer_told, is_slot, is_station, is_stranger, own_sends, owned_by, told_of}
 use Rattle.mme_core.specs.World.{each_known, each_sends, owner_out, slot_out, station_sends, stranger_out, strangers_send, whole_step}
 
 append_if : (b : Bool) (o : Out) (xs ys zs : List Out) → map told_of zs ≡ map told_of xs ++ map told_of ys

@@ -22,7 +22,7 @@ use Rattle.mme_core.specs.declared.event.StepFault.TheVariants.{ClockSpent, NoMe
 use Rattle.mme_core.specs.declared.mme.Moves.{Moves}
 use Rattle.mme_core.specs.declared.mme.Ready.{Ready}
 use Rattle.mme_core.specs.Ready.{placed, ready_world}
-use Rattle.mme_core.specs.Stations.{Calls, Everyone, Heard}
+use Rattle.mme_core.specs.Stations.{Everyone, Heard}
 use Rattle.mme_core.specs.World.{World, called, calls_by, clock_after, each_after, each_sends, fault_of, happens, if_down, moved, outputs, reply, reply_of, sight_moved, station_of, station_sends, stations_by, strangers_in, strangers_send, unless, world_after}
 use Rattle.mme_core.proofs.Calling.{all_settled}
 

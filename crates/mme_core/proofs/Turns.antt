@@ -6,7 +6,6 @@ use Rattle.ordered_lists.specs.Ordered.{Rising}
 use Rattle.emm_machine.specs.Steps.{Item, Nothing}
 use Rattle.emm_machine.specs.Whole.{Whole}
 use Rattle.stranger_machine.specs.declared.state.Stranger.{Stranger}
-use Rattle.stranger_machine.specs.declared.table.Known.{Known}
 use Rattle.stranger_machine.specs.Machine.{Input, stranger_step}
 use Rattle.stranger_machine.specs.Machine as inputs
 use Rattle.stranger_machine.specs.Table.{Reach, Nobody, One, Each, input_at, known_id, stranger_at}
@@ -14,13 +13,11 @@ use Rattle.stranger_machine.specs.Laws as laws
 use Rattle.mme_core.specs.declared.event.Event.{Event}
 use Rattle.mme_core.specs.declared.event.StepFault.{StepFault}
 use Rattle.mme_core.specs.declared.out.Out.{Out}
-use Rattle.mme_core.specs.declared.out.Owner.TheVariants as owners
 use Rattle.mme_core.specs.Projection.{Told, answer_told, is_slot, is_station, is_stranger, item_for, own_sends, owned_by, stranger_input, strangers_after, told_in}
 use Rattle.mme_core.specs.Sight.{Sight}
-use Rattle.mme_core.specs.Stations.{Calls}
 use Rattle.mme_core.specs.World.{World, called, each_after, each_sends, fault_of, happens, items_of, moved, outputs, reach_call, reply, reply_of, sight_after, station_of, station_sends, strangers_in, strangers_send, unless, whole_after, whole_step, with_call, world_after}
 use Rattle.mme_core.proofs.Calling.{at_nothing, stays}
-use Rattle.mme_core.proofs.Owned.{no_slot, no_station, no_stranger, owned_absent, owned_append, owned_first, owned_second, owned_slot, owned_station, owned_stranger}
+use Rattle.mme_core.proofs.Owned.{no_slot, no_station, no_stranger, owned_absent, owned_first, owned_second, owned_slot, owned_station, owned_stranger}
 
 sight_by : (o : Option StepFault) (w v : World) → (unless o w v).sight ≡ unless o w.sight v.sight
 sight_by None w v = refl

@@ -1,5 +1,5 @@
 -- What functions of the code returned, without where octets lie in memory.
-use Rattle.std.specs.Prelude.{◌≡◌, ◌<◌, ℕ, slice_get, slice_set, List, [], ◌∷◌, length, map, Option, Some, None, unwrap_or}
+use Rattle.std.specs.Prelude.{◌≡◌, ◌<◌, ℕ, slice_get, slice_set, List, [], ◌∷◌, length, map, unwrap_or}
 use Rattle.std.specs.Option.{option_map_or}
 use Rattle.emm_machine.specs.declared.solo.Solo.{Solo}
 use Rattle.emm_machine.specs.declared.stations.StationState.{StationState}

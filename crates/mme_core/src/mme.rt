@@ -12,7 +12,7 @@ ghost use Rattle.stranger_machine.specs.Table.{known_id, reached, stranger_at};
 ghost use Rattle.stranger_machine.specs.Turns.{call_of};
 ghost use Rattle.mme_core.specs.declared.calls.Change.TheVariants as changes;
 ghost use Rattle.mme_core.specs.declared.event.Event.TheVariants as events;
-ghost use Rattle.mme_core.specs.declared.event.StepFault.TheVariants.{NoMemory};
+ghost use Rattle.mme_core.specs.declared.event.StepFault.TheVariants.{NoMemory, UnknownImsi};
 ghost use Rattle.mme_core.specs.Projection.{AllInOrder, AreInOrder, alone_after, is_slot, is_station, is_stranger, projection, silence, station_run, station_told, states_at, stranger_run, stranger_told, subscriber_told, told};
 ghost use Rattle.mme_core.specs.Seen.{IsFor, calls_of, changed, reach_of, seen, settled, solos_after, with_solo, with_solos};
 ghost use Rattle.mme_core.specs.Stations.{Everyone, One};
@@ -299,6 +299,18 @@ impl Mme {
         self.ready(moves, &says, &summoned.reach, &summoned.calls)
     }
 
+    // The slot of an IMSI that an event names.
+    fn slot_named(&self, imsi: Imsi) -> Result<Slot, StepFault>
+        ensures slot { IfOk result (λ slot. slot_of_imsi imsi self.now.sight.profiles ≡ Some slot) }
+        ensures nobody { OnErr result (slot_of_imsi imsi self.now.sight.profiles ≡ None) }
+        ensures refused { IfErr result (λ fault. fault ≡ UnknownImsi) }
+    {
+        match self.slot_of_imsi(imsi) {
+            Some(slot) => Ok(slot),
+            None => Err(StepFault::UnknownImsi),
+        }
+    }
+
     // Downlink data waits.
     fn data(&self, imsi: Imsi) -> Result<Ready, StepFault>
         ensures reply { IfOk result (λ r. reply self.now (events.Data imsi) ≡ Ok r.outs) }
@@ -308,9 +320,7 @@ impl Mme {
         ensures order { IfOk result (λ r. AreInOrder r.outs) }
         ensures refused { IfErr result (λ fault. fault ≢ NoMemory → reply self.now (events.Data imsi) ≡ Err fault) }
     {
-        let Some(slot) = self.provision.slot_of_imsi(imsi) else {
-            return Err(StepFault::UnknownImsi);
-        };
+        let slot = self.slot_named(imsi)?;
         let summoned = Summoned {
             reach: Reach::Nobody,
             calls: Calls::One(slot, SoloEvent::Data),
@@ -333,9 +343,7 @@ impl Mme {
         ensures order { IfOk result (λ r. AreInOrder r.outs) }
         ensures refused { IfErr result (λ fault. fault ≢ NoMemory → reply self.now (events.Cancel imsi) ≡ Err fault) }
     {
-        let Some(slot) = self.provision.slot_of_imsi(imsi) else {
-            return Err(StepFault::UnknownImsi);
-        };
+        let slot = self.slot_named(imsi)?;
         let summoned = Summoned {
             reach: Reach::Nobody,
             calls: Calls::One(slot, SoloEvent::Cancel),

@@ -1,9 +1,9 @@
 -- The laws of the table: each stranger goes as its own machine, and the ids rise.
 use Rattle.std.proofs.Common.{◌≡◌, ◌≢◌, ℕ, ◌<◌, List, [], ◌∷◌, Bool, true, false, Option, Some, None, refl, sym, ◌∙◌, ap, arith}
-use Rattle.std.specs.Prelude.{◌==◌, if◌then◌else◌, cond, option_map, nat_lt}
+use Rattle.std.specs.Prelude.{◌==◌, if◌then◌else◌, cond, option_map}
 use Rattle.std.proofs.lemmas.Bool.Decides.{nat_tests}
 use Rattle.identity_slots.specs.declared.profile.Profile.{Profile}
-use Rattle.ordered_lists.specs.Ordered.{AllOver, Rising, at, put, without}
+use Rattle.ordered_lists.specs.Ordered.{AllOver, Rising, at}
 use Rattle.ordered_lists.specs.Laws.{at_over, at-put, at-without, rising-put, rising-without}
 use Rattle.stranger_machine.specs.declared.state.Stranger.{Stranger}
 use Rattle.stranger_machine.specs.declared.table.Known.{Known}

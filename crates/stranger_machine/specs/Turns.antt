@@ -1,5 +1,5 @@
 -- What one stranger does at an event, and what it sends.
-use Rattle.std.specs.Prelude.{ℕ, List, [], ◌++◌, Option, Some, None}
+use Rattle.std.specs.Prelude.{ℕ, List, ◌++◌, Option, Some, None}
 use Rattle.nas_messages.specs.declared.emm_types.Emm.TheVariants as emm
 use Rattle.nas_messages.specs.Messages.{encoded_emm}
 use Rattle.s1ap_elements.specs.declared.cause.Cause.{Cause}

@@ -42,13 +42,13 @@ pub(crate) enum Welcome {
     TurnAway,
 }
 
-// No such subscriber.
-const NOT_ALLOWED: u8 = 8;
+/// EMM cause 8, EPS services and non-EPS services not allowed (TS 24.301 clause 9.9.3.9): nobody has the IMSI.
+pub(crate) const NOT_ALLOWED: u8 = 8;
 
-// The identity can't be derived by the network.
+// EMM cause 9, the identity can't be derived by the network.
 const NOT_DERIVED: u8 = 9;
 
-// Invalid mandatory information.
+// EMM cause 96, invalid mandatory information.
 const INVALID: u8 = 96;
 
 fn by_identity(identity: &MobileIdentity) -> Welcome

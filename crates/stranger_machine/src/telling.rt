@@ -10,6 +10,7 @@ ghost use Rattle.stranger_machine.specs.declared.turn.After.TheVariants as after
 ghost use Rattle.stranger_machine.specs.Machine.{checked, claimed_by, heeds, identified, imsi_of, told, told_imsi, unknown, waiting_told};
 ghost use Rattle.stranger_machine.specs.Turns.{turn_of};
 
+use crate::entering::NOT_ALLOWED;
 use crate::sending::{refused, released, saying};
 use crate::state::{Kept, Stranger};
 use crate::turn::{After, Call, Turn};
@@ -22,9 +23,6 @@ use nas_elements::{Imsi, MobileIdentity};
 use nas_messages::{Direction, Emm, EmmMessage, decode_emm};
 use s1ap_elements::{Cause, RadioNetworkCause};
 use std::alloc::{AllocError, Global};
-
-// EMM cause 8: EPS services and non-EPS services not allowed (TS 24.301 clause 9.9.3.9).
-const NOT_ALLOWED: u8 = 8;
 
 /// The answer to a message whose id is nobody's: ERROR INDICATION with the ids that were received, for a path switch its failure,
 /// for a release that is complete nothing (TS 36.413 clauses 10.6 and 8.4.4.3).

@@ -1,9 +1,7 @@
-use Rattle.std.proofs.Common.{◌≡◌, ◌++◌, [], List, map, sym, ◌∙◌, ap}
-use Rattle.std.specs.Prelude.{option_map}
-use Rattle.emm_machine.specs.declared.stations.StationState.{StationState}
+use Rattle.std.proofs.Common.{◌++◌, [], map, sym, ◌∙◌, ap}
 use Rattle.emm_machine.specs.Steps.{entry_lists, message_lists}
-use Rattle.stranger_machine.specs.Machine.{Begins, Told, begins, stranger_step, told}
-use Rattle.stranger_machine.specs.Table.{stranger_at, with_stranger}
+use Rattle.stranger_machine.specs.Machine.{begins, stranger_step, told}
+use Rattle.stranger_machine.specs.Table.{with_stranger}
 use Rattle.stranger_machine.specs.Turns.{Turn, turn_of}
 use Rattle.mme_core.specs.World.{stranger_out}
 use Rattle.mme_core.proofs.mme.turn.Goals as goal

@@ -1,21 +1,12 @@
-use Rattle.std.proofs.Common.{◌≡◌, ◌+◌, [], None, Option, Some, ℕ, refl, sym, subst, arith, ◌∙◌, ap}
+use Rattle.std.proofs.Common.{◌≡◌, [], None, Option, Some, ℕ, sym, ◌∙◌, ap}
 use Rattle.identity_slots.specs.Provisioned.{slot_of_imsi}
-use Rattle.emm_machine.specs.declared.octets.Answer.{Answer}
-use Rattle.emm_machine.specs.declared.stations.StationState.{StationState}
-use Rattle.emm_machine.specs.declared.stations.StationState.TheVariants.{Down, Up}
-use Rattle.emm_machine.specs.Stations.{station_at}
+use Rattle.emm_machine.specs.declared.stations.StationState.TheVariants.{Down}
 use Rattle.emm_machine.specs.Steps as items
-use Rattle.s1ap_messages.specs.Pdus.{decoded}
-use Rattle.stranger_machine.specs.declared.turn.Notice.TheVariants as notices
-use Rattle.stranger_machine.specs.Table.{Each, Nobody}
+use Rattle.stranger_machine.specs.Table.{Nobody}
 use Rattle.mme_core.specs.declared.event.Event.TheVariants as events
-use Rattle.mme_core.specs.declared.event.StepFault.TheVariants.{AlreadyUp, NotUp}
-use Rattle.mme_core.specs.declared.mme.Moves.{Moves}
-use Rattle.mme_core.specs.Seen.{seen}
-use Rattle.mme_core.specs.Stations.{Everyone, Heard, NoOne, One, hears}
-use Rattle.mme_core.specs.World.{World, fault_of, happens, if_down, if_known, one_if}
-use Rattle.mme_core.specs.contracts.mme.Mme.{the_view}
-use Rattle.mme_core.proofs.Steps.{after_ready, clock_goes_on, not_down, reply_ready, sight_with}
+use Rattle.mme_core.specs.Stations.{Heard, One}
+use Rattle.mme_core.specs.World.{World, fault_of, happens, if_known, one_if}
+use Rattle.mme_core.proofs.Steps.{after_ready, reply_ready, sight_with}
 use Rattle.mme_core.proofs.mme.Mme.data.Goals as goal
 
 pub returns-clause-reply : goal.returns-clause-reply
@@ -23,11 +14,11 @@ unfolding happens
 returns-clause-reply c =
     let w = c.args.self.now in
     let e = events.Data c.args.imsi in
-    let known : slot_of_imsi c.args.imsi w.sight.profiles ≡ Some c.in-Some.slot = sym (ap (λ (v : World). slot_of_imsi c.args.imsi v.sight.profiles) c.self.view_is) ∙ sym c.slot_of_imsi.ensures ∙ c.in-Some.is in
+    let known : slot_of_imsi c.args.imsi w.sight.profiles ≡ Some c.in_ok-slot.slot = c.in_ok-slot.ensures.slot in
     let fine : fault_of w.sight e ≡ None = ap if_known known in
-    let h : Heard = record { state = Down; sends = c.new-says.result; reach = Nobody; calls = One c.in-Some.slot (items.Data w.sight.stations) } in
+    let h : Heard = record { state = Down; sends = c.new-says.result; reach = Nobody; calls = One c.in_ok-slot.slot (items.Data w.sight.stations) } in
     let is : h ≡ happens w.sight e =
-    ap (λ x. record { state = Down; sends = x; reach = Nobody; calls = One c.in-Some.slot (items.Data w.sight.stations) }) c.new-says.ensures
+    ap (λ x. record { state = Down; sends = x; reach = Nobody; calls = One c.in_ok-slot.slot (items.Data w.sight.stations) }) c.new-says.ensures
     ∙ ap (λ (o : Option ℕ). record { state = Down; sends = []; reach = Nobody; calls = one_if o (items.Data w.sight.stations) }) (sym known) in
     reply_ready w e h c.ready.result fine is c.ready.ensures.sent
 
@@ -36,11 +27,11 @@ unfolding happens
 returns-clause-after c =
     let w = c.args.self.now in
     let e = events.Data c.args.imsi in
-    let known : slot_of_imsi c.args.imsi w.sight.profiles ≡ Some c.in-Some.slot = sym (ap (λ (v : World). slot_of_imsi c.args.imsi v.sight.profiles) c.self.view_is) ∙ sym c.slot_of_imsi.ensures ∙ c.in-Some.is in
+    let known : slot_of_imsi c.args.imsi w.sight.profiles ≡ Some c.in_ok-slot.slot = c.in_ok-slot.ensures.slot in
     let fine : fault_of w.sight e ≡ None = ap if_known known in
-    let h : Heard = record { state = Down; sends = c.new-says.result; reach = Nobody; calls = One c.in-Some.slot (items.Data w.sight.stations) } in
+    let h : Heard = record { state = Down; sends = c.new-says.result; reach = Nobody; calls = One c.in_ok-slot.slot (items.Data w.sight.stations) } in
     let is : h ≡ happens w.sight e =
-    ap (λ x. record { state = Down; sends = x; reach = Nobody; calls = One c.in-Some.slot (items.Data w.sight.stations) }) c.new-says.ensures
+    ap (λ x. record { state = Down; sends = x; reach = Nobody; calls = One c.in_ok-slot.slot (items.Data w.sight.stations) }) c.new-says.ensures
     ∙ ap (λ (o : Option ℕ). record { state = Down; sends = []; reach = Nobody; calls = one_if o (items.Data w.sight.stations) }) (sym known) in
     after_ready w e h (record { station = None; state = None; clock = c.self.inside.clock }) c.ready.result fine is
     (ap (λ n. sight_with (record { station = None; state = None; clock = n }) w.sight) (ap (λ (v : World). v.sight.clock) c.self.view_is)) c.ready.ensures.moves c.ready.ensures.strangers c.ready.ensures.subscribers

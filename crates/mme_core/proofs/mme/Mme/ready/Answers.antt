@@ -1,10 +1,8 @@
-use Rattle.std.proofs.Common.{◌≡◌, ◌++◌, Ok, Err, Result, sym, subst, ◌∙◌, ap, List}
+use Rattle.std.proofs.Common.{◌≡◌, ◌++◌, sym, subst, ◌∙◌, ap}
 use Rattle.std.proofs.lemmas.List.{append_assoc}
-use Rattle.identity_slots.specs.declared.profile.Profile.{Profile}
 use Rattle.ordered_lists.specs.Ordered.{Rising}
 use Rattle.stranger_machine.specs.Laws.{rising_reached}
 use Rattle.stranger_machine.specs.Table.{known_id}
-use Rattle.mme_core.specs.declared.out.Out.{Out}
 use Rattle.mme_core.specs.Projection.{AreInOrder}
 use Rattle.mme_core.specs.Seen.{calls_of, changed, reach_of}
 use Rattle.mme_core.specs.World.{World, called, calls_by, each_sends, station_sends, strangers_in, strangers_send, with_call}

@@ -1,21 +1,11 @@
-use Rattle.std.proofs.Common.{◌≡◌, ◌+◌, [], None, Option, Some, ℕ, refl, sym, subst, arith, ◌∙◌, ap}
-use Rattle.identity_slots.specs.Provisioned.{slot_of_imsi}
-use Rattle.emm_machine.specs.declared.octets.Answer.{Answer}
-use Rattle.emm_machine.specs.declared.stations.StationState.{StationState}
-use Rattle.emm_machine.specs.declared.stations.StationState.TheVariants.{Down, Up}
-use Rattle.emm_machine.specs.Stations.{station_at}
-use Rattle.emm_machine.specs.Steps as items
-use Rattle.s1ap_messages.specs.Pdus.{decoded}
-use Rattle.stranger_machine.specs.declared.turn.Notice.TheVariants as notices
-use Rattle.stranger_machine.specs.Table.{Each, Nobody}
+use Rattle.std.proofs.Common.{◌≡◌, None, Some, sym, ◌∙◌, ap}
+use Rattle.emm_machine.specs.declared.stations.StationState.TheVariants.{Up}
+use Rattle.stranger_machine.specs.Table.{Nobody}
 use Rattle.mme_core.specs.declared.event.Event.TheVariants as events
-use Rattle.mme_core.specs.declared.event.StepFault.TheVariants.{AlreadyUp, NotUp}
-use Rattle.mme_core.specs.declared.mme.Moves.{Moves}
-use Rattle.mme_core.specs.Seen.{seen}
-use Rattle.mme_core.specs.Stations.{Everyone, Heard, NoOne, One, hears}
-use Rattle.mme_core.specs.World.{World, fault_of, happens, if_down, if_known, one_if}
-use Rattle.mme_core.specs.contracts.mme.Mme.{the_view}
-use Rattle.mme_core.proofs.Steps.{after_ready, clock_goes_on, not_down, reply_ready, sight_with}
+use Rattle.mme_core.specs.declared.event.StepFault.TheVariants.{AlreadyUp}
+use Rattle.mme_core.specs.Stations.{Heard, NoOne}
+use Rattle.mme_core.specs.World.{World, fault_of, happens, if_down}
+use Rattle.mme_core.proofs.Steps.{after_ready, reply_ready, sight_with}
 use Rattle.mme_core.proofs.mme.Mme.rise.Goals as goal
 
 pub returns-clause-reply : goal.returns-clause-reply

@@ -1,4 +1,4 @@
-use Rattle.std.proofs.Common.{◌≡◌, length, arith, sym, subst, ◌∙◌, ap}
+use Rattle.std.proofs.Common.{length, arith, sym, subst, ◌∙◌, ap}
 use Rattle.ordered_lists.specs.Ordered.{Rising}
 use Rattle.stranger_machine.specs.Table.{known_id}
 use Rattle.mme_core.specs.Seen.{changed}

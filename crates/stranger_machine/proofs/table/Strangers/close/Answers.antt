@@ -1,5 +1,4 @@
 use Rattle.std.proofs.Common.{◌≡◌, arith, None, sym, subst, ◌∙◌, ap}
-use Rattle.std.specs.List.{remove}
 use Rattle.std.proofs.lemmas.Bool.Decides.{nat_tests}
 use Rattle.ordered_lists.specs.Ordered.{Rising, at, place, without}
 use Rattle.ordered_lists.specs.Laws.{place_le, at_end, at_absent, remove_without, rising-without, without_absent}

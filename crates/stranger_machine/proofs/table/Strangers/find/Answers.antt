@@ -1,7 +1,7 @@
 use Rattle.std.proofs.Common.{arith, sym, ◌∙◌, ap}
 use Rattle.std.specs.Prelude.{option_map}
 use Rattle.std.proofs.lemmas.Bool.Decides.{nat_tests}
-use Rattle.ordered_lists.specs.Ordered.{at, place}
+use Rattle.ordered_lists.specs.Ordered.{place}
 use Rattle.ordered_lists.specs.Laws.{place_le, at_end, at_absent, at_place}
 use Rattle.stranger_machine.specs.declared.table.Known.{Known}
 use Rattle.stranger_machine.specs.Table.{known_id, stranger_at}

@@ -1,4 +1,4 @@
-use Rattle.std.proofs.Common.{◌≡◌, ◌≤◌, ◌++◌, drop, length, map, take, arith, rules, sym, subst, ◌∙◌, ap}
+use Rattle.std.proofs.Common.{◌≡◌, ◌≤◌, ◌++◌, drop, length, map, arith, rules, sym, subst, ◌∙◌, ap}
 use Rattle.std.specs.Prelude.{filter}
 use Rattle.std.proofs.lemmas.Fn.{filter_same}
 use Rattle.std.proofs.lemmas.List.{append-nil, drop_all, take_all}

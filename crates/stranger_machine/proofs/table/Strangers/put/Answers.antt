@@ -1,5 +1,4 @@
 use Rattle.std.proofs.Common.{◌≡◌, arith, None, refl, sym, subst, ◌∙◌, ap}
-use Rattle.std.specs.Prelude.{slice_set}
 use Rattle.std.specs.List.{insert}
 use Rattle.std.proofs.lemmas.Bool.Decides.{nat_tests}
 use Rattle.ordered_lists.specs.Ordered.{Rising, at, place, put}
