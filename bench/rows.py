@@ -17,8 +17,16 @@ ROWS = []
 
 def row(make):
     """A row has the name of the function that makes it, and its first line says what the function does."""
-    ROWS.append(make)
+    ROWS.append((make.__name__, make.__doc__, make))
     return make
+
+
+def row_for_each(*choices):
+    """A row for each choice: its name, what its first line says, and what the function is told."""
+    def rows(make):
+        ROWS.extend((name, shows, lambda told=told: make(told)) for name, shows, told in choices)
+        return make
+    return rows
 
 
 def begun(phones_made, stations=None, network=None):
@@ -84,57 +92,29 @@ def attach_combined_ipv4v6():
     return shown_attach(trace, station, phone, attach_type=2, pdn_type=3)
 
 
+@row_for_each(
+    ("attach_res_of_4", "A vector whose RES has 4 octets.", 4),
+    ("attach_res_of_8", "A vector whose RES has 8 octets.", 8),
+    ("attach_res_of_16", "A vector whose RES has 16 octets.", 16),
+)
 def attach_res(length):
     vector = Vector.made("RES of %d octets" % length, length)
     trace, [station], [phone] = one_phone(vectors=[vector])
     return shown_attach(trace, station, phone)
 
 
-@row
-def attach_res_of_4():
-    """A vector whose RES has 4 octets."""
-    return attach_res(4)
-
-
-@row
-def attach_res_of_8():
-    """A vector whose RES has 8 octets."""
-    return attach_res(8)
-
-
-@row
-def attach_res_of_16():
-    """A vector whose RES has 16 octets."""
-    return attach_res(16)
-
-
+@row_for_each(
+    ("attach_capability_of_3", "A phone with 3 octets of capability; the two of EPS are replayed.", "f070c0"),
+    ("attach_capability_of_4",
+     "A phone with 4 octets of capability; all are replayed, the fourth without its first bit.", "f070c0e0"),
+    ("attach_capability_of_5",
+     "A phone with 5 octets of capability; the first four are replayed, the fourth without its first bit.", "e060404073"),
+    ("attach_capability_of_13",
+     "A phone with 13 octets of capability, the most; the first four are replayed.", "e0e0c0c01f" + "ff" * 8),
+)
 def attach_capability(capability):
     trace, [station], [phone] = one_phone(capability=bytes.fromhex(capability))
     return shown_attach(trace, station, phone)
-
-
-@row
-def attach_capability_of_3():
-    """A phone with 3 octets of capability; the two of EPS are replayed."""
-    return attach_capability("f070c0")
-
-
-@row
-def attach_capability_of_4():
-    """A phone with 4 octets of capability; all are replayed, the fourth without its first bit."""
-    return attach_capability("f070c0e0")
-
-
-@row
-def attach_capability_of_5():
-    """A phone with 5 octets of capability; the first four are replayed, the fourth without its first bit."""
-    return attach_capability("e060404073")
-
-
-@row
-def attach_capability_of_13():
-    """A phone with 13 octets of capability, the most; the first four are replayed."""
-    return attach_capability("e0e0c0c01f" + "ff" * 8)
 
 
 @row
@@ -213,6 +193,12 @@ def one_phone_at_two():
     return begun(lambda trace: [Phone(trace, 0)], stations)
 
 
+@row_for_each(
+    ("tau_from_idle",
+     "A phone that is idle updates its tracking area, gets a new M-TMSI, and is released when it has completed.", 0),
+    ("tau_combined", "A combined update from idle: EMM cause 18.", 1),
+    ("tau_combined_with_attach", "A combined update with IMSI attach from idle: EMM cause 18.", 2),
+)
 def update_from_idle(update_type):
     trace, [station], [phone] = one_phone()
     phone.attaches(station, 1)
@@ -222,24 +208,6 @@ def update_from_idle(update_type):
     phone.completes_update(from_idle=True)
     phone.shows(IDLE)
     return trace
-
-
-@row
-def tau_from_idle():
-    """A phone that is idle updates its tracking area, gets a new M-TMSI, and is released when it has completed."""
-    return update_from_idle(0)
-
-
-@row
-def tau_combined():
-    """A combined update from idle: EMM cause 18."""
-    return update_from_idle(1)
-
-
-@row
-def tau_combined_with_attach():
-    """A combined update with IMSI attach from idle: EMM cause 18."""
-    return update_from_idle(2)
 
 
 @row
@@ -306,10 +274,10 @@ def path_switch_after_tau():
     return trace
 
 
-def files_of(make):
+def files_of(name, shows, make):
     trace = make()
-    remark = " ".join(make.__doc__.split())
-    return {make.__name__ + ".trace": "# %s\n%s" % (remark, trace.text()), make.__name__ + ".answers": trace.answer_text()}
+    remark = " ".join(shows.split())
+    return {name + ".trace": "# %s\n%s" % (remark, trace.text()), name + ".answers": trace.answer_text()}
 
 
 def main():
@@ -317,14 +285,14 @@ def main():
     parser.add_argument("--check", action="store_true")
     check = parser.parse_args().check
     other = 0
-    for make in ROWS:
-        for name, text in files_of(make).items():
-            path = os.path.join(FOLDER, name)
+    for row_made in ROWS:
+        for file_name, text in files_of(*row_made).items():
+            path = os.path.join(FOLDER, file_name)
             if not check:
                 with open(path, "w") as file:
                     file.write(text)
             elif not os.path.exists(path) or open(path).read() != text:
-                print("not as it would be written: " + name)
+                print("not as it would be written: " + file_name)
                 other += 1
     print("%d rows" % len(ROWS))
     sys.exit(1 if other else 0)

@@ -3,19 +3,15 @@ use Rattle.std.specs.Prelude.{ℕ, List, Option, Some, None, slice_set, unwrap_o
 use Rattle.emm_machine.specs.declared.stations.StationState.{StationState}
 use Rattle.emm_machine.specs.declared.stations.StationState.TheVariants.{Down}
 use Rattle.emm_machine.specs.Stations.{station_at}
-use Rattle.mme_core.specs.declared.event.Event.{Event}
 use Rattle.mme_core.specs.declared.mme.Ready.{Ready}
 use Rattle.mme_core.specs.Seen.{changed, settled}
 use Rattle.mme_core.specs.Sight.{Sight}
-use Rattle.mme_core.specs.World.{World, station_of}
+use Rattle.mme_core.specs.World.{World}
 
 -- the state of the station that an event is of
 abbrev pub own_before : Option ℕ → Sight → StationState
 own_before None s = Down
 own_before (Some e) s = station_at s.stations e
-
-abbrev pub state_before : Sight → Event → StationState
-state_before s event = own_before (station_of event) s
 
 -- the stations, where that one has a new state
 abbrev pub placed : Option ℕ → Option StationState → List StationState → List StationState

@@ -1,5 +1,5 @@
 -- What is written of an event, and of a subscriber who is shown.
-use Rattle.std.specs.Prelude.{ℕ, ◌-◌, ◌/◌, ◌%◌, ◌^◌, List, [], ◌∷◌, ◌++◌, Result, Ok, Err}
+use Rattle.std.specs.Prelude.{ℕ, List, [], ◌∷◌, ◌++◌, Result, Ok, Err}
 use Rattle.esm_machine.specs.declared.bearer.BearerState.{BearerState}
 use Rattle.esm_machine.specs.declared.bearer.BearerState.TheVariants as bearer
 use Rattle.emm_machine.specs.declared.subscriber.EmmState.{EmmState}
@@ -7,6 +7,7 @@ use Rattle.emm_machine.specs.declared.subscriber.EmmState.TheVariants as emm
 use Rattle.emm_machine.specs.declared.subscriber.EcmState.{EcmState}
 use Rattle.emm_machine.specs.declared.subscriber.EcmState.TheVariants as ecm
 use Rattle.emm_machine.specs.declared.subscriber.States.{States}
+use Rattle.stranger_machine.specs.Machine.{number_in, station_in}
 use Rattle.mme_core.specs.declared.event.StepFault.{StepFault}
 use Rattle.mme_core.specs.declared.event.StepFault.TheVariants.{NotUp, AlreadyUp, ClockSpent, NoMemory, UnknownImsi}
 use Rattle.mme_core.specs.declared.out.Out.{Out}
@@ -26,7 +27,7 @@ use Rattle.trace_text.specs.declared.answer.EsmState.TheVariants as esm_words
 
 abbrev pub answer_owner : Owner → AnswerOwner
 answer_owner (Station e) = owner.Station e
-answer_owner (Stranger id) = owner.Stranger ((id - 2 ^ 31) / 2 ^ 24) ((id - 2 ^ 31) % 2 ^ 24)
+answer_owner (Stranger id) = owner.Stranger (station_in id) (number_in id)
 answer_owner (Subscriber slot) = owner.Subscriber slot
 
 abbrev pub out_text : Out → List ℕ

@@ -14,6 +14,7 @@ use mme_core::{Out, Owner};
 use nas_elements::Imsi;
 use std::alloc::Global;
 use std::io::Write;
+use stranger_machine::{number_in, station_in};
 use trace_text::{
     Answer, AnswerOwner, EcmState as EcmWord, EmmState as EmmWord, EsmState, write_answer,
 };
@@ -88,10 +89,7 @@ fn answer_owner(owner: Owner) -> AnswerOwner
 {
     match owner {
         Owner::Station(station) => AnswerOwner::Station(station.get()),
-        Owner::Stranger(id) => {
-            let pair = id.get().saturating_sub(0x8000_0000);
-            AnswerOwner::Stranger((pair / 0x100_0000) as u8, pair % 0x100_0000)
-        }
+        Owner::Stranger(id) => AnswerOwner::Stranger(station_in(id), number_in(id)),
         Owner::Subscriber(slot) => AnswerOwner::Subscriber(slot.get()),
     }
 }

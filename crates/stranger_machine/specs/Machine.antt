@@ -1,6 +1,6 @@
 -- The machine of one stranger: a phone that no subscriber is known for, at a station and under its number there. It is closed,
 -- waits for an identity (TS 24.301 clause 5.4.4), or is held by the subscriber that it turned out to be.
-use Rattle.std.specs.Prelude.{ℕ, ◌-◌, ◌/◌, ◌^◌, ◌==◌, ◌&&◌, nat_lt, if◌then◌else◌, List, [], slice_index, Option, Some, None, Result, Ok, Err}
+use Rattle.std.specs.Prelude.{ℕ, ◌-◌, ◌/◌, ◌%◌, ◌^◌, ◌==◌, ◌&&◌, nat_lt, if◌then◌else◌, List, [], slice_index, Option, Some, None, Result, Ok, Err}
 use Rattle.identity_slots.specs.declared.profile.Profile.{Profile}
 use Rattle.identity_slots.specs.Provisioned.{slot_of_imsi}
 use Rattle.nas_elements.specs.declared.fault.NasFault.{NasFault}
@@ -160,9 +160,12 @@ ticks id None = stays None []
 ticks id (Some (Waiting k left repeats)) = waits id k left repeats
 ticks id (Some (Held slot)) = stays (Some (Held slot)) []
 
--- the station of a stranger's id
+-- the station of a stranger's id, and its number there
 abbrev pub station_in : ℕ → ℕ
 station_in id = (id - 2 ^ 31) / 2 ^ 24
+
+abbrev pub number_in : ℕ → ℕ
+number_in id = (id - 2 ^ 31) % 2 ^ 24
 
 -- a station was lost, set up anew or reset: its strangers are closed, those too that are held
 unfoldable pub loses : ℕ → Option Stranger → ℕ → Turn

@@ -8,7 +8,7 @@ ghost use Rattle.stranger_machine.specs.Machine.{begins, by_fault, by_identity, 
 ghost use Rattle.stranger_machine.specs.Seen.{refusal_of, welcome_of};
 ghost use Rattle.stranger_machine.specs.Turns.{call_of, kept_of, turn_of};
 
-use crate::sending::{asked, refused, released};
+use crate::sending::{asked, place, refused, released};
 use crate::state::{Kept, Stranger};
 use crate::turn::{After, Call, Turn};
 use emm_machine::{Entry, SoloEvent, attach_reject, initial_octets, service_reject, update_reject};
@@ -164,12 +164,12 @@ pub fn begins<'a>(
         ≡ begins id (option_map (λ s. s.now) before.entry) (entry_lists entry.now)) }
 {
     let call = displaced_by(id, before);
-    let kept = Kept::of_entry(alloc, entry)?;
+    let (station, enb_id) = (entry.station, entry.enb_id);
     match meet(entry.nas) {
         Welcome::Ask => {
-            let sent = asked(alloc, kept.place(id))?;
+            let sent = asked(alloc, place(id, station, enb_id))?;
             let waiting = Stranger::Waiting {
-                kept,
+                kept: Kept::of_entry(alloc, entry)?,
                 left: IDENTITY_TICKS,
                 repeats: IDENTITY_REPEATS,
             };
@@ -181,7 +181,7 @@ pub fn begins<'a>(
         }
         Welcome::Refuse(rejected) => {
             let nas = refusal(alloc, rejected)?;
-            let sent = refused(alloc, id, &kept, nas.as_slice())?;
+            let sent = refused(alloc, id, station, enb_id, nas.as_slice())?;
             Ok(Turn {
                 after: After::Closed,
                 sent,
@@ -190,7 +190,7 @@ pub fn begins<'a>(
         }
         Welcome::TurnAway => {
             let cause = Cause::Nas(NasCause::Unspecified);
-            let sent = released(alloc, kept.place(id), cause)?;
+            let sent = released(alloc, place(id, station, enb_id), cause)?;
             Ok(Turn {
                 after: After::Closed,
                 sent,

@@ -4,15 +4,14 @@ ghost use Rattle.std.specs.Prelude.{◌≡◌, ◌++◌, IfOk, OnOk};
 ghost use Rattle.nas_messages.specs.Messages.{encoded_emm};
 ghost use Rattle.s1ap_messages.specs.Pdus.{lists};
 ghost use Rattle.emm_machine.specs.Pdus.{downlink};
-ghost use Rattle.stranger_machine.specs.Turns.{asked, identity_request, place_of, refused, released, said};
+ghost use Rattle.stranger_machine.specs.Turns.{asked, identity_request, refused, released, said};
 
-use crate::state::Kept;
 use emm_machine::{
     Answer, Answers, Connection, SentOctets, StationNumber, downlink, release_command,
 };
 use identity_slots::AssociationId;
 use nas_messages::{Emm, EmmMessage, encode_emm};
-use s1ap_elements::{Cause, NasCause};
+use s1ap_elements::{Cause, EnbUeId, NasCause};
 use s1ap_messages::{EncodeFault, S1apPdu, encode};
 use std::alloc::{AllocError, Global};
 
@@ -87,19 +86,31 @@ fn telling(alloc: Global, place: Connection, nas: &[u8]) -> Result<Answers, Allo
     saying(alloc, place.station, &downlink(place, nas))
 }
 
-/// A NAS message, plain, and UE CONTEXT RELEASE COMMAND, on the association with this id.
+/// A stranger's association, by its id, its station and its number there.
+pub(crate) fn place(id: AssociationId, station: StationNumber, enb_id: EnbUeId) -> Connection
+    ensures { result ≡ record { id = id; station = station; enb_id = enb_id } }
+{
+    Connection {
+        id,
+        station,
+        enb_id,
+    }
+}
+
+/// A NAS message, plain, and UE CONTEXT RELEASE COMMAND, on that association.
 #[tactic(auto, unfolding(crate::specs::Turns::refused))]
 pub(crate) fn refused(
     alloc: Global,
     id: AssociationId,
-    kept: &Kept,
+    station: StationNumber,
+    enb_id: EnbUeId,
     nas: &[u8],
 ) -> Result<Answers, AllocError>
-    ensures { IfOk result (λ sent. sent ≡ refused (place_of id kept.now) nas.now) }
+    ensures { IfOk result (λ sent. sent ≡ refused (record { id = id; station = station; enb_id = enb_id }) nas.now) }
 {
-    let mut sent = telling(alloc, kept.place(id), nas)?;
+    let mut sent = telling(alloc, place(id, station, enb_id), nas)?;
     let cause = Cause::Nas(NasCause::NormalRelease);
-    release(alloc, &mut sent, kept.place(id), cause)?;
+    release(alloc, &mut sent, place(id, station, enb_id), cause)?;
     Ok(sent)
 }
 

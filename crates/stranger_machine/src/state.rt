@@ -4,6 +4,7 @@ ghost use Rattle.std.specs.Prelude.{◌≡◌, IfOk};
 ghost use Rattle.emm_machine.specs.Steps.{entry_lists};
 ghost use Rattle.stranger_machine.specs.Turns.{entry_of, kept_of, place_of};
 
+use crate::sending::place;
 use emm_machine::{Connection, Entry, SentOctets, StationNumber};
 use identity_slots::{AssociationId, Slot};
 use s1ap_elements::{EnbUeId, Tai};
@@ -48,11 +49,7 @@ impl Kept {
     pub(crate) fn place(&self, id: AssociationId) -> Connection
         ensures { result ≡ place_of id self.now }
     {
-        Connection {
-            id,
-            station: self.station,
-            enb_id: self.enb_id,
-        }
+        place(id, self.station, self.enb_id)
     }
 }
 

@@ -2,7 +2,7 @@
 
 ghost use Rattle.std.specs.Prelude.{◌≡◌, [], IfOk, OnOk, OnErr, Some, option_map};
 ghost use Rattle.ordered_lists.specs.Ordered.{Rising, place, put, without};
-ghost use Rattle.stranger_machine.specs.Machine.{notes, station_in};
+ghost use Rattle.stranger_machine.specs.Machine.{notes, number_in, station_in};
 ghost use Rattle.stranger_machine.specs.Table.{known_id, noted, passed, stays_open, stranger_at, with_stranger};
 ghost use Rattle.stranger_machine.specs.Turns.{after_of};
 
@@ -42,11 +42,18 @@ impl Model for Strangers {
     ghost invariant = { λ s. Rising known_id s.known.items };
 }
 
-// The station of a stranger's id.
-fn station_in(id: AssociationId) -> u32
+/// The station of a stranger's id, which is 2^31, its station, and its number there in 24 bits.
+pub fn station_in(id: AssociationId) -> u8
     ensures { result ≡ station_in id }
 {
-    id.get().saturating_sub(0x8000_0000) / 0x100_0000
+    (id.get().saturating_sub(0x8000_0000) / 0x100_0000) as u8
+}
+
+/// A stranger's number at its station, by its id.
+pub fn number_in(id: AssociationId) -> u32
+    ensures { result ≡ number_in id }
+{
+    id.get().saturating_sub(0x8000_0000) % 0x100_0000
 }
 
 impl Known {
@@ -95,7 +102,7 @@ impl Known {
                 },
             ) => *left > 1 || *repeats > 0,
             (Notice::Tick, Stranger::Held(_)) => true,
-            (Notice::Gone(station), _) => station_in(self.id) != station.get() as u32,
+            (Notice::Gone(station), _) => station_in(self.id) != station.get(),
         }
     }
 

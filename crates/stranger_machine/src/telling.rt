@@ -134,7 +134,8 @@ fn identified<'a>(
         }),
         None => {
             let nas = attach_reject(alloc, NOT_ALLOWED)?;
-            Ok(closing(refused(alloc, id, kept, nas.as_slice())?))
+            let sent = refused(alloc, id, kept.station, kept.enb_id, nas.as_slice())?;
+            Ok(closing(sent))
         }
     }
 }
