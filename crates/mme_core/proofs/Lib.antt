@@ -7,3 +7,7 @@ pub mod Order
 pub mod Runs
 pub mod Stations
 pub mod Steps
+pub mod SameToSlot
+pub mod Named
+pub mod Exchange
+pub mod OneOutput

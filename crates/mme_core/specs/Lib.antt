@@ -5,3 +5,4 @@ pub mod World
 pub mod Seen
 pub mod Ready
 pub mod Projection
+pub mod Laws

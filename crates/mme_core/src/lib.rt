@@ -9,11 +9,13 @@ mod calls;
 mod config;
 mod event;
 mod hearing;
+mod laws;
 mod mme;
 mod naming;
 mod out;
 
 pub use config::Config;
 pub use event::{Event, StepFault};
+pub use laws::{exchanges, names_slot, one_output, same_to_slot};
 pub use mme::Mme;
 pub use out::{Out, Outs, Owner};

@@ -1,0 +1,227 @@
+-- Two events that name different slots may change places.
+use Rattle.std.proofs.Common.{◌≡◌, ◌≢◌, ◌^◌, ℕ, ◌+◌, List, [], ◌∷◌, ◌++◌, map, set, Bool, true, false, Option, Some, None, Result, Ok, Err, refl, sym, ◌∙◌, ap, ◌⊎◌, inl, inr}
+use Rattle.std.specs.Prelude.{if◌then◌else◌, nat_lt}
+use Rattle.std.proofs.lemmas.Bool.{cases_eq}
+use Rattle.std.proofs.lemmas.List.{set-get_or}
+use Rattle.s1ap_messages.specs.declared.fault.S1apFault.{S1apFault}
+use Rattle.s1ap_messages.specs.declared.pdu.Pdu.{Pdu}
+use Rattle.s1ap_messages.specs.declared.pdu.Pdu.TheVariants as pdu
+use Rattle.s1ap_messages.specs.declared.pdu.InitialUeMessage.{InitialUeMessage}
+use Rattle.s1ap_messages.specs.Pdus.{decoded}
+use Rattle.identity_slots.specs.declared.profile.Profile.{Profile}
+use Rattle.identity_slots.specs.Provisioned.{slot_of_id, slot_of_imsi}
+use Rattle.emm_machine.specs.declared.event.UeBody.TheVariants.{Uplink, ReleaseRequest, ReleaseComplete, ContextSetupFailure, PathSwitch, Notice}
+use Rattle.emm_machine.specs.declared.event.UeMessage.{UeMessage}
+use Rattle.emm_machine.specs.declared.stations.StationState.{StationState}
+use Rattle.emm_machine.specs.declared.stations.StationState.TheVariants.{Down, Up, Ready}
+use Rattle.emm_machine.specs.Stations.{station_at}
+use Rattle.emm_machine.specs.Steps.{Item, Nothing, Initial, Message, Data, Cancel}
+use Rattle.emm_machine.specs.Whole.{Whole}
+use Rattle.stranger_machine.specs.Machine.{Told}
+use Rattle.stranger_machine.specs.Table.{Nobody, Reach, reached}
+use Rattle.stranger_machine.specs.Table as table
+use Rattle.stranger_machine.specs.Turns.{said}
+use Rattle.mme_core.specs.declared.config.Config.{Config}
+use Rattle.mme_core.specs.declared.event.Event.{Event}
+use Rattle.mme_core.specs.declared.event.Event.TheVariants.{Up as UpEvent, Lost as LostEvent, In as InEvent, Tick as TickEvent, Data as DataEvent, Cancel as CancelEvent}
+use Rattle.mme_core.specs.declared.event.StepFault.TheVariants.{NotUp}
+use Rattle.mme_core.specs.Laws.{Exchanges, event_name, one_called}
+use Rattle.mme_core.specs.Naming.{named_slot}
+use Rattle.mme_core.specs.Sight.{Sight}
+use Rattle.mme_core.specs.Stations.{One, Heard, broadcasts, begins_anew, calling, enters, entered, entry_of, hears, hears_message, reaching, reset, setup_failure, setup_response, tells, told_slot, ue_message}
+use Rattle.mme_core.specs.World.{World, called, calls_by, each_after, each_sends, fault_of, happens, if_down, if_known, items_of, moved, one_if, outputs, reply, reply_of, sight_moved, slot_out, station_of, station_sends, strangers_in, strangers_send, unless, whole_after, whole_step, world_after}
+use Rattle.mme_core.proofs.Calling.{at_nothing, called_other, stays}
+
+-- ---- subscribers, each of whom one of two events has nothing for
+
+after_apart : (w : Whole) (i j : Item) → (i ≡ Nothing) ⊎ (j ≡ Nothing) → whole_after (whole_after w i) j ≡ whole_after (whole_after w j) i
+after_apart w i j (inl e) =
+    ap (λ k. whole_after (whole_after w k) j) e ∙ ap (λ x. whole_after x j) (stays w)
+    ∙ sym (ap (λ k. whole_after (whole_after w j) k) e ∙ stays (whole_after w j))
+after_apart w i j (inr e) =
+    ap (λ k. whole_after (whole_after w i) k) e ∙ stays (whole_after w i)
+    ∙ sym (ap (λ k. whole_after (whole_after w k) i) e ∙ ap (λ x. whole_after x i) (stays w))
+
+each_after_apart : (i j : ℕ → Item) → ((m : ℕ) → (i m ≡ Nothing) ⊎ (j m ≡ Nothing)) → (n : ℕ) (ws : List Whole)
+    → each_after j n (each_after i n ws) ≡ each_after i n (each_after j n ws)
+each_after_apart i j apart n [] = refl
+each_after_apart i j apart n (w ∷ ws) =
+    ap (λ x. x ∷ each_after j (n + 1) (each_after i (n + 1) ws)) (after_apart w (i n) (j n) (apart n))
+    ∙ ap (λ xs. whole_after (whole_after w (j n)) (i n) ∷ xs) (each_after_apart i j apart (n + 1) ws)
+
+sent_apart : (w : Whole) (i j : Item) → (i ≡ Nothing) ⊎ (j ≡ Nothing) → (whole_step (whole_after w i) j).sent ≡ (whole_step w j).sent
+sent_apart w i j (inl e) = ap (λ k. (whole_step (whole_after w k) j).sent) e ∙ ap (λ x. (whole_step x j).sent) (stays w)
+sent_apart w i j (inr e) =
+    ap (λ k. (whole_step (whole_after w i) k).sent) e ∙ ap (λ d. d.sent) (at_nothing w.setting (whole_after w i).solo)
+    ∙ sym (ap (λ k. (whole_step w k).sent) e ∙ ap (λ d. d.sent) (at_nothing w.setting w.solo))
+
+each_sends_apart : (i j : ℕ → Item) → ((m : ℕ) → (i m ≡ Nothing) ⊎ (j m ≡ Nothing)) → (n : ℕ) (ws : List Whole) → each_sends j n (each_after i n ws) ≡ each_sends j n ws
+each_sends_apart i j apart n [] = refl
+each_sends_apart i j apart n (w ∷ ws) =
+    ap (λ sent. map (slot_out n) sent ++ each_sends j (n + 1) (each_after i (n + 1) ws)) (sent_apart w (i n) (j n) (apart n))
+    ∙ ap (λ outs. map (slot_out n) (whole_step w (j n)).sent ++ outs) (each_sends_apart i j apart (n + 1) ws)
+
+called_apart : (s t : ℕ) (i j : Item) → s ≢ t → (m : ℕ) → (called (One s i) m ≡ Nothing) ⊎ (called (One t j) m ≡ Nothing)
+called_apart s t i j ne m = elim (cases_eq m s) [
+  | inl same ↦ inr (called_other t m j (λ k. ne (sym same ∙ k)))
+  | inr other ↦ inl (called_other s m i other)
+]
+
+-- ---- what a station hears that names a slot
+
+-- the slot alone is called, and nothing else happens
+record NamesIn (state : StationState) (h : Heard) (slot : ℕ) : Type 0 where
+  accepted : if_down state (Some NotUp) None ≡ None
+  same : h.state ≡ state
+  silent : h.sends ≡ []
+  nobody : h.reach ≡ Nobody
+  item : Item
+  calls : h.calls ≡ One slot item
+
+-- a station that is ready calls one
+called_in : (state : StationState) (n slot : ℕ) (item : Item) → if_down state (Some NotUp) None ≡ None → Some n ≡ Some slot → NamesIn state (calling state (One n item)) slot
+called_in state n slot item up is =
+    let same : n ≡ slot = cc in
+    record { accepted = up; same = refl; silent = refl; nobody = refl; item = item; calls = ap (λ k. One k item) same }
+
+named_set_up : (b : Bool) (x y : Heard) (state : StationState) (slot : ℕ) → one_called x.calls ≡ None → one_called y.calls ≡ None
+    → one_called (if b then x else y).calls ≡ Some slot → NamesIn state (if b then x else y) slot
+named_set_up true x y state slot h k is = cc
+named_set_up false x y state slot h k is = cc
+
+named_reset : (e : ℕ) (state : StationState) (slot : ℕ) → one_called (reset e state).calls ≡ Some slot → NamesIn state (reset e state) slot
+named_reset e Down slot is = cc
+named_reset e Up slot is = cc
+named_reset e (Ready tas) slot is = cc
+
+named_entered : (o : Option ℕ) (e : ℕ) (state : StationState) (m : InitialUeMessage (List ℕ)) (slot : ℕ) → if_down state (Some NotUp) None ≡ None
+    → one_called (entered o e state m).calls ≡ Some slot → NamesIn state (entered o e state m) slot
+named_entered None e state m slot up is = cc
+named_entered (Some n) e state m slot up is = called_in state n slot (Initial (entry_of e m)) up is
+
+named_enters : (c : Config) (ps : List Profile) (e : ℕ) (state : StationState) (m : InitialUeMessage (List ℕ)) (slot : ℕ)
+    → one_called (enters c ps e state m).calls ≡ Some slot → NamesIn state (enters c ps e state m) slot
+named_enters c ps e Down m slot is = cc
+named_enters c ps e Up m slot is = cc
+named_enters c ps e (Ready tas) m slot is = named_entered (named_slot c.network ps m.nas m.s_tmsi) e (Ready tas) m slot refl is
+
+named_told : (b : Bool) (o : Option ℕ) (r : Heard) (state : StationState) (m : UeMessage (List ℕ)) (slot : ℕ) → if_down state (Some NotUp) None ≡ None → one_called r.calls ≡ None
+    → one_called (if b then told_slot o state m else r).calls ≡ Some slot → NamesIn state (if b then told_slot o state m else r) slot
+named_told true (Some n) r state m slot up none is = called_in state n slot (Message m) up is
+named_told true None r state m slot up none is = cc
+named_told false o r state m slot up none is = cc
+
+named_tells : (ps : List Profile) (state : StationState) (m : UeMessage (List ℕ)) (slot : ℕ) → one_called (tells ps state m).calls ≡ Some slot → NamesIn state (tells ps state m) slot
+named_tells ps Down m slot is = cc
+named_tells ps Up m slot is = cc
+named_tells ps (Ready tas) m slot is =
+    named_told (nat_lt m.mme_id (2 ^ 31)) (slot_of_id m.mme_id ps) (reaching (Ready tas) (table.One m.mme_id (Told m))) (Ready tas) m slot refl refl is
+
+named_message : (c : Config) (ps : List Profile) (e : ℕ) (state : StationState) (m : Pdu (List ℕ)) (slot : ℕ)
+    → one_called (hears_message c ps e state m).calls ≡ Some slot → NamesIn state (hears_message c ps e state m) slot
+named_message c ps e state (pdu.SetupRequest m) slot is =
+    named_set_up (broadcasts c.network.plmn m.supported_tas) (begins_anew e (Ready m.supported_tas) (said e (setup_response c))) (begins_anew e Up (said e setup_failure)) state slot refl refl is
+named_message c ps e state (pdu.Reset m) slot is = named_reset e state slot is
+named_message c ps e state (pdu.InitialUeMessage m) slot is = named_enters c ps e state m slot is
+named_message c ps e state (pdu.UplinkNasTransport m) slot is = named_tells ps state (ue_message e m.mme_id m.enb_id (Uplink m.nas m.tai)) slot is
+named_message c ps e state (pdu.NasNonDelivery m) slot is = named_tells ps state (ue_message e m.mme_id m.enb_id Notice) slot is
+named_message c ps e state (pdu.CapabilityInfo m) slot is = named_tells ps state (ue_message e m.mme_id m.enb_id Notice) slot is
+named_message c ps e state (pdu.ContextSetupResponse m) slot is = named_tells ps state (ue_message e m.mme_id m.enb_id Notice) slot is
+named_message c ps e state (pdu.ContextSetupFailure m) slot is = named_tells ps state (ue_message e m.mme_id m.enb_id ContextSetupFailure) slot is
+named_message c ps e state (pdu.ReleaseRequest m) slot is = named_tells ps state (ue_message e m.mme_id m.enb_id (ReleaseRequest m.cause)) slot is
+named_message c ps e state (pdu.ReleaseComplete m) slot is = named_tells ps state (ue_message e m.mme_id m.enb_id ReleaseComplete) slot is
+named_message c ps e state (pdu.PathSwitchRequest m) slot is = named_tells ps state (ue_message e m.source_mme_id m.enb_id PathSwitch) slot is
+named_message c ps e state m slot is = cc
+
+named_heard : (c : Config) (ps : List Profile) (e : ℕ) (state : StationState) (r : Result (Pdu (List ℕ)) S1apFault) (slot : ℕ)
+    → one_called (hears c ps e state r).calls ≡ Some slot → NamesIn state (hears c ps e state r) slot
+named_heard c ps e state (Err fault) slot is = cc
+named_heard c ps e state (Ok m) slot is = named_message c ps e state m slot is
+
+-- ---- an event that names a slot
+
+-- it is accepted, calls the slot alone, and nothing else happens
+record Names (s : Sight) (event : Event) (slot : ℕ) : Type 0 where
+  accepted : fault_of s event ≡ None
+  same : sight_moved s event ≡ s
+  silent : (happens s event).sends ≡ []
+  nobody : (happens s event).reach ≡ Nobody
+  item : Item
+  calls : (happens s event).calls ≡ One slot item
+
+called_if : (o : Option ℕ) (item : Item) (slot : ℕ) → one_called (one_if o item) ≡ Some slot → (if_known o ≡ None) × (one_if o item ≡ One slot item)
+called_if None item slot is = absurd cc
+called_if (Some n) item slot is =
+    let same : n ≡ slot = cc in
+    (refl, ap (λ k. One k item) same)
+
+names : (s : Sight) (event : Event) (slot : ℕ) → event_name s event ≡ Some slot → Names s event slot
+unfolding happens
+names s (UpEvent e) slot is = cc
+names s (LostEvent e) slot is = cc
+names s (InEvent e octets) slot is =
+    let n = named_heard s.config s.profiles e (station_at s.stations e) (decoded octets.now) slot is in
+    record {
+      accepted = n.accepted;
+      silent = n.silent;
+      nobody = n.nobody;
+      item = n.item;
+      calls = n.calls;
+      same = ap (λ (stations : List StationState). record { config = s.config; clock = s.clock; stations = stations; profiles = s.profiles })
+          (ap (λ state. set s.stations e state) n.same ∙ set-get_or s.stations e Down);
+    }
+names s TickEvent slot is = cc
+names s (DataEvent imsi) slot is =
+    let n = called_if (slot_of_imsi imsi s.profiles) (Data s.stations) slot is in
+    record { accepted = n.0; same = refl; silent = refl; nobody = refl; item = Data s.stations; calls = n.1 }
+names s (CancelEvent imsi) slot is =
+    let n = called_if (slot_of_imsi imsi s.profiles) Cancel slot is in
+    record { accepted = n.0; same = refl; silent = refl; nobody = refl; item = Cancel; calls = n.1 }
+
+-- ---- the MME at such an event
+
+named_items : (w : World) (event : Event) (slot : ℕ) (n : Names w.sight event slot) → items_of w.sight (strangers_in w) event ≡ called (One slot n.item)
+named_items w event slot n =
+    ap (λ r. called (calls_by r (happens w.sight event).calls w.sight.profiles (strangers_in w))) n.nobody ∙ ap called n.calls
+
+named_after : (w : World) (event : Event) (slot : ℕ) (n : Names w.sight event slot)
+    → world_after w event ≡ record { sight = w.sight; strangers = w.strangers; subscribers = each_after (called (One slot n.item)) 0 w.subscribers }
+named_after w event slot n =
+    let each = each_after (items_of w.sight (strangers_in w) event) 0 w.subscribers in
+    ap (λ o. unless o w (moved w event)) n.accepted
+    ∙ ap (λ (s : Sight). record { sight = s; strangers = reached w.sight.profiles (happens w.sight event).reach w.strangers; subscribers = each }) n.same
+    ∙ ap (λ r. record { sight = w.sight; strangers = reached w.sight.profiles r w.strangers; subscribers = each }) n.nobody
+    ∙ ap (λ items. record { sight = w.sight; strangers = w.strangers; subscribers = each_after items 0 w.subscribers }) (named_items w event slot n)
+
+nothing_said : (o : Option ℕ) → station_sends o [] ≡ []
+nothing_said None = refl
+nothing_said (Some e) = refl
+
+named_reply : (w : World) (event : Event) (slot : ℕ) (n : Names w.sight event slot) → reply w event ≡ Ok (each_sends (called (One slot n.item)) 0 w.subscribers)
+named_reply w event slot n =
+    let others = strangers_send w.sight.profiles (happens w.sight event).reach w.strangers in
+    let each = each_sends (items_of w.sight (strangers_in w) event) 0 w.subscribers in
+    ap (λ o. reply_of o (outputs w event)) n.accepted
+    ∙ ap (λ sends. Ok (station_sends (station_of event) sends ++ (others ++ each))) n.silent
+    ∙ ap (λ outs. Ok (outs ++ (others ++ each))) (nothing_said (station_of event))
+    ∙ ap (λ r. Ok (strangers_send w.sight.profiles r w.strangers ++ each)) n.nobody
+    ∙ ap (λ items. Ok (each_sends items 0 w.subscribers)) (named_items w event slot n)
+
+exchanged : (w : World) (a b : Event) (s t : ℕ) → Names w.sight a s → Names w.sight b t → s ≢ t
+    → (world_after (world_after w a) b ≡ world_after (world_after w b) a) × (reply (world_after w a) b ≡ reply w b) × (reply (world_after w b) a ≡ reply w a)
+exchanged w a b s t p q ne =
+    let i = called (One s p.item) in
+    let j = called (One t q.item) in
+    let apart = called_apart s t p.item q.item ne in
+    let back = called_apart t s q.item p.item (λ same. ne (sym same)) in
+    let first : World = record { sight = w.sight; strangers = w.strangers; subscribers = each_after i 0 w.subscribers } in
+    let second : World = record { sight = w.sight; strangers = w.strangers; subscribers = each_after j 0 w.subscribers } in (
+      ap (λ v. world_after v b) (named_after w a s p) ∙ named_after first b t q
+          ∙ ap (λ (ws : List Whole). record { sight = w.sight; strangers = w.strangers; subscribers = ws }) (each_after_apart i j apart 0 w.subscribers)
+          ∙ sym (ap (λ v. world_after v a) (named_after w b t q) ∙ named_after second a s p),
+      ap (λ v. reply v b) (named_after w a s p) ∙ named_reply first b t q ∙ ap Ok (each_sends_apart i j apart 0 w.subscribers) ∙ sym (named_reply w b t q),
+      ap (λ v. reply v a) (named_after w b t q) ∙ named_reply second a s p ∙ ap Ok (each_sends_apart j i back 0 w.subscribers) ∙ sym (named_reply w a s p),
+    )
+
+pub exchanges : Exchanges
+exchanges w a b s t p q ne = exchanged w a b s t (names w.sight a s p) (names w.sight b t q) ne

@@ -1,0 +1,31 @@
+//! Laws of the definitions: each is the contract of a function that does nothing.
+
+ghost use Rattle.mme_core.specs.Laws.{Exchanges, NamedById, NamedByIdentity, NamedByImsi, OneOutput, RepliesSo, SameFromMme, SameToSlot};
+
+/// Two lists of events that have the same items for a slot, where those that have nothing for it are left out, tell the slot
+/// the same messages in the same order and leave it in the same state.
+pub fn same_to_slot()
+    ensures machine { SameToSlot }
+    ensures mme { SameFromMme }
+{}
+
+/// What names a slot: data for its IMSI and the end of its subscription, and from a station that is set up an INITIAL UE
+/// MESSAGE with its identity and a message with its id.
+pub fn names_slot()
+    ensures imsi { NamedByImsi }
+    ensures identity { NamedByIdentity }
+    ensures id { NamedById }
+{}
+
+/// Two events in a row that name different slots may change places: each has the same reply in either order, and the MME is the
+/// same behind both.
+pub fn exchanges()
+    ensures { Exchanges }
+{}
+
+/// Messages of which each owner's are those that its machine sends at an event, and that stand in the order of their owners,
+/// are one list alone; and the MME's reply to an event that it accepts is that list.
+pub fn one_output()
+    ensures reply { RepliesSo }
+    ensures one { OneOutput }
+{}
