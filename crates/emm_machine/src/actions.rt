@@ -8,7 +8,7 @@ ghost use Rattle.emm_machine.specs.Actions.{connect, connect_on, counted, discon
 ghost use Rattle.emm_machine.specs.Does.{Does, Makes};
 
 use crate::draft::{Draft, Sealed, Stop};
-use crate::octets::{Answer, Mark, SentOctets};
+use crate::octets::{Answer, Mark, NasOctets, SentOctets};
 use crate::pdus::{context_setup, downlink, release_command};
 use crate::setting::Setting;
 use crate::solo::{Connection, Context, Countdown, Phase, Protection, Repeat, Timer};
@@ -18,7 +18,7 @@ use identity_slots::{AssociationId, Slot};
 use nas_messages::SecurityHeader;
 use nas_security::SecurityFault;
 use s1ap_elements::{Cause, EnbUeId, NasCause};
-use s1ap_messages::{EncodeFault, S1apPdu, encode};
+use s1ap_messages::S1apPdu;
 use std::alloc::{AllocError, Global};
 
 /// The cause of an association that ends as it should.
@@ -43,17 +43,6 @@ pub(crate) fn is_registered(phase: Phase) -> bool
     }
 }
 
-// The octets of a message that has a written form.
-fn octets_of(alloc: Global, message: &S1apPdu) -> Result<Option<SentOctets>, AllocError>
-    ensures { IfOk result (λ octets. octets ≡ encoded (lists message.now)) }
-{
-    match encode(alloc, message) {
-        Ok(octets) => Ok(Some(SentOctets::new(octets))),
-        Err(EncodeFault::NotWritable) => Ok(None),
-        Err(EncodeFault::NoMemory) => Err(AllocError),
-    }
-}
-
 impl Draft {
     /// The message goes to the station, and its NAS message under a mark where it is protected.
     #[tactic(auto, unfolding(crate::specs::Actions::emit))]
@@ -66,7 +55,7 @@ impl Draft {
     ) -> Result<(), AllocError>
         ensures { OnOk result (self.new ≡ emit station (lists message.now) under self.old) }
     {
-        let Some(octets) = octets_of(alloc, message)? else {
+        let Some(octets) = SentOctets::of_message(alloc, message)? else {
             return Ok(());
         };
         self.sent.push(Answer {
@@ -291,7 +280,7 @@ impl Draft {
     {
         let Some(mut context) = self.solo.context else {
             return Ok(Sealed {
-                form: SentOctets::new(Vec::new(alloc)),
+                form: NasOctets::new(Vec::new(alloc)),
                 under: None,
             });
         };
@@ -306,7 +295,7 @@ impl Draft {
         };
         self.solo.context = Some(context);
         Ok(Sealed {
-            form: SentOctets::new(form),
+            form: NasOctets::new(form),
             under: Some(under),
         })
     }

@@ -15,7 +15,7 @@ use crate::messages::{
     Grant, attach_accept, attach_reject, attach_reject_with, authentication_reject,
     authentication_request, detach_accept, emm_status, security_mode_command,
 };
-use crate::octets::{Mark, SentOctets};
+use crate::octets::{Mark, NasOctets};
 use crate::setting::Setting;
 use crate::solo::{Asked, Context, Phase, Protection, RadioKeys, Repeat, Timer};
 use eps_keys::{kenb, nas_integrity_key, next_hop, same_octets};
@@ -114,7 +114,7 @@ impl Draft {
         self.send(alloc, request.as_slice())?;
         self.start(
             Timer::T3460,
-            Repeat::Nas(Protection::Plain, SentOctets::new(request)),
+            Repeat::Nas(Protection::Plain, NasOctets::new(request)),
         );
         Ok(())
     }
@@ -199,7 +199,7 @@ impl Draft {
             Timer::T3460,
             Repeat::Nas(
                 Protection::Under(SecurityHeader::NewContext),
-                SentOctets::new(command),
+                NasOctets::new(command),
             ),
         );
         Ok(())
@@ -373,7 +373,7 @@ impl Draft {
             Timer::T3450,
             Repeat::Nas(
                 Protection::Under(SecurityHeader::IntegrityProtectedCiphered),
-                SentOctets::new(message),
+                NasOctets::new(message),
             ),
         );
         Ok(())
@@ -394,7 +394,7 @@ impl Draft {
             Timer::T3489,
             Repeat::Nas(
                 Protection::Under(SecurityHeader::IntegrityProtectedCiphered),
-                SentOctets::new(request),
+                NasOctets::new(request),
             ),
         );
         Ok(())

@@ -3,7 +3,7 @@
 ghost use Rattle.std.specs.Prelude.{◌≡◌, IfOk};
 ghost use Rattle.emm_machine.specs.Actions.{untouched};
 
-use crate::octets::{Answers, Mark, SentOctets};
+use crate::octets::{Answers, Mark, NasOctets};
 use crate::solo::Solo;
 use std::alloc::{AllocError, Global};
 
@@ -49,6 +49,6 @@ impl From<AllocError> for Stop {
 /// A protected NAS message, and what it is protected under.
 #[derive(Drop)]
 pub struct Sealed {
-    pub form: SentOctets,
+    pub form: NasOctets,
     pub under: Option<Mark>,
 }

@@ -8,7 +8,7 @@ ghost use Rattle.emm_machine.specs.Idle.{again, cancelled, covers, data_waits, d
 
 use crate::draft::{Draft, Stop};
 use crate::messages::network_detach;
-use crate::octets::SentOctets;
+use crate::octets::NasOctets;
 use crate::pdus::paging;
 use crate::setting::Setting;
 use crate::solo::{Countdown, Phase, Protection, Repeat, Stations, Timer};
@@ -252,7 +252,7 @@ impl Draft {
             Timer::T3422,
             Repeat::Nas(
                 Protection::Under(SecurityHeader::IntegrityProtectedCiphered),
-                SentOctets::new(request),
+                NasOctets::new(request),
             ),
         );
         Ok(())

@@ -32,7 +32,7 @@ pub use laws::{
 };
 pub use messages::{attach_reject, service_reject, update_reject};
 pub use network::{AggregateBitRate, Apn, Network};
-pub use octets::{Answer, Answers, Mark, SentOctets};
+pub use octets::{Answer, Answers, Mark, NasOctets, SentOctets};
 pub use pdus::{downlink, error_indication, path_switch_failure, release_command};
 pub use solo::{
     Asked, Connection, Context, Countdown, Counter, Phase, Protection, RadioKeys, Repeat, Solo,

@@ -1,29 +1,31 @@
 //! Octets of messages on the heap, and the messages that a step sends; contracts see lists.
 
-ghost use Rattle.std.specs.Prelude.{◌≡◌, ◌++◌, ◌∷◌, [], ℕ, List, IfOk, OnOk, OnErr};
+ghost use Rattle.std.specs.Prelude.{◌≡◌, ◌≤◌, ◌++◌, ◌∷◌, [], ℕ, List, length, IfOk, OnOk, OnErr};
+ghost use Rattle.s1ap_messages.specs.Pdus.{encoded, lists, longest};
 
 use crate::stations::StationNumber;
+use s1ap_messages::{EncodeFault, S1apPdu, encode};
 use std::alloc::{AllocError, Global};
 use std::marker::Model;
 
-/// The octets of one message; a contract sees their list.
+/// The octets of a NAS message that is kept; a contract sees their list.
 #[derive(Drop)]
-pub struct SentOctets {
+pub struct NasOctets {
     octets: Vec<u8>,
 }
 
-impl Model for SentOctets {
+impl Model for NasOctets {
     ghost Value = { List ℕ };
 
     ghost view = { λ o. o.octets.items };
 }
 
-impl SentOctets {
+impl NasOctets {
     /// These octets.
-    pub fn new(octets: Vec<u8>) -> SentOctets
+    pub fn new(octets: Vec<u8>) -> NasOctets
         ensures { result ≡ octets.items }
     {
-        SentOctets { octets }
+        NasOctets { octets }
     }
 
     /// The octets.
@@ -34,12 +36,64 @@ impl SentOctets {
     }
 
     /// The same octets once more.
+    pub fn copy(&self, alloc: Global) -> Result<NasOctets, AllocError>
+        ensures { IfOk result (λ o. o ≡ self.now) }
+    {
+        Ok(NasOctets {
+            octets: Vec::from_slice(alloc, self.octets.as_slice())?,
+        })
+    }
+}
+
+/// The octets of one whole S1AP message, of which there are at most 16,388; a contract sees their list.
+#[derive(Drop)]
+pub struct SentOctets {
+    octets: Vec<u8>,
+}
+
+impl Model for SentOctets {
+    ghost use Rattle.std.specs.Prelude.{ℕ, ◌≤◌, List, length};
+    ghost use Rattle.s1ap_messages.specs.Pdus.{longest};
+
+    ghost Value = { List ℕ };
+
+    ghost view = { λ o. o.octets.items };
+
+    ghost invariant = { λ o. length o.octets.items ≤ longest };
+}
+
+impl SentOctets {
+    /// The octets of a message, if it has a written form.
+    pub fn of_message(alloc: Global, message: &S1apPdu) -> Result<Option<SentOctets>, AllocError>
+        ensures { IfOk result (λ octets. octets ≡ encoded (lists message.now)) }
+    {
+        match encode(alloc, message) {
+            Ok(octets) => Ok(Some(SentOctets { octets })),
+            Err(EncodeFault::NotWritable) => Ok(None),
+            Err(EncodeFault::NoMemory) => Err(AllocError),
+        }
+    }
+
+    /// The octets.
+    pub fn as_slice(&self) -> &[u8]
+        ensures { result.now ≡ self.now }
+    {
+        self.octets.as_slice()
+    }
+
+    /// There are at most 16,388: an open type has at most 16,383 (X.691 clause 11.9), and five stand before it.
+    pub fn is_short(&self)
+        ensures { length self.now ≤ longest }
+    {
+        let _ = &self.octets;
+    }
+
+    /// The same octets once more.
     pub fn copy(&self, alloc: Global) -> Result<SentOctets, AllocError>
         ensures { IfOk result (λ o. o ≡ self.now) }
     {
-        Ok(SentOctets {
-            octets: Vec::from_slice(alloc, self.octets.as_slice())?,
-        })
+        let octets = Vec::from_slice(alloc, self.octets.as_slice())?;
+        Ok(SentOctets { octets })
     }
 }
 

@@ -17,7 +17,7 @@ use crate::heard::{Heard, hear, initial_octets, is_esm};
 use crate::messages::{
     Grant, detach_accept, emm_status, service_reject, update_accept, update_reject,
 };
-use crate::octets::SentOctets;
+use crate::octets::NasOctets;
 use crate::setting::Setting;
 use crate::solo::{Phase, Protection, Repeat, Timer};
 use esm_machine::Reaction;
@@ -180,7 +180,7 @@ impl Draft {
             Timer::T3450,
             Repeat::Nas(
                 Protection::Under(SecurityHeader::IntegrityProtectedCiphered),
-                SentOctets::new(message),
+                NasOctets::new(message),
             ),
         );
         Ok(())

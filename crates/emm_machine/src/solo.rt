@@ -5,7 +5,7 @@ ghost use Rattle.std.specs.List.{list_any};
 ghost use Rattle.identity_slots.specs.Ids.{next_counter, id_of};
 ghost use Rattle.emm_machine.specs.Timers.{repeats_of, ticks_of};
 
-use crate::octets::SentOctets;
+use crate::octets::NasOctets;
 use crate::stations::StationNumber;
 use esm_machine::Bearer;
 use identity_slots::{AssociationId, Slot, Tmsi};
@@ -175,7 +175,7 @@ fn remove_from(items: &mut Vec<StationNumber>, station: StationNumber)
 #[derive(Drop)]
 pub enum Repeat {
     /// A NAS message to the phone.
-    Nas(Protection, SentOctets),
+    Nas(Protection, NasOctets),
     /// PAGING to each of these stations.
     Paging(Stations),
 }

@@ -11,3 +11,4 @@ pub mod SameToSlot
 pub mod Named
 pub mod Exchange
 pub mod OneOutput
+pub mod Short

@@ -6,3 +6,4 @@ pub mod Seen
 pub mod Ready
 pub mod Projection
 pub mod Laws
+pub mod Short

@@ -17,6 +17,7 @@ ghost use Rattle.mme_core.specs.Projection.{AllInOrder, AreInOrder, alone_after,
 ghost use Rattle.mme_core.specs.Seen.{IsFor, calls_of, changed, reach_of, seen, settled, solos_after, with_solo, with_solos};
 ghost use Rattle.mme_core.specs.Stations.{Everyone, One};
 ghost use Rattle.mme_core.specs.Ready.{placed, ready_world};
+ghost use Rattle.mme_core.specs.Short.{AreShort};
 ghost use Rattle.mme_core.specs.World.{World, called, calls_by, each_after, each_known, each_sends, fault_of, fresh_subscribers, fresh_world, given, happens, owner_out, reach_call, replies, reply, station_sends, stranger_out, strangers_in, strangers_send, taken, with_call, world_after, world_run};
 
 use crate::calls::{Calls, Change, Prepared, Reach, Summoned, Turned};
@@ -121,11 +122,12 @@ impl Mme {
         }
     }
 
-    /// One event: what is sent, or why it is refused. A refused event leaves the MME as it was.
+    /// One event: what is sent, or why it is refused. A refused event leaves the MME as it was. No message is longer than 16,388 octets.
     pub fn step(&mut self, event: Event) -> Result<Outs, StepFault>
         ensures reply { IfOk result (λ outs. reply self.old event.entry ≡ Ok outs) }
         ensures after { OnOk result (self.new ≡ world_after self.old event.entry) }
         ensures order { IfOk result (λ outs. AreInOrder outs) }
+        ensures short { IfOk result (λ outs. AreShort outs) }
         ensures refused { IfErr result (λ fault. fault ≢ NoMemory → reply self.old event.entry ≡ Err fault) }
         ensures err { OnErr result (self.new ≡ self.old) }
     {
@@ -403,6 +405,7 @@ impl Mme {
         requires rising { IfOk ready (λ r. Rising known_id (changed r.change self.old.strangers)) }
         ensures after { OnOk result (IfOk ready (λ r. self.new ≡ ready_world r self.old)) }
         ensures outs { IfOk result (λ outs. IfOk ready (λ r. outs ≡ r.outs)) }
+        ensures short { IfOk result (λ outs. AreShort outs) }
         ensures ok { OnOk result (IsOk ready) }
         ensures refused { IfErr result (λ fault. fault ≢ NoMemory → ready ≡ Err fault) }
         ensures err { OnErr result (self.new ≡ self.old) }
@@ -419,6 +422,7 @@ impl Mme {
         requires rising { Rising known_id (changed ready.change self.old.strangers) }
         ensures after { OnOk result (self.new ≡ ready_world ready self.old) }
         ensures outs { IfOk result (λ outs. outs ≡ ready.outs) }
+        ensures short { IfOk result (λ outs. AreShort outs) }
         ensures memory { IfErr result (λ fault. fault ≡ NoMemory) }
         ensures err { OnErr result (self.new ≡ self.old) }
     {
@@ -437,6 +441,7 @@ impl Mme {
         settle_station(&mut self.stations, station, state);
         self.clock = clock;
         settle(&mut self.subscribers, prepared);
+        outs.are_short();
         Ok(outs)
     }
 }

@@ -1,6 +1,7 @@
 //! What an MME sends.
 
 ghost use Rattle.std.specs.Prelude.{◌≡◌, ◌++◌, ◌∷◌, [], OnOk, OnErr};
+ghost use Rattle.mme_core.specs.Short.{AreShort};
 
 use emm_machine::{SentOctets, StationNumber};
 use identity_slots::{AssociationId, Slot};
@@ -26,7 +27,8 @@ pub struct Out {
     pub octets: SentOctets,
 }
 
-/// What is sent at one event, in order: for stations, strangers and subscribers; a contract sees the list.
+/// What is sent at one event, in order: for stations, strangers and subscribers, no message longer than 16,388 octets; a contract
+/// sees the list.
 #[derive(Drop)]
 pub struct Outs {
     items: Vec<Out>,
@@ -39,6 +41,10 @@ impl Model for Outs {
     ghost Value = { List Out };
 
     ghost view = { λ o. o.items.items };
+
+    ghost use Rattle.mme_core.specs.Short.{AreShort};
+
+    ghost invariant = { λ o. AreShort o.items.items };
 }
 
 impl Outs {
@@ -52,10 +58,12 @@ impl Outs {
     }
 
     /// One message more.
+    #[tactic(auto, using(crate::proofs::Short::short_push))]
     pub fn push(&mut self, out: Out) -> Result<(), AllocError>
         ensures ok { OnOk result (self.new ≡ self.old ++ out ∷ []) }
         ensures err { OnErr result (self.new ≡ self.old) }
     {
+        out.octets.is_short();
         self.items.push(out)?;
         Ok(())
     }
@@ -65,5 +73,12 @@ impl Outs {
         ensures { result.now ≡ self.now }
     {
         self.items.as_slice()
+    }
+
+    /// No message is long.
+    pub fn are_short(&self)
+        ensures { AreShort self.now }
+    {
+        let _ = &self.items;
     }
 }

@@ -118,7 +118,7 @@ pub(crate) fn run(alloc: Global, progress: &mut Progress, number: u64) -> Result
     }
 }
 
-fn config(fields: &MmeLine) -> Config
+pub(crate) fn config(fields: &MmeLine) -> Config
     ensures { result ≡ config_of fields.now }
 {
     let network = Network {

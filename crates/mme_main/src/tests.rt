@@ -1,11 +1,15 @@
 use crate::fault::PlayFault;
 use crate::play::run_play;
+use crate::progress::config;
 use crate::watched::Watched;
+use emm_machine::StationNumber;
+use identity_slots::Provision;
+use mme_core::{Event, Mme, StepFault};
 use std::alloc::{AllocError, Global};
 use std::io;
 use std::io::{BufWriter, Read, Write};
 use std::test::Fail;
-use trace_text::TraceFault;
+use trace_text::{Line, TraceFault, parse_line};
 
 const BEGIN: &[u8] = b"mme 001 01 8001 01 internet 1000000000 1000000000\nup 0\n";
 
@@ -298,5 +302,30 @@ fn nothing_is_kept_back(rt: HostRuntime) -> Result<(), Fail> {
     let outcome = run_play(rt.alloc(), &mut reader, &mut writer);
     assert_eq!(rt; outcome, Err(PlayFault::Trace(4, TraceFault::UnknownWord)));
     assert!(rt; writer.inner.get_ref().as_slice() == INDICATION);
+    Ok(())
+}
+
+/// An MME without subscribers whose clock is there.
+fn at_clock(alloc: Global, clock: u64) -> Result<Mme, Fail> {
+    let Ok(Line::Mme(fields)) = parse_line(alloc, b"mme 001 01 8001 01 internet 1 1") else {
+        return Err("line")?;
+    };
+    let mut config = config(&fields);
+    config.clock = clock;
+    Ok(Mme::new(alloc, config, Provision::new(alloc))?)
+}
+
+#[test]
+fn the_clock_ends(rt: HostRuntime) -> Result<(), Fail> {
+    let Some(station) = StationNumber::try_new(7) else {
+        return Err("number")?;
+    };
+    let mut mme = at_clock(rt.alloc(), (1 << 62) - 1)?;
+    assert!(rt; mme.step(Event::Up(station)).is_ok());
+    assert!(rt; mme.step(Event::Tick).is_ok());
+    assert!(rt; matches!(mme.step(Event::Tick), Err(StepFault::ClockSpent)));
+    assert!(rt; matches!(mme.step(Event::Up(station)), Err(StepFault::AlreadyUp)));
+    assert!(rt; mme.step(Event::Lost(station)).is_ok());
+    assert!(rt; matches!(mme.step(Event::Tick), Err(StepFault::ClockSpent)));
     Ok(())
 }

@@ -5,3 +5,4 @@ pub mod PduLaws
 pub mod SpelledLaws
 pub mod WrittenLaws
 pub mod NamedLaws
+pub mod LengthLaws

@@ -275,3 +275,8 @@ ok_of (Err f) = None
 -- the octets of a message, or None where it is not writable
 unfoldable pub encoded : Pdu (List ℕ) → Option (List ℕ)
 encoded m = ok_of (encode_typed (typed m))
+
+-- no message has more octets: an open type of at most 16383 (X.691 clause 11.9), and before it the choice, the code, the
+-- criticality and a length of two octets
+abbrev pub longest : ℕ
+longest = 16388

@@ -1,10 +1,10 @@
 //! Messages and octets.
 
-ghost use Rattle.std.specs.Prelude.{◌≡◌};
+ghost use Rattle.std.specs.Prelude.{◌≡◌, ◌≤◌, length, IfOk};
 ghost use Rattle.per_bits.specs.Reading.{GivesWhole};
 ghost use Rattle.per_bits.specs.Writing.{write_whole};
 ghost use Rattle.s1ap_messages.specs.Answers.{Answers, Encodes};
-ghost use Rattle.s1ap_messages.specs.Pdus.{lists, typed, decoded, encoded};
+ghost use Rattle.s1ap_messages.specs.Pdus.{lists, typed, decoded, encoded, longest};
 ghost use Rattle.s1ap_messages.specs.Profile.{rows_of, kind_of, code_of, criticality_of, initiating, successful, unsuccessful, type_of};
 ghost use Rattle.s1ap_messages.specs.Reading.{decode_typed, read_typed};
 ghost use Rattle.s1ap_messages.specs.Writing.{encode_typed, write_message};
@@ -295,13 +295,14 @@ fn message_octets(alloc: Global, message: &S1apPdu) -> Result<Vec<u8>, PerError>
     )
 }
 
-/// The octets of a message: its rows in their order, with the criticalities of the standard's table.
+/// The octets of a message: its rows in their order, with the criticalities of the standard's table. There are at most 16,388.
 ///
 /// NotWritable where a part has no spelling: an extended name, or a number, a string or a list out of
 /// its range. NoMemory where a growth was refused.
 #[tactic(auto, unfolding(crate::specs::Pdus::encoded))]
 pub fn encode(alloc: Global, message: &S1apPdu) -> Result<Vec<u8>, EncodeFault>
-    ensures { Encodes (λ v. v.items) result (encoded (lists message.now)) }
+    ensures octets { Encodes (λ v. v.items) result (encoded (lists message.now)) }
+    ensures short { IfOk result (λ v. length v.items ≤ longest) }
 {
     match message_octets(alloc, message) {
         Ok(octets) => Ok(octets),

@@ -12,7 +12,7 @@ use emm_machine::{
 use identity_slots::AssociationId;
 use nas_messages::{Emm, EmmMessage, encode_emm};
 use s1ap_elements::{Cause, EnbUeId, NasCause};
-use s1ap_messages::{EncodeFault, S1apPdu, encode};
+use s1ap_messages::S1apPdu;
 use std::alloc::{AllocError, Global};
 
 // The message behind what is sent so far; one without a written form isn't sent.
@@ -24,14 +24,13 @@ pub(crate) fn say(
 ) -> Result<(), AllocError>
     ensures { OnOk result (sent.new ≡ sent.old ++ said station (lists message.now)) }
 {
-    match encode(alloc, message) {
-        Ok(octets) => sent.push(Answer {
+    match SentOctets::of_message(alloc, message)? {
+        Some(octets) => sent.push(Answer {
             station,
-            octets: SentOctets::new(octets),
+            octets,
             under: None,
         }),
-        Err(EncodeFault::NotWritable) => Ok(()),
-        Err(EncodeFault::NoMemory) => Err(AllocError),
+        None => Ok(()),
     }
 }
 

@@ -5,7 +5,7 @@ ghost use Rattle.emm_machine.specs.Steps.{entry_lists};
 ghost use Rattle.stranger_machine.specs.Turns.{entry_of, kept_of, place_of};
 
 use crate::sending::place;
-use emm_machine::{Connection, Entry, SentOctets, StationNumber};
+use emm_machine::{Connection, Entry, NasOctets, StationNumber};
 use identity_slots::{AssociationId, Slot};
 use s1ap_elements::{EnbUeId, Tai};
 use std::alloc::{AllocError, Global};
@@ -16,7 +16,7 @@ pub struct Kept {
     pub station: StationNumber,
     pub enb_id: EnbUeId,
     /// Its NAS message.
-    pub nas: SentOctets,
+    pub nas: NasOctets,
     pub tai: Tai,
 }
 
@@ -28,7 +28,7 @@ impl Kept {
         Ok(Kept {
             station: entry.station,
             enb_id: entry.enb_id,
-            nas: SentOctets::new(Vec::from_slice(alloc, entry.nas)?),
+            nas: NasOctets::new(Vec::from_slice(alloc, entry.nas)?),
             tai: entry.tai,
         })
     }
