@@ -11,6 +11,8 @@ pub mod Serving
 pub mod Connected
 pub mod Idle
 pub mod Steps
+pub mod Still
 pub mod Whole
 pub mod Words
 pub mod Freshness
+pub mod Laws

@@ -21,6 +21,7 @@ mod serving;
 mod setting;
 mod solo;
 mod stations;
+mod still;
 mod subscriber;
 
 pub use connected::cause_of_request;

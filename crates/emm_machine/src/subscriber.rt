@@ -1,9 +1,11 @@
 //! One subscriber.
 
-ghost use Rattle.std.specs.Prelude.{◌≡◌, IfOk, OnErr, OnOk, length};
+ghost use Rattle.std.specs.Prelude.{◌≡◌, IfOk, List, OnErr, OnOk, length};
 ghost use Rattle.emm_machine.specs.Does.{Does};
 ghost use Rattle.emm_machine.specs.Steps.{item_of, row, solo_step};
+ghost use Rattle.emm_machine.specs.Still.{still};
 ghost use Rattle.emm_machine.specs.Words.{ecm_of, emm_of, fresh_solo, pages_in, procedure_left, states_of};
+ghost use Rattle.emm_machine.specs.declared.stations.StationState.{StationState};
 
 use crate::draft::{Draft, Stop};
 use crate::event::SoloEvent;
@@ -19,7 +21,6 @@ use per_bits::Octets;
 use s1ap_elements::{Cause, NasCause, Tai};
 use std::alloc::{AllocError, Global};
 use std::marker::Model;
-use std::mem::swap;
 
 /// The state of mobility management (TS 24.301 clause 5.1.3.4).
 #[derive(Clone, Copy, PartialEq, Eq, Debug)]
@@ -191,6 +192,13 @@ impl Subscriber {
         })
     }
 
+    /// Whether a look at a few fields tells that an event leaves the state as it is and sends nothing; takes no memory.
+    pub fn is_still(&self, event: &SoloEvent) -> bool
+        ensures { (stations : List StationState) → result ≡ still self.now.solo (item_of event.now stations) }
+    {
+        self.solo.is_still(event)
+    }
+
     /// What an event would leave and send; nothing changes.
     pub fn prepare(&self, event: &SoloEvent, world: &EnbWorld) -> Result<Draft, AllocError>
         ensures { IfOk result (λ d. d ≡ solo_step self.now.setting self.now.solo (item_of event.now world.now)) }
@@ -203,14 +211,6 @@ impl Subscriber {
         ensures { self.new ≡ record self.old { solo = solo } }
     {
         self.solo = solo;
-    }
-
-    /// The state is that one, and the one it was is given back; takes no memory.
-    pub fn exchange(&mut self, solo: &mut Solo)
-        ensures new { self.new ≡ record self.old { solo = solo.old } }
-        ensures old { solo.new ≡ self.old.solo }
-    {
-        swap(&mut self.solo, solo);
     }
 
     /// One event: what is sent. Where memory is refused nothing changes.

@@ -1,4 +1,4 @@
--- A call of one, of all and of nobody.
+-- A call of one and of nobody.
 use Rattle.std.proofs.Common.{◌≡◌, ◌≢◌, ℕ, suc, zero, ◌+◌, ◌≤◌, List, [], ◌∷◌, ◌++◌, length, set, map, Some, refl, sym, ◌∙◌, ap, arith}
 use Rattle.std.specs.Prelude.{slice_get}
 use Rattle.std.proofs.lemmas.Bool.Decides.{nat_tests}
@@ -8,8 +8,7 @@ use Rattle.emm_machine.specs.declared.solo.Solo.{Solo}
 use Rattle.emm_machine.specs.Actions.{untouched}
 use Rattle.emm_machine.specs.Steps.{Item, Nothing, row, solo_step}
 use Rattle.emm_machine.specs.Whole.{Whole}
-use Rattle.mme_core.specs.Seen.{solos_after, with_solos}
-use Rattle.mme_core.specs.Stations.{One, Everyone}
+use Rattle.mme_core.specs.Stations.{One}
 use Rattle.mme_core.specs.World.{called, each_after, each_sends, slot_out, whole_after, whole_step}
 
 -- nothing reaches a subscriber: it stays, and sends nothing
@@ -103,16 +102,6 @@ past_after slot n items (w ∷ ws) le only =
 pub call_past : (slot : ℕ) (item : Item) (ws : List Whole) → length ws ≤ slot → (each_after (called (One slot item)) 0 ws ≡ ws) × (each_sends (called (One slot item)) 0 ws ≡ [])
 call_past slot item ws le = past_after slot 0 (called (One slot item)) ws (omega arith) (λ m ne. called_other slot m item ne)
 
--- everyone is called
-pub all_settled : (item : Item) (n : ℕ) (ws : List Whole) → with_solos (solos_after item ws) ws ≡ each_after (called (Everyone item)) n ws
-all_settled item n [] = refl
-all_settled item n (w ∷ ws) = ap (λ xs. whole_after w item ∷ xs) (all_settled item (n + 1) ws)
-
 pub each_after_length : (items : ℕ → Item) (n : ℕ) (ws : List Whole) → length (each_after items n ws) ≡ length ws
 each_after_length items n [] = refl
 each_after_length items n (w ∷ ws) = ap suc (each_after_length items (n + 1) ws)
-
-pub with_solos_length : (ss : List Solo) (ws : List Whole) → length ss ≡ length ws → length (with_solos ss ws) ≡ length ws
-with_solos_length [] ws h = refl
-with_solos_length (s ∷ ss) [] h = refl
-with_solos_length (s ∷ ss) (w ∷ ws) h = ap suc (with_solos_length ss ws (omega arith))

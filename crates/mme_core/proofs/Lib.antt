@@ -1,4 +1,5 @@
 pub mod Calling
+pub mod Stepping
 pub mod Owned
 pub mod Turns
 pub mod Alone

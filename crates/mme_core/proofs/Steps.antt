@@ -1,19 +1,16 @@
 -- One event that is not refused: what it makes, from what its station hears and whom it calls.
-use Rattle.std.proofs.Common.{◌≡◌, ◌≢◌, ◌<◌, ◌^◌, ℕ, suc, List, [], ◌∷◌, ◌++◌, length, Option, Some, None, Result, Ok, Err, refl, sym, ◌∙◌, ap, arith}
-use Rattle.std.specs.Prelude.{if◌then◌else◌, nat_lt, slice_get, slice_set, unwrap_or, IfOk, IfErr}
-use Rattle.std.specs.Option.{option_map_or}
+use Rattle.std.proofs.Common.{◌≡◌, ◌≢◌, ◌<◌, ◌^◌, ℕ, List, ◌++◌, length, Option, Some, None, Result, Ok, Err, refl, sym, ◌∙◌, ap, arith}
+use Rattle.std.specs.Prelude.{if◌then◌else◌, nat_lt, unwrap_or, IfOk, IfErr}
 use Rattle.std.proofs.lemmas.Bool.Decides.{nat_tests}
 use Rattle.std.proofs.lemmas.List.{length-set}
 use Rattle.emm_machine.specs.Stations.{station_at}
-use Rattle.emm_machine.specs.declared.solo.Solo.{Solo}
 use Rattle.emm_machine.specs.declared.stations.StationState.{StationState}
-use Rattle.emm_machine.specs.Steps.{Item}
 use Rattle.emm_machine.specs.Whole.{Whole}
 use Rattle.mme_core.specs.declared.calls.Prepared.{Prepared}
 use Rattle.mme_core.specs.declared.event.Event.{Event}
 use Rattle.mme_core.specs.declared.out.Out.{Out}
 use Rattle.mme_core.specs.declared.calls.Prepared.TheVariants as prepared
-use Rattle.mme_core.specs.Seen.{changed, in_state, settled, solos_after, with_solos}
+use Rattle.mme_core.specs.Seen.{changed, settled}
 use Rattle.mme_core.specs.Sight.{Sight}
 use Rattle.emm_machine.specs.declared.stations.StationState.TheVariants.{Down, Up, Ready as ReadyState}
 use Rattle.stranger_machine.specs.Table.{reached}
@@ -22,9 +19,9 @@ use Rattle.mme_core.specs.declared.event.StepFault.TheVariants.{ClockSpent, NoMe
 use Rattle.mme_core.specs.declared.mme.Moves.{Moves}
 use Rattle.mme_core.specs.declared.mme.Ready.{Ready}
 use Rattle.mme_core.specs.Ready.{placed, ready_world}
-use Rattle.mme_core.specs.Stations.{Everyone, Heard}
+use Rattle.mme_core.specs.Stations.{Heard}
 use Rattle.mme_core.specs.World.{World, called, calls_by, clock_after, each_after, each_sends, fault_of, happens, if_down, moved, outputs, reply, reply_of, sight_moved, station_of, station_sends, stations_by, strangers_in, strangers_send, unless, world_after}
-use Rattle.mme_core.proofs.Calling.{all_settled}
+use Rattle.mme_core.proofs.Stepping.{solo_many, stepped_many}
 
 -- what is prepared for an event that is not refused, from what its station hears: the reply
 pub reply_so : (w : World) (e : Event) (h : Heard) (outs : List Out) → fault_of w.sight e ≡ None → h ≡ happens w.sight e
@@ -89,25 +86,11 @@ clock_goes_on clock lt = grind (arith, nat_tests)
 
 -- ---- the subscribers
 
--- everyone is in the state that was prepared
-pub everyone_settled : (item : Item) (ws xs zs : List Whole) (ss : List Solo) → xs ≡ ws → ss ≡ solos_after item xs → zs ≡ with_solos ss ws → zs ≡ each_after (called (Everyone item)) 0 ws
-everyone_settled item ws xs zs ss same made theirs =
-    theirs ∙ ap (λ ys. with_solos ys ws) (made ∙ ap (solos_after item) same) ∙ all_settled item 0 ws
-
 -- as many as before
-solo_many : (n : ℕ) (s : Solo) (ws : List Whole) (o : Option Whole) → length (option_map_or (λ w. slice_set ws n (in_state s w)) o ws) ≡ length ws
-solo_many n s ws None = refl
-solo_many n s ws (Some w) = length-set ws n (in_state s w)
-
-solos_many : (ss : List Solo) (ws : List Whole) → length (with_solos ss ws) ≡ length ws
-solos_many [] ws = refl
-solos_many (s ∷ ss) [] = refl
-solos_many (s ∷ ss) (w ∷ ws) = ap suc (solos_many ss ws)
-
 pub settled_many : (p : Prepared) (ws : List Whole) → length (settled p ws) ≡ length ws
 settled_many prepared.Nobody ws = refl
-settled_many (prepared.One slot s) ws = solo_many slot s ws (slice_get ws slot)
-settled_many (prepared.Everyone ss) ws = solos_many ss.items ws
+settled_many (prepared.One slot s) ws = solo_many slot s ws
+settled_many (prepared.Everyone xs) ws = stepped_many xs.items ws
 
 pub placed_many : (o : Option ℕ) (state : Option StationState) (stations : List StationState) → length (placed o state stations) ≡ length stations
 placed_many None state stations = refl

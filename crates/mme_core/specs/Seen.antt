@@ -1,9 +1,10 @@
 -- What functions of the code returned, without where octets lie in memory.
-use Rattle.std.specs.Prelude.{◌≡◌, ◌<◌, ℕ, slice_get, slice_set, List, [], ◌∷◌, length, map, unwrap_or}
+use Rattle.std.specs.Prelude.{◌+◌, ◌<◌, ℕ, if◌then◌else◌, slice_get, slice_set, List, [], ◌∷◌, length, unwrap_or}
 use Rattle.std.specs.Option.{option_map_or}
 use Rattle.emm_machine.specs.declared.solo.Solo.{Solo}
 use Rattle.emm_machine.specs.declared.stations.StationState.{StationState}
 use Rattle.emm_machine.specs.Steps.{Item, entry_lists, item_of, message_lists}
+use Rattle.emm_machine.specs.Still.{still}
 use Rattle.emm_machine.specs.Whole.{Whole}
 use Rattle.stranger_machine.specs.declared.table.Known.{Known}
 use Rattle.stranger_machine.specs.Machine.{Begins, Told}
@@ -18,6 +19,7 @@ use Rattle.mme_core.specs.declared.calls.Prepared.{Prepared}
 use Rattle.mme_core.specs.declared.calls.Prepared.TheVariants as prepared
 use Rattle.mme_core.specs.declared.calls.Reach.{Reach as ReachInCode}
 use Rattle.mme_core.specs.declared.calls.Reach.TheVariants as reaches
+use Rattle.mme_core.specs.declared.calls.Stepped.{Stepped}
 use Rattle.mme_core.specs.declared.hearing.Heard.{Heard as HeardInCode}
 use Rattle.mme_core.specs.Stations.{Calls, NoOne, One, Everyone, Heard}
 use Rattle.mme_core.specs.World.{whole_step}
@@ -50,23 +52,31 @@ in_state s w = record { setting = w.setting; solo = s }
 abbrev pub with_solo : ℕ → Solo → List Whole → List Whole
 with_solo n s ws = option_map_or (λ w. slice_set ws n (in_state s w)) (slice_get ws n) ws
 
-abbrev pub with_solos : List Solo → List Whole → List Whole
-with_solos [] ws = ws
-with_solos (s ∷ ss) [] = []
-with_solos (s ∷ ss) (w ∷ ws) = in_state s w ∷ with_solos ss ws
+-- each in the state that it was prepared for
+abbrev pub with_stepped : List Stepped → List Whole → List Whole
+with_stepped [] ws = ws
+with_stepped (x ∷ xs) ws = with_stepped xs (with_solo x.slot x.solo ws)
 
 -- the subscribers in the states that were prepared
 abbrev pub settled : Prepared → List Whole → List Whole
 settled prepared.Nobody ws = ws
 settled (prepared.One slot s) ws = with_solo slot s ws
-settled (prepared.Everyone ss) ws = with_solos ss.items ws
+settled (prepared.Everyone xs) ws = with_stepped xs.items ws
 
--- one for each subscriber
+-- each has one of the first n slots
+abbrev pub AreUnder : ℕ → List Stepped → Type 0
+AreUnder n [] = Unit {0}
+AreUnder n (x ∷ xs) = (x.slot < n) × AreUnder n xs
+
+-- each is that of a subscriber
 abbrev pub IsFor : Prepared → List Whole → Type 0
 IsFor prepared.Nobody ws = Unit {0}
 IsFor (prepared.One slot s) ws = slot < length ws
-IsFor (prepared.Everyone ss) ws = length ss.items ≡ length ws
+IsFor (prepared.Everyone xs) ws = AreUnder (length ws) xs.items
 
--- the states after an item
-abbrev pub solos_after : Item → List Whole → List Solo
-solos_after item ws = map (λ w. (whole_step w item).solo) ws
+-- whom an item doesn't leave as they are, as far as a look tells: the states after it, from slot n on
+abbrev pub stepped_from : Item → ℕ → List Whole → List Stepped
+stepped_from item n [] = []
+stepped_from item n (w ∷ ws) =
+    if still w.solo item then stepped_from item (n + 1) ws
+    else record { slot = n; solo = (whole_step w item).solo } ∷ stepped_from item (n + 1) ws

@@ -45,11 +45,18 @@ pub(crate) struct Turned<'a> {
     pub call: Option<Call<'a>>,
 }
 
+/// The state of a subscriber after an event, which is not its own yet.
+#[derive(Drop)]
+pub(crate) struct Stepped {
+    pub slot: Slot,
+    pub solo: Solo,
+}
+
 /// The states of subscribers after an event, which are not theirs yet.
 #[derive(Drop)]
 pub(crate) enum Prepared {
     Nobody,
     One(Slot, Solo),
-    /// One for each subscriber.
-    Everyone(Vec<Solo>),
+    /// One for each subscriber whom the event doesn't leave as it is.
+    Everyone(Vec<Stepped>),
 }

@@ -13,6 +13,10 @@ mod laws;
 mod mme;
 mod naming;
 mod out;
+mod preparing;
+mod provisioning;
+mod sending;
+mod settling;
 
 pub use config::Config;
 pub use event::{Event, StepFault};

@@ -1,39 +1,34 @@
 //! The MME.
 
-ghost use Rattle.std.specs.Prelude.{◌≡◌, ◌≢◌, ◌+◌, ◌<◌, ◌≤◌, ◌++◌, [], ℕ, List, map, length, slice_get, slice_set, unwrap_or, IfOk, IfErr, IsOk, OnOk, OnErr, Ok, Err, Some, None};
+ghost use Rattle.std.specs.Prelude.{◌≡◌, ◌≢◌, ◌<◌, ◌++◌, ℕ, length, slice_get, IfOk, IfErr, IsOk, OnOk, OnErr, Ok, Err, Some, None};
 ghost use Rattle.identity_slots.specs.Provisioned.{slot_of_imsi};
 ghost use Rattle.emm_machine.specs.Stations.{station_at};
 ghost use Rattle.emm_machine.specs.Whole.{Whole};
-ghost use Rattle.emm_machine.specs.declared.stations.StationState.{StationState};
-ghost use Rattle.emm_machine.specs.Steps.{item_of};
-ghost use Rattle.emm_machine.specs.declared.stations.StationState.TheVariants as states;
 ghost use Rattle.ordered_lists.specs.Ordered.{Rising};
 ghost use Rattle.stranger_machine.specs.Table.{known_id, reached, stranger_at};
-ghost use Rattle.stranger_machine.specs.Turns.{call_of};
-ghost use Rattle.mme_core.specs.declared.calls.Change.TheVariants as changes;
 ghost use Rattle.mme_core.specs.declared.event.Event.TheVariants as events;
 ghost use Rattle.mme_core.specs.declared.event.StepFault.TheVariants.{NoMemory, UnknownImsi};
 ghost use Rattle.mme_core.specs.Projection.{AllInOrder, AreInOrder, alone_after, is_slot, is_station, is_stranger, projection, silence, station_run, station_told, states_at, stranger_run, stranger_told, subscriber_told, told};
-ghost use Rattle.mme_core.specs.Seen.{IsFor, calls_of, changed, reach_of, seen, settled, solos_after, with_solo, with_solos};
-ghost use Rattle.mme_core.specs.Stations.{Everyone, One};
-ghost use Rattle.mme_core.specs.Ready.{placed, ready_world};
+ghost use Rattle.mme_core.specs.Seen.{IsFor, calls_of, changed, reach_of, settled};
+ghost use Rattle.mme_core.specs.Ready.{ready_world};
 ghost use Rattle.mme_core.specs.Short.{AreShort};
-ghost use Rattle.mme_core.specs.World.{World, called, calls_by, each_after, each_known, each_sends, fault_of, fresh_subscribers, fresh_world, given, happens, owner_out, reach_call, replies, reply, station_sends, stranger_out, strangers_in, strangers_send, taken, with_call, world_after, world_run};
+ghost use Rattle.mme_core.specs.World.{called, calls_by, each_after, each_sends, fresh_world, given, replies, reply, station_sends, strangers_in, strangers_send, taken, world_after, world_run};
 
 use crate::calls::{Calls, Change, Prepared, Reach, Summoned, Turned};
 use crate::config::Config;
 use crate::event::{Event, StepFault};
 use crate::hearing::{Heard, hears};
-use crate::out::{Out, Outs, Owner};
-use emm_machine::{
-    Answers, Draft, EnbWorld, Network, Solo, SoloEvent, States, StationNumber, StationState,
-    Subscriber,
-};
-use identity_slots::{AssociationId, Provision, Slot, Vector};
+use crate::out::Outs;
+use crate::preparing::{prepare_called, turn};
+use crate::provisioning::fresh_subscribers;
+use crate::sending::station_outs;
+use crate::settling::{settle, settle_station, settle_strangers};
+use emm_machine::{Answers, EnbWorld, SoloEvent, States, StationNumber, StationState, Subscriber};
+use identity_slots::{Provision, Slot};
 use nas_elements::Imsi;
 use std::alloc::{AllocError, Global};
 use std::marker::Model;
-use stranger_machine::{Call, Known, Notice, Strangers, Turn, begins, told};
+use stranger_machine::{Notice, Strangers};
 
 /// The last tick of the clock.
 const LAST_TICK: u64 = 1 << 62;
@@ -443,303 +438,5 @@ impl Mme {
         settle(&mut self.subscribers, prepared);
         outs.are_short();
         Ok(outs)
-    }
-}
-
-// What an owner's machine sends, behind what is sent so far.
-fn send_all(
-    alloc: Global,
-    outs: &mut Outs,
-    owner: Owner,
-    answers: &Answers,
-) -> Result<(), AllocError>
-    ensures { OnOk result (outs.new ≡ outs.old ++ map (owner_out owner) answers.now) }
-{
-    for answer in answers.as_slice() {
-        outs.push(Out {
-            owner,
-            station: answer.station,
-            octets: answer.octets.copy(alloc)?,
-        })?;
-    }
-    Ok(())
-}
-
-// What a station is told for itself.
-fn station_outs(
-    alloc: Global,
-    station: Option<StationNumber>,
-    sends: &Answers,
-) -> Result<Outs, AllocError>
-    ensures { IfOk result (λ outs. outs ≡ station_sends station sends.now) }
-{
-    let mut outs = Outs::new(alloc);
-    if let Some(station) = station {
-        send_all(alloc, &mut outs, Owner::Station(station), sends)?;
-    }
-    Ok(outs)
-}
-
-// What each stranger sends at a notice, by id, behind what is sent so far.
-fn send_each(
-    alloc: Global,
-    known: &[Known],
-    notice: &Notice,
-    outs: &mut Outs,
-) -> Result<(), AllocError>
-    ensures { OnOk result (outs.new ≡ outs.old ++ each_known notice.now known.now) }
-{
-    for stranger in known {
-        let sent = stranger.sends(alloc, notice)?;
-        send_all(alloc, outs, Owner::Stranger(stranger.id), &sent)?;
-    }
-    Ok(())
-}
-
-// What strangers do at an event, with what they send behind what is sent so far, and whom they call.
-fn turn<'a>(
-    alloc: Global,
-    provision: &Provision,
-    strangers: &'a Strangers,
-    reach: &Reach<'a>,
-    outs: &mut Outs,
-) -> Result<Turned<'a>, AllocError>
-    ensures sends { OnOk result (outs.new ≡ outs.old ++ strangers_send provision.now.profiles (reach_of reach.now) strangers.entry.now) }
-    ensures change { IfOk result (λ t. changed t.change strangers.entry.now ≡ reached provision.now.profiles (reach_of reach.now) strangers.entry.now) }
-    ensures call { IfOk result (λ t. (stations : List StationState) → call_of stations t.call ≡ reach_call provision.now.profiles (reach_of reach.now) (λ id. stranger_at id strangers.entry.now)) }
-{
-    match reach {
-        Reach::Nobody => Ok(Turned {
-            change: Change::Nobody,
-            call: None,
-        }),
-        Reach::Begins(id, entry) => {
-            let Turn { after, sent, call } = begins(alloc, *id, strangers.find(*id), entry)?;
-            send_all(alloc, outs, Owner::Stranger(*id), &sent)?;
-            Ok(Turned {
-                change: Change::One(*id, after),
-                call,
-            })
-        }
-        Reach::Told(message) => {
-            let id = message.mme_id;
-            let Turn { after, sent, call } = told(alloc, provision, strangers.find(id), message)?;
-            send_all(alloc, outs, Owner::Stranger(id), &sent)?;
-            Ok(Turned {
-                change: Change::One(id, after),
-                call,
-            })
-        }
-        Reach::Each(notice) => {
-            send_each(alloc, strangers.as_slice(), notice, outs)?;
-            Ok(Turned {
-                change: Change::Each(*notice),
-                call: None,
-            })
-        }
-    }
-}
-
-// The slot of a place.
-fn slot_of(place: usize) -> Slot
-    requires { place < 2048 }
-    ensures { result ≡ place }
-{
-    match Slot::try_new(place as u32) {
-        Some(slot) => slot,
-        None => unreachable!(),
-    }
-}
-
-// The subscribers of a provisioning, who were never seen.
-fn fresh_subscribers(
-    alloc: Global,
-    network: &Network,
-    provision: &Provision,
-) -> Result<Vec<Subscriber>, AllocError>
-    ensures value { IfOk result (λ v. v.items ≡ fresh_subscribers network.now 0 provision.now.profiles provision.now.vectors) }
-    ensures few { IfOk result (λ v. length v.items ≤ 2048) }
-{
-    let count = provision.len();
-    let mut subscribers = Vec::with_capacity(alloc, count)?;
-    for place in 0..count {
-        let slot = slot_of(place);
-        let vectors = copied(alloc, provision.vectors(slot))?;
-        let profile = provision.profile(slot);
-        subscribers.push(Subscriber::new(alloc, network, slot, profile, vectors)?)?;
-    }
-    Ok(subscribers)
-}
-
-fn copied(alloc: Global, vectors: &[Vector]) -> Result<Vec<Vector>, AllocError>
-    ensures { IfOk result (λ v. v.items ≡ vectors.now) }
-{
-    let mut copies = Vec::with_capacity(alloc, vectors.len())?;
-    for vector in vectors {
-        copies.push(vector.clone()?)?;
-    }
-    Ok(copies)
-}
-
-// Everyone's step, on copies: the states after it; what is sent stands behind what is sent so far.
-fn prepare_everyone(
-    alloc: Global,
-    subscribers: &[Subscriber],
-    event: &SoloEvent,
-    stations: &EnbWorld,
-    outs: &mut Outs,
-) -> Result<Vec<Solo>, AllocError>
-    requires { length subscribers.now ≤ 2048 }
-    ensures solos { IfOk result (λ ss. ss.items ≡ solos_after (item_of event.now stations.now) subscribers.now) }
-    ensures sends { OnOk result (outs.new ≡ outs.old ++ each_sends (called (Everyone (item_of event.now stations.now))) 0 subscribers.now) }
-{
-    let mut solos = Vec::with_capacity(alloc, subscribers.len())?;
-    for (place, subscriber) in subscribers.iter().enumerate() {
-        let Draft {
-            solo,
-            sent,
-            accepted: _,
-        } = subscriber.prepare(event, stations)?;
-        send_all(alloc, outs, Owner::Subscriber(slot_of(place)), &sent)?;
-        solos.push(solo)?;
-    }
-    Ok(solos)
-}
-
-// One subscriber's step, likewise.
-fn prepare_one(
-    alloc: Global,
-    subscribers: &[Subscriber],
-    slot: Slot,
-    event: &SoloEvent,
-    stations: &EnbWorld,
-    outs: &mut Outs,
-) -> Result<Prepared, AllocError>
-    ensures after { IfOk result (λ p. settled p subscribers.now ≡ each_after (called (One slot (item_of event.now stations.now))) 0 subscribers.now) }
-    ensures fits { IfOk result (λ p. IsFor p subscribers.now) }
-    ensures sends { OnOk result (outs.new ≡ outs.old ++ each_sends (called (One slot (item_of event.now stations.now))) 0 subscribers.now) }
-{
-    let place = slot.get() as usize;
-    if place >= subscribers.len() {
-        return Ok(Prepared::Nobody);
-    }
-    let Draft {
-        solo,
-        sent,
-        accepted: _,
-    } = subscribers[place].prepare(event, stations)?;
-    send_all(alloc, outs, Owner::Subscriber(slot), &sent)?;
-    Ok(Prepared::One(slot, solo))
-}
-
-// The states of those who are called, and what they send behind what is sent so far.
-fn prepare(
-    alloc: Global,
-    subscribers: &[Subscriber],
-    calls: &Calls,
-    stations: &EnbWorld,
-    outs: &mut Outs,
-) -> Result<Prepared, AllocError>
-    requires few { length subscribers.now ≤ 2048 }
-    ensures after { IfOk result (λ p. settled p subscribers.now ≡ each_after (called (calls_of calls.now stations.now)) 0 subscribers.now) }
-    ensures fits { IfOk result (λ p. IsFor p subscribers.now) }
-    ensures sends { OnOk result (outs.new ≡ outs.old ++ each_sends (called (calls_of calls.now stations.now)) 0 subscribers.now) }
-{
-    match calls {
-        Calls::NoOne => Ok(Prepared::Nobody),
-        Calls::One(slot, event) => { prepare_one(alloc, subscribers, *slot, event, stations, outs) }
-        Calls::Everyone(event) => {
-            let solos = prepare_everyone(alloc, subscribers, event, stations, outs)?;
-            Ok(Prepared::Everyone(solos))
-        }
-    }
-}
-
-// The states of those whom a stranger calls, else of those whom the event calls, likewise.
-fn prepare_called(
-    alloc: Global,
-    subscribers: &[Subscriber],
-    call: &Option<Call>,
-    calls: &Calls,
-    stations: &EnbWorld,
-    outs: &mut Outs,
-) -> Result<Prepared, AllocError>
-    requires few { length subscribers.now ≤ 2048 }
-    ensures after { IfOk result (λ p. settled p subscribers.now ≡ each_after (called (with_call (call_of stations.now call.now) (calls_of calls.now stations.now))) 0 subscribers.now) }
-    ensures fits { IfOk result (λ p. IsFor p subscribers.now) }
-    ensures sends { OnOk result (outs.new ≡ outs.old ++ each_sends (called (with_call (call_of stations.now call.now) (calls_of calls.now stations.now))) 0 subscribers.now) }
-{
-    match call {
-        Some(call) => {
-            let event = &call.event;
-            prepare_one(alloc, subscribers, call.slot, event, stations, outs)
-        }
-        None => prepare(alloc, subscribers, calls, stations, outs),
-    }
-}
-
-fn settle_everyone(subscribers: &mut Vec<Subscriber>, mut solos: Vec<Solo>)
-    requires { length solos.items ≡ length subscribers.old.items }
-    ensures { subscribers.new.items ≡ with_solos solos.items subscribers.old.items }
-{
-    for place in 0..solos.len() {
-        subscribers[place].exchange(&mut solos[place]);
-    }
-}
-
-fn settle_one(subscribers: &mut Vec<Subscriber>, slot: Slot, solo: Solo)
-    requires { slot < length subscribers.old.items }
-    ensures { subscribers.new.items ≡ with_solo slot solo subscribers.old.items }
-{
-    subscribers[slot.get() as usize].settle(solo);
-}
-
-// The states that were prepared are theirs.
-fn settle(subscribers: &mut Vec<Subscriber>, prepared: Prepared)
-    requires { IsFor prepared subscribers.old.items }
-    ensures { subscribers.new.items ≡ settled prepared subscribers.old.items }
-{
-    match prepared {
-        Prepared::Nobody => {}
-        Prepared::One(slot, solo) => settle_one(subscribers, slot, solo),
-        Prepared::Everyone(solos) => settle_everyone(subscribers, solos),
-    }
-}
-
-// A station's new state, where it has one.
-fn settle_own(stations: &mut EnbWorld, station: StationNumber, state: Option<StationState>)
-    ensures { stations.new ≡ slice_set stations.old station (unwrap_or state (station_at stations.old station)) }
-{
-    if let Some(state) = state {
-        stations.set(station, state);
-    }
-}
-
-// The new state of the station that the event is of, if it is of one.
-fn settle_station(
-    stations: &mut EnbWorld,
-    station: Option<StationNumber>,
-    state: Option<StationState>,
-)
-    ensures { stations.new ≡ placed station state stations.old }
-{
-    match station {
-        Some(station) => settle_own(stations, station, state),
-        None => {}
-    }
-}
-
-// Strangers are what was prepared; refused, they are as they were.
-fn settle_strangers(strangers: &mut Strangers, change: Change) -> Result<(), AllocError>
-    ensures ok { OnOk result (strangers.new ≡ changed change strangers.old) }
-    ensures err { OnErr result (strangers.new ≡ strangers.old) }
-{
-    match change {
-        Change::Nobody => Ok(()),
-        Change::One(id, after) => strangers.settle(id, after),
-        Change::Each(notice) => {
-            strangers.note(notice);
-            Ok(())
-        }
     }
 }

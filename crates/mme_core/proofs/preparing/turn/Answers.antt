@@ -4,7 +4,7 @@ use Rattle.stranger_machine.specs.Machine.{begins, stranger_step, told}
 use Rattle.stranger_machine.specs.Table.{with_stranger}
 use Rattle.stranger_machine.specs.Turns.{Turn, turn_of}
 use Rattle.mme_core.specs.World.{stranger_out}
-use Rattle.mme_core.proofs.mme.turn.Goals as goal
+use Rattle.mme_core.proofs.preparing.turn.Goals as goal
 
 pub returns-in_ok-send_all-in-Begins-clause-sends : goal.returns-in_ok-send_all-in-Begins-clause-sends
 unfolding stranger_step

@@ -1,9 +1,9 @@
 use Rattle.std.proofs.Common.{◌≡◌, ◌++◌, drop}
 use Rattle.emm_machine.specs.Steps.{item_of}
-use Rattle.mme_core.specs.Seen.{solos_after}
+use Rattle.mme_core.specs.Seen.{stepped_from}
 use Rattle.mme_core.specs.Stations.{Everyone}
 use Rattle.mme_core.specs.World.{called, each_sends}
-use Rattle.mme_core.proofs.mme.prepare_everyone.Given as goal
+use Rattle.mme_core.proofs.preparing.prepare_everyone.Given as goal
 
 -- who was called, and who is left
 abbrev pub invariant-loop-place : goal.invariant-loop-place
@@ -11,6 +11,6 @@ invariant-loop-place l =
     let item = item_of l.event l.stations in
     let items = called (Everyone item) in
     record {
-      solos : l.solos.items ++ solos_after item (drop l.place l.subscribers) ≡ solos_after item l.subscribers;
+      stepped : l.stepped.items ++ stepped_from item l.place (drop l.place l.subscribers) ≡ stepped_from item 0 l.subscribers;
       sends : l.outs ++ each_sends items l.place (drop l.place l.subscribers) ≡ l.fn.outs ++ each_sends items 0 l.subscribers;
     }

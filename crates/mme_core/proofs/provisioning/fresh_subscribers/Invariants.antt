@@ -1,6 +1,6 @@
 use Rattle.std.proofs.Common.{◌≡◌, ◌++◌, drop, length}
 use Rattle.mme_core.specs.World.{fresh_subscribers}
-use Rattle.mme_core.proofs.mme.fresh_subscribers.Given as goal
+use Rattle.mme_core.proofs.provisioning.fresh_subscribers.Given as goal
 
 -- who was made, and who is left
 abbrev pub invariant-loop-place : goal.invariant-loop-place

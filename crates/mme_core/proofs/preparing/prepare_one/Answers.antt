@@ -1,15 +1,13 @@
-use Rattle.std.proofs.Common.{◌≡◌, ◌++◌, length, refl, arith, sym, ◌∙◌, ap, Some, map, get_or}
+use Rattle.std.proofs.Common.{◌≡◌, ◌++◌, length, refl, arith, sym, ◌∙◌, ap, Some, get_or}
 use Rattle.std.specs.Prelude.{slice_get, slice_set, Option}
 use Rattle.std.specs.Option.{option_map_or}
 use Rattle.std.proofs.lemmas.List.{append-nil}
 use Rattle.std.proofs.lemmas.Option.{slice_get_read}
-use Rattle.emm_machine.specs.declared.draft.Draft.{Draft}
 use Rattle.emm_machine.specs.Steps.{item_of}
 use Rattle.emm_machine.specs.Whole.{Whole}
 use Rattle.mme_core.specs.Seen.{in_state}
-use Rattle.mme_core.specs.World.{slot_out}
 use Rattle.mme_core.proofs.Calling.{after_call, sends_call, call_past}
-use Rattle.mme_core.proofs.mme.prepare_one.Goals as goal
+use Rattle.mme_core.proofs.preparing.prepare_one.Goals as goal
 
 pub returns-then-place-subscribers-clause-after : goal.returns-then-place-subscribers-clause-after
 returns-then-place-subscribers-clause-after c =
@@ -25,9 +23,8 @@ returns-clause-after c =
     let item = item_of c.args.event.now c.args.stations.now in
     let x = c.index-subscribers-place.result in
     let at : slice_get ws c.args.slot ≡ Some x = slice_get_read ws (length ws) c.args.slot x refl (omega (arith, c.if-place-subscribers.false, c.get-place.ensures.value)) (c.index-subscribers-place.is ∙ ap (λ n. get_or ws n x) c.get-place.ensures.value) in
-    let s = c.in_ok-solo.field-0.solo in
-    ap (λ (o : Option Whole). option_map_or (λ w. slice_set ws c.args.slot (in_state s w)) o ws) at
-    ∙ ap (λ (d : Draft). slice_set ws c.args.slot (in_state d.solo x)) c.in_ok-solo.ensures
+    ap (λ (o : Option Whole). option_map_or (λ w. slice_set ws c.args.slot (in_state c.in_ok-solo.solo w)) o ws) at
+    ∙ ap (λ s. slice_set ws c.args.slot (in_state s x)) c.in_ok-solo.ensures.after
     ∙ after_call c.args.slot item ws x at
 
 pub returns-clause-sends : goal.returns-clause-sends
@@ -36,5 +33,4 @@ returns-clause-sends c =
     let item = item_of c.args.event.now c.args.stations.now in
     let x = c.index-subscribers-place.result in
     let at : slice_get ws c.args.slot ≡ Some x = slice_get_read ws (length ws) c.args.slot x refl (omega (arith, c.if-place-subscribers.false, c.get-place.ensures.value)) (c.index-subscribers-place.is ∙ ap (λ n. get_or ws n x) c.get-place.ensures.value) in
-    c.in_ok-send_all.ensures ∙ ap (λ (d : Draft). c.args.outs.now ++ map (slot_out c.args.slot) d.sent) c.in_ok-solo.ensures
-    ∙ ap (λ zs. c.args.outs.now ++ zs) (sends_call c.args.slot item ws x at)
+    c.in_ok-solo.ensures.sends ∙ ap (λ zs. c.args.outs.now ++ zs) (sends_call c.args.slot item ws x at)

@@ -3,7 +3,7 @@ use Rattle.std.specs.Prelude.{slice_get}
 use Rattle.std.proofs.lemmas.List.{length_push}
 use Rattle.mme_core.specs.World.{fresh_subscribers}
 use Rattle.mme_core.proofs.Fresh.{fresh_one, fresh_more, fresh_pushed}
-use Rattle.mme_core.proofs.mme.fresh_subscribers.Goals as goal
+use Rattle.mme_core.proofs.provisioning.fresh_subscribers.Goals as goal
 
 pub loop-place-preserved : goal.loop-place-preserved
 loop-place-preserved c =

@@ -1,0 +1,55 @@
+-- What follows from the definitions: an item that is still leaves a subscriber as it is, and nothing is sent.
+use Rattle.std.proofs.Common.{◌≡◌, ℕ, ◌==◌, ◌&&◌, Bool, true, false, not, if◌then◌else◌, Option, Some, None, is_some, refl}
+use Rattle.emm_machine.specs.declared.draft.Draft.{Draft}
+use Rattle.emm_machine.specs.declared.setting.Setting.{Setting}
+use Rattle.emm_machine.specs.declared.solo.Connection.{Connection}
+use Rattle.emm_machine.specs.declared.solo.Countdown.{Countdown}
+use Rattle.emm_machine.specs.declared.solo.Repeat.{Repeat}
+use Rattle.emm_machine.specs.declared.solo.Repeat.TheVariants as repeats
+use Rattle.emm_machine.specs.declared.solo.Solo.{Solo}
+use Rattle.emm_machine.specs.Actions.{lost, untouched}
+use Rattle.emm_machine.specs.Connected.{station_gone, strike}
+use Rattle.emm_machine.specs.Idle.{lowered, procedure_ticks, reachable_ticks_out, tick}
+use Rattle.emm_machine.specs.Steps.{Item, Nothing, Initial, Claim, Message, Displaced, StationGone, Tick, Data, Cancel, row, solo_step}
+use Rattle.emm_machine.specs.Still.{is_elsewhere, pages, still}
+
+abbrev counting : Option Countdown → Option ℕ → Solo → Solo
+counting procedure reachable solo = record solo { procedure = procedure; reachable = reachable }
+
+-- no countdown runs
+still_tick : (s : Setting) (solo : Solo) (procedure : Option Countdown) (reachable : Option ℕ) → (not (is_some procedure) && not (is_some reachable)) ≡ true
+    → solo_step s (counting procedure reachable solo) Tick ≡ untouched (counting procedure reachable solo)
+unfolding solo_step row tick lowered procedure_ticks reachable_ticks_out
+still_tick s solo None None h = refl
+still_tick s solo None (Some n) h = cc
+still_tick s solo (Some c) reachable h = cc
+
+abbrev linked : Option Connection → Option Repeat → Solo → Solo
+linked connection repeat solo = record solo { connection = connection; repeat = repeat }
+
+not_lost : (b : Bool) (d : Draft) → (not b) ≡ true → (if b then lost d else d) ≡ d
+not_lost true d h = cc
+not_lost false d h = refl
+
+-- the connection is elsewhere, and nothing is struck
+still_gone : (s : Setting) (solo : Solo) (e : ℕ) (connection : Option Connection) (repeat : Option Repeat)
+    → (not (pages repeat) && is_elsewhere e connection) ≡ true → solo_step s (linked connection repeat solo) (StationGone e) ≡ untouched (linked connection repeat solo)
+unfolding solo_step row station_gone strike
+still_gone s solo e None None h = refl
+still_gone s solo e None (Some (repeats.Nas protection nas)) h = refl
+still_gone s solo e None (Some (repeats.Paging es)) h = cc
+still_gone s solo e (Some k) None h = not_lost (k.station == e) (untouched (linked (Some k) None solo)) h
+still_gone s solo e (Some k) (Some (repeats.Nas protection nas)) h = not_lost (k.station == e) (untouched (linked (Some k) (Some (repeats.Nas protection nas)) solo)) h
+still_gone s solo e (Some k) (Some (repeats.Paging es)) h = cc
+
+pub still_stays : (s : Setting) (solo : Solo) (item : Item) → still solo item ≡ true → solo_step s solo item ≡ untouched solo
+unfolding solo_step row
+still_stays s solo Nothing h = refl
+still_stays s solo Tick h = still_tick s solo solo.procedure solo.reachable h
+still_stays s solo (StationGone e) h = still_gone s solo e solo.connection solo.repeat h
+still_stays s solo (Initial m) h = cc
+still_stays s solo (Claim id m) h = cc
+still_stays s solo (Message m) h = cc
+still_stays s solo (Displaced id) h = cc
+still_stays s solo (Data stations) h = cc
+still_stays s solo Cancel h = cc

@@ -1,0 +1,28 @@
+-- Items that a subscriber isn't touched by.
+use Rattle.std.specs.Prelude.{ℕ, ◌==◌, ◌&&◌, Bool, true, false, not, Option, Some, None, is_some}
+use Rattle.emm_machine.specs.declared.solo.Connection.{Connection}
+use Rattle.emm_machine.specs.declared.solo.Repeat.{Repeat}
+use Rattle.emm_machine.specs.declared.solo.Repeat.TheVariants as repeats
+use Rattle.emm_machine.specs.declared.solo.Solo.{Solo}
+use Rattle.emm_machine.specs.Steps.{Item, Nothing, Initial, Claim, Message, Displaced, StationGone, Tick, Data, Cancel}
+
+abbrev pub is_elsewhere : ℕ → Option Connection → Bool
+is_elsewhere station None = true
+is_elsewhere station (Some k) = not (k.station == station)
+
+abbrev pub pages : Option Repeat → Bool
+pages None = false
+pages (Some (repeats.Nas protection nas)) = false
+pages (Some (repeats.Paging es)) = true
+
+-- an item that leaves a state as it is and sends nothing, as far as a look at it tells
+abbrev pub still : Solo → Item → Bool
+still solo Nothing = true
+still solo Tick = not (is_some solo.procedure) && not (is_some solo.reachable)
+still solo (StationGone station) = not (pages solo.repeat) && is_elsewhere station solo.connection
+still solo (Initial m) = false
+still solo (Claim id m) = false
+still solo (Message m) = false
+still solo (Displaced id) = false
+still solo (Data stations) = false
+still solo Cancel = false

@@ -1,0 +1,50 @@
+//! The subscribers of a provisioning.
+
+ghost use Rattle.std.specs.Prelude.{◌≡◌, ◌<◌, ◌≤◌, length, IfOk};
+ghost use Rattle.mme_core.specs.World.{fresh_subscribers};
+
+use emm_machine::{Network, Subscriber};
+use identity_slots::{Provision, Slot, Vector};
+use std::alloc::{AllocError, Global};
+
+/// The slot of a place.
+pub(crate) fn slot_of(place: usize) -> Slot
+    requires { place < 2048 }
+    ensures { result ≡ place }
+{
+    match Slot::try_new(place as u32) {
+        Some(slot) => slot,
+        None => unreachable!(),
+    }
+}
+
+/// The subscribers of a provisioning, who were never seen.
+pub(crate) fn fresh_subscribers(
+    alloc: Global,
+    network: &Network,
+    provision: &Provision,
+) -> Result<Vec<Subscriber>, AllocError>
+    ensures value { IfOk result (λ v. v.items ≡ fresh_subscribers network.now 0 provision.now.profiles provision.now.vectors) }
+    ensures few { IfOk result (λ v. length v.items ≤ 2048) }
+{
+    let count = provision.len();
+    let mut subscribers = Vec::with_capacity(alloc, count)?;
+    for place in 0..count {
+        let slot = slot_of(place);
+        let vectors = copied(alloc, provision.vectors(slot))?;
+        let profile = provision.profile(slot);
+        subscribers.push(Subscriber::new(alloc, network, slot, profile, vectors)?)?;
+    }
+    Ok(subscribers)
+}
+
+// The same vectors once more.
+fn copied(alloc: Global, vectors: &[Vector]) -> Result<Vec<Vector>, AllocError>
+    ensures { IfOk result (λ v. v.items ≡ vectors.now) }
+{
+    let mut copies = Vec::with_capacity(alloc, vectors.len())?;
+    for vector in vectors {
+        copies.push(vector.clone()?)?;
+    }
+    Ok(copies)
+}

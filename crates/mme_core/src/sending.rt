@@ -1,0 +1,59 @@
+//! What owners send, behind what is sent so far.
+
+ghost use Rattle.std.specs.Prelude.{◌≡◌, ◌++◌, map, IfOk, OnOk};
+ghost use Rattle.mme_core.specs.World.{each_known, owner_out, station_sends};
+
+use crate::out::{Out, Outs, Owner};
+use emm_machine::{Answers, StationNumber};
+use std::alloc::{AllocError, Global};
+use stranger_machine::{Known, Notice};
+
+/// What an owner's machine sends, behind what is sent so far.
+pub(crate) fn send_all(
+    alloc: Global,
+    outs: &mut Outs,
+    owner: Owner,
+    answers: &Answers,
+) -> Result<(), AllocError>
+    ensures { OnOk result (outs.new ≡ outs.old ++ map (owner_out owner) answers.now) }
+{
+    for answer in answers.as_slice() {
+        outs.push(Out {
+            owner,
+            station: answer.station,
+            octets: answer.octets.copy(alloc)?,
+        })?;
+    }
+    Ok(())
+}
+
+/// What a station is told for itself.
+pub(crate) fn station_outs(
+    alloc: Global,
+    station: Option<StationNumber>,
+    sends: &Answers,
+) -> Result<Outs, AllocError>
+    ensures { IfOk result (λ outs. outs ≡ station_sends station sends.now) }
+{
+    let mut outs = Outs::new(alloc);
+    if let Some(station) = station {
+        send_all(alloc, &mut outs, Owner::Station(station), sends)?;
+    }
+    Ok(outs)
+}
+
+/// What each stranger sends at a notice, by id, behind what is sent so far.
+pub(crate) fn send_each(
+    alloc: Global,
+    known: &[Known],
+    notice: &Notice,
+    outs: &mut Outs,
+) -> Result<(), AllocError>
+    ensures { OnOk result (outs.new ≡ outs.old ++ each_known notice.now known.now) }
+{
+    for stranger in known {
+        let sent = stranger.sends(alloc, notice)?;
+        send_all(alloc, outs, Owner::Stranger(stranger.id), &sent)?;
+    }
+    Ok(())
+}
