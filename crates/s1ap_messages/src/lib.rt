@@ -79,6 +79,3 @@ pub use pdu::{
     ReleaseComplete, ReleaseRequest, Reset, S1apPdu, SetupFailure, SetupRequest, SetupResponse,
     UplinkNasTransport,
 };
-
-#[cfg(test)]
-mod tests;

@@ -2,7 +2,6 @@ mod contents;
 mod octets;
 mod traces;
 
-use super::*;
 use contents::*;
 use octets::*;
 use per_bits::{Octets, PerFault, write_complete};
@@ -11,6 +10,7 @@ use s1ap_elements::{
     ProtocolCause, RadioNetworkCause, RrcCause, SecurityCapabilities, SecurityContext, Tai,
     TransportCause, UeIndex, UeS1apIds,
 };
+use s1ap_messages::*;
 use std::alloc::Global;
 use std::test::*;
 use traces::*;
