@@ -290,13 +290,13 @@ fn extended_cause(rt: HostRuntime) -> Result<(), Fail> {
 
 #[test]
 fn written_and_noisy(rt: HostRuntime) -> Result<(), Fail> {
-    for (octets, noisy) in MESSAGES {
+    for (octets, noisy) in messages() {
         let message = decode(rt.alloc(), octets)?;
         let written = encode(rt.alloc(), &message)?;
-        assert_eq!(rt; written.as_slice(), octets);
+        assert_eq!(rt; written.as_slice(), *octets);
         let message = decode(rt.alloc(), noisy)?;
         let written = encode(rt.alloc(), &message)?;
-        assert_eq!(rt; written.as_slice(), octets);
+        assert_eq!(rt; written.as_slice(), *octets);
     }
     Ok(())
 }
@@ -316,7 +316,7 @@ fn is_stable(rt: &HostRuntime, octets: &[u8]) -> Result<bool, Fail> {
 
 #[test]
 fn each_bit_turned(rt: HostRuntime) -> Result<(), Fail> {
-    for (octets, noisy) in MESSAGES {
+    for (octets, noisy) in messages() {
         for message in [octets, noisy] {
             for at in 0..message.len() {
                 for bit in [1, 2, 4, 8, 16, 32, 64, 128] {
@@ -502,7 +502,7 @@ fn rewritten(alloc: Global, octets: &[u8]) -> Result<Option<Vec<u8>>, Fail> {
 
 #[test]
 fn every_form(rt: HostRuntime) -> Result<(), Fail> {
-    for (contents, (octets, noisy)) in CONTENTS.iter().zip(MESSAGES.iter()) {
+    for (contents, (octets, noisy)) in all_contents().iter().zip(messages()) {
         for number in 0..16 {
             let assembled = message_of(rt.alloc(), contents, form_of(number))?;
             if number == 0 {
@@ -520,7 +520,7 @@ fn every_form(rt: HostRuntime) -> Result<(), Fail> {
 
 #[test]
 fn setup_in_every_order(rt: HostRuntime) -> Result<(), Fail> {
-    let contents = &CONTENTS[0];
+    let contents = all_contents().first().ok_or("no message")?;
     for number in 0..16 {
         let form = form_of(number);
         let elements = elements_of(rt.alloc(), contents, form)?;
@@ -566,7 +566,7 @@ fn answer_of(alloc: Global, octets: &[u8]) -> Answer {
 
 #[test]
 fn missing_repeated_and_refused(rt: HostRuntime) -> Result<(), Fail> {
-    for contents in &CONTENTS {
+    for contents in all_contents() {
         let elements = elements_of(rt.alloc(), contents, PLAIN)?;
         for (place, (id, _, _)) in contents.rows.iter().enumerate() {
             let fewer = changed(rt.alloc(), &elements, place, &[])?;
@@ -636,7 +636,7 @@ fn extended_causes(rt: HostRuntime) -> Result<(), Fail> {
         ("0 100 1 0111111", Cause::Misc(MiscCause::Extended(63))),
     ];
     let mut seen = 0u8;
-    for contents in &CONTENTS {
+    for contents in all_contents() {
         for (text, cause) in causes {
             if let Some(octets) = with_content(rt.alloc(), contents, 2, text)? {
                 assert_eq!(rt; decoded_cause(rt.alloc(), &octets)?, (Some(cause), false));
@@ -649,39 +649,41 @@ fn extended_causes(rt: HostRuntime) -> Result<(), Fail> {
 }
 
 // Ids of rows, contents for them, and what they are answered; what is decoded here isn't written.
-const OTHER_CONTENTS: [(u16, &str, Answer); 15] = [
-    // later names: of a paging DRX, an RRC cause and a reset type
-    (137, "1 0000010", Answer::Decoded),
-    (134, "1 0111111", Answer::Decoded),
-    (92, "0 0 1 0000000", Answer::Decoded),
-    // a later name above number 63, numbers of no name, a later group
-    (2, "0 000 1 1000001", Answer::Syntax(PerFault::Range)),
-    (2, "0 000 0 100100", Answer::Syntax(PerFault::Range)),
-    (2, "0 101 0 000000", Answer::Syntax(PerFault::Range)),
-    (2, "1 000 0 000000", Answer::Syntax(PerFault::Alternative)),
-    (134, "0 101", Answer::Syntax(PerFault::Range)),
-    // sizes past the bounds
-    (60, "1 00000011 #6e616d65", Answer::Syntax(PerFault::Range)),
-    (60, "0 10010110 #6e616d65", Answer::Syntax(PerFault::Range)),
-    (
-        107,
-        "(, 1 1100000000000000 0 0100000000000000 )",
-        Answer::Syntax(PerFault::Range),
-    ),
-    // paddings that aren't zero, an octet behind the end, an id in two octets where one is enough
-    (80, "0000000001 000001", Answer::Syntax(PerFault::Padding)),
-    (8, "00 000001 #01", Answer::Syntax(PerFault::Padding)),
-    (87, "#ff00", Answer::Syntax(PerFault::Trailing)),
-    (8, "01 #0001", Answer::Syntax(PerFault::NotFewest)),
-];
+fn other_rows() -> &'static [(u16, &'static str, Answer)] {
+    &[
+        // later names: of a paging DRX, an RRC cause and a reset type
+        (137, "1 0000010", Answer::Decoded),
+        (134, "1 0111111", Answer::Decoded),
+        (92, "0 0 1 0000000", Answer::Decoded),
+        // a later name above number 63, numbers of no name, a later group
+        (2, "0 000 1 1000001", Answer::Syntax(PerFault::Range)),
+        (2, "0 000 0 100100", Answer::Syntax(PerFault::Range)),
+        (2, "0 101 0 000000", Answer::Syntax(PerFault::Range)),
+        (2, "1 000 0 000000", Answer::Syntax(PerFault::Alternative)),
+        (134, "0 101", Answer::Syntax(PerFault::Range)),
+        // sizes past the bounds
+        (60, "1 00000011 #6e616d65", Answer::Syntax(PerFault::Range)),
+        (60, "0 10010110 #6e616d65", Answer::Syntax(PerFault::Range)),
+        (
+            107,
+            "(, 1 1100000000000000 0 0100000000000000 )",
+            Answer::Syntax(PerFault::Range),
+        ),
+        // paddings that aren't zero, an octet behind the end, an id in two octets where one is enough
+        (80, "0000000001 000001", Answer::Syntax(PerFault::Padding)),
+        (8, "00 000001 #01", Answer::Syntax(PerFault::Padding)),
+        (87, "#ff00", Answer::Syntax(PerFault::Trailing)),
+        (8, "01 #0001", Answer::Syntax(PerFault::NotFewest)),
+    ]
+}
 
 #[test]
 fn other_contents(rt: HostRuntime) -> Result<(), Fail> {
-    for (id, text, answer) in OTHER_CONTENTS {
-        for contents in &CONTENTS {
-            if let Some(octets) = with_content(rt.alloc(), contents, id, text)? {
-                assert_eq!(rt; answer_of(rt.alloc(), &octets), answer, "{text}");
-                if answer == Answer::Decoded {
+    for (id, text, answer) in other_rows() {
+        for contents in all_contents() {
+            if let Some(octets) = with_content(rt.alloc(), contents, *id, text)? {
+                assert_eq!(rt; answer_of(rt.alloc(), &octets), *answer, "{text}");
+                if *answer == Answer::Decoded {
                     assert!(rt; rewritten(rt.alloc(), &octets)?.is_none(), "{text}");
                 }
             }
@@ -692,7 +694,7 @@ fn other_contents(rt: HostRuntime) -> Result<(), Fail> {
 
 #[test]
 fn traced_messages(rt: HostRuntime) -> Result<(), Fail> {
-    for text in TRACED {
+    for text in traced() {
         let octets = octets_of(rt.alloc(), text)?;
         let written = rewritten(rt.alloc(), &octets)?.ok_or("not writable")?;
         assert_eq!(rt; written.as_slice(), octets.as_slice(), "{text}");
@@ -716,7 +718,7 @@ fn turned(alloc: Global, octets: &[u8], at: usize, bit: u8) -> Result<Vec<u8>, F
 
 #[test]
 fn each_bit_of_traces(rt: HostRuntime) -> Result<(), Fail> {
-    for text in TRACED {
+    for text in traced() {
         let octets = octets_of(rt.alloc(), text)?;
         for at in 0..octets.len() {
             for bit in [1, 2, 4, 8, 16, 32, 64, 128] {

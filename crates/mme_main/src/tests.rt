@@ -1,10 +1,10 @@
 use crate::fault::PlayFault;
 use crate::play::run_play;
-use crate::progress::config;
+use crate::player::Player;
+use crate::progress::{Progress, config};
 use crate::watched::Watched;
-use emm_machine::StationNumber;
 use identity_slots::Provision;
-use mme_core::{Event, Mme, StepFault};
+use mme_core::Mme;
 use std::alloc::{AllocError, Global};
 use std::io;
 use std::io::{BufWriter, Read, Write};
@@ -305,27 +305,25 @@ fn nothing_is_kept_back(rt: HostRuntime) -> Result<(), Fail> {
     Ok(())
 }
 
-/// An MME without subscribers whose clock is there.
-fn at_clock(alloc: Global, clock: u64) -> Result<Mme, Fail> {
+/// An MME without subscribers, whose clock is there.
+fn at_clock(alloc: Global, clock: u64) -> Result<Progress, Fail> {
     let Ok(Line::Mme(fields)) = parse_line(alloc, b"mme 001 01 8001 01 internet 1 1") else {
         return Err("line")?;
     };
     let mut config = config(&fields);
     config.clock = clock;
-    Ok(Mme::new(alloc, config, Provision::new(alloc))?)
+    let mme = Mme::new(alloc, config, Provision::new(alloc))?;
+    Ok(Progress::Running(mme))
 }
 
 #[test]
 fn the_clock_ends(rt: HostRuntime) -> Result<(), Fail> {
-    let Some(station) = StationNumber::try_new(7) else {
-        return Err("number")?;
-    };
-    let mut mme = at_clock(rt.alloc(), (1 << 62) - 1)?;
-    assert!(rt; mme.step(Event::Up(station)).is_ok());
-    assert!(rt; mme.step(Event::Tick).is_ok());
-    assert!(rt; matches!(mme.step(Event::Tick), Err(StepFault::ClockSpent)));
-    assert!(rt; matches!(mme.step(Event::Up(station)), Err(StepFault::AlreadyUp)));
-    assert!(rt; mme.step(Event::Lost(station)).is_ok());
-    assert!(rt; matches!(mme.step(Event::Tick), Err(StepFault::ClockSpent)));
+    let mut player = Player::new(rt.alloc());
+    player.progress = at_clock(rt.alloc(), (1 << 62) - 1)?;
+    let mut held = Vec::new(rt.alloc());
+    let mut writer = Watched::new(&mut held);
+    let lines = b"up 7\ntick 2\nup 7\nlost 7\ntick 1\n".as_slice();
+    assert_eq!(rt; player.feed(rt.alloc(), lines, &mut writer), Ok(()));
+    assert!(rt; held.as_slice() == b"refused 3\nrefused 2\nrefused 3\n".as_slice());
     Ok(())
 }

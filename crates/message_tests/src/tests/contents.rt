@@ -278,7 +278,11 @@ pub fn message_of(alloc: Global, contents: &Contents, form: Form) -> Result<Vec<
 }
 
 /// Each message of the profile, and again where an optional part lacks or another alternative stands.
-pub const CONTENTS: [Contents; 25] = [
+pub fn all_contents() -> &'static [Contents] {
+    &CONTENTS
+}
+
+static CONTENTS: [Contents; 25] = [
     Contents {
         kind: 0x00,
         code: 17,
