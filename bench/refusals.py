@@ -28,7 +28,8 @@ SILENT = 12
 FOLDER = os.path.join(os.path.dirname(os.path.abspath(__file__)), "..", "tests", "rows")
 ROWS = ("setup attach_by_imsi security_mode attach_with_information attach_whole attach_unanswered "
         "shared_radio_id_six_ticks paging tau_from_idle tau_while_connected path_switch detach_unattached reset_registered "
-        "service_wrong_mac setup_again two_phones_on_two_stations attach_again_while_connected").split()
+        "service_wrong_mac setup_again two_phones_on_two_stations attach_again_while_connected foreign_guti "
+        "identity_unanswered unknown_imsi").split()
 
 
 def built(folder):
