@@ -436,6 +436,7 @@ impl Mme {
         settle_station(&mut self.stations, station, state);
         self.clock = clock;
         settle(&mut self.subscribers, prepared);
+        // The caller is told this of all messages.
         outs.are_short();
         Ok(outs)
     }

@@ -63,6 +63,7 @@ impl Outs {
         ensures ok { OnOk result (self.new ≡ self.old ++ out ∷ []) }
         ensures err { OnErr result (self.new ≡ self.old) }
     {
+        // The list keeps this of each message.
         out.octets.is_short();
         self.items.push(out)?;
         Ok(())
