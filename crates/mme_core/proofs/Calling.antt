@@ -8,7 +8,7 @@ use Rattle.emm_machine.specs.declared.solo.Solo.{Solo}
 use Rattle.emm_machine.specs.Actions.{untouched}
 use Rattle.emm_machine.specs.Steps.{Item, Nothing, row, solo_step}
 use Rattle.emm_machine.specs.Whole.{Whole}
-use Rattle.mme_core.specs.Stations.{One}
+use Rattle.mme_routing.specs.Outcomes.{One}
 use Rattle.mme_core.specs.World.{called, each_after, each_sends, slot_out, whole_after, whole_step}
 
 -- nothing reaches a subscriber: it stays, and sends nothing

@@ -21,14 +21,14 @@ use Rattle.stranger_machine.specs.Machine.{Told}
 use Rattle.stranger_machine.specs.Table.{Nobody, Reach, reached}
 use Rattle.stranger_machine.specs.Table as table
 use Rattle.stranger_machine.specs.Turns.{said}
-use Rattle.mme_core.specs.declared.config.Config.{Config}
+use Rattle.mme_routing.specs.declared.config.Config.{Config}
 use Rattle.mme_core.specs.declared.event.Event.{Event}
 use Rattle.mme_core.specs.declared.event.Event.TheVariants.{Up as UpEvent, Lost as LostEvent, In as InEvent, Tick as TickEvent, Data as DataEvent, Cancel as CancelEvent}
 use Rattle.mme_core.specs.declared.event.StepFault.TheVariants.{NotUp}
 use Rattle.mme_core.specs.Laws.{Exchanges, event_name, one_called}
-use Rattle.mme_core.specs.Naming.{named_slot}
+use Rattle.mme_routing.specs.Naming.{named_slot}
 use Rattle.mme_core.specs.Sight.{Sight}
-use Rattle.mme_core.specs.Stations.{One, Heard, broadcasts, begins_anew, calling, enters, entered, entry_of, hears, hears_message, reaching, reset, setup_failure, setup_response, tells, told_slot, ue_message}
+use Rattle.mme_routing.specs.Outcomes.{One, Outcome, broadcasts, begins_anew, calling, enters, entered, entry_of, outcome_of, outcome_of_message, reaching, reset, setup_failure, setup_response, phone_message, message_of_slot, ue_message}
 use Rattle.mme_core.specs.World.{World, called, calls_by, each_after, each_sends, fault_of, happens, if_down, if_known, items_of, moved, one_if, outputs, reply, reply_of, sight_moved, slot_out, station_of, station_sends, strangers_in, strangers_send, unless, whole_after, whole_step, world_after}
 use Rattle.mme_core.proofs.Calling.{at_nothing, called_other, stays}
 
@@ -67,10 +67,10 @@ called_apart s t i j ne m = elim (cases_eq m s) [
   | inr other ↦ inl (called_other s m i other)
 ]
 
--- ---- what a station hears that names a slot
+-- ---- what a station outcome_of that names a slot
 
 -- the slot alone is called, and nothing else happens
-record NamesIn (state : StationState) (h : Heard) (slot : ℕ) : Type 0 where
+record NamesIn (state : StationState) (h : Outcome) (slot : ℕ) : Type 0 where
   accepted : if_down state (Some NotUp) None ≡ None
   same : h.state ≡ state
   silent : h.sends ≡ []
@@ -84,7 +84,7 @@ called_in state n slot item up is =
     let same : n ≡ slot = cc in
     record { accepted = up; same = refl; silent = refl; nobody = refl; item = item; calls = ap (λ k. One k item) same }
 
-named_set_up : (b : Bool) (x y : Heard) (state : StationState) (slot : ℕ) → one_called x.calls ≡ None → one_called y.calls ≡ None
+named_set_up : (b : Bool) (x y : Outcome) (state : StationState) (slot : ℕ) → one_called x.calls ≡ None → one_called y.calls ≡ None
     → one_called (if b then x else y).calls ≡ Some slot → NamesIn state (if b then x else y) slot
 named_set_up true x y state slot h k is = cc
 named_set_up false x y state slot h k is = cc
@@ -105,20 +105,20 @@ named_enters c ps e Down m slot is = cc
 named_enters c ps e Up m slot is = cc
 named_enters c ps e (Ready tas) m slot is = named_entered (named_slot c.network ps m.nas m.s_tmsi) e (Ready tas) m slot refl is
 
-named_told : (b : Bool) (o : Option ℕ) (r : Heard) (state : StationState) (m : UeMessage (List ℕ)) (slot : ℕ) → if_down state (Some NotUp) None ≡ None → one_called r.calls ≡ None
-    → one_called (if b then told_slot o state m else r).calls ≡ Some slot → NamesIn state (if b then told_slot o state m else r) slot
+named_told : (b : Bool) (o : Option ℕ) (r : Outcome) (state : StationState) (m : UeMessage (List ℕ)) (slot : ℕ) → if_down state (Some NotUp) None ≡ None → one_called r.calls ≡ None
+    → one_called (if b then message_of_slot o state m else r).calls ≡ Some slot → NamesIn state (if b then message_of_slot o state m else r) slot
 named_told true (Some n) r state m slot up none is = called_in state n slot (Message m) up is
 named_told true None r state m slot up none is = cc
 named_told false o r state m slot up none is = cc
 
-named_tells : (ps : List Profile) (state : StationState) (m : UeMessage (List ℕ)) (slot : ℕ) → one_called (tells ps state m).calls ≡ Some slot → NamesIn state (tells ps state m) slot
+named_tells : (ps : List Profile) (state : StationState) (m : UeMessage (List ℕ)) (slot : ℕ) → one_called (phone_message ps state m).calls ≡ Some slot → NamesIn state (phone_message ps state m) slot
 named_tells ps Down m slot is = cc
 named_tells ps Up m slot is = cc
 named_tells ps (Ready tas) m slot is =
     named_told (nat_lt m.mme_id (2 ^ 31)) (slot_of_id m.mme_id ps) (reaching (Ready tas) (table.One m.mme_id (Told m))) (Ready tas) m slot refl refl is
 
 named_message : (c : Config) (ps : List Profile) (e : ℕ) (state : StationState) (m : Pdu (List ℕ)) (slot : ℕ)
-    → one_called (hears_message c ps e state m).calls ≡ Some slot → NamesIn state (hears_message c ps e state m) slot
+    → one_called (outcome_of_message c ps e state m).calls ≡ Some slot → NamesIn state (outcome_of_message c ps e state m) slot
 named_message c ps e state (pdu.SetupRequest m) slot is =
     named_set_up (broadcasts c.network.plmn m.supported_tas) (begins_anew e (Ready m.supported_tas) (said e (setup_response c))) (begins_anew e Up (said e setup_failure)) state slot refl refl is
 named_message c ps e state (pdu.Reset m) slot is = named_reset e state slot is
@@ -134,7 +134,7 @@ named_message c ps e state (pdu.PathSwitchRequest m) slot is = named_tells ps st
 named_message c ps e state m slot is = cc
 
 named_heard : (c : Config) (ps : List Profile) (e : ℕ) (state : StationState) (r : Result (Pdu (List ℕ)) S1apFault) (slot : ℕ)
-    → one_called (hears c ps e state r).calls ≡ Some slot → NamesIn state (hears c ps e state r) slot
+    → one_called (outcome_of c ps e state r).calls ≡ Some slot → NamesIn state (outcome_of c ps e state r) slot
 named_heard c ps e state (Err fault) slot is = cc
 named_heard c ps e state (Ok m) slot is = named_message c ps e state m slot is
 

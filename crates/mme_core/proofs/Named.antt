@@ -16,10 +16,10 @@ use Rattle.emm_machine.specs.declared.stations.StationState.TheVariants.{Ready}
 use Rattle.emm_machine.specs.Steps.{Cancel, Data, Item}
 use Rattle.stranger_machine.specs.Machine.{Told}
 use Rattle.stranger_machine.specs.Table as table
-use Rattle.mme_core.specs.declared.config.Config.{Config}
+use Rattle.mme_routing.specs.declared.config.Config.{Config}
 use Rattle.mme_core.specs.Laws.{NamedById, NamedByIdentity, NamedByImsi, id_in, one_called}
-use Rattle.mme_core.specs.Naming.{named_slot}
-use Rattle.mme_core.specs.Stations.{Heard, entered, hears, hears_message, reaching, tells, told_slot, ue_message}
+use Rattle.mme_routing.specs.Naming.{named_slot}
+use Rattle.mme_routing.specs.Outcomes.{Outcome, entered, outcome_of, outcome_of_message, reaching, phone_message, message_of_slot, ue_message}
 use Rattle.mme_core.specs.World.{happens, one_if}
 
 one_again : (o : Option ℕ) (item : Item) → one_called (one_if o item) ≡ o
@@ -37,29 +37,29 @@ entered_named (Some slot) e state m = refl
 pub named_by_identity : NamedByIdentity
 unfolding happens
 named_by_identity s e octets tas m ready is =
-    ap (λ state. one_called (hears s.config s.profiles e state (decoded octets.now)).calls) ready
-    ∙ ap (λ r. one_called (hears s.config s.profiles e (Ready tas) r).calls) is
+    ap (λ state. one_called (outcome_of s.config s.profiles e state (decoded octets.now)).calls) ready
+    ∙ ap (λ r. one_called (outcome_of s.config s.profiles e (Ready tas) r).calls) is
     ∙ entered_named (named_slot s.config.network s.profiles m.nas m.s_tmsi) e (Ready tas) m
 
 -- a low id, with or without a slot
-told_if : (low here : Bool) (slot : ℕ) (r : Heard) (state : StationState) (m : UeMessage (List ℕ)) → one_called r.calls ≡ None
-    → one_called (if low then told_slot (if low && here then Some slot else None) state m else r).calls ≡ (if low && here then Some slot else None)
+told_if : (low here : Bool) (slot : ℕ) (r : Outcome) (state : StationState) (m : UeMessage (List ℕ)) → one_called r.calls ≡ None
+    → one_called (if low then message_of_slot (if low && here then Some slot else None) state m else r).calls ≡ (if low && here then Some slot else None)
 told_if true true slot r state m none = refl
 told_if true false slot r state m none = refl
 told_if false here slot r state m none = none
 
-tells_named : (ps : List Profile) (tas : List SupportedTa) (m : UeMessage (List ℕ)) → one_called (tells ps (Ready tas) m).calls ≡ slot_of_id m.mme_id ps
+tells_named : (ps : List Profile) (tas : List SupportedTa) (m : UeMessage (List ℕ)) → one_called (phone_message ps (Ready tas) m).calls ≡ slot_of_id m.mme_id ps
 tells_named ps tas m =
     told_if (nat_lt m.mme_id (2 ^ 31)) (nat_lt (m.mme_id / 2 ^ 20) (length ps)) (m.mme_id / 2 ^ 20) (reaching (Ready tas) (table.One m.mme_id (Told m))) (Ready tas) m refl
 
 told_named : (ps : List Profile) (e : ℕ) (tas : List SupportedTa) (mme_id enb_id : ℕ) (body : UeBody (List ℕ)) (id : ℕ) → Some mme_id ≡ Some id
-    → one_called (tells ps (Ready tas) (ue_message e mme_id enb_id body)).calls ≡ slot_of_id id ps
+    → one_called (phone_message ps (Ready tas) (ue_message e mme_id enb_id body)).calls ≡ slot_of_id id ps
 told_named ps e tas mme_id enb_id body id is =
     let same : mme_id ≡ id = cc in
     tells_named ps tas (ue_message e mme_id enb_id body) ∙ ap (λ n. slot_of_id n ps) same
 
 heard_named : (c : Config) (ps : List Profile) (e : ℕ) (tas : List SupportedTa) (m : Pdu (List ℕ)) (id : ℕ) → id_in m ≡ Some id
-    → one_called (hears_message c ps e (Ready tas) m).calls ≡ slot_of_id id ps
+    → one_called (outcome_of_message c ps e (Ready tas) m).calls ≡ slot_of_id id ps
 heard_named c ps e tas (pdu.UplinkNasTransport m) id is = told_named ps e tas m.mme_id m.enb_id (Uplink m.nas m.tai) id is
 heard_named c ps e tas (pdu.NasNonDelivery m) id is = told_named ps e tas m.mme_id m.enb_id Notice id is
 heard_named c ps e tas (pdu.CapabilityInfo m) id is = told_named ps e tas m.mme_id m.enb_id Notice id is
@@ -73,6 +73,6 @@ heard_named c ps e tas m id is = cc
 pub named_by_id : NamedById
 unfolding happens
 named_by_id s e octets tas m id ready is has =
-    ap (λ state. one_called (hears s.config s.profiles e state (decoded octets.now)).calls) ready
-    ∙ ap (λ r. one_called (hears s.config s.profiles e (Ready tas) r).calls) is
+    ap (λ state. one_called (outcome_of s.config s.profiles e state (decoded octets.now)).calls) ready
+    ∙ ap (λ r. one_called (outcome_of s.config s.profiles e (Ready tas) r).calls) is
     ∙ heard_named s.config s.profiles e tas m id has

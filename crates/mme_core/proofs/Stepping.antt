@@ -8,10 +8,10 @@ use Rattle.emm_machine.specs.Laws.{still_stays}
 use Rattle.emm_machine.specs.Steps.{Item}
 use Rattle.emm_machine.specs.Still.{still}
 use Rattle.emm_machine.specs.Whole.{Whole}
-use Rattle.mme_core.specs.declared.calls.Stepped.{Stepped}
+use Rattle.mme_core.specs.declared.changes.Stepped.{Stepped}
 use Rattle.mme_core.specs.declared.out.Out.{Out}
-use Rattle.mme_core.specs.Seen.{AreUnder, in_state, stepped_from, with_solo, with_stepped}
-use Rattle.mme_core.specs.Stations.{Everyone}
+use Rattle.mme_core.specs.Settled.{AreUnder, in_state, stepped_from, with_solo, with_stepped}
+use Rattle.mme_routing.specs.Outcomes.{Everyone}
 use Rattle.mme_core.specs.World.{called, each_after, each_sends, slot_out, whole_after, whole_step}
 
 -- ---- one who is left as it is

@@ -1,8 +1,6 @@
 pub mod Sight
-pub mod Naming
-pub mod Stations
 pub mod World
-pub mod Seen
+pub mod Settled
 pub mod Ready
 pub mod Projection
 pub mod Laws

@@ -4,7 +4,7 @@ use Rattle.emm_machine.specs.declared.stations.StationState.{StationState}
 use Rattle.emm_machine.specs.declared.stations.StationState.TheVariants.{Down}
 use Rattle.emm_machine.specs.Stations.{station_at}
 use Rattle.mme_core.specs.declared.mme.Ready.{Ready}
-use Rattle.mme_core.specs.Seen.{changed, settled}
+use Rattle.mme_core.specs.Settled.{changed, settled}
 use Rattle.mme_core.specs.Sight.{Sight}
 use Rattle.mme_core.specs.World.{World}
 

@@ -4,21 +4,16 @@
 //! one machine sends over the items that the events have for it, whatever else they hold.
 #![tactic(auto)]
 
-mod answers;
-mod calls;
-mod config;
+mod changes;
 mod event;
-mod hearing;
 mod laws;
 mod mme;
-mod naming;
 mod out;
 mod preparing;
 mod provisioning;
 mod sending;
 mod settling;
 
-pub use config::Config;
 pub use event::{Event, StepFault};
 pub use laws::{exchanges, names_slot, one_output, same_to_slot};
 pub use mme::Mme;

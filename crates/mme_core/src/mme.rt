@@ -9,15 +9,14 @@ ghost use Rattle.stranger_machine.specs.Table.{known_id, reached, stranger_at};
 ghost use Rattle.mme_core.specs.declared.event.Event.TheVariants as events;
 ghost use Rattle.mme_core.specs.declared.event.StepFault.TheVariants.{NoMemory, UnknownImsi};
 ghost use Rattle.mme_core.specs.Projection.{AllInOrder, AreInOrder, alone_after, is_slot, is_station, is_stranger, projection, silence, station_run, station_told, states_at, stranger_run, stranger_told, subscriber_told, told};
-ghost use Rattle.mme_core.specs.Seen.{IsFor, calls_of, changed, reach_of, settled};
+ghost use Rattle.mme_routing.specs.Seen.{calls_of, reach_of};
+ghost use Rattle.mme_core.specs.Settled.{IsFor, changed, settled};
 ghost use Rattle.mme_core.specs.Ready.{ready_world};
 ghost use Rattle.mme_core.specs.Short.{AreShort};
 ghost use Rattle.mme_core.specs.World.{called, calls_by, each_after, each_sends, fresh_world, given, replies, reply, station_sends, strangers_in, strangers_send, taken, world_after, world_run};
 
-use crate::calls::{Calls, Change, Prepared, Reach, Summoned, Turned};
-use crate::config::Config;
+use crate::changes::{Change, Prepared, Turned};
 use crate::event::{Event, StepFault};
-use crate::hearing::{Heard, hears};
 use crate::out::Outs;
 use crate::preparing::{prepare_called, turn};
 use crate::provisioning::fresh_subscribers;
@@ -25,6 +24,7 @@ use crate::sending::station_outs;
 use crate::settling::{settle, settle_station, settle_strangers};
 use emm_machine::{Answers, EnbWorld, SoloEvent, States, StationNumber, StationState, Subscriber};
 use identity_slots::{Provision, Slot};
+use mme_routing::{Calls, Config, Outcome, Reach, Summoned, outcome_of};
 use nas_elements::Imsi;
 use std::alloc::{AllocError, Global};
 use std::marker::Model;
@@ -249,12 +249,12 @@ impl Mme {
         if let StationState::Down = state {
             return Err(StepFault::NotUp);
         }
-        let Heard {
+        let Outcome {
             state,
             says,
             reach,
             calls,
-        } = hears(
+        } = outcome_of(
             self.alloc,
             &self.config,
             &self.provision,

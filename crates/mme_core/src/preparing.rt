@@ -5,16 +5,18 @@ ghost use Rattle.emm_machine.specs.declared.stations.StationState.{StationState}
 ghost use Rattle.emm_machine.specs.Steps.{item_of};
 ghost use Rattle.stranger_machine.specs.Table.{reached, stranger_at};
 ghost use Rattle.stranger_machine.specs.Turns.{call_of};
-ghost use Rattle.mme_core.specs.Seen.{IsFor, calls_of, changed, reach_of, settled, stepped_from};
-ghost use Rattle.mme_core.specs.Stations.{Everyone, One};
+ghost use Rattle.mme_routing.specs.Seen.{calls_of, reach_of};
+ghost use Rattle.mme_core.specs.Settled.{IsFor, changed, settled, stepped_from};
+ghost use Rattle.mme_routing.specs.Outcomes.{Everyone, One};
 ghost use Rattle.mme_core.specs.World.{called, each_after, each_sends, reach_call, slot_out, strangers_send, with_call, whole_step};
 
-use crate::calls::{Calls, Change, Prepared, Reach, Stepped, Turned};
+use crate::changes::{Change, Prepared, Stepped, Turned};
 use crate::out::{Outs, Owner};
 use crate::provisioning::slot_of;
 use crate::sending::{send_all, send_each};
 use emm_machine::{Draft, EnbWorld, Solo, SoloEvent, Subscriber};
 use identity_slots::{Provision, Slot};
+use mme_routing::{Calls, Reach};
 use std::alloc::{AllocError, Global};
 use stranger_machine::{Call, Strangers, Turn, begins, told};
 

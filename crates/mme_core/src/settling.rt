@@ -2,10 +2,10 @@
 
 ghost use Rattle.std.specs.Prelude.{◌≡◌, ◌<◌, length, slice_set, unwrap_or, OnOk, OnErr};
 ghost use Rattle.emm_machine.specs.Stations.{station_at};
-ghost use Rattle.mme_core.specs.Seen.{AreUnder, IsFor, changed, settled, with_solo, with_stepped};
+ghost use Rattle.mme_core.specs.Settled.{AreUnder, IsFor, changed, settled, with_solo, with_stepped};
 ghost use Rattle.mme_core.specs.Ready.{placed};
 
-use crate::calls::{Change, Prepared, Stepped};
+use crate::changes::{Change, Prepared, Stepped};
 use emm_machine::{EnbWorld, Solo, StationNumber, StationState, Subscriber};
 use identity_slots::Slot;
 use std::alloc::AllocError;

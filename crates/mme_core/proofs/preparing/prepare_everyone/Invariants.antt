@@ -1,7 +1,7 @@
 use Rattle.std.proofs.Common.{◌≡◌, ◌++◌, drop}
 use Rattle.emm_machine.specs.Steps.{item_of}
-use Rattle.mme_core.specs.Seen.{stepped_from}
-use Rattle.mme_core.specs.Stations.{Everyone}
+use Rattle.mme_core.specs.Settled.{stepped_from}
+use Rattle.mme_routing.specs.Outcomes.{Everyone}
 use Rattle.mme_core.specs.World.{called, each_sends}
 use Rattle.mme_core.proofs.preparing.prepare_everyone.Given as goal
 

@@ -5,7 +5,7 @@ use Rattle.std.proofs.lemmas.List.{append-nil}
 use Rattle.std.proofs.lemmas.Option.{slice_get_read}
 use Rattle.emm_machine.specs.Steps.{item_of}
 use Rattle.emm_machine.specs.Whole.{Whole}
-use Rattle.mme_core.specs.Seen.{in_state}
+use Rattle.mme_core.specs.Settled.{in_state}
 use Rattle.mme_core.proofs.Calling.{after_call, sends_call, call_past}
 use Rattle.mme_core.proofs.preparing.prepare_one.Goals as goal
 

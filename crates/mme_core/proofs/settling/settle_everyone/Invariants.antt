@@ -1,6 +1,6 @@
 use Rattle.std.proofs.Common.{◌≡◌, length}
 use Rattle.std.specs.Vec.Iter.{into_iter_items, into_iter_len}
-use Rattle.mme_core.specs.Seen.{AreUnder, with_stepped}
+use Rattle.mme_core.specs.Settled.{AreUnder, with_stepped}
 use Rattle.mme_core.proofs.settling.settle_everyone.Given as goal
 
 -- who is left, and what they lead to

@@ -4,7 +4,7 @@ use Rattle.emm_machine.specs.declared.stations.StationState.TheVariants.{Down}
 use Rattle.emm_machine.specs.Steps as items
 use Rattle.stranger_machine.specs.Table.{Nobody}
 use Rattle.mme_core.specs.declared.event.Event.TheVariants as events
-use Rattle.mme_core.specs.Stations.{Heard, One}
+use Rattle.mme_routing.specs.Outcomes.{Outcome, One}
 use Rattle.mme_core.specs.World.{World, fault_of, happens, if_known, one_if}
 use Rattle.mme_core.proofs.Steps.{after_ready, reply_ready, sight_with}
 use Rattle.mme_core.proofs.mme.Mme.cancel.Goals as goal
@@ -16,7 +16,7 @@ returns-clause-reply c =
     let e = events.Cancel c.args.imsi in
     let known : slot_of_imsi c.args.imsi w.sight.profiles ≡ Some c.in_ok-slot.slot = c.in_ok-slot.ensures.slot in
     let fine : fault_of w.sight e ≡ None = ap if_known known in
-    let h : Heard = record { state = Down; sends = c.new-says.result; reach = Nobody; calls = One c.in_ok-slot.slot items.Cancel } in
+    let h : Outcome = record { state = Down; sends = c.new-says.result; reach = Nobody; calls = One c.in_ok-slot.slot items.Cancel } in
     let is : h ≡ happens w.sight e =
     ap (λ x. record { state = Down; sends = x; reach = Nobody; calls = One c.in_ok-slot.slot items.Cancel }) c.new-says.ensures
     ∙ ap (λ (o : Option ℕ). record { state = Down; sends = []; reach = Nobody; calls = one_if o items.Cancel }) (sym known) in
@@ -29,7 +29,7 @@ returns-clause-after c =
     let e = events.Cancel c.args.imsi in
     let known : slot_of_imsi c.args.imsi w.sight.profiles ≡ Some c.in_ok-slot.slot = c.in_ok-slot.ensures.slot in
     let fine : fault_of w.sight e ≡ None = ap if_known known in
-    let h : Heard = record { state = Down; sends = c.new-says.result; reach = Nobody; calls = One c.in_ok-slot.slot items.Cancel } in
+    let h : Outcome = record { state = Down; sends = c.new-says.result; reach = Nobody; calls = One c.in_ok-slot.slot items.Cancel } in
     let is : h ≡ happens w.sight e =
     ap (λ x. record { state = Down; sends = x; reach = Nobody; calls = One c.in_ok-slot.slot items.Cancel }) c.new-says.ensures
     ∙ ap (λ (o : Option ℕ). record { state = Down; sends = []; reach = Nobody; calls = one_if o items.Cancel }) (sym known) in

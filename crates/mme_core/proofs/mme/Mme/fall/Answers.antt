@@ -5,7 +5,7 @@ use Rattle.stranger_machine.specs.declared.turn.Notice.TheVariants as notices
 use Rattle.stranger_machine.specs.Table.{Each}
 use Rattle.mme_core.specs.declared.event.Event.TheVariants as events
 use Rattle.mme_core.specs.declared.event.StepFault.TheVariants.{NotUp}
-use Rattle.mme_core.specs.Stations.{Everyone, Heard}
+use Rattle.mme_routing.specs.Outcomes.{Everyone, Outcome}
 use Rattle.mme_core.specs.World.{World, fault_of, happens, if_down}
 use Rattle.mme_core.proofs.Steps.{after_ready, memory_refuses, not_down, reply_ready, sight_with}
 use Rattle.mme_core.proofs.mme.Mme.fall.Goals as goal
@@ -16,7 +16,7 @@ returns c =
     let w = c.args.self.now in
     let e = events.Lost c.args.station in
     let fine : fault_of w.sight e ≡ None = sym (ap (λ (v : World). fault_of v.sight e) c.self.view_is) ∙ ap (λ s. if_down s (Some NotUp) None) (sym c.get.ensures) ∙ not_down c.get.result.now (Some NotUp) None c.in_default.not-Down in
-    let h : Heard = record { state = Down; sends = c.new-says.result; reach = Each (notices.Gone c.args.station); calls = Everyone (items.StationGone c.args.station) } in
+    let h : Outcome = record { state = Down; sends = c.new-says.result; reach = Each (notices.Gone c.args.station); calls = Everyone (items.StationGone c.args.station) } in
     let is : h ≡ happens w.sight e = ap (λ x. record { state = Down; sends = x; reach = Each (notices.Gone c.args.station); calls = Everyone (items.StationGone c.args.station) }) c.new-says.ensures in
     record {
       reply = reply_ready w e h c.ready.result fine is c.ready.ensures.sent;

@@ -3,8 +3,8 @@ use Rattle.emm_machine.specs.Stations.{station_at}
 use Rattle.s1ap_messages.specs.Pdus.{decoded}
 use Rattle.mme_core.specs.declared.event.Event.TheVariants as events
 use Rattle.mme_core.specs.declared.event.StepFault.TheVariants.{NotUp}
-use Rattle.mme_core.specs.Seen.{seen}
-use Rattle.mme_core.specs.Stations.{Heard, hears}
+use Rattle.mme_routing.specs.Seen.{seen}
+use Rattle.mme_routing.specs.Outcomes.{Outcome, outcome_of}
 use Rattle.mme_core.specs.World.{World, fault_of, happens, if_down}
 use Rattle.mme_core.specs.contracts.mme.Mme.{the_view}
 use Rattle.mme_core.proofs.Steps.{after_ready, memory_refuses, not_down, reply_ready, sight_with}
@@ -19,11 +19,11 @@ returns c =
     let x = c.in_ok-state.field-0 in
     let s = c.get-state.result.now in
     let fine : fault_of w.sight e ≡ None = sym (ap (λ (v : World). fault_of v.sight e) c.self.view_is) ∙ ap (λ s. if_down s (Some NotUp) None) (sym c.get-state.ensures) ∙ not_down s (Some NotUp) None c.in_default.not-Down in
-    let h : Heard = seen (station_at w.sight.stations c.args.station) w.sight.stations x in
+    let h : Outcome = seen (station_at w.sight.stations c.args.station) w.sight.stations x in
     let is : h ≡ happens w.sight e =
     subst (λ (v : World). seen (station_at v.sight.stations c.args.station) v.sight.stations x ≡ happens v.sight e) c.self.view_is
-    (ap (λ s. seen s v.sight.stations x) (sym c.get-state.ensures) ∙ c.in_ok-state.ensures.rows v.sight.stations
-    ∙ ap (λ s. hears v.sight.config v.sight.profiles c.args.station s (decoded c.args.octets.now)) c.get-state.ensures) in
+    (ap (λ s. seen s v.sight.stations x) (sym c.get-state.ensures) ∙ c.in_ok-state.ensures v.sight.stations
+    ∙ ap (λ s. outcome_of v.sight.config v.sight.profiles c.args.station s (decoded c.args.octets.now)) c.get-state.ensures) in
     record {
       reply = reply_ready w e h c.ready.result fine is c.ready.ensures.sent;
       after = after_ready w e h (record { station = Some c.args.station; state = x.state; clock = c.self.inside.clock }) c.ready.result fine is

@@ -4,7 +4,8 @@ use Rattle.ordered_lists.specs.Ordered.{Rising}
 use Rattle.stranger_machine.specs.Laws.{rising_reached}
 use Rattle.stranger_machine.specs.Table.{known_id}
 use Rattle.mme_core.specs.Projection.{AreInOrder}
-use Rattle.mme_core.specs.Seen.{calls_of, changed, reach_of}
+use Rattle.mme_routing.specs.Seen.{calls_of, reach_of}
+use Rattle.mme_core.specs.Settled.{changed}
 use Rattle.mme_core.specs.World.{World, called, calls_by, each_sends, station_sends, strangers_in, strangers_send, with_call}
 use Rattle.mme_core.specs.contracts.mme.Mme.{the_view}
 use Rattle.mme_core.proofs.Order.{parts_order}

@@ -1,7 +1,7 @@
 use Rattle.std.proofs.Common.{length, arith, sym, subst, ◌∙◌, ap}
 use Rattle.ordered_lists.specs.Ordered.{Rising}
 use Rattle.stranger_machine.specs.Table.{known_id}
-use Rattle.mme_core.specs.Seen.{changed}
+use Rattle.mme_core.specs.Settled.{changed}
 use Rattle.mme_core.specs.World.{World}
 use Rattle.mme_core.proofs.Steps.{placed_many, settled_many}
 use Rattle.mme_core.proofs.mme.Mme.take.Goals as goal

@@ -1,44 +1,19 @@
--- What functions of the code returned, without where octets lie in memory.
-use Rattle.std.specs.Prelude.{◌+◌, ◌<◌, ℕ, if◌then◌else◌, slice_get, slice_set, List, [], ◌∷◌, length, unwrap_or}
+-- What strangers and subscribers are once what was prepared for an event is settled.
+use Rattle.std.specs.Prelude.{◌+◌, ◌<◌, ℕ, if◌then◌else◌, slice_get, slice_set, List, [], ◌∷◌, length}
 use Rattle.std.specs.Option.{option_map_or}
 use Rattle.emm_machine.specs.declared.solo.Solo.{Solo}
-use Rattle.emm_machine.specs.declared.stations.StationState.{StationState}
-use Rattle.emm_machine.specs.Steps.{Item, entry_lists, item_of, message_lists}
+use Rattle.emm_machine.specs.Steps.{Item}
 use Rattle.emm_machine.specs.Still.{still}
 use Rattle.emm_machine.specs.Whole.{Whole}
 use Rattle.stranger_machine.specs.declared.table.Known.{Known}
-use Rattle.stranger_machine.specs.Machine.{Begins, Told}
-use Rattle.stranger_machine.specs.Table.{Reach, Nobody, Each, noted, stranger_at, with_stranger}
-use Rattle.stranger_machine.specs.Table as table
+use Rattle.stranger_machine.specs.Table.{noted, stranger_at, with_stranger}
 use Rattle.stranger_machine.specs.Turns.{after_of}
-use Rattle.mme_core.specs.declared.calls.Calls.{Calls as CallsInCode}
-use Rattle.mme_core.specs.declared.calls.Calls.TheVariants as code
-use Rattle.mme_core.specs.declared.calls.Change.{Change}
-use Rattle.mme_core.specs.declared.calls.Change.TheVariants as change
-use Rattle.mme_core.specs.declared.calls.Prepared.{Prepared}
-use Rattle.mme_core.specs.declared.calls.Prepared.TheVariants as prepared
-use Rattle.mme_core.specs.declared.calls.Reach.{Reach as ReachInCode}
-use Rattle.mme_core.specs.declared.calls.Reach.TheVariants as reaches
-use Rattle.mme_core.specs.declared.calls.Stepped.{Stepped}
-use Rattle.mme_core.specs.declared.hearing.Heard.{Heard as HeardInCode}
-use Rattle.mme_core.specs.Stations.{Calls, NoOne, One, Everyone, Heard}
+use Rattle.mme_core.specs.declared.changes.Change.{Change}
+use Rattle.mme_core.specs.declared.changes.Change.TheVariants as change
+use Rattle.mme_core.specs.declared.changes.Prepared.{Prepared}
+use Rattle.mme_core.specs.declared.changes.Prepared.TheVariants as prepared
+use Rattle.mme_core.specs.declared.changes.Stepped.{Stepped}
 use Rattle.mme_core.specs.World.{whole_step}
-
-abbrev pub calls_of : CallsInCode → List StationState → Calls
-calls_of code.NoOne stations = NoOne
-calls_of (code.One slot event) stations = One slot (item_of event stations)
-calls_of (code.Everyone event) stations = Everyone (item_of event stations)
-
-abbrev pub reach_of : ReachInCode → Reach
-reach_of reaches.Nobody = Nobody
-reach_of (reaches.Begins id m) = table.One id (Begins (entry_lists m))
-reach_of (reaches.Told m) = table.One m.mme_id (Told (message_lists m))
-reach_of (reaches.Each notice) = Each notice
-
-abbrev pub seen : StationState → List StationState → HeardInCode → Heard
-seen state stations h = record { state = unwrap_or h.state state; sends = h.says; reach = reach_of h.reach; calls = calls_of h.calls stations }
-
--- ---- the states that are prepared
 
 -- the strangers after a change
 abbrev pub changed : Change → List Known → List Known

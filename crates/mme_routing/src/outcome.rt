@@ -6,35 +6,33 @@ ghost use Rattle.s1ap_messages.specs.Pdus.{lists, decoded, initial_ue_message_li
 ghost use Rattle.s1ap_messages.specs.declared.fault.S1apFault.TheVariants as faults;
 ghost use Rattle.emm_machine.specs.declared.stations.StationState.{StationState};
 ghost use Rattle.emm_machine.specs.Steps.{body_lists, message_lists};
-ghost use Rattle.mme_core.specs.declared.event.StepFault.TheVariants.{NoMemory};
-ghost use Rattle.mme_core.specs.Seen.{seen};
-ghost use Rattle.mme_core.specs.Stations.{begins_anew, broadcasts, cause_of, entered, enters, hears, hears_message, indicated, indication, is_broadcast, not_compatible, reset, says, set_up, tells, told, told_slot, ue_message};
+ghost use Rattle.mme_routing.specs.Seen.{seen};
+ghost use Rattle.mme_routing.specs.Outcomes.{begins_anew, broadcasts, cause_of, entered, enters, outcome_of, outcome_of_message, indicated, indication, is_broadcast, not_compatible, reset, answered, set_up, phone_message, message_by_id, message_of_slot, ue_message};
 
 use crate::answers::{cause_of, indication, setup_failure, setup_response};
 use crate::calls::{Calls, Reach};
 use crate::config::Config;
-use crate::event::StepFault;
 use crate::naming::named_slot;
 use emm_machine::{Answers, Entry, SoloEvent, StationNumber, StationState, UeBody, UeMessage};
 use identity_slots::{AssociationId, Provision};
 use s1ap_elements::{Cause, EnbUeId, MmeUeId, Plmn, ProtocolCause, SupportedTa};
 use s1ap_messages::{InitialUeMessage, Pdu, S1apFault, S1apPdu, SetupRequest, decode};
-use std::alloc::Global;
+use std::alloc::{AllocError, Global};
 use stranger_machine::{Notice, saying, unknown};
 
 /// The new state of the station, where it has one, what it is told, the strangers that are reached, and who is called.
 #[derive(Drop)]
-pub(crate) struct Heard<'a> {
+pub struct Outcome<'a> {
     pub state: Option<StationState>,
     pub says: Answers,
     pub reach: Reach<'a>,
     pub calls: Calls<'a>,
 }
 
-fn says<'a>(sends: Answers) -> Heard<'a>
-    ensures { (state : StationState) (stations : List StationState) → seen state stations result ≡ says state sends }
+fn answered<'a>(sends: Answers) -> Outcome<'a>
+    ensures { (state : StationState) (stations : List StationState) → seen state stations result ≡ answered state sends }
 {
-    Heard {
+    Outcome {
         state: None,
         says: sends,
         reach: Reach::Nobody,
@@ -43,10 +41,10 @@ fn says<'a>(sends: Answers) -> Heard<'a>
 }
 
 // The associations of a station end, with what it is told, and the state that it begins anew in, where that is another.
-fn begins_anew<'a>(station: StationNumber, state: Option<StationState>, sends: Answers) -> Heard<'a>
+fn begins_anew<'a>(station: StationNumber, state: Option<StationState>, sends: Answers) -> Outcome<'a>
     ensures { (old : StationState) (stations : List StationState) → seen old stations result ≡ begins_anew station (unwrap_or state old) sends }
 {
-    Heard {
+    Outcome {
         state,
         says: sends,
         reach: Reach::Each(Notice::Gone(station)),
@@ -59,19 +57,17 @@ fn hears_indication<'a>(
     alloc: Global,
     station: StationNumber,
     cause: Option<Cause>,
-) -> Result<Heard<'a>, StepFault>
-    ensures rows { IfOk result (λ h. (state : StationState) (stations : List StationState) → seen state stations h ≡ says state (indicated station cause)) }
-    ensures memory { IfErr result (λ fault. fault ≡ NoMemory) }
+) -> Result<Outcome<'a>, AllocError>
+    ensures { IfOk result (λ h. (state : StationState) (stations : List StationState) → seen state stations h ≡ answered state (indicated station cause)) }
 {
     match cause {
-        Some(cause) => Ok(says(saying(alloc, station, &indication(cause))?)),
-        None => Ok(says(Answers::new(alloc))),
+        Some(cause) => Ok(answered(saying(alloc, station, &indication(cause))?)),
+        None => Ok(answered(Answers::new(alloc))),
     }
 }
 
-fn hears_not_compatible<'a>(alloc: Global, station: StationNumber) -> Result<Heard<'a>, StepFault>
-    ensures rows { IfOk result (λ h. (state : StationState) (stations : List StationState) → seen state stations h ≡ not_compatible station state) }
-    ensures memory { IfErr result (λ fault. fault ≡ NoMemory) }
+fn hears_not_compatible<'a>(alloc: Global, station: StationNumber) -> Result<Outcome<'a>, AllocError>
+    ensures { IfOk result (λ h. (state : StationState) (stations : List StationState) → seen state stations h ≡ not_compatible station state) }
 {
     let cause = Cause::Protocol(ProtocolCause::MessageNotCompatible);
     hears_indication(alloc, station, Some(cause))
@@ -81,13 +77,12 @@ fn hears_fault<'a>(
     alloc: Global,
     station: StationNumber,
     fault: S1apFault,
-) -> Result<Heard<'a>, StepFault>
-    ensures rows { IfOk result (λ h. (state : StationState) (stations : List StationState) → seen state stations h ≡ says state (indicated station (cause_of fault))) }
+) -> Result<Outcome<'a>, AllocError>
+    ensures rows { IfOk result (λ h. (state : StationState) (stations : List StationState) → seen state stations h ≡ answered state (indicated station (cause_of fault))) }
     ensures other { OnOk result (fault ≢ faults.NoMemory) }
-    ensures memory { IfErr result (λ fault. fault ≡ NoMemory) }
 {
     match fault {
-        S1apFault::NoMemory => Err(StepFault::NoMemory),
+        S1apFault::NoMemory => Err(AllocError),
         _ => hears_indication(alloc, station, cause_of(&fault)),
     }
 }
@@ -110,9 +105,8 @@ fn hears_setup<'a>(
     config: &Config,
     station: StationNumber,
     request: SetupRequest<&[u8]>,
-) -> Result<Heard<'a>, StepFault>
-    ensures rows { IfOk result (λ h. (state : StationState) (stations : List StationState) → seen state stations h ≡ set_up config.now station request.entry.supported_tas) }
-    ensures memory { IfErr result (λ fault. fault ≡ NoMemory) }
+) -> Result<Outcome<'a>, AllocError>
+    ensures { IfOk result (λ h. (state : StationState) (stations : List StationState) → seen state stations h ≡ set_up config.now station request.entry.supported_tas) }
 {
     let SetupRequest {
         station: _,
@@ -134,9 +128,8 @@ fn hears_reset<'a>(
     alloc: Global,
     station: StationNumber,
     state: &StationState,
-) -> Result<Heard<'a>, StepFault>
-    ensures rows { IfOk result (λ h. (stations : List StationState) → seen state.now stations h ≡ reset station state.now) }
-    ensures memory { IfErr result (λ fault. fault ≡ NoMemory) }
+) -> Result<Outcome<'a>, AllocError>
+    ensures { IfOk result (λ h. (stations : List StationState) → seen state.now stations h ≡ reset station state.now) }
 {
     match state {
         StationState::Ready(_) => {
@@ -161,10 +154,9 @@ fn enters<'a>(
     station: StationNumber,
     state: &StationState,
     message: InitialUeMessage<&'a [u8]>,
-) -> Result<Heard<'a>, StepFault>
-    ensures rows { IfOk result (λ h. (stations : List StationState) → seen state.now stations h
+) -> Result<Outcome<'a>, AllocError>
+    ensures { IfOk result (λ h. (stations : List StationState) → seen state.now stations h
         ≡ enters config.now provision.now.profiles station state.now (initial_ue_message_lists message.entry)) }
-    ensures memory { IfErr result (λ fault. fault ≡ NoMemory) }
 {
     match state {
         StationState::Down | StationState::Up => hears_not_compatible(alloc, station),
@@ -176,7 +168,7 @@ fn enters<'a>(
                 tai: message.tai,
             };
             match named_slot(&config.network, provision, message.nas, message.s_tmsi) {
-                Some(slot) => Ok(Heard {
+                Some(slot) => Ok(Outcome {
                     state: None,
                     says: Answers::new(alloc),
                     reach: Reach::Nobody,
@@ -184,7 +176,7 @@ fn enters<'a>(
                 }),
                 None => {
                     let id = stranger_id(station, message.enb_id);
-                    Ok(Heard {
+                    Ok(Outcome {
                         state: None,
                         says: Answers::new(alloc),
                         reach: Reach::Begins(id, entry),
@@ -208,17 +200,16 @@ fn again<'a>(message: &UeMessage<&'a [u8]>) -> UeMessage<&'a [u8]>
     }
 }
 
-fn told<'a>(
+fn message_by_id<'a>(
     alloc: Global,
     provision: &Provision,
     message: &UeMessage<&'a [u8]>,
-) -> Result<Heard<'a>, StepFault>
-    ensures rows { IfOk result (λ h. (state : StationState) (stations : List StationState) → seen state stations h
-        ≡ told provision.now.profiles state (message_lists message.now)) }
-    ensures memory { IfErr result (λ fault. fault ≡ NoMemory) }
+) -> Result<Outcome<'a>, AllocError>
+    ensures { IfOk result (λ h. (state : StationState) (stations : List StationState) → seen state stations h
+        ≡ message_by_id provision.now.profiles state (message_lists message.now)) }
 {
     if message.mme_id.get() >= 0x8000_0000 {
-        return Ok(Heard {
+        return Ok(Outcome {
             state: None,
             says: Answers::new(alloc),
             reach: Reach::Told(again(message)),
@@ -226,29 +217,28 @@ fn told<'a>(
         });
     }
     match provision.slot_of_association(message.mme_id) {
-        Some(slot) => Ok(Heard {
+        Some(slot) => Ok(Outcome {
             state: None,
             says: Answers::new(alloc),
             reach: Reach::Nobody,
             calls: Calls::One(slot, SoloEvent::Message(again(message))),
         }),
-        None => Ok(says(unknown(alloc, message)?)),
+        None => Ok(answered(unknown(alloc, message)?)),
     }
 }
 
-fn tells<'a>(
+fn phone_message<'a>(
     alloc: Global,
     provision: &Provision,
     state: &StationState,
     message: &UeMessage<&'a [u8]>,
-) -> Result<Heard<'a>, StepFault>
-    ensures rows { IfOk result (λ h. (stations : List StationState) → seen state.now stations h
-        ≡ tells provision.now.profiles state.now (message_lists message.now)) }
-    ensures memory { IfErr result (λ fault. fault ≡ NoMemory) }
+) -> Result<Outcome<'a>, AllocError>
+    ensures { IfOk result (λ h. (stations : List StationState) → seen state.now stations h
+        ≡ phone_message provision.now.profiles state.now (message_lists message.now)) }
 {
     match state {
         StationState::Down | StationState::Up => hears_not_compatible(alloc, message.station),
-        StationState::Ready(_) => told(alloc, provision, message),
+        StationState::Ready(_) => message_by_id(alloc, provision, message),
     }
 }
 
@@ -260,7 +250,7 @@ fn id_of(id: MmeUeId) -> AssociationId
 }
 
 // A message with an MME UE id.
-fn tells_of<'a>(
+fn phone_message_of<'a>(
     alloc: Global,
     provision: &Provision,
     station: StationNumber,
@@ -268,10 +258,9 @@ fn tells_of<'a>(
     mme_id: MmeUeId,
     enb_id: EnbUeId,
     body: &UeBody<&'a [u8]>,
-) -> Result<Heard<'a>, StepFault>
-    ensures rows { IfOk result (λ h. (stations : List StationState) → seen state.now stations h
-        ≡ tells provision.now.profiles state.now (ue_message station mme_id enb_id (body_lists body.now))) }
-    ensures memory { IfErr result (λ fault. fault ≡ NoMemory) }
+) -> Result<Outcome<'a>, AllocError>
+    ensures { IfOk result (λ h. (stations : List StationState) → seen state.now stations h
+        ≡ phone_message provision.now.profiles state.now (ue_message station mme_id enb_id (body_lists body.now))) }
 {
     let message = UeMessage {
         station,
@@ -279,35 +268,34 @@ fn tells_of<'a>(
         enb_id,
         body: body.again(),
     };
-    tells(alloc, provision, state, &message)
+    phone_message(alloc, provision, state, &message)
 }
 
-fn hears_message<'a>(
+fn outcome_of_message<'a>(
     alloc: Global,
     config: &Config,
     provision: &Provision,
     station: StationNumber,
     state: &StationState,
     message: S1apPdu<'a>,
-) -> Result<Heard<'a>, StepFault>
-    ensures rows { IfOk result (λ h. (stations : List StationState) → seen state.now stations h
-        ≡ hears_message config.now provision.now.profiles station state.now (lists message.entry)) }
-    ensures memory { IfErr result (λ fault. fault ≡ NoMemory) }
+) -> Result<Outcome<'a>, AllocError>
+    ensures { IfOk result (λ h. (stations : List StationState) → seen state.now stations h
+        ≡ outcome_of_message config.now provision.now.profiles station state.now (lists message.entry)) }
 {
     match message {
         Pdu::SetupRequest(m) => hears_setup(alloc, config, station, m),
         Pdu::Reset(_) => hears_reset(alloc, station, state),
-        Pdu::ErrorIndication(_) | Pdu::ResetAcknowledge => Ok(says(Answers::new(alloc))),
+        Pdu::ErrorIndication(_) | Pdu::ResetAcknowledge => Ok(answered(Answers::new(alloc))),
         Pdu::InitialUeMessage(m) => enters(alloc, config, provision, station, state, m),
         Pdu::UplinkNasTransport(m) => {
             let body = UeBody::Uplink {
                 nas: m.nas,
                 tai: m.tai,
             };
-            tells_of(alloc, provision, station, state, m.mme_id, m.enb_id, &body)
+            phone_message_of(alloc, provision, station, state, m.mme_id, m.enb_id, &body)
         }
         Pdu::NasNonDelivery(m) => {
-            tells_of(
+            phone_message_of(
                 alloc,
                 provision,
                 station,
@@ -318,7 +306,7 @@ fn hears_message<'a>(
             )
         }
         Pdu::CapabilityInfo(m) => {
-            tells_of(
+            phone_message_of(
                 alloc,
                 provision,
                 station,
@@ -329,7 +317,7 @@ fn hears_message<'a>(
             )
         }
         Pdu::ContextSetupResponse(m) => {
-            tells_of(
+            phone_message_of(
                 alloc,
                 provision,
                 station,
@@ -341,19 +329,19 @@ fn hears_message<'a>(
         }
         Pdu::ContextSetupFailure(m) => {
             let body = UeBody::ContextSetupFailure;
-            tells_of(alloc, provision, station, state, m.mme_id, m.enb_id, &body)
+            phone_message_of(alloc, provision, station, state, m.mme_id, m.enb_id, &body)
         }
         Pdu::ReleaseRequest(m) => {
             let body = UeBody::ReleaseRequest { cause: m.cause };
-            tells_of(alloc, provision, station, state, m.mme_id, m.enb_id, &body)
+            phone_message_of(alloc, provision, station, state, m.mme_id, m.enb_id, &body)
         }
         Pdu::ReleaseComplete(m) => {
             let body = UeBody::ReleaseComplete;
-            tells_of(alloc, provision, station, state, m.mme_id, m.enb_id, &body)
+            phone_message_of(alloc, provision, station, state, m.mme_id, m.enb_id, &body)
         }
         Pdu::PathSwitchRequest(m) => {
             let body = UeBody::PathSwitch;
-            tells_of(
+            phone_message_of(
                 alloc,
                 provision,
                 station,
@@ -375,20 +363,19 @@ fn hears_message<'a>(
 }
 
 /// What the octets make of a station in that state, and whom they call.
-pub(crate) fn hears<'a>(
+pub fn outcome_of<'a>(
     alloc: Global,
     config: &Config,
     provision: &Provision,
     station: StationNumber,
     state: &StationState,
     octets: &'a [u8],
-) -> Result<Heard<'a>, StepFault>
-    ensures rows { IfOk result (λ h. (stations : List StationState) → seen state.now stations h
-        ≡ hears config.now provision.now.profiles station state.now (decoded octets.entry.now)) }
-    ensures memory { IfErr result (λ fault. fault ≡ NoMemory) }
+) -> Result<Outcome<'a>, AllocError>
+    ensures { IfOk result (λ h. (stations : List StationState) → seen state.now stations h
+        ≡ outcome_of config.now provision.now.profiles station state.now (decoded octets.entry.now)) }
 {
     match decode(alloc, octets) {
-        Ok(message) => hears_message(alloc, config, provision, station, state, message),
+        Ok(message) => outcome_of_message(alloc, config, provision, station, state, message),
         Err(fault) => hears_fault(alloc, station, fault),
     }
 }

@@ -1,34 +1,8 @@
-//! Whom an event reaches and calls, and what it leads to.
+//! What an event leads to, before it is taken.
 
-use emm_machine::{Entry, Solo, SoloEvent, UeMessage};
+use emm_machine::Solo;
 use identity_slots::{AssociationId, Slot};
 use stranger_machine::{After, Call, Notice};
-
-/// Who is told of an event, and what.
-#[derive(Drop)]
-pub(crate) enum Calls<'a> {
-    NoOne,
-    One(Slot, SoloEvent<'a>),
-    Everyone(SoloEvent<'a>),
-}
-
-/// The strangers that an event reaches, and what it is to them.
-#[derive(Drop)]
-pub(crate) enum Reach<'a> {
-    Nobody,
-    /// An INITIAL UE MESSAGE that names nobody, by the stranger's id.
-    Begins(AssociationId, Entry<&'a [u8]>),
-    /// A message with a stranger's id.
-    Told(UeMessage<&'a [u8]>),
-    Each(Notice),
-}
-
-/// Whom an event reaches and calls, to be lent.
-#[derive(Drop)]
-pub(crate) struct Summoned<'a> {
-    pub reach: Reach<'a>,
-    pub calls: Calls<'a>,
-}
 
 /// What strangers are after an event, which they are not yet.
 #[derive(Drop)]

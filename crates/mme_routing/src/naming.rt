@@ -2,7 +2,7 @@
 
 ghost use Rattle.std.specs.Prelude.{◌≡◌};
 ghost use Rattle.nas_messages.specs.Messages.{lists};
-ghost use Rattle.mme_core.specs.Naming.{is_own, named_slot, slot_in, slot_of_guti, slot_of_identity, slot_of_s_tmsi};
+ghost use Rattle.mme_routing.specs.Naming.{is_own, named_slot, slot_in, slot_of_guti, slot_of_identity, slot_of_s_tmsi};
 
 use emm_machine::{Network, initial_octets};
 use identity_slots::{Provision, Slot, Tmsi};
@@ -79,7 +79,7 @@ struct Decoded<'a> {
 
 /// The slot that an INITIAL UE MESSAGE names by its NAS message and the S-TMSI beside it, or nobody's. Takes no memory.
 #[tactic(auto, unfolding(crate::specs::Naming::named_slot))]
-pub(crate) fn named_slot(
+pub fn named_slot(
     network: &Network,
     provision: &Provision,
     nas: &[u8],

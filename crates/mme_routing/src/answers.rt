@@ -2,7 +2,7 @@
 
 ghost use Rattle.std.specs.Prelude.{◌≡◌, ◌≤◌, ◌∷◌, [], IfOk, Ok, Err};
 ghost use Rattle.s1ap_messages.specs.Pdus.{lists};
-ghost use Rattle.mme_core.specs.Stations.{setup_response, setup_failure, indication, cause_of, cause_of_unknown};
+ghost use Rattle.mme_routing.specs.Outcomes.{setup_response, setup_failure, indication, cause_of, cause_of_unknown};
 
 use crate::config::Config;
 use per_bits::Items;

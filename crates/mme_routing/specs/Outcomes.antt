@@ -30,8 +30,8 @@ use Rattle.stranger_machine.specs.Machine.{Begins, Told, unknown}
 use Rattle.stranger_machine.specs.Table.{Reach, Nobody, Each}
 use Rattle.stranger_machine.specs.Table as table
 use Rattle.stranger_machine.specs.Turns.{said}
-use Rattle.mme_core.specs.declared.config.Config.{Config}
-use Rattle.mme_core.specs.Naming.{named_slot}
+use Rattle.mme_routing.specs.declared.config.Config.{Config}
+use Rattle.mme_routing.specs.Naming.{named_slot}
 
 -- ---- what the MME says to stations
 
@@ -76,23 +76,23 @@ pub data Calls : Type 0 where
   Everyone : Item → Calls
 
 -- the station's state, what it is told for itself, the strangers that are reached, and who is called
-pub record Heard : Type 0 where
+pub record Outcome : Type 0 where
   pub state : StationState
   pub sends : List Answer
   pub reach : Reach
   pub calls : Calls
 
-abbrev pub says : StationState → List Answer → Heard
-says state sends = record { state = state; sends = sends; reach = Nobody; calls = NoOne }
+abbrev pub answered : StationState → List Answer → Outcome
+answered state sends = record { state = state; sends = sends; reach = Nobody; calls = NoOne }
 
-abbrev pub calling : StationState → Calls → Heard
+abbrev pub calling : StationState → Calls → Outcome
 calling state calls = record { state = state; sends = []; reach = Nobody; calls = calls }
 
-abbrev pub reaching : StationState → Reach → Heard
+abbrev pub reaching : StationState → Reach → Outcome
 reaching state r = record { state = state; sends = []; reach = r; calls = NoOne }
 
 -- the associations of a station end, with what it is told
-abbrev pub begins_anew : ℕ → StationState → List Answer → Heard
+abbrev pub begins_anew : ℕ → StationState → List Answer → Outcome
 begins_anew e state sends = record { state = state; sends = sends; reach = Each (Gone e); calls = Everyone (StationGone e) }
 
 abbrev pub is_broadcast : List ℕ → List (List ℕ) → Bool
@@ -103,18 +103,18 @@ abbrev pub broadcasts : List ℕ → List SupportedTa → Bool
 broadcasts plmn tas = list_any (λ ta. is_broadcast plmn ta.plmns) tas
 
 -- S1 SETUP REQUEST: the station begins anew, whatever the answer
-abbrev pub set_up : Config → ℕ → List SupportedTa → Heard
+abbrev pub set_up : Config → ℕ → List SupportedTa → Outcome
 set_up config e tas =
     if broadcasts config.network.plmn tas
     then begins_anew e (Ready tas) (said e (setup_response config))
     else begins_anew e Up (said e setup_failure)
 
 -- a message that the state of the station doesn't take
-abbrev pub not_compatible : ℕ → StationState → Heard
-not_compatible e state = says state (said e (indication (Protocol MessageNotCompatible)))
+abbrev pub not_compatible : ℕ → StationState → Outcome
+not_compatible e state = answered state (said e (indication (Protocol MessageNotCompatible)))
 
 -- a reset of the whole interface, of a station that is set up (TS 36.413 clause 8.7.1)
-abbrev pub reset : ℕ → StationState → Heard
+abbrev pub reset : ℕ → StationState → Outcome
 reset e Down = not_compatible e Down
 reset e Up = not_compatible e Up
 reset e (Ready tas) = begins_anew e (Ready tas) (said e pdu.ResetAcknowledge)
@@ -122,58 +122,58 @@ reset e (Ready tas) = begins_anew e (Ready tas) (said e pdu.ResetAcknowledge)
 abbrev pub entry_of : ℕ → InitialUeMessage (List ℕ) → Entry (List ℕ)
 entry_of e m = record { station = e; enb_id = m.enb_id; nas = m.nas; tai = m.tai }
 
-abbrev pub entered : Option ℕ → ℕ → StationState → InitialUeMessage (List ℕ) → Heard
+abbrev pub entered : Option ℕ → ℕ → StationState → InitialUeMessage (List ℕ) → Outcome
 entered (Some slot) e state m = calling state (One slot (Initial (entry_of e m)))
 entered None e state m = reaching state (table.One (stranger_id e m.enb_id) (Begins (entry_of e m)))
 
 -- INITIAL UE MESSAGE, of a station that is set up
-abbrev pub enters : Config → List Profile → ℕ → StationState → InitialUeMessage (List ℕ) → Heard
+abbrev pub enters : Config → List Profile → ℕ → StationState → InitialUeMessage (List ℕ) → Outcome
 enters c ps e Down m = not_compatible e Down
 enters c ps e Up m = not_compatible e Up
 enters c ps e (Ready tas) m = entered (named_slot c.network ps m.nas m.s_tmsi) e (Ready tas) m
 
 -- a message with an id of a slot; one that isn't provisioned is nobody's
-abbrev pub told_slot : Option ℕ → StationState → UeMessage (List ℕ) → Heard
-told_slot (Some slot) state m = calling state (One slot (Message m))
-told_slot None state m = says state (unknown m.body m)
+abbrev pub message_of_slot : Option ℕ → StationState → UeMessage (List ℕ) → Outcome
+message_of_slot (Some slot) state m = calling state (One slot (Message m))
+message_of_slot None state m = answered state (unknown m.body m)
 
-abbrev pub told : List Profile → StationState → UeMessage (List ℕ) → Heard
-told ps state m = if nat_lt m.mme_id (2 ^ 31) then told_slot (slot_of_id m.mme_id ps) state m else reaching state (table.One m.mme_id (Told m))
+abbrev pub message_by_id : List Profile → StationState → UeMessage (List ℕ) → Outcome
+message_by_id ps state m = if nat_lt m.mme_id (2 ^ 31) then message_of_slot (slot_of_id m.mme_id ps) state m else reaching state (table.One m.mme_id (Told m))
 
 -- a message with an MME UE id, of a station that is set up
-abbrev pub tells : List Profile → StationState → UeMessage (List ℕ) → Heard
-tells ps Down m = not_compatible m.station Down
-tells ps Up m = not_compatible m.station Up
-tells ps (Ready tas) m = told ps (Ready tas) m
+abbrev pub phone_message : List Profile → StationState → UeMessage (List ℕ) → Outcome
+phone_message ps Down m = not_compatible m.station Down
+phone_message ps Up m = not_compatible m.station Up
+phone_message ps (Ready tas) m = message_by_id ps (Ready tas) m
 
 abbrev pub ue_message : ℕ → ℕ → ℕ → UeBody (List ℕ) → UeMessage (List ℕ)
 ue_message e mme_id enb_id body = record { station = e; mme_id = mme_id; enb_id = enb_id; body = body }
 
 -- what a station that is not down makes of the message that it sends
-abbrev pub hears_message : Config → List Profile → ℕ → StationState → Pdu (List ℕ) → Heard
-hears_message c ps e state (pdu.SetupRequest m) = set_up c e m.supported_tas
-hears_message c ps e state (pdu.Reset m) = reset e state
-hears_message c ps e state (pdu.ErrorIndication m) = says state []
-hears_message c ps e state pdu.ResetAcknowledge = says state []
-hears_message c ps e state (pdu.InitialUeMessage m) = enters c ps e state m
-hears_message c ps e state (pdu.UplinkNasTransport m) = tells ps state (ue_message e m.mme_id m.enb_id (Uplink m.nas m.tai))
-hears_message c ps e state (pdu.NasNonDelivery m) = tells ps state (ue_message e m.mme_id m.enb_id Notice)
-hears_message c ps e state (pdu.CapabilityInfo m) = tells ps state (ue_message e m.mme_id m.enb_id Notice)
-hears_message c ps e state (pdu.ContextSetupResponse m) = tells ps state (ue_message e m.mme_id m.enb_id Notice)
-hears_message c ps e state (pdu.ContextSetupFailure m) = tells ps state (ue_message e m.mme_id m.enb_id ContextSetupFailure)
-hears_message c ps e state (pdu.ReleaseRequest m) = tells ps state (ue_message e m.mme_id m.enb_id (ReleaseRequest m.cause))
-hears_message c ps e state (pdu.ReleaseComplete m) = tells ps state (ue_message e m.mme_id m.enb_id ReleaseComplete)
-hears_message c ps e state (pdu.PathSwitchRequest m) = tells ps state (ue_message e m.source_mme_id m.enb_id PathSwitch)
-hears_message c ps e state (pdu.SetupResponse m) = not_compatible e state
-hears_message c ps e state (pdu.SetupFailure m) = not_compatible e state
-hears_message c ps e state (pdu.DownlinkNasTransport m) = not_compatible e state
-hears_message c ps e state (pdu.ContextSetupRequest m) = not_compatible e state
-hears_message c ps e state (pdu.ReleaseCommand m) = not_compatible e state
-hears_message c ps e state (pdu.Paging m) = not_compatible e state
-hears_message c ps e state (pdu.PathSwitchAcknowledge m) = not_compatible e state
-hears_message c ps e state (pdu.PathSwitchFailure m) = not_compatible e state
+abbrev pub outcome_of_message : Config → List Profile → ℕ → StationState → Pdu (List ℕ) → Outcome
+outcome_of_message c ps e state (pdu.SetupRequest m) = set_up c e m.supported_tas
+outcome_of_message c ps e state (pdu.Reset m) = reset e state
+outcome_of_message c ps e state (pdu.ErrorIndication m) = answered state []
+outcome_of_message c ps e state pdu.ResetAcknowledge = answered state []
+outcome_of_message c ps e state (pdu.InitialUeMessage m) = enters c ps e state m
+outcome_of_message c ps e state (pdu.UplinkNasTransport m) = phone_message ps state (ue_message e m.mme_id m.enb_id (Uplink m.nas m.tai))
+outcome_of_message c ps e state (pdu.NasNonDelivery m) = phone_message ps state (ue_message e m.mme_id m.enb_id Notice)
+outcome_of_message c ps e state (pdu.CapabilityInfo m) = phone_message ps state (ue_message e m.mme_id m.enb_id Notice)
+outcome_of_message c ps e state (pdu.ContextSetupResponse m) = phone_message ps state (ue_message e m.mme_id m.enb_id Notice)
+outcome_of_message c ps e state (pdu.ContextSetupFailure m) = phone_message ps state (ue_message e m.mme_id m.enb_id ContextSetupFailure)
+outcome_of_message c ps e state (pdu.ReleaseRequest m) = phone_message ps state (ue_message e m.mme_id m.enb_id (ReleaseRequest m.cause))
+outcome_of_message c ps e state (pdu.ReleaseComplete m) = phone_message ps state (ue_message e m.mme_id m.enb_id ReleaseComplete)
+outcome_of_message c ps e state (pdu.PathSwitchRequest m) = phone_message ps state (ue_message e m.source_mme_id m.enb_id PathSwitch)
+outcome_of_message c ps e state (pdu.SetupResponse m) = not_compatible e state
+outcome_of_message c ps e state (pdu.SetupFailure m) = not_compatible e state
+outcome_of_message c ps e state (pdu.DownlinkNasTransport m) = not_compatible e state
+outcome_of_message c ps e state (pdu.ContextSetupRequest m) = not_compatible e state
+outcome_of_message c ps e state (pdu.ReleaseCommand m) = not_compatible e state
+outcome_of_message c ps e state (pdu.Paging m) = not_compatible e state
+outcome_of_message c ps e state (pdu.PathSwitchAcknowledge m) = not_compatible e state
+outcome_of_message c ps e state (pdu.PathSwitchFailure m) = not_compatible e state
 
 -- and of the octets
-abbrev pub hears : Config → List Profile → ℕ → StationState → Result (Pdu (List ℕ)) S1apFault → Heard
-hears c ps e state (Err fault) = says state (indicated e (cause_of fault))
-hears c ps e state (Ok m) = hears_message c ps e state m
+abbrev pub outcome_of : Config → List Profile → ℕ → StationState → Result (Pdu (List ℕ)) S1apFault → Outcome
+outcome_of c ps e state (Err fault) = answered state (indicated e (cause_of fault))
+outcome_of c ps e state (Ok m) = outcome_of_message c ps e state m

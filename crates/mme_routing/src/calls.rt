@@ -1,0 +1,31 @@
+//! Whom an event reaches and calls.
+
+use emm_machine::{Entry, SoloEvent, UeMessage};
+use identity_slots::{AssociationId, Slot};
+use stranger_machine::Notice;
+
+/// Who is told of an event, and what.
+#[derive(Drop)]
+pub enum Calls<'a> {
+    NoOne,
+    One(Slot, SoloEvent<'a>),
+    Everyone(SoloEvent<'a>),
+}
+
+/// The strangers that an event reaches, and what it is to them.
+#[derive(Drop)]
+pub enum Reach<'a> {
+    Nobody,
+    /// An INITIAL UE MESSAGE that names nobody, by the stranger's id.
+    Begins(AssociationId, Entry<&'a [u8]>),
+    /// A message with a stranger's id.
+    Told(UeMessage<&'a [u8]>),
+    Each(Notice),
+}
+
+/// Whom an event reaches and calls, to be lent.
+#[derive(Drop)]
+pub struct Summoned<'a> {
+    pub reach: Reach<'a>,
+    pub calls: Calls<'a>,
+}

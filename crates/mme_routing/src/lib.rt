@@ -1,0 +1,13 @@
+//! Where an event goes: what the MME makes of what a station sends, whom it names, which strangers it reaches and who is
+//! called with what (TS 36.413 clauses 8.6 and 8.7, TS 24.301 clause 5.3).
+#![tactic(auto)]
+
+mod answers;
+mod calls;
+mod config;
+mod outcome;
+mod naming;
+
+pub use calls::{Calls, Reach, Summoned};
+pub use config::Config;
+pub use outcome::{Outcome, outcome_of};
