@@ -21,7 +21,7 @@ use Rattle.stranger_machine.specs.Machine.{Told}
 use Rattle.stranger_machine.specs.Table.{Nobody, Reach, reached}
 use Rattle.stranger_machine.specs.Table as table
 use Rattle.stranger_machine.specs.Turns.{said}
-use Rattle.mme_routing.specs.declared.config.Config.{Config}
+use Rattle.emm_machine.specs.declared.network.Network.{Network}
 use Rattle.mme_core.specs.declared.event.Event.{Event}
 use Rattle.mme_core.specs.declared.event.Event.TheVariants.{Up as UpEvent, Lost as LostEvent, In as InEvent, Tick as TickEvent, Data as DataEvent, Cancel as CancelEvent}
 use Rattle.mme_core.specs.declared.event.StepFault.TheVariants.{NotUp}
@@ -99,11 +99,11 @@ named_entered : (o : Option ℕ) (e : ℕ) (state : StationState) (m : InitialUe
 named_entered None e state m slot up is = cc
 named_entered (Some n) e state m slot up is = called_in state n slot (Initial (entry_of e m)) up is
 
-named_enters : (c : Config) (ps : List Profile) (e : ℕ) (state : StationState) (m : InitialUeMessage (List ℕ)) (slot : ℕ)
-    → one_called (enters c ps e state m).calls ≡ Some slot → NamesIn state (enters c ps e state m) slot
-named_enters c ps e Down m slot is = cc
-named_enters c ps e Up m slot is = cc
-named_enters c ps e (Ready tas) m slot is = named_entered (named_slot c.network ps m.nas m.s_tmsi) e (Ready tas) m slot refl is
+named_enters : (n : Network) (ps : List Profile) (e : ℕ) (state : StationState) (m : InitialUeMessage (List ℕ)) (slot : ℕ)
+    → one_called (enters n ps e state m).calls ≡ Some slot → NamesIn state (enters n ps e state m) slot
+named_enters n ps e Down m slot is = cc
+named_enters n ps e Up m slot is = cc
+named_enters n ps e (Ready tas) m slot is = named_entered (named_slot n ps m.nas m.s_tmsi) e (Ready tas) m slot refl is
 
 named_told : (b : Bool) (o : Option ℕ) (r : Outcome) (state : StationState) (m : UeMessage (List ℕ)) (slot : ℕ) → if_down state (Some NotUp) None ≡ None → one_called r.calls ≡ None
     → one_called (if b then message_of_slot o state m else r).calls ≡ Some slot → NamesIn state (if b then message_of_slot o state m else r) slot
@@ -117,26 +117,26 @@ named_tells ps Up m slot is = cc
 named_tells ps (Ready tas) m slot is =
     named_told (nat_lt m.mme_id (2 ^ 31)) (slot_of_id m.mme_id ps) (reaching (Ready tas) (table.One m.mme_id (Told m))) (Ready tas) m slot refl refl is
 
-named_message : (c : Config) (ps : List Profile) (e : ℕ) (state : StationState) (m : Pdu (List ℕ)) (slot : ℕ)
-    → one_called (outcome_of_message c ps e state m).calls ≡ Some slot → NamesIn state (outcome_of_message c ps e state m) slot
-named_message c ps e state (pdu.SetupRequest m) slot is =
-    named_set_up (broadcasts c.network.plmn m.supported_tas) (begins_anew e (Ready m.supported_tas) (said e (setup_response c))) (begins_anew e Up (said e setup_failure)) state slot refl refl is
-named_message c ps e state (pdu.Reset m) slot is = named_reset e state slot is
-named_message c ps e state (pdu.InitialUeMessage m) slot is = named_enters c ps e state m slot is
-named_message c ps e state (pdu.UplinkNasTransport m) slot is = named_tells ps state (ue_message e m.mme_id m.enb_id (Uplink m.nas m.tai)) slot is
-named_message c ps e state (pdu.NasNonDelivery m) slot is = named_tells ps state (ue_message e m.mme_id m.enb_id Notice) slot is
-named_message c ps e state (pdu.CapabilityInfo m) slot is = named_tells ps state (ue_message e m.mme_id m.enb_id Notice) slot is
-named_message c ps e state (pdu.ContextSetupResponse m) slot is = named_tells ps state (ue_message e m.mme_id m.enb_id Notice) slot is
-named_message c ps e state (pdu.ContextSetupFailure m) slot is = named_tells ps state (ue_message e m.mme_id m.enb_id ContextSetupFailure) slot is
-named_message c ps e state (pdu.ReleaseRequest m) slot is = named_tells ps state (ue_message e m.mme_id m.enb_id (ReleaseRequest m.cause)) slot is
-named_message c ps e state (pdu.ReleaseComplete m) slot is = named_tells ps state (ue_message e m.mme_id m.enb_id ReleaseComplete) slot is
-named_message c ps e state (pdu.PathSwitchRequest m) slot is = named_tells ps state (ue_message e m.source_mme_id m.enb_id PathSwitch) slot is
-named_message c ps e state m slot is = cc
+named_message : (n : Network) (ps : List Profile) (e : ℕ) (state : StationState) (m : Pdu (List ℕ)) (slot : ℕ)
+    → one_called (outcome_of_message n ps e state m).calls ≡ Some slot → NamesIn state (outcome_of_message n ps e state m) slot
+named_message n ps e state (pdu.SetupRequest m) slot is =
+    named_set_up (broadcasts n.plmn m.supported_tas) (begins_anew e (Ready m.supported_tas) (said e (setup_response n))) (begins_anew e Up (said e setup_failure)) state slot refl refl is
+named_message n ps e state (pdu.Reset m) slot is = named_reset e state slot is
+named_message n ps e state (pdu.InitialUeMessage m) slot is = named_enters n ps e state m slot is
+named_message n ps e state (pdu.UplinkNasTransport m) slot is = named_tells ps state (ue_message e m.mme_id m.enb_id (Uplink m.nas m.tai)) slot is
+named_message n ps e state (pdu.NasNonDelivery m) slot is = named_tells ps state (ue_message e m.mme_id m.enb_id Notice) slot is
+named_message n ps e state (pdu.CapabilityInfo m) slot is = named_tells ps state (ue_message e m.mme_id m.enb_id Notice) slot is
+named_message n ps e state (pdu.ContextSetupResponse m) slot is = named_tells ps state (ue_message e m.mme_id m.enb_id Notice) slot is
+named_message n ps e state (pdu.ContextSetupFailure m) slot is = named_tells ps state (ue_message e m.mme_id m.enb_id ContextSetupFailure) slot is
+named_message n ps e state (pdu.ReleaseRequest m) slot is = named_tells ps state (ue_message e m.mme_id m.enb_id (ReleaseRequest m.cause)) slot is
+named_message n ps e state (pdu.ReleaseComplete m) slot is = named_tells ps state (ue_message e m.mme_id m.enb_id ReleaseComplete) slot is
+named_message n ps e state (pdu.PathSwitchRequest m) slot is = named_tells ps state (ue_message e m.source_mme_id m.enb_id PathSwitch) slot is
+named_message n ps e state m slot is = cc
 
-named_heard : (c : Config) (ps : List Profile) (e : ℕ) (state : StationState) (r : Result (Pdu (List ℕ)) S1apFault) (slot : ℕ)
-    → one_called (outcome_of c ps e state r).calls ≡ Some slot → NamesIn state (outcome_of c ps e state r) slot
-named_heard c ps e state (Err fault) slot is = cc
-named_heard c ps e state (Ok m) slot is = named_message c ps e state m slot is
+named_heard : (n : Network) (ps : List Profile) (e : ℕ) (state : StationState) (r : Result (Pdu (List ℕ)) S1apFault) (slot : ℕ)
+    → one_called (outcome_of n ps e state r).calls ≡ Some slot → NamesIn state (outcome_of n ps e state r) slot
+named_heard n ps e state (Err fault) slot is = cc
+named_heard n ps e state (Ok m) slot is = named_message n ps e state m slot is
 
 -- ---- an event that names a slot
 
@@ -160,7 +160,7 @@ unfolding happens
 names s (UpEvent e) slot is = cc
 names s (LostEvent e) slot is = cc
 names s (InEvent e octets) slot is =
-    let n = named_heard s.config s.profiles e (station_at s.stations e) (decoded octets.now) slot is in
+    let n = named_heard s.config.network s.profiles e (station_at s.stations e) (decoded octets.now) slot is in
     record {
       accepted = n.accepted;
       silent = n.silent;

@@ -16,7 +16,7 @@ use Rattle.emm_machine.specs.declared.stations.StationState.TheVariants.{Ready}
 use Rattle.emm_machine.specs.Steps.{Cancel, Data, Item}
 use Rattle.stranger_machine.specs.Machine.{Told}
 use Rattle.stranger_machine.specs.Table as table
-use Rattle.mme_routing.specs.declared.config.Config.{Config}
+use Rattle.emm_machine.specs.declared.network.Network.{Network}
 use Rattle.mme_core.specs.Laws.{NamedById, NamedByIdentity, NamedByImsi, id_in, one_called}
 use Rattle.mme_routing.specs.Naming.{named_slot}
 use Rattle.mme_routing.specs.Outcomes.{Outcome, entered, outcome_of, outcome_of_message, reaching, phone_message, message_of_slot, ue_message}
@@ -37,8 +37,8 @@ entered_named (Some slot) e state m = refl
 pub named_by_identity : NamedByIdentity
 unfolding happens
 named_by_identity s e octets tas m ready is =
-    ap (λ state. one_called (outcome_of s.config s.profiles e state (decoded octets.now)).calls) ready
-    ∙ ap (λ r. one_called (outcome_of s.config s.profiles e (Ready tas) r).calls) is
+    ap (λ state. one_called (outcome_of s.config.network s.profiles e state (decoded octets.now)).calls) ready
+    ∙ ap (λ r. one_called (outcome_of s.config.network s.profiles e (Ready tas) r).calls) is
     ∙ entered_named (named_slot s.config.network s.profiles m.nas m.s_tmsi) e (Ready tas) m
 
 -- a low id, with or without a slot
@@ -58,21 +58,21 @@ told_named ps e tas mme_id enb_id body id is =
     let same : mme_id ≡ id = cc in
     tells_named ps tas (ue_message e mme_id enb_id body) ∙ ap (λ n. slot_of_id n ps) same
 
-heard_named : (c : Config) (ps : List Profile) (e : ℕ) (tas : List SupportedTa) (m : Pdu (List ℕ)) (id : ℕ) → id_in m ≡ Some id
-    → one_called (outcome_of_message c ps e (Ready tas) m).calls ≡ slot_of_id id ps
-heard_named c ps e tas (pdu.UplinkNasTransport m) id is = told_named ps e tas m.mme_id m.enb_id (Uplink m.nas m.tai) id is
-heard_named c ps e tas (pdu.NasNonDelivery m) id is = told_named ps e tas m.mme_id m.enb_id Notice id is
-heard_named c ps e tas (pdu.CapabilityInfo m) id is = told_named ps e tas m.mme_id m.enb_id Notice id is
-heard_named c ps e tas (pdu.ContextSetupResponse m) id is = told_named ps e tas m.mme_id m.enb_id Notice id is
-heard_named c ps e tas (pdu.ContextSetupFailure m) id is = told_named ps e tas m.mme_id m.enb_id ContextSetupFailure id is
-heard_named c ps e tas (pdu.ReleaseRequest m) id is = told_named ps e tas m.mme_id m.enb_id (ReleaseRequest m.cause) id is
-heard_named c ps e tas (pdu.ReleaseComplete m) id is = told_named ps e tas m.mme_id m.enb_id ReleaseComplete id is
-heard_named c ps e tas (pdu.PathSwitchRequest m) id is = told_named ps e tas m.source_mme_id m.enb_id PathSwitch id is
-heard_named c ps e tas m id is = cc
+heard_named : (n : Network) (ps : List Profile) (e : ℕ) (tas : List SupportedTa) (m : Pdu (List ℕ)) (id : ℕ) → id_in m ≡ Some id
+    → one_called (outcome_of_message n ps e (Ready tas) m).calls ≡ slot_of_id id ps
+heard_named n ps e tas (pdu.UplinkNasTransport m) id is = told_named ps e tas m.mme_id m.enb_id (Uplink m.nas m.tai) id is
+heard_named n ps e tas (pdu.NasNonDelivery m) id is = told_named ps e tas m.mme_id m.enb_id Notice id is
+heard_named n ps e tas (pdu.CapabilityInfo m) id is = told_named ps e tas m.mme_id m.enb_id Notice id is
+heard_named n ps e tas (pdu.ContextSetupResponse m) id is = told_named ps e tas m.mme_id m.enb_id Notice id is
+heard_named n ps e tas (pdu.ContextSetupFailure m) id is = told_named ps e tas m.mme_id m.enb_id ContextSetupFailure id is
+heard_named n ps e tas (pdu.ReleaseRequest m) id is = told_named ps e tas m.mme_id m.enb_id (ReleaseRequest m.cause) id is
+heard_named n ps e tas (pdu.ReleaseComplete m) id is = told_named ps e tas m.mme_id m.enb_id ReleaseComplete id is
+heard_named n ps e tas (pdu.PathSwitchRequest m) id is = told_named ps e tas m.source_mme_id m.enb_id PathSwitch id is
+heard_named n ps e tas m id is = cc
 
 pub named_by_id : NamedById
 unfolding happens
 named_by_id s e octets tas m id ready is has =
-    ap (λ state. one_called (outcome_of s.config s.profiles e state (decoded octets.now)).calls) ready
-    ∙ ap (λ r. one_called (outcome_of s.config s.profiles e (Ready tas) r).calls) is
-    ∙ heard_named s.config s.profiles e tas m id has
+    ap (λ state. one_called (outcome_of s.config.network s.profiles e state (decoded octets.now)).calls) ready
+    ∙ ap (λ r. one_called (outcome_of s.config.network s.profiles e (Ready tas) r).calls) is
+    ∙ heard_named s.config.network s.profiles e tas m id has

@@ -2,7 +2,7 @@
 use Rattle.std.specs.Prelude.{ℕ, List}
 use Rattle.identity_slots.specs.declared.profile.Profile.{Profile}
 use Rattle.emm_machine.specs.declared.stations.StationState.{StationState}
-use Rattle.mme_routing.specs.declared.config.Config.{Config}
+use Rattle.mme_core.specs.declared.config.Config.{Config}
 
 pub record Sight : Type 0 where
   pub config : Config

@@ -21,7 +21,7 @@ use Rattle.stranger_machine.specs.Machine.{notes, stranger_step}
 use Rattle.stranger_machine.specs.Table.{Reach, Nobody, Each, reached, stranger_at}
 use Rattle.stranger_machine.specs.Table as table
 use Rattle.stranger_machine.specs.Turns.{Call}
-use Rattle.mme_routing.specs.declared.config.Config.{Config}
+use Rattle.mme_core.specs.declared.config.Config.{Config}
 use Rattle.mme_core.specs.declared.event.Event.{Event}
 use Rattle.mme_core.specs.declared.event.Event.TheVariants.{Up as UpEvent, Lost as LostEvent, In as InEvent, Tick as TickEvent, Data as DataEvent, Cancel as CancelEvent}
 use Rattle.mme_core.specs.declared.event.StepFault.{StepFault}
@@ -77,7 +77,7 @@ one_if (Some slot) item = One slot item
 unfoldable pub happens : Sight → Event → Outcome
 happens s (UpEvent e) = answered Up []
 happens s (LostEvent e) = begins_anew e Down []
-happens s (InEvent e octets) = outcome_of s.config s.profiles e (station_at s.stations e) (decoded octets.now)
+happens s (InEvent e octets) = outcome_of s.config.network s.profiles e (station_at s.stations e) (decoded octets.now)
 happens s TickEvent = record { state = Down; sends = []; reach = Each notices.Tick; calls = Everyone Tick }
 happens s (DataEvent imsi) = calling Down (one_if (slot_of_imsi imsi s.profiles) (Data s.stations))
 happens s (CancelEvent imsi) = calling Down (one_if (slot_of_imsi imsi s.profiles) Cancel)

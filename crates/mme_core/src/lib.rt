@@ -5,6 +5,7 @@
 #![tactic(auto)]
 
 mod changes;
+mod config;
 mod event;
 mod laws;
 mod mme;
@@ -14,6 +15,7 @@ mod provisioning;
 mod sending;
 mod settling;
 
+pub use config::Config;
 pub use event::{Event, StepFault};
 pub use laws::{exchanges, names_slot, one_output, same_to_slot};
 pub use mme::Mme;

@@ -16,6 +16,7 @@ ghost use Rattle.mme_core.specs.Short.{AreShort};
 ghost use Rattle.mme_core.specs.World.{called, calls_by, each_after, each_sends, fresh_world, given, replies, reply, station_sends, strangers_in, strangers_send, taken, world_after, world_run};
 
 use crate::changes::{Change, Prepared, Turned};
+use crate::config::Config;
 use crate::event::{Event, StepFault};
 use crate::out::Outs;
 use crate::preparing::{prepare_called, turn};
@@ -24,7 +25,7 @@ use crate::sending::station_outs;
 use crate::settling::{settle, settle_station, settle_strangers};
 use emm_machine::{Answers, EnbWorld, SoloEvent, States, StationNumber, StationState, Subscriber};
 use identity_slots::{Provision, Slot};
-use mme_routing::{Calls, Config, Outcome, Reach, Summoned, outcome_of};
+use mme_routing::{Calls, Outcome, Reach, Summoned, outcome_of};
 use nas_elements::Imsi;
 use std::alloc::{AllocError, Global};
 use std::marker::Model;

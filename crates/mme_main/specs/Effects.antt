@@ -7,7 +7,7 @@ use Rattle.identity_slots.specs.Provisioned.{Provisioned, add_fault, slot_of_ims
 use Rattle.emm_machine.specs.declared.subscriber.States.{States}
 use Rattle.mme_core.specs.World.{World, fresh_world, reply, world_after}
 use Rattle.mme_core.specs.Projection.{states_at}
-use Rattle.mme_routing.specs.declared.config.Config.{Config}
+use Rattle.mme_core.specs.declared.config.Config.{Config}
 use Rattle.mme_core.specs.declared.event.Event.{Event}
 use Rattle.mme_core.specs.declared.event.Event.TheVariants as event
 use Rattle.mme_core.specs.declared.event.StepFault.{StepFault}

@@ -30,17 +30,16 @@ use Rattle.stranger_machine.specs.Machine.{Begins, Told, unknown}
 use Rattle.stranger_machine.specs.Table.{Reach, Nobody, Each}
 use Rattle.stranger_machine.specs.Table as table
 use Rattle.stranger_machine.specs.Turns.{said}
-use Rattle.mme_routing.specs.declared.config.Config.{Config}
 use Rattle.mme_routing.specs.Naming.{named_slot}
 
 -- ---- what the MME says to stations
 
 -- the one network, group and code of the MME
-abbrev pub served_gummei : Config → ServedGummei
-served_gummei config = record { plmns = config.network.plmn ∷ []; groups = config.network.group ∷ []; codes = config.network.code ∷ [] }
+abbrev pub served_gummei : Network → ServedGummei
+served_gummei network = record { plmns = network.plmn ∷ []; groups = network.group ∷ []; codes = network.code ∷ [] }
 
-abbrev pub setup_response : Config → Pdu (List ℕ)
-setup_response config = pdu.SetupResponse (record { served_gummeis = served_gummei config ∷ []; capacity = 255 })
+abbrev pub setup_response : Network → Pdu (List ℕ)
+setup_response network = pdu.SetupResponse (record { served_gummeis = served_gummei network ∷ []; capacity = 255 })
 
 abbrev pub setup_failure : Pdu (List ℕ)
 setup_failure = pdu.SetupFailure (record { cause = Misc UnknownPlmn })
@@ -103,10 +102,10 @@ abbrev pub broadcasts : List ℕ → List SupportedTa → Bool
 broadcasts plmn tas = list_any (λ ta. is_broadcast plmn ta.plmns) tas
 
 -- S1 SETUP REQUEST: the station begins anew, whatever the answer
-abbrev pub set_up : Config → ℕ → List SupportedTa → Outcome
-set_up config e tas =
-    if broadcasts config.network.plmn tas
-    then begins_anew e (Ready tas) (said e (setup_response config))
+abbrev pub set_up : Network → ℕ → List SupportedTa → Outcome
+set_up network e tas =
+    if broadcasts network.plmn tas
+    then begins_anew e (Ready tas) (said e (setup_response network))
     else begins_anew e Up (said e setup_failure)
 
 -- a message that the state of the station doesn't take
@@ -127,10 +126,10 @@ entered (Some slot) e state m = calling state (One slot (Initial (entry_of e m))
 entered None e state m = reaching state (table.One (stranger_id e m.enb_id) (Begins (entry_of e m)))
 
 -- INITIAL UE MESSAGE, of a station that is set up
-abbrev pub enters : Config → List Profile → ℕ → StationState → InitialUeMessage (List ℕ) → Outcome
-enters c ps e Down m = not_compatible e Down
-enters c ps e Up m = not_compatible e Up
-enters c ps e (Ready tas) m = entered (named_slot c.network ps m.nas m.s_tmsi) e (Ready tas) m
+abbrev pub enters : Network → List Profile → ℕ → StationState → InitialUeMessage (List ℕ) → Outcome
+enters n ps e Down m = not_compatible e Down
+enters n ps e Up m = not_compatible e Up
+enters n ps e (Ready tas) m = entered (named_slot n ps m.nas m.s_tmsi) e (Ready tas) m
 
 -- a message with an id of a slot; one that isn't provisioned is nobody's
 abbrev pub message_of_slot : Option ℕ → StationState → UeMessage (List ℕ) → Outcome
@@ -150,30 +149,30 @@ abbrev pub ue_message : ℕ → ℕ → ℕ → UeBody (List ℕ) → UeMessage 
 ue_message e mme_id enb_id body = record { station = e; mme_id = mme_id; enb_id = enb_id; body = body }
 
 -- what a station that is not down makes of the message that it sends
-abbrev pub outcome_of_message : Config → List Profile → ℕ → StationState → Pdu (List ℕ) → Outcome
-outcome_of_message c ps e state (pdu.SetupRequest m) = set_up c e m.supported_tas
-outcome_of_message c ps e state (pdu.Reset m) = reset e state
-outcome_of_message c ps e state (pdu.ErrorIndication m) = answered state []
-outcome_of_message c ps e state pdu.ResetAcknowledge = answered state []
-outcome_of_message c ps e state (pdu.InitialUeMessage m) = enters c ps e state m
-outcome_of_message c ps e state (pdu.UplinkNasTransport m) = phone_message ps state (ue_message e m.mme_id m.enb_id (Uplink m.nas m.tai))
-outcome_of_message c ps e state (pdu.NasNonDelivery m) = phone_message ps state (ue_message e m.mme_id m.enb_id Notice)
-outcome_of_message c ps e state (pdu.CapabilityInfo m) = phone_message ps state (ue_message e m.mme_id m.enb_id Notice)
-outcome_of_message c ps e state (pdu.ContextSetupResponse m) = phone_message ps state (ue_message e m.mme_id m.enb_id Notice)
-outcome_of_message c ps e state (pdu.ContextSetupFailure m) = phone_message ps state (ue_message e m.mme_id m.enb_id ContextSetupFailure)
-outcome_of_message c ps e state (pdu.ReleaseRequest m) = phone_message ps state (ue_message e m.mme_id m.enb_id (ReleaseRequest m.cause))
-outcome_of_message c ps e state (pdu.ReleaseComplete m) = phone_message ps state (ue_message e m.mme_id m.enb_id ReleaseComplete)
-outcome_of_message c ps e state (pdu.PathSwitchRequest m) = phone_message ps state (ue_message e m.source_mme_id m.enb_id PathSwitch)
-outcome_of_message c ps e state (pdu.SetupResponse m) = not_compatible e state
-outcome_of_message c ps e state (pdu.SetupFailure m) = not_compatible e state
-outcome_of_message c ps e state (pdu.DownlinkNasTransport m) = not_compatible e state
-outcome_of_message c ps e state (pdu.ContextSetupRequest m) = not_compatible e state
-outcome_of_message c ps e state (pdu.ReleaseCommand m) = not_compatible e state
-outcome_of_message c ps e state (pdu.Paging m) = not_compatible e state
-outcome_of_message c ps e state (pdu.PathSwitchAcknowledge m) = not_compatible e state
-outcome_of_message c ps e state (pdu.PathSwitchFailure m) = not_compatible e state
+abbrev pub outcome_of_message : Network → List Profile → ℕ → StationState → Pdu (List ℕ) → Outcome
+outcome_of_message n ps e state (pdu.SetupRequest m) = set_up n e m.supported_tas
+outcome_of_message n ps e state (pdu.Reset m) = reset e state
+outcome_of_message n ps e state (pdu.ErrorIndication m) = answered state []
+outcome_of_message n ps e state pdu.ResetAcknowledge = answered state []
+outcome_of_message n ps e state (pdu.InitialUeMessage m) = enters n ps e state m
+outcome_of_message n ps e state (pdu.UplinkNasTransport m) = phone_message ps state (ue_message e m.mme_id m.enb_id (Uplink m.nas m.tai))
+outcome_of_message n ps e state (pdu.NasNonDelivery m) = phone_message ps state (ue_message e m.mme_id m.enb_id Notice)
+outcome_of_message n ps e state (pdu.CapabilityInfo m) = phone_message ps state (ue_message e m.mme_id m.enb_id Notice)
+outcome_of_message n ps e state (pdu.ContextSetupResponse m) = phone_message ps state (ue_message e m.mme_id m.enb_id Notice)
+outcome_of_message n ps e state (pdu.ContextSetupFailure m) = phone_message ps state (ue_message e m.mme_id m.enb_id ContextSetupFailure)
+outcome_of_message n ps e state (pdu.ReleaseRequest m) = phone_message ps state (ue_message e m.mme_id m.enb_id (ReleaseRequest m.cause))
+outcome_of_message n ps e state (pdu.ReleaseComplete m) = phone_message ps state (ue_message e m.mme_id m.enb_id ReleaseComplete)
+outcome_of_message n ps e state (pdu.PathSwitchRequest m) = phone_message ps state (ue_message e m.source_mme_id m.enb_id PathSwitch)
+outcome_of_message n ps e state (pdu.SetupResponse m) = not_compatible e state
+outcome_of_message n ps e state (pdu.SetupFailure m) = not_compatible e state
+outcome_of_message n ps e state (pdu.DownlinkNasTransport m) = not_compatible e state
+outcome_of_message n ps e state (pdu.ContextSetupRequest m) = not_compatible e state
+outcome_of_message n ps e state (pdu.ReleaseCommand m) = not_compatible e state
+outcome_of_message n ps e state (pdu.Paging m) = not_compatible e state
+outcome_of_message n ps e state (pdu.PathSwitchAcknowledge m) = not_compatible e state
+outcome_of_message n ps e state (pdu.PathSwitchFailure m) = not_compatible e state
 
 -- and of the octets
-abbrev pub outcome_of : Config → List Profile → ℕ → StationState → Result (Pdu (List ℕ)) S1apFault → Outcome
-outcome_of c ps e state (Err fault) = answered state (indicated e (cause_of fault))
-outcome_of c ps e state (Ok m) = outcome_of_message c ps e state m
+abbrev pub outcome_of : Network → List Profile → ℕ → StationState → Result (Pdu (List ℕ)) S1apFault → Outcome
+outcome_of n ps e state (Err fault) = answered state (indicated e (cause_of fault))
+outcome_of n ps e state (Ok m) = outcome_of_message n ps e state m

@@ -4,7 +4,6 @@ ghost use Rattle.std.specs.Prelude.{◌≡◌, ◌≤◌, ◌∷◌, [], IfOk, O
 ghost use Rattle.s1ap_messages.specs.Pdus.{lists};
 ghost use Rattle.mme_routing.specs.Outcomes.{setup_response, setup_failure, indication, cause_of, cause_of_unknown};
 
-use crate::config::Config;
 use per_bits::Items;
 use s1ap_elements::{
     Cause, MiscCause, MmeCode, MmeGroup, Plmn, ProtocolCause, RelativeCapacity, ServedGummei,
@@ -37,13 +36,13 @@ fn whole_capacity() -> RelativeCapacity
 }
 
 /// S1 SETUP RESPONSE with the one network, group and code (TS 36.413 clause 8.7.3.2).
-pub fn setup_response<'a>(alloc: Global, config: &Config) -> Result<S1apPdu<'a>, AllocError>
-    ensures { IfOk result (λ m. lists m ≡ setup_response config.now) }
+pub fn setup_response<'a>(alloc: Global, network: &Network) -> Result<S1apPdu<'a>, AllocError>
+    ensures { IfOk result (λ m. lists m ≡ setup_response network.now) }
 {
     let gummei = ServedGummei {
-        plmns: only::<Plmn, 32>(alloc, config.network.plmn)?,
-        groups: only::<MmeGroup, 65535>(alloc, config.network.group)?,
-        codes: only::<MmeCode, 256>(alloc, config.network.code)?,
+        plmns: only::<Plmn, 32>(alloc, network.plmn)?,
+        groups: only::<MmeGroup, 65535>(alloc, network.group)?,
+        codes: only::<MmeCode, 256>(alloc, network.code)?,
     };
     let served_gummeis = only::<ServedGummei, 8>(alloc, gummei)?;
     Ok(Pdu::SetupResponse(SetupResponse {

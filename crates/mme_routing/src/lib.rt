@@ -4,10 +4,8 @@
 
 mod answers;
 mod calls;
-mod config;
-mod outcome;
 mod naming;
+mod outcome;
 
 pub use calls::{Calls, Reach, Summoned};
-pub use config::Config;
 pub use outcome::{Outcome, outcome_of};

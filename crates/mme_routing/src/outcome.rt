@@ -11,7 +11,6 @@ ghost use Rattle.mme_routing.specs.Outcomes.{begins_anew, broadcasts, cause_of, 
 
 use crate::answers::{cause_of, indication, setup_failure, setup_response};
 use crate::calls::{Calls, Reach};
-use crate::config::Config;
 use crate::naming::named_slot;
 use emm_machine::{Answers, Entry, SoloEvent, StationNumber, StationState, UeBody, UeMessage};
 use identity_slots::{AssociationId, Provision};
@@ -102,11 +101,11 @@ fn is_broadcast(plmn: Plmn, plmns: &[Plmn]) -> bool
 
 fn hears_setup<'a>(
     alloc: Global,
-    config: &Config,
+    network: &Network,
     station: StationNumber,
     request: SetupRequest<&[u8]>,
 ) -> Result<Outcome<'a>, AllocError>
-    ensures { IfOk result (λ h. (state : StationState) (stations : List StationState) → seen state stations h ≡ set_up config.now station request.entry.supported_tas) }
+    ensures { IfOk result (λ h. (state : StationState) (stations : List StationState) → seen state stations h ≡ set_up network.now station request.entry.supported_tas) }
 {
     let SetupRequest {
         station: _,
@@ -114,8 +113,8 @@ fn hears_setup<'a>(
         supported_tas,
         paging_drx: _,
     } = request;
-    if broadcasts(config.network.plmn, supported_tas.as_slice()) {
-        let sends = saying(alloc, station, &setup_response(alloc, config)?)?;
+    if broadcasts(network.plmn, supported_tas.as_slice()) {
+        let sends = saying(alloc, station, &setup_response(alloc, network)?)?;
         let ready = StationState::Ready(supported_tas);
         Ok(begins_anew(station, Some(ready), sends))
     } else {
@@ -149,14 +148,14 @@ fn stranger_id(station: StationNumber, enb_id: EnbUeId) -> AssociationId
 
 fn enters<'a>(
     alloc: Global,
-    config: &Config,
+    network: &Network,
     provision: &Provision,
     station: StationNumber,
     state: &StationState,
     message: InitialUeMessage<&'a [u8]>,
 ) -> Result<Outcome<'a>, AllocError>
     ensures { IfOk result (λ h. (stations : List StationState) → seen state.now stations h
-        ≡ enters config.now provision.now.profiles station state.now (initial_ue_message_lists message.entry)) }
+        ≡ enters network.now provision.now.profiles station state.now (initial_ue_message_lists message.entry)) }
 {
     match state {
         StationState::Down | StationState::Up => hears_not_compatible(alloc, station),
@@ -167,7 +166,7 @@ fn enters<'a>(
                 nas: message.nas,
                 tai: message.tai,
             };
-            match named_slot(&config.network, provision, message.nas, message.s_tmsi) {
+            match named_slot(network, provision, message.nas, message.s_tmsi) {
                 Some(slot) => Ok(Outcome {
                     state: None,
                     says: Answers::new(alloc),
@@ -273,20 +272,20 @@ fn phone_message_of<'a>(
 
 fn outcome_of_message<'a>(
     alloc: Global,
-    config: &Config,
+    network: &Network,
     provision: &Provision,
     station: StationNumber,
     state: &StationState,
     message: S1apPdu<'a>,
 ) -> Result<Outcome<'a>, AllocError>
     ensures { IfOk result (λ h. (stations : List StationState) → seen state.now stations h
-        ≡ outcome_of_message config.now provision.now.profiles station state.now (lists message.entry)) }
+        ≡ outcome_of_message network.now provision.now.profiles station state.now (lists message.entry)) }
 {
     match message {
-        Pdu::SetupRequest(m) => hears_setup(alloc, config, station, m),
+        Pdu::SetupRequest(m) => hears_setup(alloc, network, station, m),
         Pdu::Reset(_) => hears_reset(alloc, station, state),
         Pdu::ErrorIndication(_) | Pdu::ResetAcknowledge => Ok(answered(Answers::new(alloc))),
-        Pdu::InitialUeMessage(m) => enters(alloc, config, provision, station, state, m),
+        Pdu::InitialUeMessage(m) => enters(alloc, network, provision, station, state, m),
         Pdu::UplinkNasTransport(m) => {
             let body = UeBody::Uplink {
                 nas: m.nas,
@@ -365,17 +364,17 @@ fn outcome_of_message<'a>(
 /// What the octets make of a station in that state, and whom they call.
 pub fn outcome_of<'a>(
     alloc: Global,
-    config: &Config,
+    network: &Network,
     provision: &Provision,
     station: StationNumber,
     state: &StationState,
     octets: &'a [u8],
 ) -> Result<Outcome<'a>, AllocError>
     ensures { IfOk result (λ h. (stations : List StationState) → seen state.now stations h
-        ≡ outcome_of config.now provision.now.profiles station state.now (decoded octets.entry.now)) }
+        ≡ outcome_of network.now provision.now.profiles station state.now (decoded octets.entry.now)) }
 {
     match decode(alloc, octets) {
-        Ok(message) => outcome_of_message(alloc, config, provision, station, state, message),
+        Ok(message) => outcome_of_message(alloc, network, provision, station, state, message),
         Err(fault) => hears_fault(alloc, station, fault),
     }
 }

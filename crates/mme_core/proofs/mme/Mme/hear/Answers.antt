@@ -23,7 +23,7 @@ returns c =
     let is : h ≡ happens w.sight e =
     subst (λ (v : World). seen (station_at v.sight.stations c.args.station) v.sight.stations x ≡ happens v.sight e) c.self.view_is
     (ap (λ s. seen s v.sight.stations x) (sym c.get-state.ensures) ∙ c.in_ok-state.ensures v.sight.stations
-    ∙ ap (λ s. outcome_of v.sight.config v.sight.profiles c.args.station s (decoded c.args.octets.now)) c.get-state.ensures) in
+    ∙ ap (λ s. outcome_of v.sight.config.network v.sight.profiles c.args.station s (decoded c.args.octets.now)) c.get-state.ensures) in
     record {
       reply = reply_ready w e h c.ready.result fine is c.ready.ensures.sent;
       after = after_ready w e h (record { station = Some c.args.station; state = x.state; clock = c.self.inside.clock }) c.ready.result fine is
