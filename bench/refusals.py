@@ -3,7 +3,7 @@
 
     refusals.py SHIM MME [ROW ..]
 
-SHIM is refuse.c built as a library, MME the program `mme_main`; a ROW is the path of a trace beside its answers, or the name of
+SHIM is refuse.c built as a library, MME the program `mme`; a ROW is the path of a trace beside its answers, or the name of
 one in tests/rows. crates/refusals holds the program of refusals.rt.txt, which makes a refused call again. It is built once by
 `rt try --fail-alloc`, unproved and with every access checked; the number of the refused allocation stands in what is built as a
 constant, which is then set for each run. For each allocation of each row:

@@ -1,24 +1,12 @@
 //! Plays a trace from a file or standard input to standard output.
 #![tactic(auto)]
 
-mod acts;
-mod answers;
-mod command;
-mod fault;
-mod play;
-mod player;
-mod progress;
-mod watched;
-
-use command::{Choice, CommandFault, command};
-use fault::PlayFault;
-use play::run_play;
+use mme_main::{Choice, CommandFault, PlayFault, Watched, command, run_play};
 use std::alloc::{AllocError, Global};
 use std::env;
 use std::fs::File;
 use std::io::{BufWriter, ErrorKind, Read, Write};
 use std::process::ExitCode;
-use watched::Watched;
 
 /// The first word of each command line, as usage texts show it.
 const NAME: &str = "mme";
@@ -83,6 +71,3 @@ fn ended(rt: &impl Eprint, outcome: Result<(), PlayFault>) -> ExitCode {
     let _ = rt.eprintln(format_args!("{NAME}: {fault}"));
     ExitCode::from(fault.status())
 }
-
-#[cfg(test)]
-mod tests;
