@@ -1,4 +1,4 @@
-//! Plays a trace from a file or standard input to standard output.
+//! The program `mme`: plays a trace from a file or standard input to standard output.
 #![tactic(auto)]
 
 use mme_main::{Choice, CommandFault, PlayFault, Watched, command, run_play};
@@ -16,7 +16,7 @@ fn main(rt: HostRuntime) -> ExitCode {
     let args = match env::args(&rt) {
         Ok(args) => args,
         Err(error) if error.kind() == ErrorKind::OutOfMemory => return out_of_memory(&rt),
-        Err(_) => return ExitCode::from(2),
+        Err(_) => return not_a_text(&rt),
     };
     let Ok(given) = args.collect::<Vec<String>>(alloc) else {
         return out_of_memory(&rt);
@@ -46,6 +46,12 @@ fn words_of(alloc: Global, given: &[String]) -> Result<Vec<&str>, AllocError> {
         words.push(word.as_str())?;
     }
     Ok(words)
+}
+
+/// A word of the command line that isn't UTF-8 can't be had as a path, so the command line is refused.
+fn not_a_text(rt: &impl Eprint) -> ExitCode {
+    let _ = rt.eprintln(format_args!("{NAME}: a word of the command line isn't UTF-8"));
+    ExitCode::from(2)
 }
 
 fn out_of_memory(rt: &impl Eprint) -> ExitCode {
