@@ -1,8 +1,8 @@
 -- What strangers and subscribers are once what was prepared for an event is settled.
 use Rattle.std.specs.Prelude.{◌+◌, ◌<◌, ℕ, if◌then◌else◌, slice_get, slice_set, List, [], ◌∷◌, length}
 use Rattle.std.specs.Option.{option_map_or}
-use Rattle.emm_machine.specs.declared.solo.Solo.{Solo}
-use Rattle.emm_machine.specs.Steps.{Item}
+use Rattle.emm_state.specs.declared.solo.Solo.{Solo}
+use Rattle.mme_vocabulary.specs.Events.{Item}
 use Rattle.emm_machine.specs.Still.{still}
 use Rattle.emm_machine.specs.Whole.{Whole}
 use Rattle.stranger_machine.specs.declared.table.Known.{Known}

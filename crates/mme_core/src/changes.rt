@@ -1,6 +1,6 @@
 //! What an event leads to, before it is taken.
 
-use emm_machine::Solo;
+use emm_state::Solo;
 use identity_slots::{AssociationId, Slot};
 use stranger_machine::{After, Call, Notice};
 

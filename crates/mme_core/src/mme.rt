@@ -2,7 +2,7 @@
 
 ghost use Rattle.std.specs.Prelude.{◌≡◌, ◌≢◌, ◌<◌, ◌++◌, ℕ, length, slice_get, IfOk, IfErr, IsOk, OnOk, OnErr, Ok, Err, Some, None};
 ghost use Rattle.identity_slots.specs.Provisioned.{slot_of_imsi};
-ghost use Rattle.emm_machine.specs.Stations.{station_at};
+ghost use Rattle.mme_vocabulary.specs.Stations.{station_at};
 ghost use Rattle.emm_machine.specs.Whole.{Whole};
 ghost use Rattle.ordered_lists.specs.Ordered.{Rising};
 ghost use Rattle.stranger_machine.specs.Table.{known_id, reached, stranger_at};
@@ -23,9 +23,10 @@ use crate::preparing::{prepare_called, turn};
 use crate::provisioning::fresh_subscribers;
 use crate::sending::station_outs;
 use crate::settling::{settle, settle_station, settle_strangers};
-use emm_machine::{Answers, EnbWorld, SoloEvent, States, StationNumber, StationState, Subscriber};
+use emm_machine::{States, Subscriber};
 use identity_slots::{Provision, Slot};
 use mme_routing::{Calls, Outcome, Reach, Summoned, outcome_of};
+use mme_vocabulary::{Answers, EnbWorld, SoloEvent, StationNumber, StationState};
 use nas_elements::Imsi;
 use std::alloc::{AllocError, Global};
 use std::marker::Model;

@@ -1,8 +1,8 @@
 //! What strangers and subscribers do at an event, worked out before any of it is taken.
 
 ghost use Rattle.std.specs.Prelude.{◌≡◌, ◌≤◌, ◌++◌, List, map, length, IfOk, OnOk};
-ghost use Rattle.emm_machine.specs.declared.stations.StationState.{StationState};
-ghost use Rattle.emm_machine.specs.Steps.{item_of};
+ghost use Rattle.mme_vocabulary.specs.declared.stations.StationState.{StationState};
+ghost use Rattle.mme_vocabulary.specs.Events.{item_of};
 ghost use Rattle.stranger_machine.specs.Table.{reached, stranger_at};
 ghost use Rattle.stranger_machine.specs.Turns.{call_of};
 ghost use Rattle.mme_routing.specs.Seen.{calls_of, reach_of};
@@ -14,9 +14,11 @@ use crate::changes::{Change, Prepared, Stepped, Turned};
 use crate::out::{Outs, Owner};
 use crate::provisioning::slot_of;
 use crate::sending::{send_all, send_each};
-use emm_machine::{Draft, EnbWorld, Solo, SoloEvent, Subscriber};
+use emm_machine::Subscriber;
+use emm_state::{Draft, Solo};
 use identity_slots::{Provision, Slot};
 use mme_routing::{Calls, Reach};
+use mme_vocabulary::{EnbWorld, SoloEvent};
 use std::alloc::{AllocError, Global};
 use stranger_machine::{Call, Strangers, Turn, begins, told};
 

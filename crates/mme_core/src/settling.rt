@@ -1,13 +1,15 @@
 //! What was prepared is so.
 
 ghost use Rattle.std.specs.Prelude.{◌≡◌, ◌<◌, length, slice_set, unwrap_or, OnOk, OnErr};
-ghost use Rattle.emm_machine.specs.Stations.{station_at};
+ghost use Rattle.mme_vocabulary.specs.Stations.{station_at};
 ghost use Rattle.mme_core.specs.Settled.{AreUnder, IsFor, changed, settled, with_solo, with_stepped};
 ghost use Rattle.mme_core.specs.Ready.{placed};
 
 use crate::changes::{Change, Prepared, Stepped};
-use emm_machine::{EnbWorld, Solo, StationNumber, StationState, Subscriber};
+use emm_machine::Subscriber;
+use emm_state::Solo;
 use identity_slots::Slot;
+use mme_vocabulary::{EnbWorld, StationNumber, StationState};
 use std::alloc::AllocError;
 use stranger_machine::Strangers;
 

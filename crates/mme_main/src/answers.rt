@@ -14,7 +14,7 @@ use mme_core::{Out, Owner};
 use nas_elements::Imsi;
 use std::alloc::Global;
 use std::io::Write;
-use stranger_machine::{number_in, station_in};
+use identity_slots::{number_in, station_in};
 use trace_text::{
     Answer, AnswerOwner, EcmState as EcmWord, EmmState as EmmWord, EsmState, write_answer,
 };

@@ -1,7 +1,7 @@
 -- What functions of the code returned, without where octets lie in memory.
 use Rattle.std.specs.Prelude.{List, unwrap_or}
-use Rattle.emm_machine.specs.declared.stations.StationState.{StationState}
-use Rattle.emm_machine.specs.Steps.{entry_lists, item_of, message_lists}
+use Rattle.mme_vocabulary.specs.declared.stations.StationState.{StationState}
+use Rattle.mme_vocabulary.specs.Events.{entry_lists, item_of, message_lists}
 use Rattle.stranger_machine.specs.Machine.{Begins, Told}
 use Rattle.stranger_machine.specs.Table.{Reach, Nobody, Each}
 use Rattle.stranger_machine.specs.Table as table

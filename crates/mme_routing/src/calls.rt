@@ -1,7 +1,7 @@
 //! Whom an event reaches and calls.
 
-use emm_machine::{Entry, SoloEvent, UeMessage};
 use identity_slots::{AssociationId, Slot};
+use mme_vocabulary::{Entry, SoloEvent, UeMessage};
 use stranger_machine::Notice;
 
 /// Who is told of an event, and what.

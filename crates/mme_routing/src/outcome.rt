@@ -4,16 +4,18 @@ ghost use Rattle.std.specs.Prelude.{◌≡◌, ◌≢◌, ◌^◌, ◌≤◌, Li
 ghost use Rattle.identity_slots.specs.Ids.{stranger_id};
 ghost use Rattle.s1ap_messages.specs.Pdus.{lists, decoded, initial_ue_message_lists};
 ghost use Rattle.s1ap_messages.specs.declared.fault.S1apFault.TheVariants as faults;
-ghost use Rattle.emm_machine.specs.declared.stations.StationState.{StationState};
-ghost use Rattle.emm_machine.specs.Steps.{body_lists, message_lists};
+ghost use Rattle.mme_vocabulary.specs.declared.stations.StationState.{StationState};
+ghost use Rattle.mme_vocabulary.specs.Events.{body_lists, message_lists};
 ghost use Rattle.mme_routing.specs.Seen.{seen};
-ghost use Rattle.mme_routing.specs.Outcomes.{begins_anew, broadcasts, cause_of, entered, enters, outcome_of, outcome_of_message, indicated, indication, is_broadcast, not_compatible, reset, answered, set_up, phone_message, message_by_id, message_of_slot, ue_message};
+ghost use Rattle.mme_routing.specs.Outcomes.{begins_anew, broadcasts, cause_of, entered, enters, outcome_of, outcome_of_message, indicated, indication, not_compatible, reset, answered, set_up, phone_message, message_by_id, message_of_slot, ue_message};
 
 use crate::answers::{cause_of, indication, setup_failure, setup_response};
 use crate::calls::{Calls, Reach};
 use crate::naming::named_slot;
-use emm_machine::{Answers, Entry, SoloEvent, StationNumber, StationState, UeBody, UeMessage};
 use identity_slots::{AssociationId, Provision};
+use mme_vocabulary::{
+    Answers, Entry, SoloEvent, StationNumber, StationState, UeBody, UeMessage, is_broadcast,
+};
 use s1ap_elements::{Cause, EnbUeId, MmeUeId, Plmn, ProtocolCause, SupportedTa};
 use s1ap_messages::{InitialUeMessage, Pdu, S1apFault, S1apPdu, SetupRequest, decode};
 use std::alloc::{AllocError, Global};
@@ -91,12 +93,6 @@ fn broadcasts(plmn: Plmn, tas: &[SupportedTa]) -> bool
     ensures { result ≡ broadcasts plmn tas.now }
 {
     tas.iter().any(|ta| is_broadcast(plmn, ta.plmns.as_slice()))
-}
-
-fn is_broadcast(plmn: Plmn, plmns: &[Plmn]) -> bool
-    ensures { result ≡ is_broadcast plmn plmns.now }
-{
-    plmns.iter().any(|other| *other == plmn)
 }
 
 fn hears_setup<'a>(
@@ -207,7 +203,7 @@ fn message_by_id<'a>(
     ensures { IfOk result (λ h. (state : StationState) (stations : List StationState) → seen state stations h
         ≡ message_by_id provision.now.profiles state (message_lists message.now)) }
 {
-    if message.mme_id.get() >= 0x8000_0000 {
+    if !message.mme_id.is_of_slot() {
         return Ok(Outcome {
             state: None,
             says: Answers::new(alloc),

@@ -1,7 +1,7 @@
-use emm_machine::{AggregateBitRate, Apn, Network};
 use identity_slots::Provision;
 use mme_core::{Config, Mme};
 use mme_main::{PlayFault, Player, Progress, Watched, run_play};
+use mme_vocabulary::{AggregateBitRate, Apn, Network};
 use per_bits::Octets;
 use std::alloc::{AllocError, Global};
 use std::io;
