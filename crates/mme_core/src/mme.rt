@@ -258,7 +258,7 @@ impl Mme {
             calls,
         } = outcome_of(
             self.alloc,
-            &self.config,
+            &self.config.network,
             &self.provision,
             station,
             state,

@@ -21,6 +21,7 @@ use Rattle.mme_vocabulary.specs.declared.event.Entry.{Entry}
 use Rattle.mme_vocabulary.specs.declared.event.UeBody.{UeBody}
 use Rattle.mme_vocabulary.specs.declared.event.UeBody.TheVariants.{Uplink, ReleaseRequest, ReleaseComplete, ContextSetupFailure, PathSwitch, Notice}
 use Rattle.mme_vocabulary.specs.declared.event.UeMessage.{UeMessage}
+use Rattle.mme_vocabulary.specs.declared.network.Network.{Network}
 use Rattle.mme_vocabulary.specs.declared.octets.Answer.{Answer}
 use Rattle.mme_vocabulary.specs.Stations.{is_broadcast}
 use Rattle.mme_vocabulary.specs.declared.stations.StationState.{StationState}

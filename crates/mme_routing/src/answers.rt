@@ -4,6 +4,7 @@ ghost use Rattle.std.specs.Prelude.{◌≡◌, ◌≤◌, ◌∷◌, [], IfOk, O
 ghost use Rattle.s1ap_messages.specs.Pdus.{lists};
 ghost use Rattle.mme_routing.specs.Outcomes.{setup_response, setup_failure, indication, cause_of, cause_of_unknown};
 
+use mme_vocabulary::Network;
 use per_bits::Items;
 use s1ap_elements::{
     Cause, MiscCause, MmeCode, MmeGroup, Plmn, ProtocolCause, RelativeCapacity, ServedGummei,

@@ -14,7 +14,7 @@ use crate::calls::{Calls, Reach};
 use crate::naming::named_slot;
 use identity_slots::{AssociationId, Provision};
 use mme_vocabulary::{
-    Answers, Entry, SoloEvent, StationNumber, StationState, UeBody, UeMessage, is_broadcast,
+    Answers, Entry, Network, SoloEvent, StationNumber, StationState, UeBody, UeMessage, is_broadcast,
 };
 use s1ap_elements::{Cause, EnbUeId, MmeUeId, Plmn, ProtocolCause, SupportedTa};
 use s1ap_messages::{InitialUeMessage, Pdu, S1apFault, S1apPdu, SetupRequest, decode};
