@@ -1,11 +1,12 @@
 -- Each row keeps what is sent and accepted fresh, and so does the step.
-use Rattle.std.proofs.Common.{◌≡◌, ℕ, ◌-◌, ◌^◌, ◌<◌, ◌≤◌, Bool, true, false, cond, nat_le, not, List, [], ◌∷◌, Option, Some, None, Result, Ok, Err, unwrap_or, slice_get, refl, ◌∙◌, le_refl}
+use Rattle.std.proofs.Common.{◌≡◌, ℕ, ◌-◌, ◌^◌, ◌<◌, ◌≤◌, Bool, true, false, cond, not, List, [], ◌∷◌, Option, Some, None, Result, Ok, Err, unwrap_or, slice_get, refl, ◌∙◌, le_refl}
 use Rattle.std.specs.Option.{option_map_or}
 use Rattle.esm_machine.specs.declared.reaction.Reaction.{Reaction}
 use Rattle.esm_machine.specs.declared.reaction.Reaction.TheVariants as reactions
 use Rattle.esm_machine.specs.declared.request.Requested.{Requested}
 use Rattle.esm_machine.specs.declared.request.Requested.TheVariants.{Unreadable, Refused, Taken}
 use Rattle.identity_slots.specs.declared.profile.Vector.{Vector}
+use Rattle.identity_slots.specs.Ids.{is_of_slot}
 use Rattle.nas_messages.specs.declared.protection.SecurityHeader.{SecurityHeader}
 use Rattle.nas_security.specs.declared.fault.SecurityFault.{SecurityFault}
 use Rattle.nas_security.specs.Accepting.{Answer, accepted, short_accepted}
@@ -14,34 +15,36 @@ use Rattle.nas_security.specs.Counts.{first_after}
 use Rattle.s1ap_elements.specs.declared.cause.Cause.{Cause}
 use Rattle.s1ap_elements.specs.declared.phone.Tai.{Tai}
 use Rattle.s1ap_messages.specs.declared.pdu.Pdu.{Pdu}
-use Rattle.emm_machine.specs.declared.draft.Draft.{Draft}
-use Rattle.emm_machine.specs.declared.event.Entry.{Entry}
-use Rattle.emm_machine.specs.declared.event.UeBody.{UeBody}
-use Rattle.emm_machine.specs.declared.event.UeBody.TheVariants as bodies
-use Rattle.emm_machine.specs.declared.event.UeMessage.{UeMessage}
-use Rattle.emm_machine.specs.declared.heard.Heard.{Heard}
-use Rattle.emm_machine.specs.declared.heard.Heard.TheVariants as heards
-use Rattle.emm_machine.specs.declared.setting.Setting.{Setting}
-use Rattle.emm_machine.specs.declared.solo.Context.{Context}
-use Rattle.emm_machine.specs.declared.solo.Countdown.{Countdown}
-use Rattle.emm_machine.specs.declared.solo.Phase.{Phase}
-use Rattle.emm_machine.specs.declared.solo.Phase.TheVariants.{Deregistered, Authenticating, SecurityMode, EsmInformation, Accepting, Updating, Registered, Detaching}
-use Rattle.emm_machine.specs.declared.solo.Protection.TheVariants.{Plain, Under}
-use Rattle.emm_machine.specs.declared.solo.Repeat.{Repeat}
-use Rattle.emm_machine.specs.declared.solo.Repeat.TheVariants as repeats
-use Rattle.emm_machine.specs.declared.solo.Solo.{Solo}
-use Rattle.emm_machine.specs.declared.solo.Timer.{Timer}
-use Rattle.emm_machine.specs.declared.solo.Timer.TheVariants.{T3413, T3422, T3450, T3460, T3489}
-use Rattle.emm_machine.specs.declared.stations.StationState.{StationState}
-use Rattle.emm_machine.specs.Actions.{connect, connect_on, counted, emit, ended, is_at, is_registered, leave_old, untouched}
-use Rattle.emm_machine.specs.Attaching as attaching
-use Rattle.emm_machine.specs.Attaching.{counted_up, keyed, took}
-use Rattle.emm_machine.specs.Connected as connected
+use Rattle.emm_state.specs.declared.draft.Draft.{Draft}
+use Rattle.mme_vocabulary.specs.declared.event.Entry.{Entry}
+use Rattle.mme_vocabulary.specs.declared.event.UeBody.{UeBody}
+use Rattle.mme_vocabulary.specs.declared.event.UeBody.TheVariants as bodies
+use Rattle.mme_vocabulary.specs.declared.event.UeMessage.{UeMessage}
+use Rattle.mme_signalling.specs.declared.cause.EmmCause.{EmmCause}
+use Rattle.mme_signalling.specs.declared.heard.Heard.{Heard}
+use Rattle.mme_signalling.specs.declared.heard.Heard.TheVariants as heards
+use Rattle.emm_state.specs.declared.setting.Setting.{Setting}
+use Rattle.emm_state.specs.declared.solo.Context.{Context}
+use Rattle.emm_state.specs.declared.solo.Countdown.{Countdown}
+use Rattle.emm_state.specs.declared.solo.Phase.{Phase}
+use Rattle.emm_state.specs.declared.solo.Phase.TheVariants.{Deregistered, Authenticating, SecurityMode, EsmInformation, Accepting, Updating, Registered, Detaching}
+use Rattle.emm_state.specs.declared.solo.Protection.TheVariants.{Plain, Under}
+use Rattle.emm_state.specs.declared.solo.Repeat.{Repeat}
+use Rattle.emm_state.specs.declared.solo.Repeat.TheVariants as repeats
+use Rattle.emm_state.specs.declared.solo.Solo.{Solo}
+use Rattle.emm_state.specs.declared.solo.Timer.{Timer}
+use Rattle.emm_state.specs.declared.solo.Timer.TheVariants.{T3413, T3422, T3450, T3460, T3489}
+use Rattle.mme_vocabulary.specs.declared.stations.StationState.{StationState}
+use Rattle.emm_state.specs.Actions.{connect, connect_on, counted, emit, ended, is_at, is_registered, leave_old, untouched}
+use Rattle.emm_attaching.specs.Attaching as attaching
+use Rattle.emm_attaching.specs.Attaching.{counted_up, keyed, took}
+use Rattle.emm_serving.specs.Connected as connected
 use Rattle.emm_machine.specs.Freshness.{IsInUse, next_place, next_up}
-use Rattle.emm_machine.specs.Hearing.{heard}
-use Rattle.emm_machine.specs.Idle as idle
-use Rattle.emm_machine.specs.Pdus.{path_switch_failure}
-use Rattle.emm_machine.specs.Serving as serving
+use Rattle.mme_signalling.specs.Hearing.{heard}
+use Rattle.mme_vocabulary.specs.Events as events
+use Rattle.emm_serving.specs.Idle as idle
+use Rattle.mme_signalling.specs.Pdus.{path_switch_failure}
+use Rattle.emm_serving.specs.Serving as serving
 use Rattle.emm_machine.specs.Steps as steps
 use Rattle.emm_machine.proofs.Freshness.{IsFresh, IsFreshIf, at_some, at_some_if, either, either_if, fresh_connect, fresh_connect_on, fresh_context, fresh_emit, fresh_fall, fresh_in, fresh_keyed, fresh_lost, fresh_protect, fresh_radio, fresh_refuse, fresh_release, fresh_send, fresh_set_up, fresh_set_up_with, fresh_start, fresh_taking, fresh_took, fresh_turn_away, fresh_wipe, quiet, some, then}
 
@@ -80,7 +83,7 @@ connect_context slot station enb_id d = leave_context station enb_id (counted d)
 module _ {b : Solo} where
   -- ---- attaching
 
-  fresh_attach_refused : {d : Draft} (cause : ℕ) (esm : Option (List ℕ)) → IsFresh b d → IsFresh b (attaching.attach_refused cause esm d)
+  fresh_attach_refused : {d : Draft} (cause : EmmCause) (esm : Option (List ℕ)) → IsFresh b d → IsFresh b (attaching.attach_refused cause esm d)
   unfolding attaching.attach_refused
   fresh_attach_refused cause esm h = fresh_wipe (fresh_release _ (fresh_send _ h))
 
@@ -124,7 +127,7 @@ module _ {b : Solo} where
   unfolding attaching.detach_plainly attaching.detach_answered
   fresh_detach_plainly switch_off h = fresh_wipe (fresh_release _ (either switch_off h (fresh_send _ h)))
 
-  fresh_status_plainly : {d : Draft} (cause : Option ℕ) → IsFresh b d → IsFresh b (attaching.status_plainly cause d)
+  fresh_status_plainly : {d : Draft} (cause : Option EmmCause) → IsFresh b d → IsFresh b (attaching.status_plainly cause d)
   unfolding attaching.status_plainly
   fresh_status_plainly cause h = at_some cause (λ c _. fresh_send _ h) h
 
@@ -196,7 +199,7 @@ module _ {b : Solo} where
   fresh_claimed (heards.Attach combined capability esm) s id e h = fresh_attach s combined capability esm e.tai (fresh_connect_on id e.station e.enb_id h)
   fresh_claimed _ s id e h = h
 
-  fresh_status : {d : Draft} (cause : Option ℕ) → IsFresh b d → IsFreshIf b (serving.status cause d)
+  fresh_status : {d : Draft} (cause : Option EmmCause) → IsFresh b d → IsFreshIf b (serving.status cause d)
   unfolding serving.status
   fresh_status cause h = at_some_if cause (λ c _. fresh_protect _ _ h) (some h)
 
@@ -242,7 +245,7 @@ module _ {b : Solo} where
   unfolding connected.path_switch connected.not_switched
   fresh_path_switch {d} m h =
       let failed = λ (cause : Cause). fresh_emit m.station (path_switch_failure m.mme_id m.enb_id cause) h in
-      either (not (connected.has_id m d)) (failed _) (either (nat_le (2 ^ 31) m.mme_id) (failed _)
+      either (not (connected.has_id m d)) (failed _) (either (not (is_of_slot m.mme_id)) (failed _)
       (either (is_registered d.solo.phase) (at_some d.solo.context (λ x is. fresh_switched m x is h) h) (failed _)))
 
   fresh_displaced : {d : Draft} (id : ℕ) → IsFresh b d → IsFresh b (connected.displaced id d)
@@ -378,17 +381,17 @@ module _ (whole : WholeIsFresh) (short : ShortIsFresh) {b : Solo} where
   fresh_message_of bodies.PathSwitch s m h = some (fresh_path_switch m h)
   fresh_message_of _ s m h = fresh_checked s m h
 
-  fresh_row : {d : Draft} (s : Setting) (item : steps.Item) → IsFresh b d → IsFreshIf b (steps.row s item d)
+  fresh_row : {d : Draft} (s : Setting) (item : events.Item) → IsFresh b d → IsFreshIf b (steps.row s item d)
   unfolding steps.row serving.initial serving.claim
-  fresh_row s steps.Nothing h = some h
-  fresh_row s (steps.Initial m) h = fresh_entered _ s m h
-  fresh_row s (steps.Claim id m) h = some (fresh_claimed _ s id m h)
-  fresh_row s (steps.Message m) h = fresh_message_of m.body s m h
-  fresh_row s (steps.Displaced id) h = some (fresh_displaced id h)
-  fresh_row s (steps.StationGone station) h = some (fresh_station_gone station h)
-  fresh_row s steps.Tick h = fresh_tick s h
-  fresh_row s (steps.Data stations) h = some (fresh_data_waits s stations h)
-  fresh_row {d} s steps.Cancel h = fresh_cancelled d.solo.phase h
+  fresh_row s events.Nothing h = some h
+  fresh_row s (events.Initial m) h = fresh_entered _ s m h
+  fresh_row s (events.Claim id m) h = some (fresh_claimed _ s id m h)
+  fresh_row s (events.Message m) h = fresh_message_of m.body s m h
+  fresh_row s (events.Displaced id) h = some (fresh_displaced id h)
+  fresh_row s (events.StationGone station) h = some (fresh_station_gone station h)
+  fresh_row s events.Tick h = fresh_tick s h
+  fresh_row s (events.Data stations) h = some (fresh_data_waits s stations h)
+  fresh_row {d} s events.Cancel h = fresh_cancelled d.solo.phase h
 
   unless : {d : Draft} (o : Option Draft) → IsFreshIf b o → IsFresh b d → IsFresh b (unwrap_or o d)
   unless None f h = h
@@ -398,7 +401,7 @@ module _ (whole : WholeIsFresh) (short : ShortIsFresh) {b : Solo} where
   fresh_untouched h = record { in_use = h; onward = le_refl (next_place b.phase b.next_vector); sent = λ m a. a; accepted = λ m a. a }
 
 -- from a state in use each step is fresh
-pub fresh_step : WholeIsFresh → ShortIsFresh → (s : Setting) (b : Solo) (item : steps.Item) → IsInUse b → IsFresh b (steps.solo_step s b item)
+pub fresh_step : WholeIsFresh → ShortIsFresh → (s : Setting) (b : Solo) (item : events.Item) → IsInUse b → IsFresh b (steps.solo_step s b item)
 unfolding steps.solo_step
 fresh_step whole short s b item h =
     let u = fresh_untouched whole short h in

@@ -7,21 +7,22 @@ use Rattle.nas_messages.specs.declared.protection.SecurityHeader.{SecurityHeader
 use Rattle.s1ap_elements.specs.declared.cause.Cause.{Cause}
 use Rattle.s1ap_messages.specs.declared.pdu.Pdu.{Pdu}
 use Rattle.s1ap_messages.specs.Pdus.{encoded}
-use Rattle.emm_machine.specs.declared.draft.Draft.{Draft}
-use Rattle.emm_machine.specs.declared.draft.Sealed.{Sealed}
-use Rattle.emm_machine.specs.declared.octets.Answer.{Answer}
-use Rattle.emm_machine.specs.declared.octets.Mark.{Mark}
-use Rattle.emm_machine.specs.declared.setting.Setting.{Setting}
-use Rattle.emm_machine.specs.declared.solo.Context.{Context}
-use Rattle.emm_machine.specs.declared.solo.Phase.{Phase}
-use Rattle.emm_machine.specs.declared.solo.Phase.TheVariants.{Authenticating, SecurityMode, Registered}
-use Rattle.emm_machine.specs.declared.solo.RadioKeys.{RadioKeys}
-use Rattle.emm_machine.specs.declared.solo.Repeat.{Repeat}
-use Rattle.emm_machine.specs.declared.solo.Solo.{Solo}
-use Rattle.emm_machine.specs.declared.solo.Timer.{Timer}
-use Rattle.emm_machine.specs.Actions.{answer_of, connect, connect_on, counted, disconnected, emit, ended, fall, fallen, leave_old, lost, protect, refuse, release, resting, seal, sealed_under, send, set_up, set_up_with, start, turn_away, wipe}
-use Rattle.emm_machine.specs.Attaching.{counted_up, keyed, took}
-use Rattle.emm_machine.specs.Does.{◌>>=◌}
+use Rattle.emm_state.specs.declared.draft.Draft.{Draft}
+use Rattle.emm_state.specs.declared.draft.Sealed.{Sealed}
+use Rattle.mme_vocabulary.specs.declared.octets.Answer.{Answer}
+use Rattle.mme_vocabulary.specs.declared.octets.Mark.{Mark}
+use Rattle.emm_state.specs.declared.setting.Setting.{Setting}
+use Rattle.emm_state.specs.declared.solo.Context.{Context}
+use Rattle.emm_state.specs.declared.solo.Phase.{Phase}
+use Rattle.emm_state.specs.declared.solo.Phase.TheVariants.{Authenticating, SecurityMode, Registered}
+use Rattle.mme_vocabulary.specs.declared.connection.RadioKeys.{RadioKeys}
+use Rattle.emm_state.specs.declared.solo.Repeat.{Repeat}
+use Rattle.emm_state.specs.declared.solo.Solo.{Solo}
+use Rattle.emm_state.specs.declared.solo.Timer.{Timer}
+use Rattle.mme_vocabulary.specs.Answers.{answer_of}
+use Rattle.emm_state.specs.Actions.{connect, connect_on, counted, disconnected, emit, ended, fall, fallen, leave_old, lost, protect, refuse, release, resting, seal, sealed_under, send, set_up, set_up_with, start, turn_away, wipe}
+use Rattle.emm_attaching.specs.Attaching.{counted_up, keyed, took}
+use Rattle.emm_state.specs.Does.{◌>>=◌}
 use Rattle.emm_machine.specs.Freshness.{HasVector, IsAhead, IsBefore, IsBelow, IsInUse, IsOfContext, marks_of, next_down, next_place, next_up}
 use Rattle.emm_machine.proofs.Runs.{IsRun, run_append, run_front, run_narrow, run_onward}
 

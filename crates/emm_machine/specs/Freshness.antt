@@ -2,14 +2,15 @@
 -- the vectors that become contexts (TS 24.301 clause 4.4.3, TS 33.401 clause 6.5).
 use Rattle.std.specs.Prelude.{◌≡◌, ℕ, ◌-◌, ◌<◌, ◌≤◌, ◌==◌, ◌⊎◌, if◌then◌else◌, List, [], ◌∷◌, ◌++◌, All, AllPairs, flat_map, Option, Some, None, option_to_list}
 use Rattle.nas_security.specs.Counts.{first_after}
-use Rattle.emm_machine.specs.declared.octets.Answer.{Answer}
-use Rattle.emm_machine.specs.declared.octets.Mark.{Mark}
-use Rattle.emm_machine.specs.declared.setting.Setting.{Setting}
-use Rattle.emm_machine.specs.declared.solo.Context.{Context}
-use Rattle.emm_machine.specs.declared.solo.Phase.{Phase}
-use Rattle.emm_machine.specs.declared.solo.Phase.TheVariants.{Authenticating}
-use Rattle.emm_machine.specs.declared.solo.Solo.{Solo}
-use Rattle.emm_machine.specs.Steps.{Item, solo_after, solo_answers, solo_step}
+use Rattle.mme_vocabulary.specs.declared.octets.Answer.{Answer}
+use Rattle.mme_vocabulary.specs.declared.octets.Mark.{Mark}
+use Rattle.emm_state.specs.declared.setting.Setting.{Setting}
+use Rattle.emm_state.specs.declared.solo.Context.{Context}
+use Rattle.emm_state.specs.declared.solo.Phase.{Phase}
+use Rattle.emm_state.specs.declared.solo.Phase.TheVariants.{Authenticating}
+use Rattle.emm_state.specs.declared.solo.Solo.{Solo}
+use Rattle.mme_vocabulary.specs.Events.{Item}
+use Rattle.emm_machine.specs.Steps.{solo_after, solo_answers, solo_step}
 
 -- ---- runs
 

@@ -1,15 +1,3 @@
-pub mod Network
-pub mod Stations
-pub mod Timers
-pub mod Hearing
-pub mod Messages
-pub mod Pdus
-pub mod Does
-pub mod Actions
-pub mod Attaching
-pub mod Serving
-pub mod Connected
-pub mod Idle
 pub mod Steps
 pub mod Still
 pub mod Whole

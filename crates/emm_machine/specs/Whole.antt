@@ -1,6 +1,6 @@
 -- What a contract sees of a subscriber.
-use Rattle.emm_machine.specs.declared.setting.Setting.{Setting}
-use Rattle.emm_machine.specs.declared.solo.Solo.{Solo}
+use Rattle.emm_state.specs.declared.setting.Setting.{Setting}
+use Rattle.emm_state.specs.declared.solo.Solo.{Solo}
 
 -- what never changes, and the state of its machine
 pub record Whole : Type 0 where

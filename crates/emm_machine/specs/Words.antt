@@ -3,12 +3,12 @@ use Rattle.std.specs.Prelude.{ℕ, ◌==◌, Bool, true, false, replicate, Optio
 use Rattle.std.specs.List.{list_any}
 use Rattle.std.specs.Option.{option_map_or}
 use Rattle.esm_machine.specs.Requests.{inactive}
-use Rattle.emm_machine.specs.declared.solo.Asked.{Asked}
-use Rattle.emm_machine.specs.declared.solo.Phase.{Phase}
-use Rattle.emm_machine.specs.declared.solo.Phase.TheVariants as phases
-use Rattle.emm_machine.specs.declared.solo.Repeat.{Repeat}
-use Rattle.emm_machine.specs.declared.solo.Repeat.TheVariants as repeats
-use Rattle.emm_machine.specs.declared.solo.Solo.{Solo}
+use Rattle.emm_state.specs.declared.solo.Asked.{Asked}
+use Rattle.emm_state.specs.declared.solo.Phase.{Phase}
+use Rattle.emm_state.specs.declared.solo.Phase.TheVariants as phases
+use Rattle.emm_state.specs.declared.solo.Repeat.{Repeat}
+use Rattle.emm_state.specs.declared.solo.Repeat.TheVariants as repeats
+use Rattle.emm_state.specs.declared.solo.Solo.{Solo}
 use Rattle.emm_machine.specs.declared.subscriber.EmmState.{EmmState}
 use Rattle.emm_machine.specs.declared.subscriber.EmmState.TheVariants.{Deregistered, CommonProcedureInitiated, Registered, DeregisteredInitiated}
 use Rattle.emm_machine.specs.declared.subscriber.EcmState.{EcmState}

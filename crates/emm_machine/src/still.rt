@@ -1,13 +1,12 @@
 //! Events that a subscriber isn't touched by.
 
 ghost use Rattle.std.specs.Prelude.{◌≡◌, List};
-ghost use Rattle.emm_machine.specs.Steps.{item_of};
+ghost use Rattle.mme_vocabulary.specs.Events.{item_of};
 ghost use Rattle.emm_machine.specs.Still.{is_elsewhere, pages, still};
-ghost use Rattle.emm_machine.specs.declared.stations.StationState.{StationState};
+ghost use Rattle.mme_vocabulary.specs.declared.stations.StationState.{StationState};
 
-use crate::event::SoloEvent;
-use crate::solo::{Connection, Repeat, Solo};
-use crate::stations::StationNumber;
+use emm_state::{Repeat, Solo};
+use mme_vocabulary::{Connection, SoloEvent, StationNumber};
 
 fn is_elsewhere(station: StationNumber, connection: Option<Connection>) -> bool
     ensures { result ≡ is_elsewhere station connection }
@@ -27,23 +26,21 @@ fn pages(repeat: &Option<Repeat>) -> bool
     }
 }
 
-impl Solo {
-    /// Whether a look tells that an event leaves the state as it is and sends nothing.
-    pub(crate) fn is_still(&self, event: &SoloEvent) -> bool
-        ensures { (stations : List StationState) → result ≡ still self.now (item_of event.now stations) }
-    {
-        match event {
-            SoloEvent::Nothing => true,
-            SoloEvent::Tick => self.procedure.is_none() && self.reachable.is_none(),
-            SoloEvent::StationGone(station) => {
-                !pages(&self.repeat) && is_elsewhere(*station, self.connection)
-            }
-            SoloEvent::Initial(_)
-            | SoloEvent::Claim(_, _)
-            | SoloEvent::Message(_)
-            | SoloEvent::Displaced(_)
-            | SoloEvent::Data
-            | SoloEvent::Cancel => false,
+/// Whether a look tells that an event leaves the state as it is and sends nothing.
+pub(crate) fn is_still(solo: &Solo, event: &SoloEvent) -> bool
+    ensures { (stations : List StationState) → result ≡ still solo.now (item_of event.now stations) }
+{
+    match event {
+        SoloEvent::Nothing => true,
+        SoloEvent::Tick => solo.procedure.is_none() && solo.reachable.is_none(),
+        SoloEvent::StationGone(station) => {
+            !pages(&solo.repeat) && is_elsewhere(*station, solo.connection)
         }
+        SoloEvent::Initial(_)
+        | SoloEvent::Claim(_, _)
+        | SoloEvent::Message(_)
+        | SoloEvent::Displaced(_)
+        | SoloEvent::Data
+        | SoloEvent::Cancel => false,
     }
 }

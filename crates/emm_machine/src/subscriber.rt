@@ -1,21 +1,21 @@
 //! One subscriber.
 
 ghost use Rattle.std.specs.Prelude.{◌≡◌, IfOk, List, OnErr, OnOk, length};
-ghost use Rattle.emm_machine.specs.Does.{Does};
-ghost use Rattle.emm_machine.specs.Steps.{item_of, row, solo_step};
+ghost use Rattle.emm_state.specs.Does.{Does};
+ghost use Rattle.mme_vocabulary.specs.Events.{item_of};
+ghost use Rattle.emm_machine.specs.Steps.{row, solo_step};
 ghost use Rattle.emm_machine.specs.Still.{still};
 ghost use Rattle.emm_machine.specs.Words.{ecm_of, emm_of, fresh_solo, pages_in, procedure_left, states_of};
-ghost use Rattle.emm_machine.specs.declared.stations.StationState.{StationState};
+ghost use Rattle.mme_vocabulary.specs.declared.stations.StationState.{StationState};
 
-use crate::draft::{Draft, Stop};
-use crate::event::SoloEvent;
-use crate::network::Network;
-use crate::octets::Answers;
-use crate::setting::{Setting, Vectors};
-use crate::solo::{Asked, Connection, Counter, Phase, Repeat, Solo};
-use crate::stations::{EnbWorld, StationNumber};
+use crate::still::is_still;
+use emm_serving::{
+    cancelled, claim, data_waits, displaced, initial, message_of, station_gone, tick,
+};
+use emm_state::{Asked, Counter, Draft, Phase, Repeat, Setting, Solo, Stop, Vectors};
 use esm_machine::{Bearer, BearerState};
 use identity_slots::{Profile, Slot, Vector};
+use mme_vocabulary::{Answers, Connection, EnbWorld, Network, SoloEvent, StationNumber};
 use nas_elements::UeCapability;
 use per_bits::Octets;
 use s1ap_elements::{Cause, NasCause, Tai};
@@ -93,35 +93,33 @@ fn fresh_solo() -> Solo
     }
 }
 
-impl Draft {
-    // The row of an event.
-    #[tactic(auto, unfolding(crate::specs::Steps::row))]
-    fn row(
-        &mut self,
-        alloc: Global,
-        setting: &Setting,
-        event: &SoloEvent,
-        world: &EnbWorld,
-    ) -> Result<(), Stop>
-        ensures { Does result self.new (row setting.now (item_of event.now world.now) self.old) }
-    {
-        match event {
-            SoloEvent::Nothing => Ok(()),
-            SoloEvent::Initial(entry) => self.initial(alloc, setting, entry),
-            SoloEvent::Claim(id, entry) => Ok(self.claim(alloc, setting, *id, entry)?),
-            SoloEvent::Message(message) => self.message(alloc, setting, message),
-            SoloEvent::Displaced(id) => {
-                self.displaced(*id);
-                Ok(())
-            }
-            SoloEvent::StationGone(station) => {
-                self.station_gone(*station);
-                Ok(())
-            }
-            SoloEvent::Tick => self.tick(alloc, setting),
-            SoloEvent::Data => Ok(self.data_waits(alloc, setting, world)?),
-            SoloEvent::Cancel => self.cancelled(alloc),
+// The row of an event.
+#[tactic(auto, unfolding(crate::specs::Steps::row))]
+fn row(
+    draft: &mut Draft,
+    alloc: Global,
+    setting: &Setting,
+    event: &SoloEvent,
+    world: &EnbWorld,
+) -> Result<(), Stop>
+    ensures { Does result draft.new (row setting.now (item_of event.now world.now) draft.old) }
+{
+    match event {
+        SoloEvent::Nothing => Ok(()),
+        SoloEvent::Initial(entry) => initial(draft, alloc, setting, entry),
+        SoloEvent::Claim(id, entry) => Ok(claim(draft, alloc, setting, *id, entry)?),
+        SoloEvent::Message(message) => message_of(draft, alloc, setting, message),
+        SoloEvent::Displaced(id) => {
+            displaced(draft, *id);
+            Ok(())
         }
+        SoloEvent::StationGone(station) => {
+            station_gone(draft, *station);
+            Ok(())
+        }
+        SoloEvent::Tick => tick(draft, alloc, setting),
+        SoloEvent::Data => Ok(data_waits(draft, alloc, setting, world)?),
+        SoloEvent::Cancel => cancelled(draft, alloc),
     }
 }
 
@@ -137,7 +135,7 @@ fn drafted(
     ensures { IfOk result (λ d. d ≡ solo_step setting.now solo.now (item_of event.now world.now)) }
 {
     let mut draft = Draft::from_state(alloc, solo)?;
-    match draft.row(alloc, setting, event, world) {
+    match row(&mut draft, alloc, setting, event, world) {
         Ok(()) => Ok(draft),
         Err(Stop::NoMemory) => Err(AllocError),
         Err(Stop::Spent) => {
@@ -196,7 +194,7 @@ impl Subscriber {
     pub fn is_still(&self, event: &SoloEvent) -> bool
         ensures { (stations : List StationState) → result ≡ still self.now.solo (item_of event.now stations) }
     {
-        self.solo.is_still(event)
+        is_still(&self.solo, event)
     }
 
     /// What an event would leave and send; nothing changes.

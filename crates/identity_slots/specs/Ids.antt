@@ -1,13 +1,40 @@
 -- The ids that are made of a slot and a counter, and those of strangers.
-use Rattle.std.specs.Prelude.{ℕ, ◌+◌, ◌*◌, ◌%◌, ◌^◌}
+use Rattle.std.specs.Prelude.{ℕ, ◌+◌, ◌-◌, ◌*◌, ◌/◌, ◌%◌, ◌^◌, Bool, nat_lt}
 
--- a counter goes round at 2^20
+-- how many ids a slot has
+abbrev pub counters : ℕ
+counters = 2 ^ 20
+
+-- the first id of a stranger: ids of slots are below it
+abbrev pub strangers : ℕ
+strangers = 2 ^ 31
+
+-- how many phones a station has numbers for
+abbrev pub enb_ids : ℕ
+enb_ids = 2 ^ 24
+
+-- a counter goes round
 abbrev pub next_counter : ℕ → ℕ
-next_counter counter = (counter + 1) % 2 ^ 20
+next_counter counter = (counter + 1) % counters
 
 abbrev pub id_of : ℕ → ℕ → ℕ
-id_of slot counter = slot * 2 ^ 20 + counter
+id_of slot counter = slot * counters + counter
+
+-- an id that is made of a slot
+abbrev pub is_of_slot : ℕ → Bool
+is_of_slot id = nat_lt id strangers
+
+-- the slot of such an id
+abbrev pub slot_in : ℕ → ℕ
+slot_in id = id / counters
 
 -- the id of the stranger with this station and eNB UE id
 abbrev pub stranger_id : ℕ → ℕ → ℕ
-stranger_id station enb_id = 2 ^ 31 + station * 2 ^ 24 + enb_id
+stranger_id station enb_id = strangers + station * enb_ids + enb_id
+
+-- the station of a stranger's id, and its number there
+abbrev pub station_in : ℕ → ℕ
+station_in id = (id - strangers) / enb_ids
+
+abbrev pub number_in : ℕ → ℕ
+number_in id = (id - strangers) % enb_ids

@@ -1,11 +1,12 @@
 -- What a caller sees of the provisioning: the profiles by slot, and the vectors of each.
-use Rattle.std.specs.Prelude.{◌≡◌, ℕ, ◌+◌, ◌/◌, ◌^◌, ◌==◌, ◌&&◌, ◌<◌, slice_index, nat_lt, nat_le, List, [], ◌∷◌, ◌++◌, length, slice_set, slice_index_or, Option, Some, None, is_some, if◌then◌else◌}
+use Rattle.std.specs.Prelude.{◌≡◌, ℕ, ◌+◌, ◌==◌, ◌&&◌, ◌<◌, slice_index, nat_lt, nat_le, List, [], ◌∷◌, ◌++◌, length, slice_set, slice_index_or, Option, Some, None, is_some, if◌then◌else◌}
 use Rattle.std.specs.Int.{from_be_bytes, w32, w64}
 use Rattle.nas_elements.specs.Digits.{imsi_octets}
 use Rattle.identity_slots.specs.declared.profile.Profile.{Profile}
 use Rattle.identity_slots.specs.declared.profile.Vector.{Vector}
 use Rattle.identity_slots.specs.declared.provision.ProvisionFault.{ProvisionFault}
 use Rattle.identity_slots.specs.declared.provision.ProvisionFault.TheVariants.{RepeatedImsi, RepeatedAddress, Full}
+use Rattle.identity_slots.specs.Ids.{is_of_slot, slot_in}
 
 pub record Provisioned : Type 0 where
   pub profiles : List Profile
@@ -37,7 +38,7 @@ slot_of_address address ps = place_from address_key (address_number address) 0 p
 
 -- the slot that an M-TMSI or an association's id is made of, where it is provisioned
 abbrev pub slot_of_id : ℕ → List Profile → Option ℕ
-slot_of_id number ps = if nat_lt number (2 ^ 31) && nat_lt (number / 2 ^ 20) (length ps) then Some (number / 2 ^ 20) else None
+slot_of_id number ps = if is_of_slot number && nat_lt (slot_in number) (length ps) then Some (slot_in number) else None
 
 -- no two profiles have one number
 abbrev pub AreDistinct : (Profile → ℕ) → List Profile → Type 0

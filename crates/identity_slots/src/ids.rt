@@ -1,7 +1,7 @@
 //! Slots, and the ids that are made of them.
 
 ghost use Rattle.std.specs.Prelude.{◌≡◌, ◌+◌, ◌*◌, ◌<◌, ◌≤◌, ◌^◌, SomeIff};
-ghost use Rattle.identity_slots.specs.Ids.{next_counter, id_of, stranger_id};
+ghost use Rattle.identity_slots.specs.Ids.{id_of, is_of_slot, next_counter, number_in, station_in, stranger_id};
 
 use std::marker::Model;
 
@@ -13,6 +13,9 @@ pub(crate) const COUNTERS: u32 = 0x10_0000;
 
 /// The first id of a stranger: ids of slots are below it.
 pub(crate) const STRANGERS: u32 = 0x8000_0000;
+
+// How many phones a station has numbers for.
+const ENB_IDS: u32 = 0x100_0000;
 
 /// The number of a subscriber, 0 to 2047, in the order of provisioning.
 #[derive(Clone, Copy, PartialEq, Eq)]
@@ -97,6 +100,13 @@ impl AssociationId {
         self.id
     }
 
+    /// Whether it is made of a slot, and isn't a stranger's.
+    pub fn is_of_slot(self) -> bool
+        ensures { result ≡ is_of_slot self }
+    {
+        self.get() < STRANGERS
+    }
+
     /// The slot's next id after this counter below 2^20, and the next counter.
     pub fn after(slot: Slot, counter: u32) -> (AssociationId, u32)
         requires { counter < 2 ^ 20 }
@@ -116,9 +126,23 @@ impl AssociationId {
         ensures { result ≡ stranger_id station enb_id }
     {
         AssociationId {
-            id: STRANGERS + u32::from(station) * 0x100_0000 + enb_id,
+            id: STRANGERS + u32::from(station) * ENB_IDS + enb_id,
         }
     }
+}
+
+/// The station of a stranger's id, which is 2^31, its station, and its number there in 24 bits.
+pub fn station_in(id: AssociationId) -> u8
+    ensures { result ≡ station_in id }
+{
+    (id.get().saturating_sub(STRANGERS) / ENB_IDS) as u8
+}
+
+/// A stranger's number at its station, by its id.
+pub fn number_in(id: AssociationId) -> u32
+    ensures { result ≡ number_in id }
+{
+    id.get().saturating_sub(STRANGERS) % ENB_IDS
 }
 
 /// An M-TMSI (TS 23.003 clause 2.4), made of a slot and a counter.

@@ -9,7 +9,7 @@ mod provision;
 #[cfg(test)]
 mod tests;
 
-pub use ids::{AssociationId, Slot, Tmsi};
+pub use ids::{AssociationId, Slot, Tmsi, number_in, station_in};
 pub use laws::octets_apart;
 pub use profile::{Profile, Vector, Xres};
 pub use provision::{Provision, ProvisionFault};

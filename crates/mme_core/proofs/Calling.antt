@@ -3,10 +3,11 @@ use Rattle.std.proofs.Common.{◌≡◌, ◌≢◌, ℕ, suc, zero, ◌+◌, ◌
 use Rattle.std.specs.Prelude.{slice_get}
 use Rattle.std.proofs.lemmas.Bool.Decides.{nat_tests}
 use Rattle.std.proofs.lemmas.List.{append-nil}
-use Rattle.emm_machine.specs.declared.setting.Setting.{Setting}
-use Rattle.emm_machine.specs.declared.solo.Solo.{Solo}
-use Rattle.emm_machine.specs.Actions.{untouched}
-use Rattle.emm_machine.specs.Steps.{Item, Nothing, row, solo_step}
+use Rattle.emm_state.specs.declared.setting.Setting.{Setting}
+use Rattle.emm_state.specs.declared.solo.Solo.{Solo}
+use Rattle.emm_state.specs.Actions.{untouched}
+use Rattle.mme_vocabulary.specs.Events.{Item, Nothing}
+use Rattle.emm_machine.specs.Steps.{row, solo_step}
 use Rattle.emm_machine.specs.Whole.{Whole}
 use Rattle.mme_core.specs.Stations.{One}
 use Rattle.mme_core.specs.World.{called, each_after, each_sends, slot_out, whole_after, whole_step}

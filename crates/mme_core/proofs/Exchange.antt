@@ -10,12 +10,12 @@ use Rattle.s1ap_messages.specs.declared.pdu.InitialUeMessage.{InitialUeMessage}
 use Rattle.s1ap_messages.specs.Pdus.{decoded}
 use Rattle.identity_slots.specs.declared.profile.Profile.{Profile}
 use Rattle.identity_slots.specs.Provisioned.{slot_of_id, slot_of_imsi}
-use Rattle.emm_machine.specs.declared.event.UeBody.TheVariants.{Uplink, ReleaseRequest, ReleaseComplete, ContextSetupFailure, PathSwitch, Notice}
-use Rattle.emm_machine.specs.declared.event.UeMessage.{UeMessage}
-use Rattle.emm_machine.specs.declared.stations.StationState.{StationState}
-use Rattle.emm_machine.specs.declared.stations.StationState.TheVariants.{Down, Up, Ready}
-use Rattle.emm_machine.specs.Stations.{station_at}
-use Rattle.emm_machine.specs.Steps.{Item, Nothing, Initial, Message, Data, Cancel}
+use Rattle.mme_vocabulary.specs.declared.event.UeBody.TheVariants.{Uplink, ReleaseRequest, ReleaseComplete, ContextSetupFailure, PathSwitch, Notice}
+use Rattle.mme_vocabulary.specs.declared.event.UeMessage.{UeMessage}
+use Rattle.mme_vocabulary.specs.declared.stations.StationState.{StationState}
+use Rattle.mme_vocabulary.specs.declared.stations.StationState.TheVariants.{Down, Up, Ready}
+use Rattle.mme_vocabulary.specs.Stations.{station_at}
+use Rattle.mme_vocabulary.specs.Events.{Item, Nothing, Initial, Message, Data, Cancel}
 use Rattle.emm_machine.specs.Whole.{Whole}
 use Rattle.stranger_machine.specs.Machine.{Told}
 use Rattle.stranger_machine.specs.Table.{Nobody, Reach, reached}

@@ -8,12 +8,12 @@ use Rattle.s1ap_messages.specs.declared.pdu.Pdu.TheVariants as pdu
 use Rattle.s1ap_messages.specs.Pdus.{decoded}
 use Rattle.identity_slots.specs.declared.profile.Profile.{Profile}
 use Rattle.identity_slots.specs.Provisioned.{slot_of_id, slot_of_imsi}
-use Rattle.emm_machine.specs.declared.event.UeBody.{UeBody}
-use Rattle.emm_machine.specs.declared.event.UeBody.TheVariants.{Uplink, ReleaseRequest, ReleaseComplete, ContextSetupFailure, PathSwitch, Notice}
-use Rattle.emm_machine.specs.declared.event.UeMessage.{UeMessage}
-use Rattle.emm_machine.specs.declared.stations.StationState.{StationState}
-use Rattle.emm_machine.specs.declared.stations.StationState.TheVariants.{Ready}
-use Rattle.emm_machine.specs.Steps.{Cancel, Data, Item}
+use Rattle.mme_vocabulary.specs.declared.event.UeBody.{UeBody}
+use Rattle.mme_vocabulary.specs.declared.event.UeBody.TheVariants.{Uplink, ReleaseRequest, ReleaseComplete, ContextSetupFailure, PathSwitch, Notice}
+use Rattle.mme_vocabulary.specs.declared.event.UeMessage.{UeMessage}
+use Rattle.mme_vocabulary.specs.declared.stations.StationState.{StationState}
+use Rattle.mme_vocabulary.specs.declared.stations.StationState.TheVariants.{Ready}
+use Rattle.mme_vocabulary.specs.Events.{Cancel, Data, Item}
 use Rattle.stranger_machine.specs.Machine.{Told}
 use Rattle.stranger_machine.specs.Table as table
 use Rattle.mme_core.specs.declared.config.Config.{Config}

@@ -1,7 +1,7 @@
 -- The owners of every output stand in their order.
 use Rattle.std.proofs.Common.{◌≡◌, ℕ, ◌+◌, ◌<◌, ◌≤◌, List, [], ◌∷◌, ◌++◌, map, Option, Some, None, Result, Ok, Err, sym, subst, arith}
-use Rattle.emm_machine.specs.declared.octets.Answer.{Answer}
-use Rattle.emm_machine.specs.Steps.{Item}
+use Rattle.mme_vocabulary.specs.declared.octets.Answer.{Answer}
+use Rattle.mme_vocabulary.specs.Events.{Item}
 use Rattle.emm_machine.specs.Whole.{Whole}
 use Rattle.identity_slots.specs.declared.profile.Profile.{Profile}
 use Rattle.ordered_lists.specs.Ordered.{AllOver, Rising}

@@ -5,8 +5,8 @@ use Rattle.std.proofs.lemmas.Bool.{cases_eq, eq-eqb, ne_eqb}
 use Rattle.std.proofs.lemmas.List.{append-nil}
 use Rattle.identity_slots.specs.declared.profile.Profile.{Profile}
 use Rattle.ordered_lists.specs.Ordered.{AllOver, Rising}
-use Rattle.emm_machine.specs.declared.octets.Answer.{Answer}
-use Rattle.emm_machine.specs.Steps.{Item}
+use Rattle.mme_vocabulary.specs.declared.octets.Answer.{Answer}
+use Rattle.mme_vocabulary.specs.Events.{Item}
 use Rattle.emm_machine.specs.Whole.{Whole}
 use Rattle.stranger_machine.specs.declared.table.Known.{Known}
 use Rattle.stranger_machine.specs.declared.turn.Notice.{Notice}

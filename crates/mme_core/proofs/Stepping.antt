@@ -3,9 +3,9 @@ use Rattle.std.proofs.Common.{◌≡◌, ℕ, ◌+◌, ◌<◌, ◌≤◌, List,
 use Rattle.std.specs.Prelude.{if◌then◌else◌, slice_get, slice_set}
 use Rattle.std.specs.Option.{option_map_or}
 use Rattle.std.proofs.lemmas.List.{append_assoc, length-set, length_push}
-use Rattle.emm_machine.specs.declared.solo.Solo.{Solo}
+use Rattle.emm_state.specs.declared.solo.Solo.{Solo}
 use Rattle.emm_machine.specs.Laws.{still_stays}
-use Rattle.emm_machine.specs.Steps.{Item}
+use Rattle.mme_vocabulary.specs.Events.{Item}
 use Rattle.emm_machine.specs.Still.{still}
 use Rattle.emm_machine.specs.Whole.{Whole}
 use Rattle.mme_core.specs.declared.calls.Stepped.{Stepped}

@@ -3,8 +3,8 @@ use Rattle.std.proofs.Common.{◌≡◌, ◌≢◌, ◌<◌, ◌^◌, ℕ, List,
 use Rattle.std.specs.Prelude.{if◌then◌else◌, nat_lt, unwrap_or, IfOk, IfErr}
 use Rattle.std.proofs.lemmas.Bool.Decides.{nat_tests}
 use Rattle.std.proofs.lemmas.List.{length-set}
-use Rattle.emm_machine.specs.Stations.{station_at}
-use Rattle.emm_machine.specs.declared.stations.StationState.{StationState}
+use Rattle.mme_vocabulary.specs.Stations.{station_at}
+use Rattle.mme_vocabulary.specs.declared.stations.StationState.{StationState}
 use Rattle.emm_machine.specs.Whole.{Whole}
 use Rattle.mme_core.specs.declared.calls.Prepared.{Prepared}
 use Rattle.mme_core.specs.declared.event.Event.{Event}
@@ -12,7 +12,7 @@ use Rattle.mme_core.specs.declared.out.Out.{Out}
 use Rattle.mme_core.specs.declared.calls.Prepared.TheVariants as prepared
 use Rattle.mme_core.specs.Seen.{changed, settled}
 use Rattle.mme_core.specs.Sight.{Sight}
-use Rattle.emm_machine.specs.declared.stations.StationState.TheVariants.{Down, Up, Ready as ReadyState}
+use Rattle.mme_vocabulary.specs.declared.stations.StationState.TheVariants.{Down, Up, Ready as ReadyState}
 use Rattle.stranger_machine.specs.Table.{reached}
 use Rattle.mme_core.specs.declared.event.StepFault.{StepFault}
 use Rattle.mme_core.specs.declared.event.StepFault.TheVariants.{ClockSpent, NoMemory}

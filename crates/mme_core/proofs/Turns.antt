@@ -3,7 +3,7 @@ use Rattle.std.proofs.Common.{◌≡◌, ℕ, ◌+◌, suc, zero, List, [], ◌�
 use Rattle.std.specs.Prelude.{slice_get}
 use Rattle.identity_slots.specs.declared.profile.Profile.{Profile}
 use Rattle.ordered_lists.specs.Ordered.{Rising}
-use Rattle.emm_machine.specs.Steps.{Item, Nothing}
+use Rattle.mme_vocabulary.specs.Events.{Item, Nothing}
 use Rattle.emm_machine.specs.Whole.{Whole}
 use Rattle.stranger_machine.specs.declared.state.Stranger.{Stranger}
 use Rattle.stranger_machine.specs.Machine.{Input, stranger_step}

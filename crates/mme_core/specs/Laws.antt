@@ -8,9 +8,9 @@ use Rattle.s1ap_messages.specs.declared.pdu.Pdu.{Pdu}
 use Rattle.s1ap_messages.specs.declared.pdu.Pdu.TheVariants as pdu
 use Rattle.s1ap_messages.specs.Pdus.{decoded}
 use Rattle.identity_slots.specs.Provisioned.{slot_of_id, slot_of_imsi}
-use Rattle.emm_machine.specs.declared.stations.StationState.TheVariants.{Ready}
-use Rattle.emm_machine.specs.Stations.{station_at}
-use Rattle.emm_machine.specs.Steps.{Item, Nothing}
+use Rattle.mme_vocabulary.specs.declared.stations.StationState.TheVariants.{Ready}
+use Rattle.mme_vocabulary.specs.Stations.{station_at}
+use Rattle.mme_vocabulary.specs.Events.{Item, Nothing}
 use Rattle.emm_machine.specs.Whole.{Whole}
 use Rattle.stranger_machine.specs.declared.state.Stranger.{Stranger}
 use Rattle.stranger_machine.specs.Machine.{stranger_step}

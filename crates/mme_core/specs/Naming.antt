@@ -13,8 +13,8 @@ use Rattle.nas_messages.specs.declared.emm_types.Emm.{Emm}
 use Rattle.nas_messages.specs.declared.emm_types.Emm.TheVariants as emm
 use Rattle.nas_messages.specs.Messages.{decoded_emm}
 use Rattle.s1ap_elements.specs.declared.phone.STmsi.{STmsi}
-use Rattle.emm_machine.specs.declared.network.Network.{Network}
-use Rattle.emm_machine.specs.Hearing.{initial_octets}
+use Rattle.mme_vocabulary.specs.declared.network.Network.{Network}
+use Rattle.mme_signalling.specs.Hearing.{initial_octets}
 
 -- a GUTI that this MME gave (TS 23.003 clause 2.8): its network, group and code
 abbrev pub is_own : Network → Guti → Bool

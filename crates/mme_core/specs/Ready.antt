@@ -1,8 +1,8 @@
 -- What was prepared for an event, and the MME when it is taken.
 use Rattle.std.specs.Prelude.{ℕ, List, Option, Some, None, slice_set, unwrap_or}
-use Rattle.emm_machine.specs.declared.stations.StationState.{StationState}
-use Rattle.emm_machine.specs.declared.stations.StationState.TheVariants.{Down}
-use Rattle.emm_machine.specs.Stations.{station_at}
+use Rattle.mme_vocabulary.specs.declared.stations.StationState.{StationState}
+use Rattle.mme_vocabulary.specs.declared.stations.StationState.TheVariants.{Down}
+use Rattle.mme_vocabulary.specs.Stations.{station_at}
 use Rattle.mme_core.specs.declared.mme.Ready.{Ready}
 use Rattle.mme_core.specs.Seen.{changed, settled}
 use Rattle.mme_core.specs.Sight.{Sight}

@@ -1,9 +1,9 @@
 -- What functions of the code returned, without where octets lie in memory.
 use Rattle.std.specs.Prelude.{◌+◌, ◌<◌, ℕ, if◌then◌else◌, slice_get, slice_set, List, [], ◌∷◌, length, unwrap_or}
 use Rattle.std.specs.Option.{option_map_or}
-use Rattle.emm_machine.specs.declared.solo.Solo.{Solo}
-use Rattle.emm_machine.specs.declared.stations.StationState.{StationState}
-use Rattle.emm_machine.specs.Steps.{Item, entry_lists, item_of, message_lists}
+use Rattle.emm_state.specs.declared.solo.Solo.{Solo}
+use Rattle.mme_vocabulary.specs.declared.stations.StationState.{StationState}
+use Rattle.mme_vocabulary.specs.Events.{Item, entry_lists, item_of, message_lists}
 use Rattle.emm_machine.specs.Still.{still}
 use Rattle.emm_machine.specs.Whole.{Whole}
 use Rattle.stranger_machine.specs.declared.table.Known.{Known}

@@ -17,14 +17,14 @@ use Rattle.s1ap_messages.specs.declared.pdu.InitialUeMessage.{InitialUeMessage}
 use Rattle.identity_slots.specs.declared.profile.Profile.{Profile}
 use Rattle.identity_slots.specs.Ids.{stranger_id}
 use Rattle.identity_slots.specs.Provisioned.{slot_of_id}
-use Rattle.emm_machine.specs.declared.event.Entry.{Entry}
-use Rattle.emm_machine.specs.declared.event.UeBody.{UeBody}
-use Rattle.emm_machine.specs.declared.event.UeBody.TheVariants.{Uplink, ReleaseRequest, ReleaseComplete, ContextSetupFailure, PathSwitch, Notice}
-use Rattle.emm_machine.specs.declared.event.UeMessage.{UeMessage}
-use Rattle.emm_machine.specs.declared.octets.Answer.{Answer}
-use Rattle.emm_machine.specs.declared.stations.StationState.{StationState}
-use Rattle.emm_machine.specs.declared.stations.StationState.TheVariants.{Down, Up, Ready}
-use Rattle.emm_machine.specs.Steps.{Item, Initial, Message, StationGone}
+use Rattle.mme_vocabulary.specs.declared.event.Entry.{Entry}
+use Rattle.mme_vocabulary.specs.declared.event.UeBody.{UeBody}
+use Rattle.mme_vocabulary.specs.declared.event.UeBody.TheVariants.{Uplink, ReleaseRequest, ReleaseComplete, ContextSetupFailure, PathSwitch, Notice}
+use Rattle.mme_vocabulary.specs.declared.event.UeMessage.{UeMessage}
+use Rattle.mme_vocabulary.specs.declared.octets.Answer.{Answer}
+use Rattle.mme_vocabulary.specs.declared.stations.StationState.{StationState}
+use Rattle.mme_vocabulary.specs.declared.stations.StationState.TheVariants.{Down, Up, Ready}
+use Rattle.mme_vocabulary.specs.Events.{Item, Initial, Message, StationGone}
 use Rattle.stranger_machine.specs.declared.turn.Notice.TheVariants.{Gone}
 use Rattle.stranger_machine.specs.Machine.{Begins, Told, unknown}
 use Rattle.stranger_machine.specs.Table.{Reach, Nobody, Each}

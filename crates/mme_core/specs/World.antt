@@ -4,13 +4,14 @@ use Rattle.identity_slots.specs.declared.profile.Profile.{Profile}
 use Rattle.identity_slots.specs.declared.profile.Vector.{Vector}
 use Rattle.identity_slots.specs.Provisioned.{Provisioned, slot_of_imsi, vectors_at}
 use Rattle.s1ap_messages.specs.Pdus.{decoded}
-use Rattle.emm_machine.specs.declared.draft.Draft.{Draft}
-use Rattle.emm_machine.specs.declared.octets.Answer.{Answer}
-use Rattle.emm_machine.specs.declared.network.Network.{Network}
-use Rattle.emm_machine.specs.declared.stations.StationState.{StationState}
-use Rattle.emm_machine.specs.declared.stations.StationState.TheVariants.{Down, Up, Ready}
-use Rattle.emm_machine.specs.Stations.{no_stations, station_at}
-use Rattle.emm_machine.specs.Steps.{Item, Nothing, Tick, Data, Cancel, solo_step}
+use Rattle.emm_state.specs.declared.draft.Draft.{Draft}
+use Rattle.mme_vocabulary.specs.declared.octets.Answer.{Answer}
+use Rattle.mme_vocabulary.specs.declared.network.Network.{Network}
+use Rattle.mme_vocabulary.specs.declared.stations.StationState.{StationState}
+use Rattle.mme_vocabulary.specs.declared.stations.StationState.TheVariants.{Down, Up, Ready}
+use Rattle.mme_vocabulary.specs.Stations.{no_stations, station_at}
+use Rattle.mme_vocabulary.specs.Events.{Item, Nothing, Tick, Data, Cancel}
+use Rattle.emm_machine.specs.Steps.{solo_step}
 use Rattle.emm_machine.specs.Whole.{Whole}
 use Rattle.emm_machine.specs.Words.{fresh_solo}
 use Rattle.stranger_machine.specs.declared.state.Stranger.{Stranger}

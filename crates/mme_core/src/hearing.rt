@@ -4,8 +4,8 @@ ghost use Rattle.std.specs.Prelude.{◌≡◌, ◌≢◌, ◌^◌, ◌≤◌, Li
 ghost use Rattle.identity_slots.specs.Ids.{stranger_id};
 ghost use Rattle.s1ap_messages.specs.Pdus.{lists, decoded, initial_ue_message_lists};
 ghost use Rattle.s1ap_messages.specs.declared.fault.S1apFault.TheVariants as faults;
-ghost use Rattle.emm_machine.specs.declared.stations.StationState.{StationState};
-ghost use Rattle.emm_machine.specs.Steps.{body_lists, message_lists};
+ghost use Rattle.mme_vocabulary.specs.declared.stations.StationState.{StationState};
+ghost use Rattle.mme_vocabulary.specs.Events.{body_lists, message_lists};
 ghost use Rattle.mme_core.specs.declared.event.StepFault.TheVariants.{NoMemory};
 ghost use Rattle.mme_core.specs.Seen.{seen};
 ghost use Rattle.mme_core.specs.Stations.{begins_anew, broadcasts, cause_of, entered, enters, hears, hears_message, indicated, indication, is_broadcast, not_compatible, reset, says, set_up, tells, told, told_slot, ue_message};

@@ -2,7 +2,7 @@
 
 ghost use Rattle.std.specs.Prelude.{◌≡◌, ◌≢◌, ◌<◌, ◌++◌, ℕ, length, slice_get, IfOk, IfErr, IsOk, OnOk, OnErr, Ok, Err, Some, None};
 ghost use Rattle.identity_slots.specs.Provisioned.{slot_of_imsi};
-ghost use Rattle.emm_machine.specs.Stations.{station_at};
+ghost use Rattle.mme_vocabulary.specs.Stations.{station_at};
 ghost use Rattle.emm_machine.specs.Whole.{Whole};
 ghost use Rattle.ordered_lists.specs.Ordered.{Rising};
 ghost use Rattle.stranger_machine.specs.Table.{known_id, reached, stranger_at};

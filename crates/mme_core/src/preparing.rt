@@ -1,8 +1,8 @@
 //! What strangers and subscribers do at an event, worked out before any of it is taken.
 
 ghost use Rattle.std.specs.Prelude.{◌≡◌, ◌≤◌, ◌++◌, List, map, length, IfOk, OnOk};
-ghost use Rattle.emm_machine.specs.declared.stations.StationState.{StationState};
-ghost use Rattle.emm_machine.specs.Steps.{item_of};
+ghost use Rattle.mme_vocabulary.specs.declared.stations.StationState.{StationState};
+ghost use Rattle.mme_vocabulary.specs.Events.{item_of};
 ghost use Rattle.stranger_machine.specs.Table.{reached, stranger_at};
 ghost use Rattle.stranger_machine.specs.Turns.{call_of};
 ghost use Rattle.mme_core.specs.Seen.{IsFor, calls_of, changed, reach_of, settled, stepped_from};

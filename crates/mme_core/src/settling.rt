@@ -1,7 +1,7 @@
 //! What was prepared is so.
 
 ghost use Rattle.std.specs.Prelude.{◌≡◌, ◌<◌, length, slice_set, unwrap_or, OnOk, OnErr};
-ghost use Rattle.emm_machine.specs.Stations.{station_at};
+ghost use Rattle.mme_vocabulary.specs.Stations.{station_at};
 ghost use Rattle.mme_core.specs.Seen.{AreUnder, IsFor, changed, settled, with_solo, with_stepped};
 ghost use Rattle.mme_core.specs.Ready.{placed};
 

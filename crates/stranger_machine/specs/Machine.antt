@@ -14,16 +14,16 @@ use Rattle.nas_messages.specs.Messages.{decoded_emm}
 use Rattle.s1ap_elements.specs.declared.cause.Cause.TheVariants.{RadioNetwork, Nas}
 use Rattle.s1ap_elements.specs.declared.cause.RadioNetworkCause.TheVariants.{UnknownMmeUeS1apId, UnknownPairUeS1apId}
 use Rattle.s1ap_elements.specs.declared.cause.NasCause.TheVariants.{Unspecified}
-use Rattle.emm_machine.specs.declared.event.Entry.{Entry}
-use Rattle.emm_machine.specs.declared.event.UeBody.{UeBody}
-use Rattle.emm_machine.specs.declared.event.UeBody.TheVariants.{Uplink, ReleaseRequest, ReleaseComplete, ContextSetupFailure, PathSwitch, Notice as NoticeBody}
-use Rattle.emm_machine.specs.declared.event.UeMessage.{UeMessage}
-use Rattle.emm_machine.specs.declared.octets.Answer.{Answer}
-use Rattle.emm_machine.specs.Connected.{cause_of_request}
-use Rattle.emm_machine.specs.Hearing.{initial_octets}
-use Rattle.emm_machine.specs.Messages.{attach_reject, service_reject, update_reject}
-use Rattle.emm_machine.specs.Pdus.{error_indication, path_switch_failure}
-use Rattle.emm_machine.specs.Steps.{Claim, Displaced, Message}
+use Rattle.mme_vocabulary.specs.declared.event.Entry.{Entry}
+use Rattle.mme_vocabulary.specs.declared.event.UeBody.{UeBody}
+use Rattle.mme_vocabulary.specs.declared.event.UeBody.TheVariants.{Uplink, ReleaseRequest, ReleaseComplete, ContextSetupFailure, PathSwitch, Notice as NoticeBody}
+use Rattle.mme_vocabulary.specs.declared.event.UeMessage.{UeMessage}
+use Rattle.mme_vocabulary.specs.declared.octets.Answer.{Answer}
+use Rattle.mme_signalling.specs.Pdus.{cause_of_request}
+use Rattle.mme_signalling.specs.Hearing.{initial_octets}
+use Rattle.mme_signalling.specs.Messages.{attach_reject, service_reject, update_reject}
+use Rattle.mme_signalling.specs.Pdus.{error_indication, path_switch_failure}
+use Rattle.mme_vocabulary.specs.Events.{Claim, Displaced, Message}
 use Rattle.stranger_machine.specs.declared.state.Kept.{Kept}
 use Rattle.stranger_machine.specs.declared.state.Stranger.{Stranger}
 use Rattle.stranger_machine.specs.declared.state.Stranger.TheVariants.{Waiting, Held}

@@ -1,6 +1,6 @@
 -- What functions of the code returned.
 use Rattle.std.specs.Prelude.{ℕ, List, None}
-use Rattle.emm_machine.specs.Messages.{attach_reject, service_reject, update_reject}
+use Rattle.mme_signalling.specs.Messages.{attach_reject, service_reject, update_reject}
 use Rattle.stranger_machine.specs.declared.entering.Rejected.{Rejected}
 use Rattle.stranger_machine.specs.declared.entering.Rejected.TheVariants as rejected
 use Rattle.stranger_machine.specs.declared.entering.Welcome.{Welcome as WelcomeInCode}

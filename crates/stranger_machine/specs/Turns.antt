@@ -7,13 +7,13 @@ use Rattle.s1ap_elements.specs.declared.cause.Cause.TheVariants.{Nas}
 use Rattle.s1ap_elements.specs.declared.cause.NasCause.TheVariants.{NormalRelease}
 use Rattle.s1ap_messages.specs.declared.pdu.Pdu.{Pdu}
 use Rattle.s1ap_messages.specs.Pdus.{encoded}
-use Rattle.emm_machine.specs.declared.event.Entry.{Entry}
-use Rattle.emm_machine.specs.declared.octets.Answer.{Answer}
-use Rattle.emm_machine.specs.declared.solo.Connection.{Connection}
-use Rattle.emm_machine.specs.declared.stations.StationState.{StationState}
-use Rattle.emm_machine.specs.Actions.{answer_of}
-use Rattle.emm_machine.specs.Pdus.{downlink, release_command}
-use Rattle.emm_machine.specs.Steps.{Item, item_of}
+use Rattle.mme_vocabulary.specs.declared.event.Entry.{Entry}
+use Rattle.mme_vocabulary.specs.declared.octets.Answer.{Answer}
+use Rattle.mme_vocabulary.specs.declared.connection.Connection.{Connection}
+use Rattle.mme_vocabulary.specs.declared.stations.StationState.{StationState}
+use Rattle.mme_vocabulary.specs.Answers.{answer_of}
+use Rattle.mme_signalling.specs.Pdus.{downlink, release_command}
+use Rattle.mme_vocabulary.specs.Events.{Item, item_of}
 use Rattle.stranger_machine.specs.declared.state.Kept.{Kept}
 use Rattle.stranger_machine.specs.declared.state.Stranger.{Stranger}
 use Rattle.stranger_machine.specs.declared.turn.After.{After}

@@ -2,8 +2,8 @@
 
 ghost use Rattle.std.specs.Prelude.{◌≡◌, List, IfOk, option_map, slice_index};
 ghost use Rattle.nas_messages.specs.Messages.{lists};
-ghost use Rattle.emm_machine.specs.declared.stations.StationState.{StationState};
-ghost use Rattle.emm_machine.specs.Steps.{entry_lists};
+ghost use Rattle.mme_vocabulary.specs.declared.stations.StationState.{StationState};
+ghost use Rattle.mme_vocabulary.specs.Events.{entry_lists};
 ghost use Rattle.stranger_machine.specs.Machine.{begins, by_fault, by_identity, by_message, by_type, displaced_by, meet, welcomed};
 ghost use Rattle.stranger_machine.specs.Seen.{refusal_of, welcome_of};
 ghost use Rattle.stranger_machine.specs.Turns.{call_of, kept_of, turn_of};

@@ -3,7 +3,7 @@
 ghost use Rattle.std.specs.Prelude.{◌≡◌, ◌++◌, IfOk, OnOk};
 ghost use Rattle.nas_messages.specs.Messages.{encoded_emm};
 ghost use Rattle.s1ap_messages.specs.Pdus.{lists};
-ghost use Rattle.emm_machine.specs.Pdus.{downlink};
+ghost use Rattle.mme_signalling.specs.Pdus.{downlink};
 ghost use Rattle.stranger_machine.specs.Turns.{asked, identity_request, refused, released, said};
 
 use emm_machine::{

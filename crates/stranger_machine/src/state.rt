@@ -1,7 +1,7 @@
 //! What is kept of a stranger.
 
 ghost use Rattle.std.specs.Prelude.{◌≡◌, IfOk};
-ghost use Rattle.emm_machine.specs.Steps.{entry_lists};
+ghost use Rattle.mme_vocabulary.specs.Events.{entry_lists};
 ghost use Rattle.stranger_machine.specs.Turns.{entry_of, kept_of, place_of};
 
 use crate::sending::place;

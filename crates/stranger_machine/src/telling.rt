@@ -3,8 +3,8 @@
 ghost use Rattle.std.specs.Prelude.{◌≡◌, ◌∷◌, List, [], Ok, Some, None, IfOk, option_map};
 ghost use Rattle.nas_messages.specs.Messages.{decoded_emm, lists};
 ghost use Rattle.nas_messages.specs.declared.emm_types.Direction.TheVariants.{Uplink};
-ghost use Rattle.emm_machine.specs.declared.stations.StationState.{StationState};
-ghost use Rattle.emm_machine.specs.Steps.{Message, message_lists};
+ghost use Rattle.mme_vocabulary.specs.declared.stations.StationState.{StationState};
+ghost use Rattle.mme_vocabulary.specs.Events.{Message, message_lists};
 ghost use Rattle.stranger_machine.specs.declared.state.Stranger.{Stranger};
 ghost use Rattle.stranger_machine.specs.declared.turn.After.TheVariants as afters;
 ghost use Rattle.stranger_machine.specs.Machine.{checked, claimed_by, heeds, identified, imsi_of, told, told_imsi, unknown, waiting_told};

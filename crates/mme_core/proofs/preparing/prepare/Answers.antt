@@ -1,6 +1,6 @@
 use Rattle.std.proofs.Common.{◌++◌, sym, ◌∙◌, ap, refl}
 use Rattle.std.proofs.lemmas.List.{append-nil}
-use Rattle.emm_machine.specs.Steps.{item_of}
+use Rattle.mme_vocabulary.specs.Events.{item_of}
 use Rattle.mme_core.proofs.Calling.{after_nothing, sends_nothing}
 use Rattle.mme_core.proofs.Stepping.{everyone_fits, everyone_settled}
 use Rattle.mme_core.proofs.preparing.prepare.Goals as goal

@@ -1,6 +1,6 @@
 use Rattle.std.proofs.Common.{◌≡◌, ◌+◌, ◌∷◌, true, drop, sym, ◌∙◌, ap}
 use Rattle.std.proofs.lemmas.List.{drop_more}
-use Rattle.emm_machine.specs.Steps.{item_of}
+use Rattle.mme_vocabulary.specs.Events.{item_of}
 use Rattle.emm_machine.specs.Still.{still}
 use Rattle.mme_core.proofs.Stepping.{sends_past, stepped_past}
 use Rattle.mme_core.proofs.preparing.prepare_everyone.Goals as goal

@@ -1,5 +1,5 @@
 use Rattle.std.proofs.Common.{◌≡◌, ◌++◌, drop}
-use Rattle.emm_machine.specs.Steps.{item_of}
+use Rattle.mme_vocabulary.specs.Events.{item_of}
 use Rattle.mme_core.specs.Seen.{stepped_from}
 use Rattle.mme_core.specs.Stations.{Everyone}
 use Rattle.mme_core.specs.World.{called, each_sends}

@@ -3,7 +3,7 @@ use Rattle.std.specs.Prelude.{slice_get, slice_set, Option}
 use Rattle.std.specs.Option.{option_map_or}
 use Rattle.std.proofs.lemmas.List.{append-nil}
 use Rattle.std.proofs.lemmas.Option.{slice_get_read}
-use Rattle.emm_machine.specs.Steps.{item_of}
+use Rattle.mme_vocabulary.specs.Events.{item_of}
 use Rattle.emm_machine.specs.Whole.{Whole}
 use Rattle.mme_core.specs.Seen.{in_state}
 use Rattle.mme_core.proofs.Calling.{after_call, sends_call, call_past}

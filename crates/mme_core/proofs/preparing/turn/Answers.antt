@@ -1,5 +1,5 @@
 use Rattle.std.proofs.Common.{◌++◌, [], map, sym, ◌∙◌, ap}
-use Rattle.emm_machine.specs.Steps.{entry_lists, message_lists}
+use Rattle.mme_vocabulary.specs.Events.{entry_lists, message_lists}
 use Rattle.stranger_machine.specs.Machine.{begins, stranger_step, told}
 use Rattle.stranger_machine.specs.Table.{with_stranger}
 use Rattle.stranger_machine.specs.Turns.{Turn, turn_of}

@@ -1,7 +1,7 @@
 use Rattle.std.proofs.Common.{◌≡◌, [], None, Option, Some, ℕ, sym, ◌∙◌, ap}
 use Rattle.identity_slots.specs.Provisioned.{slot_of_imsi}
-use Rattle.emm_machine.specs.declared.stations.StationState.TheVariants.{Down}
-use Rattle.emm_machine.specs.Steps as items
+use Rattle.mme_vocabulary.specs.declared.stations.StationState.TheVariants.{Down}
+use Rattle.mme_vocabulary.specs.Events as items
 use Rattle.stranger_machine.specs.Table.{Nobody}
 use Rattle.mme_core.specs.declared.event.Event.TheVariants as events
 use Rattle.mme_core.specs.Stations.{Heard, One}

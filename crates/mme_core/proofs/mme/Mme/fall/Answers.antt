@@ -1,6 +1,6 @@
 use Rattle.std.proofs.Common.{◌≡◌, None, Some, sym, ◌∙◌, ap}
-use Rattle.emm_machine.specs.declared.stations.StationState.TheVariants.{Down}
-use Rattle.emm_machine.specs.Steps as items
+use Rattle.mme_vocabulary.specs.declared.stations.StationState.TheVariants.{Down}
+use Rattle.mme_vocabulary.specs.Events as items
 use Rattle.stranger_machine.specs.declared.turn.Notice.TheVariants as notices
 use Rattle.stranger_machine.specs.Table.{Each}
 use Rattle.mme_core.specs.declared.event.Event.TheVariants as events

@@ -1,5 +1,5 @@
 use Rattle.std.proofs.Common.{◌≡◌, None, Some, sym, subst, ◌∙◌, ap}
-use Rattle.emm_machine.specs.Stations.{station_at}
+use Rattle.mme_vocabulary.specs.Stations.{station_at}
 use Rattle.s1ap_messages.specs.Pdus.{decoded}
 use Rattle.mme_core.specs.declared.event.Event.TheVariants as events
 use Rattle.mme_core.specs.declared.event.StepFault.TheVariants.{NotUp}

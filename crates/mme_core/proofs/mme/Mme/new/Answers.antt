@@ -1,7 +1,7 @@
 use Rattle.std.proofs.Common.{length, ap, sym, subst, ◌∙◌}
 use Rattle.std.proofs.lemmas.List.{length-replicate}
-use Rattle.emm_machine.specs.declared.stations.StationState.TheVariants.{Down}
-use Rattle.emm_machine.specs.Stations.{no_stations}
+use Rattle.mme_vocabulary.specs.declared.stations.StationState.TheVariants.{Down}
+use Rattle.mme_vocabulary.specs.Stations.{no_stations}
 use Rattle.ordered_lists.specs.Ordered.{Rising}
 use Rattle.stranger_machine.specs.Table.{known_id}
 use Rattle.mme_core.proofs.mme.Mme.new.Goals as goal

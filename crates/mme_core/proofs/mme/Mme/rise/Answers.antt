@@ -1,5 +1,5 @@
 use Rattle.std.proofs.Common.{◌≡◌, None, Some, sym, ◌∙◌, ap}
-use Rattle.emm_machine.specs.declared.stations.StationState.TheVariants.{Up}
+use Rattle.mme_vocabulary.specs.declared.stations.StationState.TheVariants.{Up}
 use Rattle.stranger_machine.specs.Table.{Nobody}
 use Rattle.mme_core.specs.declared.event.Event.TheVariants as events
 use Rattle.mme_core.specs.declared.event.StepFault.TheVariants.{AlreadyUp}

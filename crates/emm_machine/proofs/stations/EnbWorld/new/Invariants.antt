@@ -1,6 +1,0 @@
-use Rattle.std.proofs.Common.{◌≡◌, replicate}
-use Rattle.emm_machine.specs.declared.stations.StationState.TheVariants.{Down}
-use Rattle.emm_machine.proofs.stations.EnbWorld.new.Given as goal
-
-abbrev pub invariant-loop : goal.invariant-loop
-invariant-loop l = l.stations.items ≡ replicate l.counter Down

@@ -1,0 +1,185 @@
+-- The actions of the one-subscriber machine, each from a step under way to the step with the action done. A release without
+-- a connection sends nothing, and a message without a written form isn't sent.
+use Rattle.std.specs.Prelude.{ℕ, ◌+◌, ◌^◌, ◌==◌, ◌&&◌, Bool, true, false, nat_lt, if◌then◌else◌, List, [], ◌∷◌, ◌++◌, Option, Some, None}
+use Rattle.std.specs.Option.{option_map_or}
+use Rattle.eps_keys.specs.Eia2.{eia2}
+use Rattle.nas_messages.specs.declared.protection.SecurityHeader.{SecurityHeader}
+use Rattle.nas_messages.specs.declared.protection.SecurityHeader.TheVariants.{IntegrityProtectedCiphered}
+use Rattle.nas_security.specs.Context.{Mac}
+use Rattle.nas_security.specs.Protecting.{protected_by}
+use Rattle.identity_slots.specs.Ids.{id_of, next_counter}
+use Rattle.s1ap_elements.specs.declared.cause.Cause.{Cause}
+use Rattle.s1ap_elements.specs.declared.cause.Cause.TheVariants.{Nas}
+use Rattle.s1ap_elements.specs.declared.cause.NasCause.TheVariants.{NormalRelease}
+use Rattle.s1ap_messages.specs.declared.pdu.Pdu.{Pdu}
+use Rattle.s1ap_messages.specs.Pdus.{encoded}
+use Rattle.esm_machine.specs.Requests.{inactive}
+use Rattle.emm_state.specs.declared.draft.Draft.{Draft}
+use Rattle.emm_state.specs.declared.draft.Sealed.{Sealed}
+use Rattle.mme_vocabulary.specs.declared.octets.Mark.{Mark}
+use Rattle.emm_state.specs.declared.setting.Setting.{Setting}
+use Rattle.mme_vocabulary.specs.declared.connection.Connection.{Connection}
+use Rattle.emm_state.specs.declared.solo.Context.{Context}
+use Rattle.emm_state.specs.declared.solo.Phase.{Phase}
+use Rattle.emm_state.specs.declared.solo.Phase.TheVariants.{Deregistered, Authenticating, SecurityMode, EsmInformation, Accepting, Updating, Registered, Detaching}
+use Rattle.emm_state.specs.declared.solo.Repeat.{Repeat}
+use Rattle.emm_state.specs.declared.solo.Solo.{Solo}
+use Rattle.emm_state.specs.declared.solo.Timer.{Timer}
+use Rattle.mme_vocabulary.specs.Answers.{answer_of}
+use Rattle.emm_state.specs.Does.{◌>>=◌}
+use Rattle.mme_signalling.specs.Pdus.{context_setup, downlink, release_command}
+use Rattle.emm_state.specs.Timers.{reachable_ticks, repeats_of, ticks_of}
+
+-- a step of which nothing is done yet
+abbrev pub untouched : Solo → Draft
+untouched solo = record { solo = solo; sent = []; accepted = None }
+
+-- ---- messages
+
+-- the message goes to the station, under a vector's place and a count where its NAS message is protected
+unfoldable pub emit : ℕ → Pdu (List ℕ) → Option Mark → Draft → Draft
+emit station message under d = record d { sent = d.sent ++ answer_of station under (encoded message) }
+
+-- NAS to the phone, plain
+unfoldable pub send : List ℕ → Draft → Draft
+send nas d = option_map_or (λ k. emit k.station (downlink k nas) None d) d.solo.connection d
+
+-- ---- the connection
+
+unfoldable pub disconnected : Draft → Draft
+disconnected d = record d { solo = record d.solo { connection = None } }
+
+-- UE CONTEXT RELEASE COMMAND with the pair, and the connection is gone
+unfoldable pub release : Cause → Draft → Draft
+release cause d = option_map_or (λ k. disconnected (emit k.station (release_command k.id k.enb_id cause) None d)) d.solo.connection d
+
+abbrev pub is_at : Connection → ℕ → ℕ → Bool
+is_at k station enb_id = k.station == station && k.enb_id == enb_id
+
+-- an old connection elsewhere is released
+unfoldable pub leave_old : ℕ → ℕ → Draft → Draft
+leave_old station enb_id d =
+    option_map_or (λ k. if is_at k station enb_id then d else emit k.station (release_command k.id k.enb_id (Nas NormalRelease)) None d) d.solo.connection d
+
+-- the association with this id is the connection
+unfoldable pub connect_on : ℕ → ℕ → ℕ → Draft → Draft
+connect_on id station enb_id d =
+    let left = leave_old station enb_id d in
+    record left { solo = record left.solo { connection = Some (record { id = id; station = station; enb_id = enb_id }) } }
+
+-- the slot's next association id
+abbrev pub next_id : ℕ → Draft → ℕ
+next_id slot d = id_of slot (next_counter d.solo.associations)
+
+unfoldable pub counted : Draft → Draft
+counted d = record d { solo = record d.solo { associations = next_counter d.solo.associations } }
+
+-- an association with the slot's next id is the connection
+unfoldable pub connect : ℕ → ℕ → ℕ → Draft → Draft
+connect slot station enb_id d = connect_on (next_id slot d) station enb_id (counted d)
+
+-- on a next id of its own a release; all else stays
+unfoldable pub turn_away : ℕ → ℕ → ℕ → Draft → Draft
+turn_away slot station enb_id d = emit station (release_command (next_id slot d) enb_id (Nas NormalRelease)) None (counted d)
+
+-- on a next id of its own the message, plain, and a release; all else stays
+unfoldable pub refuse : ℕ → ℕ → ℕ → List ℕ → Draft → Draft
+refuse slot station enb_id nas d =
+    let id = next_id slot d in
+    let told = emit station (downlink (record { id = id; station = station; enb_id = enb_id }) nas) None (counted d) in
+    emit station (release_command id enb_id (Nas NormalRelease)) None told
+
+-- ---- the registration
+
+-- all of it is gone; counters and the next vector's place stay
+unfoldable pub wipe : Draft → Draft
+wipe d = record d {
+  solo = record d.solo {
+    phase = Deregistered;
+    context = None;
+    tmsi = None;
+    bearer = inactive;
+    repeat = None;
+    procedure = None;
+    reachable = None;
+  };
+}
+
+-- no procedure is under way
+unfoldable pub ended : Draft → Draft
+ended d = record d { solo = record d.solo { repeat = None; procedure = None } }
+
+-- registered and idle, and reachable for so long
+unfoldable pub resting : Draft → Draft
+resting d =
+    let e = ended d in
+    record e { solo = record e.solo { phase = Registered; reachable = Some reachable_ticks } }
+
+-- registered, also where its connection ends
+abbrev pub is_registered : Phase → Bool
+is_registered Registered = true
+is_registered Updating = true
+is_registered Deregistered = false
+is_registered Authenticating = false
+is_registered SecurityMode = false
+is_registered EsmInformation = false
+is_registered Accepting = false
+is_registered Detaching = false
+
+-- a phone that is registered is idle, any other is forgotten
+abbrev pub fallen : Draft → Draft
+fallen d = if is_registered d.solo.phase then resting d else wipe d
+
+-- the connection ends with a release
+unfoldable pub fall : Cause → Draft → Draft
+fall cause d = fallen (release cause d)
+
+-- the connection is gone without a message
+unfoldable pub lost : Draft → Draft
+lost d = fallen (disconnected d)
+
+-- the timer's countdown runs, and what is sent again is kept
+unfoldable pub start : Timer → Repeat → Draft → Draft
+start timer repeat d = record d {
+  solo = record d.solo {
+    repeat = Some repeat;
+    procedure = Some (record { timer = timer; left = ticks_of timer; repeats = repeats_of timer });
+  };
+}
+
+-- ---- protected messages
+
+abbrev pub mac_of : Context → Mac
+mac_of x = eia2 x.security.integrity
+
+abbrev pub sealed_under : SecurityHeader → List ℕ → Draft → Context → Option (Sealed × Draft)
+sealed_under header nas d x =
+    let n = x.security.down_next in
+    let spent = record x { security = record x.security { down_next = n + 1 } } in
+    if nat_lt n (2 ^ 24) then
+    Some (
+      record { form = protected_by (mac_of x) n header nas; under = Some (record { place = x.place; count = n }) },
+      record d { solo = record d.solo { context = Some spent } },
+    )
+    else None
+
+-- the protected form under the next downlink count, which is spent; none from 2^24 on
+unfoldable pub seal : SecurityHeader → List ℕ → Draft → Option (Sealed × Draft)
+seal header nas d = option_map_or (sealed_under header nas d) d.solo.context (Some (record { form = []; under = None }, d))
+
+-- NAS to the phone, protected
+unfoldable pub protect : SecurityHeader → List ℕ → Draft → Option Draft
+protect header nas d = do
+  s ← seal header nas d
+  Some (option_map_or (λ k. emit k.station (downlink k s.0.form) s.0.under s.1) s.1.solo.connection s.1)
+
+-- INITIAL CONTEXT SETUP REQUEST, with a protected NAS message where there is one
+unfoldable pub set_up : Setting → List ℕ → Option (List ℕ) → Option Mark → Draft → Draft
+set_up s kenb nas under d =
+    option_map_or (λ k. emit k.station (context_setup s.network s.profile d.solo.asked.capability k kenb nas) under d) d.solo.connection d
+
+-- with a NAS message that is protected here
+unfoldable pub set_up_with : Setting → List ℕ → List ℕ → Draft → Option Draft
+set_up_with s kenb nas d = do
+  sealed ← seal IntegrityProtectedCiphered nas d
+  Some (set_up s kenb (Some sealed.0.form) sealed.0.under sealed.1)

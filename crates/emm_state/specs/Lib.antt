@@ -1,0 +1,3 @@
+pub mod Timers
+pub mod Does
+pub mod Actions

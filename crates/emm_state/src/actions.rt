@@ -1,0 +1,381 @@
+//! The actions of a step.
+
+ghost use Rattle.std.specs.Prelude.{◌≡◌, ◌<◌, ◌^◌, IfOk, OnOk, Some, None, option_map};
+ghost use Rattle.s1ap_messages.specs.Pdus.{encoded, lists};
+ghost use Rattle.s1ap_elements.specs.declared.cause.Cause.TheVariants as causes;
+ghost use Rattle.s1ap_elements.specs.declared.cause.NasCause.TheVariants as nas_causes;
+ghost use Rattle.emm_state.specs.Actions.{connect, connect_on, counted, disconnected, emit, ended, fall, is_registered, leave_old, lost, next_id, protect, refuse, release, resting, seal, send, set_up, set_up_with, start, turn_away, wipe};
+ghost use Rattle.emm_state.specs.Does.{Does, Makes};
+
+use crate::draft::{Draft, Sealed, Stop};
+use crate::setting::Setting;
+use crate::solo::{Countdown, Phase, Repeat, Timer};
+use esm_machine::Bearer;
+use identity_slots::{AssociationId, Slot};
+use mme_signalling::{context_setup, downlink, release_command};
+use mme_vocabulary::{Answer, Connection, Mark, NasOctets, SentOctets, StationNumber};
+use nas_messages::SecurityHeader;
+use nas_security::SecurityFault;
+use s1ap_elements::{Cause, EnbUeId, NasCause};
+use s1ap_messages::S1apPdu;
+use std::alloc::{AllocError, Global};
+
+// The ticks until a phone that is idle is taken to be gone: the mobile reachable timer, 58 minutes (TS 24.301 clause 10.2).
+const REACHABLE_TICKS: u32 = 3480;
+
+// The cause of an association that ends as it should.
+fn normal_release() -> Cause
+    ensures { result ≡ causes.Nas nas_causes.NormalRelease }
+{
+    Cause::Nas(NasCause::NormalRelease)
+}
+
+/// Whether the phone is registered, and stays so where its connection ends.
+pub fn is_registered(phase: Phase) -> bool
+    ensures { result ≡ is_registered phase }
+{
+    match phase {
+        Phase::Registered | Phase::Updating => true,
+        Phase::Deregistered
+        | Phase::Authenticating
+        | Phase::SecurityMode
+        | Phase::EsmInformation
+        | Phase::Accepting
+        | Phase::Detaching => false,
+    }
+}
+
+impl Draft {
+    /// The message goes to the station, and its NAS message under a mark where it is protected.
+    #[tactic(auto, unfolding(crate::specs::Actions::emit))]
+    pub fn emit(
+        &mut self,
+        alloc: Global,
+        station: StationNumber,
+        message: &S1apPdu,
+        under: Option<Mark>,
+    ) -> Result<(), AllocError>
+        ensures { OnOk result (self.new ≡ emit station (lists message.now) under self.old) }
+    {
+        let Some(octets) = SentOctets::of_message(alloc, message)? else {
+            return Ok(());
+        };
+        self.sent.push(Answer {
+            station,
+            octets,
+            under,
+        })
+    }
+
+    /// NAS to the phone, plain, in DOWNLINK NAS TRANSPORT.
+    #[tactic(auto, unfolding(crate::specs::Actions::send))]
+    pub fn send(&mut self, alloc: Global, nas: &[u8]) -> Result<(), AllocError>
+        ensures { OnOk result (self.new ≡ send nas.now self.old) }
+    {
+        let Some(connection) = self.solo.connection else {
+            return Ok(());
+        };
+        let station = connection.station;
+        let message = downlink(connection, nas);
+        self.emit(alloc, station, &message, None)
+    }
+
+    /// UE CONTEXT RELEASE COMMAND, and the connection is gone.
+    #[tactic(auto, unfolding(crate::specs::Actions::release, crate::specs::Actions::disconnected))]
+    pub fn release(&mut self, alloc: Global, cause: Cause) -> Result<(), AllocError>
+        ensures { OnOk result (self.new ≡ release cause self.old) }
+    {
+        let Some(connection) = self.solo.connection else {
+            return Ok(());
+        };
+        let message = release_command(connection.id, connection.enb_id, cause);
+        self.emit(alloc, connection.station, &message, None)?;
+        self.solo.connection = None;
+        Ok(())
+    }
+
+    /// All of the registration is gone; counters and the next vector's place stay.
+    #[tactic(auto, unfolding(crate::specs::Actions::wipe))]
+    pub fn wipe(&mut self)
+        ensures { self.new ≡ wipe self.old }
+    {
+        self.solo.phase = Phase::Deregistered;
+        self.solo.context = None;
+        self.solo.tmsi = None;
+        self.solo.bearer = Bearer::new();
+        self.solo.repeat = None;
+        self.solo.procedure = None;
+        self.solo.reachable = None;
+    }
+
+    /// No procedure is under way.
+    #[tactic(auto, unfolding(crate::specs::Actions::ended))]
+    pub fn end_procedure(&mut self)
+        ensures { self.new ≡ ended self.old }
+    {
+        self.solo.repeat = None;
+        self.solo.procedure = None;
+    }
+
+    // Registered and idle, with no procedure, and reachable for so long.
+    #[tactic(auto, unfolding(crate::specs::Actions::resting, crate::specs::Actions::ended))]
+    fn rest(&mut self)
+        ensures { self.new ≡ resting self.old }
+    {
+        self.end_procedure();
+        self.solo.phase = Phase::Registered;
+        self.solo.reachable = Some(REACHABLE_TICKS);
+    }
+
+    /// The connection is gone without a message.
+    #[tactic(auto, unfolding(crate::specs::Actions::lost, crate::specs::Actions::disconnected))]
+    pub fn lose(&mut self)
+        ensures { self.new ≡ lost self.old }
+    {
+        self.solo.connection = None;
+        if is_registered(self.solo.phase) {
+            self.rest();
+        } else {
+            self.wipe();
+        }
+    }
+
+    /// The connection ends: a phone that is registered is idle, any other is forgotten.
+    #[tactic(auto, unfolding(crate::specs::Actions::fall))]
+    pub fn fall(&mut self, alloc: Global, cause: Cause) -> Result<(), AllocError>
+        ensures { OnOk result (self.new ≡ fall cause self.old) }
+    {
+        self.release(alloc, cause)?;
+        if is_registered(self.solo.phase) {
+            self.rest();
+        } else {
+            self.wipe();
+        }
+        Ok(())
+    }
+
+    // An old connection elsewhere is released.
+    #[tactic(auto, unfolding(crate::specs::Actions::leave_old))]
+    fn leave_old(
+        &mut self,
+        alloc: Global,
+        station: StationNumber,
+        enb_id: EnbUeId,
+    ) -> Result<(), AllocError>
+        ensures { OnOk result (self.new ≡ leave_old station enb_id self.old) }
+    {
+        let Some(old) = self.solo.connection else {
+            return Ok(());
+        };
+        if old.station == station && old.enb_id == enb_id {
+            return Ok(());
+        }
+        let message = release_command(old.id, old.enb_id, normal_release());
+        self.emit(alloc, old.station, &message, None)
+    }
+
+    /// The association with this id is the connection.
+    #[tactic(auto, unfolding(crate::specs::Actions::connect_on))]
+    pub fn connect_on(
+        &mut self,
+        alloc: Global,
+        id: AssociationId,
+        station: StationNumber,
+        enb_id: EnbUeId,
+    ) -> Result<(), AllocError>
+        ensures { OnOk result (self.new ≡ connect_on id station enb_id self.old) }
+    {
+        self.leave_old(alloc, station, enb_id)?;
+        self.solo.connection = Some(Connection {
+            id,
+            station,
+            enb_id,
+        });
+        Ok(())
+    }
+
+    // The slot's next association id.
+    #[tactic(auto, unfolding(crate::specs::Actions::counted))]
+    fn next_id(&mut self, slot: Slot) -> AssociationId
+        ensures id { result ≡ next_id slot self.old }
+        ensures counted { self.new ≡ counted self.old }
+    {
+        let (id, counter) = self.solo.associations.association(slot);
+        self.solo.associations = counter;
+        id
+    }
+
+    /// An association with the slot's next id is the connection.
+    #[tactic(auto, unfolding(crate::specs::Actions::connect))]
+    pub fn connect(
+        &mut self,
+        alloc: Global,
+        slot: Slot,
+        station: StationNumber,
+        enb_id: EnbUeId,
+    ) -> Result<(), AllocError>
+        ensures { OnOk result (self.new ≡ connect slot station enb_id self.old) }
+    {
+        let id = self.next_id(slot);
+        self.connect_on(alloc, id, station, enb_id)
+    }
+
+    /// A phone's request is answered by a release alone, on an association of its own; all else stays.
+    #[tactic(auto, unfolding(crate::specs::Actions::turn_away))]
+    pub fn turn_away(
+        &mut self,
+        alloc: Global,
+        slot: Slot,
+        station: StationNumber,
+        enb_id: EnbUeId,
+    ) -> Result<(), AllocError>
+        ensures { OnOk result (self.new ≡ turn_away slot station enb_id self.old) }
+    {
+        let id = self.next_id(slot);
+        let message = release_command(id, enb_id, normal_release());
+        self.emit(alloc, station, &message, None)
+    }
+
+    /// A phone's request is refused by a plain message and a release, on an association of its own; all else stays.
+    #[tactic(auto, unfolding(crate::specs::Actions::refuse))]
+    pub fn refuse(
+        &mut self,
+        alloc: Global,
+        slot: Slot,
+        station: StationNumber,
+        enb_id: EnbUeId,
+        nas: &[u8],
+    ) -> Result<(), AllocError>
+        ensures { OnOk result (self.new ≡ refuse slot station enb_id nas.now self.old) }
+    {
+        let id = self.next_id(slot);
+        let told = downlink(
+            Connection {
+                id,
+                station,
+                enb_id,
+            },
+            nas,
+        );
+        self.emit(alloc, station, &told, None)?;
+        let released = release_command(id, enb_id, normal_release());
+        self.emit(alloc, station, &released, None)
+    }
+
+    /// The timer's countdown runs, and what is sent again is kept.
+    #[tactic(auto, unfolding(crate::specs::Actions::start))]
+    pub fn start(&mut self, timer: Timer, repeat: Repeat)
+        ensures { self.new ≡ start timer repeat self.old }
+    {
+        self.solo.repeat = Some(repeat);
+        self.solo.procedure = Some(Countdown {
+            timer,
+            left: timer.ticks(),
+            repeats: timer.repeats(),
+        });
+    }
+
+    // The protected form of a NAS message, under the next downlink count.
+    #[tactic(auto, unfolding(crate::specs::Actions::seal))]
+    fn seal(&mut self, alloc: Global, header: SecurityHeader, nas: &[u8]) -> Result<Sealed, Stop>
+        ensures { Makes result self.new (seal header nas.now self.old) }
+    {
+        let Some(mut context) = self.solo.context else {
+            return Ok(Sealed {
+                form: NasOctets::new(Vec::new(alloc)),
+                under: None,
+            });
+        };
+        let under = Mark {
+            place: context.place,
+            count: context.security.down_next(),
+        };
+        let form = match context.security.protect(alloc, header, nas) {
+            Ok(form) => form,
+            Err(SecurityFault::NoMemory) => return Err(Stop::NoMemory),
+            Err(_) => return Err(Stop::Spent),
+        };
+        self.solo.context = Some(context);
+        Ok(Sealed {
+            form: NasOctets::new(form),
+            under: Some(under),
+        })
+    }
+
+    /// NAS to the phone, protected, in DOWNLINK NAS TRANSPORT.
+    #[tactic(auto, unfolding(crate::specs::Actions::protect))]
+    pub fn protect(&mut self, alloc: Global, header: SecurityHeader, nas: &[u8]) -> Result<(), Stop>
+        ensures { Does result self.new (protect header nas.now self.old) }
+    {
+        let sealed = self.seal(alloc, header, nas)?;
+        let Some(connection) = self.solo.connection else {
+            return Ok(());
+        };
+        let Sealed { form, under } = sealed;
+        let station = connection.station;
+        let message = downlink(connection, form.as_slice());
+        self.emit(alloc, station, &message, under)?;
+        Ok(())
+    }
+
+    // INITIAL CONTEXT SETUP REQUEST, with a protected NAS message where there is one.
+    #[tactic(auto, unfolding(crate::specs::Actions::set_up))]
+    fn set_up<'x>(
+        &mut self,
+        alloc: Global,
+        setting: &'x Setting,
+        kenb: [u8; 32],
+        nas: Option<&'x [u8]>,
+        under: Option<Mark>,
+    ) -> Result<(), AllocError>
+        ensures { OnOk result (self.new ≡ set_up setting.now kenb (option_map (λ o. o.now) nas.entry) under self.old) }
+    {
+        let Some(connection) = self.solo.connection else {
+            return Ok(());
+        };
+        let station = connection.station;
+        let message = context_setup(
+            alloc,
+            &setting.network,
+            &setting.profile,
+            &self.solo.asked.capability,
+            connection,
+            kenb,
+            nas,
+        )?;
+        self.emit(alloc, station, &message, under)
+    }
+
+    /// INITIAL CONTEXT SETUP REQUEST without a NAS message.
+    #[tactic(auto, unfolding(crate::specs::Actions::set_up))]
+    pub fn set_up_alone(
+        &mut self,
+        alloc: Global,
+        setting: &Setting,
+        kenb: [u8; 32],
+    ) -> Result<(), AllocError>
+        ensures { OnOk result (self.new ≡ set_up setting.now kenb None None self.old) }
+    {
+        self.set_up(alloc, setting, kenb, None, None)
+    }
+
+    /// INITIAL CONTEXT SETUP REQUEST with a NAS message that is protected here.
+    #[tactic(auto, unfolding(crate::specs::Actions::set_up_with))]
+    pub fn set_up_with(
+        &mut self,
+        alloc: Global,
+        setting: &Setting,
+        kenb: [u8; 32],
+        nas: &[u8],
+    ) -> Result<(), Stop>
+        ensures { Does result self.new (set_up_with setting.now kenb nas.now self.old) }
+    {
+        let Sealed { form, under } = self.seal(
+            alloc,
+            SecurityHeader::IntegrityProtectedCiphered,
+            nas,
+        )?;
+        self.set_up(alloc, setting, kenb, Some(form.as_slice()), under)?;
+        Ok(())
+    }
+}

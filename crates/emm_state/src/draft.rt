@@ -1,0 +1,54 @@
+//! A step under way.
+
+ghost use Rattle.std.specs.Prelude.{◌≡◌, IfOk};
+ghost use Rattle.emm_state.specs.Actions.{untouched};
+
+use crate::solo::Solo;
+use mme_vocabulary::{Answers, Mark, NasOctets};
+use std::alloc::{AllocError, Global};
+
+/// A step under way: the state so far, what is sent so far, and what an uplink message was accepted under.
+#[derive(Drop)]
+pub struct Draft {
+    pub solo: Solo,
+    pub sent: Answers,
+    pub accepted: Option<Mark>,
+}
+
+impl Draft {
+    /// A step from a state, of which nothing is done yet.
+    pub fn from_state(alloc: Global, solo: &Solo) -> Result<Draft, AllocError>
+        ensures { IfOk result (λ d. d ≡ untouched solo.now) }
+    {
+        Ok(Draft {
+            solo: solo.copy(alloc)?,
+            sent: Answers::new(alloc),
+            accepted: None,
+        })
+    }
+}
+
+/// Why an action stopped: the downlink counts are spent, or memory was refused.
+#[derive(Clone, Copy)]
+pub enum Stop {
+    Spent,
+    NoMemory,
+}
+
+impl From<AllocError> for Stop {
+    ghost from_gives = { λ _ e. e ≡ NoMemory };
+
+    ghost use Rattle.std.specs.Prelude.{◌≡◌};
+    ghost use Rattle.emm_state.specs.declared.draft.Stop.TheVariants.{NoMemory};
+
+    fn from(_e: AllocError) -> Stop {
+        Stop::NoMemory
+    }
+}
+
+/// A protected NAS message, and what it is protected under.
+#[derive(Drop)]
+pub struct Sealed {
+    pub form: NasOctets,
+    pub under: Option<Mark>,
+}

@@ -1,0 +1,15 @@
+//! What the machine of one subscriber keeps ([`Solo`]), what never changes of a subscriber ([`Setting`]), and the actions that
+//! the rows of its machine are made of, each a method of a step under way ([`Draft`]).
+#![tactic(auto)]
+
+mod actions;
+mod draft;
+mod setting;
+mod solo;
+
+pub use actions::is_registered;
+pub use draft::{Draft, Sealed, Stop};
+pub use setting::{Setting, Vectors};
+pub use solo::{
+    Asked, Context, Countdown, Counter, Phase, Protection, Repeat, Solo, Stations, Timer,
+};

@@ -1,0 +1,281 @@
+//! What a subscriber's machine keeps.
+
+ghost use Rattle.std.specs.Prelude.{◌≡◌, ◌==◌, not, filter, IfOk};
+ghost use Rattle.std.specs.List.{list_any};
+ghost use Rattle.identity_slots.specs.Ids.{next_counter, id_of};
+ghost use Rattle.emm_state.specs.Timers.{repeats_of, ticks_of};
+
+use esm_machine::Bearer;
+use identity_slots::{AssociationId, Slot, Tmsi};
+use mme_vocabulary::{Connection, NasOctets, RadioKeys, StationNumber};
+use nas_elements::UeCapability;
+use nas_messages::SecurityHeader;
+use nas_security::{Eia2, SecurityContext};
+use s1ap_elements::Tai;
+use std::alloc::{AllocError, Global};
+use std::marker::Model;
+
+/// What the machine is about (TS 24.301 clause 5.1.3.4).
+#[derive(Clone, Copy, PartialEq, Eq, Debug)]
+pub enum Phase {
+    Deregistered,
+    /// AUTHENTICATION REQUEST was sent.
+    Authenticating,
+    /// SECURITY MODE COMMAND was sent.
+    SecurityMode,
+    /// ESM INFORMATION REQUEST was sent.
+    EsmInformation,
+    /// ATTACH ACCEPT was sent.
+    Accepting,
+    /// TRACKING AREA UPDATE ACCEPT was sent.
+    Updating,
+    Registered,
+    /// The network's DETACH REQUEST was sent.
+    Detaching,
+}
+
+/// A security context with the place of the vector that it was made of. The radio keys are zero until a message gave them.
+#[derive(Clone, Copy)]
+pub struct Context {
+    pub place: usize,
+    pub security: SecurityContext<Eia2>,
+    pub kasme: [u8; 32],
+    pub radio: RadioKeys,
+}
+
+/// A timer of a procedure (TS 24.301 clause 10.2).
+#[derive(Clone, Copy, PartialEq, Eq, Debug)]
+pub enum Timer {
+    T3413,
+    T3422,
+    T3450,
+    T3460,
+    T3489,
+}
+
+impl Timer {
+    /// Its length in ticks.
+    pub fn ticks(self) -> u32
+        ensures { result ≡ ticks_of self }
+    {
+        match self {
+            Timer::T3413 => 10,
+            Timer::T3422 => 6,
+            Timer::T3450 => 6,
+            Timer::T3460 => 6,
+            Timer::T3489 => 4,
+        }
+    }
+
+    /// How often its message is sent again.
+    pub fn repeats(self) -> u32
+        ensures { result ≡ repeats_of self }
+    {
+        match self {
+            Timer::T3413 => 1,
+            Timer::T3422 => 4,
+            Timer::T3450 => 4,
+            Timer::T3460 => 4,
+            Timer::T3489 => 2,
+        }
+    }
+}
+
+/// A countdown that runs: the ticks left, and how often its message may still be sent again.
+#[derive(Clone, Copy)]
+pub struct Countdown {
+    pub timer: Timer,
+    pub left: u32,
+    pub repeats: u32,
+}
+
+/// How a NAS message is sent.
+#[derive(Clone, Copy)]
+pub enum Protection {
+    Plain,
+    Under(SecurityHeader),
+}
+
+/// Stations in order; a contract sees the list of their numbers.
+#[derive(Drop)]
+pub struct Stations {
+    items: Vec<StationNumber>,
+}
+
+impl Model for Stations {
+    ghost use Rattle.std.specs.Prelude.{ℕ, List};
+
+    ghost Value = { List ℕ };
+
+    ghost view = { λ s. s.items.items };
+}
+
+impl Stations {
+    /// These stations.
+    pub fn new(items: Vec<StationNumber>) -> Stations
+        ensures { result ≡ items.items }
+    {
+        Stations { items }
+    }
+
+    /// The same stations once more.
+    pub fn copy(&self, alloc: Global) -> Result<Stations, AllocError>
+        ensures { IfOk result (λ s. s ≡ self.now) }
+    {
+        Ok(Stations {
+            items: Vec::from_slice(alloc, self.items.as_slice())?,
+        })
+    }
+
+    /// Whether this one is among them.
+    pub fn contain(&self, station: StationNumber) -> bool
+        ensures { result ≡ list_any (λ e. e == station) self.now }
+    {
+        self.items.as_slice().iter().any(|other| *other == station)
+    }
+
+    /// All but this one.
+    pub fn remove(&mut self, station: StationNumber)
+        ensures { self.new ≡ filter (λ e. not (e == station)) self.old }
+    {
+        remove_from(&mut self.items, station);
+    }
+
+    /// The stations.
+    pub fn as_slice(&self) -> &[StationNumber]
+        ensures { result.now ≡ self.now }
+    {
+        self.items.as_slice()
+    }
+}
+
+fn remove_from(items: &mut Vec<StationNumber>, station: StationNumber)
+    ensures { items.new.items ≡ filter (λ e. not (e == station)) items.old.items }
+{
+    items.retain(|other| *other != station);
+}
+
+/// What is sent when a countdown has expired.
+#[derive(Drop)]
+pub enum Repeat {
+    /// A NAS message to the phone.
+    Nas(Protection, NasOctets),
+    /// PAGING to each of these stations.
+    Paging(Stations),
+}
+
+impl Repeat {
+    /// The same once more.
+    pub fn copy(&self, alloc: Global) -> Result<Repeat, AllocError>
+        ensures { IfOk result (λ r. r ≡ self.now) }
+    {
+        match self {
+            Repeat::Nas(protection, nas) => Ok(Repeat::Nas(*protection, nas.copy(alloc)?)),
+            Repeat::Paging(stations) => Ok(Repeat::Paging(stations.copy(alloc)?)),
+        }
+    }
+}
+
+/// What the last ATTACH REQUEST and TRACKING AREA UPDATE REQUEST asked for.
+#[derive(Clone, Copy)]
+pub struct Asked {
+    /// The phone's algorithms.
+    pub capability: UeCapability,
+    /// A combined attach (TS 24.301 clause 9.9.3.11).
+    pub combined_attach: bool,
+    /// The update came in an INITIAL UE MESSAGE.
+    pub initial_update: bool,
+}
+
+/// How many ids a slot has given, modulo 2^20; a contract sees the number.
+#[derive(Clone, Copy)]
+pub struct Counter {
+    count: u32,
+}
+
+impl Model for Counter {
+    ghost use Rattle.std.specs.Prelude.{ℕ, ◌<◌, ◌^◌};
+
+    ghost Value = { ℕ };
+
+    ghost view = { λ c. c.count };
+
+    ghost invariant = { λ c. c.count < 2 ^ 20 };
+
+    ghost inverse = { λ n. record { count = n } };
+}
+
+impl Counter {
+    /// None was given.
+    pub fn new() -> Counter
+        ensures { result ≡ 0 }
+    {
+        Counter { count: 0 }
+    }
+
+    /// The slot's next association, and the counter after it.
+    pub fn association(self, slot: Slot) -> (AssociationId, Counter)
+        ensures id { result.0 ≡ id_of slot (next_counter self) }
+        ensures counter { result.1 ≡ next_counter self }
+    {
+        let (id, count) = AssociationId::after(slot, self.count);
+        (id, Counter { count })
+    }
+
+    /// The slot's next M-TMSI, and the counter after it.
+    pub fn tmsi(self, slot: Slot) -> (Tmsi, Counter)
+        ensures tmsi { result.0 ≡ id_of slot (next_counter self) }
+        ensures counter { result.1 ≡ next_counter self }
+    {
+        let (tmsi, count) = Tmsi::after(slot, self.count);
+        (tmsi, Counter { count })
+    }
+}
+
+/// The state of a subscriber's machine.
+#[derive(Drop)]
+pub struct Solo {
+    pub phase: Phase,
+    pub connection: Option<Connection>,
+    pub context: Option<Context>,
+    pub associations: Counter,
+    pub tmsis: Counter,
+    pub tmsi: Option<Tmsi>,
+    /// The place of the vector that the next challenge takes.
+    pub next_vector: usize,
+    /// The tracking area that was accepted last.
+    pub tai: Tai,
+    pub asked: Asked,
+    pub bearer: Bearer,
+    pub repeat: Option<Repeat>,
+    pub procedure: Option<Countdown>,
+    /// The ticks until a phone that is idle is taken to be gone.
+    pub reachable: Option<u32>,
+}
+
+impl Solo {
+    /// The same state once more.
+    pub fn copy(&self, alloc: Global) -> Result<Solo, AllocError>
+        ensures { IfOk result (λ s. s ≡ self.now) }
+    {
+        let repeat = match &self.repeat {
+            Some(repeat) => Some(repeat.copy(alloc)?),
+            None => None,
+        };
+        Ok(Solo {
+            phase: self.phase,
+            connection: self.connection,
+            context: self.context,
+            associations: self.associations,
+            tmsis: self.tmsis,
+            tmsi: self.tmsi,
+            next_vector: self.next_vector,
+            tai: self.tai,
+            asked: self.asked,
+            bearer: self.bearer,
+            repeat,
+            procedure: self.procedure,
+            reachable: self.reachable,
+        })
+    }
+}

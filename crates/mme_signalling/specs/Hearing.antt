@@ -1,0 +1,102 @@
+-- What a phone's NAS message is to the machine.
+use Rattle.std.specs.Prelude.{ℕ, ◌≤◌, ◌%◌, ◌==◌, ◌||◌, Bool, true, false, if◌then◌else◌, List, [], ◌∷◌, length, Option, Some, None, Result, Ok, Err}
+use Rattle.std.specs.Borrow.{Bor}
+use Rattle.nas_elements.specs.declared.fault.NasFault.{NasFault}
+use Rattle.nas_messages.specs.declared.emm_types.AttachRequest.{AttachRequest}
+use Rattle.nas_messages.specs.declared.emm_types.Direction.TheVariants.{Uplink}
+use Rattle.nas_messages.specs.declared.emm_types.Emm.{Emm}
+use Rattle.nas_messages.specs.declared.emm_types.Emm.TheVariants as emm
+use Rattle.nas_messages.specs.declared.protection.Protected.{Protected}
+use Rattle.nas_messages.specs.declared.protection.SecurityHeader.{SecurityHeader}
+use Rattle.nas_messages.specs.declared.protection.SecurityHeader.TheVariants.{IntegrityProtected, IntegrityProtectedCiphered, NewContext, NewContextCiphered}
+use Rattle.nas_messages.specs.Messages.{decoded_emm}
+use Rattle.nas_messages.specs.Protection.{split}
+use Rattle.mme_signalling.specs.declared.heard.Heard.{Heard}
+use Rattle.mme_signalling.specs.declared.heard.Heard.TheVariants as heards
+
+-- without where its octets lie in memory
+abbrev pub request_lists : AttachRequest (Bor (List ℕ)) → AttachRequest (List ℕ)
+request_lists m = record { attach_type = m.attach_type; ksi = m.ksi; identity = m.identity; capability = m.capability.now; esm = m.esm.now }
+
+abbrev pub heard_lists : Heard (Bor (List ℕ)) → Heard (List ℕ)
+heard_lists (heards.Attach combined capability esm) = heards.Attach combined capability esm.now
+heard_lists (heards.Detach switch_off) = heards.Detach switch_off
+heard_lists (heards.Update combined) = heards.Update combined
+heard_lists (heards.Service octets) = heards.Service octets
+heard_lists (heards.Response res) = heards.Response res.now
+heard_lists (heards.Failure cause) = heards.Failure cause
+heard_lists heards.SecurityComplete = heards.SecurityComplete
+heard_lists heards.SecurityReject = heards.SecurityReject
+heard_lists (heards.AttachComplete esm) = heards.AttachComplete esm.now
+heard_lists heards.UpdateComplete = heards.UpdateComplete
+heard_lists heards.DetachAccept = heards.DetachAccept
+heard_lists heards.Unasked = heards.Unasked
+heard_lists heards.Other = heards.Other
+heard_lists (heards.Unreadable fault) = heards.Unreadable fault
+
+-- combined attaches and updates (TS 24.301 clauses 9.9.3.11 and 9.9.3.14)
+abbrev pub is_combined_attach : ℕ → Bool
+is_combined_attach attach_type = attach_type == 2
+
+abbrev pub is_combined_update : ℕ → Bool
+is_combined_update update_type = update_type == 1 || update_type == 2
+
+-- what an ATTACH REQUEST asks for
+abbrev pub attach_of : AttachRequest (List ℕ) → Heard (List ℕ)
+attach_of m = heards.Attach (is_combined_attach m.attach_type) m.capability m.esm
+
+-- its capability has the length of one
+abbrev pub AttachFits : List ℕ → Type 0
+AttachFits capability = (2 ≤ length capability) × (length capability ≤ 13)
+
+abbrev pub sorted : Emm (List ℕ) → Heard (List ℕ)
+sorted (emm.AttachRequest m) = attach_of m
+sorted (emm.AttachAccept m) = heards.Other
+sorted (emm.AttachComplete esm) = heards.AttachComplete esm
+sorted (emm.AttachReject m) = heards.Other
+sorted (emm.DetachRequest m) = heards.Detach m.switch_off
+sorted emm.NetworkDetach = heards.Other
+sorted emm.DetachAccept = heards.DetachAccept
+sorted (emm.AreaUpdateRequest m) = heards.Update (is_combined_update m.update_type)
+sorted (emm.AreaUpdateAccept m) = heards.Other
+sorted emm.AreaUpdateComplete = heards.UpdateComplete
+sorted (emm.AreaUpdateReject cause) = heards.Other
+sorted (emm.ServiceReject cause) = heards.Other
+sorted (emm.AuthenticationRequest m) = heards.Other
+sorted (emm.AuthenticationResponse res) = heards.Response res
+sorted emm.AuthenticationReject = heards.Other
+sorted emm.IdentityRequest = heards.Other
+sorted (emm.IdentityResponse identity) = heards.Unasked
+sorted (emm.AuthenticationFailure cause) = heards.Failure cause
+sorted (emm.SecurityModeCommand m) = heards.Other
+sorted emm.SecurityModeComplete = heards.SecurityComplete
+sorted (emm.SecurityModeReject cause) = heards.SecurityReject
+sorted (emm.EmmStatus cause) = heards.Unasked
+sorted (emm.ServiceRequest octets) = heards.Service octets
+
+abbrev pub heard_of : Result (Emm (List ℕ)) NasFault → Heard (List ℕ)
+heard_of (Ok m) = sorted m
+heard_of (Err fault) = heards.Unreadable fault
+
+unfoldable pub heard : List ℕ → Heard (List ℕ)
+heard octets = heard_of (decoded_emm Uplink octets)
+
+-- protected under a context that is in use (TS 24.301 clause 9.3.1)
+abbrev pub is_initial_header : SecurityHeader → Bool
+is_initial_header IntegrityProtected = true
+is_initial_header IntegrityProtectedCiphered = true
+is_initial_header NewContext = false
+is_initial_header NewContextCiphered = false
+
+abbrev pub inner_octets : List ℕ → Option (Protected (List ℕ)) → List ℕ
+inner_octets octets None = octets
+inner_octets octets (Some p) = if is_initial_header p.header then p.message else octets
+
+-- the octets by which an INITIAL UE MESSAGE is known: those behind the header, where it is protected under a context
+unfoldable pub initial_octets : List ℕ → List ℕ
+initial_octets octets = inner_octets octets (split octets)
+
+-- a message of session management
+unfoldable pub is_esm : List ℕ → Bool
+is_esm [] = false
+is_esm (first ∷ rest) = first % 16 == 2

@@ -1,0 +1,4 @@
+pub mod Causes
+pub mod Hearing
+pub mod Messages
+pub mod Pdus

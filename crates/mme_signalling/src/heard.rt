@@ -1,0 +1,154 @@
+//! What a phone's NAS message is to the machine. `B` is what holds octets: a slice of the message in code, a list in
+//! contracts.
+
+ghost use Rattle.std.specs.Prelude.{◌≡◌, Ok, Err};
+ghost use Rattle.nas_messages.specs.Messages.{IsWritable, decoded_emm, lists, seen};
+ghost use Rattle.nas_messages.specs.declared.emm_types.Direction.TheVariants.{Uplink};
+ghost use Rattle.mme_signalling.specs.Hearing.{AttachFits, attach_of, heard, heard_lists, initial_octets, is_esm, is_initial_header, request_lists, sorted};
+
+use nas_elements::{NasFault, UeCapability};
+use nas_messages::{
+    AttachRequest, Direction, Emm, EmmMessage, SecurityHeader, decode_emm, split_protected,
+};
+
+/// An EMM message of a phone, by what the machine does with it.
+#[derive(Clone, Copy)]
+pub enum Heard<B> {
+    /// ATTACH REQUEST: for EPS and for other services or not (TS 24.301 clause 9.9.3.11), and any octets for session
+    /// management.
+    Attach {
+        combined: bool,
+        capability: UeCapability,
+        esm: B,
+    },
+    Detach {
+        switch_off: bool,
+    },
+    /// TRACKING AREA UPDATE REQUEST, combined or not (TS 24.301 clause 9.9.3.14).
+    Update {
+        combined: bool,
+    },
+    Service {
+        octets: [u8; 4],
+    },
+    Response {
+        res: B,
+    },
+    Failure {
+        cause: u8,
+    },
+    SecurityComplete,
+    SecurityReject,
+    AttachComplete {
+        esm: B,
+    },
+    UpdateComplete,
+    DetachAccept,
+    /// IDENTITY RESPONSE and EMM STATUS, which no procedure of a known phone waits for.
+    Unasked,
+    /// A message that only a network sends.
+    Other,
+    Unreadable(NasFault),
+}
+
+// A message that is lent to be sorted.
+#[derive(Drop)]
+struct Decoded<'a> {
+    message: EmmMessage<'a>,
+}
+
+// What an ATTACH REQUEST that was decoded asks for.
+#[tactic(auto, unfolding(nas_elements::specs::Capability::capability_of))]
+fn attach_of<'a>(request: &AttachRequest<&'a [u8]>) -> Heard<&'a [u8]>
+    requires { AttachFits request.now.capability.now }
+    ensures { heard_lists result ≡ attach_of (request_lists request.now) }
+{
+    let Ok(capability) = UeCapability::read(request.capability) else {
+        unreachable!()
+    };
+    Heard::Attach {
+        combined: request.attach_type == 2,
+        capability,
+        esm: request.esm,
+    }
+}
+
+fn sorted<'a>(message: &EmmMessage<'a>) -> Heard<&'a [u8]>
+    requires { IsWritable (lists message.now) }
+    ensures { heard_lists result ≡ sorted (lists message.now) }
+{
+    match message {
+        Emm::AttachRequest(request) => attach_of(request),
+        Emm::DetachRequest(request) => Heard::Detach {
+            switch_off: request.switch_off,
+        },
+        Emm::AreaUpdateRequest(request) => Heard::Update {
+            combined: request.update_type == 1 || request.update_type == 2,
+        },
+        Emm::ServiceRequest { octets } => Heard::Service { octets: *octets },
+        Emm::AuthenticationResponse { res } => Heard::Response { res },
+        Emm::AuthenticationFailure { cause } => Heard::Failure { cause: *cause },
+        Emm::SecurityModeComplete => Heard::SecurityComplete,
+        Emm::SecurityModeReject { cause: _ } => Heard::SecurityReject,
+        Emm::AttachComplete { esm } => Heard::AttachComplete { esm },
+        Emm::AreaUpdateComplete => Heard::UpdateComplete,
+        Emm::DetachAccept => Heard::DetachAccept,
+        Emm::IdentityResponse { identity: _ } | Emm::EmmStatus { cause: _ } => Heard::Unasked,
+        Emm::AttachAccept(_)
+        | Emm::AttachReject(_)
+        | Emm::NetworkDetach
+        | Emm::AreaUpdateAccept(_)
+        | Emm::AreaUpdateReject { cause: _ }
+        | Emm::ServiceReject { cause: _ }
+        | Emm::AuthenticationRequest(_)
+        | Emm::AuthenticationReject
+        | Emm::IdentityRequest
+        | Emm::SecurityModeCommand(_) => Heard::Other,
+    }
+}
+
+/// What these octets of a phone are to the machine. Takes no memory.
+#[tactic(auto, unfolding(crate::specs::Hearing::heard))]
+pub fn hear<'a>(octets: &'a [u8]) -> Heard<&'a [u8]>
+    ensures { heard_lists result ≡ heard octets.entry.now }
+{
+    match decode_emm(octets, Direction::Uplink) {
+        Ok(message) => {
+            let decoded = Decoded { message };
+            sorted(&decoded.message)
+        }
+        Err(fault) => Heard::Unreadable(fault),
+    }
+}
+
+fn is_initial_header(header: SecurityHeader) -> bool
+    ensures { result ≡ is_initial_header header }
+{
+    match header {
+        SecurityHeader::IntegrityProtected | SecurityHeader::IntegrityProtectedCiphered => true,
+        SecurityHeader::NewContext | SecurityHeader::NewContextCiphered => false,
+    }
+}
+
+/// The octets of an INITIAL UE MESSAGE's NAS message by which it is known: those behind the header, where it is protected
+/// under a context.
+#[tactic(auto, unfolding(crate::specs::Hearing::initial_octets))]
+pub fn initial_octets<'a>(octets: &'a [u8]) -> &'a [u8]
+    ensures { result.now ≡ initial_octets octets.entry.now }
+{
+    match split_protected(octets) {
+        Some(protected) if is_initial_header(protected.header) => protected.message,
+        Some(_) | None => octets,
+    }
+}
+
+/// Whether an accepted message is of session management: its protocol discriminator is 2 (TS 24.007 clause 11.2.3.1.1).
+#[tactic(auto, unfolding(crate::specs::Hearing::is_esm))]
+pub fn is_esm(octets: &[u8]) -> bool
+    ensures { result ≡ is_esm octets.now }
+{
+    match octets.first() {
+        Some(first) => *first % 16 == 2,
+        None => false,
+    }
+}

@@ -1,0 +1,290 @@
+//! The NAS messages that the machine sends.
+
+ghost use Rattle.std.specs.Prelude.{◌≡◌, ◌<◌, ◌^◌, length, IfOk, IfSome, Some, None};
+ghost use Rattle.nas_elements.specs.Identities.{TaiListFits};
+ghost use Rattle.nas_elements.specs.Seen.{octets_of};
+ghost use Rattle.nas_messages.specs.Messages.{encoded_emm};
+ghost use Rattle.mme_signalling.specs.Messages.{attach_accept, attach_reject, authentication_reject, authentication_request, detach_accept, emm_status, guti, network_detach, security_mode_command, service_reject, tai_list, update_accept, update_reject};
+
+use crate::cause::EmmCause;
+use identity_slots::Tmsi;
+use mme_vocabulary::Network;
+use nas_elements::{Guti, Plmn, TaiList, UeCapability};
+use nas_messages::{
+    AreaUpdateAccept, AttachAccept, AttachReject, AuthenticationRequest, Emm, EmmMessage,
+    SecurityModeCommand, encode_emm,
+};
+use s1ap_elements::Tai;
+use std::alloc::{AllocError, Global};
+
+/// What a phone is granted: its M-TMSI in its tracking area; the cause of a combined request, which is granted for EPS
+/// services only.
+#[derive(Clone, Copy)]
+pub struct Grant {
+    pub tmsi: Tmsi,
+    pub tai: Tai,
+    pub combined: bool,
+}
+
+// T3412: 9 times 6 minutes (TS 24.008 clause 10.5.7.3).
+const PERIODIC_UPDATE: [u8; 1] = [0x49];
+
+// The GUTI of an M-TMSI (TS 23.003 clause 2.8).
+fn guti(network: &Network, tmsi: Tmsi) -> Guti
+    ensures { result ≡ guti network.now tmsi }
+{
+    let [code] = network.code.get();
+    Guti {
+        plmn: Plmn::from_s1ap(network.plmn.get()),
+        group: network.group.get(),
+        code,
+        tmsi: tmsi.get(),
+    }
+}
+
+// The one tracking area that a phone is registered in.
+fn tai_list(tai: Tai) -> TaiList
+    ensures { result ≡ tai_list tai }
+{
+    TaiList {
+        plmn: Plmn::from_s1ap(tai.plmn.get()),
+        tac: tai.tac.get(),
+    }
+}
+
+// A message that is lent to be encoded.
+#[derive(Drop)]
+struct Lent<'a> {
+    message: EmmMessage<'a>,
+}
+
+/// ATTACH REJECT without an ESM message (TS 24.301 clause 8.2.3).
+#[tactic(auto, unfolding(crate::specs::Messages::attach_reject, nas_elements::specs::Optionals::rule_of))]
+pub fn attach_reject(alloc: Global, cause: EmmCause) -> Result<Vec<u8>, AllocError>
+    ensures { IfOk result (λ o. o.items ≡ attach_reject cause None) }
+{
+    let cause = cause.code();
+    let lent = Lent {
+        message: Emm::AttachReject(AttachReject { cause, esm: None }),
+    };
+    encode_emm(alloc, &lent.message)
+}
+
+/// ATTACH REJECT with an ESM message of fewer than 2^16 octets (TS 24.301 clause 8.2.3).
+#[tactic(auto, unfolding(crate::specs::Messages::attach_reject, nas_elements::specs::Optionals::rule_of))]
+pub fn attach_reject_with(alloc: Global, cause: EmmCause, esm: &[u8]) -> Result<Vec<u8>, AllocError>
+    requires { length esm.now < 2 ^ 16 }
+    ensures { IfOk result (λ o. o.items ≡ attach_reject cause (Some esm.now)) }
+{
+    let cause = cause.code();
+    let lent = Lent {
+        message: Emm::AttachReject(AttachReject {
+            cause,
+            esm: Some(esm),
+        }),
+    };
+    encode_emm(alloc, &lent.message)
+}
+
+/// AUTHENTICATION REQUEST under a key set identifier below 8 (TS 24.301 clause 8.2.7).
+#[tactic(auto, unfolding(crate::specs::Messages::authentication_request))]
+pub fn authentication_request(
+    alloc: Global,
+    ksi: u8,
+    rand: [u8; 16],
+    autn: [u8; 16],
+) -> Result<Vec<u8>, AllocError>
+    requires { ksi < 8 }
+    ensures { IfOk result (λ o. o.items ≡ authentication_request ksi rand autn) }
+{
+    let lent = Lent {
+        message: Emm::AuthenticationRequest(AuthenticationRequest {
+            ksi,
+            rand: rand.as_slice(),
+            autn: autn.as_slice(),
+        }),
+    };
+    encode_emm(alloc, &lent.message)
+}
+
+/// AUTHENTICATION REJECT (TS 24.301 clause 8.2.6).
+#[tactic(auto, unfolding(crate::specs::Messages::authentication_reject))]
+pub fn authentication_reject(alloc: Global) -> Result<Vec<u8>, AllocError>
+    ensures { IfOk result (λ o. o.items ≡ authentication_reject) }
+{
+    let lent = Lent {
+        message: Emm::AuthenticationReject,
+    };
+    encode_emm(alloc, &lent.message)
+}
+
+/// SECURITY MODE COMMAND for EEA0 and EIA2 under a key set identifier below 8, with the capability that the phone told
+/// (TS 24.301 clause 8.2.20).
+#[tactic(auto, unfolding(crate::specs::Messages::security_mode_command))]
+pub fn security_mode_command(
+    alloc: Global,
+    ksi: u8,
+    capability: &UeCapability,
+) -> Result<Vec<u8>, AllocError>
+    requires { ksi < 8 }
+    ensures { IfOk result (λ o. o.items ≡ security_mode_command ksi capability.now) }
+{
+    let replayed = capability.replayed();
+    let lent = Lent {
+        message: Emm::SecurityModeCommand(SecurityModeCommand {
+            ksi,
+            capability: replayed.as_slice(),
+        }),
+    };
+    encode_emm(alloc, &lent.message)
+}
+
+/// ATTACH ACCEPT with an ESM message of fewer than 2^16 octets (TS 24.301 clause 8.2.1).
+#[tactic(auto, unfolding(crate::specs::Messages::attach_accept, nas_elements::specs::Optionals::rule_of, nas_elements::specs::Identities::guti_octets))]
+pub fn attach_accept(
+    alloc: Global,
+    network: &Network,
+    grant: Grant,
+    esm: &[u8],
+) -> Result<Vec<u8>, AllocError>
+    requires { length esm.now < 2 ^ 16 }
+    ensures { IfOk result (λ o. o.items ≡ attach_accept network.now grant esm.now) }
+{
+    let mut guti_octets = Vec::new(alloc);
+    guti(network, grant.tmsi).write(&mut guti_octets)?;
+    let areas = tai_list(grant.tai);
+    let guti = guti_octets.as_slice();
+    let not_available = [EmmCause::CsDomainNotAvailable.code()];
+    if grant.combined {
+        accept_octets(alloc, areas, esm, guti, Some(not_available.as_slice()))
+    } else {
+        accept_octets(alloc, areas, esm, guti, None)
+    }
+}
+
+#[tactic(auto, unfolding(nas_elements::specs::Optionals::rule_of))]
+fn accept_octets<'a>(
+    alloc: Global,
+    tai_list: TaiList,
+    esm: &'a [u8],
+    guti: &'a [u8],
+    cause: Option<&'a [u8]>,
+) -> Result<Vec<u8>, AllocError>
+    requires area { TaiListFits tai_list }
+    requires esm { length esm.now < 2 ^ 16 }
+    requires guti { length guti.now ≡ 11 }
+    requires cause { IfSome cause (λ c. length c.now ≡ 1) }
+    ensures { IfOk result (λ o. o.items ≡ encoded_emm (Emm.AttachAccept (record { tai_list = tai_list; esm = esm.entry.now; guti = Some guti.entry.now; cause = octets_of cause.entry }))) }
+{
+    let lent = Lent {
+        message: Emm::AttachAccept(AttachAccept {
+            tai_list,
+            esm,
+            guti: Some(guti),
+            cause,
+        }),
+    };
+    encode_emm(alloc, &lent.message)
+}
+
+/// TRACKING AREA UPDATE ACCEPT (TS 24.301 clause 8.2.26).
+#[tactic(auto, unfolding(crate::specs::Messages::update_accept, nas_elements::specs::Optionals::rule_of, nas_elements::specs::Identities::guti_octets, nas_elements::specs::Identities::tai_list_octets))]
+pub fn update_accept(alloc: Global, network: &Network, grant: Grant) -> Result<Vec<u8>, AllocError>
+    ensures { IfOk result (λ o. o.items ≡ update_accept network.now grant) }
+{
+    let mut guti_octets = Vec::new(alloc);
+    guti(network, grant.tmsi).write(&mut guti_octets)?;
+    let mut areas = Vec::new(alloc);
+    tai_list(grant.tai).write(&mut areas)?;
+    let (guti, areas) = (guti_octets.as_slice(), areas.as_slice());
+    let timer = PERIODIC_UPDATE.as_slice();
+    let not_available = [EmmCause::CsDomainNotAvailable.code()];
+    if grant.combined {
+        update_octets(alloc, timer, guti, areas, Some(not_available.as_slice()))
+    } else {
+        update_octets(alloc, timer, guti, areas, None)
+    }
+}
+
+#[tactic(auto, unfolding(nas_elements::specs::Optionals::rule_of))]
+fn update_octets<'a>(
+    alloc: Global,
+    timer: &'a [u8],
+    guti: &'a [u8],
+    areas: &'a [u8],
+    cause: Option<&'a [u8]>,
+) -> Result<Vec<u8>, AllocError>
+    requires timer { length timer.now ≡ 1 }
+    requires guti { length guti.now ≡ 11 }
+    requires areas { length areas.now ≡ 6 }
+    requires cause { IfSome cause (λ c. length c.now ≡ 1) }
+    ensures { IfOk result (λ o. o.items ≡ encoded_emm (Emm.AreaUpdateAccept (record { timer = Some timer.entry.now; guti = Some guti.entry.now; tai_list = Some areas.entry.now; cause = octets_of cause.entry }))) }
+{
+    let lent = Lent {
+        message: Emm::AreaUpdateAccept(AreaUpdateAccept {
+            timer: Some(timer),
+            guti: Some(guti),
+            tai_list: Some(areas),
+            cause,
+        }),
+    };
+    encode_emm(alloc, &lent.message)
+}
+
+/// TRACKING AREA UPDATE REJECT (TS 24.301 clause 8.2.28).
+#[tactic(auto, unfolding(crate::specs::Messages::update_reject))]
+pub fn update_reject(alloc: Global, cause: EmmCause) -> Result<Vec<u8>, AllocError>
+    ensures { IfOk result (λ o. o.items ≡ update_reject cause) }
+{
+    let cause = cause.code();
+    let lent = Lent {
+        message: Emm::AreaUpdateReject { cause },
+    };
+    encode_emm(alloc, &lent.message)
+}
+
+/// SERVICE REJECT (TS 24.301 clause 8.2.24).
+#[tactic(auto, unfolding(crate::specs::Messages::service_reject))]
+pub fn service_reject(alloc: Global, cause: EmmCause) -> Result<Vec<u8>, AllocError>
+    ensures { IfOk result (λ o. o.items ≡ service_reject cause) }
+{
+    let cause = cause.code();
+    let lent = Lent {
+        message: Emm::ServiceReject { cause },
+    };
+    encode_emm(alloc, &lent.message)
+}
+
+/// DETACH ACCEPT (TS 24.301 clause 8.2.10).
+#[tactic(auto, unfolding(crate::specs::Messages::detach_accept))]
+pub fn detach_accept(alloc: Global) -> Result<Vec<u8>, AllocError>
+    ensures { IfOk result (λ o. o.items ≡ detach_accept) }
+{
+    let lent = Lent {
+        message: Emm::DetachAccept,
+    };
+    encode_emm(alloc, &lent.message)
+}
+
+/// DETACH REQUEST of the network, re-attach not required (TS 24.301 clause 8.2.11.2).
+#[tactic(auto, unfolding(crate::specs::Messages::network_detach))]
+pub fn network_detach(alloc: Global) -> Result<Vec<u8>, AllocError>
+    ensures { IfOk result (λ o. o.items ≡ network_detach) }
+{
+    let lent = Lent {
+        message: Emm::NetworkDetach,
+    };
+    encode_emm(alloc, &lent.message)
+}
+
+/// EMM STATUS (TS 24.301 clause 8.2.14).
+#[tactic(auto, unfolding(crate::specs::Messages::emm_status))]
+pub fn emm_status(alloc: Global, cause: EmmCause) -> Result<Vec<u8>, AllocError>
+    ensures { IfOk result (λ o. o.items ≡ emm_status cause) }
+{
+    let cause = cause.code();
+    let lent = Lent {
+        message: Emm::EmmStatus { cause },
+    };
+    encode_emm(alloc, &lent.message)
+}

@@ -1,0 +1,49 @@
+-- What a subscriber is told of an event, without where its octets lie in memory.
+use Rattle.std.specs.Prelude.{ℕ, List}
+use Rattle.std.specs.Borrow.{Bor}
+use Rattle.mme_vocabulary.specs.declared.event.Entry.{Entry}
+use Rattle.mme_vocabulary.specs.declared.event.SoloEvent.{SoloEvent}
+use Rattle.mme_vocabulary.specs.declared.event.SoloEvent.TheVariants as events
+use Rattle.mme_vocabulary.specs.declared.event.UeBody.{UeBody}
+use Rattle.mme_vocabulary.specs.declared.event.UeBody.TheVariants as bodies
+use Rattle.mme_vocabulary.specs.declared.event.UeMessage.{UeMessage}
+use Rattle.mme_vocabulary.specs.declared.stations.StationState.{StationState}
+
+-- what a subscriber is told of an event: none but Data carries the stations
+pub data Item : Type 0 where
+  Nothing : Item
+  Initial : Entry (List ℕ) → Item
+  Claim : ℕ → Entry (List ℕ) → Item
+  Message : UeMessage (List ℕ) → Item
+  Displaced : ℕ → Item
+  StationGone : ℕ → Item
+  Tick : Item
+  Data : List StationState → Item
+  Cancel : Item
+
+-- ---- an event without where its octets lie in memory
+
+abbrev pub entry_lists : Entry (Bor (List ℕ)) → Entry (List ℕ)
+entry_lists m = record { station = m.station; enb_id = m.enb_id; nas = m.nas.now; tai = m.tai }
+
+abbrev pub body_lists : UeBody (Bor (List ℕ)) → UeBody (List ℕ)
+body_lists (bodies.Uplink nas tai) = bodies.Uplink nas.now tai
+body_lists (bodies.ReleaseRequest cause) = bodies.ReleaseRequest cause
+body_lists bodies.ReleaseComplete = bodies.ReleaseComplete
+body_lists bodies.ContextSetupFailure = bodies.ContextSetupFailure
+body_lists bodies.PathSwitch = bodies.PathSwitch
+body_lists bodies.Notice = bodies.Notice
+
+abbrev pub message_lists : UeMessage (Bor (List ℕ)) → UeMessage (List ℕ)
+message_lists m = record { station = m.station; mme_id = m.mme_id; enb_id = m.enb_id; body = body_lists m.body }
+
+abbrev pub item_of : SoloEvent → List StationState → Item
+item_of events.Nothing stations = Nothing
+item_of (events.Initial m) stations = Initial (entry_lists m)
+item_of (events.Claim id m) stations = Claim id (entry_lists m)
+item_of (events.Message m) stations = Message (message_lists m)
+item_of (events.Displaced id) stations = Displaced id
+item_of (events.StationGone station) stations = StationGone station
+item_of events.Tick stations = Tick
+item_of events.Data stations = Data stations
+item_of events.Cancel stations = Cancel

@@ -1,0 +1,4 @@
+pub mod Network
+pub mod Stations
+pub mod Answers
+pub mod Events

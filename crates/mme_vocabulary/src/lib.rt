@@ -1,0 +1,15 @@
+//! What the machines and the MME speak of: stations and what is known of them ([`EnbWorld`]), what the network grants
+//! ([`Network`]), what a subscriber is told of an event ([`SoloEvent`]), and the messages that a step sends ([`Answers`]).
+#![tactic(auto)]
+
+mod connection;
+mod event;
+mod network;
+mod octets;
+mod stations;
+
+pub use connection::{Connection, RadioKeys};
+pub use event::{Entry, SoloEvent, UeBody, UeMessage};
+pub use network::{AggregateBitRate, Apn, Network};
+pub use octets::{Answer, Answers, Mark, NasOctets, SentOctets};
+pub use stations::{EnbWorld, StationNumber, StationState};

@@ -1,0 +1,109 @@
+//! What every subscriber may know of the stations.
+
+ghost use Rattle.std.specs.Prelude.{◌≡◌, ◌<◌, ◌↔◌, ℕ, IsSome, IfSome, IfOk, slice_set, length};
+ghost use Rattle.mme_vocabulary.specs.Stations.{no_stations, station_at};
+
+use s1ap_elements::SupportedTas;
+use std::alloc::{AllocError, Global};
+use std::marker::Model;
+
+/// A station by its number, 0 to 127; a contract sees the number.
+#[derive(Clone, Copy, Debug, PartialEq, Eq)]
+pub struct StationNumber {
+    number: u8,
+}
+
+impl Model for StationNumber {
+    ghost Value = { ℕ };
+
+    ghost view = { λ s. s.number };
+
+    ghost invariant = { λ s. s.number < 128 };
+
+    ghost inverse = { λ n. record { number = n } };
+}
+
+impl StationNumber {
+    /// The station of that number, where it is below 128.
+    pub fn try_new(number: u8) -> Option<StationNumber>
+        ensures some { IsSome result ↔ (number < 128) }
+        ensures value { IfSome result (λ s. s ≡ number) }
+    {
+        if number < 128 {
+            Some(StationNumber { number })
+        } else {
+            None
+        }
+    }
+
+    /// The number.
+    pub fn get(self) -> u8
+        ensures value { result ≡ self }
+        ensures bound { result < 128 }
+    {
+        self.number
+    }
+}
+
+/// What the MME knows of a station (TS 36.413 clause 8.7.3).
+#[derive(Drop)]
+pub enum StationState {
+    /// Without a connection.
+    Down,
+    /// Connected, and not set up.
+    Up,
+    /// Set up, with the tracking areas that it broadcasts.
+    Ready(SupportedTas),
+}
+
+/// The 128 stations by number; a contract sees the list of their states.
+#[derive(Drop)]
+pub struct EnbWorld {
+    stations: Vec<StationState>,
+}
+
+impl Model for EnbWorld {
+    ghost use Rattle.std.specs.Prelude.{◌≡◌, List, length};
+    ghost use Rattle.mme_vocabulary.specs.declared.stations.StationState.{StationState};
+
+    ghost Value = { List StationState };
+
+    ghost view = { λ w. w.stations.items };
+
+    ghost invariant = { λ w. length w.stations.items ≡ 128 };
+}
+
+impl EnbWorld {
+    /// All stations are down.
+    pub fn new(alloc: Global) -> Result<EnbWorld, AllocError>
+        ensures { IfOk result (λ w. w ≡ no_stations) }
+    {
+        let mut stations = Vec::with_capacity(alloc, 128)?;
+        for _ in 0..128usize {
+            stations.push(StationState::Down)?;
+        }
+        Ok(EnbWorld { stations })
+    }
+
+    /// A station's state; takes no memory.
+    pub fn get(&self, station: StationNumber) -> &StationState
+        ensures { result.now ≡ station_at self.entry.now station }
+    {
+        &self.stations[station.get() as usize]
+    }
+
+    /// A station's state is this one now; takes no memory.
+    pub fn set(&mut self, station: StationNumber, state: StationState)
+        ensures { self.new ≡ slice_set self.old station state }
+    {
+        self.stations[station.get() as usize] = state;
+    }
+
+    /// The states by number.
+    pub fn as_slice(&self) -> &[StationState]
+        ensures value { result.now ≡ self.now }
+        ensures count { length self.now ≡ 128 }
+    {
+        self.stations.as_slice()
+    }
+}
