@@ -114,7 +114,11 @@ fn switched(
 }
 
 #[tactic(auto, unfolding(crate::specs::Connected::path_switch))]
-fn path_switch(draft: &mut Draft, alloc: Global, message: &UeMessage<&[u8]>) -> Result<(), AllocError>
+fn path_switch(
+    draft: &mut Draft,
+    alloc: Global,
+    message: &UeMessage<&[u8]>,
+) -> Result<(), AllocError>
     ensures { OnOk result (draft.new ≡ path_switch (message_lists message.now) draft.old) }
 {
     let unknown = Cause::RadioNetwork(RadioNetworkCause::UnknownMmeUeS1apId);
@@ -169,7 +173,12 @@ fn checked(
     if has_pair(draft, message) {
         on_connection(draft, alloc, setting, message)
     } else {
-        Ok(indicate(draft, alloc, RadioNetworkCause::UnknownPairUeS1apId, message)?)
+        Ok(indicate(
+            draft,
+            alloc,
+            RadioNetworkCause::UnknownPairUeS1apId,
+            message,
+        )?)
     }
 }
 

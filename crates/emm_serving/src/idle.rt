@@ -6,9 +6,7 @@ ghost use Rattle.s1ap_messages.specs.Pdus.{lists};
 ghost use Rattle.emm_state.specs.Does.{Does};
 ghost use Rattle.emm_serving.specs.Idle.{again, cancelled, covers, data_waits, detach_phone, dropped, emit_each, expired, given_up, is_broadcast, is_in_registered, listening, listens, lower, lowered, may_page, page, paged, procedure_ticks, reachable_ticks_out, restarted, some_covers, tick};
 
-use emm_state::{
-    Countdown, Draft, Phase, Protection, Repeat, Setting, Stations, Stop, Timer,
-};
+use emm_state::{Countdown, Draft, Phase, Protection, Repeat, Setting, Stations, Stop, Timer};
 use mme_signalling::{network_detach, paging};
 use mme_vocabulary::{EnbWorld, NasOctets, StationNumber, StationState};
 use nas_messages::SecurityHeader;
@@ -185,7 +183,12 @@ fn again(draft: &mut Draft, alloc: Global, setting: &Setting, repeat: &Repeat) -
 }
 
 #[tactic(auto, unfolding(crate::specs::Idle::expired, crate::specs::Idle::restarted))]
-fn expired(draft: &mut Draft, alloc: Global, setting: &Setting, countdown: Countdown) -> Result<(), Stop>
+fn expired(
+    draft: &mut Draft,
+    alloc: Global,
+    setting: &Setting,
+    countdown: Countdown,
+) -> Result<(), Stop>
     ensures { Does result draft.new (expired countdown setting.now draft.old) }
 {
     if countdown.repeats == 0 {
@@ -278,10 +281,8 @@ pub fn cancelled(draft: &mut Draft, alloc: Global) -> Result<(), Stop>
             }
         }
         Phase::Updating => detach_phone(draft, alloc),
-        Phase::Authenticating
-        | Phase::SecurityMode
-        | Phase::EsmInformation
-        | Phase::Accepting => Ok(dropped(draft, alloc)?),
+        Phase::Authenticating | Phase::SecurityMode | Phase::EsmInformation | Phase::Accepting =>
+            Ok(dropped(draft, alloc)?),
         Phase::Deregistered | Phase::Detaching => Ok(()),
     }
 }

@@ -1,7 +1,8 @@
 //! Whom an event reaches and calls, and what it leads to.
 
-use emm_machine::{Entry, Solo, SoloEvent, UeMessage};
+use emm_state::Solo;
 use identity_slots::{AssociationId, Slot};
+use mme_vocabulary::{Entry, SoloEvent, UeMessage};
 use stranger_machine::{After, Call, Notice};
 
 /// Who is told of an event, and what.

@@ -3,7 +3,7 @@
 ghost use Rattle.std.specs.Prelude.{◌≡◌};
 ghost use Rattle.mme_core.specs.declared.event.StepFault.TheVariants.{NoMemory};
 
-use emm_machine::StationNumber;
+use mme_vocabulary::StationNumber;
 use nas_elements::Imsi;
 use std::alloc::{AllocError, AllocFailed};
 

@@ -4,8 +4,9 @@ ghost use Rattle.std.specs.Prelude.{◌≡◌};
 ghost use Rattle.nas_messages.specs.Messages.{lists};
 ghost use Rattle.mme_core.specs.Naming.{is_own, named_slot, slot_in, slot_of_guti, slot_of_identity, slot_of_s_tmsi};
 
-use emm_machine::{Network, initial_octets};
 use identity_slots::{Provision, Slot, Tmsi};
+use mme_signalling::initial_octets;
+use mme_vocabulary::Network;
 use nas_elements::{Guti, MobileIdentity, Plmn};
 use nas_messages::{Direction, Emm, EmmMessage, decode_emm};
 use s1ap_elements::STmsi;

@@ -3,8 +3,8 @@
 ghost use Rattle.std.specs.Prelude.{◌≡◌, ◌++◌, ◌∷◌, [], OnOk, OnErr};
 ghost use Rattle.mme_core.specs.Short.{AreShort};
 
-use emm_machine::{SentOctets, StationNumber};
 use identity_slots::{AssociationId, Slot};
+use mme_vocabulary::{SentOctets, StationNumber};
 use std::alloc::{AllocError, Global};
 use std::marker::Model;
 

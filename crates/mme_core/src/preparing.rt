@@ -13,8 +13,10 @@ use crate::calls::{Calls, Change, Prepared, Reach, Stepped, Turned};
 use crate::out::{Outs, Owner};
 use crate::provisioning::slot_of;
 use crate::sending::{send_all, send_each};
-use emm_machine::{Draft, EnbWorld, Solo, SoloEvent, Subscriber};
+use emm_machine::Subscriber;
+use emm_state::{Draft, Solo};
 use identity_slots::{Provision, Slot};
+use mme_vocabulary::{EnbWorld, SoloEvent};
 use std::alloc::{AllocError, Global};
 use stranger_machine::{Call, Strangers, Turn, begins, told};
 

@@ -3,8 +3,9 @@
 ghost use Rattle.std.specs.Prelude.{◌≡◌, ◌<◌, ◌≤◌, length, IfOk};
 ghost use Rattle.mme_core.specs.World.{fresh_subscribers};
 
-use emm_machine::{Network, Subscriber};
+use emm_machine::Subscriber;
 use identity_slots::{Provision, Slot, Vector};
+use mme_vocabulary::Network;
 use std::alloc::{AllocError, Global};
 
 /// The slot of a place.

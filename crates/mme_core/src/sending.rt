@@ -4,7 +4,7 @@ ghost use Rattle.std.specs.Prelude.{◌≡◌, ◌++◌, map, IfOk, OnOk};
 ghost use Rattle.mme_core.specs.World.{each_known, owner_out, station_sends};
 
 use crate::out::{Out, Outs, Owner};
-use emm_machine::{Answers, StationNumber};
+use mme_vocabulary::{Answers, StationNumber};
 use std::alloc::{AllocError, Global};
 use stranger_machine::{Known, Notice};
 

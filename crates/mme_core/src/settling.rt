@@ -6,8 +6,10 @@ ghost use Rattle.mme_core.specs.Seen.{AreUnder, IsFor, changed, settled, with_so
 ghost use Rattle.mme_core.specs.Ready.{placed};
 
 use crate::calls::{Change, Prepared, Stepped};
-use emm_machine::{EnbWorld, Solo, StationNumber, StationState, Subscriber};
+use emm_machine::Subscriber;
+use emm_state::Solo;
 use identity_slots::Slot;
+use mme_vocabulary::{EnbWorld, StationNumber, StationState};
 use std::alloc::AllocError;
 use stranger_machine::Strangers;
 

@@ -5,9 +5,9 @@ ghost use Rattle.mme_main.specs.Effects.{added, config_of, given, running, start
 ghost use Rattle.mme_main.specs.Play.{Acts, Runs, in_provision};
 
 use crate::fault::PlayFault;
-use emm_machine::{AggregateBitRate, Apn, Network};
 use identity_slots::{Profile, Provision, ProvisionFault, Vector};
 use mme_core::{Config, Mme};
+use mme_vocabulary::{AggregateBitRate, Apn, Network};
 use nas_elements::Imsi;
 use per_bits::Octets;
 use std::alloc::Global;

@@ -9,7 +9,8 @@ use Rattle.stranger_machine.specs.declared.state.Stranger.{Stranger}
 use Rattle.stranger_machine.specs.declared.table.Known.{Known}
 use Rattle.stranger_machine.specs.declared.turn.Notice.{Notice}
 use Rattle.stranger_machine.specs.declared.turn.Notice.TheVariants.{Tick, Gone}
-use Rattle.stranger_machine.specs.Machine.{Input, Nothing, Notes, loses, notes, station_in, stranger_step, ticks}
+use Rattle.identity_slots.specs.Ids.{station_in}
+use Rattle.stranger_machine.specs.Machine.{Input, Nothing, Notes, loses, notes, stranger_step, ticks}
 use Rattle.stranger_machine.specs.Turns.{closing, stays}
 use Rattle.stranger_machine.specs.Table.{Each, Nobody, One, Reach, input_at, known_id, known_if, noted, reached, stranger_at, with_stranger}
 

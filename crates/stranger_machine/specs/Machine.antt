@@ -1,7 +1,8 @@
 -- The machine of one stranger: a phone that no subscriber is known for, at a station and under its number there. It is closed,
 -- waits for an identity (TS 24.301 clause 5.4.4), or is held by the subscriber that it turned out to be.
-use Rattle.std.specs.Prelude.{ℕ, ◌-◌, ◌/◌, ◌%◌, ◌^◌, ◌==◌, ◌&&◌, nat_lt, if◌then◌else◌, List, [], slice_index, Option, Some, None, Result, Ok, Err}
+use Rattle.std.specs.Prelude.{ℕ, ◌-◌, ◌==◌, ◌&&◌, nat_lt, if◌then◌else◌, List, [], slice_index, Option, Some, None, Result, Ok, Err}
 use Rattle.identity_slots.specs.declared.profile.Profile.{Profile}
+use Rattle.identity_slots.specs.Ids.{station_in}
 use Rattle.identity_slots.specs.Provisioned.{slot_of_imsi}
 use Rattle.nas_elements.specs.declared.fault.NasFault.{NasFault}
 use Rattle.nas_elements.specs.declared.fault.NasFault.TheVariants.{TooShort, Mandatory, UnknownType, OptionalPart, NoMemory}
@@ -20,6 +21,7 @@ use Rattle.mme_vocabulary.specs.declared.event.UeBody.TheVariants.{Uplink, Relea
 use Rattle.mme_vocabulary.specs.declared.event.UeMessage.{UeMessage}
 use Rattle.mme_vocabulary.specs.declared.octets.Answer.{Answer}
 use Rattle.mme_signalling.specs.Pdus.{cause_of_request}
+use Rattle.mme_signalling.specs.declared.cause.EmmCause.TheVariants.{IdentityNotDerived, InvalidMandatory, ServicesNotAllowed}
 use Rattle.mme_signalling.specs.Hearing.{initial_octets}
 use Rattle.mme_signalling.specs.Messages.{attach_reject, service_reject, update_reject}
 use Rattle.mme_signalling.specs.Pdus.{error_indication, path_switch_failure}
@@ -47,19 +49,19 @@ pub data Welcome : Type 0 where
   TurnAway : Welcome
 
 abbrev pub by_identity : MobileIdentity → Welcome
-by_identity (Imsi digits) = Refuse (attach_reject 8 None)
+by_identity (Imsi digits) = Refuse (attach_reject ServicesNotAllowed None)
 by_identity (Temporary g) = Ask
 
--- an identity of elsewhere can be asked for in an attach alone: any other request is refused with cause 9, identity not derived
+-- an identity of elsewhere can be asked for in an attach alone: any other request is refused
 abbrev pub by_message : Emm (List ℕ) → Welcome
 by_message (emm.AttachRequest m) = by_identity m.identity
-by_message (emm.AreaUpdateRequest m) = Refuse (update_reject 9)
-by_message (emm.ServiceRequest octets) = Refuse (service_reject 9)
+by_message (emm.AreaUpdateRequest m) = Refuse (update_reject IdentityNotDerived)
+by_message (emm.ServiceRequest octets) = Refuse (service_reject IdentityNotDerived)
 by_message _ = TurnAway
 
--- a request with a part that can't be read is refused with cause 96, by its type
+-- a request with a part that can't be read is refused by its type
 abbrev pub by_type : ℕ → Welcome
-by_type code = if code == 0x41 then Refuse (attach_reject 96 None) else if code == 0x48 then Refuse (update_reject 96) else TurnAway
+by_type code = if code == 0x41 then Refuse (attach_reject InvalidMandatory None) else if code == 0x48 then Refuse (update_reject InvalidMandatory) else TurnAway
 
 abbrev pub by_fault : NasFault → ℕ → Welcome
 by_fault Mandatory code = by_type code
@@ -111,7 +113,7 @@ told_imsi _ = None
 
 -- who is provisioned claims the association, with the message that began it
 unfoldable pub claimed_by : Option ℕ → ℕ → Kept → Turn
-claimed_by None id k = closing (refused (place_of id k) (attach_reject 8 None))
+claimed_by None id k = closing (refused (place_of id k) (attach_reject ServicesNotAllowed None))
 claimed_by (Some slot) id k = record { stranger = Some (Held slot); sent = []; call = Some (record { slot = slot; item = Claim id (entry_of k) }) }
 
 unfoldable pub identified : Option (List ℕ) → List Profile → ℕ → Kept → Stranger → Turn
@@ -159,13 +161,6 @@ unfoldable pub ticks : ℕ → Option Stranger → Turn
 ticks id None = stays None []
 ticks id (Some (Waiting k left repeats)) = waits id k left repeats
 ticks id (Some (Held slot)) = stays (Some (Held slot)) []
-
--- the station of a stranger's id, and its number there
-abbrev pub station_in : ℕ → ℕ
-station_in id = (id - 2 ^ 31) / 2 ^ 24
-
-abbrev pub number_in : ℕ → ℕ
-number_in id = (id - 2 ^ 31) % 2 ^ 24
 
 -- a station was lost, set up anew or reset: its strangers are closed, those too that are held
 unfoldable pub loses : ℕ → Option Stranger → ℕ → Turn

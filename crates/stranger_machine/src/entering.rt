@@ -11,8 +11,9 @@ ghost use Rattle.stranger_machine.specs.Turns.{call_of, kept_of, turn_of};
 use crate::sending::{asked, place, refused, released};
 use crate::state::{Kept, Stranger};
 use crate::turn::{After, Call, Turn};
-use emm_machine::{Entry, SoloEvent, attach_reject, initial_octets, service_reject, update_reject};
 use identity_slots::AssociationId;
+use mme_signalling::{EmmCause, attach_reject, initial_octets, service_reject, update_reject};
+use mme_vocabulary::{Entry, SoloEvent};
 use nas_elements::{MobileIdentity, NasFault};
 use nas_messages::{Direction, Emm, EmmMessage, decode_emm};
 use s1ap_elements::{Cause, NasCause};
@@ -26,9 +27,9 @@ pub(crate) const IDENTITY_REPEATS: u32 = 4;
 /// A request that is refused (TS 24.301 clauses 5.5.1.2.5, 5.5.3.2.5 and 5.6.1.5).
 #[derive(Clone, Copy)]
 pub(crate) enum Rejected {
-    Attach(u8),
-    AreaUpdate(u8),
-    Service(u8),
+    Attach(EmmCause),
+    AreaUpdate(EmmCause),
+    Service(EmmCause),
 }
 
 /// How a phone that is foreign is met.
@@ -42,20 +43,11 @@ pub(crate) enum Welcome {
     TurnAway,
 }
 
-/// EMM cause 8, EPS services and non-EPS services not allowed (TS 24.301 clause 9.9.3.9): nobody has the IMSI.
-pub(crate) const NOT_ALLOWED: u8 = 8;
-
-// EMM cause 9, the identity can't be derived by the network.
-const NOT_DERIVED: u8 = 9;
-
-// EMM cause 96, invalid mandatory information.
-const INVALID: u8 = 96;
-
 fn by_identity(identity: &MobileIdentity) -> Welcome
     ensures { welcome_of result ≡ by_identity identity.now }
 {
     match identity {
-        MobileIdentity::Imsi(_) => Welcome::Refuse(Rejected::Attach(NOT_ALLOWED)),
+        MobileIdentity::Imsi(_) => Welcome::Refuse(Rejected::Attach(EmmCause::ServicesNotAllowed)),
         MobileIdentity::Temporary(_) => Welcome::Ask,
     }
 }
@@ -63,10 +55,11 @@ fn by_identity(identity: &MobileIdentity) -> Welcome
 fn by_message(message: &EmmMessage) -> Welcome
     ensures { welcome_of result ≡ by_message (lists message.now) }
 {
+    let not_derived = EmmCause::IdentityNotDerived;
     match message {
         Emm::AttachRequest(request) => by_identity(&request.identity),
-        Emm::AreaUpdateRequest(_) => Welcome::Refuse(Rejected::AreaUpdate(NOT_DERIVED)),
-        Emm::ServiceRequest { octets: _ } => Welcome::Refuse(Rejected::Service(NOT_DERIVED)),
+        Emm::AreaUpdateRequest(_) => Welcome::Refuse(Rejected::AreaUpdate(not_derived)),
+        Emm::ServiceRequest { octets: _ } => Welcome::Refuse(Rejected::Service(not_derived)),
         _ => Welcome::TurnAway,
     }
 }
@@ -76,8 +69,8 @@ fn by_type(code: u8) -> Welcome
     ensures { welcome_of result ≡ by_type code }
 {
     match code {
-        0x41 => Welcome::Refuse(Rejected::Attach(INVALID)),
-        0x48 => Welcome::Refuse(Rejected::AreaUpdate(INVALID)),
+        0x41 => Welcome::Refuse(Rejected::Attach(EmmCause::InvalidMandatory)),
+        0x48 => Welcome::Refuse(Rejected::AreaUpdate(EmmCause::InvalidMandatory)),
         _ => Welcome::TurnAway,
     }
 }

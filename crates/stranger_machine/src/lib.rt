@@ -16,6 +16,6 @@ mod turn;
 pub use entering::begins;
 pub use sending::saying;
 pub use state::{Kept, Stranger};
-pub use table::{Known, Strangers, number_in, station_in};
+pub use table::{Known, Strangers};
 pub use telling::{told, unknown};
 pub use turn::{After, Call, Notice, Turn};

@@ -6,10 +6,9 @@ ghost use Rattle.s1ap_messages.specs.Pdus.{lists};
 ghost use Rattle.mme_signalling.specs.Pdus.{downlink};
 ghost use Rattle.stranger_machine.specs.Turns.{asked, identity_request, refused, released, said};
 
-use emm_machine::{
-    Answer, Answers, Connection, SentOctets, StationNumber, downlink, release_command,
-};
 use identity_slots::AssociationId;
+use mme_signalling::{downlink, release_command};
+use mme_vocabulary::{Answer, Answers, Connection, SentOctets, StationNumber};
 use nas_messages::{Emm, EmmMessage, encode_emm};
 use s1ap_elements::{Cause, EnbUeId, NasCause};
 use s1ap_messages::S1apPdu;

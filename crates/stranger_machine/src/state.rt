@@ -5,8 +5,8 @@ ghost use Rattle.mme_vocabulary.specs.Events.{entry_lists};
 ghost use Rattle.stranger_machine.specs.Turns.{entry_of, kept_of, place_of};
 
 use crate::sending::place;
-use emm_machine::{Connection, Entry, NasOctets, StationNumber};
 use identity_slots::{AssociationId, Slot};
+use mme_vocabulary::{Connection, Entry, NasOctets, StationNumber};
 use s1ap_elements::{EnbUeId, Tai};
 use std::alloc::{AllocError, Global};
 

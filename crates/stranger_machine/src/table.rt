@@ -2,7 +2,7 @@
 
 ghost use Rattle.std.specs.Prelude.{◌≡◌, [], IfOk, OnOk, OnErr, Some, option_map};
 ghost use Rattle.ordered_lists.specs.Ordered.{Rising, place, put, without};
-ghost use Rattle.stranger_machine.specs.Machine.{notes, number_in, station_in};
+ghost use Rattle.stranger_machine.specs.Machine.{notes};
 ghost use Rattle.stranger_machine.specs.Table.{known_id, noted, passed, stays_open, stranger_at, with_stranger};
 ghost use Rattle.stranger_machine.specs.Turns.{after_of};
 
@@ -10,8 +10,8 @@ use crate::entering::IDENTITY_TICKS;
 use crate::sending::{asked, released};
 use crate::state::Stranger;
 use crate::turn::{After, Notice};
-use emm_machine::{Answers, StationNumber};
-use identity_slots::AssociationId;
+use identity_slots::{AssociationId, station_in};
+use mme_vocabulary::{Answers, StationNumber};
 use s1ap_elements::{Cause, NasCause};
 use std::alloc::{AllocError, Global};
 use std::marker::Model;
@@ -40,20 +40,6 @@ impl Model for Strangers {
     ghost view = { λ s. s.known.items };
 
     ghost invariant = { λ s. Rising known_id s.known.items };
-}
-
-/// The station of a stranger's id, which is 2^31, its station, and its number there in 24 bits.
-pub fn station_in(id: AssociationId) -> u8
-    ensures { result ≡ station_in id }
-{
-    (id.get().saturating_sub(0x8000_0000) / 0x100_0000) as u8
-}
-
-/// A stranger's number at its station, by its id.
-pub fn number_in(id: AssociationId) -> u32
-    ensures { result ≡ number_in id }
-{
-    id.get().saturating_sub(0x8000_0000) % 0x100_0000
 }
 
 impl Known {

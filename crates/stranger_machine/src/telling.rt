@@ -10,15 +10,14 @@ ghost use Rattle.stranger_machine.specs.declared.turn.After.TheVariants as after
 ghost use Rattle.stranger_machine.specs.Machine.{checked, claimed_by, heeds, identified, imsi_of, told, told_imsi, unknown, waiting_told};
 ghost use Rattle.stranger_machine.specs.Turns.{turn_of};
 
-use crate::entering::NOT_ALLOWED;
 use crate::sending::{refused, released, saying};
 use crate::state::{Kept, Stranger};
 use crate::turn::{After, Call, Turn};
-use emm_machine::{
-    Answers, SoloEvent, UeBody, UeMessage, attach_reject, cause_of_request, error_indication,
-    path_switch_failure,
-};
 use identity_slots::{AssociationId, Provision, Slot};
+use mme_signalling::{
+    EmmCause, attach_reject, cause_of_request, error_indication, path_switch_failure,
+};
+use mme_vocabulary::{Answers, SoloEvent, UeBody, UeMessage};
 use nas_elements::{Imsi, MobileIdentity};
 use nas_messages::{Direction, Emm, EmmMessage, decode_emm};
 use s1ap_elements::{Cause, RadioNetworkCause};
@@ -133,7 +132,7 @@ fn identified<'a>(
             }),
         }),
         None => {
-            let nas = attach_reject(alloc, NOT_ALLOWED)?;
+            let nas = attach_reject(alloc, EmmCause::ServicesNotAllowed)?;
             let sent = refused(alloc, id, kept.station, kept.enb_id, nas.as_slice())?;
             Ok(closing(sent))
         }

@@ -1,8 +1,8 @@
 //! What one stranger does at an event.
 
 use crate::state::Stranger;
-use emm_machine::{Answers, SoloEvent, StationNumber};
 use identity_slots::Slot;
+use mme_vocabulary::{Answers, SoloEvent, StationNumber};
 
 /// What comes to all strangers.
 #[derive(Clone, Copy)]
