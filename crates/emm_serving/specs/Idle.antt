@@ -20,6 +20,7 @@ use Rattle.emm_state.specs.declared.solo.Timer.{Timer}
 use Rattle.emm_state.specs.declared.solo.Timer.TheVariants.{T3413, T3422, T3450, T3460, T3489}
 use Rattle.mme_vocabulary.specs.declared.stations.StationState.{StationState}
 use Rattle.mme_vocabulary.specs.declared.stations.StationState.TheVariants.{Down, Up, Ready}
+use Rattle.mme_vocabulary.specs.Stations.{is_broadcast}
 use Rattle.emm_state.specs.Actions.{emit, ended, fall, protect, release, send, start, wipe}
 use Rattle.emm_state.specs.Does.{◌>>=◌}
 use Rattle.mme_signalling.specs.Messages.{network_detach}
@@ -27,9 +28,6 @@ use Rattle.mme_signalling.specs.Pdus.{paging}
 use Rattle.emm_state.specs.Timers.{ticks_of}
 
 -- ---- paging (TS 24.301 clause 5.6.2, TS 36.413 clause 8.5)
-
-abbrev pub is_broadcast : List ℕ → List (List ℕ) → Bool
-is_broadcast plmn plmns = list_any (λ p. bytes_eq p plmn) plmns
 
 abbrev pub covers : Tai → SupportedTa → Bool
 covers tai ta = bytes_eq ta.tac tai.tac && is_broadcast tai.plmn ta.plmns

@@ -4,21 +4,15 @@ ghost use Rattle.std.specs.Prelude.{◌≡◌, ◌<◌, IfOk, OnOk, Some, None};
 ghost use Rattle.std.specs.Borrow.{Bor};
 ghost use Rattle.s1ap_messages.specs.Pdus.{lists};
 ghost use Rattle.emm_state.specs.Does.{Does};
-ghost use Rattle.emm_serving.specs.Idle.{again, cancelled, covers, data_waits, detach_phone, dropped, emit_each, expired, given_up, is_broadcast, is_in_registered, listening, listens, lower, lowered, may_page, page, paged, procedure_ticks, reachable_ticks_out, restarted, some_covers, tick};
+ghost use Rattle.emm_serving.specs.Idle.{again, cancelled, covers, data_waits, detach_phone, dropped, emit_each, expired, given_up, is_in_registered, listening, listens, lower, lowered, may_page, page, paged, procedure_ticks, reachable_ticks_out, restarted, some_covers, tick};
 
 use emm_state::{Countdown, Draft, Phase, Protection, Repeat, Setting, Stations, Stop, Timer};
 use mme_signalling::{network_detach, paging};
-use mme_vocabulary::{EnbWorld, NasOctets, StationNumber, StationState};
+use mme_vocabulary::{EnbWorld, NasOctets, StationNumber, StationState, is_broadcast};
 use nas_messages::SecurityHeader;
-use s1ap_elements::{Cause, NasCause, Plmn, SupportedTa, Tai};
+use s1ap_elements::{Cause, NasCause, SupportedTa, Tai};
 use s1ap_messages::S1apPdu;
 use std::alloc::{AllocError, Global};
-
-fn is_broadcast(plmn: Plmn, plmns: &[Plmn]) -> bool
-    ensures { result ≡ is_broadcast plmn plmns.now }
-{
-    plmns.iter().any(|other| *other == plmn)
-}
 
 fn covers(tai: &Tai, area: &SupportedTa) -> bool
     ensures { result ≡ covers tai.now area.now }

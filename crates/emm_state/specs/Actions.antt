@@ -1,6 +1,6 @@
 -- The actions of the one-subscriber machine, each from a step under way to the step with the action done. A release without
 -- a connection sends nothing, and a message without a written form isn't sent.
-use Rattle.std.specs.Prelude.{ℕ, ◌+◌, ◌^◌, ◌==◌, ◌&&◌, Bool, true, false, nat_lt, if◌then◌else◌, List, [], ◌∷◌, ◌++◌, Option, Some, None}
+use Rattle.std.specs.Prelude.{ℕ, ◌+◌, ◌^◌, ◌==◌, ◌&&◌, Bool, true, false, nat_lt, if◌then◌else◌, List, [], ◌++◌, Option, Some, None}
 use Rattle.std.specs.Option.{option_map_or}
 use Rattle.eps_keys.specs.Eia2.{eia2}
 use Rattle.nas_messages.specs.declared.protection.SecurityHeader.{SecurityHeader}

@@ -1,5 +1,5 @@
 -- What is said to stations, and what a station that is not down makes of what it sends (TS 36.413 clauses 8.7.3 and 8.7.2).
-use Rattle.std.specs.Prelude.{ℕ, ◌^◌, nat_lt, Bool, List, [], ◌∷◌, Option, Some, None, Result, Ok, Err, if◌then◌else◌, bytes_eq}
+use Rattle.std.specs.Prelude.{ℕ, Bool, List, [], ◌∷◌, Option, Some, None, Result, Ok, Err, if◌then◌else◌}
 use Rattle.std.specs.List.{list_any}
 use Rattle.s1ap_elements.specs.declared.cause.Cause.{Cause}
 use Rattle.s1ap_elements.specs.declared.cause.Cause.TheVariants.{Protocol, Misc}
@@ -15,7 +15,7 @@ use Rattle.s1ap_messages.specs.declared.pdu.Pdu.{Pdu}
 use Rattle.s1ap_messages.specs.declared.pdu.Pdu.TheVariants as pdu
 use Rattle.s1ap_messages.specs.declared.pdu.InitialUeMessage.{InitialUeMessage}
 use Rattle.identity_slots.specs.declared.profile.Profile.{Profile}
-use Rattle.identity_slots.specs.Ids.{stranger_id}
+use Rattle.identity_slots.specs.Ids.{is_of_slot, stranger_id}
 use Rattle.identity_slots.specs.Provisioned.{slot_of_id}
 use Rattle.mme_vocabulary.specs.declared.event.Entry.{Entry}
 use Rattle.mme_vocabulary.specs.declared.event.UeBody.{UeBody}
@@ -24,6 +24,7 @@ use Rattle.mme_vocabulary.specs.declared.event.UeMessage.{UeMessage}
 use Rattle.mme_vocabulary.specs.declared.octets.Answer.{Answer}
 use Rattle.mme_vocabulary.specs.declared.stations.StationState.{StationState}
 use Rattle.mme_vocabulary.specs.declared.stations.StationState.TheVariants.{Down, Up, Ready}
+use Rattle.mme_vocabulary.specs.Stations.{is_broadcast}
 use Rattle.mme_vocabulary.specs.Events.{Item, Initial, Message, StationGone}
 use Rattle.stranger_machine.specs.declared.turn.Notice.TheVariants.{Gone}
 use Rattle.stranger_machine.specs.Machine.{Begins, Told, unknown}
@@ -95,9 +96,6 @@ reaching state r = record { state = state; sends = []; reach = r; calls = NoOne 
 abbrev pub begins_anew : ℕ → StationState → List Answer → Heard
 begins_anew e state sends = record { state = state; sends = sends; reach = Each (Gone e); calls = Everyone (StationGone e) }
 
-abbrev pub is_broadcast : List ℕ → List (List ℕ) → Bool
-is_broadcast plmn plmns = list_any (λ p. bytes_eq p plmn) plmns
-
 -- whether some tracking area broadcasts the network
 abbrev pub broadcasts : List ℕ → List SupportedTa → Bool
 broadcasts plmn tas = list_any (λ ta. is_broadcast plmn ta.plmns) tas
@@ -138,7 +136,7 @@ told_slot (Some slot) state m = calling state (One slot (Message m))
 told_slot None state m = says state (unknown m.body m)
 
 abbrev pub told : List Profile → StationState → UeMessage (List ℕ) → Heard
-told ps state m = if nat_lt m.mme_id (2 ^ 31) then told_slot (slot_of_id m.mme_id ps) state m else reaching state (table.One m.mme_id (Told m))
+told ps state m = if is_of_slot m.mme_id then told_slot (slot_of_id m.mme_id ps) state m else reaching state (table.One m.mme_id (Told m))
 
 -- a message with an MME UE id, of a station that is set up
 abbrev pub tells : List Profile → StationState → UeMessage (List ℕ) → Heard

@@ -8,7 +8,7 @@ ghost use Rattle.mme_vocabulary.specs.declared.stations.StationState.{StationSta
 ghost use Rattle.mme_vocabulary.specs.Events.{body_lists, message_lists};
 ghost use Rattle.mme_core.specs.declared.event.StepFault.TheVariants.{NoMemory};
 ghost use Rattle.mme_core.specs.Seen.{seen};
-ghost use Rattle.mme_core.specs.Stations.{begins_anew, broadcasts, cause_of, entered, enters, hears, hears_message, indicated, indication, is_broadcast, not_compatible, reset, says, set_up, tells, told, told_slot, ue_message};
+ghost use Rattle.mme_core.specs.Stations.{begins_anew, broadcasts, cause_of, entered, enters, hears, hears_message, indicated, indication, not_compatible, reset, says, set_up, tells, told, told_slot, ue_message};
 
 use crate::answers::{cause_of, indication, setup_failure, setup_response};
 use crate::calls::{Calls, Reach};
@@ -16,7 +16,9 @@ use crate::config::Config;
 use crate::event::StepFault;
 use crate::naming::named_slot;
 use identity_slots::{AssociationId, Provision};
-use mme_vocabulary::{Answers, Entry, SoloEvent, StationNumber, StationState, UeBody, UeMessage};
+use mme_vocabulary::{
+    Answers, Entry, SoloEvent, StationNumber, StationState, UeBody, UeMessage, is_broadcast,
+};
 use s1ap_elements::{Cause, EnbUeId, MmeUeId, Plmn, ProtocolCause, SupportedTa};
 use s1ap_messages::{InitialUeMessage, Pdu, S1apFault, S1apPdu, SetupRequest, decode};
 use std::alloc::Global;
@@ -97,12 +99,6 @@ fn broadcasts(plmn: Plmn, tas: &[SupportedTa]) -> bool
     ensures { result ≡ broadcasts plmn tas.now }
 {
     tas.iter().any(|ta| is_broadcast(plmn, ta.plmns.as_slice()))
-}
-
-fn is_broadcast(plmn: Plmn, plmns: &[Plmn]) -> bool
-    ensures { result ≡ is_broadcast plmn plmns.now }
-{
-    plmns.iter().any(|other| *other == plmn)
 }
 
 fn hears_setup<'a>(
@@ -217,7 +213,7 @@ fn told<'a>(
         ≡ told provision.now.profiles state (message_lists message.now)) }
     ensures memory { IfErr result (λ fault. fault ≡ NoMemory) }
 {
-    if message.mme_id.get() >= 0x8000_0000 {
+    if !message.mme_id.is_of_slot() {
         return Ok(Heard {
             state: None,
             says: Answers::new(alloc),

@@ -12,4 +12,4 @@ pub use connection::{Connection, RadioKeys};
 pub use event::{Entry, SoloEvent, UeBody, UeMessage};
 pub use network::{AggregateBitRate, Apn, Network};
 pub use octets::{Answer, Answers, Mark, NasOctets, SentOctets};
-pub use stations::{EnbWorld, StationNumber, StationState};
+pub use stations::{EnbWorld, StationNumber, StationState, is_broadcast};

@@ -1,9 +1,9 @@
 //! What every subscriber may know of the stations.
 
 ghost use Rattle.std.specs.Prelude.{◌≡◌, ◌<◌, ◌↔◌, ℕ, IsSome, IfSome, IfOk, slice_set, length};
-ghost use Rattle.mme_vocabulary.specs.Stations.{no_stations, station_at};
+ghost use Rattle.mme_vocabulary.specs.Stations.{is_broadcast, no_stations, station_at};
 
-use s1ap_elements::SupportedTas;
+use s1ap_elements::{Plmn, SupportedTas};
 use std::alloc::{AllocError, Global};
 use std::marker::Model;
 
@@ -54,6 +54,13 @@ pub enum StationState {
     Up,
     /// Set up, with the tracking areas that it broadcasts.
     Ready(SupportedTas),
+}
+
+/// Whether a network is among those that a tracking area is broadcast for.
+pub fn is_broadcast(plmn: Plmn, plmns: &[Plmn]) -> bool
+    ensures { result ≡ is_broadcast plmn plmns.now }
+{
+    plmns.iter().any(|other| *other == plmn)
 }
 
 /// The 128 stations by number; a contract sees the list of their states.
