@@ -2,8 +2,14 @@
 -- A row goes from a step under way to the step with the row done; none where a downlink count is spent.
 use Rattle.std.specs.Prelude.{ℕ, ◌+◌, ◌-◌, ◌%◌, ◌==◌, Bool, true, false, if◌then◌else◌, List, [], ◌∷◌, replicate, slice_get, Option, Some, None, Ok, Err}
 use Rattle.std.specs.Option.{option_map_or}
+use Rattle.s1ap_elements.specs.declared.cause.Cause.TheVariants.{Nas}
+use Rattle.s1ap_elements.specs.declared.cause.NasCause.TheVariants.{AuthenticationFailure, Detach, NormalRelease, Unspecified}
+use Rattle.s1ap_elements.specs.declared.phone.Tai.{Tai}
+use Rattle.nas_elements.specs.Capability.{has_eia2}
+use Rattle.nas_messages.specs.declared.protection.SecurityHeader.TheVariants.{IntegrityProtectedCiphered, NewContext, NewContextCiphered}
 use Rattle.eps_keys.specs.Hmac.{kenb, nas_integrity_key, next_hop}
 use Rattle.eps_keys.specs.Same.{same_octets}
+use Rattle.nas_security.specs.Accepting.{Answer, accepted}
 use Rattle.esm_machine.specs.declared.request.Requested.{Requested}
 use Rattle.esm_machine.specs.declared.request.Requested.TheVariants.{Unreadable, Refused, Taken}
 use Rattle.esm_machine.specs.Requests.{activated, after_request, requested}
@@ -11,30 +17,24 @@ use Rattle.esm_machine.specs.Sent.{activation, information_request}
 use Rattle.esm_machine.specs.Sessions.{asks_information}
 use Rattle.identity_slots.specs.declared.profile.Vector.{Vector}
 use Rattle.identity_slots.specs.Ids.{id_of, next_counter}
-use Rattle.nas_elements.specs.Capability.{has_eia2}
-use Rattle.nas_messages.specs.declared.protection.SecurityHeader.TheVariants.{IntegrityProtectedCiphered, NewContext, NewContextCiphered}
-use Rattle.nas_security.specs.Accepting.{Answer, accepted}
-use Rattle.s1ap_elements.specs.declared.cause.Cause.TheVariants.{Nas}
-use Rattle.s1ap_elements.specs.declared.cause.NasCause.TheVariants.{AuthenticationFailure, Detach, NormalRelease, Unspecified}
-use Rattle.s1ap_elements.specs.declared.phone.Tai.{Tai}
-use Rattle.emm_state.specs.declared.draft.Draft.{Draft}
+use Rattle.mme_vocabulary.specs.declared.connection.RadioKeys.{RadioKeys}
 use Rattle.mme_signalling.specs.declared.cause.EmmCause.{EmmCause}
 use Rattle.mme_signalling.specs.declared.cause.EmmCause.TheVariants.{EsmFailure, InvalidMandatory, NetworkFailure, NotCompatible, ProtocolError, SynchFailure}
 use Rattle.mme_signalling.specs.declared.heard.Heard.{Heard}
 use Rattle.mme_signalling.specs.declared.heard.Heard.TheVariants as heards
 use Rattle.mme_signalling.specs.declared.messages.Grant.{Grant}
+use Rattle.mme_signalling.specs.Causes.{cause_of_fault, code_of}
+use Rattle.mme_signalling.specs.Hearing.{heard}
+use Rattle.mme_signalling.specs.Messages.{attach_accept, attach_reject, authentication_reject, authentication_request, detach_accept, emm_status, security_mode_command}
+use Rattle.emm_state.specs.declared.draft.Draft.{Draft}
 use Rattle.emm_state.specs.declared.setting.Setting.{Setting}
 use Rattle.emm_state.specs.declared.solo.Context.{Context}
 use Rattle.emm_state.specs.declared.solo.Phase.TheVariants.{Accepting, Authenticating, EsmInformation, SecurityMode}
 use Rattle.emm_state.specs.declared.solo.Protection.TheVariants.{Plain, Under}
-use Rattle.mme_vocabulary.specs.declared.connection.RadioKeys.{RadioKeys}
 use Rattle.emm_state.specs.declared.solo.Repeat.TheVariants as repeats
 use Rattle.emm_state.specs.declared.solo.Timer.TheVariants.{T3450, T3460, T3489}
 use Rattle.emm_state.specs.Actions.{fall, mac_of, protect, release, send, set_up_with, start, wipe}
 use Rattle.emm_state.specs.Does.{◌>>=◌}
-use Rattle.mme_signalling.specs.Causes.{cause_of_fault, code_of}
-use Rattle.mme_signalling.specs.Hearing.{heard}
-use Rattle.mme_signalling.specs.Messages.{attach_accept, attach_reject, authentication_reject, authentication_request, detach_accept, emm_status, security_mode_command}
 
 -- ---- the request (TS 24.301 clauses 5.5.1.2.2 and 5.5.1.2.5)
 

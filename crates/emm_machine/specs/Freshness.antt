@@ -4,12 +4,12 @@ use Rattle.std.specs.Prelude.{◌≡◌, ℕ, ◌-◌, ◌<◌, ◌≤◌, ◌==
 use Rattle.nas_security.specs.Counts.{first_after}
 use Rattle.mme_vocabulary.specs.declared.octets.Answer.{Answer}
 use Rattle.mme_vocabulary.specs.declared.octets.Mark.{Mark}
+use Rattle.mme_vocabulary.specs.Events.{Item}
 use Rattle.emm_state.specs.declared.setting.Setting.{Setting}
 use Rattle.emm_state.specs.declared.solo.Context.{Context}
 use Rattle.emm_state.specs.declared.solo.Phase.{Phase}
 use Rattle.emm_state.specs.declared.solo.Phase.TheVariants.{Authenticating}
 use Rattle.emm_state.specs.declared.solo.Solo.{Solo}
-use Rattle.mme_vocabulary.specs.Events.{Item}
 use Rattle.emm_machine.specs.Steps.{solo_after, solo_answers, solo_step}
 
 -- ---- runs

@@ -1,8 +1,9 @@
 -- What follows from the definitions: an item that is still leaves a subscriber as it is, and nothing is sent.
 use Rattle.std.proofs.Common.{◌≡◌, ℕ, ◌==◌, ◌&&◌, Bool, true, false, not, if◌then◌else◌, Option, Some, None, is_some, refl}
+use Rattle.mme_vocabulary.specs.declared.connection.Connection.{Connection}
+use Rattle.mme_vocabulary.specs.Events.{Item, Nothing, Initial, Claim, Message, Displaced, StationGone, Tick, Data, Cancel}
 use Rattle.emm_state.specs.declared.draft.Draft.{Draft}
 use Rattle.emm_state.specs.declared.setting.Setting.{Setting}
-use Rattle.mme_vocabulary.specs.declared.connection.Connection.{Connection}
 use Rattle.emm_state.specs.declared.solo.Countdown.{Countdown}
 use Rattle.emm_state.specs.declared.solo.Repeat.{Repeat}
 use Rattle.emm_state.specs.declared.solo.Repeat.TheVariants as repeats
@@ -10,7 +11,6 @@ use Rattle.emm_state.specs.declared.solo.Solo.{Solo}
 use Rattle.emm_state.specs.Actions.{lost, untouched}
 use Rattle.emm_serving.specs.Connected.{station_gone, strike}
 use Rattle.emm_serving.specs.Idle.{lowered, procedure_ticks, reachable_ticks_out, tick}
-use Rattle.mme_vocabulary.specs.Events.{Item, Nothing, Initial, Claim, Message, Displaced, StationGone, Tick, Data, Cancel}
 use Rattle.emm_machine.specs.Steps.{row, solo_step}
 use Rattle.emm_machine.specs.Still.{is_elsewhere, pages, still}
 

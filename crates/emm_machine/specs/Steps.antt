@@ -2,11 +2,11 @@
 use Rattle.std.specs.Prelude.{List, [], ◌∷◌, Option, Some, unwrap_or}
 use Rattle.s1ap_elements.specs.declared.cause.Cause.TheVariants.{Nas}
 use Rattle.s1ap_elements.specs.declared.cause.NasCause.TheVariants.{Unspecified}
-use Rattle.emm_state.specs.declared.draft.Draft.{Draft}
 use Rattle.mme_vocabulary.specs.declared.octets.Answer.{Answer}
+use Rattle.mme_vocabulary.specs.Events.{Item, Nothing, Initial, Claim, Message, Displaced, StationGone, Tick, Data, Cancel}
+use Rattle.emm_state.specs.declared.draft.Draft.{Draft}
 use Rattle.emm_state.specs.declared.setting.Setting.{Setting}
 use Rattle.emm_state.specs.declared.solo.Solo.{Solo}
-use Rattle.mme_vocabulary.specs.Events.{Item, Nothing, Initial, Claim, Message, Displaced, StationGone, Tick, Data, Cancel}
 use Rattle.emm_state.specs.Actions.{fall, untouched, wipe}
 use Rattle.emm_serving.specs.Connected.{displaced, message_of, station_gone}
 use Rattle.emm_serving.specs.Idle.{cancelled, data_waits, tick}

@@ -1,24 +1,24 @@
 -- The rows of messages on an association (TS 36.413 clause 8), and of what ends one.
 use Rattle.std.specs.Prelude.{ℕ, ◌+◌, ◌%◌, ◌==◌, Bool, false, not, if◌then◌else◌, List, filter, Option, Some, None}
 use Rattle.std.specs.Option.{option_map_or}
-use Rattle.eps_keys.specs.Hmac.{next_hop}
-use Rattle.identity_slots.specs.Ids.{is_of_slot}
 use Rattle.s1ap_elements.specs.declared.cause.Cause.{Cause}
 use Rattle.s1ap_elements.specs.declared.cause.Cause.TheVariants as causes
 use Rattle.s1ap_elements.specs.declared.cause.RadioNetworkCause.TheVariants as radio
 use Rattle.s1ap_elements.specs.declared.cause.ProtocolCause.TheVariants as protocol
-use Rattle.emm_state.specs.declared.draft.Draft.{Draft}
+use Rattle.eps_keys.specs.Hmac.{next_hop}
+use Rattle.identity_slots.specs.Ids.{is_of_slot}
 use Rattle.mme_vocabulary.specs.declared.event.UeBody.{UeBody}
 use Rattle.mme_vocabulary.specs.declared.event.UeBody.TheVariants.{Uplink, ReleaseRequest, ReleaseComplete, ContextSetupFailure, PathSwitch, Notice}
 use Rattle.mme_vocabulary.specs.declared.event.UeMessage.{UeMessage}
-use Rattle.emm_state.specs.declared.setting.Setting.{Setting}
 use Rattle.mme_vocabulary.specs.declared.connection.Connection.{Connection}
-use Rattle.emm_state.specs.declared.solo.Context.{Context}
 use Rattle.mme_vocabulary.specs.declared.connection.RadioKeys.{RadioKeys}
+use Rattle.mme_signalling.specs.Pdus.{cause_of_request, error_indication, path_switch_acknowledge, path_switch_failure}
+use Rattle.emm_state.specs.declared.draft.Draft.{Draft}
+use Rattle.emm_state.specs.declared.setting.Setting.{Setting}
+use Rattle.emm_state.specs.declared.solo.Context.{Context}
 use Rattle.emm_state.specs.declared.solo.Repeat.{Repeat}
 use Rattle.emm_state.specs.declared.solo.Repeat.TheVariants as repeats
 use Rattle.emm_state.specs.Actions.{emit, fall, is_at, is_registered, lost}
-use Rattle.mme_signalling.specs.Pdus.{cause_of_request, error_indication, path_switch_acknowledge, path_switch_failure}
 use Rattle.emm_serving.specs.Serving.{uplink}
 
 -- ---- how a message stands to the connection

@@ -2,12 +2,17 @@
 use Rattle.std.specs.Prelude.{ℕ, ◌+◌, ◌-◌, ◌==◌, ◌&&◌, Bool, true, false, if◌then◌else◌, bytes_eq, List, [], ◌∷◌, Option, Some, None, is_some, not}
 use Rattle.std.specs.List.{list_any}
 use Rattle.std.specs.Option.{option_map_or}
-use Rattle.nas_messages.specs.declared.protection.SecurityHeader.TheVariants.{IntegrityProtectedCiphered}
 use Rattle.s1ap_elements.specs.declared.cause.Cause.TheVariants.{Nas}
 use Rattle.s1ap_elements.specs.declared.cause.NasCause.TheVariants.{Detach, Unspecified}
 use Rattle.s1ap_elements.specs.declared.phone.Tai.{Tai}
 use Rattle.s1ap_elements.specs.declared.station.SupportedTa.{SupportedTa}
 use Rattle.s1ap_messages.specs.declared.pdu.Pdu.{Pdu}
+use Rattle.nas_messages.specs.declared.protection.SecurityHeader.TheVariants.{IntegrityProtectedCiphered}
+use Rattle.mme_vocabulary.specs.declared.stations.StationState.{StationState}
+use Rattle.mme_vocabulary.specs.declared.stations.StationState.TheVariants.{Down, Up, Ready}
+use Rattle.mme_vocabulary.specs.Stations.{is_broadcast}
+use Rattle.mme_signalling.specs.Messages.{network_detach}
+use Rattle.mme_signalling.specs.Pdus.{paging}
 use Rattle.emm_state.specs.declared.draft.Draft.{Draft}
 use Rattle.emm_state.specs.declared.setting.Setting.{Setting}
 use Rattle.emm_state.specs.declared.solo.Countdown.{Countdown}
@@ -18,13 +23,8 @@ use Rattle.emm_state.specs.declared.solo.Repeat.{Repeat}
 use Rattle.emm_state.specs.declared.solo.Repeat.TheVariants as repeats
 use Rattle.emm_state.specs.declared.solo.Timer.{Timer}
 use Rattle.emm_state.specs.declared.solo.Timer.TheVariants.{T3413, T3422, T3450, T3460, T3489}
-use Rattle.mme_vocabulary.specs.declared.stations.StationState.{StationState}
-use Rattle.mme_vocabulary.specs.declared.stations.StationState.TheVariants.{Down, Up, Ready}
-use Rattle.mme_vocabulary.specs.Stations.{is_broadcast}
 use Rattle.emm_state.specs.Actions.{emit, ended, fall, protect, release, send, start, wipe}
 use Rattle.emm_state.specs.Does.{◌>>=◌}
-use Rattle.mme_signalling.specs.Messages.{network_detach}
-use Rattle.mme_signalling.specs.Pdus.{paging}
 use Rattle.emm_state.specs.Timers.{ticks_of}
 
 -- ---- paging (TS 24.301 clause 5.6.2, TS 36.413 clause 8.5)

@@ -1,27 +1,30 @@
 -- The rows of a phone that is known: its INITIAL UE MESSAGEs, and its protected messages.
 use Rattle.std.specs.Prelude.{ℕ, Bool, true, false, if◌then◌else◌, List, [], ◌∷◌, Option, Some, None, Result, Ok, Err}
 use Rattle.std.specs.Option.{option_map_or}
+use Rattle.s1ap_elements.specs.declared.cause.Cause.TheVariants.{Nas}
+use Rattle.s1ap_elements.specs.declared.cause.NasCause.TheVariants.{Detach, NormalRelease, Unspecified}
+use Rattle.s1ap_elements.specs.declared.phone.Tai.{Tai}
+use Rattle.nas_messages.specs.declared.protection.SecurityHeader.{SecurityHeader}
+use Rattle.nas_messages.specs.declared.protection.SecurityHeader.TheVariants.{IntegrityProtected, IntegrityProtectedCiphered}
 use Rattle.eps_keys.specs.Hmac.{kenb}
+use Rattle.nas_security.specs.declared.fault.SecurityFault.{SecurityFault}
+use Rattle.nas_security.specs.Accepting.{Answer, accepted, short_accepted}
 use Rattle.esm_machine.specs.declared.reaction.Reaction.{Reaction}
 use Rattle.esm_machine.specs.declared.reaction.Reaction.TheVariants.{Nothing, Informed, Answer as Answered}
 use Rattle.esm_machine.specs.Reactions.{reaction}
 use Rattle.esm_machine.specs.Reading.{is_accept}
 use Rattle.esm_machine.specs.Requests.{accepted_by}
 use Rattle.identity_slots.specs.Ids.{id_of, next_counter}
-use Rattle.nas_messages.specs.declared.protection.SecurityHeader.{SecurityHeader}
-use Rattle.nas_messages.specs.declared.protection.SecurityHeader.TheVariants.{IntegrityProtected, IntegrityProtectedCiphered}
-use Rattle.nas_security.specs.declared.fault.SecurityFault.{SecurityFault}
-use Rattle.nas_security.specs.Accepting.{Answer, accepted, short_accepted}
-use Rattle.s1ap_elements.specs.declared.cause.Cause.TheVariants.{Nas}
-use Rattle.s1ap_elements.specs.declared.cause.NasCause.TheVariants.{Detach, NormalRelease, Unspecified}
-use Rattle.s1ap_elements.specs.declared.phone.Tai.{Tai}
-use Rattle.emm_state.specs.declared.draft.Draft.{Draft}
 use Rattle.mme_vocabulary.specs.declared.event.Entry.{Entry}
 use Rattle.mme_signalling.specs.declared.cause.EmmCause.{EmmCause}
 use Rattle.mme_signalling.specs.declared.cause.EmmCause.TheVariants.{IdentityNotDerived, ImplicitlyDetached, NotCompatible}
 use Rattle.mme_signalling.specs.declared.heard.Heard.{Heard}
 use Rattle.mme_signalling.specs.declared.heard.Heard.TheVariants as heards
 use Rattle.mme_signalling.specs.declared.messages.Grant.{Grant}
+use Rattle.mme_signalling.specs.Causes.{cause_of_fault}
+use Rattle.mme_signalling.specs.Hearing.{heard, initial_octets, is_esm}
+use Rattle.mme_signalling.specs.Messages.{detach_accept, emm_status, service_reject, update_accept, update_reject}
+use Rattle.emm_state.specs.declared.draft.Draft.{Draft}
 use Rattle.emm_state.specs.declared.setting.Setting.{Setting}
 use Rattle.emm_state.specs.declared.solo.Context.{Context}
 use Rattle.emm_state.specs.declared.solo.Phase.{Phase}
@@ -30,11 +33,8 @@ use Rattle.emm_state.specs.declared.solo.Protection.TheVariants.{Under}
 use Rattle.emm_state.specs.declared.solo.Repeat.TheVariants as repeats
 use Rattle.emm_state.specs.declared.solo.Timer.TheVariants.{T3450}
 use Rattle.emm_state.specs.Actions.{connect, connect_on, ended, fall, is_registered, mac_of, protect, refuse, release, set_up, start, turn_away, wipe}
-use Rattle.emm_attaching.specs.Attaching.{accept, attach, counted_up, detach_plainly, given_tmsi, in_authenticating, in_security_mode, keyed, took}
 use Rattle.emm_state.specs.Does.{◌>>=◌}
-use Rattle.mme_signalling.specs.Causes.{cause_of_fault}
-use Rattle.mme_signalling.specs.Hearing.{heard, initial_octets, is_esm}
-use Rattle.mme_signalling.specs.Messages.{detach_accept, emm_status, service_reject, update_accept, update_reject}
+use Rattle.emm_attaching.specs.Attaching.{accept, attach, counted_up, detach_plainly, given_tmsi, in_authenticating, in_security_mode, keyed, took}
 
 -- ---- phases
 

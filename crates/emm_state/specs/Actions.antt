@@ -2,32 +2,32 @@
 -- a connection sends nothing, and a message without a written form isn't sent.
 use Rattle.std.specs.Prelude.{ℕ, ◌+◌, ◌^◌, ◌==◌, ◌&&◌, Bool, true, false, nat_lt, if◌then◌else◌, List, [], ◌++◌, Option, Some, None}
 use Rattle.std.specs.Option.{option_map_or}
-use Rattle.eps_keys.specs.Eia2.{eia2}
-use Rattle.nas_messages.specs.declared.protection.SecurityHeader.{SecurityHeader}
-use Rattle.nas_messages.specs.declared.protection.SecurityHeader.TheVariants.{IntegrityProtectedCiphered}
-use Rattle.nas_security.specs.Context.{Mac}
-use Rattle.nas_security.specs.Protecting.{protected_by}
-use Rattle.identity_slots.specs.Ids.{id_of, next_counter}
 use Rattle.s1ap_elements.specs.declared.cause.Cause.{Cause}
 use Rattle.s1ap_elements.specs.declared.cause.Cause.TheVariants.{Nas}
 use Rattle.s1ap_elements.specs.declared.cause.NasCause.TheVariants.{NormalRelease}
 use Rattle.s1ap_messages.specs.declared.pdu.Pdu.{Pdu}
 use Rattle.s1ap_messages.specs.Pdus.{encoded}
+use Rattle.nas_messages.specs.declared.protection.SecurityHeader.{SecurityHeader}
+use Rattle.nas_messages.specs.declared.protection.SecurityHeader.TheVariants.{IntegrityProtectedCiphered}
+use Rattle.eps_keys.specs.Eia2.{eia2}
+use Rattle.nas_security.specs.Context.{Mac}
+use Rattle.nas_security.specs.Protecting.{protected_by}
 use Rattle.esm_machine.specs.Requests.{inactive}
+use Rattle.identity_slots.specs.Ids.{id_of, next_counter}
+use Rattle.mme_vocabulary.specs.declared.octets.Mark.{Mark}
+use Rattle.mme_vocabulary.specs.declared.connection.Connection.{Connection}
+use Rattle.mme_vocabulary.specs.Answers.{answer_of}
+use Rattle.mme_signalling.specs.Pdus.{context_setup, downlink, release_command}
 use Rattle.emm_state.specs.declared.draft.Draft.{Draft}
 use Rattle.emm_state.specs.declared.draft.Sealed.{Sealed}
-use Rattle.mme_vocabulary.specs.declared.octets.Mark.{Mark}
 use Rattle.emm_state.specs.declared.setting.Setting.{Setting}
-use Rattle.mme_vocabulary.specs.declared.connection.Connection.{Connection}
 use Rattle.emm_state.specs.declared.solo.Context.{Context}
 use Rattle.emm_state.specs.declared.solo.Phase.{Phase}
 use Rattle.emm_state.specs.declared.solo.Phase.TheVariants.{Deregistered, Authenticating, SecurityMode, EsmInformation, Accepting, Updating, Registered, Detaching}
 use Rattle.emm_state.specs.declared.solo.Repeat.{Repeat}
 use Rattle.emm_state.specs.declared.solo.Solo.{Solo}
 use Rattle.emm_state.specs.declared.solo.Timer.{Timer}
-use Rattle.mme_vocabulary.specs.Answers.{answer_of}
 use Rattle.emm_state.specs.Does.{◌>>=◌}
-use Rattle.mme_signalling.specs.Pdus.{context_setup, downlink, release_command}
 use Rattle.emm_state.specs.Timers.{reachable_ticks, repeats_of, ticks_of}
 
 -- a step of which nothing is done yet

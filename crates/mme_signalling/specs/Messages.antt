@@ -1,17 +1,17 @@
 -- The NAS messages that the machine sends.
 use Rattle.std.specs.Prelude.{ℕ, Bool, List, [], ◌∷◌, slice_index, Option, Some, None, if◌then◌else◌}
+use Rattle.s1ap_elements.specs.declared.phone.Tai.{Tai}
 use Rattle.nas_elements.specs.Capability.{replayed}
 use Rattle.nas_elements.specs.Identities.{guti_octets, plmn_from_s1ap, tai_list_octets}
 use Rattle.nas_elements.specs.declared.identity.Guti.{Guti}
 use Rattle.nas_elements.specs.declared.identity.TaiList.{TaiList}
 use Rattle.nas_messages.specs.declared.emm_types.Emm.TheVariants as emm
 use Rattle.nas_messages.specs.Messages.{encoded_emm}
-use Rattle.s1ap_elements.specs.declared.phone.Tai.{Tai}
+use Rattle.mme_vocabulary.specs.declared.network.Network.{Network}
 use Rattle.mme_signalling.specs.declared.cause.EmmCause.{EmmCause}
 use Rattle.mme_signalling.specs.declared.cause.EmmCause.TheVariants.{CsDomainNotAvailable}
 use Rattle.mme_signalling.specs.declared.messages.Grant.{Grant}
 use Rattle.mme_signalling.specs.Causes.{code_of}
-use Rattle.mme_vocabulary.specs.declared.network.Network.{Network}
 
 -- the GUTI of an M-TMSI (TS 23.003 clause 2.8)
 abbrev pub guti : Network → ℕ → Guti

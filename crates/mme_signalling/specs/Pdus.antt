@@ -2,8 +2,6 @@
 use Rattle.std.specs.Prelude.{ℕ, ◌+◌, ◌*◌, ◌-◌, ◌/◌, ◌%◌, ◌==◌, Bool, true, false, if◌then◌else◌, List, [], ◌∷◌, slice_index, Option, Some}
 use Rattle.std.specs.Int.{w32, to_be_bytes}
 use Rattle.per_bits.specs.Bits.{octet_bits}
-use Rattle.identity_slots.specs.declared.profile.Profile.{Profile}
-use Rattle.nas_elements.specs.Digits.{imsi_text}
 use Rattle.s1ap_elements.specs.declared.bearer.Qos.{Qos}
 use Rattle.s1ap_elements.specs.declared.cause.Cause.{Cause}
 use Rattle.s1ap_elements.specs.declared.cause.Cause.TheVariants as causes
@@ -18,6 +16,8 @@ use Rattle.s1ap_elements.specs.declared.phone.UePagingId.TheVariants.{STmsi}
 use Rattle.s1ap_elements.specs.declared.phone.UeS1apIds.TheVariants.{Pair}
 use Rattle.s1ap_messages.specs.declared.pdu.Pdu.{Pdu}
 use Rattle.s1ap_messages.specs.declared.pdu.Pdu.TheVariants as pdu
+use Rattle.nas_elements.specs.Digits.{imsi_text}
+use Rattle.identity_slots.specs.declared.profile.Profile.{Profile}
 use Rattle.mme_vocabulary.specs.declared.network.Network.{Network}
 use Rattle.mme_vocabulary.specs.declared.connection.Connection.{Connection}
 use Rattle.mme_vocabulary.specs.declared.connection.RadioKeys.{RadioKeys}
