@@ -7,7 +7,7 @@ use Rattle.emm_machine.specs.declared.subscriber.EmmState.TheVariants as emm
 use Rattle.emm_machine.specs.declared.subscriber.EcmState.{EcmState}
 use Rattle.emm_machine.specs.declared.subscriber.EcmState.TheVariants as ecm
 use Rattle.emm_machine.specs.declared.subscriber.States.{States}
-use Rattle.stranger_machine.specs.Machine.{number_in, station_in}
+use Rattle.identity_slots.specs.Ids.{number_in, station_in}
 use Rattle.mme_core.specs.declared.event.StepFault.{StepFault}
 use Rattle.mme_core.specs.declared.event.StepFault.TheVariants.{NotUp, AlreadyUp, ClockSpent, NoMemory, UnknownImsi}
 use Rattle.mme_core.specs.declared.out.Out.{Out}
