@@ -2,18 +2,11 @@
 //! call answers.
 #![tactic(auto)]
 
-mod emm;
-mod esm;
-mod fault;
-mod identities;
-mod keys;
-mod nas;
-mod text;
-
-use fault::Fault;
+use call_text::Fault;
 use std::alloc::Global;
 use std::io::{BufRead, BufReader, ErrorKind};
 use std::{env, io};
+use table_calls::Desk;
 
 const USAGE: &str = "Usage: calculator < CALLS";
 
@@ -21,13 +14,14 @@ fn main(rt: HostRuntime) -> io::Result<()> {
     if env::args(&rt)?.skip(1).next().is_some() {
         return rt.println(USAGE);
     }
+    let mut desk = Desk::new(rt.alloc());
     let reader = BufReader::new(rt.alloc(), rt.stdin())?;
     for line in reader.lines(rt.alloc()) {
         match line {
-            Ok(line) => answered(&rt, line.as_str())?,
-            Err(error) if error.kind() == ErrorKind::InvalidData => rt.println(
-                "wrong line: no text",
-            )?,
+            Ok(line) => answered(&rt, &mut desk, line.as_str())?,
+            Err(error) if error.kind() == ErrorKind::InvalidData => {
+                rt.println("wrong line: no text")?
+            }
             Err(error) => return Err(error),
         }
     }
@@ -35,23 +29,28 @@ fn main(rt: HostRuntime) -> io::Result<()> {
 }
 
 /// Prints the answer of a line; a comment and an empty line have none.
-fn answered(rt: &(impl Print + AllocGlobal), line: &str) -> io::Result<()> {
+fn answered(rt: &(impl Print + AllocGlobal), desk: &mut Desk, line: &str) -> io::Result<()> {
     if line.is_empty() || line.starts_with("#") {
         return Ok(());
     }
-    match answer(rt.alloc(), line) {
+    match answer(rt.alloc(), desk, line) {
         Ok(text) => rt.println(text.as_str()),
         Err(fault) => println!(rt; "wrong line: {fault}"),
     }
 }
 
-fn answer(alloc: Global, line: &str) -> Result<String, Fault> {
+/// What a line is answered with. `line` has the rest of the line as its one field; the words of each other call stand behind
+/// one blank each.
+fn answer(alloc: Global, desk: &mut Desk, line: &str) -> Result<String, Fault> {
+    if let Some(text) = line.strip_prefix("line ") {
+        return value_calls::line_answer(alloc, text.as_bytes());
+    }
     let words: Vec<&str> = line.split(" ").collect(alloc)?;
-    if let Some(text) = keys::answer(alloc, words.as_slice())? {
+    if let Some(text) = desk.answer(alloc, words.as_slice())? {
         return Ok(text);
     }
-    if let Some(text) = nas::answer(alloc, words.as_slice())? {
-        return Ok(text);
+    match value_calls::answer(alloc, words.as_slice())? {
+        Some(text) => Ok(text),
+        None => Err(Fault::NoCall),
     }
-    Err(Fault::NoCall)
 }

@@ -1,6 +1,6 @@
 //! Identities of phones and places as text.
 
-use crate::text::Hex;
+use call_text::Hex;
 use nas_elements::{Guti, MobileIdentity, TaiList};
 use std::fmt;
 

@@ -1,7 +1,7 @@
 //! EMM messages as text: the name in TS 24.301 clause 8.2, and the fields.
 
 use crate::identities::{GutiText, IdentityText, TaiListText};
-use crate::text::{Hex, Maybe};
+use call_text::{Hex, Maybe};
 use nas_messages::{
     AreaUpdateAccept, AreaUpdateRequest, AttachAccept, AttachRequest, AuthenticationRequest,
     DetachRequest, Emm, EmmMessage,

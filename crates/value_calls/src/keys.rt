@@ -1,7 +1,6 @@
 //! Calls of `eps_keys`: AES-128, CMAC, 128-EIA2, HMAC-SHA-256 and the key derivations.
 
-use crate::fault::Fault;
-use crate::text::{Answer, number_32, octets_answer, octets_of, sized, yes_answer};
+use call_text::{Answer, Fault, number_32, octets_answer, octets_of, sized, yes_answer};
 use eps_keys::{
     Direction, MacKey, aes_encrypt, cmac, eia2, hmac_sha256, kenb, nas_integrity_key, next_hop,
     same_octets,

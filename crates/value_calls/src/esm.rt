@@ -1,13 +1,16 @@
 //! ESM messages as text: the name in TS 24.301 clause 8.3, and the fields.
 
-use crate::text::{Hex, Maybe};
+use call_text::{Hex, Maybe};
 use nas_messages::{EsmBody, EsmMessage};
 use std::alloc::{AllocError, Global};
 
 /// A message behind its bearer and its transaction.
 pub fn esm_text(alloc: Global, message: &EsmMessage) -> Result<String, AllocError> {
     let body = body_text(alloc, &message.body)?;
-    format!(in alloc; "bearer {} transaction {} {body}", message.bearer, message.transaction)
+    format!(in alloc;
+        "bearer {} transaction {} {body}",
+        message.bearer, message.transaction
+    )
 }
 
 fn body_text(alloc: Global, body: &EsmBody<&[u8]>) -> Result<String, AllocError> {

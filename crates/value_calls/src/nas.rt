@@ -2,9 +2,11 @@
 
 use crate::emm::emm_text;
 use crate::esm::esm_text;
-use crate::fault::Fault;
 use crate::identities::{GutiText, IdentityText, TaiListText};
-use crate::text::{Answer, Hex, Maybe, number_8, octets_answer, octets_of, sized, word_answer};
+use call_text::{
+    Answer, Fault, Hex, Maybe, number_8, octets_answer, octets_of, sized, word_answer,
+    written_answer,
+};
 use nas_elements::{
     Domain, Guti, Imsi, MobileIdentity, NasFault, Optional, Plmn, TaiList, UeCapability,
 };
@@ -20,7 +22,12 @@ pub fn answer(alloc: Global, words: &[&str]) -> Answer {
         ["esm", octets] => esm_answer(alloc, &octets_of(alloc, octets)?),
         ["protected", octets] => protected_answer(alloc, &octets_of(alloc, octets)?),
         ["optional", domain, octets, elements @ ..] => {
-            optional_answer(alloc, domain_of(domain)?, &octets_of(alloc, octets)?, elements)
+            optional_answer(
+                alloc,
+                domain_of(domain)?,
+                &octets_of(alloc, octets)?,
+                elements,
+            )
         }
         ["nas_faults"] => faults_answer(alloc),
         _ => element_answer(alloc, words),
@@ -61,7 +68,7 @@ fn fault_answer(alloc: Global, fault: NasFault) -> Answer {
 
 /// All faults.
 fn faults_answer(alloc: Global) -> Answer {
-    let mut text = String::new(alloc);
+    let mut text = String::from_str(alloc, "faults")?;
     for fault in [
         NasFault::TooShort,
         NasFault::Mandatory,
@@ -70,7 +77,7 @@ fn faults_answer(alloc: Global) -> Answer {
         NasFault::NoMemory,
     ] {
         let number = fault as u8;
-        text.push_str(format!(in alloc; "{number} {fault:?}; ")?.as_str())?;
+        text.push_str(format!(in alloc; "; {number} {fault:?}")?.as_str())?;
     }
     Ok(Some(text))
 }
@@ -145,7 +152,7 @@ fn optional_answer(alloc: Global, domain: Domain, octets: &[u8], elements: &[&st
     };
     let mut text = String::from_str(alloc, "read")?;
     for element in elements {
-        let [iei] = sized(element)?;
+        let [iei] = sized::<1>(element)?;
         let found = Maybe(optional.find(iei));
         text.push_str(format!(in alloc; "; {element} {found}")?.as_str())?;
     }
@@ -185,14 +192,6 @@ fn protected_answer(alloc: Global, octets: &[u8]) -> Answer {
         Hex(protected.message)
     )?;
     written_answer(alloc, text, octets, &written)
-}
-
-/// A text, and how the value is written again: `same` where as it was read.
-pub fn written_answer(alloc: Global, text: String, octets: &[u8], written: &[u8]) -> Answer {
-    if written == octets {
-        return Ok(Some(format!(in alloc; "{text}; written same")?));
-    }
-    Ok(Some(format!(in alloc; "{text}; written {}", Hex(written))?))
 }
 
 /// `up` or `down`.

@@ -54,6 +54,14 @@ pub fn yes_answer(alloc: Global, yes: bool) -> Answer {
     word_answer(alloc, if yes { "yes" } else { "no" })
 }
 
+/// A text, and how the value is written again: `same` where as it was read.
+pub fn written_answer(alloc: Global, text: String, octets: &[u8], written: &[u8]) -> Answer {
+    if written == octets {
+        return Ok(Some(format!(in alloc; "{text}; written same")?));
+    }
+    Ok(Some(format!(in alloc; "{text}; written {}", Hex(written))?))
+}
+
 /// The octets of a field in hex, `-` for none.
 pub fn octets_of(alloc: Global, text: &str) -> Result<Vec<u8>, Fault> {
     if text == "-" {
