@@ -8,8 +8,6 @@
 mod association;
 mod places;
 mod table;
-#[cfg(test)]
-mod tests;
 
 pub use association::{Association, MoveFault, OpenFault, Owner};
 pub use table::Associations;

@@ -21,6 +21,3 @@ pub use direction::Direction;
 pub use equal::same_octets;
 pub use laws::same_is_equal;
 pub use mac::{MacKey, cmac, eia2};
-
-#[cfg(test)]
-mod tests;

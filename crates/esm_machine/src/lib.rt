@@ -18,6 +18,3 @@ pub use cause::EsmCause;
 pub use laws::{activation_is_read, answer_keeps_transaction, informed_is_awaited, request_stays};
 pub use reaction::Reaction;
 pub use request::{Request, Requested};
-
-#[cfg(test)]
-mod tests;

@@ -6,8 +6,6 @@ mod ids;
 mod laws;
 mod profile;
 mod provision;
-#[cfg(test)]
-mod tests;
 
 pub use ids::{AssociationId, Slot, Tmsi, number_in, station_in};
 pub use laws::octets_apart;

@@ -29,6 +29,3 @@ pub use rule::{Domain, Element, Rule};
 pub use writing::{
     put_fixed, put_guti, put_identity, put_label, put_long, put_octet, put_short, put_tai_list,
 };
-
-#[cfg(test)]
-mod tests;

@@ -26,6 +26,3 @@ pub use laws::{
     spelled_esm_is_decoded, spelled_is_decoded, split_is_protected,
 };
 pub use protection::{Protected, SecurityHeader, join_protected, split_protected};
-
-#[cfg(test)]
-mod tests;

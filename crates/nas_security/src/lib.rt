@@ -16,6 +16,3 @@ pub use context::SecurityContext;
 pub use fault::SecurityFault;
 pub use integrity::{Eia2, Integrity};
 pub use laws::{accepted_is_exact, accepted_is_fresh, estimate_is_least};
-
-#[cfg(test)]
-mod tests;

@@ -6,8 +6,6 @@
 
 mod laws;
 mod queue;
-#[cfg(test)]
-mod tests;
 mod timer;
 
 pub use laws::{in_owner_order, procedure_first, timers_apart};

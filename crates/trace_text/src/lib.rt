@@ -13,6 +13,3 @@ pub use fault::TraceFault;
 pub use line::{LONGEST_LINE, Line, MmeLine, parse_line};
 pub use values::{ApnLabel, BitRate, TraceOctets, TraceStation, TraceTicks};
 pub use written::write_line;
-
-#[cfg(test)]
-mod tests;

@@ -1,0 +1,56 @@
+//! A calculator of the protocol's parts: reads lines, each a call of one of the libraries, and prints for each what the
+//! call answers.
+#![tactic(auto)]
+
+use call_text::Fault;
+use std::alloc::Global;
+use std::io::{BufRead, BufReader, ErrorKind};
+use std::{env, io};
+use table_calls::Desk;
+
+const USAGE: &str = "Usage: calculator < CALLS";
+
+fn main(rt: HostRuntime) -> io::Result<()> {
+    if env::args(&rt)?.skip(1).next().is_some() {
+        return rt.println(USAGE);
+    }
+    let mut desk = Desk::new(rt.alloc());
+    let reader = BufReader::new(rt.alloc(), rt.stdin())?;
+    for line in reader.lines(rt.alloc()) {
+        match line {
+            Ok(line) => answered(&rt, &mut desk, line.as_str())?,
+            Err(error) if error.kind() == ErrorKind::InvalidData => {
+                rt.println("wrong line: no text")?
+            }
+            Err(error) => return Err(error),
+        }
+    }
+    Ok(())
+}
+
+/// Prints the answer of a line; a comment and an empty line have none.
+fn answered(rt: &(impl Print + AllocGlobal), desk: &mut Desk, line: &str) -> io::Result<()> {
+    if line.is_empty() || line.starts_with("#") {
+        return Ok(());
+    }
+    match answer(rt.alloc(), desk, line) {
+        Ok(text) => rt.println(text.as_str()),
+        Err(fault) => println!(rt; "wrong line: {fault}"),
+    }
+}
+
+/// What a line is answered with. `line` has the rest of the line as its one field; the words of each other call stand behind
+/// one blank each.
+fn answer(alloc: Global, desk: &mut Desk, line: &str) -> Result<String, Fault> {
+    if let Some(text) = line.strip_prefix("line ") {
+        return value_calls::line_answer(alloc, text.as_bytes());
+    }
+    let words: Vec<&str> = line.split(" ").collect(alloc)?;
+    if let Some(text) = desk.answer(alloc, words.as_slice())? {
+        return Ok(text);
+    }
+    match value_calls::answer(alloc, words.as_slice())? {
+        Some(text) => Ok(text),
+        None => Err(Fault::NoCall),
+    }
+}

@@ -1,0 +1,5 @@
+mod associations;
+mod elements;
+mod sessions;
+mod subscribers;
+mod timers;
