@@ -6,8 +6,10 @@ mod ids;
 mod laws;
 mod profile;
 mod provision;
+mod station;
 
 pub use ids::{AssociationId, Slot, Tmsi, number_in, station_in};
 pub use laws::octets_apart;
 pub use profile::{Profile, Vector, Xres};
 pub use provision::{Provision, ProvisionFault};
+pub use station::StationNumber;

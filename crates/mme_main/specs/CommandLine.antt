@@ -1,8 +1,8 @@
 -- The command line that the program takes, and its exit status.
 use Rattle.std.specs.Prelude.{ℕ, List, codes, Option, option_map}
 use Rattle.clap.specs.Words.{App, Text, Row, first_of, new_app, new_rule, subcommand_of, with_rule, with_subcommand}
-use Rattle.mme_main.specs.declared.command.Choice.{Choice}
-use Rattle.mme_main.specs.declared.command.Choice.TheVariants.{Play}
+use Rattle.mme_main.specs.declared.command_line.Choice.{Choice}
+use Rattle.mme_main.specs.declared.command_line.Choice.TheVariants.{Play}
 use Rattle.mme_main.specs.declared.fault.PlayFault.{PlayFault}
 use Rattle.mme_main.specs.declared.fault.PlayFault.TheVariants.{Trace, Read, Write, NoMemory}
 

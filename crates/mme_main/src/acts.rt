@@ -13,11 +13,10 @@ use crate::progress::{Progress, add, give, run, start};
 use crate::watched::Watched;
 use emm_machine::States;
 use mme_core::{Event, Mme, StepFault};
-use mme_vocabulary::StationNumber;
 use nas_elements::Imsi;
 use std::alloc::Global;
 use std::io::Write;
-use trace_text::{Line, TraceFault, TraceStation};
+use trace_text::{Line, TraceFault};
 
 /// Does what the line of that number says, and writes its answers.
 #[tactic(auto, unfolding(crate::specs::Effects::effect_of))]
@@ -37,15 +36,15 @@ pub(crate) fn act_on_line<W: Write>(
         Line::Sub(profile) => add(progress, number, profile),
         Line::Vec(imsi, vector) => give(progress, number, imsi, vector),
         Line::Up(station) => {
-            let event = Event::Up(station_number(station));
+            let event = Event::Up(station);
             play_event(alloc, progress, number, &event, writer)
         }
         Line::Lost(station) => {
-            let event = Event::Lost(station_number(station));
+            let event = Event::Lost(station);
             play_event(alloc, progress, number, &event, writer)
         }
         Line::In(station, octets) => {
-            let event = Event::In(station_number(station), octets.as_slice());
+            let event = Event::In(station, octets.as_slice());
             play_event(alloc, progress, number, &event, writer)
         }
         Line::Tick(ticks) => play_ticks(alloc, progress, number, ticks.get(), writer),
@@ -180,14 +179,5 @@ fn states_of_imsi(mme: &Mme, imsi: Imsi) -> Option<States>
     match mme.slot_of_imsi(imsi) {
         Some(slot) => mme.states(slot),
         None => None,
-    }
-}
-
-fn station_number(station: TraceStation) -> StationNumber
-    ensures { result ≡ station }
-{
-    match StationNumber::try_new(station.get()) {
-        Some(number) => number,
-        None => unreachable!(),
     }
 }

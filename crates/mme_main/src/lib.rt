@@ -3,14 +3,14 @@
 
 mod acts;
 mod answers;
-mod command;
+mod command_line;
 mod fault;
 mod play;
 mod player;
 mod progress;
 mod watched;
 
-pub use command::{Choice, CommandFault, command};
+pub use command_line::{Choice, CommandFault, command};
 pub use fault::PlayFault;
 pub use play::run_play;
 pub use player::Player;

@@ -1,7 +1,6 @@
 //! Where a phone is connected, and its keys for the radio.
 
-use crate::stations::StationNumber;
-use identity_slots::AssociationId;
+use identity_slots::{AssociationId, StationNumber};
 use s1ap_elements::EnbUeId;
 
 /// Where the phone is connected: the association, its station and its number there.

@@ -10,6 +10,7 @@ mod stations;
 
 pub use connection::{Connection, RadioKeys};
 pub use event::{Entry, SoloEvent, UeBody, UeMessage};
+pub use identity_slots::StationNumber;
 pub use network::{AggregateBitRate, Apn, Network};
 pub use octets::{Answer, Answers, Mark, NasOctets, SentOctets};
-pub use stations::{EnbWorld, StationNumber, StationState, is_broadcast};
+pub use stations::{EnbWorld, StationState, is_broadcast};

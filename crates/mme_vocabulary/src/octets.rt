@@ -3,7 +3,7 @@
 ghost use Rattle.std.specs.Prelude.{◌≡◌, ◌≤◌, ◌++◌, ◌∷◌, [], ℕ, List, length, IfOk, OnOk, OnErr};
 ghost use Rattle.s1ap_messages.specs.Pdus.{encoded, lists, longest};
 
-use crate::stations::StationNumber;
+use identity_slots::StationNumber;
 use s1ap_messages::{EncodeFault, S1apPdu, encode};
 use std::alloc::{AllocError, Global};
 use std::marker::Model;

@@ -1,49 +1,12 @@
 //! What every subscriber may know of the stations.
 
-ghost use Rattle.std.specs.Prelude.{◌≡◌, ◌<◌, ◌↔◌, ℕ, IsSome, IfSome, IfOk, slice_set, length};
+ghost use Rattle.std.specs.Prelude.{◌≡◌, IfOk, slice_set, length};
 ghost use Rattle.mme_vocabulary.specs.Stations.{is_broadcast, no_stations, station_at};
 
+use identity_slots::StationNumber;
 use s1ap_elements::{Plmn, SupportedTas};
 use std::alloc::{AllocError, Global};
 use std::marker::Model;
-
-/// A station by its number, 0 to 127; a contract sees the number.
-#[derive(Clone, Copy, Debug, PartialEq, Eq)]
-pub struct StationNumber {
-    number: u8,
-}
-
-impl Model for StationNumber {
-    ghost Value = { ℕ };
-
-    ghost view = { λ s. s.number };
-
-    ghost invariant = { λ s. s.number < 128 };
-
-    ghost inverse = { λ n. record { number = n } };
-}
-
-impl StationNumber {
-    /// The station of that number, where it is below 128.
-    pub fn try_new(number: u8) -> Option<StationNumber>
-        ensures some { IsSome result ↔ (number < 128) }
-        ensures value { IfSome result (λ s. s ≡ number) }
-    {
-        if number < 128 {
-            Some(StationNumber { number })
-        } else {
-            None
-        }
-    }
-
-    /// The number.
-    pub fn get(self) -> u8
-        ensures value { result ≡ self }
-        ensures bound { result < 128 }
-    {
-        self.number
-    }
-}
 
 /// What the MME knows of a station (TS 36.413 clause 8.7.3).
 #[derive(Drop)]

@@ -4,9 +4,9 @@ ghost use Rattle.std.specs.Prelude.{◌≡◌, ◌⊎◌, ◌<◌, ◌≤◌, �
 ghost use Rattle.trace_text.specs.Trace.{capped, decimal_of, number_in, station_of, rate_of, digit_of, country_of, network_of, plmn_of, octets_of, sized_of, label_of, ticks_of, xres_of, subscriber_of};
 
 use crate::fault::TraceFault;
-use crate::values::{ApnLabel, BitRate, TraceOctets, TraceStation, TraceTicks};
+use crate::values::{ApnLabel, BitRate, TraceOctets, TraceTicks};
 use hex::FromHexError;
-use identity_slots::Xres;
+use identity_slots::{StationNumber, Xres};
 use nas_elements::Imsi;
 use std::alloc::Global;
 
@@ -43,10 +43,10 @@ fn number(text: &[u8], least: u64, most: u64) -> Result<u64, TraceFault>
     }
 }
 
-pub(crate) fn station(text: &[u8]) -> Result<TraceStation, TraceFault>
+pub(crate) fn station(text: &[u8]) -> Result<StationNumber, TraceFault>
     ensures { result ≡ station_of text.now }
 {
-    match TraceStation::try_new(number(text, 0, 127)? as u8) {
+    match StationNumber::try_new(number(text, 0, 127)? as u8) {
         Some(station) => Ok(station),
         None => unreachable!(),
     }

@@ -11,5 +11,5 @@ mod written;
 pub use answer::{Answer, AnswerOwner, EcmState, EmmState, EsmState, write_answer};
 pub use fault::TraceFault;
 pub use line::{LONGEST_LINE, Line, MmeLine, parse_line};
-pub use values::{ApnLabel, BitRate, TraceOctets, TraceStation, TraceTicks};
+pub use values::{ApnLabel, BitRate, TraceOctets, TraceTicks};
 pub use written::write_line;

@@ -6,8 +6,8 @@ ghost use Rattle.trace_text.specs.Trace.{line_of, mme_of, sub_of, vec_of, read_m
 
 use crate::fault::TraceFault;
 use crate::fields::{bit_rate, imsi, label, octets, plmn, sized_octets, station, ticks, xres};
-use crate::values::{ApnLabel, BitRate, TraceOctets, TraceStation, TraceTicks};
-use identity_slots::{Profile, Vector};
+use crate::values::{ApnLabel, BitRate, TraceOctets, TraceTicks};
+use identity_slots::{Profile, StationNumber, Vector};
 use nas_elements::Imsi;
 use std::alloc::{AllocError, Global};
 
@@ -23,11 +23,11 @@ pub enum Line {
     /// `vec IMSI RAND AUTN XRES KASME`: a subscriber is given an authentication vector.
     Vec(Imsi, Vector),
     /// `up E`: a station connects.
-    Up(TraceStation),
+    Up(StationNumber),
     /// `lost E`: a station's connection is lost.
-    Lost(TraceStation),
+    Lost(StationNumber),
     /// `in E OCTETS`: a station sends one whole message.
-    In(TraceStation, TraceOctets),
+    In(StationNumber, TraceOctets),
     /// `tick N`: so many seconds pass.
     Tick(TraceTicks),
     /// `data IMSI`: downlink data waits for a subscriber.

@@ -7,46 +7,6 @@ ghost use Rattle.trace_text.specs.Fields.{is_apn_label, is_label_octet};
 use std::alloc::{AllocError, Global};
 use std::marker::Model;
 
-/// A station by its number, 0 to 127; a contract sees the number.
-#[derive(Clone, Copy, Debug, PartialEq, Eq)]
-pub struct TraceStation {
-    number: u8,
-}
-
-impl Model for TraceStation {
-    ghost use Rattle.std.specs.Prelude.{ℕ, ◌<◌};
-
-    ghost Value = { ℕ };
-
-    ghost view = { λ s. s.number };
-
-    ghost invariant = { λ s. s.number < 128 };
-
-    ghost inverse = { λ n. record { number = n } };
-}
-
-impl TraceStation {
-    /// The station of that number, where it is below 128.
-    pub fn try_new(number: u8) -> Option<TraceStation>
-        ensures some { IsSome result ↔ (number < 128) }
-        ensures value { IfSome result (λ s. s ≡ number) }
-    {
-        if number < 128 {
-            Some(TraceStation { number })
-        } else {
-            None
-        }
-    }
-
-    /// The number.
-    pub fn get(self) -> u8
-        ensures value { result ≡ self }
-        ensures bound { result < 128 }
-    {
-        self.number
-    }
-}
-
 /// A bit rate, 1 to 10^10 bits a second (TS 36.413 clause 9.2.1.20); a contract sees the number.
 #[derive(Clone, Copy, Debug, PartialEq, Eq)]
 pub struct BitRate {

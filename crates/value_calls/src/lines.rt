@@ -5,11 +5,12 @@ ghost use Rattle.std.specs.Prelude.{◌<◌};
 use call_text::{
     Answer, Fault, Hex, number, number_8, number_32, octets_of, word_answer, yes_answer,
 };
+use identity_slots::StationNumber;
 use nas_elements::Imsi;
 use std::alloc::Global;
 use trace_text::{
     Answer as TraceAnswer, AnswerOwner, ApnLabel, BitRate, EcmState, EmmState, EsmState, Line,
-    TraceFault, TraceStation, TraceTicks, parse_line, write_answer, write_line,
+    TraceFault, TraceTicks, parse_line, write_answer, write_line,
 };
 
 /// What a line of a trace says, written again, with the octets of its network, or its fault. A comment says nothing.
@@ -41,7 +42,7 @@ pub fn answer(alloc: Global, words: &[&str]) -> Answer {
         ["line_octets", octets] => Ok(Some(line_answer(alloc, &octets_of(alloc, octets)?)?)),
         ["trace_faults"] => faults_answer(alloc),
         ["trace_station", number] => {
-            yes_answer(alloc, TraceStation::try_new(number_8(number)?).is_some())
+            yes_answer(alloc, StationNumber::try_new(number_8(number)?).is_some())
         }
         ["bit_rate", rate] => yes_answer(alloc, BitRate::try_new(number(rate)?).is_some()),
         ["trace_ticks", ticks] => {

@@ -3,7 +3,7 @@ use Rattle.std.proofs.lemmas.Result.{IfOk-weaker}
 use Rattle.clap.specs.Words.{App, app_of, is_simple, new_rule, rule_of, subcommand_of, with_rule, with_subcommand}
 use Rattle.clap.proofs.OnLiterals.{clap_on_literals}
 use Rattle.mme_main.specs.CommandLine.{play_app, mme_app}
-use Rattle.mme_main.proofs.command.matched.Goals as goal
+use Rattle.mme_main.proofs.command_line.matched.Goals as goal
 
 simple : is_simple mme_app ≡ true
 unfolding clap_on_literals

@@ -4,7 +4,7 @@ use Rattle.clap.specs.declared.parser.matches.ArgMatches.{ArgMatches}
 use Rattle.clap.specs.declared.parser.matches.ArgMatches.TheViews.{out-ArgMatches}
 use Rattle.clap.proofs.WalkLemmas.{first_value-rows}
 use Rattle.mme_main.specs.CommandLine.{with_file}
-use Rattle.mme_main.proofs.command.parsed.Goals as goal
+use Rattle.mme_main.proofs.command_line.parsed.Goals as goal
 
 both : {A B C : Type 0} (f : A → B) (g : B → C) (o : Option A) → option_map g (option_map f o) ≡ option_map (λ x. g (f x)) o
 both f g None = refl
