@@ -23,13 +23,7 @@ impl<'a> Element<'a> for Ambr {
 
     #[tactic(auto, unfolding(per_bits::specs::Reading::times))]
     fn read(_alloc: Global, reader: &mut BitReader<'a>) -> Result<Self, PerError> {
-        let extended = reader.take_bit()?;
-        let more = reader.take_bit()?;
-        let down = BitRate::read(reader)?;
-        let up = BitRate::read(reader)?;
-        skip_extensions(more, reader)?;
-        skip_additions(extended, reader)?;
-        Ok(Ambr { down, up })
+        read_sequence!(reader => Ambr { down: BitRate::read(reader)?, up: BitRate::read(reader)? })
     }
 
     #[tactic(auto, unfolding(per_bits::specs::Bits::bits))]
@@ -47,17 +41,10 @@ impl<'a> Element<'a> for Arp {
 
     #[tactic(auto, unfolding(per_bits::specs::Reading::times))]
     fn read(_alloc: Global, reader: &mut BitReader<'a>) -> Result<Self, PerError> {
-        let extended = reader.take_bit()?;
-        let more = reader.take_bit()?;
-        let priority = Whole::<0, 15>::read(reader)?;
-        let capability = Whole::<0, 1>::read(reader)?;
-        let vulnerability = Whole::<0, 1>::read(reader)?;
-        skip_extensions(more, reader)?;
-        skip_additions(extended, reader)?;
-        Ok(Arp {
-            priority,
-            capability,
-            vulnerability,
+        read_sequence!(reader => Arp {
+            priority: Whole::<0, 15>::read(reader)?,
+            capability: Whole::<0, 1>::read(reader)?,
+            vulnerability: Whole::<0, 1>::read(reader)?,
         })
     }
 
@@ -77,19 +64,11 @@ impl<'a> Element<'a> for Gbr {
 
     #[tactic(auto, unfolding(per_bits::specs::Reading::times))]
     fn read(_alloc: Global, reader: &mut BitReader<'a>) -> Result<Self, PerError> {
-        let extended = reader.take_bit()?;
-        let more = reader.take_bit()?;
-        let maximum_down = BitRate::read(reader)?;
-        let maximum_up = BitRate::read(reader)?;
-        let down = BitRate::read(reader)?;
-        let up = BitRate::read(reader)?;
-        skip_extensions(more, reader)?;
-        skip_additions(extended, reader)?;
-        Ok(Gbr {
-            maximum_down,
-            maximum_up,
-            down,
-            up,
+        read_sequence!(reader => Gbr {
+            maximum_down: BitRate::read(reader)?,
+            maximum_up: BitRate::read(reader)?,
+            down: BitRate::read(reader)?,
+            up: BitRate::read(reader)?,
         })
     }
 
@@ -208,14 +187,11 @@ impl<'a> Element<'a> for ErabTunnel<'a> {
 
     #[tactic(auto, unfolding(per_bits::specs::Reading::times))]
     fn read(alloc: Global, reader: &mut BitReader<'a>) -> Result<Self, PerError> {
-        let extended = reader.take_bit()?;
-        let more = reader.take_bit()?;
-        let id = Closed::<ErabId>::read(alloc, reader)?.value;
-        let address = Closed::<Address>::read(alloc, reader)?.value;
-        let teid = Teid::read(alloc, reader)?;
-        skip_extensions(more, reader)?;
-        skip_additions(extended, reader)?;
-        Ok(ErabTunnel { id, address, teid })
+        read_sequence!(reader => ErabTunnel {
+            id: Closed::<ErabId>::read(alloc, reader)?.value,
+            address: Closed::<Address>::read(alloc, reader)?.value,
+            teid: Teid::read(alloc, reader)?,
+        })
     }
 
     #[tactic(auto, unfolding(per_bits::specs::Bits::bits))]

@@ -28,13 +28,10 @@ impl<'a> Element<'a> for Tai {
 
     #[tactic(auto, unfolding(per_bits::specs::Reading::times))]
     fn read(alloc: Global, reader: &mut BitReader<'a>) -> Result<Self, PerError> {
-        let extended = reader.take_bit()?;
-        let more = reader.take_bit()?;
-        let plmn = Plmn::read(alloc, reader)?;
-        let tac = Tac::read(alloc, reader)?;
-        skip_extensions(more, reader)?;
-        skip_additions(extended, reader)?;
-        Ok(Tai { plmn, tac })
+        read_sequence!(reader => Tai {
+            plmn: Plmn::read(alloc, reader)?,
+            tac: Tac::read(alloc, reader)?,
+        })
     }
 
     #[tactic(auto, unfolding(per_bits::specs::Bits::bits))]
@@ -52,12 +49,7 @@ impl<'a> Element<'a> for TaiItem {
 
     #[tactic(auto, unfolding(per_bits::specs::Reading::times))]
     fn read(alloc: Global, reader: &mut BitReader<'a>) -> Result<Self, PerError> {
-        let extended = reader.take_bit()?;
-        let more = reader.take_bit()?;
-        let tai = Tai::read(alloc, reader)?;
-        skip_extensions(more, reader)?;
-        skip_additions(extended, reader)?;
-        Ok(TaiItem { tai })
+        read_sequence!(reader => TaiItem { tai: Tai::read(alloc, reader)? })
     }
 
     #[tactic(auto, unfolding(per_bits::specs::Bits::bits))]
@@ -74,13 +66,10 @@ impl<'a> Element<'a> for EutranCgi {
 
     #[tactic(auto, unfolding(per_bits::specs::Reading::times))]
     fn read(alloc: Global, reader: &mut BitReader<'a>) -> Result<Self, PerError> {
-        let extended = reader.take_bit()?;
-        let more = reader.take_bit()?;
-        let plmn = Plmn::read(alloc, reader)?;
-        let cell = CellId::read(alloc, reader)?;
-        skip_extensions(more, reader)?;
-        skip_additions(extended, reader)?;
-        Ok(EutranCgi { plmn, cell })
+        read_sequence!(reader => EutranCgi {
+            plmn: Plmn::read(alloc, reader)?,
+            cell: CellId::read(alloc, reader)?,
+        })
     }
 
     #[tactic(auto, unfolding(per_bits::specs::Bits::bits))]
@@ -98,13 +87,10 @@ impl<'a> Element<'a> for STmsi {
 
     #[tactic(auto, unfolding(per_bits::specs::Reading::times))]
     fn read(alloc: Global, reader: &mut BitReader<'a>) -> Result<Self, PerError> {
-        let extended = reader.take_bit()?;
-        let more = reader.take_bit()?;
-        let code = MmeCode::read(alloc, reader)?;
-        let m_tmsi = MTmsi::read(alloc, reader)?;
-        skip_extensions(more, reader)?;
-        skip_additions(extended, reader)?;
-        Ok(STmsi { code, m_tmsi })
+        read_sequence!(reader => STmsi {
+            code: MmeCode::read(alloc, reader)?,
+            m_tmsi: MTmsi::read(alloc, reader)?,
+        })
     }
 
     #[tactic(auto, unfolding(per_bits::specs::Bits::bits))]
@@ -122,13 +108,10 @@ impl<'a> Element<'a> for UeIdPair {
 
     #[tactic(auto, unfolding(per_bits::specs::Reading::times))]
     fn read(alloc: Global, reader: &mut BitReader<'a>) -> Result<Self, PerError> {
-        let extended = reader.take_bit()?;
-        let more = reader.take_bit()?;
-        let mme_id = MmeUeId::read(reader)?;
-        let enb_id = EnbUeId::read(reader)?;
-        skip_extensions(more, reader)?;
-        skip_additions(extended, reader)?;
-        Ok(UeIdPair { mme_id, enb_id })
+        read_sequence!(reader => UeIdPair {
+            mme_id: MmeUeId::read(reader)?,
+            enb_id: EnbUeId::read(reader)?,
+        })
     }
 
     #[tactic(auto, unfolding(per_bits::specs::Bits::bits))]
@@ -146,15 +129,9 @@ impl<'a> Element<'a> for SecurityCapabilities {
 
     #[tactic(auto, unfolding(per_bits::specs::Reading::times))]
     fn read(alloc: Global, reader: &mut BitReader<'a>) -> Result<Self, PerError> {
-        let extended = reader.take_bit()?;
-        let more = reader.take_bit()?;
-        let encryption = Closed::<BitField<16>>::read(alloc, reader)?.value;
-        let integrity = Closed::<BitField<16>>::read(alloc, reader)?.value;
-        skip_extensions(more, reader)?;
-        skip_additions(extended, reader)?;
-        Ok(SecurityCapabilities {
-            encryption,
-            integrity,
+        read_sequence!(reader => SecurityCapabilities {
+            encryption: Closed::<BitField<16>>::read(alloc, reader)?.value,
+            integrity: Closed::<BitField<16>>::read(alloc, reader)?.value,
         })
     }
 
@@ -175,15 +152,9 @@ impl<'a> Element<'a> for SecurityContext {
 
     #[tactic(auto, unfolding(per_bits::specs::Reading::times))]
     fn read(alloc: Global, reader: &mut BitReader<'a>) -> Result<Self, PerError> {
-        let extended = reader.take_bit()?;
-        let more = reader.take_bit()?;
-        let chaining_count = Whole::<0, 7>::read(reader)?;
-        let next_hop = SecurityKey::read(alloc, reader)?;
-        skip_extensions(more, reader)?;
-        skip_additions(extended, reader)?;
-        Ok(SecurityContext {
-            chaining_count,
-            next_hop,
+        read_sequence!(reader => SecurityContext {
+            chaining_count: Whole::<0, 7>::read(reader)?,
+            next_hop: SecurityKey::read(alloc, reader)?,
         })
     }
 
@@ -213,14 +184,11 @@ impl<'a> Element<'a> for UePagingId<&'a [u8]> {
 
     fn write(&self, alloc: Global, writer: &mut BitWriter) -> Result<(), PerError> {
         match self {
-            UePagingId::STmsi(s_tmsi) => {
-                put_choice(1, 0, writer)?;
-                s_tmsi.write(alloc, writer)
-            }
+            UePagingId::STmsi(s_tmsi) => write_choice!(1, 0, s_tmsi, alloc, writer),
             UePagingId::Imsi(digits) => {
-                put_choice(1, 1, writer)?;
-                SizedString::<3, 8> { octets: digits }.write(alloc, writer)
-            }
+                let digits = SizedString::<3, 8> { octets: digits };
+                write_choice!(1, 1, digits, alloc, writer)
+            },
         }
     }
 }
@@ -240,14 +208,8 @@ impl<'a> Element<'a> for UeS1apIds {
 
     fn write(&self, alloc: Global, writer: &mut BitWriter) -> Result<(), PerError> {
         match self {
-            UeS1apIds::Pair(pair) => {
-                put_choice(1, 0, writer)?;
-                pair.write(alloc, writer)
-            }
-            UeS1apIds::MmeUeId(mme_id) => {
-                put_choice(1, 1, writer)?;
-                mme_id.write(alloc, writer)
-            }
+            UeS1apIds::Pair(pair) => write_choice!(1, 0, pair, alloc, writer),
+            UeS1apIds::MmeUeId(mme_id) => write_choice!(1, 1, mme_id, alloc, writer),
         }
     }
 }

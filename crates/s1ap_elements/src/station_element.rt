@@ -33,14 +33,8 @@ impl<'a> Element<'a> for EnbId {
 
     fn write(&self, alloc: Global, writer: &mut BitWriter) -> Result<(), PerError> {
         match self {
-            EnbId::Macro(number) => {
-                put_choice(1, 0, writer)?;
-                number.write(alloc, writer)
-            }
-            EnbId::Home(number) => {
-                put_choice(1, 1, writer)?;
-                number.write(alloc, writer)
-            }
+            EnbId::Macro(number) => write_choice!(1, 0, number, alloc, writer),
+            EnbId::Home(number) => write_choice!(1, 1, number, alloc, writer),
         }
     }
 }
@@ -52,13 +46,10 @@ impl<'a> Element<'a> for GlobalEnbId {
 
     #[tactic(auto, unfolding(per_bits::specs::Reading::times))]
     fn read(alloc: Global, reader: &mut BitReader<'a>) -> Result<Self, PerError> {
-        let extended = reader.take_bit()?;
-        let more = reader.take_bit()?;
-        let plmn = Plmn::read(alloc, reader)?;
-        let id = EnbId::read(alloc, reader)?;
-        skip_extensions(more, reader)?;
-        skip_additions(extended, reader)?;
-        Ok(GlobalEnbId { plmn, id })
+        read_sequence!(reader => GlobalEnbId {
+            plmn: Plmn::read(alloc, reader)?,
+            id: EnbId::read(alloc, reader)?,
+        })
     }
 
     #[tactic(auto, unfolding(per_bits::specs::Bits::bits))]
@@ -76,13 +67,10 @@ impl<'a> Element<'a> for SupportedTa {
 
     #[tactic(auto, unfolding(per_bits::specs::Reading::times))]
     fn read(alloc: Global, reader: &mut BitReader<'a>) -> Result<Self, PerError> {
-        let extended = reader.take_bit()?;
-        let more = reader.take_bit()?;
-        let tac = Tac::read(alloc, reader)?;
-        let plmns = Items::<Plmn, 1, 6>::read(alloc, reader)?;
-        skip_extensions(more, reader)?;
-        skip_additions(extended, reader)?;
-        Ok(SupportedTa { tac, plmns })
+        read_sequence!(reader => SupportedTa {
+            tac: Tac::read(alloc, reader)?,
+            plmns: Items::<Plmn, 1, 6>::read(alloc, reader)?,
+        })
     }
 
     #[tactic(auto, unfolding(per_bits::specs::Bits::bits))]
@@ -100,17 +88,10 @@ impl<'a> Element<'a> for ServedGummei {
 
     #[tactic(auto, unfolding(per_bits::specs::Reading::times))]
     fn read(alloc: Global, reader: &mut BitReader<'a>) -> Result<Self, PerError> {
-        let extended = reader.take_bit()?;
-        let more = reader.take_bit()?;
-        let plmns = Items::<Plmn, 1, 32>::read(alloc, reader)?;
-        let groups = Items::<MmeGroup, 1, 65535>::read(alloc, reader)?;
-        let codes = Items::<MmeCode, 1, 256>::read(alloc, reader)?;
-        skip_extensions(more, reader)?;
-        skip_additions(extended, reader)?;
-        Ok(ServedGummei {
-            plmns,
-            groups,
-            codes,
+        read_sequence!(reader => ServedGummei {
+            plmns: Items::<Plmn, 1, 32>::read(alloc, reader)?,
+            groups: Items::<MmeGroup, 1, 65535>::read(alloc, reader)?,
+            codes: Items::<MmeCode, 1, 256>::read(alloc, reader)?,
         })
     }
 
