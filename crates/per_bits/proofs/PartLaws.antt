@@ -11,7 +11,7 @@ use Rattle.std.proofs.Math.Nat.{add-mul, div-add-mod, mod-lt}
 use Rattle.per_bits.specs.declared.fault.PerFault.{PerFault}
 use Rattle.per_bits.specs.declared.fault.PerFault.TheVariants.{Truncated}
 use Rattle.per_bits.specs.Bits.{value, bits, octet_bits, Place, ◌>>=◌, take_at, number_bits_at, IsBytes}
-use Rattle.per_bits.proofs.BitLaws.{value-bits, bits-value, length-bits}
+use Rattle.per_bits.specs.BitLaws.{value-bits, bits-value, length-bits}
 
 pub value-append : (xs ys : List Bool) → value (xs ++ ys) ≡ value xs * 2 ^ length ys + value ys
 unfolding value

@@ -1,7 +1,7 @@
 -- Reading so many values one after the other, as a loop does.
 use Rattle.std.proofs.Common.{◌≡◌, ℕ, zero, suc, ◌-◌, ◌+◌, ◌≤◌, ◌<◌, List, [], ◌∷◌, ◌++◌, length, map, Result, Ok, Err, refl, sym, ap, ◌∙◌, append_assoc, arith}
 use Rattle.std.proofs.lemmas.List.{append-nil, length-map}
-use Rattle.per_bits.proofs.BitLaws.{bind_ok, okay, ok_is}
+use Rattle.per_bits.specs.BitLaws.{bind_ok, okay, ok_is}
 use Rattle.per_bits.specs.declared.fault.PerFault.{PerFault}
 use Rattle.per_bits.specs.declared.fault.PerError.{PerError}
 use Rattle.per_bits.specs.declared.fault.PerError.TheVariants as errors

@@ -9,11 +9,11 @@ use Rattle.per_bits.specs.Writing.{padded}
 use Rattle.per_bits.specs.Bits.{bits, octet_bits, padding, pad, value, Place, ◌>>=◌, take_at, bit_at, first_bit, number_bits_at, whole_octets_at, octets_of_bits, IsBytes}
 use Rattle.per_bits.specs.Reading.{times, aligned_bits_at}
 use Rattle.per_bits.specs.Bits.{align_at, aligned_octets_at}
-use Rattle.per_bits.proofs.Exact.{exact_take}
-use Rattle.per_bits.proofs.BaseLaws.{exact_whole_octets}
+use Rattle.per_bits.specs.Exact.{exact_take}
+use Rattle.per_bits.specs.BaseLaws.{exact_whole_octets}
 use Rattle.per_bits.proofs.PartLaws.{taken, short}
 use Rattle.per_bits.proofs.Times.{with_front}
-use Rattle.per_bits.proofs.BitLaws.{bind_ok, unless_ok, okay, ok_is, value_below, bits-value, length-bits, length-octet_bits, octets-back}
+use Rattle.per_bits.specs.BitLaws.{bind_ok, unless_ok, okay, ok_is, value_below, bits-value, length-bits, length-octet_bits, octets-back}
 
 abbrev More : ℕ → Place → Result (List ℕ × Place) PerFault
 More n s = number_bits_at 8 s >>= λ x. whole_octets_at n x.1 >>= λ y. Ok (x.0 ∷ y.0, y.1)

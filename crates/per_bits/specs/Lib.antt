@@ -7,3 +7,9 @@ pub mod Reading
 pub mod Writing
 pub mod Written
 pub mod Names
+pub mod BitLaws
+pub mod Exact
+pub mod BaseLaws
+pub mod LargeLaws
+pub mod FormatLaws
+pub mod WritingLaws

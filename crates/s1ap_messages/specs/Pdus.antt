@@ -6,7 +6,7 @@ use Rattle.s1ap_elements.specs.Causes.{typed_cause, named_cause}
 use Rattle.s1ap_elements.specs.Stations.{typed_global_enb_id, named_global_enb_id, typed_supported_tas, named_supported_tas, typed_paging_drx, named_paging_drx, typed_served_gummeis, named_served_gummeis}
 use Rattle.s1ap_elements.specs.Phones.{typed_tai, named_tai, typed_eutran_cgi, named_eutran_cgi, typed_rrc_cause, named_rrc_cause, typed_s_tmsi, named_s_tmsi, typed_security_capabilities, named_security_capabilities, typed_ue_s1ap_ids, named_ue_s1ap_ids, typed_ue_paging_id, named_ue_paging_id, ue_paging_id_lists, typed_cn_domain, named_cn_domain, typed_tai_list, named_tai_list, typed_security_context, named_security_context, typed_reset_type, named_reset_type}
 use Rattle.s1ap_elements.specs.Bearers.{typed_ambr, named_ambr, typed_erabs_to_be_setup, named_erabs_to_be_setup, erabs_to_be_setup_lists, typed_erabs_setup, named_erabs_setup, typed_erabs_to_be_switched, named_erabs_to_be_switched}
-use Rattle.s1ap_messages.specs.declared.fault.S1apFault.{S1apFault}
+use Rattle.s1ap_rows.specs.declared.fault.S1apFault.{S1apFault}
 use Rattle.s1ap_messages.specs.declared.message_type.MessageType.{MessageType}
 use Rattle.s1ap_messages.specs.declared.message_type.MessageType.TheVariants as message
 use Rattle.s1ap_messages.specs.declared.pdu.SetupRequest.{SetupRequest}
@@ -31,12 +31,10 @@ use Rattle.s1ap_messages.specs.declared.pdu.Reset.{Reset}
 use Rattle.s1ap_messages.specs.declared.pdu.ErrorIndication.{ErrorIndication}
 use Rattle.s1ap_messages.specs.declared.pdu.Pdu.{Pdu}
 use Rattle.s1ap_messages.specs.declared.pdu.Pdu.TheVariants as pdu
-use Rattle.s1ap_messages.specs.Rows.{Kept}
+use Rattle.s1ap_rows.specs.Rows.{Kept}
 use Rattle.s1ap_messages.specs.Profile.{rows_of, setup_request, setup_response, setup_failure, initial_ue_message, downlink_nas_transport, uplink_nas_transport, nas_non_delivery, capability_info, context_setup_request, context_setup_response, context_setup_failure, release_request, release_command, release_complete, paging, path_switch_request, path_switch_acknowledge, path_switch_failure, reset, error_indication}
-use Rattle.s1ap_messages.specs.Spelling.{SpellsTyped}
-use Rattle.s1ap_messages.specs.Reading.{decode_typed, ◌>>>◌}
-use Rattle.s1ap_messages.specs.Typed.{Typed}
-use Rattle.s1ap_messages.specs.Writing.{encode_typed}
+use Rattle.s1ap_rows.specs.Reading.{◌>>>◌}
+use Rattle.s1ap_messages.specs.Typed.{Typed, decode_typed, SpellsTyped, encode_typed}
 
 -- ---- a message without where its octets lie in memory
 

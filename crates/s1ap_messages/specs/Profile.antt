@@ -2,9 +2,9 @@
 use Rattle.std.specs.Prelude.{ℕ, ◌==◌, if◌then◌else◌, Option, Some, None}
 use Rattle.per_bits.specs.Formats.{octet_string}
 use Rattle.s1ap_elements.specs.Formats.{ambr, cause, cn_domain, enb_ue_id, erabs_setup, erabs_to_be_setup, erabs_to_be_switched, eutran_cgi, global_enb_id, mme_ue_id, paging_drx, relative_capacity, reset_type, rrc_cause, s_tmsi, security_capabilities, security_context, security_key, served_gummeis, supported_tas, tai, tai_list, text, ue_index, ue_paging_id, ue_s1ap_ids}
-use Rattle.s1ap_messages.specs.Rows.{Rows, ie, end, needed, optional, unkept}
-use Rattle.s1ap_messages.specs.declared.criticality.Criticality.{Criticality}
-use Rattle.s1ap_messages.specs.declared.criticality.Criticality.TheVariants.{Reject, Ignore}
+use Rattle.s1ap_rows.specs.Rows.{Rows, ie, end, needed, optional, unkept}
+use Rattle.s1ap_rows.specs.declared.criticality.Criticality.{Criticality}
+use Rattle.s1ap_rows.specs.declared.criticality.Criticality.TheVariants.{Reject, Ignore}
 use Rattle.s1ap_messages.specs.declared.message_type.MessageType.{MessageType}
 use Rattle.s1ap_messages.specs.declared.message_type.MessageType.TheVariants.{SetupRequest, SetupResponse, SetupFailure, InitialUeMessage, DownlinkNasTransport, UplinkNasTransport, NasNonDelivery, CapabilityInfo, ContextSetupRequest, ContextSetupResponse, ContextSetupFailure, ReleaseRequest, ReleaseCommand, ReleaseComplete, Paging, PathSwitchRequest, PathSwitchAcknowledge, PathSwitchFailure, Reset, ResetAcknowledge, ErrorIndication}
 

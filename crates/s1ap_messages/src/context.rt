@@ -6,24 +6,24 @@ ghost use Rattle.per_bits.specs.Writing.{write_whole};
 ghost use Rattle.s1ap_elements.specs.Causes.{typed_cause};
 ghost use Rattle.s1ap_elements.specs.Phones.{typed_security_capabilities, typed_ue_s1ap_ids};
 ghost use Rattle.s1ap_elements.specs.Bearers.{seen_erabs_to_be_setup, typed_ambr, typed_erabs_setup};
-ghost use Rattle.s1ap_messages.specs.Answers.{Answers, Reads};
+ghost use Rattle.s1ap_rows.specs.Answers.{Answers, Reads};
 ghost use Rattle.s1ap_messages.specs.Pdus.{lists, typed, context_setup_request_lists, typed_context_setup_request, typed_context_setup_response, typed_context_setup_failure, typed_release_request, typed_release_command, typed_release_complete};
 ghost use Rattle.s1ap_messages.specs.Profile.{context_setup_request, context_setup_response, context_setup_failure, release_request, release_command, release_complete};
-ghost use Rattle.s1ap_messages.specs.Reading.{put_at, read_typed};
-ghost use Rattle.s1ap_messages.specs.Writing.{write_message};
+ghost use Rattle.s1ap_rows.specs.Reading.{put_at};
+ghost use Rattle.s1ap_rows.specs.Writing.{write_message};
 ghost use Rattle.s1ap_messages.specs.declared.message_type.MessageType.TheVariants as message;
+ghost use Rattle.s1ap_messages.specs.Typed.{read_typed};
 
-use crate::engine::{Message, fill, fill_message, pass, put_element};
-use crate::fault::S1apFault;
 use crate::pdu::{
     ContextSetupFailure, ContextSetupRequest, ContextSetupResponse, Pdu, ReleaseCommand,
     ReleaseComplete, ReleaseRequest, S1apPdu,
 };
-use per_bits::{BitReader, BitWriter, PerError, put_number};
+use per_bits::{BitReader, PerError};
 use s1ap_elements::{
     Ambr, Cause, EnbUeId, ErabsSetup, ErabsToBeSetup, MmeUeId, SecurityCapabilities, SecurityKey,
     UeS1apIds,
 };
+use s1ap_rows::{Message, S1apFault, fill_message, needed, rows, write_rows};
 use std::alloc::Global;
 
 #[derive(Drop)]
@@ -47,7 +47,7 @@ impl<'a> Message<'a> for ContextSetupRequestRows<'a> {
     }
 }
 
-#[tactic(auto, using(s1ap_elements::proofs::BearerLaws::erabs_seen), unfolding(crate::specs::Reading::read_typed))]
+#[tactic(auto, using(s1ap_elements::specs::BearerLaws::erabs_seen), unfolding(crate::specs::Typed::read_typed))]
 pub fn read_context_setup_request<'a>(
     alloc: Global,
     octets: &'a [u8],
@@ -58,7 +58,7 @@ pub fn read_context_setup_request<'a>(
         ContextSetupRequest { mme_id: needed!(mme_id, 0), enb_id: needed!(enb_id, 8), ambr: needed!(ambr, 66), erabs: needed!(erabs, 24), capabilities: needed!(capabilities, 107), key: needed!(key, 73) })
 }
 
-#[tactic(auto, using(s1ap_elements::proofs::BearerLaws::erabs_seen))]
+#[tactic(auto, using(s1ap_elements::specs::BearerLaws::erabs_seen))]
 pub fn write_context_setup_request(
     alloc: Global,
     m: &ContextSetupRequest<&[u8]>,
@@ -92,7 +92,7 @@ impl<'a> Message<'a> for ContextSetupResponseRows<'a> {
     }
 }
 
-#[tactic(auto, unfolding(crate::specs::Reading::read_typed))]
+#[tactic(auto, unfolding(crate::specs::Typed::read_typed))]
 pub fn read_context_setup_response<'a>(
     alloc: Global,
     octets: &'a [u8],
@@ -133,7 +133,7 @@ impl<'a> Message<'a> for ContextSetupFailureRows {
     }
 }
 
-#[tactic(auto, unfolding(crate::specs::Reading::read_typed))]
+#[tactic(auto, unfolding(crate::specs::Typed::read_typed))]
 pub fn read_context_setup_failure<'a>(
     alloc: Global,
     octets: &'a [u8],
@@ -174,7 +174,7 @@ impl<'a> Message<'a> for ReleaseRequestRows {
     }
 }
 
-#[tactic(auto, unfolding(crate::specs::Reading::read_typed))]
+#[tactic(auto, unfolding(crate::specs::Typed::read_typed))]
 pub fn read_release_request<'a>(alloc: Global, octets: &'a [u8]) -> Result<S1apPdu<'a>, S1apFault>
     ensures { Answers (λ m. typed (lists m)) result (read_typed message.ReleaseRequest octets.now) }
 {
@@ -208,7 +208,7 @@ impl<'a> Message<'a> for ReleaseCommandRows {
     }
 }
 
-#[tactic(auto, unfolding(crate::specs::Reading::read_typed))]
+#[tactic(auto, unfolding(crate::specs::Typed::read_typed))]
 pub fn read_release_command<'a>(alloc: Global, octets: &'a [u8]) -> Result<S1apPdu<'a>, S1apFault>
     ensures { Answers (λ m. typed (lists m)) result (read_typed message.ReleaseCommand octets.now) }
 {
@@ -241,7 +241,7 @@ impl<'a> Message<'a> for ReleaseCompleteRows {
     }
 }
 
-#[tactic(auto, unfolding(crate::specs::Reading::read_typed))]
+#[tactic(auto, unfolding(crate::specs::Typed::read_typed))]
 pub fn read_release_complete<'a>(alloc: Global, octets: &'a [u8]) -> Result<S1apPdu<'a>, S1apFault>
     ensures { Answers (λ m. typed (lists m)) result (read_typed message.ReleaseComplete octets.now) }
 {

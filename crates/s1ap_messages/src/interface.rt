@@ -5,18 +5,18 @@ ghost use Rattle.per_bits.specs.Reading.{GivesWhole};
 ghost use Rattle.per_bits.specs.Writing.{write_whole};
 ghost use Rattle.s1ap_elements.specs.Causes.{typed_cause};
 ghost use Rattle.s1ap_elements.specs.Phones.{typed_reset_type};
-ghost use Rattle.s1ap_messages.specs.Answers.{Answers, Reads};
+ghost use Rattle.s1ap_rows.specs.Answers.{Answers, Reads};
 ghost use Rattle.s1ap_messages.specs.Pdus.{lists, typed, typed_reset, typed_error_indication};
 ghost use Rattle.s1ap_messages.specs.Profile.{reset, reset_acknowledge, error_indication};
-ghost use Rattle.s1ap_messages.specs.Reading.{put_at, read_typed};
-ghost use Rattle.s1ap_messages.specs.Writing.{write_message};
+ghost use Rattle.s1ap_rows.specs.Reading.{put_at};
+ghost use Rattle.s1ap_rows.specs.Writing.{write_message};
 ghost use Rattle.s1ap_messages.specs.declared.message_type.MessageType.TheVariants as message;
+ghost use Rattle.s1ap_messages.specs.Typed.{read_typed};
 
-use crate::engine::{Message, count_some, fill, fill_message, pass, put_element, put_some};
-use crate::fault::S1apFault;
 use crate::pdu::{ErrorIndication, Pdu, Reset, S1apPdu};
-use per_bits::{BitReader, BitWriter, PerError, put_number};
+use per_bits::{BitReader, PerError};
 use s1ap_elements::{Cause, EnbUeId, MmeUeId, ResetType};
+use s1ap_rows::{Message, S1apFault, fill_message, needed, pass, rows, write_rows};
 use std::alloc::Global;
 
 #[derive(Drop)]
@@ -36,7 +36,7 @@ impl<'a> Message<'a> for ResetRows {
     }
 }
 
-#[tactic(auto, unfolding(crate::specs::Reading::read_typed))]
+#[tactic(auto, unfolding(crate::specs::Typed::read_typed))]
 pub fn read_reset<'a>(alloc: Global, octets: &'a [u8]) -> Result<S1apPdu<'a>, S1apFault>
     ensures { Answers (λ m. typed (lists m)) result (read_typed message.Reset octets.now) }
 {
@@ -70,7 +70,7 @@ impl<'a> Message<'a> for ResetAcknowledgeRows {
     }
 }
 
-#[tactic(auto, unfolding(crate::specs::Reading::read_typed))]
+#[tactic(auto, unfolding(crate::specs::Typed::read_typed))]
 pub fn read_reset_acknowledge<'a>(alloc: Global, octets: &'a [u8]) -> Result<S1apPdu<'a>, S1apFault>
     ensures { Answers (λ m. typed (lists m)) result (read_typed message.ResetAcknowledge octets.now) }
 {
@@ -102,7 +102,7 @@ impl<'a> Message<'a> for ErrorIndicationRows {
     }
 }
 
-#[tactic(auto, unfolding(crate::specs::Reading::read_typed))]
+#[tactic(auto, unfolding(crate::specs::Typed::read_typed))]
 pub fn read_error_indication<'a>(alloc: Global, octets: &'a [u8]) -> Result<S1apPdu<'a>, S1apFault>
     ensures { Answers (λ m. typed (lists m)) result (read_typed message.ErrorIndication octets.now) }
 {

@@ -6,23 +6,23 @@ ghost use Rattle.per_bits.specs.Writing.{write_whole};
 ghost use Rattle.s1ap_elements.specs.Causes.{typed_cause};
 ghost use Rattle.s1ap_elements.specs.Phones.{typed_cn_domain, typed_eutran_cgi, typed_security_capabilities, typed_security_context, typed_tai, typed_tai_list, typed_ue_paging_id, ue_paging_id_lists};
 ghost use Rattle.s1ap_elements.specs.Bearers.{typed_erabs_to_be_switched};
-ghost use Rattle.s1ap_messages.specs.Answers.{Answers, Reads};
+ghost use Rattle.s1ap_rows.specs.Answers.{Answers, Reads};
 ghost use Rattle.s1ap_messages.specs.Pdus.{lists, typed, paging_lists, typed_paging, typed_path_switch_request, typed_path_switch_acknowledge, typed_path_switch_failure};
 ghost use Rattle.s1ap_messages.specs.Profile.{paging, path_switch_request, path_switch_acknowledge, path_switch_failure};
-ghost use Rattle.s1ap_messages.specs.Reading.{put_at, read_typed};
-ghost use Rattle.s1ap_messages.specs.Writing.{write_message};
+ghost use Rattle.s1ap_rows.specs.Reading.{put_at};
+ghost use Rattle.s1ap_rows.specs.Writing.{write_message};
 ghost use Rattle.s1ap_messages.specs.declared.message_type.MessageType.TheVariants as message;
+ghost use Rattle.s1ap_messages.specs.Typed.{read_typed};
 
-use crate::engine::{Message, fill, fill_message, pass, put_element};
-use crate::fault::S1apFault;
 use crate::pdu::{
     Paging, PathSwitchAcknowledge, PathSwitchFailure, PathSwitchRequest, Pdu, S1apPdu,
 };
-use per_bits::{BitReader, BitWriter, PerError, put_number};
+use per_bits::{BitReader, PerError};
 use s1ap_elements::{
     Cause, CnDomain, EnbUeId, ErabsToBeSwitched, EutranCgi, MmeUeId, SecurityCapabilities,
     SecurityContext, Tai, TaiList, UeIndex, UePagingId,
 };
+use s1ap_rows::{Message, S1apFault, fill_message, needed, rows, write_rows};
 use std::alloc::Global;
 
 #[derive(Drop)]
@@ -44,7 +44,7 @@ impl<'a> Message<'a> for PagingRows<'a> {
     }
 }
 
-#[tactic(auto, unfolding(crate::specs::Reading::read_typed))]
+#[tactic(auto, unfolding(crate::specs::Typed::read_typed))]
 pub fn read_paging<'a>(alloc: Global, octets: &'a [u8]) -> Result<S1apPdu<'a>, S1apFault>
     ensures { Answers (λ m. typed (lists m)) result (read_typed message.Paging octets.now) }
 {
@@ -83,7 +83,7 @@ impl<'a> Message<'a> for PathSwitchRequestRows<'a> {
     }
 }
 
-#[tactic(auto, unfolding(crate::specs::Reading::read_typed))]
+#[tactic(auto, unfolding(crate::specs::Typed::read_typed))]
 pub fn read_path_switch_request<'a>(
     alloc: Global,
     octets: &'a [u8],
@@ -124,7 +124,7 @@ impl<'a> Message<'a> for PathSwitchAcknowledgeRows {
     }
 }
 
-#[tactic(auto, unfolding(crate::specs::Reading::read_typed))]
+#[tactic(auto, unfolding(crate::specs::Typed::read_typed))]
 pub fn read_path_switch_acknowledge<'a>(
     alloc: Global,
     octets: &'a [u8],
@@ -165,7 +165,7 @@ impl<'a> Message<'a> for PathSwitchFailureRows {
     }
 }
 
-#[tactic(auto, unfolding(crate::specs::Reading::read_typed))]
+#[tactic(auto, unfolding(crate::specs::Typed::read_typed))]
 pub fn read_path_switch_failure<'a>(
     alloc: Global,
     octets: &'a [u8],

@@ -5,21 +5,21 @@ ghost use Rattle.per_bits.specs.Reading.{GivesWhole};
 ghost use Rattle.per_bits.specs.Writing.{write_whole};
 ghost use Rattle.s1ap_elements.specs.Causes.{typed_cause};
 ghost use Rattle.s1ap_elements.specs.Stations.{typed_global_enb_id, typed_paging_drx, typed_served_gummeis, typed_supported_tas};
-ghost use Rattle.s1ap_messages.specs.Answers.{Answers, Reads};
+ghost use Rattle.s1ap_rows.specs.Answers.{Answers, Reads};
 ghost use Rattle.s1ap_messages.specs.Pdus.{lists, typed, setup_request_lists, typed_setup_request, typed_setup_response, typed_setup_failure};
 ghost use Rattle.s1ap_messages.specs.Profile.{setup_request, setup_response, setup_failure};
-ghost use Rattle.s1ap_messages.specs.Reading.{put_at, read_typed};
-ghost use Rattle.s1ap_messages.specs.Writing.{write_message};
+ghost use Rattle.s1ap_rows.specs.Reading.{put_at};
+ghost use Rattle.s1ap_rows.specs.Writing.{write_message};
 ghost use Rattle.s1ap_messages.specs.declared.message_type.MessageType.TheVariants as message;
+ghost use Rattle.s1ap_messages.specs.Typed.{read_typed};
 
-use crate::engine::{Message, count_some, fill, fill_message, pass, put_element, put_some};
-use crate::fault::S1apFault;
 use crate::pdu::{Pdu, S1apPdu, SetupFailure, SetupRequest, SetupResponse};
-use per_bits::{BitReader, BitWriter, PerError, put_number};
+use per_bits::{BitReader, PerError};
 use s1ap_elements::{
     Cause, GlobalEnbId, Name, PagingDrx, RelativeCapacity, ServedGummeis, SupportedTas,
     name_of_octets, octets_of_name,
 };
+use s1ap_rows::{Message, S1apFault, fill_message, needed, rows, write_rows};
 use std::alloc::Global;
 
 #[derive(Drop)]
@@ -41,7 +41,7 @@ impl<'a> Message<'a> for SetupRequestRows<'a> {
     }
 }
 
-#[tactic(auto, unfolding(crate::specs::Reading::read_typed))]
+#[tactic(auto, unfolding(crate::specs::Typed::read_typed))]
 pub fn read_setup_request<'a>(alloc: Global, octets: &'a [u8]) -> Result<S1apPdu<'a>, S1apFault>
     ensures { Answers (λ m. typed (lists m)) result (read_typed message.SetupRequest octets.now) }
 {
@@ -77,7 +77,7 @@ impl<'a> Message<'a> for SetupResponseRows<'a> {
     }
 }
 
-#[tactic(auto, unfolding(crate::specs::Reading::read_typed))]
+#[tactic(auto, unfolding(crate::specs::Typed::read_typed))]
 pub fn read_setup_response<'a>(alloc: Global, octets: &'a [u8]) -> Result<S1apPdu<'a>, S1apFault>
     ensures { Answers (λ m. typed (lists m)) result (read_typed message.SetupResponse octets.now) }
 {
@@ -109,7 +109,7 @@ impl<'a> Message<'a> for SetupFailureRows {
     }
 }
 
-#[tactic(auto, unfolding(crate::specs::Reading::read_typed))]
+#[tactic(auto, unfolding(crate::specs::Typed::read_typed))]
 pub fn read_setup_failure<'a>(alloc: Global, octets: &'a [u8]) -> Result<S1apPdu<'a>, S1apFault>
     ensures { Answers (λ m. typed (lists m)) result (read_typed message.SetupFailure octets.now) }
 {

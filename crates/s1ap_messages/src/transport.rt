@@ -5,21 +5,21 @@ ghost use Rattle.per_bits.specs.Reading.{GivesWhole};
 ghost use Rattle.per_bits.specs.Writing.{write_whole};
 ghost use Rattle.s1ap_elements.specs.Causes.{typed_cause};
 ghost use Rattle.s1ap_elements.specs.Phones.{typed_eutran_cgi, typed_rrc_cause, typed_s_tmsi, typed_tai};
-ghost use Rattle.s1ap_messages.specs.Answers.{Answers, Reads};
+ghost use Rattle.s1ap_rows.specs.Answers.{Answers, Reads};
 ghost use Rattle.s1ap_messages.specs.Pdus.{lists, typed, initial_ue_message_lists, typed_initial_ue_message, downlink_nas_transport_lists, typed_downlink_nas_transport, uplink_nas_transport_lists, typed_uplink_nas_transport, nas_non_delivery_lists, typed_nas_non_delivery, capability_info_lists, typed_capability_info};
 ghost use Rattle.s1ap_messages.specs.Profile.{initial_ue_message, downlink_nas_transport, uplink_nas_transport, nas_non_delivery, capability_info};
-ghost use Rattle.s1ap_messages.specs.Reading.{put_at, read_typed};
-ghost use Rattle.s1ap_messages.specs.Writing.{write_message};
+ghost use Rattle.s1ap_rows.specs.Reading.{put_at};
+ghost use Rattle.s1ap_rows.specs.Writing.{write_message};
 ghost use Rattle.s1ap_messages.specs.declared.message_type.MessageType.TheVariants as message;
+ghost use Rattle.s1ap_messages.specs.Typed.{read_typed};
 
-use crate::engine::{Message, count_some, fill, fill_message, pass, put_element, put_some};
-use crate::fault::S1apFault;
 use crate::pdu::{
     CapabilityInfo, DownlinkNasTransport, InitialUeMessage, NasNonDelivery, Pdu, S1apPdu,
     UplinkNasTransport,
 };
-use per_bits::{BitReader, BitWriter, OctetString, PerError, put_number};
+use per_bits::{BitReader, OctetString, PerError};
 use s1ap_elements::{Cause, EnbUeId, EutranCgi, MmeUeId, RrcCause, STmsi, Tai};
+use s1ap_rows::{Message, S1apFault, fill_message, needed, rows, write_rows};
 use std::alloc::Global;
 
 #[derive(Drop)]
@@ -43,7 +43,7 @@ impl<'a> Message<'a> for InitialUeMessageRows<'a> {
     }
 }
 
-#[tactic(auto, unfolding(crate::specs::Reading::read_typed))]
+#[tactic(auto, unfolding(crate::specs::Typed::read_typed))]
 pub fn read_initial_ue_message<'a>(
     alloc: Global,
     octets: &'a [u8],
@@ -87,7 +87,7 @@ impl<'a> Message<'a> for DownlinkNasTransportRows<'a> {
     }
 }
 
-#[tactic(auto, unfolding(crate::specs::Reading::read_typed))]
+#[tactic(auto, unfolding(crate::specs::Typed::read_typed))]
 pub fn read_downlink_nas_transport<'a>(
     alloc: Global,
     octets: &'a [u8],
@@ -130,7 +130,7 @@ impl<'a> Message<'a> for UplinkNasTransportRows<'a> {
     }
 }
 
-#[tactic(auto, unfolding(crate::specs::Reading::read_typed))]
+#[tactic(auto, unfolding(crate::specs::Typed::read_typed))]
 pub fn read_uplink_nas_transport<'a>(
     alloc: Global,
     octets: &'a [u8],
@@ -174,7 +174,7 @@ impl<'a> Message<'a> for NasNonDeliveryRows<'a> {
     }
 }
 
-#[tactic(auto, unfolding(crate::specs::Reading::read_typed))]
+#[tactic(auto, unfolding(crate::specs::Typed::read_typed))]
 pub fn read_nas_non_delivery<'a>(alloc: Global, octets: &'a [u8]) -> Result<S1apPdu<'a>, S1apFault>
     ensures { Answers (λ m. typed (lists m)) result (read_typed message.NasNonDelivery octets.now) }
 {
@@ -210,7 +210,7 @@ impl<'a> Message<'a> for CapabilityInfoRows<'a> {
     }
 }
 
-#[tactic(auto, unfolding(crate::specs::Reading::read_typed))]
+#[tactic(auto, unfolding(crate::specs::Typed::read_typed))]
 pub fn read_capability_info<'a>(alloc: Global, octets: &'a [u8]) -> Result<S1apPdu<'a>, S1apFault>
     ensures { Answers (λ m. typed (lists m)) result (read_typed message.CapabilityInfo octets.now) }
 {

@@ -2,7 +2,7 @@ use Rattle.std.proofs.Common.{◌++◌, ◌∷◌, [], sym, arith}
 use Rattle.std.proofs.lemmas.Result.{err_from_is_err_and}
 use Rattle.per_bits.specs.Bits.{bit_at}
 use Rattle.per_bits.specs.Reading.{times}
-use Rattle.per_bits.proofs.BitLaws.{bool_below}
+use Rattle.per_bits.specs.BitLaws.{bool_below}
 use Rattle.per_bits.proofs.Passing.{trues-push}
 use Rattle.per_bits.proofs.Times.{goes_on, is_done}
 use Rattle.per_bits.proofs.WholeOctets.{ends_fault}

@@ -1,6 +1,6 @@
 use Rattle.std.proofs.Common.{◌∙◌}
 use Rattle.std.proofs.lemmas.List.{length-replicate}
-use Rattle.per_bits.proofs.BaseLaws.{exact_whole_octets}
+use Rattle.per_bits.specs.BaseLaws.{exact_whole_octets}
 use Rattle.per_bits.proofs.WholeOctets.{octets_fit}
 use Rattle.per_bits.proofs.octets.OctetsElement.read.Goals as goal
 

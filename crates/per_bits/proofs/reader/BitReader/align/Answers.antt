@@ -1,6 +1,6 @@
 use Rattle.std.proofs.Common.{drop, ◌∙◌, refl}
 use Rattle.per_bits.specs.Bits.{octet_bits}
-use Rattle.per_bits.proofs.BitLaws.{align_zero, align_other, at_octet}
+use Rattle.per_bits.specs.BitLaws.{align_zero, align_other, at_octet}
 use Rattle.per_bits.proofs.reader.BitReader.align.Goals as goal
 
 pub returns-then-self-ne0 : goal.returns-then-self-ne0

@@ -1,5 +1,5 @@
 use Rattle.std.proofs.Common.{sym}
-use Rattle.per_bits.proofs.BaseLaws.{exact_whole_octets}
+use Rattle.per_bits.specs.BaseLaws.{exact_whole_octets}
 use Rattle.per_bits.proofs.reader.BitReader.fill.Goals as goal
 
 pub copy_from_slice-requires : goal.copy_from_slice-requires

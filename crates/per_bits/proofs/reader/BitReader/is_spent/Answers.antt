@@ -1,5 +1,5 @@
 use Rattle.std.proofs.Common.{◌≡◌, ◌-◌, ◌*◌, ◌%◌, eqb, length, arith, ap, ◌∙◌}
-use Rattle.per_bits.proofs.BitLaws.{spent}
+use Rattle.per_bits.specs.BitLaws.{spent}
 use Rattle.per_bits.proofs.reader.BitReader.is_spent.Goals as goal
 
 pub returns : goal.returns

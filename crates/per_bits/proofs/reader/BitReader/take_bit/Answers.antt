@@ -1,6 +1,6 @@
 use Rattle.std.proofs.Common.{◌-◌, ◌*◌, ◌<◌, length, ap, arith, ◌∙◌}
 use Rattle.per_bits.specs.Bits.{first_bit}
-use Rattle.per_bits.proofs.BitLaws.{no_bit, next_octet, place_is}
+use Rattle.per_bits.specs.BitLaws.{no_bit, next_octet, place_is}
 use Rattle.per_bits.proofs.reader.BitReader.take_bit.Goals as goal
 
 pub returns-then-self : goal.returns-then-self

@@ -1,7 +1,7 @@
 use Rattle.std.proofs.Common.{refl}
 use Rattle.std.proofs.lemmas.Result.{err_from_is_err_and}
 use Rattle.per_bits.specs.Bits.{aligned_octets_at}
-use Rattle.per_bits.proofs.BitLaws.{aligned_at}
+use Rattle.per_bits.specs.BitLaws.{aligned_at}
 use Rattle.per_bits.proofs.reader.BitReader.take_octets.Goals as goal
 
 pub returns-in_err-align : goal.returns-in_err-align

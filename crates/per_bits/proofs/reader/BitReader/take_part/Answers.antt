@@ -1,6 +1,6 @@
 use Rattle.std.proofs.Common.{◌<◌, ◌≤◌, length, refl, ap, sym, ◌∙◌, arith, drop}
 use Rattle.per_bits.specs.Bits.{Place, octet_bits}
-use Rattle.per_bits.proofs.BitLaws.{no_bit}
+use Rattle.per_bits.specs.BitLaws.{no_bit}
 use Rattle.per_bits.proofs.PartLaws.{fresh_part, later_part}
 use Rattle.per_bits.proofs.reader.BitReader.take_part.Goals as goal
 

@@ -1,6 +1,6 @@
 use Rattle.std.proofs.Common.{◌≡◌, ◌-◌, ◌<◌, ◌≤◌, ◌*◌, ◌%◌, length, arith, ap}
 use Rattle.std.proofs.lemmas.List.{take_rest, length-drop}
-use Rattle.per_bits.proofs.BitLaws.{whole-octets, short-octets}
+use Rattle.per_bits.specs.BitLaws.{whole-octets, short-octets}
 use Rattle.per_bits.proofs.reader.BitReader.whole_octets.Goals as goal
 
 pub returns-then-rest-count : goal.returns-then-rest-count

@@ -1,6 +1,6 @@
 use Rattle.std.proofs.Common.{◌∙◌, ◌++◌, ap, List, Bool}
 use Rattle.std.proofs.lemmas.Result.{on_ok_weaker}
-use Rattle.per_bits.proofs.BitLaws.{pad_now}
+use Rattle.per_bits.specs.BitLaws.{pad_now}
 use Rattle.per_bits.proofs.writer.BitWriter.align.Goals as goal
 
 pub returns-clause-ok : goal.returns-clause-ok

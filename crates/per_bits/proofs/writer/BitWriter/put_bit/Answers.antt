@@ -1,4 +1,4 @@
-use Rattle.per_bits.proofs.BitLaws.{push-octet}
+use Rattle.per_bits.specs.BitLaws.{push-octet}
 use Rattle.per_bits.proofs.writer.BitWriter.put_bit.Goals as goal
 
 pub returns-in_ok-push-clause-ok : goal.returns-in_ok-push-clause-ok

@@ -1,5 +1,5 @@
 use Rattle.std.proofs.Common.{arith}
-use Rattle.per_bits.proofs.BitLaws.{put-end}
+use Rattle.per_bits.specs.BitLaws.{put-end}
 use Rattle.per_bits.proofs.writer.BitWriter.put_bits.Goals as goal
 
 pub returns-clause-ok : goal.returns-clause-ok

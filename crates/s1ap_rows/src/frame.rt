@@ -3,10 +3,10 @@
 ghost use Rattle.std.specs.Prelude.{◌≡◌, ◌≤◌, IfOk};
 ghost use Rattle.per_bits.specs.Reading.{GivesWhole, whole_at, number_at, closed_at, times};
 ghost use Rattle.per_bits.specs.Writing.{Wrote, write_whole};
-ghost use Rattle.s1ap_messages.specs.Criticalities.{criticality_number};
-ghost use Rattle.s1ap_messages.specs.Reading.{frame_at};
-ghost use Rattle.s1ap_messages.specs.Writing.{write_frame};
-ghost use Rattle.s1ap_messages.specs.Answers.{AnswersWhole};
+ghost use Rattle.s1ap_rows.specs.Criticalities.{criticality_number};
+ghost use Rattle.s1ap_rows.specs.Reading.{frame_at};
+ghost use Rattle.s1ap_rows.specs.Writing.{write_frame};
+ghost use Rattle.s1ap_rows.specs.Answers.{AnswersWhole};
 
 use crate::criticality::{Criticality, take_criticality};
 use per_bits::{
@@ -23,6 +23,7 @@ pub struct Frame<'a> {
     pub octets: &'a [u8],
 }
 
+/// The frame that octets spell, or their first fault.
 #[tactic(auto, unfolding(crate::specs::Reading::frame_at, per_bits::specs::Reading::whole_at, per_bits::specs::Reading::number_at, per_bits::specs::Reading::times))]
 pub fn read_frame<'a>(octets: &'a [u8]) -> Result<Frame<'a>, PerFault>
     ensures kinds { IfOk result (λ f. f.kind ≤ 2) }
@@ -46,6 +47,7 @@ pub fn read_frame<'a>(octets: &'a [u8]) -> Result<Frame<'a>, PerFault>
     })
 }
 
+/// The octets of a frame around the octets of a message.
 pub fn frame_octets(
     alloc: Global,
     kind: u8,

@@ -1,8 +1,8 @@
 //! Faults of the layers below.
 
 ghost use Rattle.std.specs.Prelude.{◌≡◌};
-ghost use Rattle.s1ap_messages.specs.declared.fault.S1apFault.TheVariants as faults;
-ghost use Rattle.s1ap_messages.specs.Answers.{fault_of};
+ghost use Rattle.s1ap_rows.specs.declared.fault.S1apFault.TheVariants as faults;
+ghost use Rattle.s1ap_rows.specs.Answers.{fault_of};
 
 use crate::fault::S1apFault;
 use per_bits::{PerError, PerFault};

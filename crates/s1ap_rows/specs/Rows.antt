@@ -1,7 +1,7 @@
 -- Rows of messages, and the values that they have.
 use Rattle.std.specs.Prelude.{ℕ, Bool, true, false, eqb, not, ◌&&◌, ◌||◌, Option, None}
 use Rattle.per_bits.specs.Formats.{Format, Value}
-use Rattle.s1ap_messages.specs.declared.criticality.Criticality.{Criticality}
+use Rattle.s1ap_rows.specs.declared.criticality.Criticality.{Criticality}
 
 -- ---- rows
 

@@ -1,13 +1,13 @@
 -- Reading the elements of a message one after the other, as a loop does.
 use Rattle.std.proofs.Common.{◌≡◌, ℕ, suc, ◌-◌, ◌+◌, ◌≤◌, ◌<◌, Result, Ok, Err, refl, sym, ◌∙◌, arith}
 use Rattle.per_bits.specs.declared.fault.PerFault.{PerFault}
-use Rattle.s1ap_messages.specs.declared.fault.S1apFault.{S1apFault}
-use Rattle.s1ap_messages.specs.declared.fault.S1apFault.TheVariants as faults
+use Rattle.s1ap_rows.specs.declared.fault.S1apFault.{S1apFault}
+use Rattle.s1ap_rows.specs.declared.fault.S1apFault.TheVariants as faults
 use Rattle.per_bits.specs.Bits.{Place}
 use Rattle.per_bits.specs.Reading.{number_at}
-use Rattle.s1ap_messages.specs.Rows.{Rows, Slots}
-use Rattle.s1ap_messages.specs.Reading.{put_at, elements_at}
-use Rattle.s1ap_messages.specs.Answers.{FailsAs}
+use Rattle.s1ap_rows.specs.Rows.{Rows, Slots}
+use Rattle.s1ap_rows.specs.Reading.{put_at, elements_at}
+use Rattle.s1ap_rows.specs.Answers.{FailsAs}
 
 pub goes_on : (rs : Rows) (count i : ℕ) (slots : Slots rs) (s : Place) (id : ℕ) (t : Place) (after : Slots rs) (u : Place) (total : Result (Slots rs × Place) S1apFault) → i < count → number_at 0 65535 s ≡ Ok (id, t) → put_at rs id slots t ≡ Ok (after, u)
     → elements_at rs (count - i) slots s ≡ total → elements_at rs (count - (i + 1)) after u ≡ total

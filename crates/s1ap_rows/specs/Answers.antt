@@ -3,10 +3,10 @@ use Rattle.std.specs.Prelude.{◌≡◌, List, ℕ, Option, Some, None, Result, 
 use Rattle.per_bits.specs.declared.fault.PerFault.{PerFault}
 use Rattle.per_bits.specs.declared.fault.PerError.{PerError}
 use Rattle.per_bits.specs.declared.fault.PerError.TheVariants as errors
-use Rattle.s1ap_messages.specs.declared.fault.S1apFault.{S1apFault}
-use Rattle.s1ap_messages.specs.declared.fault.S1apFault.TheVariants.{Syntax, NoMemory}
-use Rattle.s1ap_messages.specs.declared.fault.EncodeFault.{EncodeFault}
-use Rattle.s1ap_messages.specs.declared.fault.EncodeFault.TheVariants.{NotWritable, NoMemory as OutOfMemory}
+use Rattle.s1ap_rows.specs.declared.fault.S1apFault.{S1apFault}
+use Rattle.s1ap_rows.specs.declared.fault.S1apFault.TheVariants.{Syntax, NoMemory}
+use Rattle.s1ap_rows.specs.declared.fault.EncodeFault.{EncodeFault}
+use Rattle.s1ap_rows.specs.declared.fault.EncodeFault.TheVariants.{NotWritable, NoMemory as OutOfMemory}
 
 abbrev pub FailsAs : {Y : Type 0} → S1apFault → Result Y S1apFault → Type 0
 FailsAs NoMemory read = Unit {0}

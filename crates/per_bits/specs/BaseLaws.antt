@@ -7,8 +7,8 @@ use Rattle.per_bits.specs.declared.fault.PerFault.TheVariants.{Padding, Range, T
 use Rattle.per_bits.specs.Bits.{value, bits, octet_bits, octets_of_bits, Place, padding, pad, IsBytes, ◌>>=◌, take_at, align_at, whole_octets_at, aligned_octets_at, end_at}
 use Rattle.per_bits.specs.Spelling.{SpellsOctets}
 use Rattle.per_bits.specs.Reading.{octets_at, small_at}
-use Rattle.per_bits.proofs.BitLaws.{bind_ok, where_ok, okay, value_below, value-bits, bits-value, length-bits, bits-zero, length-octet_bits, octets-back}
-use Rattle.per_bits.proofs.Exact.{Exact, IsBits, exact_take, Bind, exact_bind, Nothing, exact_ok, Never, exact_err, exact_same, Cond, exact_cond}
+use Rattle.per_bits.specs.BitLaws.{bind_ok, where_ok, okay, value_below, value-bits, bits-value, length-bits, bits-zero, length-octet_bits, octets-back}
+use Rattle.per_bits.specs.Exact.{Exact, IsBits, exact_take, Bind, exact_bind, Nothing, exact_ok, Never, exact_err, exact_same, Cond, exact_cond}
 
 abbrev pub IsPad : Unit {0} → ℕ → List Bool → Type 0
 IsPad u at bs = bs ≡ pad at

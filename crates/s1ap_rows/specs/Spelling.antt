@@ -3,9 +3,7 @@ use Rattle.std.specs.Prelude.{◌≡◌, ℕ, ◌+◌, Bool, true, eqb, not, ◌
 use Rattle.std.specs.List.{AllByRecursion}
 use Rattle.per_bits.specs.Formats.{Format, Value, octet_string, plain, sequence, items, number, must, done, raw}
 use Rattle.per_bits.specs.Spelling.{Spells, SpellsWhole, SpellsClosed, SpellsNumber, Whole}
-use Rattle.s1ap_messages.specs.Rows.{Rows, ie, end, needed, optional, unkept, Slots, Kept}
-use Rattle.s1ap_messages.specs.Profile.{type_of, rows_of}
-use Rattle.s1ap_messages.specs.Typed.{Typed}
+use Rattle.s1ap_rows.specs.Rows.{Rows, ie, end, needed, optional, unkept, Slots, Kept}
 
 -- ---- what a message is, whatever the order of its elements
 
@@ -61,11 +59,18 @@ body = plain (must (number 0 255) (must (number 0 2) (must octet_string done)))
 abbrev pub Frame : Type 0
 Frame = ℕ × Value body
 
+abbrev pub frame_kind : Frame → ℕ
+frame_kind fr = fr.0
+
+abbrev pub frame_code : Frame → ℕ
+frame_code fr = fr.1.0
+
+abbrev pub frame_criticality : Frame → ℕ
+frame_criticality fr = fr.1.1.0
+
+abbrev pub frame_octets : Frame → List ℕ
+frame_octets fr = fr.1.1.1.0
+
 abbrev pub SpellsFrame : Frame → ℕ → List Bool → Type 0
-SpellsFrame fr at bs = (xs : List Bool) × (ys : List Bool) × (bs ≡ xs ++ ys) × SpellsClosed (SpellsNumber 0 2) fr.0 at xs × Spells body fr.1 (at + length xs) ys
-
--- ---- messages by their types
-
--- octets that spell a message: its frame, of the kind and code of its type, and its rows
-abbrev pub SpellsTyped : Typed → List ℕ → Type 0
-SpellsTyped m os = (fr : Frame) × Whole SpellsFrame fr os × (type_of fr.0 fr.1.0 ≡ Some m.0) × IsMessage (rows_of m.0) m.1 fr.1.1.1.0
+SpellsFrame fr at bs =
+    (xs : List Bool) × (ys : List Bool) × (bs ≡ xs ++ ys) × SpellsClosed (SpellsNumber 0 2) fr.0 at xs × Spells body fr.1 (at + length xs) ys

@@ -1,7 +1,7 @@
 use Rattle.std.proofs.lemmas.Result.{err_from_is_err_and}
-use Rattle.s1ap_messages.specs.Reading.{elements_at}
-use Rattle.s1ap_messages.proofs.Gathering.{goes_on, ends_syntax, ends_put, is_done}
-use Rattle.s1ap_messages.proofs.engine.read_elements.Goals as goal
+use Rattle.s1ap_rows.specs.Reading.{elements_at}
+use Rattle.s1ap_rows.proofs.Gathering.{goes_on, ends_syntax, ends_put, is_done}
+use Rattle.s1ap_rows.proofs.engine.read_elements.Goals as goal
 
 pub returns-in_err-id : goal.returns-in_err-id
 returns-in_err-id g c =

@@ -4,12 +4,12 @@ ghost use Rattle.std.specs.Prelude.{◌≡◌, ◌≤◌, option_map};
 ghost use Rattle.per_bits.specs.Bits.{Place, Answers};
 ghost use Rattle.per_bits.specs.Reading.{number_at};
 ghost use Rattle.per_bits.specs.Writing.{Wrote};
-ghost use Rattle.s1ap_messages.specs.Criticalities.{criticality_number};
-ghost use Rattle.s1ap_messages.specs.Rows.{Rows, Slots};
-ghost use Rattle.s1ap_messages.specs.Spelling.{may_skip};
-ghost use Rattle.s1ap_messages.specs.Reading.{put_at, pass_at, fill_slot, elements_at, fill_at};
-ghost use Rattle.s1ap_messages.specs.Writing.{write_element, write_some, one_if};
-ghost use Rattle.s1ap_messages.specs.Answers.{Reads};
+ghost use Rattle.s1ap_rows.specs.Criticalities.{criticality_number};
+ghost use Rattle.s1ap_rows.specs.Rows.{Rows, Slots};
+ghost use Rattle.s1ap_rows.specs.Spelling.{may_skip};
+ghost use Rattle.s1ap_rows.specs.Reading.{put_at, pass_at, fill_slot, elements_at, fill_at};
+ghost use Rattle.s1ap_rows.specs.Writing.{write_element, write_some, one_if};
+ghost use Rattle.s1ap_rows.specs.Answers.{Reads};
 
 use crate::criticality::{Criticality, take_criticality};
 use crate::fault::S1apFault;

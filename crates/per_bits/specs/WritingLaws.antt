@@ -12,9 +12,9 @@ use Rattle.per_bits.specs.Spelling.{SpellsNumber, SpellsOctets, SpellsAligned, S
 use Rattle.per_bits.specs.Reading.{complete_at}
 use Rattle.per_bits.specs.Writing.{write_at, write_fields, write_chosen, write_each, write_number, write_optional, presence, index_of, write_octets, write_aligned, write_length, write_string, write_bits, write_enumerated, write_whole, padded, complete_write}
 use Rattle.per_bits.specs.Octet.{all_below}
-use Rattle.per_bits.proofs.BitLaws.{bind_ok, where_ok, ok_is}
-use Rattle.per_bits.proofs.BaseLaws.{bits-octets_of}
-use Rattle.per_bits.proofs.FormatLaws.{complete_again}
+use Rattle.per_bits.specs.BitLaws.{bind_ok, where_ok, ok_is}
+use Rattle.per_bits.specs.BaseLaws.{bits-octets_of}
+use Rattle.per_bits.specs.FormatLaws.{complete_again}
 
 -- what was written behind the bits so far
 pub record Adds {A : Type 0} (S : A → ℕ → List Bool → Type 0) (a : A) (out new : List Bool) : Type 0 where

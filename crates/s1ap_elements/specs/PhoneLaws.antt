@@ -17,8 +17,8 @@ use Rattle.s1ap_elements.specs.declared.phone.ResetAll.{ResetAll}
 use Rattle.s1ap_elements.specs.declared.phone.ResetAll.TheVariants as reset
 use Rattle.s1ap_elements.specs.declared.phone.ResetType.{ResetType}
 use Rattle.s1ap_elements.specs.declared.phone.ResetType.TheVariants.{All}
-use Rattle.s1ap_elements.proofs.ListLaws.{map_back}
-use Rattle.s1ap_elements.proofs.NameLaws.{Spelled, chosen_spelled, last_spelled, names_again}
+use Rattle.s1ap_elements.specs.ListLaws.{map_back}
+use Rattle.s1ap_elements.specs.NameLaws.{Spelled, chosen_spelled, last_spelled, names_again}
 
 pub tai_list_again : (ts : List (Listed TaiItem 47 1)) → named_tai_list (typed_tai_list ts) ≡ ts
 tai_list_again ts = map_back (λ t. (typed_tai_item t.value, tt)) (λ x. record { value = named_tai_item x.0 }) (λ t. refl) ts

@@ -2,17 +2,13 @@
 use Rattle.std.specs.Prelude.{ℕ, zero, suc, cond, eqb, List, [], ◌∷◌, Option, Some, None, Result, Ok, Err}
 use Rattle.per_bits.specs.declared.fault.PerFault.{PerFault}
 use Rattle.per_bits.specs.declared.fault.PerFault.TheVariants.{Alternative}
-use Rattle.s1ap_messages.specs.declared.fault.S1apFault.{S1apFault}
-use Rattle.s1ap_messages.specs.declared.fault.S1apFault.TheVariants.{Syntax, UnknownProcedure, MissingElement, RepeatedElement, RefusedElement}
+use Rattle.s1ap_rows.specs.declared.fault.S1apFault.{S1apFault}
+use Rattle.s1ap_rows.specs.declared.fault.S1apFault.TheVariants.{Syntax, MissingElement, RepeatedElement, RefusedElement}
 use Rattle.per_bits.specs.Bits.{Place, start, ◌>>=◌, bit_at, open_at, end_at}
 use Rattle.per_bits.specs.Formats.{Format, Value}
 use Rattle.per_bits.specs.Reading.{number_at, closed_at, skipped_at, additions_at, read_at, whole_at, complete_at}
-use Rattle.s1ap_messages.specs.Criticalities.{criticality_named}
-use Rattle.s1ap_messages.specs.Rows.{Rows, ie, end, needed, optional, unkept, Slots, Kept, no_slots}
-use Rattle.s1ap_messages.specs.declared.message_type.MessageType.{MessageType}
-use Rattle.s1ap_messages.specs.Profile.{type_of, rows_of}
-use Rattle.s1ap_messages.specs.Typed.{Typed, typed_of}
-use Rattle.s1ap_messages.specs.Spelling.{may_skip, Raw, id_of, criticality_of, octets_of, has_id, body, Frame}
+use Rattle.s1ap_rows.specs.Rows.{Rows, ie, end, needed, optional, unkept, Slots, Kept, no_slots}
+use Rattle.s1ap_rows.specs.Spelling.{may_skip, Raw, id_of, criticality_of, octets_of, has_id, body, Frame}
 
 -- ---- reading, from the left
 
@@ -81,19 +77,6 @@ frame_at s = do
   rest ← read_at body kind.1
   Ok ((kind.0, rest.0), rest.1)
 
--- ---- messages by their types
-
-unfoldable pub read_typed : MessageType → List ℕ → Result Typed S1apFault
-read_typed t os = message_at (rows_of t) os >>> λ v. Ok (typed_of t v)
-
-abbrev pub read_of : Option MessageType → Frame → Result Typed S1apFault
-read_of None fr = Err (UnknownProcedure (criticality_named fr.1.1.0))
-read_of (Some t) fr = read_typed t fr.1.1.1.0
-
--- the message that octets spell, or the first fault
-unfoldable pub decode_typed : List ℕ → Result Typed S1apFault
-decode_typed os = syntax_of (whole_at frame_at os) >>> λ fr. read_of (type_of fr.0 fr.1.0) fr
-
 -- ---- the same of elements that were read before
 
 abbrev pub pure_fill : (f : Format) → Option (Value f) → Raw → Result (Option (Value f)) S1apFault
@@ -102,7 +85,10 @@ pure_fill f None e = syntax_of (complete_at f (octets_of e)) >>> λ v. Ok (Some 
 
 abbrev pub pure_put : (rs : Rows) → Slots rs → Raw → Result (Slots rs) S1apFault
 pure_put end slots e = cond (may_skip (id_of e) (criticality_of e)) (Ok tt) (Err (RefusedElement (id_of e)))
-pure_put (ie i c p f rs) slots e = cond (has_id i e) (pure_fill f slots.0 e >>> λ first. Ok (first, slots.1)) (pure_put rs slots.1 e >>> λ others. Ok (slots.0, others))
+pure_put (ie i c p f rs) slots e =
+    cond (has_id i e)
+    (pure_fill f slots.0 e >>> λ first. Ok (first, slots.1))
+    (pure_put rs slots.1 e >>> λ others. Ok (slots.0, others))
 
 abbrev pub put_all : (rs : Rows) → Slots rs → List Raw → Result (Slots rs) S1apFault
 put_all rs slots [] = Ok slots

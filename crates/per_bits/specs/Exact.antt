@@ -8,7 +8,7 @@ use Rattle.per_bits.specs.declared.fault.PerFault.TheVariants.{Truncated}
 use Rattle.per_bits.specs.Bits.{Place, ◌>>=◌, take_at}
 use Rattle.per_bits.specs.Reading.{times}
 use Rattle.per_bits.specs.Spelling.{SpellsEach}
-use Rattle.per_bits.proofs.BitLaws.{bind_ok, unless_ok, where_ok, ok_is}
+use Rattle.per_bits.specs.BitLaws.{bind_ok, unless_ok, where_ok, ok_is}
 
 -- what a reading took from the front
 pub record Takes {A : Type 0} (S : A → ℕ → List Bool → Type 0) (s : Place) (a : A) (t : Place) : Type 0 where

@@ -9,9 +9,9 @@ use Rattle.per_bits.specs.declared.fault.PerFault.TheVariants.{Range, NotFewest}
 use Rattle.per_bits.specs.Bits.{value, bits, pad, ◌>>=◌, take_at, align_at}
 use Rattle.per_bits.specs.Numbers.{octets_for, width_of}
 use Rattle.per_bits.specs.Reading.{small_at, large_at}
-use Rattle.per_bits.proofs.BitLaws.{value_below, value-bits, bits-value, length-bits}
-use Rattle.per_bits.proofs.Exact.{Exact, IsBits, exact_take, Bind, exact_bind, Nothing, exact_ok, Never, exact_err, exact_same, Cond, exact_cond}
-use Rattle.per_bits.proofs.BaseLaws.{IsPad, exact_align, IsSmall, exact_small}
+use Rattle.per_bits.specs.BitLaws.{value_below, value-bits, bits-value, length-bits}
+use Rattle.per_bits.specs.Exact.{Exact, IsBits, exact_take, Bind, exact_bind, Nothing, exact_ok, Never, exact_err, exact_same, Cond, exact_cond}
+use Rattle.per_bits.specs.BaseLaws.{IsPad, exact_align, IsSmall, exact_small}
 
 pub octets-some : (n : ℕ) → 1 ≤ octets_for n
 unfolding octets_for

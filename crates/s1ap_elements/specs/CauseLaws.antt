@@ -1,7 +1,7 @@
 -- Causes keep their names.
 use Rattle.std.proofs.Common.{◌≡◌, ℕ, refl, ap, inl, inr, ◌⊎◌}
 use Rattle.per_bits.specs.Formats.{Value, Chosen, Alternatives, enumerated, last, either, left_of, right_of}
-use Rattle.s1ap_elements.proofs.NameLaws.{Spelled, SpelledChosen, chosen_spelled, left_spelled, right_spelled, last_spelled, names_again}
+use Rattle.s1ap_elements.specs.NameLaws.{Spelled, SpelledChosen, chosen_spelled, left_spelled, right_spelled, last_spelled, names_again}
 use Rattle.s1ap_elements.specs.Formats.{cause}
 use Rattle.s1ap_elements.specs.Causes.{radio_network_names, transport_names, nas_names, protocol_names, misc_names, typed_radio_network, named_radio_network, typed_transport, named_transport, typed_nas, named_nas, typed_protocol, named_protocol, typed_misc, named_misc, typed_cause, named_cause}
 use Rattle.s1ap_elements.specs.declared.cause.Cause.{Cause}

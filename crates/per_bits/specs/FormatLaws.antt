@@ -10,10 +10,10 @@ use Rattle.per_bits.specs.Spelling.{IfLeft, IfRight}
 use Rattle.per_bits.specs.Spelling.{SpellsNumber, SpellsAligned, SpellsBits, SpellsAlignedBits, length_octets, SpellsLength, SpellsString, SpellsClosed, SpellsEnumerated, SpellsEach, SpellsOptional, SpellsSkipped, trues, SpellsAdditions, Whole, Spells, SpellsFields, SpellsChosen, SpellsWhole}
 use Rattle.per_bits.specs.Numbers.{offset_bits, width_of}
 use Rattle.per_bits.specs.Reading.{offset_at, small_at, large_at, number_at, between_at, aligned_bits_at, bits_at, bits_between_at, closed_at, small_number_at, extended_at, root_at, enumerated_at, times, optional_at, skipped_at, additions_at, whole_at, inside_at, read_at, fields_at, chosen_at, complete_at}
-use Rattle.per_bits.proofs.Exact.{Exact, Takes, IsBits, exact_take, Bind, exact_bind, Nothing, exact_ok, Never, exact_err, exact_same, Each, exact_times, Cond, exact_cond}
-use Rattle.per_bits.proofs.BitLaws.{ok_is, bind_ok, okay, value_below, bits-value, value-bits, length-bits}
-use Rattle.per_bits.proofs.BaseLaws.{exact_octets, exact_aligned_octets, exact_end, end_again, IsPad, exact_align, IsSmall, exact_small}
-use Rattle.per_bits.proofs.LargeLaws.{exact_large, width-fits, large_bits}
+use Rattle.per_bits.specs.Exact.{Exact, Takes, IsBits, exact_take, Bind, exact_bind, Nothing, exact_ok, Never, exact_err, exact_same, Each, exact_times, Cond, exact_cond}
+use Rattle.per_bits.specs.BitLaws.{ok_is, bind_ok, okay, value_below, bits-value, value-bits, length-bits}
+use Rattle.per_bits.specs.BaseLaws.{exact_octets, exact_aligned_octets, exact_end, end_again, IsPad, exact_align, IsSmall, exact_small}
+use Rattle.per_bits.specs.LargeLaws.{exact_large, width-fits, large_bits}
 
 abbrev Spelling : Type 0 → Type 1
 Spelling A = A → ℕ → List Bool → Type 0

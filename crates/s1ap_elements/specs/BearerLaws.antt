@@ -7,7 +7,7 @@ use Rattle.s1ap_elements.specs.Formats.{erabs_to_be_setup, erabs_setup, erabs_to
 use Rattle.s1ap_elements.specs.declared.bearer.ErabToBeSetup.{ErabToBeSetup}
 use Rattle.s1ap_elements.specs.declared.bearer.ErabTunnel.{ErabTunnel}
 use Rattle.s1ap_elements.specs.Bearers.{erab_to_be_setup_lists, erabs_to_be_setup_lists, seen_erabs_to_be_setup, typed_erab_to_be_setup, named_erab_to_be_setup, typed_erabs_to_be_setup, named_erabs_to_be_setup, typed_erab_tunnel, named_erab_tunnel, typed_erabs_setup, named_erabs_setup, typed_erabs_to_be_switched, named_erabs_to_be_switched}
-use Rattle.s1ap_elements.proofs.ListLaws.{map_back}
+use Rattle.s1ap_elements.specs.ListLaws.{map_back}
 
 pub erabs_to_be_setup_again : (es : List (Listed (ErabToBeSetup (List ℕ)) 52 0)) → named_erabs_to_be_setup (typed_erabs_to_be_setup es) ≡ es
 erabs_to_be_setup_again es = map_back (λ e. (typed_erab_to_be_setup e.value, tt)) (λ x. record { value = named_erab_to_be_setup x.0 }) (λ e. refl) es

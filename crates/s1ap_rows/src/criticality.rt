@@ -3,7 +3,7 @@
 ghost use Rattle.std.specs.Prelude.{◌≡◌};
 ghost use Rattle.per_bits.specs.Bits.{Answers};
 ghost use Rattle.per_bits.specs.Reading.{number_at};
-ghost use Rattle.s1ap_messages.specs.Criticalities.{criticality_number};
+ghost use Rattle.s1ap_rows.specs.Criticalities.{criticality_number};
 
 use per_bits::{BitReader, PerFault, offset_of};
 

@@ -4,11 +4,9 @@ use Rattle.per_bits.specs.declared.fault.PerFault.{PerFault}
 use Rattle.per_bits.specs.Bits.{◌>>=◌}
 use Rattle.per_bits.specs.Formats.{Format, Value, open_type}
 use Rattle.per_bits.specs.Writing.{write_at, write_number, write_string, write_whole}
-use Rattle.s1ap_messages.specs.declared.criticality.Criticality.{Criticality}
-use Rattle.s1ap_messages.specs.Criticalities.{criticality_number}
-use Rattle.s1ap_messages.specs.Rows.{Rows, ie, end, needed, optional, unkept, Kept}
-use Rattle.s1ap_messages.specs.Profile.{rows_of, kind_of, code_of, criticality_of}
-use Rattle.s1ap_messages.specs.Typed.{Typed}
+use Rattle.s1ap_rows.specs.declared.criticality.Criticality.{Criticality}
+use Rattle.s1ap_rows.specs.Criticalities.{criticality_number}
+use Rattle.s1ap_rows.specs.Rows.{Rows, ie, end, needed, optional, unkept, Kept}
 
 abbrev pub write_element : ℕ → Criticality → (f : Format) → Value f → List Bool → Result (List Bool) PerFault
 write_element id c f v out = do
@@ -58,7 +56,3 @@ abbrev pub write_pdu : ℕ → ℕ → ℕ → (rs : Rows) → Kept rs → Resul
 write_pdu kind code c rs v = do
   os ← write_whole (write_message rs) v
   write_whole (write_frame kind code c) os
-
--- the octets of a message, or Range where it is not writable
-unfoldable pub encode_typed : Typed → Result (List ℕ) PerFault
-encode_typed m = write_pdu (kind_of m.0) (code_of m.0) (criticality_number (criticality_of m.0)) (rows_of m.0) m.1
