@@ -1,5 +1,2 @@
-pub mod PartLaws
-pub mod Times
-pub mod WholeOctets
 pub mod WrittenLaws
 pub mod Passing

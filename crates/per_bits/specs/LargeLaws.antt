@@ -1,17 +1,17 @@
 -- Numbers of several octets.
-use Rattle.std.proofs.Common.{◌≡◌, ℕ, ◌+◌, ◌-◌, ◌*◌, ◌^◌, ◌<◌, ◌≤◌, Bool, true, false, cond, refl, sym, ap, subst, ◌∙◌, arith}
+use Rattle.std.proofs.Common.{◌≡◌, ℕ, ◌+◌, ◌-◌, ◌*◌, ◌^◌, ◌<◌, ◌≤◌, Bool, true, false, cond, refl, sym, ap, subst, ◌∙◌, arith, List, [], ◌++◌, length, leb, eqb, Ok, Err}
 use Rattle.std.proofs.lemmas.Grind.{common_steps}
-use Rattle.std.proofs.Common.{List, [], ◌++◌, length, leb, eqb, Ok, Err}
 use Rattle.std.proofs.lemmas.Bool.{leb-true, le-leb, eqb-true, eq-eqb}
 use Rattle.std.proofs.lemmas.List.{append-nil}
 use Rattle.std.proofs.Math.Pow.{pow_mono}
-use Rattle.per_bits.specs.declared.fault.PerFault.TheVariants.{Range, NotFewest}
-use Rattle.per_bits.specs.Bits.{value, bits, pad, ◌>>=◌, take_at, align_at}
+use Rattle.bit_streams.specs.declared.fault.PerFault.TheVariants.{Range, NotFewest}
+use Rattle.bit_streams.specs.Bits.{value, bits, pad, ◌>>=◌, take_at, align_at}
 use Rattle.per_bits.specs.Numbers.{octets_for, width_of}
 use Rattle.per_bits.specs.Reading.{small_at, large_at}
-use Rattle.per_bits.specs.BitLaws.{value_below, value-bits, bits-value, length-bits}
-use Rattle.per_bits.specs.Exact.{Exact, IsBits, exact_take, Bind, exact_bind, Nothing, exact_ok, Never, exact_err, exact_same, Cond, exact_cond}
-use Rattle.per_bits.specs.BaseLaws.{IsPad, exact_align, IsSmall, exact_small}
+use Rattle.bit_streams.specs.BitLaws.{value_below, value-bits, bits-value, length-bits}
+use Rattle.bit_streams.specs.Exact.{Exact, IsBits, exact_take, Bind, exact_bind, Nothing, exact_ok, Never, exact_err, exact_same, Cond, exact_cond}
+use Rattle.bit_streams.specs.OctetLaws.{IsPad, exact_align}
+use Rattle.per_bits.specs.BaseLaws.{IsSmall, exact_small}
 
 pub octets-some : (n : ℕ) → 1 ≤ octets_for n
 unfolding octets_for

@@ -1,5 +1,3 @@
-pub mod Octet
-pub mod Bits
 pub mod Numbers
 pub mod Formats
 pub mod Spelling
@@ -7,8 +5,6 @@ pub mod Reading
 pub mod Writing
 pub mod Written
 pub mod Names
-pub mod BitLaws
-pub mod Exact
 pub mod BaseLaws
 pub mod LargeLaws
 pub mod FormatLaws

@@ -1,22 +1,20 @@
 //! Lengths without a bound, and open types.
 
 ghost use Rattle.std.specs.Prelude.{◌≡◌, ◌<◌, ◌^◌, ◌≤◌, ◌+◌, map, IfOk};
-ghost use Rattle.per_bits.specs.Bits.{Answers, Gives, length_at, open_at, number_bits_at};
+ghost use Rattle.bit_streams.specs.Bits.{Answers, Gives, length_at, open_at, number_bits_at};
 ghost use Rattle.per_bits.specs.Formats.{open_type};
 ghost use Rattle.per_bits.specs.Reading.{read_at, whole_at, small_number_at, complete_at, GivesWhole, inside_at};
 ghost use Rattle.per_bits.specs.Spelling.{length_octets};
 ghost use Rattle.per_bits.specs.Writing.{write_at, Wrote, write_length, write_string, complete_write};
 
 use crate::element::Element;
-use crate::fault::{PerError, PerFault};
-use crate::reader::BitReader;
 use crate::strings::put_open;
 use crate::whole::offset_of;
-use crate::writer::BitWriter;
+use bit_streams::{BitReader, BitWriter, PerError, PerFault};
 use std::alloc::Global;
 
 /// Reads a length without a bound, below 16384 (X.691 clause 11.9); NotFewest for one below 128 in two octets, Fragmented for more.
-#[tactic(auto, unfolding(crate::specs::Bits::length_at))]
+#[tactic(auto, unfolding(bit_streams::specs::Bits::length_at))]
 pub fn take_length(reader: &mut BitReader) -> Result<usize, PerFault>
     ensures { Answers (λ n. n) result reader.new (length_at reader.old) }
 {
@@ -37,7 +35,7 @@ pub fn take_length(reader: &mut BitReader) -> Result<usize, PerFault>
 }
 
 /// Reads the octets of an open type (X.691 clause 11.2), lent by the encoding; longer than what is left is Truncated.
-#[tactic(auto, unfolding(crate::specs::Bits::open_at))]
+#[tactic(auto, unfolding(bit_streams::specs::Bits::open_at))]
 pub fn take_open<'a>(reader: &mut BitReader<'a>) -> Result<&'a [u8], PerFault>
     ensures { Answers (λ s. s.now) result reader.new (open_at reader.old) }
 {

@@ -1,15 +1,15 @@
 //! What may stand in an encoding and is not kept: extension additions (X.691 clause 19.7) and iE-Extensions (TS 36.413 clause 9.3.7).
 
 ghost use Rattle.std.specs.Prelude.{◌≡◌, ◌+◌, ◌≤◌, true};
-ghost use Rattle.per_bits.specs.Bits.{Answers, Gives, bit_at, open_at};
-ghost use Rattle.per_bits.specs.Reading.{skipped_at, additions_at, times, read_at, number_at, Counts};
+ghost use Rattle.bit_streams.specs.Bits.{Answers, Gives, bit_at, open_at};
+ghost use Rattle.per_bits.specs.Reading.{skipped_at, additions_at, read_at, number_at, Counts};
+ghost use Rattle.bit_streams.specs.Each.{times};
 ghost use Rattle.per_bits.specs.Formats.{extensions, raw};
 ghost use Rattle.per_bits.specs.Spelling.{trues};
 
-use crate::fault::PerFault;
 use crate::open::{take_open, take_small_number};
-use crate::reader::BitReader;
 use crate::whole::offset_of;
+use bit_streams::{BitReader, PerFault};
 
 /// Reads past the extension additions of a SEQUENCE, where its extension bit was 1; takes no memory.
 pub fn skip_additions(extended: bool, reader: &mut BitReader) -> Result<(), PerFault>
@@ -79,7 +79,7 @@ fn pass_raw(count: u64, reader: &mut BitReader) -> Result<(), PerFault>
     Ok(())
 }
 
-#[tactic(auto, unfolding(crate::specs::Reading::number_at, crate::specs::Reading::times))]
+#[tactic(auto, unfolding(crate::specs::Reading::number_at, bit_streams::specs::Each::times))]
 fn pass_one(reader: &mut BitReader) -> Result<(), PerFault>
     ensures { Answers (λ _. tt) result reader.new (skipped_at true (read_at raw) reader.old) }
 {

@@ -1,8 +1,9 @@
 //! What tells phones apart, and what is told of them, read and written.
 
 ghost use Rattle.std.specs.Prelude.{◌≡◌};
-ghost use Rattle.per_bits.specs.Bits.{Gives, bits};
-ghost use Rattle.per_bits.specs.Reading.{read_at, times};
+ghost use Rattle.bit_streams.specs.Bits.{Gives, bits};
+ghost use Rattle.per_bits.specs.Reading.{read_at};
+ghost use Rattle.bit_streams.specs.Each.{times};
 ghost use Rattle.per_bits.specs.Writing.{write_at, Wrote};
 ghost use Rattle.per_bits.specs.Names.{view_of_name};
 ghost use Rattle.s1ap_elements.specs.Names.{IsName};
@@ -26,7 +27,7 @@ impl<'a> Element<'a> for Tai {
 
     ghost view = { typed_tai };
 
-    #[tactic(auto, unfolding(per_bits::specs::Reading::times))]
+    #[tactic(auto, unfolding(bit_streams::specs::Each::times))]
     fn read(alloc: Global, reader: &mut BitReader<'a>) -> Result<Self, PerError> {
         read_sequence!(reader => Tai {
             plmn: Plmn::read(alloc, reader)?,
@@ -34,7 +35,7 @@ impl<'a> Element<'a> for Tai {
         })
     }
 
-    #[tactic(auto, unfolding(per_bits::specs::Bits::bits))]
+    #[tactic(auto, unfolding(bit_streams::specs::Bits::bits))]
     fn write(&self, alloc: Global, writer: &mut BitWriter) -> Result<(), PerError> {
         writer.put_bits(2, 0)?;
         self.plmn.write(alloc, writer)?;
@@ -47,12 +48,12 @@ impl<'a> Element<'a> for TaiItem {
 
     ghost view = { typed_tai_item };
 
-    #[tactic(auto, unfolding(per_bits::specs::Reading::times))]
+    #[tactic(auto, unfolding(bit_streams::specs::Each::times))]
     fn read(alloc: Global, reader: &mut BitReader<'a>) -> Result<Self, PerError> {
         read_sequence!(reader => TaiItem { tai: Tai::read(alloc, reader)? })
     }
 
-    #[tactic(auto, unfolding(per_bits::specs::Bits::bits))]
+    #[tactic(auto, unfolding(bit_streams::specs::Bits::bits))]
     fn write(&self, alloc: Global, writer: &mut BitWriter) -> Result<(), PerError> {
         writer.put_bits(2, 0)?;
         self.tai.write(alloc, writer)
@@ -64,7 +65,7 @@ impl<'a> Element<'a> for EutranCgi {
 
     ghost view = { typed_eutran_cgi };
 
-    #[tactic(auto, unfolding(per_bits::specs::Reading::times))]
+    #[tactic(auto, unfolding(bit_streams::specs::Each::times))]
     fn read(alloc: Global, reader: &mut BitReader<'a>) -> Result<Self, PerError> {
         read_sequence!(reader => EutranCgi {
             plmn: Plmn::read(alloc, reader)?,
@@ -72,7 +73,7 @@ impl<'a> Element<'a> for EutranCgi {
         })
     }
 
-    #[tactic(auto, unfolding(per_bits::specs::Bits::bits))]
+    #[tactic(auto, unfolding(bit_streams::specs::Bits::bits))]
     fn write(&self, alloc: Global, writer: &mut BitWriter) -> Result<(), PerError> {
         writer.put_bits(2, 0)?;
         self.plmn.write(alloc, writer)?;
@@ -85,7 +86,7 @@ impl<'a> Element<'a> for STmsi {
 
     ghost view = { typed_s_tmsi };
 
-    #[tactic(auto, unfolding(per_bits::specs::Reading::times))]
+    #[tactic(auto, unfolding(bit_streams::specs::Each::times))]
     fn read(alloc: Global, reader: &mut BitReader<'a>) -> Result<Self, PerError> {
         read_sequence!(reader => STmsi {
             code: MmeCode::read(alloc, reader)?,
@@ -93,7 +94,7 @@ impl<'a> Element<'a> for STmsi {
         })
     }
 
-    #[tactic(auto, unfolding(per_bits::specs::Bits::bits))]
+    #[tactic(auto, unfolding(bit_streams::specs::Bits::bits))]
     fn write(&self, alloc: Global, writer: &mut BitWriter) -> Result<(), PerError> {
         writer.put_bits(2, 0)?;
         self.code.write(alloc, writer)?;
@@ -106,7 +107,7 @@ impl<'a> Element<'a> for UeIdPair {
 
     ghost view = { typed_ue_id_pair };
 
-    #[tactic(auto, unfolding(per_bits::specs::Reading::times))]
+    #[tactic(auto, unfolding(bit_streams::specs::Each::times))]
     fn read(alloc: Global, reader: &mut BitReader<'a>) -> Result<Self, PerError> {
         read_sequence!(reader => UeIdPair {
             mme_id: MmeUeId::read(reader)?,
@@ -114,7 +115,7 @@ impl<'a> Element<'a> for UeIdPair {
         })
     }
 
-    #[tactic(auto, unfolding(per_bits::specs::Bits::bits))]
+    #[tactic(auto, unfolding(bit_streams::specs::Bits::bits))]
     fn write(&self, alloc: Global, writer: &mut BitWriter) -> Result<(), PerError> {
         writer.put_bits(2, 0)?;
         self.mme_id.write(alloc, writer)?;
@@ -127,7 +128,7 @@ impl<'a> Element<'a> for SecurityCapabilities {
 
     ghost view = { typed_security_capabilities };
 
-    #[tactic(auto, unfolding(per_bits::specs::Reading::times))]
+    #[tactic(auto, unfolding(bit_streams::specs::Each::times))]
     fn read(alloc: Global, reader: &mut BitReader<'a>) -> Result<Self, PerError> {
         read_sequence!(reader => SecurityCapabilities {
             encryption: Closed::<BitField<16>>::read(alloc, reader)?.value,
@@ -135,7 +136,7 @@ impl<'a> Element<'a> for SecurityCapabilities {
         })
     }
 
-    #[tactic(auto, unfolding(per_bits::specs::Bits::bits))]
+    #[tactic(auto, unfolding(bit_streams::specs::Bits::bits))]
     fn write(&self, alloc: Global, writer: &mut BitWriter) -> Result<(), PerError> {
         writer.put_bits(2, 0)?;
         writer.put_bit(false)?;
@@ -150,7 +151,7 @@ impl<'a> Element<'a> for SecurityContext {
 
     ghost view = { typed_security_context };
 
-    #[tactic(auto, unfolding(per_bits::specs::Reading::times))]
+    #[tactic(auto, unfolding(bit_streams::specs::Each::times))]
     fn read(alloc: Global, reader: &mut BitReader<'a>) -> Result<Self, PerError> {
         read_sequence!(reader => SecurityContext {
             chaining_count: Whole::<0, 7>::read(reader)?,
@@ -158,7 +159,7 @@ impl<'a> Element<'a> for SecurityContext {
         })
     }
 
-    #[tactic(auto, unfolding(per_bits::specs::Bits::bits))]
+    #[tactic(auto, unfolding(bit_streams::specs::Bits::bits))]
     fn write(&self, alloc: Global, writer: &mut BitWriter) -> Result<(), PerError> {
         writer.put_bits(2, 0)?;
         self.chaining_count.write(alloc, writer)?;

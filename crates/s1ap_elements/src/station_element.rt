@@ -1,8 +1,9 @@
 //! What stations and MMEs tell of themselves, read and written.
 
 ghost use Rattle.std.specs.Prelude.{◌≡◌};
-ghost use Rattle.per_bits.specs.Bits.{Gives, bits};
-ghost use Rattle.per_bits.specs.Reading.{read_at, times};
+ghost use Rattle.bit_streams.specs.Bits.{Gives, bits};
+ghost use Rattle.per_bits.specs.Reading.{read_at};
+ghost use Rattle.bit_streams.specs.Each.{times};
 ghost use Rattle.per_bits.specs.Writing.{write_at, Wrote};
 ghost use Rattle.per_bits.specs.Names.{view_of_name};
 ghost use Rattle.s1ap_elements.specs.Names.{IsName};
@@ -44,7 +45,7 @@ impl<'a> Element<'a> for GlobalEnbId {
 
     ghost view = { typed_global_enb_id };
 
-    #[tactic(auto, unfolding(per_bits::specs::Reading::times))]
+    #[tactic(auto, unfolding(bit_streams::specs::Each::times))]
     fn read(alloc: Global, reader: &mut BitReader<'a>) -> Result<Self, PerError> {
         read_sequence!(reader => GlobalEnbId {
             plmn: Plmn::read(alloc, reader)?,
@@ -52,7 +53,7 @@ impl<'a> Element<'a> for GlobalEnbId {
         })
     }
 
-    #[tactic(auto, unfolding(per_bits::specs::Bits::bits))]
+    #[tactic(auto, unfolding(bit_streams::specs::Bits::bits))]
     fn write(&self, alloc: Global, writer: &mut BitWriter) -> Result<(), PerError> {
         writer.put_bits(2, 0)?;
         self.plmn.write(alloc, writer)?;
@@ -65,7 +66,7 @@ impl<'a> Element<'a> for SupportedTa {
 
     ghost view = { typed_supported_ta };
 
-    #[tactic(auto, unfolding(per_bits::specs::Reading::times))]
+    #[tactic(auto, unfolding(bit_streams::specs::Each::times))]
     fn read(alloc: Global, reader: &mut BitReader<'a>) -> Result<Self, PerError> {
         read_sequence!(reader => SupportedTa {
             tac: Tac::read(alloc, reader)?,
@@ -73,7 +74,7 @@ impl<'a> Element<'a> for SupportedTa {
         })
     }
 
-    #[tactic(auto, unfolding(per_bits::specs::Bits::bits))]
+    #[tactic(auto, unfolding(bit_streams::specs::Bits::bits))]
     fn write(&self, alloc: Global, writer: &mut BitWriter) -> Result<(), PerError> {
         writer.put_bits(2, 0)?;
         self.tac.write(alloc, writer)?;
@@ -86,7 +87,7 @@ impl<'a> Element<'a> for ServedGummei {
 
     ghost view = { typed_served_gummei };
 
-    #[tactic(auto, unfolding(per_bits::specs::Reading::times))]
+    #[tactic(auto, unfolding(bit_streams::specs::Each::times))]
     fn read(alloc: Global, reader: &mut BitReader<'a>) -> Result<Self, PerError> {
         read_sequence!(reader => ServedGummei {
             plmns: Items::<Plmn, 1, 32>::read(alloc, reader)?,
@@ -95,7 +96,7 @@ impl<'a> Element<'a> for ServedGummei {
         })
     }
 
-    #[tactic(auto, unfolding(per_bits::specs::Bits::bits))]
+    #[tactic(auto, unfolding(bit_streams::specs::Bits::bits))]
     fn write(&self, alloc: Global, writer: &mut BitWriter) -> Result<(), PerError> {
         writer.put_bits(2, 0)?;
         self.plmns.write(alloc, writer)?;

@@ -1,7 +1,7 @@
 -- Messages keep their names.
 use Rattle.std.proofs.Common.{◌≡◌, ℕ, List, Option, Some, None, Result, Ok, Err, refl, sym, ap, subst, ◌∙◌, option_map}
 use Rattle.std.specs.Borrow.{Bor}
-use Rattle.per_bits.specs.declared.fault.PerFault.{PerFault}
+use Rattle.bit_streams.specs.declared.fault.PerFault.{PerFault}
 use Rattle.per_bits.specs.Formats.{Value}
 use Rattle.s1ap_elements.specs.Formats.{cause}
 use Rattle.s1ap_elements.specs.Causes.{typed_cause, named_cause}

@@ -1,7 +1,7 @@
 -- What is written of a message of a type spells it.
 use Rattle.std.proofs.Common.{◌≡◌, ℕ, true, List, Some, Ok, refl}
 use Rattle.per_bits.specs.Writing.{write_whole}
-use Rattle.per_bits.specs.BitLaws.{bind_ok}
+use Rattle.bit_streams.specs.BitLaws.{bind_ok}
 use Rattle.s1ap_rows.specs.Criticalities.{criticality_number}
 use Rattle.s1ap_rows.specs.Rows.{are_distinct}
 use Rattle.s1ap_rows.specs.Writing.{write_message, write_frame}

@@ -1,6 +1,6 @@
 -- A message by its type and the values of its rows: which octets spell it, what reading gives, and what is written.
 use Rattle.std.specs.Prelude.{◌≡◌, ℕ, List, Option, Some, None, Result, Ok, Err}
-use Rattle.per_bits.specs.declared.fault.PerFault.{PerFault}
+use Rattle.bit_streams.specs.declared.fault.PerFault.{PerFault}
 use Rattle.per_bits.specs.Spelling.{Whole}
 use Rattle.per_bits.specs.Reading.{whole_at}
 use Rattle.s1ap_rows.specs.declared.fault.S1apFault.{S1apFault}
