@@ -9,7 +9,11 @@ ghost use Rattle.per_bits.specs.Spelling.{trues};
 
 use crate::open::{take_open, take_small_number};
 use crate::whole::offset_of;
+use crate::wrapped::{GREATEST_ID, LAST_CRITICALITY};
 use bit_streams::{BitReader, PerFault};
+
+// The most iE-Extensions of a SEQUENCE (TS 36.413 clause 9.3.7).
+const MOST_EXTENSIONS: u64 = 65535;
 
 /// Reads past the extension additions of a SEQUENCE, where its extension bit was 1; takes no memory.
 pub fn skip_additions(extended: bool, reader: &mut BitReader) -> Result<(), PerFault>
@@ -66,7 +70,7 @@ pub fn skip_extensions(present: bool, reader: &mut BitReader) -> Result<(), PerF
 fn pass_extensions(reader: &mut BitReader) -> Result<(), PerFault>
     ensures { Answers (λ _. tt) result reader.new (skipped_at true (read_at extensions) reader.old) }
 {
-    let more = offset_of(65534, reader)?;
+    let more = offset_of(MOST_EXTENSIONS - 1, reader)?;
     pass_raw(1 + more, reader)
 }
 
@@ -83,8 +87,8 @@ fn pass_raw(count: u64, reader: &mut BitReader) -> Result<(), PerFault>
 fn pass_one(reader: &mut BitReader) -> Result<(), PerFault>
     ensures { Answers (λ _. tt) result reader.new (skipped_at true (read_at raw) reader.old) }
 {
-    offset_of(65535, reader)?;
-    offset_of(2, reader)?;
+    offset_of(GREATEST_ID, reader)?;
+    offset_of(LAST_CRITICALITY, reader)?;
     take_open(reader)?;
     Ok(())
 }
