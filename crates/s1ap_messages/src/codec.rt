@@ -10,7 +10,7 @@ ghost use Rattle.s1ap_rows.specs.Writing.{write_message};
 ghost use Rattle.s1ap_messages.specs.Typed.{decode_typed, read_typed, encode_typed};
 
 use crate::message_type::MessageType;
-use crate::pdu::{Pdu, S1apPdu};
+use crate::pdu::{Decoded, Pdu, S1apPdu, Written};
 use crate::{context, interface, movement, setup, transport};
 use per_bits::PerError;
 use s1ap_rows::{Criticality, EncodeFault, S1apFault, frame_octets, read_frame};
@@ -76,11 +76,7 @@ fn type_of(kind: u8, code: u8) -> Option<MessageType>
     }
 }
 
-fn read_message<'a>(
-    alloc: Global,
-    message_type: MessageType,
-    octets: &'a [u8],
-) -> Result<S1apPdu<'a>, S1apFault>
+fn read_message<'a>(alloc: Global, message_type: MessageType, octets: &'a [u8]) -> Decoded<'a>
     ensures { Answers (λ m. typed (lists m)) result (read_typed message_type octets.now) }
 {
     match message_type {
@@ -109,7 +105,7 @@ fn read_message<'a>(
 }
 
 #[tactic(auto, using(s1ap_rows::specs::Criticalities::named_again), unfolding(crate::specs::Typed::decode_typed))]
-fn read_pdu<'a>(alloc: Global, octets: &'a [u8]) -> Result<S1apPdu<'a>, S1apFault>
+fn read_pdu<'a>(alloc: Global, octets: &'a [u8]) -> Decoded<'a>
     ensures { Answers (λ m. typed (lists m)) result (decode_typed octets.now) }
 {
     let frame = read_frame(octets)?;
@@ -130,7 +126,7 @@ pub fn decode<'a>(alloc: Global, octets: &'a [u8]) -> Result<S1apPdu<'a>, S1apFa
     read_pdu(alloc, octets)
 }
 
-fn write_content(alloc: Global, message: &S1apPdu) -> Result<Vec<u8>, PerError>
+fn write_content(alloc: Global, message: &S1apPdu) -> Written
     ensures { GivesWhole (λ v. v.items) result (write_whole (write_message (rows_of (typed (lists message.now)).0)) (typed (lists message.now)).1) }
 {
     match message {
@@ -255,7 +251,7 @@ impl MessageType {
 }
 
 #[tactic(auto, unfolding(crate::specs::Typed::encode_typed))]
-fn message_octets(alloc: Global, message: &S1apPdu) -> Result<Vec<u8>, PerError>
+fn message_octets(alloc: Global, message: &S1apPdu) -> Written
     ensures { GivesWhole (λ v. v.items) result (encode_typed (typed (lists message.now))) }
 {
     let message_type = message.message_type();

@@ -2,7 +2,7 @@
 use Rattle.std.specs.Prelude.{◌≡◌, ℕ, ◌+◌, Bool, true, eqb, not, ◌||◌, List, [], ◌∷◌, ◌++◌, length, filter, Option, Some, None}
 use Rattle.std.specs.List.{AllByRecursion}
 use Rattle.per_bits.specs.Formats.{Format, Value, octet_string, plain, sequence, items, number, must, done, raw}
-use Rattle.per_bits.specs.Spelling.{Spells, SpellsWhole, SpellsClosed, SpellsNumber, Whole}
+use Rattle.per_bits.specs.Spelling.{Spells, SpellsWhole, SpellsClosed, SpellsNumber}
 use Rattle.s1ap_rows.specs.Rows.{Rows, ie, end, needed, optional, unkept, Slots, Kept}
 
 -- ---- what a message is, whatever the order of its elements
@@ -23,7 +23,7 @@ octets_of e = e.1.1.0
 abbrev pub has_id : ℕ → Raw → Bool
 has_id id e = eqb (id_of e) id
 
--- elements that may be skipped: those marked ignore or notify, and three ids
+-- elements that may be skipped: those marked ignore or notify, and GUMMEI-ID, CSG-Id and CSG-IdList by their ids
 abbrev pub may_skip : ℕ → ℕ → Bool
 may_skip id criticality = not (eqb criticality 0) || (eqb id 75 || (eqb id 127 || eqb id 128))
 

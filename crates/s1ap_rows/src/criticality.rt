@@ -7,6 +7,9 @@ ghost use Rattle.s1ap_rows.specs.Criticalities.{criticality_number};
 
 use per_bits::{BitReader, PerFault, offset_of};
 
+/// The greatest number of a criticality.
+pub const LAST_CRITICALITY: u64 = 2;
+
 /// What is to be done with a procedure or an element that isn't understood (TS 36.413 clause 9.3.5).
 #[derive(Clone, Copy, Debug, PartialEq, Eq)]
 pub enum Criticality {
@@ -35,7 +38,7 @@ impl Criticality {
 pub fn take_criticality(reader: &mut BitReader) -> Result<Criticality, PerFault>
     ensures { Answers criticality_number result reader.new (number_at 0 2 reader.old) }
 {
-    let number = offset_of(2, reader)?;
+    let number = offset_of(LAST_CRITICALITY, reader)?;
     Ok(match number {
         0 => Criticality::Reject,
         1 => Criticality::Ignore,

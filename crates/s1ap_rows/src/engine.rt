@@ -11,13 +11,26 @@ ghost use Rattle.s1ap_rows.specs.Reading.{put_at, pass_at, fill_slot, elements_a
 ghost use Rattle.s1ap_rows.specs.Writing.{write_element, write_some, one_if};
 ghost use Rattle.s1ap_rows.specs.Answers.{Reads};
 
-use crate::criticality::{Criticality, take_criticality};
+use crate::criticality::{Criticality, LAST_CRITICALITY, take_criticality};
 use crate::fault::S1apFault;
 use per_bits::{
     BitReader, BitWriter, Element, PerError, PerFault, offset_of, put_number, read_complete,
     skip_additions, take_open, write_open,
 };
 use std::alloc::Global;
+
+// The greatest id of an element (TS 36.413 clause 9.3.7).
+const GREATEST_ID: u64 = 65535;
+
+/// The most elements of a message (TS 36.413 clause 9.3.7).
+pub const MOST_ELEMENTS: u64 = 65535;
+
+// Elements that are passed over though they are marked reject (TS 36.413 clause 9.3.6).
+const GUMMEI_ID: u16 = 75;
+
+const CSG_ID: u16 = 127;
+
+const CSG_ID_LIST: u16 = 128;
 
 /// The rows of a message, as far as they were read.
 pub trait Message<'a>: Drop {
@@ -54,7 +67,7 @@ fn may_skip(id: u16, criticality: Criticality) -> bool
     ensures { result ≡ may_skip id (criticality_number criticality) }
 {
     match criticality {
-        Criticality::Reject => id == 75 || id == 127 || id == 128,
+        Criticality::Reject => id == GUMMEI_ID || id == CSG_ID || id == CSG_ID_LIST,
         Criticality::Ignore | Criticality::Notify => true,
     }
 }
@@ -76,7 +89,7 @@ pub fn pass(id: u16, reader: &mut BitReader) -> Result<(), S1apFault>
 fn take_id(reader: &mut BitReader) -> Result<u16, PerFault>
     ensures { Answers (λ n. n) result reader.new (number_at 0 65535 reader.old) }
 {
-    let id = offset_of(65535, reader)?;
+    let id = offset_of(GREATEST_ID, reader)?;
     Ok(id as u16)
 }
 
@@ -106,7 +119,7 @@ pub fn fill_message<'a, M: Message<'a>>(
 {
     let mut reader = BitReader::new(octets);
     let extended = reader.take_bit()?;
-    let count = offset_of(65535, &mut reader)?;
+    let count = offset_of(MOST_ELEMENTS, &mut reader)?;
     read_elements::<M>(alloc, count, &mut reader, message)?;
     skip_additions(extended, &mut reader)?;
     reader.end()?;
@@ -123,8 +136,8 @@ pub fn put_element<'a, T: Element<'a>>(
 ) -> Result<(), PerError>
     ensures { Wrote result writer.new (write_element id criticality T.format (T.view value.now) writer.old) }
 {
-    put_number(0, 65535, id as u64, writer)?;
-    put_number(0, 2, criticality.number() as u64, writer)?;
+    put_number(0, GREATEST_ID, id as u64, writer)?;
+    put_number(0, LAST_CRITICALITY, criticality.number() as u64, writer)?;
     write_open::<T>(alloc, value, writer)
 }
 
