@@ -3,8 +3,8 @@ use Rattle.std.proofs.Common.{◌≡◌, ℕ, ◌/◌, ◌%◌, true, cond, leb,
 use Rattle.std.proofs.lemmas.Bool.{le-leb, eqb-true, eq-eqb}
 use Rattle.std.proofs.lemmas.List.{append-nil}
 use Rattle.nas_elements.specs.Parts.{◌>>=◌, Half, Content, between, identity, guti, tai_list, label, Part, constant, octet, halves, fixed, lv, long, HalfValue, ContentValue, Value, Values, SpellsHalf, SpellsContent, SpellsPart, SpellsParts, half_of, content_of, octet_at, short_at, read_part, read_parts}
-use Rattle.nas_elements.proofs.Exact.{Takes, Exact, bind_ok, some_is, where_ok, exact_same, Bind, exact_bind, Given, exact_given, IsOctet, exact_octet, exact_fixed, IsShort, exact_short, exact_long, half_takes, half_again, between_takes}
-use Rattle.nas_elements.proofs.IdentityLaws.{identity_takes, identity_again, guti_takes, guti_again, tai_list_takes, tai_list_again, label_takes, label_again}
+use Rattle.nas_elements.specs.Exact.{Takes, Exact, bind_ok, some_is, where_ok, exact_same, Bind, exact_bind, Given, exact_given, IsOctet, exact_octet, exact_fixed, IsShort, exact_short, exact_long, half_takes, half_again, between_takes}
+use Rattle.nas_elements.specs.IdentityLaws.{identity_takes, identity_again, guti_takes, guti_again, tai_list_takes, tai_list_again, label_takes, label_again}
 
 between_again : (lo hi : ℕ) (os xs : List ℕ) → SpellsContent (between lo hi) xs os → content_of (between lo hi) os ≡ Some xs
 between_again lo hi os xs m =

@@ -9,7 +9,7 @@ use Rattle.nas_elements.specs.declared.rule.Rule.{Rule}
 use Rattle.nas_elements.specs.declared.rule.Rule.TheVariants.{Itself, SoMany, ByOctet, ByTwo}
 use Rattle.nas_elements.specs.Parts.{◌>>=◌, octet_at, fixed_at, short_at, long_at}
 use Rattle.nas_elements.specs.Optionals.{rule_of, SpellsBy, SpellsElement, AreElements, first, by_rule, element_at, parted, elements, elements_in}
-use Rattle.nas_elements.proofs.Exact.{Exact, bind_ok, some_is, exact_same, Bind, exact_bind, Nothing, exact_ok, IsOctet, exact_octet, SoMany as IsSoMany, exact_fixed, IsShort, exact_short, IsLong, exact_long}
+use Rattle.nas_elements.specs.Exact.{Exact, bind_ok, some_is, exact_same, Bind, exact_bind, Nothing, exact_ok, IsOctet, exact_octet, SoMany as IsSoMany, exact_fixed, IsShort, exact_short, IsLong, exact_long}
 
 abbrev With : ℕ → (List ℕ → List ℕ → Type 0) → Element (List ℕ) → List ℕ → Type 0
 With i S = Bind S (λ xs. Nothing (record { iei = i; octets = xs }))

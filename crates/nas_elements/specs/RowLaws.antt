@@ -7,9 +7,9 @@ use Rattle.nas_elements.specs.Faults.{◌>>>◌, mandatory_part, optional_part}
 use Rattle.nas_elements.specs.Parts.{Values, read_parts}
 use Rattle.nas_elements.specs.Optionals.{elements}
 use Rattle.nas_elements.specs.Rows.{Row, firsts, RowValue, SpellsRow, RowFault, LacksElements, read_row}
-use Rattle.nas_elements.proofs.Exact.{some_of}
-use Rattle.nas_elements.proofs.PartLaws.{exact_parts}
-use Rattle.nas_elements.proofs.ElementLaws.{elements_take, elements_again}
+use Rattle.nas_elements.specs.Exact.{some_of}
+use Rattle.nas_elements.specs.PartLaws.{exact_parts}
+use Rattle.nas_elements.specs.ElementLaws.{elements_take, elements_again}
 
 pub bound : {A B : Type 0} (r : Result A NasFault) (f : A → Result B NasFault) (y : B) → (r >>> f) ≡ Ok y → (x : A) × (r ≡ Ok x) × (f x ≡ Ok y)
 bound (Ok x) f y e = (x, refl, e)

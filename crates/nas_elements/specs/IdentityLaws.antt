@@ -10,8 +10,8 @@ use Rattle.nas_elements.specs.declared.identity.MobileIdentity.{MobileIdentity}
 use Rattle.nas_elements.specs.declared.identity.MobileIdentity.TheVariants.{Imsi, Temporary}
 use Rattle.nas_elements.specs.Digits.{imsi_of}
 use Rattle.nas_elements.specs.Identities.{SpellsTaiList, tai_list_from, tai_list_of, tai_list_octets, TaiListFits, SpellsGuti, guti_from, guti_of, guti_octets, GutiFits, SpellsIdentity, identity_of, identity_octets, IdentityFits, first_of, SpellsLabel, label_of}
-use Rattle.nas_elements.proofs.Exact.{some_is, where_ok, both_true}
-use Rattle.nas_elements.proofs.DigitLaws.{imsi_takes, imsi_again}
+use Rattle.nas_elements.specs.Exact.{some_is, where_ok, both_true}
+use Rattle.nas_elements.specs.DigitLaws.{imsi_takes, imsi_again}
 
 two : (os : List ℕ) → length os ≡ 2 → os ≡ slice_index os 0 ∷ slice_index os 1 ∷ []
 two ([]) e = absurd (omega (arith, e))

@@ -14,8 +14,8 @@ use Rattle.nas_elements.specs.Parts.{Half, spare, three, flagged, four, exactly,
 use Rattle.nas_elements.specs.Optionals.{cause_rule, rule_of, SpellsBy, SpellsElement, AreElements, first, FitsBy}
 use Rattle.nas_elements.specs.Parts.{Small}
 use Rattle.nas_elements.specs.Rows.{Row, Keep, element, flag, iei_of, is_set, kept_from, as_written, is_sound, Kept, firsts, RowValue, SpellsRow, OptionalFits, KeptFit, contains, are_distinct, RowFits}
-use Rattle.nas_elements.proofs.Exact.{both_true}
-use Rattle.nas_elements.proofs.WritingLaws.{itself}
+use Rattle.nas_elements.specs.Exact.{both_true}
+use Rattle.nas_elements.specs.WritingLaws.{itself}
 
 pub small_each : (os : List ℕ) → ((i : ℕ) → slice_index os i < 256) → Small os
 small_each [] f = tt

@@ -8,8 +8,8 @@ use Rattle.nas_elements.specs.declared.rule.Rule.TheVariants.{Itself, SoMany, By
 use Rattle.nas_elements.specs.Parts.{Half, spare, three, flagged, four, exactly, Content, between, identity, guti, tai_list, label, Part, constant, octet, halves, fixed, lv, long, HalfValue, ContentValue, Value, Values, SpellsHalf, SpellsContent, SpellsPart, SpellsParts, write_half, write_content, write_part, write_parts, HalfFits, ContentFits, PartFits, Fit, short, wide}
 use Rattle.nas_elements.specs.Optionals.{rule_of, SpellsBy, SpellsElement, AreElements, first, write_by, FitsBy}
 use Rattle.nas_elements.specs.Rows.{Row, Keep, element, flag, iei_of, KeepValue, kept_from, as_written, is_sound, Kept, firsts, RowValue, SpellsRow, write_optional, write_kept, write_row, OptionalFits, KeptFit, contains, are_distinct, RowFits}
-use Rattle.nas_elements.proofs.Exact.{both_true}
-use Rattle.nas_elements.proofs.IdentityLaws.{guti_written, identity_written, tai_list_written}
+use Rattle.nas_elements.specs.Exact.{both_true}
+use Rattle.nas_elements.specs.IdentityLaws.{guti_written, identity_written, tai_list_written}
 
 half_small : (h : Half) (v : HalfValue h) → HalfFits h v → write_half h v < 16
 half_small spare v f = omega arith

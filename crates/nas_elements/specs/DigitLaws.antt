@@ -5,7 +5,7 @@ use Rattle.std.proofs.lemmas.Bool.{eqb-true, eq-eqb, ltb-true, lt-ltb, leb-true,
 use Rattle.std.proofs.lemmas.List.{get_or-take, length-take, length-append, length-map, take_all, take_more, get_or-append_right}
 use Rattle.std.proofs.lemmas.List.{take_at as take_front}
 use Rattle.nas_elements.specs.Digits.{are_digits, is_imsi, imsi_type, imsi_octets, imsi_checked, half_octets, imsi_of, is_digit, is_digit_text, filled, digits_of, imsi_text, imsi_of_text}
-use Rattle.nas_elements.proofs.Exact.{where_ok, both_true}
+use Rattle.nas_elements.specs.Exact.{where_ok, both_true}
 
 chosen : {A : Type 0} (b : Bool) (o : Option A) (y : A) → cond b o None ≡ Some y → (b ≡ true) × (o ≡ Some y)
 chosen true o y e = (refl, e)
