@@ -8,7 +8,7 @@ use Rattle.nas_messages.specs.declared.esm_types.Esm.{Esm}
 use Rattle.nas_messages.specs.declared.esm_types.EsmBody.{EsmBody}
 use Rattle.nas_messages.specs.declared.esm_types.EsmBody.TheVariants.{ActivateRequest, ActivateAccept, ActivateReject, ConnectivityRequest, ConnectivityReject, DisconnectRequest, DisconnectReject, InformationRequest, InformationResponse, EsmStatus}
 use Rattle.nas_messages.specs.EsmMessages.{TypedBody, of_type, typed_body, SpellsBody, IsWritableEsm, decoded_esm}
-use Rattle.nas_messages.proofs.EsmLaws.{esm_again, esm_takes, written_esm}
+use Rattle.nas_messages.specs.EsmLaws.{esm_again, esm_takes, written_esm}
 use Rattle.esm_machine.specs.declared.cause.EsmCause.TheVariants.{NotCompatible}
 use Rattle.esm_machine.specs.declared.reaction.Reaction.{Reaction}
 use Rattle.esm_machine.specs.declared.reaction.Reaction.TheVariants.{Nothing, Informed, Answer}

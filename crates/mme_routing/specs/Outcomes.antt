@@ -7,10 +7,10 @@ use Rattle.s1ap_elements.specs.declared.cause.ProtocolCause.TheVariants.{Transfe
 use Rattle.s1ap_elements.specs.declared.cause.MiscCause.TheVariants.{UnknownPlmn}
 use Rattle.s1ap_elements.specs.declared.station.SupportedTa.{SupportedTa}
 use Rattle.s1ap_elements.specs.declared.station.ServedGummei.{ServedGummei}
-use Rattle.s1ap_messages.specs.declared.criticality.Criticality.{Criticality}
-use Rattle.s1ap_messages.specs.declared.criticality.Criticality.TheVariants.{Reject, Ignore, Notify}
-use Rattle.s1ap_messages.specs.declared.fault.S1apFault.{S1apFault}
-use Rattle.s1ap_messages.specs.declared.fault.S1apFault.TheVariants.{Syntax, UnknownProcedure, MissingElement, RepeatedElement, RefusedElement, NoMemory}
+use Rattle.s1ap_rows.specs.declared.criticality.Criticality.{Criticality}
+use Rattle.s1ap_rows.specs.declared.criticality.Criticality.TheVariants.{Reject, Ignore, Notify}
+use Rattle.s1ap_rows.specs.declared.fault.S1apFault.{S1apFault}
+use Rattle.s1ap_rows.specs.declared.fault.S1apFault.TheVariants.{Syntax, UnknownProcedure, MissingElement, RepeatedElement, RefusedElement, NoMemory}
 use Rattle.s1ap_messages.specs.declared.pdu.Pdu.{Pdu}
 use Rattle.s1ap_messages.specs.declared.pdu.Pdu.TheVariants as pdu
 use Rattle.s1ap_messages.specs.declared.pdu.InitialUeMessage.{InitialUeMessage}

@@ -3,7 +3,7 @@
 ghost use Rattle.std.specs.Prelude.{◌≡◌, ◌≢◌, ◌^◌, ◌≤◌, List, [], unwrap_or, IfOk, IfErr, OnOk, Ok, Err};
 ghost use Rattle.identity_slots.specs.Ids.{stranger_id};
 ghost use Rattle.s1ap_messages.specs.Pdus.{lists, decoded, initial_ue_message_lists};
-ghost use Rattle.s1ap_messages.specs.declared.fault.S1apFault.TheVariants as faults;
+ghost use Rattle.s1ap_rows.specs.declared.fault.S1apFault.TheVariants as faults;
 ghost use Rattle.mme_vocabulary.specs.declared.stations.StationState.{StationState};
 ghost use Rattle.mme_vocabulary.specs.Events.{body_lists, message_lists};
 ghost use Rattle.mme_routing.specs.Seen.{seen};

@@ -1,7 +1,7 @@
 -- The S1AP messages that the machine sends.
 use Rattle.std.specs.Prelude.{ℕ, ◌+◌, ◌*◌, ◌-◌, ◌/◌, ◌%◌, ◌==◌, Bool, true, false, if◌then◌else◌, List, [], ◌∷◌, slice_index, Option, Some}
 use Rattle.std.specs.Int.{w32, to_be_bytes}
-use Rattle.per_bits.specs.Bits.{octet_bits}
+use Rattle.bit_streams.specs.Bits.{octet_bits}
 use Rattle.s1ap_elements.specs.declared.bearer.Qos.{Qos}
 use Rattle.s1ap_elements.specs.declared.cause.Cause.{Cause}
 use Rattle.s1ap_elements.specs.declared.cause.Cause.TheVariants as causes

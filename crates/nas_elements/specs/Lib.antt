@@ -6,3 +6,11 @@ pub mod Parts
 pub mod Optionals
 pub mod Rows
 pub mod Seen
+pub mod Exact
+pub mod DigitLaws
+pub mod IdentityLaws
+pub mod PartLaws
+pub mod WritingLaws
+pub mod FitLaws
+pub mod ElementLaws
+pub mod RowLaws

@@ -8,10 +8,10 @@ use Rattle.nas_elements.specs.declared.fault.NasFault.TheVariants.{TooShort, Man
 use Rattle.nas_elements.specs.Faults.{◌>>>◌}
 use Rattle.nas_elements.specs.Parts.{Small}
 use Rattle.nas_elements.specs.Rows.{RowValue, RowFault, read_row, write_row, RowFits, are_distinct}
-use Rattle.nas_elements.proofs.Exact.{both_true}
-use Rattle.nas_elements.proofs.FitLaws.{row_fits}
-use Rattle.nas_elements.proofs.RowLaws.{bound, okay, okay_is, failed, row_takes, row_again, row_fault}
-use Rattle.nas_elements.proofs.WritingLaws.{written}
+use Rattle.nas_elements.specs.Exact.{both_true}
+use Rattle.nas_elements.specs.FitLaws.{row_fits}
+use Rattle.nas_elements.specs.RowLaws.{bound, okay, okay_is, failed, row_takes, row_again, row_fault}
+use Rattle.nas_elements.specs.WritingLaws.{written}
 use Rattle.nas_messages.specs.declared.emm_types.Emm.{Emm}
 use Rattle.nas_messages.specs.declared.emm_types.Emm.TheVariants as emm
 use Rattle.nas_messages.specs.declared.emm_types.EmmType.{EmmType}

@@ -1,11 +1,2 @@
-pub mod BitLaws
-pub mod PartLaws
-pub mod Times
-pub mod Exact
-pub mod BaseLaws
-pub mod LargeLaws
-pub mod FormatLaws
-pub mod WholeOctets
-pub mod WritingLaws
 pub mod WrittenLaws
 pub mod Passing

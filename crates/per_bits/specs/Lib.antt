@@ -1,5 +1,3 @@
-pub mod Octet
-pub mod Bits
 pub mod Numbers
 pub mod Formats
 pub mod Spelling
@@ -7,3 +5,7 @@ pub mod Reading
 pub mod Writing
 pub mod Written
 pub mod Names
+pub mod BaseLaws
+pub mod LargeLaws
+pub mod FormatLaws
+pub mod WritingLaws

@@ -1,10 +1,11 @@
 -- Reading values from the left: what is spelled is answered, and else the fault of the leftmost part that has no spelling at its place.
-use Rattle.std.specs.Prelude.{◌≡◌, ℕ, zero, suc, ◌+◌, ◌-◌, ◌*◌, ◌≤◌, Bool, true, false, if◌then◌else◌, nat_le, nat_lt, ◌==◌, List, [], ◌∷◌, Option, Some, None, Result, Ok, Err, ◌⊎◌}
+use Rattle.std.specs.Prelude.{◌≡◌, ℕ, zero, suc, ◌+◌, ◌-◌, ◌*◌, Bool, true, false, if◌then◌else◌, nat_le, nat_lt, ◌==◌, List, Option, Some, None, Result, Ok, Err, ◌⊎◌}
 use Rattle.std.proofs.Common.{inl, inr}
-use Rattle.per_bits.specs.declared.fault.PerFault.{PerFault}
-use Rattle.per_bits.specs.declared.fault.PerFault.TheVariants.{Truncated, Range, NotFewest, Alternative}
-use Rattle.per_bits.specs.declared.fault.PerError.{PerError}
-use Rattle.per_bits.specs.Bits.{value, Place, start, ◌>>=◌, take_at, align_at, end_at, whole_octets_at, aligned_octets_at, open_at, bit_at, number_bits_at, Fails}
+use Rattle.bit_streams.specs.declared.fault.PerFault.{PerFault}
+use Rattle.bit_streams.specs.declared.fault.PerFault.TheVariants.{Range, NotFewest, Alternative}
+use Rattle.bit_streams.specs.declared.fault.PerError.{PerError}
+use Rattle.bit_streams.specs.Bits.{value, Place, start, ◌>>=◌, take_at, align_at, end_at, whole_octets_at, aligned_octets_at, open_at, bit_at, aligned_bits_at, Fails}
+use Rattle.bit_streams.specs.Each.{times}
 use Rattle.per_bits.specs.Numbers.{width_of, octets_for}
 use Rattle.per_bits.specs.Formats.{left_of, right_of, Format, Fields, Alternatives, Value, Values, Chosen, optionals, alternatives, flag_of, flags_after, number, octets, octets_between, octet_string, bit_string, bits_between, enumerated, closed, items, open_type, plain, sequence, choice, done, must, may, skip, fixed, marked, last, either}
 use Rattle.per_bits.specs.Spelling.{trues}
@@ -46,11 +47,6 @@ between_at lo hi s = do
   n ← number_at lo hi s
   aligned_octets_at n.0 n.1
 
-unfoldable pub aligned_bits_at : ℕ → Place → Result (List Bool × Place) PerFault
-aligned_bits_at n s = do
-  a ← align_at s
-  take_at n a.1
-
 unfoldable pub bits_at : ℕ → Place → Result (List Bool × Place) PerFault
 bits_at n s = if nat_lt n 17 then take_at n s else aligned_bits_at n s
 
@@ -83,14 +79,6 @@ unfoldable pub enumerated_at : ℕ → Place → Result ((ℕ ⊎ ℕ) × Place)
 enumerated_at n s = do
   b ← bit_at s
   if b.0 then extended_at b.1 else root_at n b.1
-
--- so many values, one after the other
-unfoldable pub times : {A : Type 0} → (Place → Result (A × Place) PerFault) → ℕ → Place → Result (List A × Place) PerFault
-times r zero s = Ok ([], s)
-times r (suc n) s = do
-  first ← r s
-  others ← times r n first.1
-  Ok (first.0 ∷ others.0, others.1)
 
 abbrev pub optional_at : {A : Type 0} → Bool → (Place → Result (A × Place) PerFault) → Place → Result (Option A × Place) PerFault
 optional_at false r s = Ok (None, s)
@@ -191,8 +179,3 @@ GivesWhole view (Err e) read = Fails e read
 abbrev pub Counts : Result ℕ PerFault → Place → Result (List Bool × Place) PerFault → Type 0
 Counts (Ok n) after read = (flags : List Bool) × (read ≡ Ok (flags, after)) × (n ≡ trues flags)
 Counts (Err f) after read = read ≡ Err f
-
--- some of the next bits, at most so many: how many, and the number that they stand for
-abbrev pub TakesPart : ℕ → Result (ℕ × ℕ) PerFault → Place → Place → Type 0
-TakesPart most (Ok p) old new = (1 ≤ p.0) × (p.0 ≤ most) × (p.0 ≤ 8) × (number_bits_at p.0 old ≡ Ok (p.1, new))
-TakesPart most (Err f) old new = (f ≡ Truncated) × (old.rest ≡ [])

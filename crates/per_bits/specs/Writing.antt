@@ -1,11 +1,11 @@
 -- Writing behind the bits so far.
-use Rattle.std.specs.Prelude.{◌≡◌, ℕ, suc, ◌+◌, ◌-◌, ◌/◌, ◌^◌, ◌&&◌, Bool, false, if◌then◌else◌, nat_le, nat_lt, ◌==◌, List, [], ◌∷◌, ◌++◌, length, Option, Some, None, Result, Ok, Err, ◌⊎◌, is_some}
+use Rattle.std.specs.Prelude.{◌≡◌, ℕ, suc, ◌-◌, ◌^◌, ◌&&◌, Bool, false, if◌then◌else◌, nat_le, nat_lt, ◌==◌, List, [], ◌∷◌, ◌++◌, length, Option, Some, None, Result, Ok, Err, ◌⊎◌, is_some}
 use Rattle.std.proofs.Common.{inl, inr}
-use Rattle.per_bits.specs.declared.fault.PerFault.{PerFault}
-use Rattle.per_bits.specs.declared.fault.PerFault.TheVariants.{Range}
-use Rattle.per_bits.specs.declared.fault.PerError.{PerError}
-use Rattle.per_bits.specs.Octet.{all_below}
-use Rattle.per_bits.specs.Bits.{octet_bits, octets_of_bits, pad, ◌>>=◌, Fails}
+use Rattle.bit_streams.specs.declared.fault.PerFault.{PerFault}
+use Rattle.bit_streams.specs.declared.fault.PerFault.TheVariants.{Range}
+use Rattle.bit_streams.specs.declared.fault.PerError.{PerError}
+use Rattle.bit_streams.specs.Octet.{all_below}
+use Rattle.bit_streams.specs.Bits.{octet_bits, padded, pad, ◌>>=◌, Fails}
 use Rattle.per_bits.specs.Formats.{Format, number, octets, octets_between, octet_string, bit_string, bits_between, enumerated, closed, items, open_type, plain, sequence, choice, Fields, done, must, may, skip, fixed, marked, Alternatives, last, either, Value, Values, Chosen, alternatives}
 use Rattle.per_bits.specs.Numbers.{whole}
 use Rattle.per_bits.specs.Spelling.{length_octets}
@@ -14,10 +14,6 @@ use Rattle.per_bits.specs.Spelling.{length_octets}
 abbrev pub Wrote : {X : Type 0} → Result X PerError → List Bool → Result (List Bool) PerFault → Type 0
 Wrote (Ok x) after write = write ≡ Ok after
 Wrote (Err e) after write = Fails e write
-
--- bits as octets, zero bits up to the last octet's end
-unfoldable pub padded : List Bool → List ℕ
-padded bs = octets_of_bits ((length bs + 7) / 8) (bs ++ pad (length bs))
 
 unfoldable pub write_number : ℕ → ℕ → ℕ → List Bool → Result (List Bool) PerFault
 write_number lo hi n out =
@@ -49,7 +45,8 @@ abbrev pub write_enumerated : ℕ → ℕ ⊎ ℕ → List Bool → Result (List
 write_enumerated n (inl k) out = write_number 0 n k (out ++ false ∷ [])
 write_enumerated n (inr k) out = Err Range
 
-unfoldable pub write_each : {A : Type 0} → (A → List Bool → Result (List Bool) PerFault) → List A → List Bool → Result (List Bool) PerFault
+unfoldable pub write_each : {A : Type 0}
+    → (A → List Bool → Result (List Bool) PerFault) → List A → List Bool → Result (List Bool) PerFault
 write_each w [] out = Ok out
 write_each w (a ∷ more) out = do
   after ← w a out
@@ -70,7 +67,8 @@ presence (skip f fs) v = false ∷ presence fs v
 presence (fixed lo hi n fs) v = presence fs v
 presence (marked lo hi n fs) v = presence fs v
 
-abbrev pub write_optional : {A : Type 0} → (A → List Bool → Result (List Bool) PerFault) → Option A → List Bool → Result (List Bool) PerFault
+abbrev pub write_optional : {A : Type 0}
+    → (A → List Bool → Result (List Bool) PerFault) → Option A → List Bool → Result (List Bool) PerFault
 write_optional w None out = Ok out
 write_optional w (Some a) out = w a out
 

@@ -1,17 +1,15 @@
 //! Bit strings whose length has bounds (X.691 clause 16).
 
 ghost use Rattle.std.specs.Prelude.{◌≡◌, ◌+◌, ◌-◌, ◌*◌, ◌++◌, ◌<◌, ◌^◌, ◌≤◌, ◌%◌, List, Bool, length, ◌↔◌, IsSome, IfSome, IfOk};
-ghost use Rattle.per_bits.specs.Bits.{Gives, Answers, bits, octet_bits};
-ghost use Rattle.per_bits.specs.Octet.{IsString};
-ghost use Rattle.per_bits.specs.Reading.{bits_between_at, aligned_bits_at, number_at, read_at};
+ghost use Rattle.bit_streams.specs.Bits.{Gives, Answers, bits, octet_bits, aligned_bits_at};
+ghost use Rattle.bit_streams.specs.Octet.{IsString};
+ghost use Rattle.per_bits.specs.Reading.{bits_between_at, number_at, read_at};
 ghost use Rattle.per_bits.specs.Formats.{bits_between};
 ghost use Rattle.per_bits.specs.Writing.{write_at, Wrote};
 
 use crate::element::Element;
-use crate::fault::{PerError, PerFault};
-use crate::reader::BitReader;
 use crate::whole::{offset_of, put_number};
-use crate::writer::BitWriter;
+use bit_streams::{BitReader, BitWriter, PerError, PerFault};
 use std::alloc::Global;
 use std::marker::Model;
 
@@ -34,7 +32,7 @@ impl<'a, const MIN: u64, const MAX: u64> Model for BitString<'a, MIN, MAX> {
 
 impl<'a, const MIN: u64, const MAX: u64> BitString<'a, MIN, MAX> {
     /// The bits of these octets, where they are from `MIN` to `MAX` bits.
-    #[tactic(auto, unfolding(crate::specs::Bits::bits))]
+    #[tactic(auto, unfolding(bit_streams::specs::Bits::bits))]
     pub fn try_new(octets: &'a [u8]) -> Option<Self>
         ensures value { IfSome result (λ s. s ≡ octet_bits octets.entry.now) }
         ensures some { IsSome result ↔ ((MIN ≤ 8 * length octets.entry.now) × (8 * length octets.entry.now ≤ MAX)) }

@@ -1,15 +1,13 @@
 //! The index of a CHOICE (X.691 clause 23).
 
 ghost use Rattle.std.specs.Prelude.{◌≡◌, ◌++◌, ◌∷◌, ◌≤◌, [], false, IfOk};
-ghost use Rattle.per_bits.specs.declared.fault.PerFault.TheVariants.{Alternative};
-ghost use Rattle.per_bits.specs.Bits.{Answers};
+ghost use Rattle.bit_streams.specs.declared.fault.PerFault.TheVariants.{Alternative};
+ghost use Rattle.bit_streams.specs.Bits.{Answers};
 ghost use Rattle.per_bits.specs.Reading.{closed_at, number_at};
 ghost use Rattle.per_bits.specs.Writing.{write_number, Wrote};
 
-use crate::fault::{PerError, PerFault};
-use crate::reader::BitReader;
 use crate::whole::{offset_of, put_number};
-use crate::writer::BitWriter;
+use bit_streams::{BitReader, BitWriter, PerError, PerFault};
 
 /// The index of an alternative, the last of which has index `last`; an extension bit of 1 is Alternative.
 #[tactic(auto, unfolding(crate::specs::Reading::number_at))]

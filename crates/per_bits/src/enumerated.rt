@@ -1,19 +1,17 @@
 //! Spelling of named values (X.691 clause 14).
 
 ghost use Rattle.std.specs.Prelude.{◌≡◌};
-ghost use Rattle.per_bits.specs.Bits.{Gives};
+ghost use Rattle.bit_streams.specs.Bits.{Gives};
 ghost use Rattle.per_bits.specs.Formats.{enumerated};
 ghost use Rattle.per_bits.specs.Reading.{enumerated_at, number_at, read_at};
 ghost use Rattle.per_bits.specs.Writing.{write_at, Wrote};
 ghost use Rattle.per_bits.specs.Names.{view_of_name};
 
 use crate::element::Element;
-use crate::fault::{PerError, PerFault};
 use crate::name::Enumerated;
 use crate::open::take_small_number;
-use crate::reader::BitReader;
 use crate::whole::{offset_of, put_number};
-use crate::writer::BitWriter;
+use bit_streams::{BitReader, BitWriter, PerError, PerFault};
 use std::alloc::Global;
 
 impl<'a, const LAST: u64> Element<'a> for Enumerated<LAST> {

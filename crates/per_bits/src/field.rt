@@ -1,16 +1,14 @@
 //! Bit strings of a fixed length (X.691 clause 16).
 
 ghost use Rattle.std.specs.Prelude.{◌≡◌, ◌<◌, ℕ, List, Bool, length, slice_index_or, true, false};
-ghost use Rattle.per_bits.specs.Bits.{Gives, Answers, take_at};
-ghost use Rattle.per_bits.specs.Octet.{IsLong};
-ghost use Rattle.per_bits.specs.Reading.{bits_at, aligned_bits_at, read_at};
+ghost use Rattle.bit_streams.specs.Bits.{Gives, Answers, take_at, aligned_bits_at};
+ghost use Rattle.bit_streams.specs.Octet.{IsLong};
+ghost use Rattle.per_bits.specs.Reading.{bits_at, read_at};
 ghost use Rattle.per_bits.specs.Formats.{bit_string};
 ghost use Rattle.per_bits.specs.Writing.{write_at, Wrote, write_bits};
 
 use crate::element::Element;
-use crate::fault::{PerError, PerFault};
-use crate::reader::BitReader;
-use crate::writer::BitWriter;
+use bit_streams::{BitReader, BitWriter, PerError, PerFault};
 use std::alloc::Global;
 use std::marker::Model;
 
@@ -59,7 +57,7 @@ impl<'a, const N: usize> Element<'a> for BitField<N> {
 
     ghost view = { λ b. b };
 
-    #[tactic(auto, unfolding(crate::specs::Reading::bits_at, crate::specs::Reading::aligned_bits_at))]
+    #[tactic(auto, unfolding(crate::specs::Reading::bits_at, bit_streams::specs::Bits::aligned_bits_at))]
     fn read(_alloc: Global, reader: &mut BitReader<'a>) -> Result<Self, PerError> {
         let mut bits = [false; N];
         if N >= 17 {

@@ -1,16 +1,15 @@
 //! Lists of elements.
 
 ghost use Rattle.std.specs.Prelude.{◌≡◌, ◌≤◌, ◌-◌, ◌↔◌, List, map, length, IsSome, IfSome, IsTrue, slice_get, option_copied};
-ghost use Rattle.per_bits.specs.Bits.{Place, Gives};
+ghost use Rattle.bit_streams.specs.Bits.{Place, Gives};
 ghost use Rattle.per_bits.specs.Formats.{Format, Value, items};
-ghost use Rattle.per_bits.specs.Reading.{read_at, times, number_at};
+ghost use Rattle.per_bits.specs.Reading.{read_at, number_at};
+ghost use Rattle.bit_streams.specs.Each.{times};
 ghost use Rattle.per_bits.specs.Writing.{write_at, Wrote, write_each, write_number};
 
 use crate::element::Element;
-use crate::fault::PerError;
-use crate::reader::BitReader;
 use crate::whole::{offset_of, put_number};
-use crate::writer::BitWriter;
+use bit_streams::{BitReader, BitWriter, PerError};
 use std::alloc::Global;
 use std::marker::Model;
 

@@ -1,14 +1,13 @@
 //! Laws of every format.
 
 ghost use Rattle.std.specs.Prelude.{◌≡◌, ◌++◌, ℕ, Bool, List, length, Ok, Err};
-ghost use Rattle.per_bits.specs.declared.fault.PerFault.{PerFault};
-ghost use Rattle.per_bits.specs.declared.fault.PerFault.TheVariants.{Range};
+ghost use Rattle.bit_streams.specs.declared.fault.PerFault.{PerFault};
+ghost use Rattle.bit_streams.specs.declared.fault.PerFault.TheVariants.{Range};
 ghost use Rattle.per_bits.specs.Written.{IsWritable, written};
-ghost use Rattle.per_bits.specs.Writing.{write_at};
+ghost use Rattle.per_bits.specs.Writing.{write_at, complete_write};
 ghost use Rattle.per_bits.specs.Formats.{Format, Value};
 ghost use Rattle.per_bits.specs.Spelling.{SpellsWhole};
 ghost use Rattle.per_bits.specs.Reading.{complete_at};
-ghost use Rattle.per_bits.specs.Writing.{complete_write};
 
 /// Octets spell at most one value.
 pub fn one_value()

@@ -5,26 +5,23 @@ mod bit_string;
 mod choice;
 mod element;
 mod enumerated;
-mod fault;
 mod field;
 mod items;
 mod laws;
 mod name;
 mod octets;
 mod open;
-mod reader;
 mod skips;
 mod strings;
 #[cfg(test)]
 mod tests;
 mod whole;
 mod wrapped;
-mod writer;
 
+pub use bit_streams::{BitReader, BitWriter, PerError, PerFault};
 pub use bit_string::BitString;
 pub use choice::{put_choice, take_choice};
 pub use element::Element;
-pub use fault::{PerError, PerFault};
 pub use field::BitField;
 pub use items::Items;
 pub use laws::{one_value, read_exactly, what_is_written, what_is_written_is_read, writes_exactly};
@@ -34,9 +31,7 @@ pub use open::{
     put_length, read_complete, read_open, take_length, take_open, take_small_number,
     write_complete, write_open,
 };
-pub use reader::BitReader;
 pub use skips::{skip_additions, skip_extensions};
 pub use strings::{OctetString, SizedString, put_aligned, put_open};
 pub use whole::{Whole, offset_of, put_number};
 pub use wrapped::{Closed, Listed, put_optional, read_optional};
-pub use writer::BitWriter;

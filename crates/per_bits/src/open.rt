@@ -1,43 +1,50 @@
 //! Lengths without a bound, and open types.
 
 ghost use Rattle.std.specs.Prelude.{◌≡◌, ◌<◌, ◌^◌, ◌≤◌, ◌+◌, map, IfOk};
-ghost use Rattle.per_bits.specs.Bits.{Answers, Gives, length_at, open_at, number_bits_at};
+ghost use Rattle.bit_streams.specs.Bits.{Answers, Gives, length_at, open_at, number_bits_at};
 ghost use Rattle.per_bits.specs.Formats.{open_type};
 ghost use Rattle.per_bits.specs.Reading.{read_at, whole_at, small_number_at, complete_at, GivesWhole, inside_at};
 ghost use Rattle.per_bits.specs.Spelling.{length_octets};
 ghost use Rattle.per_bits.specs.Writing.{write_at, Wrote, write_length, write_string, complete_write};
 
 use crate::element::Element;
-use crate::fault::{PerError, PerFault};
-use crate::reader::BitReader;
 use crate::strings::put_open;
 use crate::whole::offset_of;
-use crate::writer::BitWriter;
+use bit_streams::{BitReader, BitWriter, PerError, PerFault};
 use std::alloc::Global;
 
+// A length below 128 is one octet; one below 16384 is two, the first of them 128 to 191; more comes in fragments (X.691 clause 11.9).
+const SHORT_END: usize = 128;
+
+const LONG_END: usize = 16384;
+
+const LONG_FIRST: u8 = 128;
+
+const FRAGMENT_FIRST: u8 = 192;
+
 /// Reads a length without a bound, below 16384 (X.691 clause 11.9); NotFewest for one below 128 in two octets, Fragmented for more.
-#[tactic(auto, unfolding(crate::specs::Bits::length_at))]
+#[tactic(auto, unfolding(bit_streams::specs::Bits::length_at))]
 pub fn take_length(reader: &mut BitReader) -> Result<usize, PerFault>
     ensures { Answers (λ n. n) result reader.new (length_at reader.old) }
 {
     reader.align()?;
     let first = take_octet(reader)?;
-    if first < 128 {
+    if first < LONG_FIRST {
         return Ok(first as usize);
     }
-    if first >= 192 {
+    if first >= FRAGMENT_FIRST {
         return Err(PerFault::Fragmented);
     }
     let second = take_octet(reader)?;
-    let length = (first as usize - 128) * 256 + second as usize;
-    if length < 128 {
+    let length = (first - LONG_FIRST) as usize * 256 + second as usize;
+    if length < SHORT_END {
         return Err(PerFault::NotFewest);
     }
     Ok(length)
 }
 
 /// Reads the octets of an open type (X.691 clause 11.2), lent by the encoding; longer than what is left is Truncated.
-#[tactic(auto, unfolding(crate::specs::Bits::open_at))]
+#[tactic(auto, unfolding(bit_streams::specs::Bits::open_at))]
 pub fn take_open<'a>(reader: &mut BitReader<'a>) -> Result<&'a [u8], PerFault>
     ensures { Answers (λ s. s.now) result reader.new (open_at reader.old) }
 {
@@ -57,14 +64,14 @@ fn take_octet(reader: &mut BitReader) -> Result<u8, PerFault>
 pub fn put_length(length: usize, writer: &mut BitWriter) -> Result<(), PerError>
     ensures { Wrote result writer.new (write_length length writer.old) }
 {
-    if length >= 16384 {
+    if length >= LONG_END {
         return Err(PerError::Fault(PerFault::Range));
     }
     writer.align()?;
-    if length < 128 {
+    if length < SHORT_END {
         writer.put_octets(&[length as u8])
     } else {
-        writer.put_octets(&[128 + (length / 256) as u8, (length % 256) as u8])
+        writer.put_octets(&[LONG_FIRST + (length / 256) as u8, (length % 256) as u8])
     }
 }
 

@@ -1,15 +1,19 @@
 //! What may stand in an encoding and is not kept: extension additions (X.691 clause 19.7) and iE-Extensions (TS 36.413 clause 9.3.7).
 
 ghost use Rattle.std.specs.Prelude.{◌≡◌, ◌+◌, ◌≤◌, true};
-ghost use Rattle.per_bits.specs.Bits.{Answers, Gives, bit_at, open_at};
-ghost use Rattle.per_bits.specs.Reading.{skipped_at, additions_at, times, read_at, number_at, Counts};
+ghost use Rattle.bit_streams.specs.Bits.{Answers, Gives, bit_at, open_at};
+ghost use Rattle.per_bits.specs.Reading.{skipped_at, additions_at, read_at, number_at, Counts};
+ghost use Rattle.bit_streams.specs.Each.{times};
 ghost use Rattle.per_bits.specs.Formats.{extensions, raw};
 ghost use Rattle.per_bits.specs.Spelling.{trues};
 
-use crate::fault::PerFault;
 use crate::open::{take_open, take_small_number};
-use crate::reader::BitReader;
 use crate::whole::offset_of;
+use crate::wrapped::{GREATEST_ID, LAST_CRITICALITY};
+use bit_streams::{BitReader, PerFault};
+
+// The most iE-Extensions of a SEQUENCE (TS 36.413 clause 9.3.7).
+const MOST_EXTENSIONS: u64 = 65535;
 
 /// Reads past the extension additions of a SEQUENCE, where its extension bit was 1; takes no memory.
 pub fn skip_additions(extended: bool, reader: &mut BitReader) -> Result<(), PerFault>
@@ -66,7 +70,7 @@ pub fn skip_extensions(present: bool, reader: &mut BitReader) -> Result<(), PerF
 fn pass_extensions(reader: &mut BitReader) -> Result<(), PerFault>
     ensures { Answers (λ _. tt) result reader.new (skipped_at true (read_at extensions) reader.old) }
 {
-    let more = offset_of(65534, reader)?;
+    let more = offset_of(MOST_EXTENSIONS - 1, reader)?;
     pass_raw(1 + more, reader)
 }
 
@@ -79,12 +83,12 @@ fn pass_raw(count: u64, reader: &mut BitReader) -> Result<(), PerFault>
     Ok(())
 }
 
-#[tactic(auto, unfolding(crate::specs::Reading::number_at, crate::specs::Reading::times))]
+#[tactic(auto, unfolding(crate::specs::Reading::number_at, bit_streams::specs::Each::times))]
 fn pass_one(reader: &mut BitReader) -> Result<(), PerFault>
     ensures { Answers (λ _. tt) result reader.new (skipped_at true (read_at raw) reader.old) }
 {
-    offset_of(65535, reader)?;
-    offset_of(2, reader)?;
+    offset_of(GREATEST_ID, reader)?;
+    offset_of(LAST_CRITICALITY, reader)?;
     take_open(reader)?;
     Ok(())
 }

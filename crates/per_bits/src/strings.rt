@@ -1,17 +1,15 @@
 //! Octet strings that are lent by the encoding (X.691 clauses 17 and 30).
 
 ghost use Rattle.std.specs.Prelude.{◌≡◌, length, OnOk, ◌<◌};
-ghost use Rattle.per_bits.specs.Bits.{Gives};
+ghost use Rattle.bit_streams.specs.Bits.{Gives};
 ghost use Rattle.per_bits.specs.Formats.{octet_string, octets_between};
 ghost use Rattle.per_bits.specs.Reading.{between_at, number_at, read_at};
 ghost use Rattle.per_bits.specs.Writing.{write_at, Wrote, write_aligned, write_length, write_string};
 
 use crate::element::Element;
-use crate::fault::{PerError, PerFault};
 use crate::open::{put_length, take_open};
-use crate::reader::BitReader;
 use crate::whole::{offset_of, put_number};
-use crate::writer::BitWriter;
+use bit_streams::{BitReader, BitWriter, PerError, PerFault};
 use std::alloc::Global;
 
 /// Up to 16383 octets behind their length, lent by the encoding (X.691 clause 17.8).

@@ -1,16 +1,14 @@
 //! Whole numbers in a range.
 
 ghost use Rattle.std.specs.Prelude.{ℕ, ◌↔◌, IsSome, IfSome, ◌≡◌, ◌≤◌, ◌<◌, ◌^◌, ◌*◌, ◌-◌, ◌+◌, ◌++◌, length, Ok, IfOk};
-ghost use Rattle.per_bits.specs.Bits.{Answers, Gives, bits, pad};
+ghost use Rattle.bit_streams.specs.Bits.{Answers, Gives, bits, pad};
 ghost use Rattle.per_bits.specs.Formats.{number};
 ghost use Rattle.per_bits.specs.Reading.{number_at, offset_at, small_at, aligned_small_at, large_at, read_at};
 ghost use Rattle.per_bits.specs.Numbers.{width_of, octets_for, offset_bits};
 ghost use Rattle.per_bits.specs.Writing.{write_number, write_at, Wrote};
 
 use crate::element::Element;
-use crate::fault::{PerError, PerFault};
-use crate::reader::BitReader;
-use crate::writer::BitWriter;
+use bit_streams::{BitReader, BitWriter, PerError, PerFault};
 use std::alloc::Global;
 use std::marker::Model;
 

@@ -1,18 +1,22 @@
 //! Values behind an extension bit or an element's head, and values that may lack.
 
 ghost use Rattle.std.specs.Prelude.{◌≡◌, option_map};
-ghost use Rattle.per_bits.specs.Bits.{Gives};
+ghost use Rattle.bit_streams.specs.Bits.{Gives};
 ghost use Rattle.per_bits.specs.Formats.{closed, item};
-ghost use Rattle.per_bits.specs.Reading.{read_at, optional_at, number_at, times};
+ghost use Rattle.per_bits.specs.Reading.{read_at, optional_at, number_at};
+ghost use Rattle.bit_streams.specs.Each.{times};
 ghost use Rattle.per_bits.specs.Writing.{write_at, Wrote, write_optional};
 
 use crate::element::Element;
-use crate::fault::{PerError, PerFault};
 use crate::open::{read_open, write_open};
-use crate::reader::BitReader;
 use crate::whole::{offset_of, put_number};
-use crate::writer::BitWriter;
+use bit_streams::{BitReader, BitWriter, PerError, PerFault};
 use std::alloc::Global;
+
+// The greatest id of an element, and the greatest number of a criticality (TS 36.413 clause 9.3.7).
+pub const GREATEST_ID: u64 = 65535;
+
+pub const LAST_CRITICALITY: u64 = 2;
 
 /// A value behind an extension bit that must be 0, else Range: a size or a number with an extensible bound.
 #[derive(Clone, Copy, Debug, PartialEq, Eq, Drop)]
@@ -52,20 +56,20 @@ impl<'a, T: Element<'a>, const ID: u64, const CRITICALITY: u64> Element<'a>
 
     ghost view = { λ c. (T.view c.value, tt) };
 
-    #[tactic(auto, unfolding(crate::specs::Reading::number_at, crate::specs::Reading::times))]
+    #[tactic(auto, unfolding(crate::specs::Reading::number_at, bit_streams::specs::Each::times))]
     fn read(alloc: Global, reader: &mut BitReader<'a>) -> Result<Self, PerError> {
-        let id = offset_of(65535, reader)?;
+        let id = offset_of(GREATEST_ID, reader)?;
         if id != ID {
             return Err(PerError::Fault(PerFault::Range));
         }
-        offset_of(2, reader)?;
+        offset_of(LAST_CRITICALITY, reader)?;
         let value = read_open::<T>(alloc, reader)?;
         Ok(Listed { value })
     }
 
     fn write(&self, alloc: Global, writer: &mut BitWriter) -> Result<(), PerError> {
-        put_number(0, 65535, ID, writer)?;
-        put_number(0, 2, CRITICALITY, writer)?;
+        put_number(0, GREATEST_ID, ID, writer)?;
+        put_number(0, LAST_CRITICALITY, CRITICALITY, writer)?;
         write_open::<T>(alloc, &self.value, writer)
     }
 }

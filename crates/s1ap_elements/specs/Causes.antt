@@ -18,7 +18,21 @@ use Rattle.s1ap_elements.specs.declared.cause.MiscCause.TheVariants as misc
 
 -- the names in their order
 abbrev pub radio_network_names : List RadioNetworkCause
-radio_network_names = radio.Unspecified ∷ radio.Tx2RelocOverallExpiry ∷ radio.SuccessfulHandover ∷ radio.ReleaseDueToEutranGeneratedReason ∷ radio.HandoverCancelled ∷ radio.PartialHandover ∷ radio.HandoverFailureInTarget ∷ radio.HandoverTargetNotAllowed ∷ radio.Ts1RelocOverallExpiry ∷ radio.Ts1RelocPrepExpiry ∷ radio.CellNotAvailable ∷ radio.UnknownTargetId ∷ radio.NoRadioResourcesInTargetCell ∷ radio.UnknownMmeUeS1apId ∷ radio.UnknownEnbUeS1apId ∷ radio.UnknownPairUeS1apId ∷ radio.HandoverDesirableForRadioReason ∷ radio.TimeCriticalHandover ∷ radio.ResourceOptimisationHandover ∷ radio.ReduceLoadInServingCell ∷ radio.UserInactivity ∷ radio.RadioConnectionWithUeLost ∷ radio.LoadBalancingTauRequired ∷ radio.CsFallbackTriggered ∷ radio.UeNotAvailableForPsService ∷ radio.RadioResourcesNotAvailable ∷ radio.FailureInRadioInterfaceProcedure ∷ radio.InvalidQosCombination ∷ radio.InterRatRedirection ∷ radio.InteractionWithOtherProcedure ∷ radio.UnknownErabId ∷ radio.MultipleErabIdInstances ∷ radio.AlgorithmsNotSupported ∷ radio.S1IntraSystemHandoverTriggered ∷ radio.S1InterSystemHandoverTriggered ∷ radio.X2HandoverTriggered ∷ []
+radio_network_names =
+    radio.Unspecified ∷ radio.Tx2RelocOverallExpiry ∷ radio.SuccessfulHandover ∷
+    radio.ReleaseDueToEutranGeneratedReason ∷ radio.HandoverCancelled ∷ radio.PartialHandover ∷
+    radio.HandoverFailureInTarget ∷ radio.HandoverTargetNotAllowed ∷ radio.Ts1RelocOverallExpiry ∷
+    radio.Ts1RelocPrepExpiry ∷ radio.CellNotAvailable ∷ radio.UnknownTargetId ∷
+    radio.NoRadioResourcesInTargetCell ∷ radio.UnknownMmeUeS1apId ∷ radio.UnknownEnbUeS1apId ∷
+    radio.UnknownPairUeS1apId ∷ radio.HandoverDesirableForRadioReason ∷ radio.TimeCriticalHandover ∷
+    radio.ResourceOptimisationHandover ∷ radio.ReduceLoadInServingCell ∷ radio.UserInactivity ∷
+    radio.RadioConnectionWithUeLost ∷ radio.LoadBalancingTauRequired ∷ radio.CsFallbackTriggered ∷
+    radio.UeNotAvailableForPsService ∷ radio.RadioResourcesNotAvailable ∷
+    radio.FailureInRadioInterfaceProcedure ∷ radio.InvalidQosCombination ∷
+    radio.InterRatRedirection ∷ radio.InteractionWithOtherProcedure ∷ radio.UnknownErabId ∷
+    radio.MultipleErabIdInstances ∷ radio.AlgorithmsNotSupported ∷
+    radio.S1IntraSystemHandoverTriggered ∷ radio.S1InterSystemHandoverTriggered ∷
+    radio.X2HandoverTriggered ∷ []
 
 abbrev pub typed_radio_network : RadioNetworkCause → ℕ ⊎ ℕ
 typed_radio_network radio.Unspecified = left_of 0
@@ -93,7 +107,10 @@ named_nas (inr n) = nas.Extended n
 
 -- the names in their order
 abbrev pub protocol_names : List ProtocolCause
-protocol_names = protocol.TransferSyntaxError ∷ protocol.AbstractSyntaxErrorReject ∷ protocol.AbstractSyntaxErrorIgnoreAndNotify ∷ protocol.MessageNotCompatible ∷ protocol.SemanticError ∷ protocol.FalselyConstructedMessage ∷ protocol.Unspecified ∷ []
+protocol_names =
+    protocol.TransferSyntaxError ∷ protocol.AbstractSyntaxErrorReject ∷
+    protocol.AbstractSyntaxErrorIgnoreAndNotify ∷ protocol.MessageNotCompatible ∷
+    protocol.SemanticError ∷ protocol.FalselyConstructedMessage ∷ protocol.Unspecified ∷ []
 
 abbrev pub typed_protocol : ProtocolCause → ℕ ⊎ ℕ
 typed_protocol protocol.TransferSyntaxError = left_of 0
@@ -111,7 +128,9 @@ named_protocol (inr n) = protocol.Extended n
 
 -- the names in their order
 abbrev pub misc_names : List MiscCause
-misc_names = misc.ControlProcessingOverload ∷ misc.NotEnoughUserPlaneResources ∷ misc.HardwareFailure ∷ misc.OmIntervention ∷ misc.Unspecified ∷ misc.UnknownPlmn ∷ []
+misc_names =
+    misc.ControlProcessingOverload ∷ misc.NotEnoughUserPlaneResources ∷ misc.HardwareFailure ∷
+    misc.OmIntervention ∷ misc.Unspecified ∷ misc.UnknownPlmn ∷ []
 
 abbrev pub typed_misc : MiscCause → ℕ ⊎ ℕ
 typed_misc misc.ControlProcessingOverload = left_of 0

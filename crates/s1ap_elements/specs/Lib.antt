@@ -4,3 +4,9 @@ pub mod Causes
 pub mod Stations
 pub mod Phones
 pub mod Bearers
+pub mod BearerLaws
+pub mod CauseLaws
+pub mod ListLaws
+pub mod NameLaws
+pub mod PhoneLaws
+pub mod StationLaws

@@ -1,9 +1,10 @@
 //! What is told of radio access bearers, read and written.
 
 ghost use Rattle.std.specs.Prelude.{◌≡◌, option_map};
-ghost use Rattle.per_bits.specs.Bits.{Gives, bits};
+ghost use Rattle.bit_streams.specs.Bits.{Gives, bits};
 ghost use Rattle.per_bits.specs.Formats.{octet_string};
-ghost use Rattle.per_bits.specs.Reading.{read_at, times, skipped_at, optional_at};
+ghost use Rattle.per_bits.specs.Reading.{read_at, skipped_at, optional_at};
+ghost use Rattle.bit_streams.specs.Each.{times};
 ghost use Rattle.per_bits.specs.Writing.{write_at, write_optional, Wrote};
 ghost use Rattle.s1ap_elements.specs.Formats.{ambr, arp, gbr, qos, erab_to_be_setup, erab_tunnel};
 ghost use Rattle.s1ap_elements.specs.Bearers.{typed_ambr, typed_arp, typed_gbr, typed_qos, erab_to_be_setup_lists, typed_erab_to_be_setup, typed_erab_tunnel};
@@ -21,18 +22,12 @@ impl<'a> Element<'a> for Ambr {
 
     ghost view = { typed_ambr };
 
-    #[tactic(auto, unfolding(per_bits::specs::Reading::times))]
+    #[tactic(auto, unfolding(bit_streams::specs::Each::times))]
     fn read(_alloc: Global, reader: &mut BitReader<'a>) -> Result<Self, PerError> {
-        let extended = reader.take_bit()?;
-        let more = reader.take_bit()?;
-        let down = BitRate::read(reader)?;
-        let up = BitRate::read(reader)?;
-        skip_extensions(more, reader)?;
-        skip_additions(extended, reader)?;
-        Ok(Ambr { down, up })
+        read_sequence!(reader => Ambr { down: BitRate::read(reader)?, up: BitRate::read(reader)? })
     }
 
-    #[tactic(auto, unfolding(per_bits::specs::Bits::bits))]
+    #[tactic(auto, unfolding(bit_streams::specs::Bits::bits))]
     fn write(&self, alloc: Global, writer: &mut BitWriter) -> Result<(), PerError> {
         writer.put_bits(2, 0)?;
         self.down.write(alloc, writer)?;
@@ -45,23 +40,16 @@ impl<'a> Element<'a> for Arp {
 
     ghost view = { typed_arp };
 
-    #[tactic(auto, unfolding(per_bits::specs::Reading::times))]
+    #[tactic(auto, unfolding(bit_streams::specs::Each::times))]
     fn read(_alloc: Global, reader: &mut BitReader<'a>) -> Result<Self, PerError> {
-        let extended = reader.take_bit()?;
-        let more = reader.take_bit()?;
-        let priority = Whole::<0, 15>::read(reader)?;
-        let capability = Whole::<0, 1>::read(reader)?;
-        let vulnerability = Whole::<0, 1>::read(reader)?;
-        skip_extensions(more, reader)?;
-        skip_additions(extended, reader)?;
-        Ok(Arp {
-            priority,
-            capability,
-            vulnerability,
+        read_sequence!(reader => Arp {
+            priority: Whole::<0, 15>::read(reader)?,
+            capability: Whole::<0, 1>::read(reader)?,
+            vulnerability: Whole::<0, 1>::read(reader)?,
         })
     }
 
-    #[tactic(auto, unfolding(per_bits::specs::Bits::bits))]
+    #[tactic(auto, unfolding(bit_streams::specs::Bits::bits))]
     fn write(&self, alloc: Global, writer: &mut BitWriter) -> Result<(), PerError> {
         writer.put_bits(2, 0)?;
         self.priority.write(alloc, writer)?;
@@ -75,25 +63,17 @@ impl<'a> Element<'a> for Gbr {
 
     ghost view = { typed_gbr };
 
-    #[tactic(auto, unfolding(per_bits::specs::Reading::times))]
+    #[tactic(auto, unfolding(bit_streams::specs::Each::times))]
     fn read(_alloc: Global, reader: &mut BitReader<'a>) -> Result<Self, PerError> {
-        let extended = reader.take_bit()?;
-        let more = reader.take_bit()?;
-        let maximum_down = BitRate::read(reader)?;
-        let maximum_up = BitRate::read(reader)?;
-        let down = BitRate::read(reader)?;
-        let up = BitRate::read(reader)?;
-        skip_extensions(more, reader)?;
-        skip_additions(extended, reader)?;
-        Ok(Gbr {
-            maximum_down,
-            maximum_up,
-            down,
-            up,
+        read_sequence!(reader => Gbr {
+            maximum_down: BitRate::read(reader)?,
+            maximum_up: BitRate::read(reader)?,
+            down: BitRate::read(reader)?,
+            up: BitRate::read(reader)?,
         })
     }
 
-    #[tactic(auto, unfolding(per_bits::specs::Bits::bits))]
+    #[tactic(auto, unfolding(bit_streams::specs::Bits::bits))]
     fn write(&self, alloc: Global, writer: &mut BitWriter) -> Result<(), PerError> {
         writer.put_bits(2, 0)?;
         self.maximum_down.write(alloc, writer)?;
@@ -120,7 +100,7 @@ impl<'a> Element<'a> for Qos {
 
     ghost view = { typed_qos };
 
-    #[tactic(auto, unfolding(per_bits::specs::Reading::times))]
+    #[tactic(auto, unfolding(bit_streams::specs::Each::times))]
     fn read(alloc: Global, reader: &mut BitReader<'a>) -> Result<Self, PerError> {
         let extended = reader.take_bit()?;
         let assured = reader.take_bit()?;
@@ -133,7 +113,7 @@ impl<'a> Element<'a> for Qos {
         Ok(Qos { qci, arp })
     }
 
-    #[tactic(auto, unfolding(per_bits::specs::Bits::bits))]
+    #[tactic(auto, unfolding(bit_streams::specs::Bits::bits))]
     fn write(&self, alloc: Global, writer: &mut BitWriter) -> Result<(), PerError> {
         writer.put_bits(3, 0)?;
         self.qci.write(alloc, writer)?;
@@ -162,7 +142,7 @@ impl<'a> Element<'a> for ErabToBeSetup<'a, &'a [u8]> {
 
     ghost view = { λ e. typed_erab_to_be_setup (erab_to_be_setup_lists e) };
 
-    #[tactic(auto, unfolding(per_bits::specs::Reading::times))]
+    #[tactic(auto, unfolding(bit_streams::specs::Each::times))]
     fn read(alloc: Global, reader: &mut BitReader<'a>) -> Result<Self, PerError> {
         let extended = reader.take_bit()?;
         let nas = reader.take_bit()?;
@@ -183,7 +163,7 @@ impl<'a> Element<'a> for ErabToBeSetup<'a, &'a [u8]> {
         })
     }
 
-    #[tactic(auto, unfolding(per_bits::specs::Bits::bits))]
+    #[tactic(auto, unfolding(bit_streams::specs::Bits::bits))]
     fn write(&self, alloc: Global, writer: &mut BitWriter) -> Result<(), PerError> {
         writer.put_bit(false)?;
         writer.put_bit(self.nas.is_some())?;
@@ -206,19 +186,16 @@ impl<'a> Element<'a> for ErabTunnel<'a> {
 
     ghost view = { typed_erab_tunnel };
 
-    #[tactic(auto, unfolding(per_bits::specs::Reading::times))]
+    #[tactic(auto, unfolding(bit_streams::specs::Each::times))]
     fn read(alloc: Global, reader: &mut BitReader<'a>) -> Result<Self, PerError> {
-        let extended = reader.take_bit()?;
-        let more = reader.take_bit()?;
-        let id = Closed::<ErabId>::read(alloc, reader)?.value;
-        let address = Closed::<Address>::read(alloc, reader)?.value;
-        let teid = Teid::read(alloc, reader)?;
-        skip_extensions(more, reader)?;
-        skip_additions(extended, reader)?;
-        Ok(ErabTunnel { id, address, teid })
+        read_sequence!(reader => ErabTunnel {
+            id: Closed::<ErabId>::read(alloc, reader)?.value,
+            address: Closed::<Address>::read(alloc, reader)?.value,
+            teid: Teid::read(alloc, reader)?,
+        })
     }
 
-    #[tactic(auto, unfolding(per_bits::specs::Bits::bits))]
+    #[tactic(auto, unfolding(bit_streams::specs::Bits::bits))]
     fn write(&self, alloc: Global, writer: &mut BitWriter) -> Result<(), PerError> {
         writer.put_bits(2, 0)?;
         writer.put_bit(false)?;

@@ -1,7 +1,7 @@
 //! Causes read and written.
 
 ghost use Rattle.std.specs.Prelude.{◌≡◌};
-ghost use Rattle.per_bits.specs.Bits.{Gives};
+ghost use Rattle.bit_streams.specs.Bits.{Gives};
 ghost use Rattle.per_bits.specs.Reading.{read_at};
 ghost use Rattle.per_bits.specs.Formats.{enumerated};
 ghost use Rattle.per_bits.specs.Writing.{write_at, Wrote};
@@ -17,94 +17,92 @@ use per_bits::{
 };
 use std::alloc::Global;
 
+// A cause by its name; the last number of a group is what no other is.
+macro_rules! cause_of {
+    ($name:expr, $group:ident: $($number:literal $cause:ident,)* last $last_number:literal $last:ident) => {
+        match $name {
+            Enumerated::Extended(number) => $group::Extended(number),
+            $(Enumerated::Root($number) => $group::$cause,)*
+            Enumerated::Root(_) => $group::$last,
+        }
+    };
+}
+
+// The name of a cause.
+macro_rules! name_of {
+    ($value:expr, $group:ident: $($number:literal $cause:ident,)* last $last_number:literal $last:ident) => {
+        match $value {
+            $($group::$cause => Enumerated::Root($number),)*
+            $group::$last => Enumerated::Root($last_number),
+            $group::Extended(number) => Enumerated::Extended(number),
+        }
+    };
+}
+
+// ---- each group's numbers (TS 36.413 clause 9.3.4), as one of the two macros takes them
+
+macro_rules! radio_network_causes {
+    ($table:ident, $value:expr) => {
+        $table!($value, RadioNetworkCause:
+            0 Unspecified, 1 Tx2RelocOverallExpiry, 2 SuccessfulHandover,
+            3 ReleaseDueToEutranGeneratedReason, 4 HandoverCancelled, 5 PartialHandover,
+            6 HandoverFailureInTarget, 7 HandoverTargetNotAllowed, 8 Ts1RelocOverallExpiry,
+            9 Ts1RelocPrepExpiry, 10 CellNotAvailable, 11 UnknownTargetId,
+            12 NoRadioResourcesInTargetCell, 13 UnknownMmeUeS1apId, 14 UnknownEnbUeS1apId,
+            15 UnknownPairUeS1apId, 16 HandoverDesirableForRadioReason, 17 TimeCriticalHandover,
+            18 ResourceOptimisationHandover, 19 ReduceLoadInServingCell, 20 UserInactivity,
+            21 RadioConnectionWithUeLost, 22 LoadBalancingTauRequired, 23 CsFallbackTriggered,
+            24 UeNotAvailableForPsService, 25 RadioResourcesNotAvailable,
+            26 FailureInRadioInterfaceProcedure, 27 InvalidQosCombination, 28 InterRatRedirection,
+            29 InteractionWithOtherProcedure, 30 UnknownErabId, 31 MultipleErabIdInstances,
+            32 AlgorithmsNotSupported, 33 S1IntraSystemHandoverTriggered,
+            34 S1InterSystemHandoverTriggered, last 35 X2HandoverTriggered)
+    };
+}
+
+macro_rules! transport_causes {
+    ($table:ident, $value:expr) => {
+        $table!($value, TransportCause:
+            0 TransportResourceUnavailable, last 1 Unspecified)
+    };
+}
+
+macro_rules! nas_causes {
+    ($table:ident, $value:expr) => {
+        $table!($value, NasCause:
+            0 NormalRelease, 1 AuthenticationFailure, 2 Detach, last 3 Unspecified)
+    };
+}
+
+macro_rules! protocol_causes {
+    ($table:ident, $value:expr) => {
+        $table!($value, ProtocolCause:
+            0 TransferSyntaxError, 1 AbstractSyntaxErrorReject,
+            2 AbstractSyntaxErrorIgnoreAndNotify, 3 MessageNotCompatible, 4 SemanticError,
+            5 FalselyConstructedMessage, last 6 Unspecified)
+    };
+}
+
+macro_rules! misc_causes {
+    ($table:ident, $value:expr) => {
+        $table!($value, MiscCause:
+            0 ControlProcessingOverload, 1 NotEnoughUserPlaneResources, 2 HardwareFailure,
+            3 OmIntervention, 4 Unspecified, last 5 UnknownPlmn)
+    };
+}
+
 /// The cause of a number of the group's names.
 fn radio_network_of(name: Enumerated<35>) -> RadioNetworkCause
     requires { IsName name }
     ensures { typed_radio_network result ≡ view_of_name name }
 {
-    match name {
-        Enumerated::Extended(number) => RadioNetworkCause::Extended(number),
-        Enumerated::Root(0) => RadioNetworkCause::Unspecified,
-        Enumerated::Root(1) => RadioNetworkCause::Tx2RelocOverallExpiry,
-        Enumerated::Root(2) => RadioNetworkCause::SuccessfulHandover,
-        Enumerated::Root(3) => RadioNetworkCause::ReleaseDueToEutranGeneratedReason,
-        Enumerated::Root(4) => RadioNetworkCause::HandoverCancelled,
-        Enumerated::Root(5) => RadioNetworkCause::PartialHandover,
-        Enumerated::Root(6) => RadioNetworkCause::HandoverFailureInTarget,
-        Enumerated::Root(7) => RadioNetworkCause::HandoverTargetNotAllowed,
-        Enumerated::Root(8) => RadioNetworkCause::Ts1RelocOverallExpiry,
-        Enumerated::Root(9) => RadioNetworkCause::Ts1RelocPrepExpiry,
-        Enumerated::Root(10) => RadioNetworkCause::CellNotAvailable,
-        Enumerated::Root(11) => RadioNetworkCause::UnknownTargetId,
-        Enumerated::Root(12) => RadioNetworkCause::NoRadioResourcesInTargetCell,
-        Enumerated::Root(13) => RadioNetworkCause::UnknownMmeUeS1apId,
-        Enumerated::Root(14) => RadioNetworkCause::UnknownEnbUeS1apId,
-        Enumerated::Root(15) => RadioNetworkCause::UnknownPairUeS1apId,
-        Enumerated::Root(16) => RadioNetworkCause::HandoverDesirableForRadioReason,
-        Enumerated::Root(17) => RadioNetworkCause::TimeCriticalHandover,
-        Enumerated::Root(18) => RadioNetworkCause::ResourceOptimisationHandover,
-        Enumerated::Root(19) => RadioNetworkCause::ReduceLoadInServingCell,
-        Enumerated::Root(20) => RadioNetworkCause::UserInactivity,
-        Enumerated::Root(21) => RadioNetworkCause::RadioConnectionWithUeLost,
-        Enumerated::Root(22) => RadioNetworkCause::LoadBalancingTauRequired,
-        Enumerated::Root(23) => RadioNetworkCause::CsFallbackTriggered,
-        Enumerated::Root(24) => RadioNetworkCause::UeNotAvailableForPsService,
-        Enumerated::Root(25) => RadioNetworkCause::RadioResourcesNotAvailable,
-        Enumerated::Root(26) => RadioNetworkCause::FailureInRadioInterfaceProcedure,
-        Enumerated::Root(27) => RadioNetworkCause::InvalidQosCombination,
-        Enumerated::Root(28) => RadioNetworkCause::InterRatRedirection,
-        Enumerated::Root(29) => RadioNetworkCause::InteractionWithOtherProcedure,
-        Enumerated::Root(30) => RadioNetworkCause::UnknownErabId,
-        Enumerated::Root(31) => RadioNetworkCause::MultipleErabIdInstances,
-        Enumerated::Root(32) => RadioNetworkCause::AlgorithmsNotSupported,
-        Enumerated::Root(33) => RadioNetworkCause::S1IntraSystemHandoverTriggered,
-        Enumerated::Root(34) => RadioNetworkCause::S1InterSystemHandoverTriggered,
-        Enumerated::Root(_) => RadioNetworkCause::X2HandoverTriggered,
-    }
+    radio_network_causes!(cause_of, name)
 }
 
 fn name_of_radio_network(cause: RadioNetworkCause) -> Enumerated<35>
     ensures { view_of_name result ≡ typed_radio_network cause }
 {
-    match cause {
-        RadioNetworkCause::Unspecified => Enumerated::Root(0),
-        RadioNetworkCause::Tx2RelocOverallExpiry => Enumerated::Root(1),
-        RadioNetworkCause::SuccessfulHandover => Enumerated::Root(2),
-        RadioNetworkCause::ReleaseDueToEutranGeneratedReason => Enumerated::Root(3),
-        RadioNetworkCause::HandoverCancelled => Enumerated::Root(4),
-        RadioNetworkCause::PartialHandover => Enumerated::Root(5),
-        RadioNetworkCause::HandoverFailureInTarget => Enumerated::Root(6),
-        RadioNetworkCause::HandoverTargetNotAllowed => Enumerated::Root(7),
-        RadioNetworkCause::Ts1RelocOverallExpiry => Enumerated::Root(8),
-        RadioNetworkCause::Ts1RelocPrepExpiry => Enumerated::Root(9),
-        RadioNetworkCause::CellNotAvailable => Enumerated::Root(10),
-        RadioNetworkCause::UnknownTargetId => Enumerated::Root(11),
-        RadioNetworkCause::NoRadioResourcesInTargetCell => Enumerated::Root(12),
-        RadioNetworkCause::UnknownMmeUeS1apId => Enumerated::Root(13),
-        RadioNetworkCause::UnknownEnbUeS1apId => Enumerated::Root(14),
-        RadioNetworkCause::UnknownPairUeS1apId => Enumerated::Root(15),
-        RadioNetworkCause::HandoverDesirableForRadioReason => Enumerated::Root(16),
-        RadioNetworkCause::TimeCriticalHandover => Enumerated::Root(17),
-        RadioNetworkCause::ResourceOptimisationHandover => Enumerated::Root(18),
-        RadioNetworkCause::ReduceLoadInServingCell => Enumerated::Root(19),
-        RadioNetworkCause::UserInactivity => Enumerated::Root(20),
-        RadioNetworkCause::RadioConnectionWithUeLost => Enumerated::Root(21),
-        RadioNetworkCause::LoadBalancingTauRequired => Enumerated::Root(22),
-        RadioNetworkCause::CsFallbackTriggered => Enumerated::Root(23),
-        RadioNetworkCause::UeNotAvailableForPsService => Enumerated::Root(24),
-        RadioNetworkCause::RadioResourcesNotAvailable => Enumerated::Root(25),
-        RadioNetworkCause::FailureInRadioInterfaceProcedure => Enumerated::Root(26),
-        RadioNetworkCause::InvalidQosCombination => Enumerated::Root(27),
-        RadioNetworkCause::InterRatRedirection => Enumerated::Root(28),
-        RadioNetworkCause::InteractionWithOtherProcedure => Enumerated::Root(29),
-        RadioNetworkCause::UnknownErabId => Enumerated::Root(30),
-        RadioNetworkCause::MultipleErabIdInstances => Enumerated::Root(31),
-        RadioNetworkCause::AlgorithmsNotSupported => Enumerated::Root(32),
-        RadioNetworkCause::S1IntraSystemHandoverTriggered => Enumerated::Root(33),
-        RadioNetworkCause::S1InterSystemHandoverTriggered => Enumerated::Root(34),
-        RadioNetworkCause::X2HandoverTriggered => Enumerated::Root(35),
-        RadioNetworkCause::Extended(number) => Enumerated::Extended(number),
-    }
+    radio_network_causes!(name_of, cause)
 }
 
 impl<'a> Element<'a> for RadioNetworkCause {
@@ -127,21 +125,13 @@ fn transport_of(name: Enumerated<1>) -> TransportCause
     requires { IsName name }
     ensures { typed_transport result ≡ view_of_name name }
 {
-    match name {
-        Enumerated::Extended(number) => TransportCause::Extended(number),
-        Enumerated::Root(0) => TransportCause::TransportResourceUnavailable,
-        Enumerated::Root(_) => TransportCause::Unspecified,
-    }
+    transport_causes!(cause_of, name)
 }
 
 fn name_of_transport(cause: TransportCause) -> Enumerated<1>
     ensures { view_of_name result ≡ typed_transport cause }
 {
-    match cause {
-        TransportCause::TransportResourceUnavailable => Enumerated::Root(0),
-        TransportCause::Unspecified => Enumerated::Root(1),
-        TransportCause::Extended(number) => Enumerated::Extended(number),
-    }
+    transport_causes!(name_of, cause)
 }
 
 impl<'a> Element<'a> for TransportCause {
@@ -164,25 +154,13 @@ fn nas_of(name: Enumerated<3>) -> NasCause
     requires { IsName name }
     ensures { typed_nas result ≡ view_of_name name }
 {
-    match name {
-        Enumerated::Extended(number) => NasCause::Extended(number),
-        Enumerated::Root(0) => NasCause::NormalRelease,
-        Enumerated::Root(1) => NasCause::AuthenticationFailure,
-        Enumerated::Root(2) => NasCause::Detach,
-        Enumerated::Root(_) => NasCause::Unspecified,
-    }
+    nas_causes!(cause_of, name)
 }
 
 fn name_of_nas(cause: NasCause) -> Enumerated<3>
     ensures { view_of_name result ≡ typed_nas cause }
 {
-    match cause {
-        NasCause::NormalRelease => Enumerated::Root(0),
-        NasCause::AuthenticationFailure => Enumerated::Root(1),
-        NasCause::Detach => Enumerated::Root(2),
-        NasCause::Unspecified => Enumerated::Root(3),
-        NasCause::Extended(number) => Enumerated::Extended(number),
-    }
+    nas_causes!(name_of, cause)
 }
 
 impl<'a> Element<'a> for NasCause {
@@ -205,31 +183,13 @@ fn protocol_of(name: Enumerated<6>) -> ProtocolCause
     requires { IsName name }
     ensures { typed_protocol result ≡ view_of_name name }
 {
-    match name {
-        Enumerated::Extended(number) => ProtocolCause::Extended(number),
-        Enumerated::Root(0) => ProtocolCause::TransferSyntaxError,
-        Enumerated::Root(1) => ProtocolCause::AbstractSyntaxErrorReject,
-        Enumerated::Root(2) => ProtocolCause::AbstractSyntaxErrorIgnoreAndNotify,
-        Enumerated::Root(3) => ProtocolCause::MessageNotCompatible,
-        Enumerated::Root(4) => ProtocolCause::SemanticError,
-        Enumerated::Root(5) => ProtocolCause::FalselyConstructedMessage,
-        Enumerated::Root(_) => ProtocolCause::Unspecified,
-    }
+    protocol_causes!(cause_of, name)
 }
 
 fn name_of_protocol(cause: ProtocolCause) -> Enumerated<6>
     ensures { view_of_name result ≡ typed_protocol cause }
 {
-    match cause {
-        ProtocolCause::TransferSyntaxError => Enumerated::Root(0),
-        ProtocolCause::AbstractSyntaxErrorReject => Enumerated::Root(1),
-        ProtocolCause::AbstractSyntaxErrorIgnoreAndNotify => Enumerated::Root(2),
-        ProtocolCause::MessageNotCompatible => Enumerated::Root(3),
-        ProtocolCause::SemanticError => Enumerated::Root(4),
-        ProtocolCause::FalselyConstructedMessage => Enumerated::Root(5),
-        ProtocolCause::Unspecified => Enumerated::Root(6),
-        ProtocolCause::Extended(number) => Enumerated::Extended(number),
-    }
+    protocol_causes!(name_of, cause)
 }
 
 impl<'a> Element<'a> for ProtocolCause {
@@ -252,29 +212,13 @@ fn misc_of(name: Enumerated<5>) -> MiscCause
     requires { IsName name }
     ensures { typed_misc result ≡ view_of_name name }
 {
-    match name {
-        Enumerated::Extended(number) => MiscCause::Extended(number),
-        Enumerated::Root(0) => MiscCause::ControlProcessingOverload,
-        Enumerated::Root(1) => MiscCause::NotEnoughUserPlaneResources,
-        Enumerated::Root(2) => MiscCause::HardwareFailure,
-        Enumerated::Root(3) => MiscCause::OmIntervention,
-        Enumerated::Root(4) => MiscCause::Unspecified,
-        Enumerated::Root(_) => MiscCause::UnknownPlmn,
-    }
+    misc_causes!(cause_of, name)
 }
 
 fn name_of_misc(cause: MiscCause) -> Enumerated<5>
     ensures { view_of_name result ≡ typed_misc cause }
 {
-    match cause {
-        MiscCause::ControlProcessingOverload => Enumerated::Root(0),
-        MiscCause::NotEnoughUserPlaneResources => Enumerated::Root(1),
-        MiscCause::HardwareFailure => Enumerated::Root(2),
-        MiscCause::OmIntervention => Enumerated::Root(3),
-        MiscCause::Unspecified => Enumerated::Root(4),
-        MiscCause::UnknownPlmn => Enumerated::Root(5),
-        MiscCause::Extended(number) => Enumerated::Extended(number),
-    }
+    misc_causes!(name_of, cause)
 }
 
 impl<'a> Element<'a> for MiscCause {
@@ -310,26 +254,11 @@ impl<'a> Element<'a> for Cause {
 
     fn write(&self, alloc: Global, writer: &mut BitWriter) -> Result<(), PerError> {
         match self {
-            Cause::RadioNetwork(cause) => {
-                put_choice(4, 0, writer)?;
-                cause.write(alloc, writer)
-            }
-            Cause::Transport(cause) => {
-                put_choice(4, 1, writer)?;
-                cause.write(alloc, writer)
-            }
-            Cause::Nas(cause) => {
-                put_choice(4, 2, writer)?;
-                cause.write(alloc, writer)
-            }
-            Cause::Protocol(cause) => {
-                put_choice(4, 3, writer)?;
-                cause.write(alloc, writer)
-            }
-            Cause::Misc(cause) => {
-                put_choice(4, 4, writer)?;
-                cause.write(alloc, writer)
-            }
+            Cause::RadioNetwork(cause) => write_choice!(4, 0, cause, alloc, writer),
+            Cause::Transport(cause) => write_choice!(4, 1, cause, alloc, writer),
+            Cause::Nas(cause) => write_choice!(4, 2, cause, alloc, writer),
+            Cause::Protocol(cause) => write_choice!(4, 3, cause, alloc, writer),
+            Cause::Misc(cause) => write_choice!(4, 4, cause, alloc, writer),
         }
     }
 }

@@ -1,6 +1,26 @@
 //! The elements of S1AP messages (TS 36.413 clause 9.2): values, and their spellings in aligned PER.
 #![tactic(auto)]
 
+// A SEQUENCE: its two presence bits, its parts in their order, then what later releases added, which is not kept.
+macro_rules! read_sequence {
+    ($reader:ident => $name:ident { $($part:ident: $value:expr),* $(,)? }) => {{
+        let extended = $reader.take_bit()?;
+        let more = $reader.take_bit()?;
+        $(let $part = $value;)*
+        skip_extensions(more, $reader)?;
+        skip_additions(extended, $reader)?;
+        Ok($name { $($part),* })
+    }};
+}
+
+// An alternative of a CHOICE: its index, and its value.
+macro_rules! write_choice {
+    ($last:literal, $index:literal, $value:expr, $alloc:ident, $writer:ident) => {{
+        put_choice($last, $index, $writer)?;
+        $value.write($alloc, $writer)
+    }};
+}
+
 mod bearer;
 mod bearer_element;
 mod cause;

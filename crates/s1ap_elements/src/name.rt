@@ -1,7 +1,7 @@
 //! Names by their numbers.
 
 ghost use Rattle.std.specs.Prelude.{◌≡◌, IfOk, ◌≤◌};
-ghost use Rattle.per_bits.specs.Bits.{Answers};
+ghost use Rattle.bit_streams.specs.Bits.{Answers};
 ghost use Rattle.per_bits.specs.Reading.{enumerated_at, number_at};
 ghost use Rattle.per_bits.specs.Names.{view_of_name};
 ghost use Rattle.s1ap_elements.specs.Names.{IsName};

@@ -1,8 +1,9 @@
 //! What tells phones apart, and what is told of them, read and written.
 
 ghost use Rattle.std.specs.Prelude.{◌≡◌};
-ghost use Rattle.per_bits.specs.Bits.{Gives, bits};
-ghost use Rattle.per_bits.specs.Reading.{read_at, times};
+ghost use Rattle.bit_streams.specs.Bits.{Gives, bits};
+ghost use Rattle.per_bits.specs.Reading.{read_at};
+ghost use Rattle.bit_streams.specs.Each.{times};
 ghost use Rattle.per_bits.specs.Writing.{write_at, Wrote};
 ghost use Rattle.per_bits.specs.Names.{view_of_name};
 ghost use Rattle.s1ap_elements.specs.Names.{IsName};
@@ -26,18 +27,15 @@ impl<'a> Element<'a> for Tai {
 
     ghost view = { typed_tai };
 
-    #[tactic(auto, unfolding(per_bits::specs::Reading::times))]
+    #[tactic(auto, unfolding(bit_streams::specs::Each::times))]
     fn read(alloc: Global, reader: &mut BitReader<'a>) -> Result<Self, PerError> {
-        let extended = reader.take_bit()?;
-        let more = reader.take_bit()?;
-        let plmn = Plmn::read(alloc, reader)?;
-        let tac = Tac::read(alloc, reader)?;
-        skip_extensions(more, reader)?;
-        skip_additions(extended, reader)?;
-        Ok(Tai { plmn, tac })
+        read_sequence!(reader => Tai {
+            plmn: Plmn::read(alloc, reader)?,
+            tac: Tac::read(alloc, reader)?,
+        })
     }
 
-    #[tactic(auto, unfolding(per_bits::specs::Bits::bits))]
+    #[tactic(auto, unfolding(bit_streams::specs::Bits::bits))]
     fn write(&self, alloc: Global, writer: &mut BitWriter) -> Result<(), PerError> {
         writer.put_bits(2, 0)?;
         self.plmn.write(alloc, writer)?;
@@ -50,17 +48,12 @@ impl<'a> Element<'a> for TaiItem {
 
     ghost view = { typed_tai_item };
 
-    #[tactic(auto, unfolding(per_bits::specs::Reading::times))]
+    #[tactic(auto, unfolding(bit_streams::specs::Each::times))]
     fn read(alloc: Global, reader: &mut BitReader<'a>) -> Result<Self, PerError> {
-        let extended = reader.take_bit()?;
-        let more = reader.take_bit()?;
-        let tai = Tai::read(alloc, reader)?;
-        skip_extensions(more, reader)?;
-        skip_additions(extended, reader)?;
-        Ok(TaiItem { tai })
+        read_sequence!(reader => TaiItem { tai: Tai::read(alloc, reader)? })
     }
 
-    #[tactic(auto, unfolding(per_bits::specs::Bits::bits))]
+    #[tactic(auto, unfolding(bit_streams::specs::Bits::bits))]
     fn write(&self, alloc: Global, writer: &mut BitWriter) -> Result<(), PerError> {
         writer.put_bits(2, 0)?;
         self.tai.write(alloc, writer)
@@ -72,18 +65,15 @@ impl<'a> Element<'a> for EutranCgi {
 
     ghost view = { typed_eutran_cgi };
 
-    #[tactic(auto, unfolding(per_bits::specs::Reading::times))]
+    #[tactic(auto, unfolding(bit_streams::specs::Each::times))]
     fn read(alloc: Global, reader: &mut BitReader<'a>) -> Result<Self, PerError> {
-        let extended = reader.take_bit()?;
-        let more = reader.take_bit()?;
-        let plmn = Plmn::read(alloc, reader)?;
-        let cell = CellId::read(alloc, reader)?;
-        skip_extensions(more, reader)?;
-        skip_additions(extended, reader)?;
-        Ok(EutranCgi { plmn, cell })
+        read_sequence!(reader => EutranCgi {
+            plmn: Plmn::read(alloc, reader)?,
+            cell: CellId::read(alloc, reader)?,
+        })
     }
 
-    #[tactic(auto, unfolding(per_bits::specs::Bits::bits))]
+    #[tactic(auto, unfolding(bit_streams::specs::Bits::bits))]
     fn write(&self, alloc: Global, writer: &mut BitWriter) -> Result<(), PerError> {
         writer.put_bits(2, 0)?;
         self.plmn.write(alloc, writer)?;
@@ -96,18 +86,15 @@ impl<'a> Element<'a> for STmsi {
 
     ghost view = { typed_s_tmsi };
 
-    #[tactic(auto, unfolding(per_bits::specs::Reading::times))]
+    #[tactic(auto, unfolding(bit_streams::specs::Each::times))]
     fn read(alloc: Global, reader: &mut BitReader<'a>) -> Result<Self, PerError> {
-        let extended = reader.take_bit()?;
-        let more = reader.take_bit()?;
-        let code = MmeCode::read(alloc, reader)?;
-        let m_tmsi = MTmsi::read(alloc, reader)?;
-        skip_extensions(more, reader)?;
-        skip_additions(extended, reader)?;
-        Ok(STmsi { code, m_tmsi })
+        read_sequence!(reader => STmsi {
+            code: MmeCode::read(alloc, reader)?,
+            m_tmsi: MTmsi::read(alloc, reader)?,
+        })
     }
 
-    #[tactic(auto, unfolding(per_bits::specs::Bits::bits))]
+    #[tactic(auto, unfolding(bit_streams::specs::Bits::bits))]
     fn write(&self, alloc: Global, writer: &mut BitWriter) -> Result<(), PerError> {
         writer.put_bits(2, 0)?;
         self.code.write(alloc, writer)?;
@@ -120,18 +107,15 @@ impl<'a> Element<'a> for UeIdPair {
 
     ghost view = { typed_ue_id_pair };
 
-    #[tactic(auto, unfolding(per_bits::specs::Reading::times))]
+    #[tactic(auto, unfolding(bit_streams::specs::Each::times))]
     fn read(alloc: Global, reader: &mut BitReader<'a>) -> Result<Self, PerError> {
-        let extended = reader.take_bit()?;
-        let more = reader.take_bit()?;
-        let mme_id = MmeUeId::read(reader)?;
-        let enb_id = EnbUeId::read(reader)?;
-        skip_extensions(more, reader)?;
-        skip_additions(extended, reader)?;
-        Ok(UeIdPair { mme_id, enb_id })
+        read_sequence!(reader => UeIdPair {
+            mme_id: MmeUeId::read(reader)?,
+            enb_id: EnbUeId::read(reader)?,
+        })
     }
 
-    #[tactic(auto, unfolding(per_bits::specs::Bits::bits))]
+    #[tactic(auto, unfolding(bit_streams::specs::Bits::bits))]
     fn write(&self, alloc: Global, writer: &mut BitWriter) -> Result<(), PerError> {
         writer.put_bits(2, 0)?;
         self.mme_id.write(alloc, writer)?;
@@ -144,21 +128,15 @@ impl<'a> Element<'a> for SecurityCapabilities {
 
     ghost view = { typed_security_capabilities };
 
-    #[tactic(auto, unfolding(per_bits::specs::Reading::times))]
+    #[tactic(auto, unfolding(bit_streams::specs::Each::times))]
     fn read(alloc: Global, reader: &mut BitReader<'a>) -> Result<Self, PerError> {
-        let extended = reader.take_bit()?;
-        let more = reader.take_bit()?;
-        let encryption = Closed::<BitField<16>>::read(alloc, reader)?.value;
-        let integrity = Closed::<BitField<16>>::read(alloc, reader)?.value;
-        skip_extensions(more, reader)?;
-        skip_additions(extended, reader)?;
-        Ok(SecurityCapabilities {
-            encryption,
-            integrity,
+        read_sequence!(reader => SecurityCapabilities {
+            encryption: Closed::<BitField<16>>::read(alloc, reader)?.value,
+            integrity: Closed::<BitField<16>>::read(alloc, reader)?.value,
         })
     }
 
-    #[tactic(auto, unfolding(per_bits::specs::Bits::bits))]
+    #[tactic(auto, unfolding(bit_streams::specs::Bits::bits))]
     fn write(&self, alloc: Global, writer: &mut BitWriter) -> Result<(), PerError> {
         writer.put_bits(2, 0)?;
         writer.put_bit(false)?;
@@ -173,21 +151,15 @@ impl<'a> Element<'a> for SecurityContext {
 
     ghost view = { typed_security_context };
 
-    #[tactic(auto, unfolding(per_bits::specs::Reading::times))]
+    #[tactic(auto, unfolding(bit_streams::specs::Each::times))]
     fn read(alloc: Global, reader: &mut BitReader<'a>) -> Result<Self, PerError> {
-        let extended = reader.take_bit()?;
-        let more = reader.take_bit()?;
-        let chaining_count = Whole::<0, 7>::read(reader)?;
-        let next_hop = SecurityKey::read(alloc, reader)?;
-        skip_extensions(more, reader)?;
-        skip_additions(extended, reader)?;
-        Ok(SecurityContext {
-            chaining_count,
-            next_hop,
+        read_sequence!(reader => SecurityContext {
+            chaining_count: Whole::<0, 7>::read(reader)?,
+            next_hop: SecurityKey::read(alloc, reader)?,
         })
     }
 
-    #[tactic(auto, unfolding(per_bits::specs::Bits::bits))]
+    #[tactic(auto, unfolding(bit_streams::specs::Bits::bits))]
     fn write(&self, alloc: Global, writer: &mut BitWriter) -> Result<(), PerError> {
         writer.put_bits(2, 0)?;
         self.chaining_count.write(alloc, writer)?;
@@ -213,14 +185,11 @@ impl<'a> Element<'a> for UePagingId<&'a [u8]> {
 
     fn write(&self, alloc: Global, writer: &mut BitWriter) -> Result<(), PerError> {
         match self {
-            UePagingId::STmsi(s_tmsi) => {
-                put_choice(1, 0, writer)?;
-                s_tmsi.write(alloc, writer)
-            }
+            UePagingId::STmsi(s_tmsi) => write_choice!(1, 0, s_tmsi, alloc, writer),
             UePagingId::Imsi(digits) => {
-                put_choice(1, 1, writer)?;
-                SizedString::<3, 8> { octets: digits }.write(alloc, writer)
-            }
+                let digits = SizedString::<3, 8> { octets: digits };
+                write_choice!(1, 1, digits, alloc, writer)
+            },
         }
     }
 }
@@ -240,14 +209,8 @@ impl<'a> Element<'a> for UeS1apIds {
 
     fn write(&self, alloc: Global, writer: &mut BitWriter) -> Result<(), PerError> {
         match self {
-            UeS1apIds::Pair(pair) => {
-                put_choice(1, 0, writer)?;
-                pair.write(alloc, writer)
-            }
-            UeS1apIds::MmeUeId(mme_id) => {
-                put_choice(1, 1, writer)?;
-                mme_id.write(alloc, writer)
-            }
+            UeS1apIds::Pair(pair) => write_choice!(1, 0, pair, alloc, writer),
+            UeS1apIds::MmeUeId(mme_id) => write_choice!(1, 1, mme_id, alloc, writer),
         }
     }
 }

@@ -1,8 +1,9 @@
 //! What stations and MMEs tell of themselves, read and written.
 
 ghost use Rattle.std.specs.Prelude.{◌≡◌};
-ghost use Rattle.per_bits.specs.Bits.{Gives, bits};
-ghost use Rattle.per_bits.specs.Reading.{read_at, times};
+ghost use Rattle.bit_streams.specs.Bits.{Gives, bits};
+ghost use Rattle.per_bits.specs.Reading.{read_at};
+ghost use Rattle.bit_streams.specs.Each.{times};
 ghost use Rattle.per_bits.specs.Writing.{write_at, Wrote};
 ghost use Rattle.per_bits.specs.Names.{view_of_name};
 ghost use Rattle.s1ap_elements.specs.Names.{IsName};
@@ -33,14 +34,8 @@ impl<'a> Element<'a> for EnbId {
 
     fn write(&self, alloc: Global, writer: &mut BitWriter) -> Result<(), PerError> {
         match self {
-            EnbId::Macro(number) => {
-                put_choice(1, 0, writer)?;
-                number.write(alloc, writer)
-            }
-            EnbId::Home(number) => {
-                put_choice(1, 1, writer)?;
-                number.write(alloc, writer)
-            }
+            EnbId::Macro(number) => write_choice!(1, 0, number, alloc, writer),
+            EnbId::Home(number) => write_choice!(1, 1, number, alloc, writer),
         }
     }
 }
@@ -50,18 +45,15 @@ impl<'a> Element<'a> for GlobalEnbId {
 
     ghost view = { typed_global_enb_id };
 
-    #[tactic(auto, unfolding(per_bits::specs::Reading::times))]
+    #[tactic(auto, unfolding(bit_streams::specs::Each::times))]
     fn read(alloc: Global, reader: &mut BitReader<'a>) -> Result<Self, PerError> {
-        let extended = reader.take_bit()?;
-        let more = reader.take_bit()?;
-        let plmn = Plmn::read(alloc, reader)?;
-        let id = EnbId::read(alloc, reader)?;
-        skip_extensions(more, reader)?;
-        skip_additions(extended, reader)?;
-        Ok(GlobalEnbId { plmn, id })
+        read_sequence!(reader => GlobalEnbId {
+            plmn: Plmn::read(alloc, reader)?,
+            id: EnbId::read(alloc, reader)?,
+        })
     }
 
-    #[tactic(auto, unfolding(per_bits::specs::Bits::bits))]
+    #[tactic(auto, unfolding(bit_streams::specs::Bits::bits))]
     fn write(&self, alloc: Global, writer: &mut BitWriter) -> Result<(), PerError> {
         writer.put_bits(2, 0)?;
         self.plmn.write(alloc, writer)?;
@@ -74,18 +66,15 @@ impl<'a> Element<'a> for SupportedTa {
 
     ghost view = { typed_supported_ta };
 
-    #[tactic(auto, unfolding(per_bits::specs::Reading::times))]
+    #[tactic(auto, unfolding(bit_streams::specs::Each::times))]
     fn read(alloc: Global, reader: &mut BitReader<'a>) -> Result<Self, PerError> {
-        let extended = reader.take_bit()?;
-        let more = reader.take_bit()?;
-        let tac = Tac::read(alloc, reader)?;
-        let plmns = Items::<Plmn, 1, 6>::read(alloc, reader)?;
-        skip_extensions(more, reader)?;
-        skip_additions(extended, reader)?;
-        Ok(SupportedTa { tac, plmns })
+        read_sequence!(reader => SupportedTa {
+            tac: Tac::read(alloc, reader)?,
+            plmns: Items::<Plmn, 1, 6>::read(alloc, reader)?,
+        })
     }
 
-    #[tactic(auto, unfolding(per_bits::specs::Bits::bits))]
+    #[tactic(auto, unfolding(bit_streams::specs::Bits::bits))]
     fn write(&self, alloc: Global, writer: &mut BitWriter) -> Result<(), PerError> {
         writer.put_bits(2, 0)?;
         self.tac.write(alloc, writer)?;
@@ -98,23 +87,16 @@ impl<'a> Element<'a> for ServedGummei {
 
     ghost view = { typed_served_gummei };
 
-    #[tactic(auto, unfolding(per_bits::specs::Reading::times))]
+    #[tactic(auto, unfolding(bit_streams::specs::Each::times))]
     fn read(alloc: Global, reader: &mut BitReader<'a>) -> Result<Self, PerError> {
-        let extended = reader.take_bit()?;
-        let more = reader.take_bit()?;
-        let plmns = Items::<Plmn, 1, 32>::read(alloc, reader)?;
-        let groups = Items::<MmeGroup, 1, 65535>::read(alloc, reader)?;
-        let codes = Items::<MmeCode, 1, 256>::read(alloc, reader)?;
-        skip_extensions(more, reader)?;
-        skip_additions(extended, reader)?;
-        Ok(ServedGummei {
-            plmns,
-            groups,
-            codes,
+        read_sequence!(reader => ServedGummei {
+            plmns: Items::<Plmn, 1, 32>::read(alloc, reader)?,
+            groups: Items::<MmeGroup, 1, 65535>::read(alloc, reader)?,
+            codes: Items::<MmeCode, 1, 256>::read(alloc, reader)?,
         })
     }
 
-    #[tactic(auto, unfolding(per_bits::specs::Bits::bits))]
+    #[tactic(auto, unfolding(bit_streams::specs::Bits::bits))]
     fn write(&self, alloc: Global, writer: &mut BitWriter) -> Result<(), PerError> {
         writer.put_bits(2, 0)?;
         self.plmns.write(alloc, writer)?;

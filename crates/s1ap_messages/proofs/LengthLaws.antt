@@ -3,18 +3,18 @@ use Rattle.std.proofs.Common.{◌≡◌, ℕ, zero, suc, ◌+◌, ◌*◌, ◌/�
 use Rattle.std.proofs.lemmas.List.{length-replicate}
 use Rattle.std.specs.Prelude.{nat_le, nat_lt, ◌-◌, ◌^◌, ◌%◌, ◌&&◌, if◌then◌else◌}
 use Rattle.std.proofs.lemmas.Bool.Decides.{nat_tests}
-use Rattle.per_bits.specs.declared.fault.PerFault.TheVariants.{Range}
-use Rattle.per_bits.specs.Octet.{all_below}
-use Rattle.per_bits.specs.Bits.{◌>>=◌, bits, octet_bits, octets_of_bits, pad, padding}
+use Rattle.bit_streams.specs.declared.fault.PerFault.TheVariants.{Range}
+use Rattle.bit_streams.specs.Octet.{all_below}
+use Rattle.bit_streams.specs.Bits.{◌>>=◌, bits, octet_bits, octets_of_bits, pad, padding, padded}
 use Rattle.per_bits.specs.Numbers.{offset_bits, whole, width_of}
 use Rattle.per_bits.specs.Spelling.{length_octets}
-use Rattle.per_bits.specs.Writing.{padded, write_aligned, write_length, write_number, write_string, write_whole}
-use Rattle.per_bits.proofs.BitLaws.{bind_ok, where_ok, ok_is, length-bits, length-octet_bits}
-use Rattle.s1ap_messages.specs.Criticalities.{criticality_number}
+use Rattle.per_bits.specs.Writing.{write_aligned, write_length, write_number, write_string, write_whole}
+use Rattle.bit_streams.specs.BitLaws.{bind_ok, where_ok, ok_is, length-bits, length-octet_bits}
+use Rattle.s1ap_rows.specs.Criticalities.{criticality_number}
 use Rattle.s1ap_messages.specs.Pdus.{longest}
 use Rattle.s1ap_messages.specs.Profile.{code_of, criticality_of, kind_of, rows_of}
-use Rattle.s1ap_messages.specs.Typed.{Typed}
-use Rattle.s1ap_messages.specs.Writing.{encode_typed, write_frame, write_message}
+use Rattle.s1ap_messages.specs.Typed.{Typed, encode_typed}
+use Rattle.s1ap_rows.specs.Writing.{write_frame, write_message}
 
 -- ---- how much each part adds
 

@@ -1,6 +1,3 @@
-pub mod Criticalities
-pub mod Gathering
-pub mod MessageLaws
 pub mod PduLaws
 pub mod SpelledLaws
 pub mod WrittenLaws

@@ -1,18 +1,18 @@
 -- Messages keep their names.
 use Rattle.std.proofs.Common.{◌≡◌, ℕ, List, Option, Some, None, Result, Ok, Err, refl, sym, ap, subst, ◌∙◌, option_map}
 use Rattle.std.specs.Borrow.{Bor}
-use Rattle.per_bits.specs.declared.fault.PerFault.{PerFault}
+use Rattle.bit_streams.specs.declared.fault.PerFault.{PerFault}
 use Rattle.per_bits.specs.Formats.{Value}
 use Rattle.s1ap_elements.specs.Formats.{cause}
 use Rattle.s1ap_elements.specs.Causes.{typed_cause, named_cause}
 use Rattle.s1ap_elements.specs.Phones.{typed_s_tmsi, named_s_tmsi}
-use Rattle.s1ap_elements.proofs.ListLaws.{option_back}
-use Rattle.s1ap_elements.proofs.CauseLaws.{cause_again, cause_spelled}
-use Rattle.s1ap_elements.proofs.StationLaws.{global_enb_id_again, global_enb_id_spelled, paging_drx_again, paging_drx_spelled, served_gummeis_again, served_gummeis_spelled, supported_tas_again, supported_tas_spelled}
-use Rattle.s1ap_elements.proofs.PhoneLaws.{cn_domain_again, cn_domain_spelled, reset_type_again, reset_type_spelled, rrc_cause_again, rrc_cause_spelled, tai_list_again, tai_list_spelled, ue_paging_id_again, ue_paging_id_spelled, ue_s1ap_ids_again, ue_s1ap_ids_spelled}
-use Rattle.s1ap_elements.proofs.BearerLaws.{erabs_setup_again, erabs_setup_spelled, erabs_to_be_setup_again, erabs_to_be_setup_spelled, erabs_to_be_switched_again, erabs_to_be_switched_spelled}
-use Rattle.s1ap_messages.specs.declared.fault.S1apFault.{S1apFault}
-use Rattle.s1ap_messages.specs.declared.fault.S1apFault.TheVariants as faults
+use Rattle.s1ap_elements.specs.ListLaws.{option_back}
+use Rattle.s1ap_elements.specs.CauseLaws.{cause_again, cause_spelled}
+use Rattle.s1ap_elements.specs.StationLaws.{global_enb_id_again, global_enb_id_spelled, paging_drx_again, paging_drx_spelled, served_gummeis_again, served_gummeis_spelled, supported_tas_again, supported_tas_spelled}
+use Rattle.s1ap_elements.specs.PhoneLaws.{cn_domain_again, cn_domain_spelled, reset_type_again, reset_type_spelled, rrc_cause_again, rrc_cause_spelled, tai_list_again, tai_list_spelled, ue_paging_id_again, ue_paging_id_spelled, ue_s1ap_ids_again, ue_s1ap_ids_spelled}
+use Rattle.s1ap_elements.specs.BearerLaws.{erabs_setup_again, erabs_setup_spelled, erabs_to_be_setup_again, erabs_to_be_setup_spelled, erabs_to_be_switched_again, erabs_to_be_switched_spelled}
+use Rattle.s1ap_rows.specs.declared.fault.S1apFault.{S1apFault}
+use Rattle.s1ap_rows.specs.declared.fault.S1apFault.TheVariants as faults
 use Rattle.s1ap_messages.specs.declared.message_type.MessageType.{MessageType}
 use Rattle.s1ap_messages.specs.declared.message_type.MessageType.TheVariants as message
 use Rattle.s1ap_messages.specs.declared.pdu.SetupRequest.{SetupRequest}
@@ -32,15 +32,13 @@ use Rattle.s1ap_messages.specs.declared.pdu.Reset.{Reset}
 use Rattle.s1ap_messages.specs.declared.pdu.ErrorIndication.{ErrorIndication}
 use Rattle.s1ap_messages.specs.declared.pdu.Pdu.{Pdu}
 use Rattle.s1ap_messages.specs.declared.pdu.Pdu.TheVariants as pdu
-use Rattle.s1ap_messages.specs.Rows.{Kept}
+use Rattle.s1ap_rows.specs.Rows.{Kept}
 use Rattle.s1ap_messages.specs.Profile.{rows_of, setup_request, setup_response, setup_failure, initial_ue_message, nas_non_delivery, context_setup_request, context_setup_response, context_setup_failure, release_request, release_command, paging, path_switch_request, path_switch_failure, reset, error_indication}
-use Rattle.s1ap_messages.specs.Typed.{Typed, typed_of}
+use Rattle.s1ap_messages.specs.Typed.{Typed, typed_of, decode_typed, SpellsTyped, encode_typed}
 use Rattle.s1ap_messages.specs.Pdus.{lists, typed, named, decoded, encoded, ok_of, SpellsMessage, typed_setup_request, named_setup_request, typed_setup_response, named_setup_response, typed_setup_failure, named_setup_failure, typed_initial_ue_message, named_initial_ue_message, typed_nas_non_delivery, named_nas_non_delivery, typed_context_setup_request, named_context_setup_request, typed_context_setup_response, named_context_setup_response, typed_context_setup_failure, named_context_setup_failure, typed_release_request, named_release_request, typed_release_command, named_release_command, typed_paging, named_paging, typed_path_switch_request, named_path_switch_request, typed_path_switch_failure, named_path_switch_failure, typed_reset, named_reset, typed_error_indication, named_error_indication}
-use Rattle.s1ap_messages.specs.Spelling.{SpellsTyped}
-use Rattle.s1ap_messages.specs.Reading.{decode_typed, ◌>>>◌}
-use Rattle.s1ap_messages.specs.Writing.{encode_typed}
-use Rattle.s1ap_messages.specs.Answers.{Answers, FailsAs}
-use Rattle.s1ap_messages.proofs.MessageLaws.{bind_some}
+use Rattle.s1ap_rows.specs.Reading.{◌>>>◌}
+use Rattle.s1ap_rows.specs.Answers.{Answers, FailsAs}
+use Rattle.s1ap_rows.specs.MessageLaws.{bind_some}
 use Rattle.s1ap_messages.proofs.PduLaws.{decode_to, decode_from}
 use Rattle.s1ap_messages.proofs.WrittenLaws.{typed_written}
 use Rattle.s1ap_messages.proofs.SpelledLaws.{SpelledOption, AreSpelled, typed_spelled}

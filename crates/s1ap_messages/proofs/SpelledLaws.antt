@@ -3,11 +3,11 @@ use Rattle.std.proofs.Common.{◌≡◌, ℕ, List, not, Option, Some, None, sub
 use Rattle.std.specs.Prelude.{filter}
 use Rattle.per_bits.specs.Formats.{Format, Value}
 use Rattle.per_bits.specs.Spelling.{SpellsWhole, IfSomeOr}
-use Rattle.s1ap_elements.proofs.NameLaws.{Spelled}
-use Rattle.s1ap_messages.specs.Rows.{Rows, ie, end, needed, optional, unkept, Slots, Kept}
+use Rattle.s1ap_elements.specs.NameLaws.{Spelled}
+use Rattle.s1ap_rows.specs.Rows.{Rows, ie, end, needed, optional, unkept, Slots, Kept}
 use Rattle.s1ap_messages.specs.Profile.{rows_of}
-use Rattle.s1ap_messages.specs.Typed.{Typed}
-use Rattle.s1ap_messages.specs.Spelling.{Raw, octets_of, has_id, OfRow, AreElements, IsKept, SpellsTyped}
+use Rattle.s1ap_messages.specs.Typed.{Typed, SpellsTyped}
+use Rattle.s1ap_rows.specs.Spelling.{Raw, octets_of, has_id, OfRow, AreElements, IsKept}
 
 abbrev pub SpelledOption : (f : Format) → Option (Value f) → Type 0
 SpelledOption f o = IfSomeOr o (Unit {0}) (Spelled f)

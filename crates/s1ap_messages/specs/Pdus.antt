@@ -1,12 +1,12 @@
 -- Messages by their names, and as their rows have them.
 use Rattle.std.specs.Prelude.{ℕ, List, Option, Some, None, option_map, Result, Ok, Err}
 use Rattle.std.specs.Borrow.{Bor}
-use Rattle.per_bits.specs.declared.fault.PerFault.{PerFault}
+use Rattle.bit_streams.specs.declared.fault.PerFault.{PerFault}
 use Rattle.s1ap_elements.specs.Causes.{typed_cause, named_cause}
 use Rattle.s1ap_elements.specs.Stations.{typed_global_enb_id, named_global_enb_id, typed_supported_tas, named_supported_tas, typed_paging_drx, named_paging_drx, typed_served_gummeis, named_served_gummeis}
 use Rattle.s1ap_elements.specs.Phones.{typed_tai, named_tai, typed_eutran_cgi, named_eutran_cgi, typed_rrc_cause, named_rrc_cause, typed_s_tmsi, named_s_tmsi, typed_security_capabilities, named_security_capabilities, typed_ue_s1ap_ids, named_ue_s1ap_ids, typed_ue_paging_id, named_ue_paging_id, ue_paging_id_lists, typed_cn_domain, named_cn_domain, typed_tai_list, named_tai_list, typed_security_context, named_security_context, typed_reset_type, named_reset_type}
 use Rattle.s1ap_elements.specs.Bearers.{typed_ambr, named_ambr, typed_erabs_to_be_setup, named_erabs_to_be_setup, erabs_to_be_setup_lists, typed_erabs_setup, named_erabs_setup, typed_erabs_to_be_switched, named_erabs_to_be_switched}
-use Rattle.s1ap_messages.specs.declared.fault.S1apFault.{S1apFault}
+use Rattle.s1ap_rows.specs.declared.fault.S1apFault.{S1apFault}
 use Rattle.s1ap_messages.specs.declared.message_type.MessageType.{MessageType}
 use Rattle.s1ap_messages.specs.declared.message_type.MessageType.TheVariants as message
 use Rattle.s1ap_messages.specs.declared.pdu.SetupRequest.{SetupRequest}
@@ -31,12 +31,10 @@ use Rattle.s1ap_messages.specs.declared.pdu.Reset.{Reset}
 use Rattle.s1ap_messages.specs.declared.pdu.ErrorIndication.{ErrorIndication}
 use Rattle.s1ap_messages.specs.declared.pdu.Pdu.{Pdu}
 use Rattle.s1ap_messages.specs.declared.pdu.Pdu.TheVariants as pdu
-use Rattle.s1ap_messages.specs.Rows.{Kept}
+use Rattle.s1ap_rows.specs.Rows.{Kept}
 use Rattle.s1ap_messages.specs.Profile.{rows_of, setup_request, setup_response, setup_failure, initial_ue_message, downlink_nas_transport, uplink_nas_transport, nas_non_delivery, capability_info, context_setup_request, context_setup_response, context_setup_failure, release_request, release_command, release_complete, paging, path_switch_request, path_switch_acknowledge, path_switch_failure, reset, error_indication}
-use Rattle.s1ap_messages.specs.Spelling.{SpellsTyped}
-use Rattle.s1ap_messages.specs.Reading.{decode_typed, ◌>>>◌}
-use Rattle.s1ap_messages.specs.Typed.{Typed}
-use Rattle.s1ap_messages.specs.Writing.{encode_typed}
+use Rattle.s1ap_rows.specs.Reading.{◌>>>◌}
+use Rattle.s1ap_messages.specs.Typed.{Typed, decode_typed, SpellsTyped, encode_typed}
 
 -- ---- a message without where its octets lie in memory
 
@@ -47,7 +45,14 @@ abbrev pub setup_request_lists : SetupRequest (Bor (List ℕ)) → SetupRequest 
 setup_request_lists m = record { station = m.station; name = listed m.name; supported_tas = m.supported_tas; paging_drx = m.paging_drx }
 
 abbrev pub initial_ue_message_lists : InitialUeMessage (Bor (List ℕ)) → InitialUeMessage (List ℕ)
-initial_ue_message_lists m = record { enb_id = m.enb_id; nas = m.nas.now; tai = m.tai; cell = m.cell; rrc_cause = m.rrc_cause; s_tmsi = m.s_tmsi }
+initial_ue_message_lists m = record {
+  enb_id = m.enb_id;
+  nas = m.nas.now;
+  tai = m.tai;
+  cell = m.cell;
+  rrc_cause = m.rrc_cause;
+  s_tmsi = m.s_tmsi;
+}
 
 abbrev pub downlink_nas_transport_lists : DownlinkNasTransport (Bor (List ℕ)) → DownlinkNasTransport (List ℕ)
 downlink_nas_transport_lists m = record { mme_id = m.mme_id; enb_id = m.enb_id; nas = m.nas.now }
@@ -62,7 +67,14 @@ abbrev pub capability_info_lists : CapabilityInfo (Bor (List ℕ)) → Capabilit
 capability_info_lists m = record { mme_id = m.mme_id; enb_id = m.enb_id; radio_capability = m.radio_capability.now }
 
 abbrev pub context_setup_request_lists : ContextSetupRequest (Bor (List ℕ)) → ContextSetupRequest (List ℕ)
-context_setup_request_lists m = record { mme_id = m.mme_id; enb_id = m.enb_id; ambr = m.ambr; erabs = erabs_to_be_setup_lists m.erabs; capabilities = m.capabilities; key = m.key }
+context_setup_request_lists m = record {
+  mme_id = m.mme_id;
+  enb_id = m.enb_id;
+  ambr = m.ambr;
+  erabs = erabs_to_be_setup_lists m.erabs;
+  capabilities = m.capabilities;
+  key = m.key;
+}
 
 abbrev pub paging_lists : Paging (Bor (List ℕ)) → Paging (List ℕ)
 paging_lists m = record { ue_index = m.ue_index; paging_id = ue_paging_id_lists m.paging_id; domain = m.domain; tai_list = m.tai_list }
@@ -93,124 +105,170 @@ lists (pdu.ErrorIndication m) = pdu.ErrorIndication m
 -- ---- a message as its rows have it, and back
 
 abbrev pub typed_setup_request : SetupRequest (List ℕ) → Kept setup_request
-typed_setup_request m = (typed_global_enb_id m.station, (m.name, (typed_supported_tas m.supported_tas, (typed_paging_drx m.paging_drx, tt))))
+typed_setup_request m =
+    (typed_global_enb_id m.station, (m.name, (typed_supported_tas m.supported_tas, (typed_paging_drx m.paging_drx, tt))))
 
 abbrev pub named_setup_request : Kept setup_request → SetupRequest (List ℕ)
-named_setup_request v = record { station = named_global_enb_id v.0; name = v.1.0; supported_tas = named_supported_tas v.1.1.0; paging_drx = named_paging_drx v.1.1.1.0 }
+named_setup_request (station, (name, (supported_tas, (paging_drx, _)))) = record {
+  station = named_global_enb_id station;
+  name = name;
+  supported_tas = named_supported_tas supported_tas;
+  paging_drx = named_paging_drx paging_drx;
+}
 
 abbrev pub typed_setup_response : SetupResponse → Kept setup_response
 typed_setup_response m = (typed_served_gummeis m.served_gummeis, (m.capacity, tt))
 
 abbrev pub named_setup_response : Kept setup_response → SetupResponse
-named_setup_response v = record { served_gummeis = named_served_gummeis v.0; capacity = v.1.0 }
+named_setup_response (served_gummeis, (capacity, _)) =
+    record { served_gummeis = named_served_gummeis served_gummeis; capacity = capacity }
 
 abbrev pub typed_setup_failure : SetupFailure → Kept setup_failure
 typed_setup_failure m = (typed_cause m.cause, tt)
 
 abbrev pub named_setup_failure : Kept setup_failure → SetupFailure
-named_setup_failure v = record { cause = named_cause v.0 }
+named_setup_failure (cause, _) = record { cause = named_cause cause }
 
 abbrev pub typed_initial_ue_message : InitialUeMessage (List ℕ) → Kept initial_ue_message
-typed_initial_ue_message m = (m.enb_id, (m.nas, (typed_tai m.tai, (typed_eutran_cgi m.cell, (typed_rrc_cause m.rrc_cause, (option_map typed_s_tmsi m.s_tmsi, tt))))))
+typed_initial_ue_message m =
+    (m.enb_id, (m.nas, (typed_tai m.tai, (typed_eutran_cgi m.cell, (typed_rrc_cause m.rrc_cause, (option_map typed_s_tmsi m.s_tmsi, tt))))))
 
 abbrev pub named_initial_ue_message : Kept initial_ue_message → InitialUeMessage (List ℕ)
-named_initial_ue_message v = record { enb_id = v.0; nas = v.1.0; tai = named_tai v.1.1.0; cell = named_eutran_cgi v.1.1.1.0; rrc_cause = named_rrc_cause v.1.1.1.1.0; s_tmsi = option_map named_s_tmsi v.1.1.1.1.1.0 }
+named_initial_ue_message (enb_id, (nas, (tai, (cell, (rrc_cause, (s_tmsi, _)))))) = record {
+  enb_id = enb_id;
+  nas = nas;
+  tai = named_tai tai;
+  cell = named_eutran_cgi cell;
+  rrc_cause = named_rrc_cause rrc_cause;
+  s_tmsi = option_map named_s_tmsi s_tmsi;
+}
 
 abbrev pub typed_downlink_nas_transport : DownlinkNasTransport (List ℕ) → Kept downlink_nas_transport
 typed_downlink_nas_transport m = (m.mme_id, (m.enb_id, (m.nas, tt)))
 
 abbrev pub named_downlink_nas_transport : Kept downlink_nas_transport → DownlinkNasTransport (List ℕ)
-named_downlink_nas_transport v = record { mme_id = v.0; enb_id = v.1.0; nas = v.1.1.0 }
+named_downlink_nas_transport (mme_id, (enb_id, (nas, _))) = record { mme_id = mme_id; enb_id = enb_id; nas = nas }
 
 abbrev pub typed_uplink_nas_transport : UplinkNasTransport (List ℕ) → Kept uplink_nas_transport
 typed_uplink_nas_transport m = (m.mme_id, (m.enb_id, (m.nas, (typed_eutran_cgi m.cell, (typed_tai m.tai, tt)))))
 
 abbrev pub named_uplink_nas_transport : Kept uplink_nas_transport → UplinkNasTransport (List ℕ)
-named_uplink_nas_transport v = record { mme_id = v.0; enb_id = v.1.0; nas = v.1.1.0; cell = named_eutran_cgi v.1.1.1.0; tai = named_tai v.1.1.1.1.0 }
+named_uplink_nas_transport (mme_id, (enb_id, (nas, (cell, (tai, _))))) =
+    record { mme_id = mme_id; enb_id = enb_id; nas = nas; cell = named_eutran_cgi cell; tai = named_tai tai }
 
 abbrev pub typed_nas_non_delivery : NasNonDelivery (List ℕ) → Kept nas_non_delivery
 typed_nas_non_delivery m = (m.mme_id, (m.enb_id, (m.nas, (typed_cause m.cause, tt))))
 
 abbrev pub named_nas_non_delivery : Kept nas_non_delivery → NasNonDelivery (List ℕ)
-named_nas_non_delivery v = record { mme_id = v.0; enb_id = v.1.0; nas = v.1.1.0; cause = named_cause v.1.1.1.0 }
+named_nas_non_delivery (mme_id, (enb_id, (nas, (cause, _)))) =
+    record { mme_id = mme_id; enb_id = enb_id; nas = nas; cause = named_cause cause }
 
 abbrev pub typed_capability_info : CapabilityInfo (List ℕ) → Kept capability_info
 typed_capability_info m = (m.mme_id, (m.enb_id, (m.radio_capability, tt)))
 
 abbrev pub named_capability_info : Kept capability_info → CapabilityInfo (List ℕ)
-named_capability_info v = record { mme_id = v.0; enb_id = v.1.0; radio_capability = v.1.1.0 }
+named_capability_info (mme_id, (enb_id, (radio_capability, _))) =
+    record { mme_id = mme_id; enb_id = enb_id; radio_capability = radio_capability }
 
 abbrev pub typed_context_setup_request : ContextSetupRequest (List ℕ) → Kept context_setup_request
-typed_context_setup_request m = (m.mme_id, (m.enb_id, (typed_ambr m.ambr, (typed_erabs_to_be_setup m.erabs, (typed_security_capabilities m.capabilities, (m.key, tt))))))
+typed_context_setup_request m =
+    (m.mme_id, (m.enb_id, (typed_ambr m.ambr, (typed_erabs_to_be_setup m.erabs, (typed_security_capabilities m.capabilities, (m.key, tt))))))
 
 abbrev pub named_context_setup_request : Kept context_setup_request → ContextSetupRequest (List ℕ)
-named_context_setup_request v = record { mme_id = v.0; enb_id = v.1.0; ambr = named_ambr v.1.1.0; erabs = named_erabs_to_be_setup v.1.1.1.0; capabilities = named_security_capabilities v.1.1.1.1.0; key = v.1.1.1.1.1.0 }
+named_context_setup_request (mme_id, (enb_id, (ambr, (erabs, (capabilities, (key, _)))))) = record {
+  mme_id = mme_id;
+  enb_id = enb_id;
+  ambr = named_ambr ambr;
+  erabs = named_erabs_to_be_setup erabs;
+  capabilities = named_security_capabilities capabilities;
+  key = key;
+}
 
 abbrev pub typed_context_setup_response : ContextSetupResponse → Kept context_setup_response
 typed_context_setup_response m = (m.mme_id, (m.enb_id, (typed_erabs_setup m.erabs, tt)))
 
 abbrev pub named_context_setup_response : Kept context_setup_response → ContextSetupResponse
-named_context_setup_response v = record { mme_id = v.0; enb_id = v.1.0; erabs = named_erabs_setup v.1.1.0 }
+named_context_setup_response (mme_id, (enb_id, (erabs, _))) =
+    record { mme_id = mme_id; enb_id = enb_id; erabs = named_erabs_setup erabs }
 
 abbrev pub typed_context_setup_failure : ContextSetupFailure → Kept context_setup_failure
 typed_context_setup_failure m = (m.mme_id, (m.enb_id, (typed_cause m.cause, tt)))
 
 abbrev pub named_context_setup_failure : Kept context_setup_failure → ContextSetupFailure
-named_context_setup_failure v = record { mme_id = v.0; enb_id = v.1.0; cause = named_cause v.1.1.0 }
+named_context_setup_failure (mme_id, (enb_id, (cause, _))) =
+    record { mme_id = mme_id; enb_id = enb_id; cause = named_cause cause }
 
 abbrev pub typed_release_request : ReleaseRequest → Kept release_request
 typed_release_request m = (m.mme_id, (m.enb_id, (typed_cause m.cause, tt)))
 
 abbrev pub named_release_request : Kept release_request → ReleaseRequest
-named_release_request v = record { mme_id = v.0; enb_id = v.1.0; cause = named_cause v.1.1.0 }
+named_release_request (mme_id, (enb_id, (cause, _))) =
+    record { mme_id = mme_id; enb_id = enb_id; cause = named_cause cause }
 
 abbrev pub typed_release_command : ReleaseCommand → Kept release_command
 typed_release_command m = (typed_ue_s1ap_ids m.ids, (typed_cause m.cause, tt))
 
 abbrev pub named_release_command : Kept release_command → ReleaseCommand
-named_release_command v = record { ids = named_ue_s1ap_ids v.0; cause = named_cause v.1.0 }
+named_release_command (ids, (cause, _)) = record { ids = named_ue_s1ap_ids ids; cause = named_cause cause }
 
 abbrev pub typed_release_complete : ReleaseComplete → Kept release_complete
 typed_release_complete m = (m.mme_id, (m.enb_id, tt))
 
 abbrev pub named_release_complete : Kept release_complete → ReleaseComplete
-named_release_complete v = record { mme_id = v.0; enb_id = v.1.0 }
+named_release_complete (mme_id, (enb_id, _)) = record { mme_id = mme_id; enb_id = enb_id }
 
 abbrev pub typed_paging : Paging (List ℕ) → Kept paging
 typed_paging m = (m.ue_index, (typed_ue_paging_id m.paging_id, (typed_cn_domain m.domain, (typed_tai_list m.tai_list, tt))))
 
 abbrev pub named_paging : Kept paging → Paging (List ℕ)
-named_paging v = record { ue_index = v.0; paging_id = named_ue_paging_id v.1.0; domain = named_cn_domain v.1.1.0; tai_list = named_tai_list v.1.1.1.0 }
+named_paging (ue_index, (paging_id, (domain, (tai_list, _)))) = record {
+  ue_index = ue_index;
+  paging_id = named_ue_paging_id paging_id;
+  domain = named_cn_domain domain;
+  tai_list = named_tai_list tai_list;
+}
 
 abbrev pub typed_path_switch_request : PathSwitchRequest → Kept path_switch_request
-typed_path_switch_request m = (m.enb_id, (typed_erabs_to_be_switched m.erabs, (m.source_mme_id, (typed_eutran_cgi m.cell, (typed_tai m.tai, (typed_security_capabilities m.capabilities, tt))))))
+typed_path_switch_request m =
+    let capabilities = typed_security_capabilities m.capabilities in
+    (m.enb_id, (typed_erabs_to_be_switched m.erabs, (m.source_mme_id, (typed_eutran_cgi m.cell, (typed_tai m.tai, (capabilities, tt))))))
 
 abbrev pub named_path_switch_request : Kept path_switch_request → PathSwitchRequest
-named_path_switch_request v = record { enb_id = v.0; erabs = named_erabs_to_be_switched v.1.0; source_mme_id = v.1.1.0; cell = named_eutran_cgi v.1.1.1.0; tai = named_tai v.1.1.1.1.0; capabilities = named_security_capabilities v.1.1.1.1.1.0 }
+named_path_switch_request (enb_id, (erabs, (source_mme_id, (cell, (tai, (capabilities, _)))))) = record {
+  enb_id = enb_id;
+  erabs = named_erabs_to_be_switched erabs;
+  source_mme_id = source_mme_id;
+  cell = named_eutran_cgi cell;
+  tai = named_tai tai;
+  capabilities = named_security_capabilities capabilities;
+}
 
 abbrev pub typed_path_switch_acknowledge : PathSwitchAcknowledge → Kept path_switch_acknowledge
 typed_path_switch_acknowledge m = (m.mme_id, (m.enb_id, (typed_security_context m.context, tt)))
 
 abbrev pub named_path_switch_acknowledge : Kept path_switch_acknowledge → PathSwitchAcknowledge
-named_path_switch_acknowledge v = record { mme_id = v.0; enb_id = v.1.0; context = named_security_context v.1.1.0 }
+named_path_switch_acknowledge (mme_id, (enb_id, (context, _))) =
+    record { mme_id = mme_id; enb_id = enb_id; context = named_security_context context }
 
 abbrev pub typed_path_switch_failure : PathSwitchFailure → Kept path_switch_failure
 typed_path_switch_failure m = (m.mme_id, (m.enb_id, (typed_cause m.cause, tt)))
 
 abbrev pub named_path_switch_failure : Kept path_switch_failure → PathSwitchFailure
-named_path_switch_failure v = record { mme_id = v.0; enb_id = v.1.0; cause = named_cause v.1.1.0 }
+named_path_switch_failure (mme_id, (enb_id, (cause, _))) =
+    record { mme_id = mme_id; enb_id = enb_id; cause = named_cause cause }
 
 abbrev pub typed_reset : Reset → Kept reset
 typed_reset m = (typed_cause m.cause, (typed_reset_type m.reset_type, tt))
 
 abbrev pub named_reset : Kept reset → Reset
-named_reset v = record { cause = named_cause v.0; reset_type = named_reset_type v.1.0 }
+named_reset (cause, (reset_type, _)) = record { cause = named_cause cause; reset_type = named_reset_type reset_type }
 
 abbrev pub typed_error_indication : ErrorIndication → Kept error_indication
 typed_error_indication m = (m.mme_id, (m.enb_id, (option_map typed_cause m.cause, tt)))
 
 abbrev pub named_error_indication : Kept error_indication → ErrorIndication
-named_error_indication v = record { mme_id = v.0; enb_id = v.1.0; cause = option_map named_cause v.1.1.0 }
+named_error_indication (mme_id, (enb_id, (cause, _))) =
+    record { mme_id = mme_id; enb_id = enb_id; cause = option_map named_cause cause }
 
 abbrev pub typed : Pdu (List ℕ) → Typed
 typed (pdu.SetupRequest m) = (message.SetupRequest, typed_setup_request m)

@@ -2,43 +2,77 @@
 use Rattle.std.specs.Prelude.{ℕ, ◌==◌, if◌then◌else◌, Option, Some, None}
 use Rattle.per_bits.specs.Formats.{octet_string}
 use Rattle.s1ap_elements.specs.Formats.{ambr, cause, cn_domain, enb_ue_id, erabs_setup, erabs_to_be_setup, erabs_to_be_switched, eutran_cgi, global_enb_id, mme_ue_id, paging_drx, relative_capacity, reset_type, rrc_cause, s_tmsi, security_capabilities, security_context, security_key, served_gummeis, supported_tas, tai, tai_list, text, ue_index, ue_paging_id, ue_s1ap_ids}
-use Rattle.s1ap_messages.specs.Rows.{Rows, ie, end, needed, optional, unkept}
-use Rattle.s1ap_messages.specs.declared.criticality.Criticality.{Criticality}
-use Rattle.s1ap_messages.specs.declared.criticality.Criticality.TheVariants.{Reject, Ignore}
+use Rattle.s1ap_rows.specs.Rows.{Rows, ie, end, needed, optional, unkept}
+use Rattle.s1ap_rows.specs.declared.criticality.Criticality.{Criticality}
+use Rattle.s1ap_rows.specs.declared.criticality.Criticality.TheVariants.{Reject, Ignore}
 use Rattle.s1ap_messages.specs.declared.message_type.MessageType.{MessageType}
 use Rattle.s1ap_messages.specs.declared.message_type.MessageType.TheVariants.{SetupRequest, SetupResponse, SetupFailure, InitialUeMessage, DownlinkNasTransport, UplinkNasTransport, NasNonDelivery, CapabilityInfo, ContextSetupRequest, ContextSetupResponse, ContextSetupFailure, ReleaseRequest, ReleaseCommand, ReleaseComplete, Paging, PathSwitchRequest, PathSwitchAcknowledge, PathSwitchFailure, Reset, ResetAcknowledge, ErrorIndication}
 
 -- id, criticality, presence and format of each row
 
 abbrev pub setup_request : Rows
-setup_request = ie 59 Reject needed global_enb_id (ie 60 Ignore optional text (ie 64 Reject needed supported_tas (ie 137 Ignore needed paging_drx end)))
+setup_request =
+    ie 59 Reject needed global_enb_id
+    (ie 60 Ignore optional text
+    (ie 64 Reject needed supported_tas
+    (ie 137 Ignore needed paging_drx end)))
 
 abbrev pub setup_response : Rows
-setup_response = ie 61 Ignore unkept text (ie 105 Reject needed served_gummeis (ie 87 Ignore needed relative_capacity end))
+setup_response =
+    ie 61 Ignore unkept text
+    (ie 105 Reject needed served_gummeis
+    (ie 87 Ignore needed relative_capacity end))
 
 abbrev pub setup_failure : Rows
 setup_failure = ie 2 Ignore needed cause end
 
 abbrev pub initial_ue_message : Rows
-initial_ue_message = ie 8 Reject needed enb_ue_id (ie 26 Reject needed octet_string (ie 67 Reject needed tai (ie 100 Ignore needed eutran_cgi (ie 134 Ignore needed rrc_cause (ie 96 Reject optional s_tmsi end)))))
+initial_ue_message =
+    ie 8 Reject needed enb_ue_id
+    (ie 26 Reject needed octet_string
+    (ie 67 Reject needed tai
+    (ie 100 Ignore needed eutran_cgi
+    (ie 134 Ignore needed rrc_cause
+    (ie 96 Reject optional s_tmsi end)))))
 
 abbrev pub downlink_nas_transport : Rows
-downlink_nas_transport = ie 0 Reject needed mme_ue_id (ie 8 Reject needed enb_ue_id (ie 26 Reject needed octet_string end))
+downlink_nas_transport =
+    ie 0 Reject needed mme_ue_id
+    (ie 8 Reject needed enb_ue_id
+    (ie 26 Reject needed octet_string end))
 
 abbrev pub uplink_nas_transport : Rows
-uplink_nas_transport = ie 0 Reject needed mme_ue_id (ie 8 Reject needed enb_ue_id (ie 26 Reject needed octet_string (ie 100 Ignore needed eutran_cgi (ie 67 Ignore needed tai end))))
+uplink_nas_transport =
+    ie 0 Reject needed mme_ue_id
+    (ie 8 Reject needed enb_ue_id
+    (ie 26 Reject needed octet_string
+    (ie 100 Ignore needed eutran_cgi
+    (ie 67 Ignore needed tai end))))
 
 abbrev pub nas_non_delivery : Rows
-nas_non_delivery = ie 0 Reject needed mme_ue_id (ie 8 Reject needed enb_ue_id (ie 26 Ignore needed octet_string (ie 2 Ignore needed cause end)))
+nas_non_delivery =
+    ie 0 Reject needed mme_ue_id
+    (ie 8 Reject needed enb_ue_id
+    (ie 26 Ignore needed octet_string
+    (ie 2 Ignore needed cause end)))
 
 abbrev pub capability_info : Rows
 capability_info = ie 0 Reject needed mme_ue_id (ie 8 Reject needed enb_ue_id (ie 74 Ignore needed octet_string end))
 
 abbrev pub context_setup_request : Rows
-context_setup_request = ie 0 Reject needed mme_ue_id (ie 8 Reject needed enb_ue_id (ie 66 Reject needed ambr (ie 24 Reject needed erabs_to_be_setup (ie 107 Reject needed security_capabilities (ie 73 Reject needed security_key end)))))
+context_setup_request =
+    ie 0 Reject needed mme_ue_id
+    (ie 8 Reject needed enb_ue_id
+    (ie 66 Reject needed ambr
+    (ie 24 Reject needed erabs_to_be_setup
+    (ie 107 Reject needed security_capabilities
+    (ie 73 Reject needed security_key end)))))
 
 abbrev pub context_setup_response : Rows
-context_setup_response = ie 0 Ignore needed mme_ue_id (ie 8 Ignore needed enb_ue_id (ie 51 Ignore needed erabs_setup end))
+context_setup_response =
+    ie 0 Ignore needed mme_ue_id
+    (ie 8 Ignore needed enb_ue_id
+    (ie 51 Ignore needed erabs_setup end))
 
 abbrev pub context_setup_failure : Rows
 context_setup_failure = ie 0 Ignore needed mme_ue_id (ie 8 Ignore needed enb_ue_id (ie 2 Ignore needed cause end))
@@ -53,13 +87,26 @@ abbrev pub release_complete : Rows
 release_complete = ie 0 Ignore needed mme_ue_id (ie 8 Ignore needed enb_ue_id end)
 
 abbrev pub paging : Rows
-paging = ie 80 Ignore needed ue_index (ie 43 Ignore needed ue_paging_id (ie 109 Ignore needed cn_domain (ie 46 Ignore needed tai_list end)))
+paging =
+    ie 80 Ignore needed ue_index
+    (ie 43 Ignore needed ue_paging_id
+    (ie 109 Ignore needed cn_domain
+    (ie 46 Ignore needed tai_list end)))
 
 abbrev pub path_switch_request : Rows
-path_switch_request = ie 8 Reject needed enb_ue_id (ie 22 Reject needed erabs_to_be_switched (ie 88 Reject needed mme_ue_id (ie 100 Ignore needed eutran_cgi (ie 67 Ignore needed tai (ie 107 Ignore needed security_capabilities end)))))
+path_switch_request =
+    ie 8 Reject needed enb_ue_id
+    (ie 22 Reject needed erabs_to_be_switched
+    (ie 88 Reject needed mme_ue_id
+    (ie 100 Ignore needed eutran_cgi
+    (ie 67 Ignore needed tai
+    (ie 107 Ignore needed security_capabilities end)))))
 
 abbrev pub path_switch_acknowledge : Rows
-path_switch_acknowledge = ie 0 Ignore needed mme_ue_id (ie 8 Ignore needed enb_ue_id (ie 40 Reject needed security_context end))
+path_switch_acknowledge =
+    ie 0 Ignore needed mme_ue_id
+    (ie 8 Ignore needed enb_ue_id
+    (ie 40 Reject needed security_context end))
 
 abbrev pub path_switch_failure : Rows
 path_switch_failure = ie 0 Ignore needed mme_ue_id (ie 8 Ignore needed enb_ue_id (ie 2 Ignore needed cause end))

@@ -3,43 +3,17 @@
 ghost use Rattle.std.specs.Prelude.{◌≡◌, ◌≤◌, length, IfOk};
 ghost use Rattle.per_bits.specs.Reading.{GivesWhole};
 ghost use Rattle.per_bits.specs.Writing.{write_whole};
-ghost use Rattle.s1ap_messages.specs.Answers.{Answers, Encodes};
+ghost use Rattle.s1ap_rows.specs.Answers.{Answers, Encodes};
 ghost use Rattle.s1ap_messages.specs.Pdus.{lists, typed, decoded, encoded, longest};
 ghost use Rattle.s1ap_messages.specs.Profile.{rows_of, kind_of, code_of, criticality_of, initiating, successful, unsuccessful, type_of};
-ghost use Rattle.s1ap_messages.specs.Reading.{decode_typed, read_typed};
-ghost use Rattle.s1ap_messages.specs.Writing.{encode_typed, write_message};
+ghost use Rattle.s1ap_rows.specs.Writing.{write_message};
+ghost use Rattle.s1ap_messages.specs.Typed.{decode_typed, read_typed, encode_typed};
 
-use crate::context::{
-    read_context_setup_failure, read_context_setup_request, read_context_setup_response,
-    read_release_command, read_release_complete, read_release_request, write_context_setup_failure,
-    write_context_setup_request, write_context_setup_response, write_release_command,
-    write_release_complete, write_release_request,
-};
-use crate::criticality::Criticality;
-use crate::fault::{EncodeFault, S1apFault};
-use crate::frame::{frame_octets, read_frame};
-use crate::interface::{
-    read_error_indication, read_reset, read_reset_acknowledge, write_error_indication, write_reset,
-    write_reset_acknowledge,
-};
 use crate::message_type::MessageType;
-use crate::movement::{
-    read_paging, read_path_switch_acknowledge, read_path_switch_failure, read_path_switch_request,
-    write_paging, write_path_switch_acknowledge, write_path_switch_failure,
-    write_path_switch_request,
-};
-use crate::pdu::{Pdu, S1apPdu};
-use crate::setup::{
-    read_setup_failure, read_setup_request, read_setup_response, write_setup_failure,
-    write_setup_request, write_setup_response,
-};
-use crate::transport::{
-    read_capability_info, read_downlink_nas_transport, read_initial_ue_message,
-    read_nas_non_delivery, read_uplink_nas_transport, write_capability_info,
-    write_downlink_nas_transport, write_initial_ue_message, write_nas_non_delivery,
-    write_uplink_nas_transport,
-};
+use crate::pdu::{Decoded, Pdu, S1apPdu, Written};
+use crate::{context, interface, movement, setup, transport};
 use per_bits::PerError;
+use s1ap_rows::{Criticality, EncodeFault, S1apFault, frame_octets, read_frame};
 use std::alloc::Global;
 
 #[tactic(auto, unfolding(crate::specs::Profile::initiating))]
@@ -102,40 +76,36 @@ fn type_of(kind: u8, code: u8) -> Option<MessageType>
     }
 }
 
-fn read_message<'a>(
-    alloc: Global,
-    message_type: MessageType,
-    octets: &'a [u8],
-) -> Result<S1apPdu<'a>, S1apFault>
+fn read_message<'a>(alloc: Global, message_type: MessageType, octets: &'a [u8]) -> Decoded<'a>
     ensures { Answers (λ m. typed (lists m)) result (read_typed message_type octets.now) }
 {
     match message_type {
-        MessageType::SetupRequest => read_setup_request(alloc, octets),
-        MessageType::SetupResponse => read_setup_response(alloc, octets),
-        MessageType::SetupFailure => read_setup_failure(alloc, octets),
-        MessageType::InitialUeMessage => read_initial_ue_message(alloc, octets),
-        MessageType::DownlinkNasTransport => read_downlink_nas_transport(alloc, octets),
-        MessageType::UplinkNasTransport => read_uplink_nas_transport(alloc, octets),
-        MessageType::NasNonDelivery => read_nas_non_delivery(alloc, octets),
-        MessageType::CapabilityInfo => read_capability_info(alloc, octets),
-        MessageType::ContextSetupRequest => read_context_setup_request(alloc, octets),
-        MessageType::ContextSetupResponse => read_context_setup_response(alloc, octets),
-        MessageType::ContextSetupFailure => read_context_setup_failure(alloc, octets),
-        MessageType::ReleaseRequest => read_release_request(alloc, octets),
-        MessageType::ReleaseCommand => read_release_command(alloc, octets),
-        MessageType::ReleaseComplete => read_release_complete(alloc, octets),
-        MessageType::Paging => read_paging(alloc, octets),
-        MessageType::PathSwitchRequest => read_path_switch_request(alloc, octets),
-        MessageType::PathSwitchAcknowledge => read_path_switch_acknowledge(alloc, octets),
-        MessageType::PathSwitchFailure => read_path_switch_failure(alloc, octets),
-        MessageType::Reset => read_reset(alloc, octets),
-        MessageType::ResetAcknowledge => read_reset_acknowledge(alloc, octets),
-        MessageType::ErrorIndication => read_error_indication(alloc, octets),
+        MessageType::SetupRequest => setup::read_setup_request(alloc, octets),
+        MessageType::SetupResponse => setup::read_setup_response(alloc, octets),
+        MessageType::SetupFailure => setup::read_setup_failure(alloc, octets),
+        MessageType::InitialUeMessage => transport::read_initial_ue_message(alloc, octets),
+        MessageType::DownlinkNasTransport => transport::read_downlink_nas_transport(alloc, octets),
+        MessageType::UplinkNasTransport => transport::read_uplink_nas_transport(alloc, octets),
+        MessageType::NasNonDelivery => transport::read_nas_non_delivery(alloc, octets),
+        MessageType::CapabilityInfo => transport::read_capability_info(alloc, octets),
+        MessageType::ContextSetupRequest => context::read_context_setup_request(alloc, octets),
+        MessageType::ContextSetupResponse => context::read_context_setup_response(alloc, octets),
+        MessageType::ContextSetupFailure => context::read_context_setup_failure(alloc, octets),
+        MessageType::ReleaseRequest => context::read_release_request(alloc, octets),
+        MessageType::ReleaseCommand => context::read_release_command(alloc, octets),
+        MessageType::ReleaseComplete => context::read_release_complete(alloc, octets),
+        MessageType::Paging => movement::read_paging(alloc, octets),
+        MessageType::PathSwitchRequest => movement::read_path_switch_request(alloc, octets),
+        MessageType::PathSwitchAcknowledge => movement::read_path_switch_acknowledge(alloc, octets),
+        MessageType::PathSwitchFailure => movement::read_path_switch_failure(alloc, octets),
+        MessageType::Reset => interface::read_reset(alloc, octets),
+        MessageType::ResetAcknowledge => interface::read_reset_acknowledge(alloc, octets),
+        MessageType::ErrorIndication => interface::read_error_indication(alloc, octets),
     }
 }
 
-#[tactic(auto, using(crate::proofs::Criticalities::named_again), unfolding(crate::specs::Reading::decode_typed))]
-fn read_pdu<'a>(alloc: Global, octets: &'a [u8]) -> Result<S1apPdu<'a>, S1apFault>
+#[tactic(auto, using(s1ap_rows::specs::Criticalities::named_again), unfolding(crate::specs::Typed::decode_typed))]
+fn read_pdu<'a>(alloc: Global, octets: &'a [u8]) -> Decoded<'a>
     ensures { Answers (λ m. typed (lists m)) result (decode_typed octets.now) }
 {
     let frame = read_frame(octets)?;
@@ -156,31 +126,31 @@ pub fn decode<'a>(alloc: Global, octets: &'a [u8]) -> Result<S1apPdu<'a>, S1apFa
     read_pdu(alloc, octets)
 }
 
-fn write_content(alloc: Global, message: &S1apPdu) -> Result<Vec<u8>, PerError>
+fn write_content(alloc: Global, message: &S1apPdu) -> Written
     ensures { GivesWhole (λ v. v.items) result (write_whole (write_message (rows_of (typed (lists message.now)).0)) (typed (lists message.now)).1) }
 {
     match message {
-        Pdu::SetupRequest(m) => write_setup_request(alloc, m),
-        Pdu::SetupResponse(m) => write_setup_response(alloc, m),
-        Pdu::SetupFailure(m) => write_setup_failure(alloc, m),
-        Pdu::InitialUeMessage(m) => write_initial_ue_message(alloc, m),
-        Pdu::DownlinkNasTransport(m) => write_downlink_nas_transport(alloc, m),
-        Pdu::UplinkNasTransport(m) => write_uplink_nas_transport(alloc, m),
-        Pdu::NasNonDelivery(m) => write_nas_non_delivery(alloc, m),
-        Pdu::CapabilityInfo(m) => write_capability_info(alloc, m),
-        Pdu::ContextSetupRequest(m) => write_context_setup_request(alloc, m),
-        Pdu::ContextSetupResponse(m) => write_context_setup_response(alloc, m),
-        Pdu::ContextSetupFailure(m) => write_context_setup_failure(alloc, m),
-        Pdu::ReleaseRequest(m) => write_release_request(alloc, m),
-        Pdu::ReleaseCommand(m) => write_release_command(alloc, m),
-        Pdu::ReleaseComplete(m) => write_release_complete(alloc, m),
-        Pdu::Paging(m) => write_paging(alloc, m),
-        Pdu::PathSwitchRequest(m) => write_path_switch_request(alloc, m),
-        Pdu::PathSwitchAcknowledge(m) => write_path_switch_acknowledge(alloc, m),
-        Pdu::PathSwitchFailure(m) => write_path_switch_failure(alloc, m),
-        Pdu::Reset(m) => write_reset(alloc, m),
-        Pdu::ResetAcknowledge => write_reset_acknowledge(alloc),
-        Pdu::ErrorIndication(m) => write_error_indication(alloc, m),
+        Pdu::SetupRequest(m) => setup::write_setup_request(alloc, m),
+        Pdu::SetupResponse(m) => setup::write_setup_response(alloc, m),
+        Pdu::SetupFailure(m) => setup::write_setup_failure(alloc, m),
+        Pdu::InitialUeMessage(m) => transport::write_initial_ue_message(alloc, m),
+        Pdu::DownlinkNasTransport(m) => transport::write_downlink_nas_transport(alloc, m),
+        Pdu::UplinkNasTransport(m) => transport::write_uplink_nas_transport(alloc, m),
+        Pdu::NasNonDelivery(m) => transport::write_nas_non_delivery(alloc, m),
+        Pdu::CapabilityInfo(m) => transport::write_capability_info(alloc, m),
+        Pdu::ContextSetupRequest(m) => context::write_context_setup_request(alloc, m),
+        Pdu::ContextSetupResponse(m) => context::write_context_setup_response(alloc, m),
+        Pdu::ContextSetupFailure(m) => context::write_context_setup_failure(alloc, m),
+        Pdu::ReleaseRequest(m) => context::write_release_request(alloc, m),
+        Pdu::ReleaseCommand(m) => context::write_release_command(alloc, m),
+        Pdu::ReleaseComplete(m) => context::write_release_complete(alloc, m),
+        Pdu::Paging(m) => movement::write_paging(alloc, m),
+        Pdu::PathSwitchRequest(m) => movement::write_path_switch_request(alloc, m),
+        Pdu::PathSwitchAcknowledge(m) => movement::write_path_switch_acknowledge(alloc, m),
+        Pdu::PathSwitchFailure(m) => movement::write_path_switch_failure(alloc, m),
+        Pdu::Reset(m) => interface::write_reset(alloc, m),
+        Pdu::ResetAcknowledge => interface::write_reset_acknowledge(alloc),
+        Pdu::ErrorIndication(m) => interface::write_error_indication(alloc, m),
     }
 }
 
@@ -280,8 +250,8 @@ impl MessageType {
     }
 }
 
-#[tactic(auto, unfolding(crate::specs::Writing::encode_typed))]
-fn message_octets(alloc: Global, message: &S1apPdu) -> Result<Vec<u8>, PerError>
+#[tactic(auto, unfolding(crate::specs::Typed::encode_typed))]
+fn message_octets(alloc: Global, message: &S1apPdu) -> Written
     ensures { GivesWhole (λ v. v.items) result (encode_typed (typed (lists message.now))) }
 {
     let message_type = message.message_type();

@@ -1,120 +1,73 @@
 //! Messages of the interface as a whole.
 
-ghost use Rattle.std.specs.Prelude.{◌≡◌, option_map};
+ghost use Rattle.std.specs.Prelude.{◌≡◌};
 ghost use Rattle.per_bits.specs.Reading.{GivesWhole};
 ghost use Rattle.per_bits.specs.Writing.{write_whole};
-ghost use Rattle.s1ap_elements.specs.Causes.{typed_cause};
-ghost use Rattle.s1ap_elements.specs.Phones.{typed_reset_type};
-ghost use Rattle.s1ap_messages.specs.Answers.{Answers, Reads};
+ghost use Rattle.s1ap_rows.specs.Answers.{Answers};
 ghost use Rattle.s1ap_messages.specs.Pdus.{lists, typed, typed_reset, typed_error_indication};
 ghost use Rattle.s1ap_messages.specs.Profile.{reset, reset_acknowledge, error_indication};
-ghost use Rattle.s1ap_messages.specs.Reading.{put_at, read_typed};
-ghost use Rattle.s1ap_messages.specs.Writing.{write_message};
+ghost use Rattle.s1ap_rows.specs.Writing.{write_message};
 ghost use Rattle.s1ap_messages.specs.declared.message_type.MessageType.TheVariants as message;
+ghost use Rattle.s1ap_messages.specs.Typed.{read_typed};
 
-use crate::engine::{Message, count_some, fill, fill_message, pass, put_element, put_some};
-use crate::fault::S1apFault;
-use crate::pdu::{ErrorIndication, Pdu, Reset, S1apPdu};
-use per_bits::{BitReader, BitWriter, PerError, put_number};
+use crate::pdu::{Decoded, ErrorIndication, Pdu, Reset, Written};
 use s1ap_elements::{Cause, EnbUeId, MmeUeId, ResetType};
+use s1ap_rows::{End, fill_message};
 use std::alloc::Global;
 
-#[derive(Drop)]
-struct ResetRows {
-    cause: Option<Cause>,
-    reset_type: Option<ResetType>,
+macro_rules! reset {
+    ($rows:ident, $($given:tt)*) => {
+        $rows!($($given)*,
+            needed 2 Ignore cause: Cause,
+            needed 92 Reject reset_type: ResetType)
+    };
 }
 
-impl<'a> Message<'a> for ResetRows {
-    ghost rows = { reset };
-
-    ghost slots = { λ m. (option_map typed_cause m.cause, (option_map typed_reset_type m.reset_type, tt)) };
-
-    fn put(&mut self, alloc: Global, id: u16, reader: &mut BitReader<'a>) -> Result<(), S1apFault> {
-        rows!(alloc, id, reader,
-            2 => &mut self.cause, 92 => &mut self.reset_type)
-    }
-}
-
-#[tactic(auto, unfolding(crate::specs::Reading::read_typed))]
-pub fn read_reset<'a>(alloc: Global, octets: &'a [u8]) -> Result<S1apPdu<'a>, S1apFault>
+#[tactic(auto, unfolding(crate::specs::Typed::read_typed))]
+pub fn read_reset<'a>(alloc: Global, octets: &'a [u8]) -> Decoded<'a>
     ensures { Answers (λ m. typed (lists m)) result (read_typed message.Reset octets.now) }
 {
-    read_rows!(alloc, octets, ResetRows { cause, reset_type } =>
-        Reset { cause: needed!(cause, 2), reset_type: needed!(reset_type, 92) })
+    reset!(read_rows, alloc, octets, Reset)
 }
 
-pub fn write_reset(alloc: Global, m: &Reset) -> Result<Vec<u8>, PerError>
+pub fn write_reset(alloc: Global, m: &Reset) -> Written
     ensures { GivesWhole (λ v. v.items) result (write_whole (write_message reset) (typed_reset m.now)) }
 {
-    write_rows!(alloc,
-        needed 2 Ignore &m.cause,
-        needed 92 Reject &m.reset_type)
+    reset!(write_rows, alloc, m)
 }
 
-#[derive(Drop)]
-struct ResetAcknowledgeRows;
-
-impl<'a> Message<'a> for ResetAcknowledgeRows {
-    ghost rows = { reset_acknowledge };
-
-    ghost slots = { λ m. tt };
-
-    fn put(
-        &mut self,
-        _alloc: Global,
-        id: u16,
-        reader: &mut BitReader<'a>,
-    ) -> Result<(), S1apFault> {
-        pass(id, reader)
-    }
-}
-
-#[tactic(auto, unfolding(crate::specs::Reading::read_typed))]
-pub fn read_reset_acknowledge<'a>(alloc: Global, octets: &'a [u8]) -> Result<S1apPdu<'a>, S1apFault>
+#[tactic(auto, unfolding(crate::specs::Typed::read_typed))]
+pub fn read_reset_acknowledge<'a>(alloc: Global, octets: &'a [u8]) -> Decoded<'a>
     ensures { Answers (λ m. typed (lists m)) result (read_typed message.ResetAcknowledge octets.now) }
 {
-    fill_message(alloc, octets, &mut ResetAcknowledgeRows)?;
+    fill_message(alloc, octets, &mut End)?;
     Ok(Pdu::ResetAcknowledge)
 }
 
-pub fn write_reset_acknowledge(alloc: Global) -> Result<Vec<u8>, PerError>
+pub fn write_reset_acknowledge(alloc: Global) -> Written
     ensures { GivesWhole (λ v. v.items) result (write_whole (write_message reset_acknowledge) tt) }
 {
-    write_rows!(alloc,)
+    write_rows!(alloc, ())
 }
 
-#[derive(Drop)]
-struct ErrorIndicationRows {
-    mme_id: Option<MmeUeId>,
-    enb_id: Option<EnbUeId>,
-    cause: Option<Cause>,
+macro_rules! error_indication {
+    ($rows:ident, $($given:tt)*) => {
+        $rows!($($given)*,
+            optional 0 Ignore mme_id: MmeUeId,
+            optional 8 Ignore enb_id: EnbUeId,
+            optional 2 Ignore cause: Cause)
+    };
 }
 
-impl<'a> Message<'a> for ErrorIndicationRows {
-    ghost rows = { error_indication };
-
-    ghost slots = { λ m. (option_map (λ n. n) m.mme_id, (option_map (λ n. n) m.enb_id, (option_map typed_cause m.cause, tt))) };
-
-    fn put(&mut self, alloc: Global, id: u16, reader: &mut BitReader<'a>) -> Result<(), S1apFault> {
-        rows!(alloc, id, reader,
-            0 => &mut self.mme_id, 8 => &mut self.enb_id, 2 => &mut self.cause)
-    }
-}
-
-#[tactic(auto, unfolding(crate::specs::Reading::read_typed))]
-pub fn read_error_indication<'a>(alloc: Global, octets: &'a [u8]) -> Result<S1apPdu<'a>, S1apFault>
+#[tactic(auto, unfolding(crate::specs::Typed::read_typed))]
+pub fn read_error_indication<'a>(alloc: Global, octets: &'a [u8]) -> Decoded<'a>
     ensures { Answers (λ m. typed (lists m)) result (read_typed message.ErrorIndication octets.now) }
 {
-    read_rows!(alloc, octets, ErrorIndicationRows { mme_id, enb_id, cause } =>
-        ErrorIndication { mme_id: mme_id, enb_id: enb_id, cause: cause })
+    error_indication!(read_rows, alloc, octets, ErrorIndication)
 }
 
-pub fn write_error_indication(alloc: Global, m: &ErrorIndication) -> Result<Vec<u8>, PerError>
+pub fn write_error_indication(alloc: Global, m: &ErrorIndication) -> Written
     ensures { GivesWhole (λ v. v.items) result (write_whole (write_message error_indication) (typed_error_indication m.now)) }
 {
-    write_rows!(alloc,
-        optional 0 Ignore &m.mme_id,
-        optional 8 Ignore &m.enb_id,
-        optional 2 Ignore &m.cause)
+    error_indication!(write_rows, alloc, m)
 }

@@ -1,11 +1,13 @@
 //! Messages as values. `B` is what holds octets: a slice of the message in code, a list in contracts.
 
+use per_bits::PerError;
 use s1ap_elements::{
     Ambr, Cause, CnDomain, EnbUeId, ErabsSetup, ErabsToBeSetup, ErabsToBeSwitched, EutranCgi,
     GlobalEnbId, MmeUeId, PagingDrx, RelativeCapacity, ResetType, RrcCause, STmsi,
     SecurityCapabilities, SecurityContext, SecurityKey, ServedGummeis, SupportedTas, Tai, TaiList,
     UeIndex, UePagingId, UeS1apIds,
 };
+use s1ap_rows::S1apFault;
 
 /// A station sets the interface up (TS 36.413 clause 9.1.8.4).
 #[derive(Drop)]
@@ -212,3 +214,9 @@ pub enum Pdu<'a, B: Drop> {
 
 /// A message that lends its octets from where it was read.
 pub type S1apPdu<'a> = Pdu<'a, &'a [u8]>;
+
+/// What reading a message's octets answers.
+pub type Decoded<'a> = Result<S1apPdu<'a>, S1apFault>;
+
+/// What writing a message's elements answers.
+pub type Written = Result<Vec<u8>, PerError>;

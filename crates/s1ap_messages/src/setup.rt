@@ -1,125 +1,84 @@
 //! Messages by which stations come up.
 
-ghost use Rattle.std.specs.Prelude.{◌≡◌, option_map};
+ghost use Rattle.std.specs.Prelude.{◌≡◌};
 ghost use Rattle.per_bits.specs.Reading.{GivesWhole};
 ghost use Rattle.per_bits.specs.Writing.{write_whole};
-ghost use Rattle.s1ap_elements.specs.Causes.{typed_cause};
-ghost use Rattle.s1ap_elements.specs.Stations.{typed_global_enb_id, typed_paging_drx, typed_served_gummeis, typed_supported_tas};
-ghost use Rattle.s1ap_messages.specs.Answers.{Answers, Reads};
+ghost use Rattle.s1ap_rows.specs.Answers.{Answers};
 ghost use Rattle.s1ap_messages.specs.Pdus.{lists, typed, setup_request_lists, typed_setup_request, typed_setup_response, typed_setup_failure};
 ghost use Rattle.s1ap_messages.specs.Profile.{setup_request, setup_response, setup_failure};
-ghost use Rattle.s1ap_messages.specs.Reading.{put_at, read_typed};
-ghost use Rattle.s1ap_messages.specs.Writing.{write_message};
+ghost use Rattle.s1ap_rows.specs.Writing.{write_message};
 ghost use Rattle.s1ap_messages.specs.declared.message_type.MessageType.TheVariants as message;
+ghost use Rattle.s1ap_messages.specs.Typed.{read_typed};
 
-use crate::engine::{Message, count_some, fill, fill_message, pass, put_element, put_some};
-use crate::fault::S1apFault;
-use crate::pdu::{Pdu, S1apPdu, SetupFailure, SetupRequest, SetupResponse};
-use per_bits::{BitReader, BitWriter, PerError, put_number};
+use crate::pdu::{Decoded, Pdu, SetupFailure, SetupRequest, SetupResponse, Written};
 use s1ap_elements::{
     Cause, GlobalEnbId, Name, PagingDrx, RelativeCapacity, ServedGummeis, SupportedTas,
     name_of_octets, octets_of_name,
 };
 use std::alloc::Global;
 
-#[derive(Drop)]
-struct SetupRequestRows<'a> {
-    station: Option<GlobalEnbId>,
-    name: Option<Name<'a>>,
-    supported_tas: Option<SupportedTas>,
-    paging_drx: Option<PagingDrx>,
+macro_rules! setup_request {
+    ($rows:ident, $($given:tt)*) => {
+        $rows!($($given)*,
+            needed 59 Reject station: GlobalEnbId,
+            optional 60 Ignore name: Name as name,
+            needed 64 Reject supported_tas: SupportedTas,
+            needed 137 Ignore paging_drx: PagingDrx)
+    };
 }
 
-impl<'a> Message<'a> for SetupRequestRows<'a> {
-    ghost rows = { setup_request };
-
-    ghost slots = { λ m. (option_map typed_global_enb_id m.station, (option_map (λ n. n.value.octets.now) m.name, (option_map typed_supported_tas m.supported_tas, (option_map typed_paging_drx m.paging_drx, tt)))) };
-
-    fn put(&mut self, alloc: Global, id: u16, reader: &mut BitReader<'a>) -> Result<(), S1apFault> {
-        rows!(alloc, id, reader,
-            59 => &mut self.station, 60 => &mut self.name, 64 => &mut self.supported_tas, 137 => &mut self.paging_drx)
-    }
-}
-
-#[tactic(auto, unfolding(crate::specs::Reading::read_typed))]
-pub fn read_setup_request<'a>(alloc: Global, octets: &'a [u8]) -> Result<S1apPdu<'a>, S1apFault>
+#[tactic(auto, unfolding(crate::specs::Typed::read_typed))]
+pub fn read_setup_request<'a>(alloc: Global, octets: &'a [u8]) -> Decoded<'a>
     ensures { Answers (λ m. typed (lists m)) result (read_typed message.SetupRequest octets.now) }
 {
-    read_rows!(alloc, octets, SetupRequestRows { station, name, supported_tas, paging_drx } =>
-        SetupRequest { station: needed!(station, 59), name: octets_of_name(name), supported_tas: needed!(supported_tas, 64), paging_drx: needed!(paging_drx, 137) })
+    setup_request!(read_rows, alloc, octets, SetupRequest)
 }
 
-pub fn write_setup_request(alloc: Global, m: &SetupRequest<&[u8]>) -> Result<Vec<u8>, PerError>
-    ensures { GivesWhole (λ v. v.items) result (write_whole (write_message setup_request) (typed_setup_request (setup_request_lists m.now))) }
+pub fn write_setup_request(alloc: Global, m: &SetupRequest<&[u8]>) -> Written
+    ensures { GivesWhole (λ v. v.items) result
+        (write_whole (write_message setup_request) (typed_setup_request (setup_request_lists m.now))) }
 {
-    write_rows!(alloc,
-        needed 59 Reject &m.station,
-        optional 60 Ignore &name_of_octets(m.name),
-        needed 64 Reject &m.supported_tas,
-        needed 137 Ignore &m.paging_drx)
+    setup_request!(write_rows, alloc, m)
 }
 
-#[derive(Drop)]
-struct SetupResponseRows<'a> {
-    name: Option<Name<'a>>,
-    served_gummeis: Option<ServedGummeis>,
-    capacity: Option<RelativeCapacity>,
+macro_rules! setup_response {
+    ($rows:ident, $($given:tt)*) => {
+        $rows!($($given)*,
+            unkept 61 Ignore name: Name,
+            needed 105 Reject served_gummeis: ServedGummeis,
+            needed 87 Ignore capacity: RelativeCapacity)
+    };
 }
 
-impl<'a> Message<'a> for SetupResponseRows<'a> {
-    ghost rows = { setup_response };
-
-    ghost slots = { λ m. (option_map (λ n. n.value.octets.now) m.name, (option_map typed_served_gummeis m.served_gummeis, (option_map (λ n. n) m.capacity, tt))) };
-
-    fn put(&mut self, alloc: Global, id: u16, reader: &mut BitReader<'a>) -> Result<(), S1apFault> {
-        rows!(alloc, id, reader,
-            61 => &mut self.name, 105 => &mut self.served_gummeis, 87 => &mut self.capacity)
-    }
-}
-
-#[tactic(auto, unfolding(crate::specs::Reading::read_typed))]
-pub fn read_setup_response<'a>(alloc: Global, octets: &'a [u8]) -> Result<S1apPdu<'a>, S1apFault>
+#[tactic(auto, unfolding(crate::specs::Typed::read_typed))]
+pub fn read_setup_response<'a>(alloc: Global, octets: &'a [u8]) -> Decoded<'a>
     ensures { Answers (λ m. typed (lists m)) result (read_typed message.SetupResponse octets.now) }
 {
-    read_rows!(alloc, octets, SetupResponseRows { name, served_gummeis, capacity } =>
-        SetupResponse { served_gummeis: needed!(served_gummeis, 105), capacity: needed!(capacity, 87) })
+    setup_response!(read_rows, alloc, octets, SetupResponse)
 }
 
-pub fn write_setup_response(alloc: Global, m: &SetupResponse) -> Result<Vec<u8>, PerError>
+pub fn write_setup_response(alloc: Global, m: &SetupResponse) -> Written
     ensures { GivesWhole (λ v. v.items) result (write_whole (write_message setup_response) (typed_setup_response m.now)) }
 {
-    write_rows!(alloc,
-        needed 105 Reject &m.served_gummeis,
-        needed 87 Ignore &m.capacity)
+    setup_response!(write_rows, alloc, m)
 }
 
-#[derive(Drop)]
-struct SetupFailureRows {
-    cause: Option<Cause>,
+macro_rules! setup_failure {
+    ($rows:ident, $($given:tt)*) => {
+        $rows!($($given)*,
+            needed 2 Ignore cause: Cause)
+    };
 }
 
-impl<'a> Message<'a> for SetupFailureRows {
-    ghost rows = { setup_failure };
-
-    ghost slots = { λ m. (option_map typed_cause m.cause, tt) };
-
-    fn put(&mut self, alloc: Global, id: u16, reader: &mut BitReader<'a>) -> Result<(), S1apFault> {
-        rows!(alloc, id, reader,
-            2 => &mut self.cause)
-    }
-}
-
-#[tactic(auto, unfolding(crate::specs::Reading::read_typed))]
-pub fn read_setup_failure<'a>(alloc: Global, octets: &'a [u8]) -> Result<S1apPdu<'a>, S1apFault>
+#[tactic(auto, unfolding(crate::specs::Typed::read_typed))]
+pub fn read_setup_failure<'a>(alloc: Global, octets: &'a [u8]) -> Decoded<'a>
     ensures { Answers (λ m. typed (lists m)) result (read_typed message.SetupFailure octets.now) }
 {
-    read_rows!(alloc, octets, SetupFailureRows { cause } =>
-        SetupFailure { cause: needed!(cause, 2) })
+    setup_failure!(read_rows, alloc, octets, SetupFailure)
 }
 
-pub fn write_setup_failure(alloc: Global, m: &SetupFailure) -> Result<Vec<u8>, PerError>
+pub fn write_setup_failure(alloc: Global, m: &SetupFailure) -> Written
     ensures { GivesWhole (λ v. v.items) result (write_whole (write_message setup_failure) (typed_setup_failure m.now)) }
 {
-    write_rows!(alloc,
-        needed 2 Ignore &m.cause)
+    setup_failure!(write_rows, alloc, m)
 }

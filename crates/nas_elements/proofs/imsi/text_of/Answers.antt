@@ -1,7 +1,7 @@
 use Rattle.std.proofs.Common.{ℕ, ◌≡◌, ◌<◌, ◌+◌, [], ◌∷◌, length, slice_index, map, take, arith, ap, length-append}
 use Rattle.std.proofs.lemmas.Str.{encode_ascii}
 use Rattle.std.proofs.lemmas.List.{take_more, map-append}
-use Rattle.nas_elements.proofs.DigitLaws.{digits_small}
+use Rattle.nas_elements.specs.DigitLaws.{digits_small}
 use Rattle.nas_elements.proofs.imsi.text_of.Goals as goal
 
 pub overflow_add-digit : goal.overflow_add-digit

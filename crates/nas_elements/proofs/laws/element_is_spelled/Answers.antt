@@ -1,4 +1,4 @@
-use Rattle.nas_elements.proofs.PartLaws as laws
+use Rattle.nas_elements.specs.PartLaws as laws
 use Rattle.nas_elements.proofs.laws.element_is_spelled.Goals as goal
 
 pub returns : goal.returns

@@ -1,4 +1,4 @@
-use Rattle.nas_elements.proofs.DigitLaws as laws
+use Rattle.nas_elements.specs.DigitLaws as laws
 use Rattle.nas_elements.proofs.laws.imsi_is_text.Goals as goal
 
 pub returns : goal.returns

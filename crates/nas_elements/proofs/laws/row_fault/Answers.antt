@@ -1,4 +1,4 @@
-use Rattle.nas_elements.proofs.RowLaws as laws
+use Rattle.nas_elements.specs.RowLaws as laws
 use Rattle.nas_elements.proofs.laws.row_fault.Goals as goal
 
 pub returns : goal.returns

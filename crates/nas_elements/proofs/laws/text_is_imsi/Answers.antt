@@ -1,4 +1,4 @@
-use Rattle.nas_elements.proofs.DigitLaws as laws
+use Rattle.nas_elements.specs.DigitLaws as laws
 use Rattle.nas_elements.proofs.laws.text_is_imsi.Goals as goal
 
 pub returns : goal.returns

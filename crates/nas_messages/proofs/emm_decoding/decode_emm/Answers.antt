@@ -1,5 +1,5 @@
 use Rattle.std.proofs.Common.{arith}
-use Rattle.nas_elements.proofs.FitLaws.{small_each}
+use Rattle.nas_elements.specs.FitLaws.{small_each}
 use Rattle.nas_messages.proofs.EmmLaws.{seen_fits}
 use Rattle.nas_messages.proofs.emm_decoding.decode_emm.Goals as goal
 

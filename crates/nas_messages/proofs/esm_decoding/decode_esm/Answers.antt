@@ -1,6 +1,6 @@
 use Rattle.std.proofs.Common.{arith}
-use Rattle.nas_elements.proofs.FitLaws.{small_each}
-use Rattle.nas_messages.proofs.EsmLaws.{seen_esm_fits}
+use Rattle.nas_elements.specs.FitLaws.{small_each}
+use Rattle.nas_messages.specs.EsmLaws.{seen_esm_fits}
 use Rattle.nas_messages.proofs.esm_decoding.decode_esm.Goals as goal
 
 pub returns-clause-writable : goal.returns-clause-writable

@@ -1,5 +1,5 @@
 use Rattle.nas_messages.specs.EsmMessages.{encoded_esm}
-use Rattle.nas_messages.proofs.EsmLaws as laws
+use Rattle.nas_messages.specs.EsmLaws as laws
 use Rattle.nas_messages.proofs.laws.encoded_esm_is_decoded.Goals as goal
 
 pub returns : goal.returns

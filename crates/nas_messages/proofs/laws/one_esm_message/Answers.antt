@@ -1,6 +1,6 @@
 use Rattle.std.proofs.Common.{sym, ◌∙◌}
-use Rattle.nas_elements.proofs.RowLaws.{okay_is}
-use Rattle.nas_messages.proofs.EsmLaws as laws
+use Rattle.nas_elements.specs.RowLaws.{okay_is}
+use Rattle.nas_messages.specs.EsmLaws as laws
 use Rattle.nas_messages.proofs.laws.one_esm_message.Goals as goal
 
 pub returns : goal.returns

@@ -1,5 +1,5 @@
 use Rattle.std.proofs.Common.{sym, ◌∙◌}
-use Rattle.nas_elements.proofs.RowLaws.{okay_is}
+use Rattle.nas_elements.specs.RowLaws.{okay_is}
 use Rattle.nas_messages.proofs.EmmLaws as laws
 use Rattle.nas_messages.proofs.laws.one_message.Goals as goal
 

@@ -1,5 +1,5 @@
 use Rattle.std.proofs.Common.{◌≡◌, ◌∙◌, sym, Ok, Err}
-use Rattle.per_bits.proofs.FormatLaws.{complete_again, complete_takes}
+use Rattle.per_bits.specs.FormatLaws.{complete_again, complete_takes}
 use Rattle.per_bits.proofs.laws.read_exactly.Goals as goal
 
 pub returns-clause-read : goal.returns-clause-read

@@ -1,5 +1,5 @@
-use Rattle.per_bits.specs.Bits.{bit_at}
-use Rattle.per_bits.specs.Reading.{times}
+use Rattle.bit_streams.specs.Bits.{bit_at}
+use Rattle.bit_streams.specs.Each.{times}
 use Rattle.per_bits.proofs.Passing.{Flags}
 use Rattle.per_bits.proofs.skips.count_flags.Given as goal
 

@@ -1,5 +1,6 @@
 use Rattle.std.proofs.Common.{◌≡◌, ◌-◌}
-use Rattle.per_bits.specs.Reading.{times, read_at}
+use Rattle.bit_streams.specs.Each.{times}
+use Rattle.per_bits.specs.Reading.{read_at}
 use Rattle.per_bits.specs.Formats.{raw}
 use Rattle.per_bits.proofs.Passing.{unkept}
 use Rattle.per_bits.proofs.skips.pass_raw.Given as goal

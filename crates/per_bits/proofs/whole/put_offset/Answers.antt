@@ -1,5 +1,5 @@
 use Rattle.std.proofs.Common.{◌<◌, ◌^◌, ◌*◌, arith, subst, sym}
-use Rattle.per_bits.proofs.LargeLaws.{octets-mono, octets-fit}
+use Rattle.per_bits.specs.LargeLaws.{octets-mono, octets-fit}
 use Rattle.per_bits.proofs.whole.put_offset.Goals as goal
 
 pub put_bits-requires-else-span-lt65536-clause-fits :

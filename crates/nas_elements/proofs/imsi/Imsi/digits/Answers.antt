@@ -1,4 +1,4 @@
-use Rattle.nas_elements.proofs.DigitLaws.{front_digits, all_digits}
+use Rattle.nas_elements.specs.DigitLaws.{front_digits, all_digits}
 use Rattle.nas_elements.proofs.imsi.Imsi.digits.Goals as goal
 
 pub text_of-requires-clause-small : goal.text_of-requires-clause-small

@@ -1,7 +1,7 @@
 use Rattle.std.proofs.Common.{ℕ, ◌≡◌, ◌-◌, List, true, map, sym, subst, arith}
 use Rattle.std.proofs.lemmas.Grind.{common_steps}
 use Rattle.nas_elements.specs.Digits.{is_imsi, filled}
-use Rattle.nas_elements.proofs.DigitLaws.{filled_is_imsi}
+use Rattle.nas_elements.specs.DigitLaws.{filled_is_imsi}
 use Rattle.nas_elements.proofs.imsi.Imsi.try_from_digits.Goals as goal
 
 pub invariant_of-result : goal.invariant_of-result

@@ -1,7 +1,7 @@
 use Rattle.std.proofs.Common.{◌≡◌, sym, ap, ◌∙◌, arith, true}
 use Rattle.std.specs.Prelude.{is_some}
 use Rattle.nas_elements.specs.Optionals.{elements, elements_in, first}
-use Rattle.nas_elements.proofs.ElementLaws.{never_broken, shorter, still, in_step, nothing_left, first_here, first_later}
+use Rattle.nas_elements.specs.ElementLaws.{never_broken, shorter, still, in_step, nothing_left, first_here, first_later}
 use Rattle.nas_elements.proofs.optional.Optional.find.Goals as goal
 
 pub returns-in_default : goal.returns-in_default

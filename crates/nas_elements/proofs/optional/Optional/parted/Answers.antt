@@ -1,6 +1,6 @@
 use Rattle.std.proofs.Common.{sym, ◌∙◌, arith}
 use Rattle.nas_elements.specs.Optionals.{elements}
-use Rattle.nas_elements.proofs.ElementLaws.{broken_all, shorter, still, done, some_unwrapped}
+use Rattle.nas_elements.specs.ElementLaws.{broken_all, shorter, still, done, some_unwrapped}
 use Rattle.nas_elements.proofs.optional.Optional.parted.Goals as goal
 
 pub returns-in_default : goal.returns-in_default

@@ -1,0 +1,42 @@
+use Rattle.std.proofs.Common.{◌<◌, ◌≤◌, length, refl, ap, sym, ◌∙◌, arith, drop}
+use Rattle.bit_streams.specs.Bits.{Place, octet_bits}
+use Rattle.bit_streams.specs.BitLaws.{no_bit}
+use Rattle.bit_streams.specs.PartLaws.{fresh_part, later_part}
+use Rattle.bit_streams.proofs.reader.BitReader.take_part.Goals as goal
+
+pub returns-then-self : goal.returns-then-self
+returns-then-self c =
+    let r = c.self.inside in
+    (refl, sym (ap (λ (p : Place). p.rest) c.self.view_is) ∙ no_bit r.octets.now r.begun r.current r.left c.if-self-eq0.true c.if-self.true)
+
+pub returns-then-self-eq0 : goal.returns-then-self-eq0
+returns-then-self-eq0 c =
+    let r = c.self.inside in
+    let i = c.self.invariant in
+    let lt : r.begun < length r.octets.now = omega (arith, i.0, c.if-self.false) in
+    let m = c.min-some.ensures in
+    let most = c.requires in
+    let s = c.split-part.ensures in
+    let some = c.min-some.result in
+    let le : some ≤ 8 = omega (arith, m) in (
+      omega (arith, m, most),
+      omega (arith, m),
+      le,
+      rw (← c.self.view_is) (fresh_part r.octets.now r.begun r.current r.left some c.split-part.result.0 c.split-part.result.1 c.if-self-eq0.true lt le s.part s.parts),
+    )
+
+pub returns : goal.returns
+returns c =
+    let r = c.self.inside in
+    let i = c.self.invariant in
+    let m = c.min-some-2.ensures in
+    let most = c.requires in
+    let none = c.if-self-eq0.false in
+    let s = c.split-part-2.ensures in
+    let some = c.min-some-2.result in
+    let le : some ≤ r.left = omega (arith, m) in (
+      omega (arith, m, most, none),
+      omega (arith, m),
+      (let few = i.1 in omega (arith, m, few)),
+      rw (← c.self.view_is) (later_part r.begun r.current r.left some c.split-part-2.result.0 c.split-part-2.result.1 (octet_bits (drop r.begun r.octets.now)) le i.2 s.part s.parts),
+    )

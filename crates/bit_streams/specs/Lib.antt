@@ -1,0 +1,9 @@
+pub mod Octet
+pub mod Bits
+pub mod Each
+pub mod BitLaws
+pub mod PartLaws
+pub mod Exact
+pub mod OctetLaws
+pub mod Times
+pub mod WholeOctets

@@ -1,0 +1,9 @@
+pub mod Criticalities
+pub mod Rows
+pub mod Spelling
+pub mod Reading
+pub mod Writing
+pub mod Answers
+pub mod MessageLaws
+pub mod FrameLaws
+pub mod WrittenLaws

@@ -1,0 +1,47 @@
+//! What is to be done with what isn't understood.
+
+ghost use Rattle.std.specs.Prelude.{◌≡◌};
+ghost use Rattle.bit_streams.specs.Bits.{Answers};
+ghost use Rattle.per_bits.specs.Reading.{number_at};
+ghost use Rattle.s1ap_rows.specs.Criticalities.{criticality_number};
+
+use per_bits::{BitReader, PerFault, offset_of};
+
+/// The greatest number of a criticality.
+pub const LAST_CRITICALITY: u64 = 2;
+
+/// What is to be done with a procedure or an element that isn't understood (TS 36.413 clause 9.3.5).
+#[derive(Clone, Copy, Debug, PartialEq, Eq)]
+pub enum Criticality {
+    /// 0: it is refused.
+    Reject,
+    /// 1: it is passed over.
+    Ignore,
+    /// 2: it is passed over, and who sent it is told.
+    Notify,
+}
+
+impl Criticality {
+    /// Its number in an encoding, 0 to 2.
+    pub fn number(self) -> u8
+        ensures { result ≡ criticality_number self }
+    {
+        match self {
+            Criticality::Reject => 0,
+            Criticality::Ignore => 1,
+            Criticality::Notify => 2,
+        }
+    }
+}
+
+#[tactic(auto, unfolding(per_bits::specs::Reading::number_at))]
+pub fn take_criticality(reader: &mut BitReader) -> Result<Criticality, PerFault>
+    ensures { Answers criticality_number result reader.new (number_at 0 2 reader.old) }
+{
+    let number = offset_of(LAST_CRITICALITY, reader)?;
+    Ok(match number {
+        0 => Criticality::Reject,
+        1 => Criticality::Ignore,
+        _ => Criticality::Notify,
+    })
+}

@@ -1,0 +1,169 @@
+//! The elements of a message, in any order.
+
+ghost use Rattle.std.specs.Prelude.{◌≡◌, ◌≤◌, option_map};
+ghost use Rattle.bit_streams.specs.Bits.{Place, Answers};
+ghost use Rattle.per_bits.specs.Reading.{number_at};
+ghost use Rattle.per_bits.specs.Writing.{Wrote};
+ghost use Rattle.s1ap_rows.specs.Criticalities.{criticality_number};
+ghost use Rattle.s1ap_rows.specs.Rows.{Rows, Slots};
+ghost use Rattle.s1ap_rows.specs.Spelling.{may_skip};
+ghost use Rattle.s1ap_rows.specs.Reading.{put_at, pass_at, fill_slot, elements_at, fill_at};
+ghost use Rattle.s1ap_rows.specs.Writing.{write_element, write_some, one_if};
+ghost use Rattle.s1ap_rows.specs.Answers.{Reads};
+
+use crate::criticality::{Criticality, LAST_CRITICALITY, take_criticality};
+use crate::fault::S1apFault;
+use per_bits::{
+    BitReader, BitWriter, Element, PerError, PerFault, offset_of, put_number, read_complete,
+    skip_additions, take_open, write_open,
+};
+use std::alloc::Global;
+
+// The greatest id of an element (TS 36.413 clause 9.3.7).
+const GREATEST_ID: u64 = 65535;
+
+/// The most elements of a message (TS 36.413 clause 9.3.7).
+pub const MOST_ELEMENTS: u64 = 65535;
+
+// Elements that are passed over though they are marked reject (TS 36.413 clause 9.3.6).
+const GUMMEI_ID: u16 = 75;
+
+const CSG_ID: u16 = 127;
+
+const CSG_ID_LIST: u16 = 128;
+
+/// The rows of a message, as far as they were read.
+pub trait Message<'a>: Drop {
+    ghost rows: { Rows };
+
+    ghost slots: { Self → Slots rows };
+
+    /// Takes one more element, behind its id.
+    fn put(&mut self, alloc: Global, id: u16, reader: &mut BitReader<'a>) -> Result<(), S1apFault>
+        ensures { Reads result (slots self.new, reader.new) (put_at rows id (slots self.old) reader.old) };
+}
+
+/// An element of a row.
+pub fn fill<'a, T: Element<'a>>(
+    alloc: Global,
+    id: u16,
+    slot: &mut Option<T>,
+    reader: &mut BitReader<'a>,
+) -> Result<(), S1apFault>
+    ensures { Reads result (option_map T.view slot.new, reader.new) (fill_slot T.format id (option_map T.view slot.old) reader.old) }
+{
+    if slot.is_some() {
+        return Err(S1apFault::RepeatedElement(id));
+    }
+    take_criticality(reader)?;
+    let octets = take_open(reader)?;
+    let value = read_complete::<T>(alloc, octets)?;
+    *slot = Some(value);
+    Ok(())
+}
+
+// Whether an element of no row is passed over.
+fn may_skip(id: u16, criticality: Criticality) -> bool
+    ensures { result ≡ may_skip id (criticality_number criticality) }
+{
+    match criticality {
+        Criticality::Reject => id == GUMMEI_ID || id == CSG_ID || id == CSG_ID_LIST,
+        Criticality::Ignore | Criticality::Notify => true,
+    }
+}
+
+/// An element of no row.
+pub fn pass(id: u16, reader: &mut BitReader) -> Result<(), S1apFault>
+    ensures { Reads result (tt, reader.new) (pass_at id reader.old) }
+{
+    let criticality = take_criticality(reader)?;
+    if may_skip(id, criticality) {
+        take_open(reader)?;
+        Ok(())
+    } else {
+        Err(S1apFault::RefusedElement(id))
+    }
+}
+
+#[tactic(auto, unfolding(per_bits::specs::Reading::number_at))]
+fn take_id(reader: &mut BitReader) -> Result<u16, PerFault>
+    ensures { Answers (λ n. n) result reader.new (number_at 0 65535 reader.old) }
+{
+    let id = offset_of(GREATEST_ID, reader)?;
+    Ok(id as u16)
+}
+
+fn read_elements<'a, M: Message<'a>>(
+    alloc: Global,
+    count: u64,
+    reader: &mut BitReader<'a>,
+    message: &mut M,
+) -> Result<(), S1apFault>
+    ensures { Reads result (M.slots message.new, reader.new) (elements_at M.rows count (M.slots message.old) reader.old) }
+{
+    for _ in 0..count {
+        let id = take_id(reader)?;
+        message.put(alloc, id, reader)?;
+    }
+    Ok(())
+}
+
+/// The elements of a message, from its octets.
+#[tactic(auto, unfolding(per_bits::specs::Reading::number_at, crate::specs::Reading::fill_at))]
+pub fn fill_message<'a, M: Message<'a>>(
+    alloc: Global,
+    octets: &'a [u8],
+    message: &mut M,
+) -> Result<(), S1apFault>
+    ensures { Reads result (M.slots message.new) (fill_at M.rows (M.slots message.old) octets.now) }
+{
+    let mut reader = BitReader::new(octets);
+    let extended = reader.take_bit()?;
+    let count = offset_of(MOST_ELEMENTS, &mut reader)?;
+    read_elements::<M>(alloc, count, &mut reader, message)?;
+    skip_additions(extended, &mut reader)?;
+    reader.end()?;
+    Ok(())
+}
+
+/// Writes an element of a row.
+pub fn put_element<'a, T: Element<'a>>(
+    alloc: Global,
+    id: u16,
+    criticality: Criticality,
+    value: &T,
+    writer: &mut BitWriter,
+) -> Result<(), PerError>
+    ensures { Wrote result writer.new (write_element id criticality T.format (T.view value.now) writer.old) }
+{
+    put_number(0, GREATEST_ID, id as u64, writer)?;
+    put_number(0, LAST_CRITICALITY, criticality.number() as u64, writer)?;
+    write_open::<T>(alloc, value, writer)
+}
+
+/// Writes an element of a row, where it does not lack.
+pub fn put_some<'a, T: Element<'a>>(
+    alloc: Global,
+    id: u16,
+    criticality: Criticality,
+    value: &Option<T>,
+    writer: &mut BitWriter,
+) -> Result<(), PerError>
+    ensures { Wrote result writer.new (write_some id criticality T.format (option_map T.view value.now) writer.old) }
+{
+    match value {
+        Some(value) => put_element::<T>(alloc, id, criticality, value, writer),
+        None => Ok(()),
+    }
+}
+
+/// How many elements a row has that may lack.
+pub fn count_some<'a, T: Element<'a>>(value: &Option<T>) -> u64
+    ensures exact { result ≡ one_if (option_map T.view value.now) }
+    ensures few { result ≤ 1 }
+{
+    match value {
+        Some(_) => 1,
+        None => 0,
+    }
+}
