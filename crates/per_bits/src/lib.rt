@@ -15,8 +15,6 @@ mod open;
 mod reader;
 mod skips;
 mod strings;
-#[cfg(test)]
-mod tests;
 mod whole;
 mod wrapped;
 mod writer;
