@@ -228,14 +228,24 @@ def causes(all_messages, texts):
             octets = message.with_content(2, text)
             if octets:
                 shown = texts["s1ap " + message.of([]).hex()]
-                shown = re.sub(r"cause \w+\(\w+\); written same", f"cause {cause}; not writable", shown)
+                shown = re.sub(r"cause \w+\(\w+\)", f"cause {cause}", shown)
+                shown = shown.replace("; written same", "; not writable")
                 yield f"cause {cause}", octets, shown
 
 
+def check(all_messages, texts):
+    """The plain form and the one of all words are the octets of another encoder, which stand in a file."""
+    for message in all_messages:
+        plain, noisy = message.of([]).hex(), message.of(FORMS[15]).hex()
+        if texts.get("s1ap_again " + plain) != "same" or texts.get("s1ap_again " + noisy) != plain:
+            raise SystemExit(f"s1ap_contents.txt: not the octets of s1ap_noisy.rows: {plain}")
+
+
 def rows(texts):
-    """All rows: a name, the source, the call and the answer; `texts` are the answers of calls in files."""
+    """All rows: a name, the call, the source and the answer; `texts` are the answers of calls in files."""
     source = "TS 36.413 clauses 9.1 and 9.3, X.691: put together from s1ap_contents.txt"
     found = messages()
+    check(found, texts)
     made = []
     for name, octets, plain in forms(found):
         answer = "same" if octets == plain else plain.hex()
