@@ -1,14 +1,15 @@
 //! A calculator of the protocol's parts: reads lines, each a call of one of the libraries, and prints for each what the
-//! call answers.
+//! call answers. `usage.rt` has the words; any argument prints them.
 #![tactic(auto)]
+
+mod usage;
 
 use call_text::Fault;
 use std::alloc::Global;
 use std::io::{BufRead, BufReader, ErrorKind};
 use std::{env, io};
 use table_calls::Desk;
-
-const USAGE: &str = "Usage: calculator < CALLS";
+use usage::USAGE;
 
 fn main(rt: HostRuntime) -> io::Result<()> {
     if env::args(&rt)?.skip(1).next().is_some() {
@@ -47,6 +48,9 @@ fn answer(alloc: Global, desk: &mut Desk, line: &str) -> Result<String, Fault> {
     }
     let words: Vec<&str> = line.split(" ").collect(alloc)?;
     if let Some(text) = desk.answer(alloc, words.as_slice())? {
+        return Ok(text);
+    }
+    if let Some(text) = s1ap_calls::answer(alloc, words.as_slice())? {
         return Ok(text);
     }
     match value_calls::answer(alloc, words.as_slice())? {

@@ -13,8 +13,6 @@ mod octets;
 mod open;
 mod skips;
 mod strings;
-#[cfg(test)]
-mod tests;
 mod whole;
 mod wrapped;
 

@@ -101,7 +101,9 @@ fn take_value(alloc: Global, reader: &mut BitReader, step: &str) -> Result<Strin
         "rate" => digits(alloc, BitRate::read(reader)?.get()),
         "station" => {
             let station = <BitField<20> as Element>::read(alloc, reader)?;
-            Ok(format!(in alloc; "{}", Bits(station.as_slice()))?)
+            let (last, before) = (station.bit(19), station.bit(18));
+            let bits = Bits(station.as_slice());
+            Ok(format!(in alloc; "{bits} last {last} before {before}")?)
         }
         _ => pass(alloc, reader, step),
     }

@@ -26,8 +26,8 @@ impl From<PerError> for Stop {
 }
 
 /// A text, or the fault that a call answered in its place.
-pub fn answered(alloc: Global, result: Result<String, Stop>) -> Answer {
-    match result {
+pub fn answered(alloc: Global, outcome: Result<String, Stop>) -> Answer {
+    match outcome {
         Ok(text) => Ok(Some(text)),
         Err(Stop::Per(fault)) => Ok(Some(format!(in alloc; "fault {fault:?}")?)),
         Err(Stop::Line(fault)) => Err(fault),

@@ -95,11 +95,14 @@ fn address_text(alloc: Global, address: &BitString<1, 160>) -> Result<String, Al
     }
 }
 
-/// How many codes there are, and each.
+/// How many codes there are, twice counted, whether there is none, and each.
 fn codes_text(alloc: Global, codes: &Items<Octets<1>, 1, 256>) -> Result<String, AllocError> {
-    let mut text = format!(in alloc; "{}", codes.len())?;
-    for code in codes.as_slice() {
-        text.push_str(format!(in alloc; " {}", Hex(code.as_slice()))?.as_str())?;
+    let (count, empty) = (codes.as_slice().len(), codes.is_empty());
+    let mut text = format!(in alloc; "{} {count} empty {empty}", codes.len())?;
+    for place in 0..codes.len() {
+        if let Some(code) = codes.get(place) {
+            text.push_str(format!(in alloc; " {}", Hex(code.as_slice()))?.as_str())?;
+        }
     }
     Ok(text)
 }
