@@ -10,11 +10,11 @@ use crate::fault::PlayFault;
 use crate::watched::Watched;
 use emm_machine::{EcmState, EmmState, States};
 use esm_machine::BearerState;
+use identity_slots::{number_in, station_in};
 use mme_core::{Out, Owner};
 use nas_elements::Imsi;
 use std::alloc::Global;
 use std::io::Write;
-use identity_slots::{number_in, station_in};
 use trace_text::{
     Answer, AnswerOwner, EcmState as EcmWord, EmmState as EmmWord, EsmState, write_answer,
 };

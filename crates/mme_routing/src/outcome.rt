@@ -14,7 +14,8 @@ use crate::calls::{Calls, Reach};
 use crate::naming::named_slot;
 use identity_slots::{AssociationId, Provision};
 use mme_vocabulary::{
-    Answers, Entry, Network, SoloEvent, StationNumber, StationState, UeBody, UeMessage, is_broadcast,
+    Answers, Entry, Network, SoloEvent, StationNumber, StationState, UeBody, UeMessage,
+    is_broadcast,
 };
 use s1ap_elements::{Cause, EnbUeId, MmeUeId, Plmn, ProtocolCause, SupportedTa};
 use s1ap_messages::{InitialUeMessage, Pdu, S1apFault, S1apPdu, SetupRequest, decode};
@@ -42,7 +43,11 @@ fn answered<'a>(sends: Answers) -> Outcome<'a>
 }
 
 // The associations of a station end, with what it is told, and the state that it begins anew in, where that is another.
-fn begins_anew<'a>(station: StationNumber, state: Option<StationState>, sends: Answers) -> Outcome<'a>
+fn begins_anew<'a>(
+    station: StationNumber,
+    state: Option<StationState>,
+    sends: Answers,
+) -> Outcome<'a>
     ensures { (old : StationState) (stations : List StationState) → seen old stations result ≡ begins_anew station (unwrap_or state old) sends }
 {
     Outcome {
@@ -67,7 +72,10 @@ fn hears_indication<'a>(
     }
 }
 
-fn hears_not_compatible<'a>(alloc: Global, station: StationNumber) -> Result<Outcome<'a>, AllocError>
+fn hears_not_compatible<'a>(
+    alloc: Global,
+    station: StationNumber,
+) -> Result<Outcome<'a>, AllocError>
     ensures { IfOk result (λ h. (state : StationState) (stations : List StationState) → seen state stations h ≡ not_compatible station state) }
 {
     let cause = Cause::Protocol(ProtocolCause::MessageNotCompatible);
