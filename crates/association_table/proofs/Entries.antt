@@ -11,38 +11,38 @@ use Rattle.ordered_lists.specs.Laws.{rising-without, at-without}
 use Rattle.ordered_lists.specs.Indexed.{every-add, every-without, rising-add, rising-ordered, rising_distinct, at_added, without-add, distinct_add, distinct_other, gone_other, map-add, map-without, at-map, rising-map, apart_none, apart_distinct, ordered_left, ordered-add}
 use Rattle.association_table.specs.declared.association.Association.{Association}
 use Rattle.association_table.specs.declared.places.Held.{Held}
-use Rattle.association_table.specs.declared.places.Place.{Place}
+use Rattle.association_table.specs.declared.places.SlabPlace.{SlabPlace}
 use Rattle.association_table.specs.declared.places.Seat.{Seat}
-use Rattle.association_table.specs.Table.{id_of, found, opened, closed}
-use Rattle.association_table.specs.Kept.{place_id, place_key, or_blank, with_id, entry_at, entries_of, seat_of, seat_rank, seating, IsId, IsKept}
+use Rattle.association_table.specs.Table.{association_id, found, opened, closed}
+use Rattle.association_table.specs.Kept.{place_id, place_key, or_blank, with_id, entry_at, entries_of, seat_of, seat_rank, seating, IsId, IsTable}
 
-apart : (x y : Association) → IsId x → IsId y → seating x ≡ seating y → id_of x ≡ id_of y
+apart : (x y : Association) → IsId x → IsId y → seating x ≡ seating y → association_id x ≡ association_id y
 apart x y a b e = omega arith
 
-pub rising_entries : (s : Slab Held) (ps : List Place) → Rising place_id ps → Rising id_of (entries_of s ps)
-rising_entries s ps h = rising-map (entry_at s) id_of ps h
+pub rising_entries : (s : Slab Held) (ps : List SlabPlace) → Rising place_id ps → Rising association_id (entries_of s ps)
+rising_entries s ps h = rising-map (entry_at s) association_id ps h
 
-pub rising_seats : (s : Slab Held) (ps : List Place) (seats : List Seat) → IsKept s ps seats → Rising seat_rank seats
+pub rising_seats : (s : Slab Held) (ps : List SlabPlace) (seats : List Seat) → IsTable s ps seats → Rising seat_rank seats
 rising_seats s ps seats k =
     let es = entries_of s ps in
     subst (Rising seat_rank) (sym k.seats)
-    (rising-map seat_of seat_rank (ordered seating es) (rising-ordered seating es (apart_distinct id_of seating IsId apart es k.ids (rising_distinct id_of es (rising_entries s ps k.rising)))))
+    (rising-map seat_of seat_rank (ordered seating es) (rising-ordered seating es (apart_distinct association_id seating IsId apart es k.ids (rising_distinct association_id es (rising_entries s ps k.rising)))))
 
-pub found_place : (s : Slab Held) (id : ℕ) (ps : List Place) → found id (entries_of s ps) ≡ option_map (entry_at s) (at place_id id ps)
-found_place s id ps = at-map (entry_at s) id_of id ps
+pub found_place : (s : Slab Held) (id : ℕ) (ps : List SlabPlace) → found id (entries_of s ps) ≡ option_map (entry_at s) (at place_id id ps)
+found_place s id ps = at-map (entry_at s) association_id id ps
 
-mapped_none : (s : Slab Held) (o : Option Place) → option_map (entry_at s) o ≡ None → o ≡ None
+mapped_none : (s : Slab Held) (o : Option SlabPlace) → option_map (entry_at s) o ≡ None → o ≡ None
 mapped_none s None h = refl
 mapped_none s (Some p) h = absurd (cc)
 
-pub free_place : (s : Slab Held) (id : ℕ) (ps : List Place) → found id (entries_of s ps) ≡ None → at place_id id ps ≡ None
+pub free_place : (s : Slab Held) (id : ℕ) (ps : List SlabPlace) → found id (entries_of s ps) ≡ None → at place_id id ps ≡ None
 free_place s id ps h = mapped_none s (at place_id id ps) (sym (found_place s id ps) ∙ h)
 
-mapped_some : (s : Slab Held) (a : Association) (o : Option Place) → option_map (entry_at s) o ≡ Some a → (p : Place) × (o ≡ Some p) × (entry_at s p ≡ a)
+mapped_some : (s : Slab Held) (a : Association) (o : Option SlabPlace) → option_map (entry_at s) o ≡ Some a → (p : SlabPlace) × (o ≡ Some p) × (entry_at s p ≡ a)
 mapped_some s a None h = absurd (cc)
 mapped_some s a (Some p) h = (p, refl, (cc))
 
-pub taken_place : (s : Slab Held) (id : ℕ) (a : Association) (ps : List Place) → found id (entries_of s ps) ≡ Some a → (p : Place) × (at place_id id ps ≡ Some p) × (entry_at s p ≡ a)
+pub taken_place : (s : Slab Held) (id : ℕ) (a : Association) (ps : List SlabPlace) → found id (entries_of s ps) ≡ Some a → (p : SlabPlace) × (at place_id id ps ≡ Some p) × (entry_at s p ≡ a)
 taken_place s id a ps h = mapped_some s a (at place_id id ps) (sym (found_place s id ps) ∙ h)
 
 -- another key of the slab
@@ -50,24 +50,24 @@ pub none_some : {X : Type 0} (o : Option X) → IsSome o → o ≡ None → ⊥
 none_some None h e = cc
 none_some (Some x) h e = cc
 
-vacant_by : (s : Slab Held) (key : ℕ) (p : Place) (ps : List Place) (b : Bool) → (p.key == key) ≡ b → get s key ≡ None → IsSome (get s p.key) → at place_key key ps ≡ None → cond b (Some p) (at place_key key ps) ≡ None
+vacant_by : (s : Slab Held) (key : ℕ) (p : SlabPlace) (ps : List SlabPlace) (b : Bool) → (p.key == key) ≡ b → get s key ≡ None → IsSome (get s p.key) → at place_key key ps ≡ None → cond b (Some p) (at place_key key ps) ≡ None
 vacant_by s key p ps true e n h ih = let same : p.key ≡ key = eqb-true _ _ e in absurd (none_some (get s key) (subst (λ k. IsSome (get s k)) same h) n)
 vacant_by s key p ps false e n h ih = ih
 
-pub vacant_none : (s : Slab Held) (key : ℕ) (ps : List Place) → get s key ≡ None → Every (λ p. IsSome (get s p.key)) ps → at place_key key ps ≡ None
+pub vacant_none : (s : Slab Held) (key : ℕ) (ps : List SlabPlace) → get s key ≡ None → Every (λ p. IsSome (get s p.key)) ps → at place_key key ps ≡ None
 vacant_none s key [] n h = refl
 vacant_none s key (p ∷ ps) n h = vacant_by s key p ps (p.key == key) refl n h.0 (vacant_none s key ps n h.1)
 
-other_key : (key : ℕ) (p : Place) (ps : List Place) → at place_key key (p ∷ ps) ≡ None → (p.key ≡ key → ⊥) × (at place_key key ps ≡ None)
+other_key : (key : ℕ) (p : SlabPlace) (ps : List SlabPlace) → at place_key key (p ∷ ps) ≡ None → (p.key ≡ key → ⊥) × (at place_key key ps ≡ None)
 other_key key p ps h = ((λ e. grind (arith, nat_tests)), grind (arith, nat_tests))
 
-pub same_entries : (s t : Slab Held) (key : ℕ) (ps : List Place) → ((o : ℕ) → o ≢ key → get t o ≡ get s o) → at place_key key ps ≡ None → entries_of t ps ≡ entries_of s ps
+pub same_entries : (s t : Slab Held) (key : ℕ) (ps : List SlabPlace) → ((o : ℕ) → o ≢ key → get t o ≡ get s o) → at place_key key ps ≡ None → entries_of t ps ≡ entries_of s ps
 same_entries s t key [] u h = refl
 same_entries s t key (p ∷ ps) u h =
     let o = other_key key p ps h in
     ap (λ x. with_id p.id (or_blank x) ∷ entries_of t ps) (u p.key o.0) ∙ ap (λ es. entry_at s p ∷ es) (same_entries s t key ps u o.1)
 
-pub same_held : (s t : Slab Held) (key : ℕ) (ps : List Place) → ((o : ℕ) → o ≢ key → get t o ≡ get s o) → at place_key key ps ≡ None → Every (λ p. IsSome (get s p.key)) ps → Every (λ p. IsSome (get t p.key)) ps
+pub same_held : (s t : Slab Held) (key : ℕ) (ps : List SlabPlace) → ((o : ℕ) → o ≢ key → get t o ≡ get s o) → at place_key key ps ≡ None → Every (λ p. IsSome (get s p.key)) ps → Every (λ p. IsSome (get t p.key)) ps
 same_held s t key [] u n h = tt
 same_held s t key (p ∷ ps) u n h =
     let o = other_key key p ps n in
@@ -77,19 +77,19 @@ some_is : (o : Option Held) (h : Held) → o ≡ Some h → IsSome o
 some_is o h e = subst IsSome (sym e) refl
 
 -- an opening
-pub open_entries : (s t : Slab Held) (a : Association) (key : ℕ) (ps : List Place) → get s key ≡ None → Every (λ p. IsSome (get s p.key)) ps
+pub open_entries : (s t : Slab Held) (a : Association) (key : ℕ) (ps : List SlabPlace) → get s key ≡ None → Every (λ p. IsSome (get s p.key)) ps
     → Updates s t key (Some (record { owner = a.owner; station = a.station; enb_id = a.enb_id }))
     → entries_of t (add place_id (record { id = a.id; key = key }) ps) ≡ opened a (entries_of s ps)
 open_entries s t a key ps n h u =
-    map-add (entry_at t) id_of (record { id = a.id; key = key }) ps
-    ∙ ap (λ x. add id_of (with_id a.id (or_blank x)) (entries_of t ps)) u.changed
-    ∙ ap (add id_of a) (same_entries s t key ps u.others (vacant_none s key ps n h))
+    map-add (entry_at t) association_id (record { id = a.id; key = key }) ps
+    ∙ ap (λ x. add association_id (with_id a.id (or_blank x)) (entries_of t ps)) u.changed
+    ∙ ap (add association_id a) (same_entries s t key ps u.others (vacant_none s key ps n h))
 
-pub open_kept : (s t : Slab Held) (a : Association) (key : ℕ) (ps : List Place) (seats : List Seat) → IsKept s ps seats → IsId a → found a.id (entries_of s ps) ≡ None → get s key ≡ None
+pub open_kept : (s t : Slab Held) (a : Association) (key : ℕ) (ps : List SlabPlace) (seats : List Seat) → IsTable s ps seats → IsId a → found a.id (entries_of s ps) ≡ None → get s key ≡ None
     → Updates s t key (Some (record { owner = a.owner; station = a.station; enb_id = a.enb_id }))
-    → IsKept t (add place_id (record { id = a.id; key = key }) ps) (add seat_rank (seat_of a) seats)
+    → IsTable t (add place_id (record { id = a.id; key = key }) ps) (add seat_rank (seat_of a) seats)
 open_kept s t a key ps seats k i f n u =
-    let p : Place = record { id = a.id; key = key } in
+    let p : SlabPlace = record { id = a.id; key = key } in
     let es = entries_of s ps in
     let none = vacant_none s key ps n k.held in
     let e = open_entries s t a key ps n k.held u in
@@ -97,30 +97,30 @@ open_kept s t a key ps seats k i f n u =
       rising = rising-add place_id p ps (free_place s a.id ps f) k.rising;
       keys = distinct_add place_id place_key p ps k.keys none;
       held = every-add (λ q. IsSome (get t q.key)) place_id p ps (some_is (get t key) _ u.changed) (same_held s t key ps u.others none k.held);
-      ids = subst (Every IsId) (sym e) (every-add IsId id_of a es i k.ids);
+      ids = subst (Every IsId) (sym e) (every-add IsId association_id a es i k.ids);
       seats = ap (add seat_rank (seat_of a)) k.seats ∙ sym (map-add seat_of seat_rank a (ordered seating es))
-          ∙ ap (map seat_of) (sym (ordered-add id_of seating a es (apart_none id_of seating IsId apart a es i k.ids f))) ∙ ap (λ xs. map seat_of (ordered seating xs)) (sym e);
+          ∙ ap (map seat_of) (sym (ordered-add association_id seating a es (apart_none association_id seating IsId apart a es i k.ids f))) ∙ ap (λ xs. map seat_of (ordered seating xs)) (sym e);
     }
 
 -- a closing
-pub close_entries : (s t : Slab Held) (id : ℕ) (p : Place) (ps : List Place) → Distinct place_key ps → at place_id id ps ≡ Some p → Updates s t p.key None
+pub close_entries : (s t : Slab Held) (id : ℕ) (p : SlabPlace) (ps : List SlabPlace) → Distinct place_key ps → at place_id id ps ≡ Some p → Updates s t p.key None
     → entries_of t (without place_id id ps) ≡ closed id (entries_of s ps)
 close_entries s t id p ps d h u =
-    same_entries s t p.key (without place_id id ps) u.others (gone_other place_id place_key id p ps d h) ∙ map-without (entry_at s) id_of id ps
+    same_entries s t p.key (without place_id id ps) u.others (gone_other place_id place_key id p ps d h) ∙ map-without (entry_at s) association_id id ps
 
-pub seats_with : (s : Slab Held) (id : ℕ) (a : Association) (ps : List Place) (seats : List Seat) → IsKept s ps seats → found id (entries_of s ps) ≡ Some a
+pub seats_with : (s : Slab Held) (id : ℕ) (a : Association) (ps : List SlabPlace) (seats : List Seat) → IsTable s ps seats → found id (entries_of s ps) ≡ Some a
     → seats ≡ add seat_rank (seat_of a) (map seat_of (ordered seating (closed id (entries_of s ps))))
 seats_with s id a ps seats k f =
     let es = entries_of s ps in
-    k.seats ∙ ap (map seat_of) (ordered_left id_of seating IsId apart id a es k.ids f) ∙ map-add seat_of seat_rank a (ordered seating (closed id es))
+    k.seats ∙ ap (map seat_of) (ordered_left association_id seating IsId apart id a es k.ids f) ∙ map-add seat_of seat_rank a (ordered seating (closed id es))
 
-pub seat_there : (s : Slab Held) (id : ℕ) (a : Association) (ps : List Place) (seats : List Seat) → IsKept s ps seats → found id (entries_of s ps) ≡ Some a
+pub seat_there : (s : Slab Held) (id : ℕ) (a : Association) (ps : List SlabPlace) (seats : List Seat) → IsTable s ps seats → found id (entries_of s ps) ≡ Some a
     → at seat_rank (seat_rank (seat_of a)) seats ≡ Some (seat_of a)
 seat_there s id a ps seats k f =
     ap (at seat_rank (seat_rank (seat_of a))) (seats_with s id a ps seats k f) ∙ at_added seat_rank (seat_of a) (map seat_of (ordered seating (closed id (entries_of s ps))))
 
-pub close_kept : (s t : Slab Held) (id : ℕ) (a : Association) (p : Place) (ps : List Place) (seats : List Seat) → IsKept s ps seats → found id (entries_of s ps) ≡ Some a → at place_id id ps ≡ Some p
-    → Updates s t p.key None → IsKept t (without place_id id ps) (without seat_rank (seat_rank (seat_of a)) seats)
+pub close_kept : (s t : Slab Held) (id : ℕ) (a : Association) (p : SlabPlace) (ps : List SlabPlace) (seats : List Seat) → IsTable s ps seats → found id (entries_of s ps) ≡ Some a → at place_id id ps ≡ Some p
+    → Updates s t p.key None → IsTable t (without place_id id ps) (without seat_rank (seat_rank (seat_of a)) seats)
 close_kept s t id a p ps seats k f h u =
     let es = entries_of s ps in
     let e = close_entries s t id p ps k.keys h u in
@@ -129,23 +129,23 @@ close_kept s t id a p ps seats k f h u =
       rising = rising-without place_id id ps k.rising;
       keys = distinct_other place_id place_key id ps k.keys;
       held = same_held s t p.key (without place_id id ps) u.others gone (every-without (λ q. IsSome (get s q.key)) place_id id ps k.held);
-      ids = subst (Every IsId) (sym e) (every-without IsId id_of id es k.ids);
+      ids = subst (Every IsId) (sym e) (every-without IsId association_id id es k.ids);
       seats = ap (without seat_rank (seat_rank (seat_of a))) (seats_with s id a ps seats k f)
           ∙ without-add seat_rank (seat_rank (seat_of a)) (seat_of a) (map seat_of (ordered seating (closed id es))) refl ∙ ap (λ xs. map seat_of (ordered seating xs)) (sym e);
     }
 
 -- more room
-pub kept_room : (s t : Slab Held) (ps qs : List Place) (seats chairs : List Seat) → IsKept s ps seats → t ≡ record s { capacity = t.capacity } → qs ≡ ps → chairs ≡ seats → IsKept t qs chairs
+pub kept_room : (s t : Slab Held) (ps qs : List SlabPlace) (seats chairs : List Seat) → IsTable s ps seats → t ≡ record s { capacity = t.capacity } → qs ≡ ps → chairs ≡ seats → IsTable t qs chairs
 kept_room s t ps qs seats chairs k e f g =
-    let there : IsKept (record s { capacity = t.capacity }) ps seats = record { rising = k.rising; keys = k.keys; held = k.held; ids = k.ids; seats = k.seats } in
-    subst (λ x. IsKept x qs chairs) (sym e) (subst (λ x. IsKept (record s { capacity = t.capacity }) x chairs) (sym f) (subst (IsKept (record s { capacity = t.capacity }) ps) (sym g) there))
+    let there : IsTable (record s { capacity = t.capacity }) ps seats = record { rising = k.rising; keys = k.keys; held = k.held; ids = k.ids; seats = k.seats } in
+    subst (λ x. IsTable x qs chairs) (sym e) (subst (λ x. IsTable (record s { capacity = t.capacity }) x chairs) (sym f) (subst (IsTable (record s { capacity = t.capacity }) ps) (sym g) there))
 
 pub when_ok : {X E Y : Type 0} (r : Result X E) (a b : Y) → IsOk r → (if is_ok r then a else b) ≡ a
 when_ok (Ok x) a b h = refl
 when_ok (Err e) a b h = absurd (cc)
 
-pub closed_gone : (s : Slab Held) (id : ℕ) (ps : List Place) → Rising place_id ps → found id (closed id (entries_of s ps)) ≡ None
-closed_gone s id ps h = let w = at-without id_of id id (entries_of s ps) (rising_entries s ps h) in grind (arith, nat_tests)
+pub closed_gone : (s : Slab Held) (id : ℕ) (ps : List SlabPlace) → Rising place_id ps → found id (closed id (entries_of s ps)) ≡ None
+closed_gone s id ps h = let w = at-without association_id id id (entries_of s ps) (rising_entries s ps h) in grind (arith, nat_tests)
 
 -- a copy of the slab and the lists
 same_slot_by : (is_clone : Held → Held → Type 0) → ((x y : Held) → is_clone x y → y ≡ x) → (x : Held) (copy : Option Held) → IsSomeAnd copy (is_clone x) → copy ≡ Some x
@@ -156,29 +156,29 @@ pub same_slot : (is_clone : Held → Held → Type 0) → ((x y : Held) → is_c
 same_slot is_clone same None copy h = h
 same_slot is_clone same (Some x) copy h = same_slot_by is_clone same x copy h
 
-copied_held : (s t : Slab Held) (ps : List Place) → t.slots ≡ s.slots → Every (λ p. IsSome (get s p.key)) ps → Every (λ p. IsSome (get t p.key)) ps
+copied_held : (s t : Slab Held) (ps : List SlabPlace) → t.slots ≡ s.slots → Every (λ p. IsSome (get s p.key)) ps → Every (λ p. IsSome (get t p.key)) ps
 copied_held s t [] e h = tt
 copied_held s t (p ∷ ps) e h = (subst (λ (xs : List (Option Held)). IsSome (slice_index_or xs p.key None)) (sym e) h.0, copied_held s t ps e h.1)
 
-copied_map : (s t : Slab Held) (ps : List Place) → t.slots ≡ s.slots → entries_of t ps ≡ entries_of s ps
+copied_map : (s t : Slab Held) (ps : List SlabPlace) → t.slots ≡ s.slots → entries_of t ps ≡ entries_of s ps
 copied_map s t [] e = refl
 copied_map s t (p ∷ ps) e =
     ap (λ (xs : List (Option Held)). with_id p.id (or_blank (slice_index_or xs p.key None)) ∷ entries_of t ps) e ∙ ap (λ es. entry_at s p ∷ es) (copied_map s t ps e)
 
-pub copied_entries : (s t : Slab Held) (ps qs : List Place) → t.slots ≡ s.slots → qs ≡ ps → entries_of t qs ≡ entries_of s ps
+pub copied_entries : (s t : Slab Held) (ps qs : List SlabPlace) → t.slots ≡ s.slots → qs ≡ ps → entries_of t qs ≡ entries_of s ps
 copied_entries s t ps qs e f = ap (entries_of t) f ∙ copied_map s t ps e
 
-pub copied_kept : (s t : Slab Held) (ps qs : List Place) (seats chairs : List Seat) → IsKept s ps seats → t.slots ≡ s.slots → qs ≡ ps → chairs ≡ seats → IsKept t qs chairs
+pub copied_kept : (s t : Slab Held) (ps qs : List SlabPlace) (seats chairs : List Seat) → IsTable s ps seats → t.slots ≡ s.slots → qs ≡ ps → chairs ≡ seats → IsTable t qs chairs
 copied_kept s t ps qs seats chairs k e f g =
     let es = copied_map s t ps e in
-    let there : IsKept t ps seats = record {
+    let there : IsTable t ps seats = record {
       rising = k.rising;
       keys = k.keys;
       held = copied_held s t ps e k.held;
       ids = subst (Every IsId) (sym es) k.ids;
       seats = k.seats ∙ ap (λ xs. map seat_of (ordered seating xs)) (sym es);
     } in
-    subst (λ x. IsKept t x chairs) (sym f) (subst (IsKept t ps) (sym g) there)
+    subst (λ x. IsTable t x chairs) (sym f) (subst (IsTable t ps) (sym g) there)
 
 pub on_some : {X P : Type 0} (o : Option X) → IsSome o → OnSome o P → P
 on_some None h p = absurd (cc)

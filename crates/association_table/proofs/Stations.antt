@@ -6,12 +6,12 @@ use Rattle.ordered_lists.specs.Ordered.{place, add, ordered, AllOver, Rising, Ev
 use Rattle.ordered_lists.specs.Indexed.{every-ordered}
 use Rattle.association_table.specs.declared.association.Association.{Association}
 use Rattle.association_table.specs.declared.places.Seat.{Seat}
-use Rattle.association_table.specs.Table.{id_of, found, opened, closed, moved, at_station, elsewhere, first_from}
+use Rattle.association_table.specs.Table.{association_id, found, opened, closed, moved, at_station, elsewhere, first_from}
 use Rattle.slab.specs.Slab.{Slab}
 use Rattle.association_table.specs.declared.places.Held.{Held}
-use Rattle.association_table.specs.declared.places.Place.{Place}
+use Rattle.association_table.specs.declared.places.SlabPlace.{SlabPlace}
 use Rattle.association_table.proofs.Entries.{rising_entries}
-use Rattle.association_table.specs.Kept.{IsKept, entries_of, seat_of, seat_rank, seating, IsId, IsSeat, first_seat}
+use Rattle.association_table.specs.Kept.{IsTable, entries_of, seat_of, seat_rank, seating, IsId, IsSeat, first_seat}
 
 -- ---- the search among the seats
 
@@ -67,13 +67,13 @@ seat_found e n (suc i) s (y ∷ ys) p lt q same =
 
 -- ---- the seats are those of the entries
 
-seat_map_by : (a : Association) (s : Option ℕ) (f : Option Association) (b c : Bool) → s ≡ option_map id_of f
-    → cond b (cond c (Some a.id) s) s ≡ option_map id_of (cond b (cond c (Some a) f) f)
+seat_map_by : (a : Association) (s : Option ℕ) (f : Option Association) (b c : Bool) → s ≡ option_map association_id f
+    → cond b (cond c (Some a.id) s) s ≡ option_map association_id (cond b (cond c (Some a) f) f)
 seat_map_by a s f true true ih = refl
 seat_map_by a s f true false ih = ih
 seat_map_by a s f false c ih = ih
 
-seat_map : (e n : ℕ) (zs : List Association) → first_seat e n (map seat_of zs) ≡ option_map id_of (first_from e n zs)
+seat_map : (e n : ℕ) (zs : List Association) → first_seat e n (map seat_of zs) ≡ option_map association_id (first_from e n zs)
 seat_map e n [] = refl
 seat_map e n (a ∷ zs) = seat_map_by a _ _ (a.station == e) (nat_le n a.id) (seat_map e n zs)
 
@@ -88,18 +88,18 @@ first_add e n a (y ∷ ys) h =
     let before : y.station ≡ a.station → seating a < seating y = h.0 in
     grind (arith, nat_tests)
 
-befores : (a : Association) (es : List Association) → AllOver id_of a.id es → Every (IsBefore a) es
+befores : (a : Association) (es : List Association) → AllOver association_id a.id es → Every (IsBefore a) es
 befores a [] h = tt
 befores a (z ∷ zs) h = let lt : a.id < z.id = h.0 in ((λ q. omega arith), befores a zs h.1)
 
-first_ordered : (e n : ℕ) (es : List Association) → Rising id_of es → first_from e n (ordered seating es) ≡ first_from e n es
+first_ordered : (e n : ℕ) (es : List Association) → Rising association_id es → first_from e n (ordered seating es) ≡ first_from e n es
 first_ordered e n [] h = refl
 first_ordered e n (a ∷ es) h =
     first_add e n a (ordered seating es) (every-ordered (IsBefore a) seating es (befores a es h.0))
     ∙ ap (λ f. if a.station == e then (if nat_le n a.id then Some a else f) else f) (first_ordered e n es h.1)
 
-pub first_by_seats : (e n : ℕ) (es : List Association) → Rising id_of es → first_seat e n (map seat_of (ordered seating es)) ≡ option_map id_of (first_from e n es)
-first_by_seats e n es h = seat_map e n (ordered seating es) ∙ ap (option_map id_of) (first_ordered e n es h)
+pub first_by_seats : (e n : ℕ) (es : List Association) → Rising association_id es → first_seat e n (map seat_of (ordered seating es)) ≡ option_map association_id (first_from e n es)
+first_by_seats e n es h = seat_map e n (ordered seating es) ∙ ap (option_map association_id) (first_ordered e n es h)
 
 seats_small_by : (zs : List Association) → Every IsId zs → Every IsSeat (map seat_of zs)
 seats_small_by [] h = tt
@@ -114,30 +114,30 @@ pub first_is : (e n : ℕ) (a : Association) (es : List Association) → first_f
 first_is e n a [] q = absurd (cc)
 first_is e n a (y ∷ ys) q = let ih = first_is e n a ys in (grind (arith, nat_tests), grind (arith, nat_tests))
 
-first_over : (e n j : ℕ) (a : Association) (es : List Association) → AllOver id_of j es → first_from e n es ≡ Some a → j < a.id
+first_over : (e n j : ℕ) (a : Association) (es : List Association) → AllOver association_id j es → first_from e n es ≡ Some a → j < a.id
 first_over e n j a [] h q = absurd (cc)
 first_over e n j a (y ∷ ys) h q = let ih = first_over e n j a ys h.1 in let lt : j < y.id = h.0 in grind (arith, nat_tests)
 
-pub first_found : (e n : ℕ) (a : Association) (es : List Association) → Rising id_of es → first_from e n es ≡ Some a → found a.id es ≡ Some a
+pub first_found : (e n : ℕ) (a : Association) (es : List Association) → Rising association_id es → first_from e n es ≡ Some a → found a.id es ≡ Some a
 first_found e n a [] h q = absurd (cc)
 first_found e n a (y ∷ ys) h q = let ih = first_found e n a ys h.1 in let over = first_over e n y.id a ys h.0 in grind (arith, nat_tests)
 
-mapped_some : (id : ℕ) (o : Option Association) → option_map id_of o ≡ Some id → (a : Association) × (o ≡ Some a) × (a.id ≡ id)
+mapped_some : (id : ℕ) (o : Option Association) → option_map association_id o ≡ Some id → (a : Association) × (o ≡ Some a) × (a.id ≡ id)
 mapped_some id None q = absurd (cc)
 mapped_some id (Some a) q = (a, refl, (cc))
 
-pub first_by_id : (e n id : ℕ) (es : List Association) → Rising id_of es → option_map id_of (first_from e n es) ≡ Some id → found id es ≡ first_from e n es
+pub first_by_id : (e n id : ℕ) (es : List Association) → Rising association_id es → option_map association_id (first_from e n es) ≡ Some id → found id es ≡ first_from e n es
 first_by_id e n id es h q =
     let a = mapped_some id (first_from e n es) q in
     ap (λ i. found i es) (sym a.2) ∙ first_found e n a.0 es h a.1 ∙ sym a.1
 
-pub mapped_none : (o : Option Association) → option_map id_of o ≡ None → o ≡ None
+pub mapped_none : (o : Option Association) → option_map association_id o ≡ None → o ≡ None
 mapped_none None q = refl
 mapped_none (Some a) q = absurd (cc)
 
 -- ---- clearing a station
 
-pub elsewhere_closed : (e n : ℕ) (a : Association) (es : List Association) → Rising id_of es → first_from e n es ≡ Some a → elsewhere e (closed a.id es) ≡ elsewhere e es
+pub elsewhere_closed : (e n : ℕ) (a : Association) (es : List Association) → Rising association_id es → first_from e n es ≡ Some a → elsewhere e (closed a.id es) ≡ elsewhere e es
 elsewhere_closed e n a [] h q = refl
 elsewhere_closed e n a (y ∷ ys) h q =
     let ih = elsewhere_closed e n a ys h.1 in
@@ -167,14 +167,14 @@ pub from_none : (e n : ℕ) (es : List Association) → first_from e n es ≡ No
 from_none e n [] q = refl
 from_none e n (y ∷ ys) q = let ih = from_none e n ys in grind (arith, nat_tests)
 
-same_from : (e n m j : ℕ) (es : List Association) → AllOver id_of j es → n ≤ j + 1 → m ≤ j + 1 → station_from e n es ≡ station_from e m es
+same_from : (e n m j : ℕ) (es : List Association) → AllOver association_id j es → n ≤ j + 1 → m ≤ j + 1 → station_from e n es ≡ station_from e m es
 same_from e n m j [] h p q = refl
 same_from e n m j (y ∷ ys) h p q =
     let ih = same_from e n m j ys h.1 p q in
     let lt : j < y.id = h.0 in
     grind (arith, nat_tests)
 
-from_some_by : (e n : ℕ) (a y : Association) (ys : List Association) (b c : Bool) → (y.station == e) ≡ b → nat_le n y.id ≡ c → AllOver id_of y.id ys
+from_some_by : (e n : ℕ) (a y : Association) (ys : List Association) (b c : Bool) → (y.station == e) ≡ b → nat_le n y.id ≡ c → AllOver association_id y.id ys
     → cond b (cond c (Some y) (first_from e n ys)) (first_from e n ys) ≡ Some a
     → (first_from e n ys ≡ Some a → station_from e n ys ≡ a ∷ station_from e (a.id + 1) ys)
     → cond b (cond c (y ∷ station_from e n ys) (station_from e n ys)) (station_from e n ys) ≡ a ∷ station_from e (a.id + 1) (y ∷ ys)
@@ -192,21 +192,21 @@ from_some_by e n a y ys false c s t over q ih =
     let skip : station_from e (a.id + 1) (y ∷ ys) ≡ station_from e (a.id + 1) ys = grind (arith, nat_tests) in
     ih q ∙ ap (λ zs. a ∷ zs) (sym skip)
 
-pub from_some : (e n : ℕ) (a : Association) (es : List Association) → Rising id_of es → first_from e n es ≡ Some a → station_from e n es ≡ a ∷ station_from e (a.id + 1) es
+pub from_some : (e n : ℕ) (a : Association) (es : List Association) → Rising association_id es → first_from e n es ≡ Some a → station_from e n es ≡ a ∷ station_from e (a.id + 1) es
 from_some e n a [] h q = absurd (cc)
 from_some e n a (y ∷ ys) h q = from_some_by e n a y ys (y.station == e) (nat_le n y.id) refl refl h.0 q (from_some e n a ys h.1)
 
 -- ---- moving
 
-found_over : (id j : ℕ) (a : Association) (es : List Association) → AllOver id_of j es → found id es ≡ Some a → j < id
+found_over : (id j : ℕ) (a : Association) (es : List Association) → AllOver association_id j es → found id es ≡ Some a → j < id
 found_over id j a [] h q = absurd (cc)
 found_over id j a (y ∷ ys) h q = let ih = found_over id j a ys h.1 in let lt : j < y.id = h.0 in grind (arith, nat_tests)
 
-add_over : (a : Association) (es : List Association) → AllOver id_of a.id es → opened a es ≡ a ∷ es
+add_over : (a : Association) (es : List Association) → AllOver association_id a.id es → opened a es ≡ a ∷ es
 add_over a [] h = refl
 add_over a (y ∷ ys) h = let lt : a.id < y.id = h.0 in grind (arith, nat_tests)
 
-moved_by : (id station enb_id : ℕ) (a y : Association) (ys : List Association) (b : Bool) → (y.id == id) ≡ b → AllOver id_of y.id ys → cond b (Some y) (found id ys) ≡ Some a
+moved_by : (id station enb_id : ℕ) (a y : Association) (ys : List Association) (b : Bool) → (y.id == id) ≡ b → AllOver association_id y.id ys → cond b (Some y) (found id ys) ≡ Some a
     → (found id ys ≡ Some a → opened (record { id = id; owner = a.owner; station = station; enb_id = enb_id }) (closed id ys) ≡ moved id station enb_id ys)
     → opened (record { id = id; owner = a.owner; station = station; enb_id = enb_id }) (cond b ys (y ∷ closed id ys))
     ≡ cond b (record { id = id; owner = y.owner; station = station; enb_id = enb_id } ∷ ys) (y ∷ moved id station enb_id ys)
@@ -214,22 +214,22 @@ moved_by id station enb_id a y ys true s over q ih =
     let same : y ≡ a = cc in
     let at_id : y.id ≡ id = grind (arith, nat_tests) in
     ap (λ (z : Association). opened (record { id = id; owner = z.owner; station = station; enb_id = enb_id }) ys) (sym same)
-    ∙ add_over (record { id = id; owner = y.owner; station = station; enb_id = enb_id }) ys (subst (λ i. AllOver id_of i ys) at_id over)
+    ∙ add_over (record { id = id; owner = y.owner; station = station; enb_id = enb_id }) ys (subst (λ i. AllOver association_id i ys) at_id over)
 moved_by id station enb_id a y ys false s over q ih =
     let lt : y.id < id = found_over id y.id a ys over q in
     let rest = ih q in
     let under : nat_lt y.id id ≡ true = grind (arith, nat_tests) in
     rw under (ap (λ zs. y ∷ zs) rest)
 
-pub moved_is : (id station enb_id : ℕ) (a : Association) (es : List Association) → Rising id_of es → found id es ≡ Some a
+pub moved_is : (id station enb_id : ℕ) (a : Association) (es : List Association) → Rising association_id es → found id es ≡ Some a
     → opened (record { id = id; owner = a.owner; station = station; enb_id = enb_id }) (closed id es) ≡ moved id station enb_id es
 moved_is id station enb_id a [] h q = absurd (cc)
 moved_is id station enb_id a (y ∷ ys) h q = moved_by id station enb_id a y ys (y.id == id) refl h.0 q (moved_is id station enb_id a ys h.1)
 
 -- ---- the answer of the search
 
-rising_of : (s : Slab Held) (ps : List Place) (seats : List Seat) → IsKept s ps seats → Rising id_of (entries_of s ps)
+rising_of : (s : Slab Held) (ps : List SlabPlace) (seats : List Seat) → IsTable s ps seats → Rising association_id (entries_of s ps)
 rising_of s ps seats k = rising_entries s ps k.rising
 
-pub first_answer : (s : Slab Held) (ps : List Place) (seats : List Seat) → IsKept s ps seats → (e n : ℕ) → first_seat e n seats ≡ option_map id_of (first_from e n (entries_of s ps))
+pub first_answer : (s : Slab Held) (ps : List SlabPlace) (seats : List Seat) → IsTable s ps seats → (e n : ℕ) → first_seat e n seats ≡ option_map association_id (first_from e n (entries_of s ps))
 first_answer s ps seats k e n = ap (first_seat e n) k.seats ∙ first_by_seats e n (entries_of s ps) (rising_of s ps seats k)

@@ -4,14 +4,14 @@ use Rattle.slab.specs.Slab.{Slab, get}
 use Rattle.association_table.specs.declared.association.Owner.TheVariants.{Stranger}
 use Rattle.association_table.specs.declared.association.Association.{Association}
 use Rattle.association_table.specs.declared.places.Held.{Held}
-use Rattle.association_table.specs.declared.places.Place.{Place}
+use Rattle.association_table.specs.declared.places.SlabPlace.{SlabPlace}
 use Rattle.association_table.specs.declared.places.Seat.{Seat}
 use Rattle.ordered_lists.specs.Ordered.{ordered, Rising, Every, Distinct}
 
-abbrev pub place_id : Place → ℕ
+abbrev pub place_id : SlabPlace → ℕ
 place_id p = p.id
 
-abbrev pub place_key : Place → ℕ
+abbrev pub place_key : SlabPlace → ℕ
 place_key p = p.key
 
 abbrev pub or_blank : Option Held → Held
@@ -22,10 +22,10 @@ or_blank (Some h) = h
 abbrev pub with_id : ℕ → Held → Association
 with_id id h = record { id = id; owner = h.owner; station = h.station; enb_id = h.enb_id }
 
-abbrev pub entry_at : Slab Held → Place → Association
+abbrev pub entry_at : Slab Held → SlabPlace → Association
 entry_at s p = with_id p.id (or_blank (get s p.key))
 
-abbrev pub entries_of : Slab Held → List Place → List Association
+abbrev pub entries_of : Slab Held → List SlabPlace → List Association
 entries_of s ps = map (entry_at s) ps
 
 abbrev pub seat_of : Association → Seat
@@ -40,7 +40,7 @@ seating a = seat_rank (seat_of a)
 abbrev pub IsId : Association → Type 0
 IsId a = a.id < 2 ^ 32
 
-pub record IsKept (s : Slab Held) (by_id : List Place) (by_station : List Seat) : Type 0 where
+pub record IsTable (s : Slab Held) (by_id : List SlabPlace) (by_station : List Seat) : Type 0 where
   pub rising : Rising place_id by_id
   pub keys : Distinct place_key by_id
   pub held : Every (λ p. IsSome (get s p.key)) by_id

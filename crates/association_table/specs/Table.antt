@@ -7,17 +7,17 @@ pub record Table : Type 0 where
   pub entries : List Association  -- by rising id
   pub room : ℕ  -- so many more can be opened with no allocation
 
-abbrev pub id_of : Association → ℕ
-id_of a = a.id
+abbrev pub association_id : Association → ℕ
+association_id a = a.id
 
 abbrev pub found : ℕ → List Association → Option Association
-found id es = at id_of id es
+found id es = at association_id id es
 
 abbrev pub opened : Association → List Association → List Association
-opened a es = add id_of a es
+opened a es = add association_id a es
 
 abbrev pub closed : ℕ → List Association → List Association
-closed id es = without id_of id es
+closed id es = without association_id id es
 
 -- the entry with the id has another station and eNB UE id
 abbrev pub moved : ℕ → ℕ → ℕ → List Association → List Association

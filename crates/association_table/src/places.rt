@@ -17,7 +17,7 @@ pub(crate) struct Held {
 
 /// Where the slab holds the association with an id.
 #[derive(Clone, Copy)]
-pub(crate) struct Place {
+pub(crate) struct SlabPlace {
     pub(crate) id: u32,
     pub(crate) key: usize,
 }
@@ -36,7 +36,7 @@ fn seat_rank(seat: Seat) -> u64
 }
 
 /// How many places stand before an id.
-fn place_of(places: &[Place], id: u32) -> usize
+fn place_of(places: &[SlabPlace], id: u32) -> usize
     requires { Rising place_id places.now }
     ensures { result ≡ place place_id id places.now }
 {
@@ -72,7 +72,7 @@ fn seat_place(seats: &[Seat], rank: u64) -> usize
 }
 
 /// The place of an id.
-pub(crate) fn find_place(places: &Vec<Place>, id: u32) -> Option<Place>
+pub(crate) fn find_place(places: &Vec<SlabPlace>, id: u32) -> Option<SlabPlace>
     requires { Rising place_id places.now.items }
     ensures { result ≡ at place_id id places.now.items }
 {
@@ -88,7 +88,7 @@ pub(crate) fn find_place(places: &Vec<Place>, id: u32) -> Option<Place>
 }
 
 /// Takes the place of an id out.
-pub(crate) fn take_place(places: &mut Vec<Place>, id: u32) -> Option<Place>
+pub(crate) fn take_place(places: &mut Vec<SlabPlace>, id: u32) -> Option<SlabPlace>
     requires { Rising place_id places.old.items }
     ensures place { result ≡ at place_id id places.old.items }
     ensures items { places.new.items ≡ without place_id id places.old.items }
@@ -101,7 +101,7 @@ pub(crate) fn take_place(places: &mut Vec<Place>, id: u32) -> Option<Place>
 }
 
 /// Adds a place, for which there is room.
-pub(crate) fn add_place(places: &mut Vec<Place>, place: Place)
+pub(crate) fn add_place(places: &mut Vec<SlabPlace>, place: SlabPlace)
     requires rising { Rising place_id places.old.items }
     requires room { vec_len places.old < vec_capacity places.old }
     ensures items { places.new.items ≡ add place_id place places.old.items }

@@ -4,17 +4,17 @@ ghost use Rattle.std.specs.Prelude.{◌≡◌, ℕ, ◌+◌, ◌-◌, ◌*◌, �
 ghost use Rattle.association_table.specs.declared.association.OpenFault.TheVariants.{Taken};
 ghost use Rattle.association_table.specs.declared.association.MoveFault.TheVariants.{Unknown};
 ghost use Rattle.ordered_lists.specs.Ordered.{Rising};
-ghost use Rattle.association_table.specs.Table.{id_of, found, opened, closed, moved, at_station, elsewhere, first_from};
+ghost use Rattle.association_table.specs.Table.{association_id, found, opened, closed, moved, at_station, elsewhere, first_from};
 
 use crate::association::{Association, MoveFault, OpenFault};
 use crate::places::{
-    Held, Place, Seat, add_place, add_seat, find_place, first_seat, take_place, take_seat,
+    Held, Seat, SlabPlace, add_place, add_seat, find_place, first_seat, take_place, take_seat,
 };
 use slab::Slab;
 use std::alloc::{AllocError, Global};
 use std::marker::Model;
 
-fn id_of(association: Association) -> u32
+fn association_id(association: Association) -> u32
     ensures { result ≡ association.id }
 {
     association.id
@@ -24,7 +24,7 @@ fn id_of(association: Association) -> u32
 #[derive(Drop)]
 pub struct Associations {
     slab: Slab<Held>,
-    by_id: Vec<Place>,
+    by_id: Vec<SlabPlace>,
     by_station: Vec<Seat>,
     alloc: Global,
 }
@@ -37,11 +37,11 @@ impl Model for Associations {
 
     ghost Value = { Table };
 
-    ghost use Rattle.association_table.specs.Kept.{entries_of, IsKept};
+    ghost use Rattle.association_table.specs.Kept.{entries_of, IsTable};
 
     ghost view = { λ t. record { entries = entries_of t.slab t.by_id.items; room = min (t.slab.capacity - slab_len t.slab) (min (vec_capacity t.by_id - vec_len t.by_id) (vec_capacity t.by_station - vec_len t.by_station)) } };
 
-    ghost invariant = { λ t. IsKept t.slab t.by_id.items t.by_station.items };
+    ghost invariant = { λ t. IsTable t.slab t.by_id.items t.by_station.items };
 }
 
 impl Associations {
@@ -60,7 +60,7 @@ impl Associations {
     /// The association with an id, if there is one. Takes no memory. The entries stand by rising id, each id once.
     pub fn find(&self, id: u32) -> Option<Association>
         ensures value { result ≡ found id self.now.entries }
-        ensures order { Rising id_of self.now.entries }
+        ensures order { Rising association_id self.now.entries }
     {
         let place = find_place(&self.by_id, id)?;
         match self.slab.get(place.key) {
@@ -111,7 +111,7 @@ impl Associations {
         ensures entries { self.new.entries ≡ opened association self.old.entries }
         ensures room { self.old.room ≤ self.new.room + 1 }
     {
-        let id = id_of(association);
+        let id = association_id(association);
         let seat = Seat {
             station: association.station,
             id,
@@ -121,7 +121,7 @@ impl Associations {
             station: association.station,
             enb_id: association.enb_id,
         });
-        add_place(&mut self.by_id, Place { id, key });
+        add_place(&mut self.by_id, SlabPlace { id, key });
         add_seat(&mut self.by_station, seat);
     }
 
@@ -179,7 +179,7 @@ impl Associations {
     fn first_at(&self, station: u8, least: u64) -> Option<Association>
         requires { least ≤ 2 ^ 32 }
         ensures value { result ≡ first_from station least self.now.entries }
-        ensures order { Rising id_of self.now.entries }
+        ensures order { Rising association_id self.now.entries }
     {
         match first_seat(&self.by_station, station, least) {
             Some(id) => self.find(id),
@@ -195,7 +195,7 @@ impl Associations {
         let mut least = 0;
         while let Some(association) = self.first_at(station, least) {
             entries.push(association)?;
-            least = u64::from(id_of(association)) + 1;
+            least = u64::from(association_id(association)) + 1;
         }
         Ok(entries)
     }

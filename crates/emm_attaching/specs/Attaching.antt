@@ -9,21 +9,21 @@ use Rattle.nas_elements.specs.Capability.{has_eia2}
 use Rattle.nas_messages.specs.declared.protection.SecurityHeader.TheVariants.{IntegrityProtectedCiphered, NewContext, NewContextCiphered}
 use Rattle.eps_keys.specs.Hmac.{kenb, nas_integrity_key, next_hop}
 use Rattle.eps_keys.specs.Same.{same_octets}
-use Rattle.nas_security.specs.Accepting.{Answer, accepted}
+use Rattle.nas_security.specs.Accepting.{Acceptance, accepted}
 use Rattle.esm_machine.specs.declared.request.Requested.{Requested}
 use Rattle.esm_machine.specs.declared.request.Requested.TheVariants.{Unreadable, Refused, Taken}
 use Rattle.esm_machine.specs.Requests.{activated, after_request, requested}
 use Rattle.esm_machine.specs.Sent.{activation, information_request}
 use Rattle.esm_machine.specs.Sessions.{asks_information}
 use Rattle.identity_slots.specs.declared.profile.Vector.{Vector}
-use Rattle.identity_slots.specs.Ids.{id_of, next_counter}
+use Rattle.identity_slots.specs.Ids.{id_of_slot, next_counter}
 use Rattle.mme_vocabulary.specs.declared.connection.RadioKeys.{RadioKeys}
 use Rattle.mme_signalling.specs.declared.cause.EmmCause.{EmmCause}
 use Rattle.mme_signalling.specs.declared.cause.EmmCause.TheVariants.{EsmFailure, InvalidMandatory, NetworkFailure, NotCompatible, ProtocolError, SynchFailure}
 use Rattle.mme_signalling.specs.declared.heard.Heard.{Heard}
 use Rattle.mme_signalling.specs.declared.heard.Heard.TheVariants as heards
 use Rattle.mme_signalling.specs.declared.messages.Grant.{Grant}
-use Rattle.mme_signalling.specs.Causes.{cause_of_fault, code_of}
+use Rattle.mme_signalling.specs.Causes.{cause_of_fault, emm_cause_code}
 use Rattle.mme_signalling.specs.Hearing.{heard}
 use Rattle.mme_signalling.specs.Messages.{attach_accept, attach_reject, authentication_reject, authentication_request, detach_accept, emm_status, security_mode_command}
 use Rattle.emm_state.specs.declared.draft.Draft.{Draft}
@@ -32,7 +32,7 @@ use Rattle.emm_state.specs.declared.solo.Context.{Context}
 use Rattle.emm_state.specs.declared.solo.Phase.TheVariants.{Accepting, Authenticating, EsmInformation, SecurityMode}
 use Rattle.emm_state.specs.declared.solo.Protection.TheVariants.{Plain, Under}
 use Rattle.emm_state.specs.declared.solo.Repeat.TheVariants as repeats
-use Rattle.emm_state.specs.declared.solo.Timer.TheVariants.{T3450, T3460, T3489}
+use Rattle.emm_state.specs.declared.solo.NasTimer.TheVariants.{T3450, T3460, T3489}
 use Rattle.emm_state.specs.Actions.{fall, mac_of, protect, release, send, set_up_with, start, wipe}
 use Rattle.emm_state.specs.Does.{◌>>=◌}
 
@@ -100,7 +100,7 @@ new_context place v d = record d {
 unfoldable pub authenticated : ℕ → Vector → Draft → Option Draft
 authenticated place v d =
     let command = security_mode_command (place % 7) d.solo.asked.capability in
-    protect NewContext command (new_context place v d) >>= λ told. Some (start T3460 (repeats.Nas (Under NewContext) command) told)
+    protect NewContext command (new_context place v d) >>= λ sent. Some (start T3460 (repeats.Nas (Under NewContext) command) sent)
 
 -- AUTHENTICATION REJECT, and the phone is forgotten
 unfoldable pub not_authenticated : Draft → Draft
@@ -116,15 +116,15 @@ response s res d = option_map_or (λ v. response_to v res d) (slice_get s.vector
 
 -- AUTHENTICATION FAILURE: where the phone couldn't tell that the network is fresh, the next vector
 unfoldable pub failure : Setting → ℕ → Draft → Draft
-failure s cause d = if cause == code_of SynchFailure then challenge s d else not_authenticated d
+failure s cause d = if cause == emm_cause_code SynchFailure then challenge s d else not_authenticated d
 
 -- DETACH ACCEPT plain, unless the phone is switched off
-unfoldable pub detach_answered : Bool → Draft → Draft
-detach_answered switch_off d = if switch_off then d else send detach_accept d
+unfoldable pub detach_answered_plainly : Bool → Draft → Draft
+detach_answered_plainly switch_off d = if switch_off then d else send detach_accept d
 
 -- a DETACH REQUEST that no context can prove
 unfoldable pub detach_plainly : Bool → Draft → Draft
-detach_plainly switch_off d = wipe (release (Nas Detach) (detach_answered switch_off d))
+detach_plainly switch_off d = wipe (release (Nas Detach) (detach_answered_plainly switch_off d))
 
 -- EMM STATUS plain, or nothing
 unfoldable pub status_plainly : Option EmmCause → Draft → Draft
@@ -160,28 +160,28 @@ in_authenticating s nas d = if is_plain nas then authenticating s (heard nas) d 
 unfoldable pub given_tmsi : Setting → Draft → Draft
 given_tmsi s d =
     let next = next_counter d.solo.tmsis in
-    record d { solo = record d.solo { tmsis = next; tmsi = Some (id_of s.slot next) } }
+    record d { solo = record d.solo { tmsis = next; tmsi = Some (id_of_slot s.slot next) } }
 
 unfoldable pub activating : Draft → Draft
 activating d = record d { solo = record d.solo { phase = Accepting; bearer = activated d.solo.bearer } }
 
 -- what an attach is granted
 abbrev pub attach_grant : Setting → Draft → Grant
-attach_grant s d = record { tmsi = id_of s.slot (next_counter d.solo.tmsis); tai = d.solo.tai; combined = d.solo.asked.combined_attach }
+attach_grant s d = record { tmsi = id_of_slot s.slot (next_counter d.solo.tmsis); tai = d.solo.tai; combined = d.solo.asked.combined_attach }
 
 -- ATTACH ACCEPT with the activation of the bearer, in INITIAL CONTEXT SETUP REQUEST with KeNB; it goes alone when it is repeated
 unfoldable pub accept : Setting → List ℕ → Draft → Option Draft
 accept s kenb d =
     let esm = activation d.solo.bearer s.network.apn s.profile.address in
     let message = attach_accept s.network (attach_grant s d) esm in
-    set_up_with s kenb message (activating (given_tmsi s d)) >>= λ told. Some (start T3450 (repeats.Nas (Under IntegrityProtectedCiphered) message) told)
+    set_up_with s kenb message (activating (given_tmsi s d)) >>= λ sent. Some (start T3450 (repeats.Nas (Under IntegrityProtectedCiphered) message) sent)
 
 -- ESM INFORMATION REQUEST (TS 24.301 clause 6.6.1.2)
 unfoldable pub ask_information : Draft → Option Draft
 ask_information d =
     let request = information_request d.solo.bearer in
     let waiting = record d { solo = record d.solo { phase = EsmInformation } } in
-    protect IntegrityProtectedCiphered request waiting >>= λ told. Some (start T3489 (repeats.Nas (Under IntegrityProtectedCiphered) request) told)
+    protect IntegrityProtectedCiphered request waiting >>= λ sent. Some (start T3489 (repeats.Nas (Under IntegrityProtectedCiphered) request) sent)
 
 -- ---- security mode (TS 24.301 clause 5.4.3)
 
@@ -222,7 +222,7 @@ is_reject _ = false
 unfoldable pub not_secured : List ℕ → Draft → Draft
 not_secured nas d = if is_reject (heard nas) then fall (Nas Unspecified) d else d
 
-unfoldable pub secured_by : Answer → Setting → Context → List ℕ → Draft → Option Draft
+unfoldable pub secured_by : Acceptance → Setting → Context → List ℕ → Draft → Option Draft
 secured_by (Ok found) s x nas d =
     let y = counted_up x found.0 in
     if is_complete (heard found.1) then secured s y found.0 d else Some (took y found.0 d)

@@ -1,16 +1,16 @@
 //! The rows of an attach: its request, authentication and security mode, and its acceptance (TS 24.301 clause 5.5.1).
 
 ghost use Rattle.std.specs.Prelude.{◌≡◌, ◌<◌, ◌^◌, OnOk, Some, None, length, Ok, Err};
-ghost use Rattle.nas_security.specs.Accepting.{accepted, seen_answer};
+ghost use Rattle.nas_security.specs.Accepting.{accepted, seen_acceptance};
 ghost use Rattle.eps_keys.specs.Hmac.{kenb};
-ghost use Rattle.identity_slots.specs.Ids.{id_of, next_counter};
+ghost use Rattle.identity_slots.specs.Ids.{id_of_slot, next_counter};
 ghost use Rattle.esm_machine.specs.Requests.{requested_lists};
-ghost use Rattle.emm_attaching.specs.Attaching.{accept, activating, ask_information, asking, attach, attach_by, attach_grant, attach_refused, authenticated, authenticating, challenge, challenged, detach_answered, detach_plainly, failure, given_tmsi, in_authenticating, in_security_mode, is_complete, is_plain, is_reject, keyed, keys_of, new_context, no_keys, not_authenticated, not_secured, requesting, response, response_to, secured, secured_by, status_plainly, took};
+ghost use Rattle.emm_attaching.specs.Attaching.{accept, activating, ask_information, asking, attach, attach_by, attach_grant, attach_refused, authenticated, authenticating, challenge, challenged, detach_answered_plainly, detach_plainly, failure, given_tmsi, in_authenticating, in_security_mode, is_complete, is_plain, is_reject, keyed, keys_of, new_context, no_keys, not_authenticated, not_secured, requesting, response, response_to, secured, secured_by, status_plainly, took};
 ghost use Rattle.mme_signalling.specs.Causes.{cause_of_fault};
 ghost use Rattle.mme_signalling.specs.Hearing.{heard, heard_lists};
 ghost use Rattle.emm_state.specs.Does.{Does};
 
-use emm_state::{Asked, Context, Draft, Phase, Protection, Repeat, Setting, Stop, Timer};
+use emm_state::{Asked, Context, Draft, NasTimer, Phase, Protection, Repeat, Setting, StepStop};
 use eps_keys::{kenb, nas_integrity_key, next_hop, same_octets};
 use esm_machine::Requested;
 use identity_slots::{Tmsi, Vector};
@@ -22,7 +22,7 @@ use mme_signalling::{
 use mme_vocabulary::{Mark, NasOctets, RadioKeys};
 use nas_elements::UeCapability;
 use nas_messages::SecurityHeader;
-use nas_security::{Eia2, SecurityContext};
+use nas_security::{Eia2, EpsSecurityContext};
 use s1ap_elements::{Cause, NasCause, Tai};
 use std::alloc::{AllocError, Global};
 
@@ -100,7 +100,7 @@ fn challenged(draft: &mut Draft, alloc: Global, vector: &Vector) -> Result<(), A
     draft.solo.next_vector = place + 1;
     draft.send(alloc, request.as_slice())?;
     draft.start(
-        Timer::T3460,
+        NasTimer::T3460,
         Repeat::Nas(Protection::Plain, NasOctets::new(request)),
     );
     Ok(())
@@ -165,7 +165,7 @@ fn new_context(draft: &mut Draft, place: usize, vector: &Vector)
     let integrity = Eia2::new(&nas_integrity_key(&vector.kasme));
     draft.solo.context = Some(Context {
         place,
-        security: SecurityContext::new(integrity, (place % 7) as u8, 0, None),
+        security: EpsSecurityContext::new(integrity, (place % 7) as u8, 0, None),
         kasme: vector.kasme,
         radio: RadioKeys {
             kenb: [0; 32],
@@ -181,14 +181,14 @@ fn authenticated(
     alloc: Global,
     place: usize,
     vector: &Vector,
-) -> Result<(), Stop>
+) -> Result<(), StepStop>
     ensures { Does result draft.new (authenticated place vector.now draft.old) }
 {
     let command = security_mode_command(alloc, (place % 7) as u8, &draft.solo.asked.capability)?;
     new_context(draft, place, vector);
     draft.protect(alloc, SecurityHeader::NewContext, command.as_slice())?;
     draft.start(
-        Timer::T3460,
+        NasTimer::T3460,
         Repeat::Nas(
             Protection::Under(SecurityHeader::NewContext),
             NasOctets::new(command),
@@ -209,7 +209,7 @@ fn not_authenticated(draft: &mut Draft, alloc: Global) -> Result<(), AllocError>
 }
 
 #[tactic(auto, unfolding(crate::specs::Attaching::response, crate::specs::Attaching::response_to))]
-fn response(draft: &mut Draft, alloc: Global, setting: &Setting, res: &[u8]) -> Result<(), Stop>
+fn response(draft: &mut Draft, alloc: Global, setting: &Setting, res: &[u8]) -> Result<(), StepStop>
     ensures { Does result draft.new (response setting.now res.now draft.old) }
 {
     let place = draft.solo.next_vector.saturating_sub(1);
@@ -235,9 +235,13 @@ fn failure(draft: &mut Draft, alloc: Global, setting: &Setting, cause: u8) -> Re
 }
 
 // DETACH ACCEPT plain, unless the phone is switched off.
-#[tactic(auto, unfolding(crate::specs::Attaching::detach_answered))]
-fn detach_answered(draft: &mut Draft, alloc: Global, switch_off: bool) -> Result<(), AllocError>
-    ensures { OnOk result (draft.new ≡ detach_answered switch_off draft.old) }
+#[tactic(auto, unfolding(crate::specs::Attaching::detach_answered_plainly))]
+fn detach_answered_plainly(
+    draft: &mut Draft,
+    alloc: Global,
+    switch_off: bool,
+) -> Result<(), AllocError>
+    ensures { OnOk result (draft.new ≡ detach_answered_plainly switch_off draft.old) }
 {
     if switch_off {
         return Ok(());
@@ -251,7 +255,7 @@ fn detach_answered(draft: &mut Draft, alloc: Global, switch_off: bool) -> Result
 pub fn detach_plainly(draft: &mut Draft, alloc: Global, switch_off: bool) -> Result<(), AllocError>
     ensures { OnOk result (draft.new ≡ detach_plainly switch_off draft.old) }
 {
-    detach_answered(draft, alloc, switch_off)?;
+    detach_answered_plainly(draft, alloc, switch_off)?;
     draft.release(alloc, Cause::Nas(NasCause::Detach))?;
     draft.wipe();
     Ok(())
@@ -278,7 +282,7 @@ fn authenticating(
     alloc: Global,
     setting: &Setting,
     message: &Heard<&[u8]>,
-) -> Result<(), Stop>
+) -> Result<(), StepStop>
     ensures { Does result draft.new (authenticating setting.now (heard_lists message.now) draft.old) }
 {
     match message {
@@ -310,7 +314,7 @@ pub fn in_authenticating(
     alloc: Global,
     setting: &Setting,
     nas: &[u8],
-) -> Result<(), Stop>
+) -> Result<(), StepStop>
     ensures { Does result draft.new (in_authenticating setting.now nas.now draft.old) }
 {
     if is_plain(nas) {
@@ -324,7 +328,7 @@ pub fn in_authenticating(
 /// The slot's next M-TMSI.
 #[tactic(auto, unfolding(crate::specs::Attaching::given_tmsi))]
 pub fn given_tmsi(draft: &mut Draft, setting: &Setting) -> Tmsi
-    ensures tmsi { result ≡ id_of setting.now.slot (next_counter draft.old.solo.tmsis) }
+    ensures tmsi { result ≡ id_of_slot setting.now.slot (next_counter draft.old.solo.tmsis) }
     ensures given { draft.new ≡ given_tmsi setting.now draft.old }
 {
     let (tmsi, counter) = draft.solo.tmsis.tmsi(setting.slot);
@@ -340,7 +344,7 @@ pub fn accept(
     alloc: Global,
     setting: &Setting,
     kenb: [u8; 32],
-) -> Result<(), Stop>
+) -> Result<(), StepStop>
     ensures { Does result draft.new (accept setting.now kenb draft.old) }
 {
     let apn = setting.network.apn.as_slice();
@@ -358,7 +362,7 @@ pub fn accept(
     draft.solo.phase = Phase::Accepting;
     draft.set_up_with(alloc, setting, kenb, message.as_slice())?;
     draft.start(
-        Timer::T3450,
+        NasTimer::T3450,
         Repeat::Nas(
             Protection::Under(SecurityHeader::IntegrityProtectedCiphered),
             NasOctets::new(message),
@@ -368,7 +372,7 @@ pub fn accept(
 }
 
 #[tactic(auto, unfolding(crate::specs::Attaching::ask_information))]
-fn ask_information(draft: &mut Draft, alloc: Global) -> Result<(), Stop>
+fn ask_information(draft: &mut Draft, alloc: Global) -> Result<(), StepStop>
     ensures { Does result draft.new (ask_information draft.old) }
 {
     let request = draft.solo.bearer.information_request(alloc)?;
@@ -379,7 +383,7 @@ fn ask_information(draft: &mut Draft, alloc: Global) -> Result<(), Stop>
         request.as_slice(),
     )?;
     draft.start(
-        Timer::T3489,
+        NasTimer::T3489,
         Repeat::Nas(
             Protection::Under(SecurityHeader::IntegrityProtectedCiphered),
             NasOctets::new(request),
@@ -419,7 +423,7 @@ fn secured(
     setting: &Setting,
     context: Context,
     count: u32,
-) -> Result<(), Stop>
+) -> Result<(), StepStop>
     ensures { Does result draft.new (secured setting.now context count draft.old) }
 {
     let kenb = keyed(draft, context, count);
@@ -448,7 +452,7 @@ pub fn in_security_mode(
     alloc: Global,
     setting: &Setting,
     nas: &[u8],
-) -> Result<(), Stop>
+) -> Result<(), StepStop>
     ensures { Does result draft.new (in_security_mode setting.now nas.now draft.old) }
 {
     let Some(mut context) = draft.solo.context else {

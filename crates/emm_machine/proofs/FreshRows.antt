@@ -9,7 +9,7 @@ use Rattle.identity_slots.specs.declared.profile.Vector.{Vector}
 use Rattle.identity_slots.specs.Ids.{is_of_slot}
 use Rattle.nas_messages.specs.declared.protection.SecurityHeader.{SecurityHeader}
 use Rattle.nas_security.specs.declared.fault.SecurityFault.{SecurityFault}
-use Rattle.nas_security.specs.Accepting.{Answer, accepted, short_accepted}
+use Rattle.nas_security.specs.Accepting.{Acceptance, accepted, short_accepted}
 use Rattle.nas_security.specs.Context.{Mac}
 use Rattle.nas_security.specs.Counts.{first_after}
 use Rattle.s1ap_elements.specs.declared.cause.Cause.{Cause}
@@ -32,10 +32,10 @@ use Rattle.emm_state.specs.declared.solo.Protection.TheVariants.{Plain, Under}
 use Rattle.emm_state.specs.declared.solo.Repeat.{Repeat}
 use Rattle.emm_state.specs.declared.solo.Repeat.TheVariants as repeats
 use Rattle.emm_state.specs.declared.solo.Solo.{Solo}
-use Rattle.emm_state.specs.declared.solo.Timer.{Timer}
-use Rattle.emm_state.specs.declared.solo.Timer.TheVariants.{T3413, T3422, T3450, T3460, T3489}
+use Rattle.emm_state.specs.declared.solo.NasTimer.{NasTimer}
+use Rattle.emm_state.specs.declared.solo.NasTimer.TheVariants.{T3413, T3422, T3450, T3460, T3489}
 use Rattle.mme_vocabulary.specs.declared.stations.StationState.{StationState}
-use Rattle.emm_state.specs.Actions.{connect, connect_on, counted, emit, ended, is_at, is_registered, leave_old, untouched}
+use Rattle.emm_state.specs.Actions.{connect, connect_on, association_counted, emit, ended, is_at, is_registered, leave_old, untouched}
 use Rattle.emm_attaching.specs.Attaching as attaching
 use Rattle.emm_attaching.specs.Attaching.{counted_up, keyed, took}
 use Rattle.emm_serving.specs.Connected as connected
@@ -58,7 +58,7 @@ ShortIsFresh = (mac : Mac) (last : Option ℕ) (ksi : ℕ) (octets : List ℕ) (
     → short_accepted mac last ksi octets ≡ Ok count → (first_after last ≤ count) × (count < 2 ^ 24)
 
 -- an answer's count is above the last that the context accepted
-abbrev IsHigh : Context → Answer → Type 0
+abbrev IsHigh : Context → Acceptance → Type 0
 IsHigh x r = (found : ℕ × List ℕ) → r ≡ Ok found → next_up x ≤ found.0
 
 -- ---- where the context stays
@@ -77,8 +77,8 @@ unfolding leave_old emit
 leave_context station enb_id d = same_context _ d d.solo.connection (λ k. cond_context _ _ d.solo.context (is_at k station enb_id) refl refl)
 
 connect_context : (slot station enb_id : ℕ) (d : Draft) → (connect slot station enb_id d).solo.context ≡ d.solo.context
-unfolding connect connect_on counted
-connect_context slot station enb_id d = leave_context station enb_id (counted d)
+unfolding connect connect_on association_counted
+connect_context slot station enb_id d = leave_context station enb_id (association_counted d)
 
 module _ {b : Solo} where
   -- ---- attaching
@@ -124,7 +124,7 @@ module _ {b : Solo} where
   fresh_failure s cause h = either _ (fresh_challenge s h) (fresh_not_authenticated h)
 
   fresh_detach_plainly : {d : Draft} (switch_off : Bool) → IsFresh b d → IsFresh b (attaching.detach_plainly switch_off d)
-  unfolding attaching.detach_plainly attaching.detach_answered
+  unfolding attaching.detach_plainly attaching.detach_answered_plainly
   fresh_detach_plainly switch_off h = fresh_wipe (fresh_release _ (either switch_off h (fresh_send _ h)))
 
   fresh_status_plainly : {d : Draft} (cause : Option EmmCause) → IsFresh b d → IsFresh b (attaching.status_plainly cause d)
@@ -152,7 +152,7 @@ module _ {b : Solo} where
   unfolding attaching.not_secured
   fresh_not_secured nas h = either _ (fresh_fall _ h) h
 
-  fresh_secured_by : {d : Draft} (r : Answer) (s : Setting) (x : Context) (nas : List ℕ) → d.solo.context ≡ Some x → IsHigh x r → IsFresh b d
+  fresh_secured_by : {d : Draft} (r : Acceptance) (s : Setting) (x : Context) (nas : List ℕ) → d.solo.context ≡ Some x → IsHigh x r → IsFresh b d
       → IsFreshIf b (attaching.secured_by r s x nas d)
   unfolding attaching.secured_by attaching.secured
   fresh_secured_by (Ok found) s x nas is high h =
@@ -174,7 +174,7 @@ module _ {b : Solo} where
   unfolding serving.update serving.updating serving.active ended attaching.given_tmsi
   fresh_update s tai combined initial h = then (fresh_protect _ _ (quiet (fresh_in Updating refl tt h) refl)) (λ e f. fresh_start _ _ f)
 
-  fresh_updated_by : {d : Draft} (r : Answer) (s : Setting) (x : Context) (m : Entry (List ℕ)) (combined : Bool) → d.solo.context ≡ Some x → IsHigh x r → IsFresh b d
+  fresh_updated_by : {d : Draft} (r : Acceptance) (s : Setting) (x : Context) (m : Entry (List ℕ)) (combined : Bool) → d.solo.context ≡ Some x → IsHigh x r → IsFresh b d
       → IsFreshIf b (serving.updated_by r s x m combined d)
   unfolding serving.updated_by
   fresh_updated_by {d} (Ok found) s x m combined is high h =
@@ -186,7 +186,7 @@ module _ {b : Solo} where
   unfolding serving.detach serving.detach_answered
   fresh_detach switch_off h = then (either_if switch_off (some h) (fresh_protect _ _ h)) (λ e f. fresh_wipe (fresh_release _ f))
 
-  fresh_detached_by : {d : Draft} (r : Answer) (s : Setting) (x : Context) (m : Entry (List ℕ)) (switch_off : Bool) → d.solo.context ≡ Some x → IsHigh x r → IsFresh b d
+  fresh_detached_by : {d : Draft} (r : Acceptance) (s : Setting) (x : Context) (m : Entry (List ℕ)) (switch_off : Bool) → d.solo.context ≡ Some x → IsHigh x r → IsFresh b d
       → IsFreshIf b (serving.detached_by r s x m switch_off d)
   unfolding serving.detached_by
   fresh_detached_by {d} (Ok found) s x m switch_off is high h =
@@ -199,16 +199,16 @@ module _ {b : Solo} where
   fresh_claimed (heards.Attach combined capability esm) s id e h = fresh_attach s combined capability esm e.tai (fresh_connect_on id e.station e.enb_id h)
   fresh_claimed _ s id e h = h
 
-  fresh_status : {d : Draft} (cause : Option EmmCause) → IsFresh b d → IsFreshIf b (serving.status cause d)
-  unfolding serving.status
+  fresh_status : {d : Draft} (cause : Option EmmCause) → IsFresh b d → IsFreshIf b (serving.status_protected cause d)
+  unfolding serving.status_protected
   fresh_status cause h = at_some_if cause (λ c _. fresh_protect _ _ h) (some h)
 
   fresh_registered : {d : Draft} → IsFresh b d → IsFresh b (serving.registered d)
   unfolding serving.registered ended
   fresh_registered h = quiet (fresh_in Registered refl tt h) refl
 
-  fresh_told_emm : {d : Draft} (m : Heard (List ℕ)) (s : Setting) (tai : Tai) → IsFresh b d → IsFreshIf b (serving.told_emm m s tai d)
-  unfolding serving.told_emm serving.attach_completed serving.update_completed
+  fresh_told_emm : {d : Draft} (m : Heard (List ℕ)) (s : Setting) (tai : Tai) → IsFresh b d → IsFreshIf b (serving.inner_emm m s tai d)
+  unfolding serving.inner_emm serving.attach_completed serving.update_completed
   fresh_told_emm (heards.AttachComplete esm) s tai h = either_if _ (some (either _ (fresh_registered (quiet h refl)) (fresh_fall _ h))) (fresh_status _ h)
   fresh_told_emm heards.UpdateComplete s tai h =
       let r = fresh_registered h in either_if _ (some (either _ (fresh_fall _ r) r)) (fresh_status _ h)
@@ -220,18 +220,18 @@ module _ {b : Solo} where
   fresh_told_emm _ s tai h = fresh_status _ h
 
   fresh_reacted : {d : Draft} (r : Reaction (List ℕ)) (s : Setting) → IsFresh b d → IsFreshIf b (serving.reacted r s d)
-  unfolding serving.reacted serving.informed
+  unfolding serving.reacted serving.information_came
   fresh_reacted reactions.Nothing s h = some h
   fresh_reacted {d} reactions.Informed s h = at_some_if d.solo.context (λ x _. fresh_accept s _ h) (some h)
   fresh_reacted (reactions.Answer octets) s h = fresh_protect _ octets h
 
-  fresh_told : {d : Draft} (octets : List ℕ) (s : Setting) (tai : Tai) → IsFresh b d → IsFreshIf b (serving.told octets s tai d)
-  unfolding serving.told serving.told_esm
+  fresh_told : {d : Draft} (octets : List ℕ) (s : Setting) (tai : Tai) → IsFresh b d → IsFreshIf b (serving.inner_message octets s tai d)
+  unfolding serving.inner_message serving.inner_esm
   fresh_told octets s tai h = either_if _ (fresh_reacted _ s h) (fresh_told_emm (heard octets) s tai h)
 
-  fresh_told_by : {d : Draft} (r : Answer) (s : Setting) (x : Context) (tai : Tai) → d.solo.context ≡ Some x → IsHigh x r → IsFresh b d
-      → IsFreshIf b (serving.told_by r s x tai d)
-  unfolding serving.told_by
+  fresh_told_by : {d : Draft} (r : Acceptance) (s : Setting) (x : Context) (tai : Tai) → d.solo.context ≡ Some x → IsHigh x r → IsFresh b d
+      → IsFreshIf b (serving.inner_message_by r s x tai d)
+  unfolding serving.inner_message_by
   fresh_told_by (Ok found) s x tai is high h = fresh_told found.1 s tai (fresh_took x found.0 is (high found refl) h)
   fresh_told_by (Err fault) s x tai is high h = some h
 
@@ -245,7 +245,7 @@ module _ {b : Solo} where
   unfolding connected.path_switch connected.not_switched
   fresh_path_switch {d} m h =
       let failed = λ (cause : Cause). fresh_emit m.station (path_switch_failure m.mme_id m.enb_id cause) h in
-      either (not (connected.has_id m d)) (failed _) (either (not (is_of_slot m.mme_id)) (failed _)
+      either (not (connected.has_connection_id m d)) (failed _) (either (not (is_of_slot m.mme_id)) (failed _)
       (either (is_registered d.solo.phase) (at_some d.solo.context (λ x is. fresh_switched m x is h) h) (failed _)))
 
   fresh_displaced : {d : Draft} (id : ℕ) → IsFresh b d → IsFresh b (connected.displaced id d)
@@ -274,7 +274,7 @@ module _ {b : Solo} where
   unfolding idle.lowered
   fresh_lowered h = quiet h refl
 
-  fresh_given_up : {d : Draft} (timer : Timer) → IsFresh b d → IsFresh b (idle.given_up timer d)
+  fresh_given_up : {d : Draft} (timer : NasTimer) → IsFresh b d → IsFresh b (idle.given_up timer d)
   unfolding idle.given_up ended
   fresh_given_up T3413 h = quiet h refl
   fresh_given_up T3422 h = fresh_fall _ h

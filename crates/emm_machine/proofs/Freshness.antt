@@ -18,9 +18,9 @@ use Rattle.emm_state.specs.declared.solo.Phase.TheVariants.{Authenticating, Secu
 use Rattle.mme_vocabulary.specs.declared.connection.RadioKeys.{RadioKeys}
 use Rattle.emm_state.specs.declared.solo.Repeat.{Repeat}
 use Rattle.emm_state.specs.declared.solo.Solo.{Solo}
-use Rattle.emm_state.specs.declared.solo.Timer.{Timer}
+use Rattle.emm_state.specs.declared.solo.NasTimer.{NasTimer}
 use Rattle.mme_vocabulary.specs.Answers.{answer_of}
-use Rattle.emm_state.specs.Actions.{connect, connect_on, counted, disconnected, emit, ended, fall, fallen, leave_old, lost, protect, refuse, release, resting, seal, sealed_under, send, set_up, set_up_with, start, turn_away, wipe}
+use Rattle.emm_state.specs.Actions.{connect, connect_on, association_counted, disconnected, emit, ended, fall, fallen, leave_old, lost, protect, refuse, release, resting, seal, sealed_under, send, set_up, set_up_with, start, turn_away, wipe}
 use Rattle.emm_attaching.specs.Attaching.{counted_up, keyed, took}
 use Rattle.emm_state.specs.Does.{◌>>=◌}
 use Rattle.emm_machine.specs.Freshness.{HasVector, IsAhead, IsBefore, IsBelow, IsInUse, IsOfContext, marks_of, next_down, next_place, next_up}
@@ -279,8 +279,8 @@ module _ {b : Solo} where
   unfolding connect_on
   fresh_connect_on id station enb_id h = quiet (fresh_leave_old station enb_id h) refl
 
-  fresh_counted : {d : Draft} → IsFresh b d → IsFresh b (counted d)
-  unfolding counted
+  fresh_counted : {d : Draft} → IsFresh b d → IsFresh b (association_counted d)
+  unfolding association_counted
   fresh_counted h = quiet h refl
 
   pub fresh_connect : {d : Draft} (slot station enb_id : ℕ) → IsFresh b d → IsFresh b (connect slot station enb_id d)
@@ -310,7 +310,7 @@ module _ {b : Solo} where
   unfolding lost
   fresh_lost h = fresh_fallen (fresh_disconnected h)
 
-  pub fresh_start : {d : Draft} (timer : Timer) (repeat : Repeat) → IsFresh b d → IsFresh b (start timer repeat d)
+  pub fresh_start : {d : Draft} (timer : NasTimer) (repeat : Repeat) → IsFresh b d → IsFresh b (start timer repeat d)
   unfolding start
   fresh_start timer repeat h = quiet h refl
 

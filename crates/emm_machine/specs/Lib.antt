@@ -1,6 +1,6 @@
 pub mod Steps
 pub mod Still
-pub mod Whole
+pub mod SubscriberView
 pub mod Words
 pub mod Freshness
 pub mod Laws

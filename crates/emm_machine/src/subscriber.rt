@@ -12,7 +12,7 @@ use crate::still::is_still;
 use emm_serving::{
     cancelled, claim, data_waits, displaced, initial, message_of, station_gone, tick,
 };
-use emm_state::{Asked, Counter, Draft, Phase, Repeat, Setting, Solo, Stop, Vectors};
+use emm_state::{Asked, Counter, Draft, Phase, Repeat, Setting, Solo, StepStop, Vectors};
 use esm_machine::{Bearer, BearerState};
 use identity_slots::{Profile, Slot, Vector};
 use mme_vocabulary::{Answers, Connection, EnbWorld, Network, SoloEvent, StationNumber};
@@ -101,7 +101,7 @@ fn row(
     setting: &Setting,
     event: &SoloEvent,
     world: &EnbWorld,
-) -> Result<(), Stop>
+) -> Result<(), StepStop>
     ensures { Does result draft.new (row setting.now (item_of event.now world.now) draft.old) }
 {
     match event {
@@ -137,8 +137,8 @@ fn drafted(
     let mut draft = Draft::from_state(alloc, solo)?;
     match row(&mut draft, alloc, setting, event, world) {
         Ok(()) => Ok(draft),
-        Err(Stop::NoMemory) => Err(AllocError),
-        Err(Stop::Spent) => {
+        Err(StepStop::NoMemory) => Err(AllocError),
+        Err(StepStop::Spent) => {
             let mut draft = Draft::from_state(alloc, solo)?;
             draft.fall(alloc, Cause::Nas(NasCause::Unspecified))?;
             draft.wipe();
@@ -156,9 +156,9 @@ pub struct Subscriber {
 }
 
 impl Model for Subscriber {
-    ghost use Rattle.emm_machine.specs.Whole.{Whole};
+    ghost use Rattle.emm_machine.specs.SubscriberView.{SubscriberView};
 
-    ghost Value = { Whole };
+    ghost Value = { SubscriberView };
 
     ghost view = { λ s. record { setting = s.setting; solo = s.solo } };
 }

@@ -23,8 +23,8 @@ use Rattle.emm_serving.specs.Serving.{uplink}
 
 -- ---- how a message stands to the connection
 
-abbrev pub has_id : UeMessage (List ℕ) → Draft → Bool
-has_id m d = option_map_or (λ k. k.id == m.mme_id) d.solo.connection false
+abbrev pub has_connection_id : UeMessage (List ℕ) → Draft → Bool
+has_connection_id m d = option_map_or (λ k. k.id == m.mme_id) d.solo.connection false
 
 abbrev pub has_pair : UeMessage (List ℕ) → Draft → Bool
 has_pair m d = option_map_or (λ k. is_at k m.station m.enb_id) d.solo.connection false
@@ -61,7 +61,7 @@ switched m x d =
 -- PATH SWITCH REQUEST: of a stranger's id none is taken
 unfoldable pub path_switch : UeMessage (List ℕ) → Draft → Draft
 path_switch m d =
-    if not (has_id m d) then not_switched (causes.RadioNetwork radio.UnknownMmeUeS1apId) m d
+    if not (has_connection_id m d) then not_switched (causes.RadioNetwork radio.UnknownMmeUeS1apId) m d
     else if not (is_of_slot m.mme_id) then not_switched (causes.RadioNetwork radio.UnknownMmeUeS1apId) m d
     else if is_registered d.solo.phase then option_map_or (λ x. switched m x d) d.solo.context d
     else not_switched (causes.Protocol protocol.MessageNotCompatible) m d
@@ -79,7 +79,7 @@ on_connection Notice s d = Some d
 
 unfoldable pub checked : Setting → UeMessage (List ℕ) → Draft → Option Draft
 checked s m d =
-    if not (has_id m d) then Some (indicate (causes.RadioNetwork radio.UnknownMmeUeS1apId) m d)
+    if not (has_connection_id m d) then Some (indicate (causes.RadioNetwork radio.UnknownMmeUeS1apId) m d)
     else if has_pair m d then on_connection m.body s d
     else Some (indicate (causes.RadioNetwork radio.UnknownPairUeS1apId) m d)
 

@@ -21,8 +21,8 @@ use Rattle.emm_state.specs.declared.solo.Phase.TheVariants.{Deregistered, Authen
 use Rattle.emm_state.specs.declared.solo.Protection.TheVariants.{Plain, Under}
 use Rattle.emm_state.specs.declared.solo.Repeat.{Repeat}
 use Rattle.emm_state.specs.declared.solo.Repeat.TheVariants as repeats
-use Rattle.emm_state.specs.declared.solo.Timer.{Timer}
-use Rattle.emm_state.specs.declared.solo.Timer.TheVariants.{T3413, T3422, T3450, T3460, T3489}
+use Rattle.emm_state.specs.declared.solo.NasTimer.{NasTimer}
+use Rattle.emm_state.specs.declared.solo.NasTimer.TheVariants.{T3413, T3422, T3450, T3460, T3489}
 use Rattle.emm_state.specs.Actions.{emit, ended, fall, protect, release, send, start, wipe}
 use Rattle.emm_state.specs.Does.{◌>>=◌}
 use Rattle.emm_state.specs.Timers.{ticks_of}
@@ -84,7 +84,7 @@ lowered d = record d {
 }
 
 -- repeats are used up: paging just ends, any other procedure ends the connection
-unfoldable pub given_up : Timer → Draft → Draft
+unfoldable pub given_up : NasTimer → Draft → Draft
 given_up T3413 d = ended d
 given_up T3422 d = fall (Nas Unspecified) d
 given_up T3450 d = fall (Nas Unspecified) d
@@ -124,7 +124,7 @@ tick s d = procedure_ticks s (lowered d) >>= λ e. Some (reachable_ticks_out e)
 unfoldable pub detach_phone : Draft → Option Draft
 detach_phone d =
     let detaching = record d { solo = record d.solo { phase = Detaching } } in
-    protect IntegrityProtectedCiphered network_detach detaching >>= λ told. Some (start T3422 (repeats.Nas (Under IntegrityProtectedCiphered) network_detach) told)
+    protect IntegrityProtectedCiphered network_detach detaching >>= λ sent. Some (start T3422 (repeats.Nas (Under IntegrityProtectedCiphered) network_detach) sent)
 
 abbrev pub dropped : Draft → Draft
 dropped d = wipe (release (Nas Detach) d)

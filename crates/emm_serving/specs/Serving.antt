@@ -8,13 +8,13 @@ use Rattle.nas_messages.specs.declared.protection.SecurityHeader.{SecurityHeader
 use Rattle.nas_messages.specs.declared.protection.SecurityHeader.TheVariants.{IntegrityProtected, IntegrityProtectedCiphered}
 use Rattle.eps_keys.specs.Hmac.{kenb}
 use Rattle.nas_security.specs.declared.fault.SecurityFault.{SecurityFault}
-use Rattle.nas_security.specs.Accepting.{Answer, accepted, short_accepted}
+use Rattle.nas_security.specs.Accepting.{Acceptance, accepted, short_accepted}
 use Rattle.esm_machine.specs.declared.reaction.Reaction.{Reaction}
 use Rattle.esm_machine.specs.declared.reaction.Reaction.TheVariants.{Nothing, Informed, Answer as Answered}
 use Rattle.esm_machine.specs.Reactions.{reaction}
 use Rattle.esm_machine.specs.Reading.{is_accept}
 use Rattle.esm_machine.specs.Requests.{accepted_by}
-use Rattle.identity_slots.specs.Ids.{id_of, next_counter}
+use Rattle.identity_slots.specs.Ids.{id_of_slot, next_counter}
 use Rattle.mme_vocabulary.specs.declared.event.Entry.{Entry}
 use Rattle.mme_signalling.specs.declared.cause.EmmCause.{EmmCause}
 use Rattle.mme_signalling.specs.declared.cause.EmmCause.TheVariants.{IdentityNotDerived, ImplicitlyDetached, NotCompatible}
@@ -31,7 +31,7 @@ use Rattle.emm_state.specs.declared.solo.Phase.{Phase}
 use Rattle.emm_state.specs.declared.solo.Phase.TheVariants.{Deregistered, Authenticating, SecurityMode, EsmInformation, Accepting, Updating, Registered, Detaching}
 use Rattle.emm_state.specs.declared.solo.Protection.TheVariants.{Under}
 use Rattle.emm_state.specs.declared.solo.Repeat.TheVariants as repeats
-use Rattle.emm_state.specs.declared.solo.Timer.TheVariants.{T3450}
+use Rattle.emm_state.specs.declared.solo.NasTimer.TheVariants.{T3450}
 use Rattle.emm_state.specs.Actions.{connect, connect_on, ended, fall, is_registered, mac_of, protect, refuse, release, set_up, start, turn_away, wipe}
 use Rattle.emm_state.specs.Does.{◌>>=◌}
 use Rattle.emm_attaching.specs.Attaching.{accept, attach, counted_up, detach_plainly, given_tmsi, in_authenticating, in_security_mode, keyed, took}
@@ -67,8 +67,8 @@ abbrev pub in_use : List SecurityHeader
 in_use = IntegrityProtected ∷ IntegrityProtectedCiphered ∷ []
 
 -- what a context makes of a protected message
-abbrev pub accepted_under : Context → List ℕ → Answer
-accepted_under x nas = accepted (mac_of x) x.security.up_last in_use nas
+abbrev pub accepted_by_context : Context → List ℕ → Acceptance
+accepted_by_context x nas = accepted (mac_of x) x.security.up_last in_use nas
 
 -- ---- service request (TS 24.301 clause 5.6.1)
 
@@ -94,7 +94,7 @@ service s m octets d =
 
 -- what an update is granted
 abbrev pub update_grant : Setting → Tai → Bool → Draft → Grant
-update_grant s tai combined d = record { tmsi = id_of s.slot (next_counter d.solo.tmsis); tai = tai; combined = combined }
+update_grant s tai combined d = record { tmsi = id_of_slot s.slot (next_counter d.solo.tmsis); tai = tai; combined = combined }
 
 unfoldable pub updating : Tai → Bool → Draft → Draft
 updating tai initial d =
@@ -105,9 +105,9 @@ updating tai initial d =
 unfoldable pub update : Setting → Tai → Bool → Bool → Draft → Option Draft
 update s tai combined initial d =
     let message = update_accept s.network (update_grant s tai combined d) in
-    protect IntegrityProtectedCiphered message (updating tai initial (given_tmsi s d)) >>= λ told. Some (start T3450 (repeats.Nas (Under IntegrityProtectedCiphered) message) told)
+    protect IntegrityProtectedCiphered message (updating tai initial (given_tmsi s d)) >>= λ sent. Some (start T3450 (repeats.Nas (Under IntegrityProtectedCiphered) message) sent)
 
-unfoldable pub updated_by : Answer → Setting → Context → Entry (List ℕ) → Bool → Draft → Option Draft
+unfoldable pub updated_by : Acceptance → Setting → Context → Entry (List ℕ) → Bool → Draft → Option Draft
 updated_by (Ok found) s x m combined d = update s m.tai combined true (took (counted_up x found.0) found.0 (connect s.slot m.station m.enb_id d))
 updated_by (Err fault) s x m combined d = Some (refuse s.slot m.station m.enb_id (update_reject IdentityNotDerived) d)
 
@@ -115,7 +115,7 @@ updated_by (Err fault) s x m combined d = Some (refuse s.slot m.station m.enb_id
 unfoldable pub initial_update : Setting → Entry (List ℕ) → Bool → Draft → Option Draft
 initial_update s m combined d =
     if is_registered d.solo.phase then
-    option_map_or (λ x. updated_by (accepted_under x m.nas) s x m combined d) d.solo.context (Some (refuse s.slot m.station m.enb_id (update_reject IdentityNotDerived) d))
+    option_map_or (λ x. updated_by (accepted_by_context x m.nas) s x m combined d) d.solo.context (Some (refuse s.slot m.station m.enb_id (update_reject IdentityNotDerived) d))
     else Some (refuse s.slot m.station m.enb_id (update_reject ImplicitlyDetached) d)
 
 -- ---- detach (TS 24.301 clause 5.5.2)
@@ -126,9 +126,9 @@ detach_answered switch_off d = if switch_off then Some d else protect IntegrityP
 
 -- a phone that is proved leaves
 unfoldable pub detach : Bool → Draft → Option Draft
-detach switch_off d = detach_answered switch_off d >>= λ told. Some (wipe (release (Nas Detach) told))
+detach switch_off d = detach_answered switch_off d >>= λ sent. Some (wipe (release (Nas Detach) sent))
 
-unfoldable pub detached_by : Answer → Setting → Context → Entry (List ℕ) → Bool → Draft → Option Draft
+unfoldable pub detached_by : Acceptance → Setting → Context → Entry (List ℕ) → Bool → Draft → Option Draft
 detached_by (Ok found) s x m switch_off d = detach switch_off (took (counted_up x found.0) found.0 (connect s.slot m.station m.enb_id d))
 detached_by (Err fault) s x m switch_off d = Some (turn_away s.slot m.station m.enb_id d)
 
@@ -136,7 +136,7 @@ detached_by (Err fault) s x m switch_off d = Some (turn_away s.slot m.station m.
 unfoldable pub initial_detach : Setting → Entry (List ℕ) → Bool → Draft → Option Draft
 initial_detach s m switch_off d =
     if is_deregistered d.solo.phase then Some (detach_plainly switch_off (connect s.slot m.station m.enb_id d))
-    else option_map_or (λ x. detached_by (accepted_under x m.nas) s x m switch_off d) d.solo.context (Some (turn_away s.slot m.station m.enb_id d))
+    else option_map_or (λ x. detached_by (accepted_by_context x m.nas) s x m switch_off d) d.solo.context (Some (turn_away s.slot m.station m.enb_id d))
 
 -- ---- INITIAL UE MESSAGE
 
@@ -170,8 +170,8 @@ claim s id m d = claimed (heard (initial_octets m.nas)) s id m d
 -- ---- protected messages on the connection
 
 -- EMM STATUS protected, or nothing
-unfoldable pub status : Option EmmCause → Draft → Option Draft
-status cause d = option_map_or (λ c. protect IntegrityProtectedCiphered (emm_status c) d) cause (Some d)
+unfoldable pub status_protected : Option EmmCause → Draft → Option Draft
+status_protected cause d = option_map_or (λ c. protect IntegrityProtectedCiphered (emm_status c) d) cause (Some d)
 
 unfoldable pub registered : Draft → Draft
 registered d =
@@ -189,45 +189,45 @@ attach_completed esm d =
 unfoldable pub update_completed : Draft → Draft
 update_completed d = if d.solo.asked.initial_update then fall (Nas NormalRelease) (registered d) else registered d
 
-unfoldable pub told_emm : Heard (List ℕ) → Setting → Tai → Draft → Option Draft
-told_emm (heards.AttachComplete esm) s tai d = if awaits_attach_complete d.solo.phase then Some (attach_completed esm d) else status (Some NotCompatible) d
-told_emm heards.UpdateComplete s tai d = if awaits_update_complete d.solo.phase then Some (update_completed d) else status (Some NotCompatible) d
-told_emm (heards.Update combined) s tai d = if may_update d.solo.phase then update s tai combined false d else status (Some NotCompatible) d
-told_emm (heards.Detach switch_off) s tai d = detach switch_off d
-told_emm heards.DetachAccept s tai d = if awaits_detach_accept d.solo.phase then Some (wipe (release (Nas Detach) d)) else status (Some NotCompatible) d
-told_emm heards.Unasked s tai d = Some d
-told_emm (heards.Unreadable fault) s tai d = status (cause_of_fault fault) d
-told_emm (heards.Attach combined capability esm) s tai d = status (Some NotCompatible) d
-told_emm (heards.Service octets) s tai d = status (Some NotCompatible) d
-told_emm (heards.Response res) s tai d = status (Some NotCompatible) d
-told_emm (heards.Failure cause) s tai d = status (Some NotCompatible) d
-told_emm heards.SecurityComplete s tai d = status (Some NotCompatible) d
-told_emm heards.SecurityReject s tai d = status (Some NotCompatible) d
-told_emm heards.Other s tai d = status (Some NotCompatible) d
+unfoldable pub inner_emm : Heard (List ℕ) → Setting → Tai → Draft → Option Draft
+inner_emm (heards.AttachComplete esm) s tai d = if awaits_attach_complete d.solo.phase then Some (attach_completed esm d) else status_protected (Some NotCompatible) d
+inner_emm heards.UpdateComplete s tai d = if awaits_update_complete d.solo.phase then Some (update_completed d) else status_protected (Some NotCompatible) d
+inner_emm (heards.Update combined) s tai d = if may_update d.solo.phase then update s tai combined false d else status_protected (Some NotCompatible) d
+inner_emm (heards.Detach switch_off) s tai d = detach switch_off d
+inner_emm heards.DetachAccept s tai d = if awaits_detach_accept d.solo.phase then Some (wipe (release (Nas Detach) d)) else status_protected (Some NotCompatible) d
+inner_emm heards.Unasked s tai d = Some d
+inner_emm (heards.Unreadable fault) s tai d = status_protected (cause_of_fault fault) d
+inner_emm (heards.Attach combined capability esm) s tai d = status_protected (Some NotCompatible) d
+inner_emm (heards.Service octets) s tai d = status_protected (Some NotCompatible) d
+inner_emm (heards.Response res) s tai d = status_protected (Some NotCompatible) d
+inner_emm (heards.Failure cause) s tai d = status_protected (Some NotCompatible) d
+inner_emm heards.SecurityComplete s tai d = status_protected (Some NotCompatible) d
+inner_emm heards.SecurityReject s tai d = status_protected (Some NotCompatible) d
+inner_emm heards.Other s tai d = status_protected (Some NotCompatible) d
 
 -- ESM information has come (TS 24.301 clause 6.6.1.2.3): KeNB is that of the SECURITY MODE COMPLETE
-unfoldable pub informed : Setting → Draft → Option Draft
-informed s d = option_map_or (λ x. accept s x.radio.kenb d) d.solo.context (Some d)
+unfoldable pub information_came : Setting → Draft → Option Draft
+information_came s d = option_map_or (λ x. accept s x.radio.kenb d) d.solo.context (Some d)
 
 unfoldable pub reacted : Reaction (List ℕ) → Setting → Draft → Option Draft
 reacted Nothing s d = Some d
-reacted Informed s d = informed s d
+reacted Informed s d = information_came s d
 reacted (Answered octets) s d = protect IntegrityProtectedCiphered octets d
 
-unfoldable pub told_esm : List ℕ → Setting → Draft → Option Draft
-told_esm octets s d = reacted (reaction d.solo.bearer (awaits_information d.solo.phase) octets) s d
+unfoldable pub inner_esm : List ℕ → Setting → Draft → Option Draft
+inner_esm octets s d = reacted (reaction d.solo.bearer (awaits_information d.solo.phase) octets) s d
 
 -- a message behind its protection
-unfoldable pub told : List ℕ → Setting → Tai → Draft → Option Draft
-told octets s tai d = if is_esm octets then told_esm octets s d else told_emm (heard octets) s tai d
+unfoldable pub inner_message : List ℕ → Setting → Tai → Draft → Option Draft
+inner_message octets s tai d = if is_esm octets then inner_esm octets s d else inner_emm (heard octets) s tai d
 
-unfoldable pub told_by : Answer → Setting → Context → Tai → Draft → Option Draft
-told_by (Ok found) s x tai d = told found.1 s tai (took (counted_up x found.0) found.0 d)
-told_by (Err fault) s x tai d = Some d
+unfoldable pub inner_message_by : Acceptance → Setting → Context → Tai → Draft → Option Draft
+inner_message_by (Ok found) s x tai d = inner_message found.1 s tai (took (counted_up x found.0) found.0 d)
+inner_message_by (Err fault) s x tai d = Some d
 
 -- what isn't protected under the context is dropped
 unfoldable pub in_later : Setting → Tai → List ℕ → Draft → Option Draft
-in_later s tai nas d = option_map_or (λ x. told_by (accepted_under x nas) s x tai d) d.solo.context (Some d)
+in_later s tai nas d = option_map_or (λ x. inner_message_by (accepted_by_context x nas) s x tai d) d.solo.context (Some d)
 
 -- NAS from the phone, by phase
 unfoldable pub uplink : Phase → Setting → Tai → List ℕ → Draft → Option Draft

@@ -2,12 +2,12 @@
 
 ghost use Rattle.std.specs.Prelude.{◌≡◌, OnOk, Some, None};
 ghost use Rattle.mme_signalling.specs.Pdus.{cause_of_request, is_extended};
-ghost use Rattle.emm_serving.specs.Connected.{checked, connection_of, displaced, has_id, has_pair, hopped, indicate, message_of, next_chaining_count, not_switched, on_connection, path_switch, station_gone, strike, struck, switched};
+ghost use Rattle.emm_serving.specs.Connected.{checked, connection_of, displaced, has_connection_id, has_pair, hopped, indicate, message_of, next_chaining_count, not_switched, on_connection, path_switch, station_gone, strike, struck, switched};
 ghost use Rattle.emm_state.specs.Does.{Does};
 ghost use Rattle.mme_vocabulary.specs.Events.{message_lists};
 
 use crate::serving::uplink;
-use emm_state::{Context, Draft, Repeat, Setting, Stop, is_registered};
+use emm_state::{Context, Draft, Repeat, Setting, StepStop, is_registered};
 use eps_keys::next_hop;
 use identity_slots::AssociationId;
 use mme_signalling::{
@@ -49,8 +49,8 @@ fn connection_of(message: &UeMessage<&[u8]>) -> Connection
     }
 }
 
-fn has_id(draft: &Draft, message: &UeMessage<&[u8]>) -> bool
-    ensures { result ≡ has_id (message_lists message.now) draft.now }
+fn has_connection_id(draft: &Draft, message: &UeMessage<&[u8]>) -> bool
+    ensures { result ≡ has_connection_id (message_lists message.now) draft.now }
 {
     match draft.solo.connection {
         Some(connection) => connection.id == message.mme_id,
@@ -122,7 +122,7 @@ fn path_switch(
     ensures { OnOk result (draft.new ≡ path_switch (message_lists message.now) draft.old) }
 {
     let unknown = Cause::RadioNetwork(RadioNetworkCause::UnknownMmeUeS1apId);
-    if !has_id(draft, message) {
+    if !has_connection_id(draft, message) {
         return not_switched(draft, alloc, unknown, message);
     }
     if !message.mme_id.is_of_slot() {
@@ -144,7 +144,7 @@ fn on_connection(
     alloc: Global,
     setting: &Setting,
     message: &UeMessage<&[u8]>,
-) -> Result<(), Stop>
+) -> Result<(), StepStop>
     ensures { Does result draft.new (on_connection (message_lists message.now).body setting.now draft.old) }
 {
     match message.body {
@@ -164,10 +164,10 @@ fn checked(
     alloc: Global,
     setting: &Setting,
     message: &UeMessage<&[u8]>,
-) -> Result<(), Stop>
+) -> Result<(), StepStop>
     ensures { Does result draft.new (checked setting.now (message_lists message.now) draft.old) }
 {
-    if !has_id(draft, message) {
+    if !has_connection_id(draft, message) {
         return Ok(indicate(draft, alloc, RadioNetworkCause::UnknownMmeUeS1apId, message)?);
     }
     if has_pair(draft, message) {
@@ -189,7 +189,7 @@ pub fn message_of(
     alloc: Global,
     setting: &Setting,
     message: &UeMessage<&[u8]>,
-) -> Result<(), Stop>
+) -> Result<(), StepStop>
     ensures { Does result draft.new (message_of (message_lists message.now).body setting.now (message_lists message.now) draft.old) }
 {
     match message.body {

@@ -6,7 +6,9 @@ ghost use Rattle.s1ap_messages.specs.Pdus.{lists};
 ghost use Rattle.emm_state.specs.Does.{Does};
 ghost use Rattle.emm_serving.specs.Idle.{again, cancelled, covers, data_waits, detach_phone, dropped, emit_each, expired, given_up, is_in_registered, listening, listens, lower, lowered, may_page, page, paged, procedure_ticks, reachable_ticks_out, restarted, some_covers, tick};
 
-use emm_state::{Countdown, Draft, Phase, Protection, Repeat, Setting, Stations, Stop, Timer};
+use emm_state::{
+    Countdown, Draft, NasTimer, Phase, Protection, Repeat, Setting, Stations, StepStop,
+};
 use mme_signalling::{network_detach, paging};
 use mme_vocabulary::{EnbWorld, NasOctets, StationNumber, StationState, is_broadcast};
 use nas_messages::SecurityHeader;
@@ -126,7 +128,7 @@ pub fn data_waits(
     }
     let stations = listening(alloc, &draft.solo.tai, world)?;
     page(draft, alloc, setting, &stations)?;
-    draft.start(Timer::T3413, Repeat::Paging(stations));
+    draft.start(NasTimer::T3413, Repeat::Paging(stations));
     Ok(())
 }
 
@@ -148,15 +150,15 @@ fn lowered(draft: &mut Draft)
 }
 
 #[tactic(auto, unfolding(crate::specs::Idle::given_up))]
-fn given_up(draft: &mut Draft, alloc: Global, timer: Timer) -> Result<(), AllocError>
+fn given_up(draft: &mut Draft, alloc: Global, timer: NasTimer) -> Result<(), AllocError>
     ensures { OnOk result (draft.new ≡ given_up timer draft.old) }
 {
     match timer {
-        Timer::T3413 => {
+        NasTimer::T3413 => {
             draft.end_procedure();
             Ok(())
         }
-        Timer::T3422 | Timer::T3450 | Timer::T3460 | Timer::T3489 => {
+        NasTimer::T3422 | NasTimer::T3450 | NasTimer::T3460 | NasTimer::T3489 => {
             draft.fall(alloc, Cause::Nas(NasCause::Unspecified))
         }
     }
@@ -164,7 +166,12 @@ fn given_up(draft: &mut Draft, alloc: Global, timer: Timer) -> Result<(), AllocE
 
 // What was kept is sent again.
 #[tactic(auto, unfolding(crate::specs::Idle::again))]
-fn again(draft: &mut Draft, alloc: Global, setting: &Setting, repeat: &Repeat) -> Result<(), Stop>
+fn again(
+    draft: &mut Draft,
+    alloc: Global,
+    setting: &Setting,
+    repeat: &Repeat,
+) -> Result<(), StepStop>
     ensures { Does result draft.new (again repeat.now setting.now draft.old) }
 {
     match repeat {
@@ -182,7 +189,7 @@ fn expired(
     alloc: Global,
     setting: &Setting,
     countdown: Countdown,
-) -> Result<(), Stop>
+) -> Result<(), StepStop>
     ensures { Does result draft.new (expired countdown setting.now draft.old) }
 {
     if countdown.repeats == 0 {
@@ -201,7 +208,7 @@ fn expired(
 }
 
 #[tactic(auto, unfolding(crate::specs::Idle::procedure_ticks))]
-fn procedure_ticks(draft: &mut Draft, alloc: Global, setting: &Setting) -> Result<(), Stop>
+fn procedure_ticks(draft: &mut Draft, alloc: Global, setting: &Setting) -> Result<(), StepStop>
     ensures { Does result draft.new (procedure_ticks setting.now draft.old) }
 {
     match draft.solo.procedure {
@@ -221,7 +228,7 @@ fn reachable_ticks_out(draft: &mut Draft)
 
 /// A second has passed.
 #[tactic(auto, unfolding(crate::specs::Idle::tick))]
-pub fn tick(draft: &mut Draft, alloc: Global, setting: &Setting) -> Result<(), Stop>
+pub fn tick(draft: &mut Draft, alloc: Global, setting: &Setting) -> Result<(), StepStop>
     ensures { Does result draft.new (tick setting.now draft.old) }
 {
     lowered(draft);
@@ -232,7 +239,7 @@ pub fn tick(draft: &mut Draft, alloc: Global, setting: &Setting) -> Result<(), S
 
 // DETACH REQUEST of the network.
 #[tactic(auto, unfolding(crate::specs::Idle::detach_phone))]
-fn detach_phone(draft: &mut Draft, alloc: Global) -> Result<(), Stop>
+fn detach_phone(draft: &mut Draft, alloc: Global) -> Result<(), StepStop>
     ensures { Does result draft.new (detach_phone draft.old) }
 {
     let request = network_detach(alloc)?;
@@ -243,7 +250,7 @@ fn detach_phone(draft: &mut Draft, alloc: Global) -> Result<(), Stop>
         request.as_slice(),
     )?;
     draft.start(
-        Timer::T3422,
+        NasTimer::T3422,
         Repeat::Nas(
             Protection::Under(SecurityHeader::IntegrityProtectedCiphered),
             NasOctets::new(request),
@@ -262,7 +269,7 @@ fn dropped(draft: &mut Draft, alloc: Global) -> Result<(), AllocError>
 
 /// The subscription is withdrawn.
 #[tactic(auto, unfolding(crate::specs::Idle::cancelled))]
-pub fn cancelled(draft: &mut Draft, alloc: Global) -> Result<(), Stop>
+pub fn cancelled(draft: &mut Draft, alloc: Global) -> Result<(), StepStop>
     ensures { Does result draft.new (cancelled draft.old.solo.phase draft.old) }
 {
     match draft.solo.phase {

@@ -6,13 +6,13 @@ ghost use Rattle.emm_state.specs.Actions.{mac_of, refuse};
 ghost use Rattle.mme_signalling.specs.Messages.{service_reject, update_reject};
 ghost use Rattle.emm_state.specs.Does.{Does};
 ghost use Rattle.mme_signalling.specs.Hearing.{heard_lists};
-ghost use Rattle.emm_serving.specs.Serving.{accepted_under, active, attach_completed, awaits_attach_complete, awaits_detach_accept, awaits_information, awaits_update_complete, claim, claimed, detach, detach_answered, detached_by, entered, in_later, informed, initial, initial_detach, initial_update, is_deregistered, may_update, reacted, registered, served_by, service, status, told, told_by, told_emm, told_esm, update, update_completed, update_grant, updated_by, updating, uplink};
+ghost use Rattle.emm_serving.specs.Serving.{accepted_by_context, active, attach_completed, awaits_attach_complete, awaits_detach_accept, awaits_information, awaits_update_complete, claim, claimed, detach, detach_answered, detached_by, entered, in_later, information_came, initial, initial_detach, initial_update, is_deregistered, may_update, reacted, registered, served_by, service, status_protected, inner_message, inner_message_by, inner_emm, inner_esm, update, update_completed, update_grant, updated_by, updating, uplink};
 ghost use Rattle.mme_vocabulary.specs.Events.{entry_lists};
 
 use emm_attaching::{
     accept, attach, detach_plainly, given_tmsi, in_authenticating, in_security_mode, keyed, took,
 };
-use emm_state::{Draft, Phase, Protection, Repeat, Setting, Stop, Timer, is_registered};
+use emm_state::{Draft, NasTimer, Phase, Protection, Repeat, Setting, StepStop, is_registered};
 use esm_machine::Reaction;
 use identity_slots::AssociationId;
 use mme_signalling::{
@@ -157,7 +157,7 @@ fn update(
     tai: Tai,
     combined: bool,
     initial: bool,
-) -> Result<(), Stop>
+) -> Result<(), StepStop>
     ensures { Does result draft.new (update setting.now tai combined initial draft.old) }
 {
     let tmsi = given_tmsi(draft, setting);
@@ -174,7 +174,7 @@ fn update(
         message.as_slice(),
     )?;
     draft.start(
-        Timer::T3450,
+        NasTimer::T3450,
         Repeat::Nas(
             Protection::Under(SecurityHeader::IntegrityProtectedCiphered),
             NasOctets::new(message),
@@ -191,7 +191,7 @@ fn initial_update(
     setting: &Setting,
     entry: &Entry<&[u8]>,
     combined: bool,
-) -> Result<(), Stop>
+) -> Result<(), StepStop>
     ensures { Does result draft.new (initial_update setting.now (entry_lists entry.now) combined draft.old) }
 {
     if !is_registered(draft.solo.phase) {
@@ -209,7 +209,7 @@ fn initial_update(
 }
 
 #[tactic(auto, unfolding(crate::specs::Serving::detach_answered))]
-fn detach_answered(draft: &mut Draft, alloc: Global, switch_off: bool) -> Result<(), Stop>
+fn detach_answered(draft: &mut Draft, alloc: Global, switch_off: bool) -> Result<(), StepStop>
     ensures { Does result draft.new (detach_answered switch_off draft.old) }
 {
     if switch_off {
@@ -225,7 +225,7 @@ fn detach_answered(draft: &mut Draft, alloc: Global, switch_off: bool) -> Result
 
 // A phone that is proved leaves.
 #[tactic(auto, unfolding(crate::specs::Serving::detach))]
-fn detach(draft: &mut Draft, alloc: Global, switch_off: bool) -> Result<(), Stop>
+fn detach(draft: &mut Draft, alloc: Global, switch_off: bool) -> Result<(), StepStop>
     ensures { Does result draft.new (detach switch_off draft.old) }
 {
     detach_answered(draft, alloc, switch_off)?;
@@ -242,7 +242,7 @@ fn initial_detach(
     setting: &Setting,
     entry: &Entry<&[u8]>,
     switch_off: bool,
-) -> Result<(), Stop>
+) -> Result<(), StepStop>
     ensures { Does result draft.new (initial_detach setting.now (entry_lists entry.now) switch_off draft.old) }
 {
     let (slot, station, enb_id) = (setting.slot, entry.station, entry.enb_id);
@@ -268,7 +268,7 @@ fn entered(
     setting: &Setting,
     entry: &Entry<&[u8]>,
     message: &Heard<&[u8]>,
-) -> Result<(), Stop>
+) -> Result<(), StepStop>
     ensures { Does result draft.new (entered (heard_lists message.now) setting.now (entry_lists entry.now) draft.old) }
 {
     match message {
@@ -313,7 +313,7 @@ pub fn initial(
     alloc: Global,
     setting: &Setting,
     entry: &Entry<&[u8]>,
-) -> Result<(), Stop>
+) -> Result<(), StepStop>
     ensures { Does result draft.new (initial setting.now (entry_lists entry.now) draft.old) }
 {
     let message = hear(initial_octets(entry.nas));
@@ -379,9 +379,13 @@ pub fn claim(
     claimed(draft, alloc, setting, id, entry, &message)
 }
 
-#[tactic(auto, unfolding(crate::specs::Serving::status))]
-fn status(draft: &mut Draft, alloc: Global, cause: Option<EmmCause>) -> Result<(), Stop>
-    ensures { Does result draft.new (status cause draft.old) }
+#[tactic(auto, unfolding(crate::specs::Serving::status_protected))]
+fn status_protected(
+    draft: &mut Draft,
+    alloc: Global,
+    cause: Option<EmmCause>,
+) -> Result<(), StepStop>
+    ensures { Does result draft.new (status_protected cause draft.old) }
 {
     let Some(cause) = cause else {
         return Ok(());
@@ -427,15 +431,15 @@ fn update_completed(draft: &mut Draft, alloc: Global) -> Result<(), AllocError>
     }
 }
 
-#[tactic(auto, unfolding(crate::specs::Serving::told_emm))]
-fn told_emm(
+#[tactic(auto, unfolding(crate::specs::Serving::inner_emm))]
+fn inner_emm(
     draft: &mut Draft,
     alloc: Global,
     setting: &Setting,
     tai: Tai,
     message: &Heard<&[u8]>,
-) -> Result<(), Stop>
-    ensures { Does result draft.new (told_emm (heard_lists message.now) setting.now tai draft.old) }
+) -> Result<(), StepStop>
+    ensures { Does result draft.new (inner_emm (heard_lists message.now) setting.now tai draft.old) }
 {
     let phase = draft.solo.phase;
     match message {
@@ -455,7 +459,7 @@ fn told_emm(
             Ok(())
         }
         Heard::Unasked => Ok(()),
-        Heard::Unreadable(fault) => status(draft, alloc, cause_of_fault(*fault)),
+        Heard::Unreadable(fault) => status_protected(draft, alloc, cause_of_fault(*fault)),
         Heard::Attach {
             combined: _,
             capability: _,
@@ -470,13 +474,13 @@ fn told_emm(
         | Heard::UpdateComplete
         | Heard::Update { combined: _ }
         | Heard::DetachAccept
-        | Heard::Other => status(draft, alloc, Some(EmmCause::NotCompatible)),
+        | Heard::Other => status_protected(draft, alloc, Some(EmmCause::NotCompatible)),
     }
 }
 
-#[tactic(auto, unfolding(crate::specs::Serving::informed))]
-fn informed(draft: &mut Draft, alloc: Global, setting: &Setting) -> Result<(), Stop>
-    ensures { Does result draft.new (informed setting.now draft.old) }
+#[tactic(auto, unfolding(crate::specs::Serving::information_came))]
+fn information_came(draft: &mut Draft, alloc: Global, setting: &Setting) -> Result<(), StepStop>
+    ensures { Does result draft.new (information_came setting.now draft.old) }
 {
     match draft.solo.context {
         Some(context) => accept(draft, alloc, setting, context.radio.kenb),
@@ -484,14 +488,19 @@ fn informed(draft: &mut Draft, alloc: Global, setting: &Setting) -> Result<(), S
     }
 }
 
-#[tactic(auto, unfolding(crate::specs::Serving::told_esm, crate::specs::Serving::reacted))]
-fn told_esm(draft: &mut Draft, alloc: Global, setting: &Setting, octets: &[u8]) -> Result<(), Stop>
-    ensures { Does result draft.new (told_esm octets.now setting.now draft.old) }
+#[tactic(auto, unfolding(crate::specs::Serving::inner_esm, crate::specs::Serving::reacted))]
+fn inner_esm(
+    draft: &mut Draft,
+    alloc: Global,
+    setting: &Setting,
+    octets: &[u8],
+) -> Result<(), StepStop>
+    ensures { Does result draft.new (inner_esm octets.now setting.now draft.old) }
 {
     let waiting = awaits_information(draft.solo.phase);
     match draft.solo.bearer.on_message(alloc, octets, waiting)? {
         Reaction::Nothing => Ok(()),
-        Reaction::Informed => informed(draft, alloc, setting),
+        Reaction::Informed => information_came(draft, alloc, setting),
         Reaction::Answer(answer) => draft.protect(
             alloc,
             SecurityHeader::IntegrityProtectedCiphered,
@@ -500,31 +509,31 @@ fn told_esm(draft: &mut Draft, alloc: Global, setting: &Setting, octets: &[u8]) 
     }
 }
 
-#[tactic(auto, unfolding(crate::specs::Serving::told))]
-fn told(
+#[tactic(auto, unfolding(crate::specs::Serving::inner_message))]
+fn inner_message(
     draft: &mut Draft,
     alloc: Global,
     setting: &Setting,
     tai: Tai,
     octets: &[u8],
-) -> Result<(), Stop>
-    ensures { Does result draft.new (told octets.now setting.now tai draft.old) }
+) -> Result<(), StepStop>
+    ensures { Does result draft.new (inner_message octets.now setting.now tai draft.old) }
 {
     if is_esm(octets) {
-        return told_esm(draft, alloc, setting, octets);
+        return inner_esm(draft, alloc, setting, octets);
     }
     let message = hear(octets);
-    told_emm(draft, alloc, setting, tai, &message)
+    inner_emm(draft, alloc, setting, tai, &message)
 }
 
-#[tactic(auto, unfolding(crate::specs::Serving::in_later, crate::specs::Serving::told_by))]
+#[tactic(auto, unfolding(crate::specs::Serving::in_later, crate::specs::Serving::inner_message_by))]
 fn in_later(
     draft: &mut Draft,
     alloc: Global,
     setting: &Setting,
     tai: Tai,
     nas: &[u8],
-) -> Result<(), Stop>
+) -> Result<(), StepStop>
     ensures { Does result draft.new (in_later setting.now tai nas.now draft.old) }
 {
     let Some(mut context) = draft.solo.context else {
@@ -534,7 +543,7 @@ fn in_later(
         return Ok(());
     };
     took(draft, context, count);
-    told(draft, alloc, setting, tai, message)
+    inner_message(draft, alloc, setting, tai, message)
 }
 
 /// NAS from the phone, by phase.
@@ -545,7 +554,7 @@ pub(crate) fn uplink(
     setting: &Setting,
     tai: Tai,
     nas: &[u8],
-) -> Result<(), Stop>
+) -> Result<(), StepStop>
     ensures { Does result draft.new (uplink draft.old.solo.phase setting.now tai nas.now draft.old) }
 {
     match draft.solo.phase {

@@ -13,7 +13,7 @@ use Rattle.eps_keys.specs.Eia2.{eia2}
 use Rattle.nas_security.specs.Context.{Mac}
 use Rattle.nas_security.specs.Protecting.{protected_by}
 use Rattle.esm_machine.specs.Requests.{inactive}
-use Rattle.identity_slots.specs.Ids.{id_of, next_counter}
+use Rattle.identity_slots.specs.Ids.{id_of_slot, next_counter}
 use Rattle.mme_vocabulary.specs.declared.octets.Mark.{Mark}
 use Rattle.mme_vocabulary.specs.declared.connection.Connection.{Connection}
 use Rattle.mme_vocabulary.specs.Answers.{answer_of}
@@ -26,7 +26,7 @@ use Rattle.emm_state.specs.declared.solo.Phase.{Phase}
 use Rattle.emm_state.specs.declared.solo.Phase.TheVariants.{Deregistered, Authenticating, SecurityMode, EsmInformation, Accepting, Updating, Registered, Detaching}
 use Rattle.emm_state.specs.declared.solo.Repeat.{Repeat}
 use Rattle.emm_state.specs.declared.solo.Solo.{Solo}
-use Rattle.emm_state.specs.declared.solo.Timer.{Timer}
+use Rattle.emm_state.specs.declared.solo.NasTimer.{NasTimer}
 use Rattle.emm_state.specs.Does.{◌>>=◌}
 use Rattle.emm_state.specs.Timers.{reachable_ticks, repeats_of, ticks_of}
 
@@ -69,25 +69,25 @@ connect_on id station enb_id d =
 
 -- the slot's next association id
 abbrev pub next_id : ℕ → Draft → ℕ
-next_id slot d = id_of slot (next_counter d.solo.associations)
+next_id slot d = id_of_slot slot (next_counter d.solo.associations)
 
-unfoldable pub counted : Draft → Draft
-counted d = record d { solo = record d.solo { associations = next_counter d.solo.associations } }
+unfoldable pub association_counted : Draft → Draft
+association_counted d = record d { solo = record d.solo { associations = next_counter d.solo.associations } }
 
 -- an association with the slot's next id is the connection
 unfoldable pub connect : ℕ → ℕ → ℕ → Draft → Draft
-connect slot station enb_id d = connect_on (next_id slot d) station enb_id (counted d)
+connect slot station enb_id d = connect_on (next_id slot d) station enb_id (association_counted d)
 
 -- on a next id of its own a release; all else stays
 unfoldable pub turn_away : ℕ → ℕ → ℕ → Draft → Draft
-turn_away slot station enb_id d = emit station (release_command (next_id slot d) enb_id (Nas NormalRelease)) None (counted d)
+turn_away slot station enb_id d = emit station (release_command (next_id slot d) enb_id (Nas NormalRelease)) None (association_counted d)
 
 -- on a next id of its own the message, plain, and a release; all else stays
 unfoldable pub refuse : ℕ → ℕ → ℕ → List ℕ → Draft → Draft
 refuse slot station enb_id nas d =
     let id = next_id slot d in
-    let told = emit station (downlink (record { id = id; station = station; enb_id = enb_id }) nas) None (counted d) in
-    emit station (release_command id enb_id (Nas NormalRelease)) None told
+    let sent = emit station (downlink (record { id = id; station = station; enb_id = enb_id }) nas) None (association_counted d) in
+    emit station (release_command id enb_id (Nas NormalRelease)) None sent
 
 -- ---- the registration
 
@@ -139,7 +139,7 @@ unfoldable pub lost : Draft → Draft
 lost d = fallen (disconnected d)
 
 -- the timer's countdown runs, and what is sent again is kept
-unfoldable pub start : Timer → Repeat → Draft → Draft
+unfoldable pub start : NasTimer → Repeat → Draft → Draft
 start timer repeat d = record d {
   solo = record d.solo {
     repeat = Some repeat;

@@ -4,12 +4,12 @@ ghost use Rattle.std.specs.Prelude.{◌≡◌, ◌<◌, ◌^◌, IfOk, OnOk, Som
 ghost use Rattle.s1ap_messages.specs.Pdus.{encoded, lists};
 ghost use Rattle.s1ap_elements.specs.declared.cause.Cause.TheVariants as causes;
 ghost use Rattle.s1ap_elements.specs.declared.cause.NasCause.TheVariants as nas_causes;
-ghost use Rattle.emm_state.specs.Actions.{connect, connect_on, counted, disconnected, emit, ended, fall, is_registered, leave_old, lost, next_id, protect, refuse, release, resting, seal, send, set_up, set_up_with, start, turn_away, wipe};
+ghost use Rattle.emm_state.specs.Actions.{connect, connect_on, association_counted, disconnected, emit, ended, fall, is_registered, leave_old, lost, next_id, protect, refuse, release, resting, seal, send, set_up, set_up_with, start, turn_away, wipe};
 ghost use Rattle.emm_state.specs.Does.{Does, Makes};
 
-use crate::draft::{Draft, Sealed, Stop};
+use crate::draft::{Draft, Sealed, StepStop};
 use crate::setting::Setting;
-use crate::solo::{Countdown, Phase, Repeat, Timer};
+use crate::solo::{Countdown, NasTimer, Phase, Repeat};
 use esm_machine::Bearer;
 use identity_slots::{AssociationId, Slot};
 use mme_signalling::{context_setup, downlink, release_command};
@@ -195,10 +195,10 @@ impl Draft {
     }
 
     // The slot's next association id.
-    #[tactic(auto, unfolding(crate::specs::Actions::counted))]
+    #[tactic(auto, unfolding(crate::specs::Actions::association_counted))]
     fn next_id(&mut self, slot: Slot) -> AssociationId
         ensures id { result ≡ next_id slot self.old }
-        ensures counted { self.new ≡ counted self.old }
+        ensures counted { self.new ≡ association_counted self.old }
     {
         let (id, counter) = self.solo.associations.association(slot);
         self.solo.associations = counter;
@@ -249,7 +249,7 @@ impl Draft {
         ensures { OnOk result (self.new ≡ refuse slot station enb_id nas.now self.old) }
     {
         let id = self.next_id(slot);
-        let told = downlink(
+        let message = downlink(
             Connection {
                 id,
                 station,
@@ -257,14 +257,14 @@ impl Draft {
             },
             nas,
         );
-        self.emit(alloc, station, &told, None)?;
+        self.emit(alloc, station, &message, None)?;
         let released = release_command(id, enb_id, normal_release());
         self.emit(alloc, station, &released, None)
     }
 
     /// The timer's countdown runs, and what is sent again is kept.
     #[tactic(auto, unfolding(crate::specs::Actions::start))]
-    pub fn start(&mut self, timer: Timer, repeat: Repeat)
+    pub fn start(&mut self, timer: NasTimer, repeat: Repeat)
         ensures { self.new ≡ start timer repeat self.old }
     {
         self.solo.repeat = Some(repeat);
@@ -277,7 +277,12 @@ impl Draft {
 
     // The protected form of a NAS message, under the next downlink count.
     #[tactic(auto, unfolding(crate::specs::Actions::seal))]
-    fn seal(&mut self, alloc: Global, header: SecurityHeader, nas: &[u8]) -> Result<Sealed, Stop>
+    fn seal(
+        &mut self,
+        alloc: Global,
+        header: SecurityHeader,
+        nas: &[u8],
+    ) -> Result<Sealed, StepStop>
         ensures { Makes result self.new (seal header nas.now self.old) }
     {
         let Some(mut context) = self.solo.context else {
@@ -292,8 +297,8 @@ impl Draft {
         };
         let form = match context.security.protect(alloc, header, nas) {
             Ok(form) => form,
-            Err(SecurityFault::NoMemory) => return Err(Stop::NoMemory),
-            Err(_) => return Err(Stop::Spent),
+            Err(SecurityFault::NoMemory) => return Err(StepStop::NoMemory),
+            Err(_) => return Err(StepStop::Spent),
         };
         self.solo.context = Some(context);
         Ok(Sealed {
@@ -304,7 +309,12 @@ impl Draft {
 
     /// NAS to the phone, protected, in DOWNLINK NAS TRANSPORT.
     #[tactic(auto, unfolding(crate::specs::Actions::protect))]
-    pub fn protect(&mut self, alloc: Global, header: SecurityHeader, nas: &[u8]) -> Result<(), Stop>
+    pub fn protect(
+        &mut self,
+        alloc: Global,
+        header: SecurityHeader,
+        nas: &[u8],
+    ) -> Result<(), StepStop>
         ensures { Does result self.new (protect header nas.now self.old) }
     {
         let sealed = self.seal(alloc, header, nas)?;
@@ -367,7 +377,7 @@ impl Draft {
         setting: &Setting,
         kenb: [u8; 32],
         nas: &[u8],
-    ) -> Result<(), Stop>
+    ) -> Result<(), StepStop>
         ensures { Does result self.new (set_up_with setting.now kenb nas.now self.old) }
     {
         let Sealed { form, under } = self.seal(

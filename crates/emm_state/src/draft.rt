@@ -30,19 +30,19 @@ impl Draft {
 
 /// Why an action stopped: the downlink counts are spent, or memory was refused.
 #[derive(Clone, Copy)]
-pub enum Stop {
+pub enum StepStop {
     Spent,
     NoMemory,
 }
 
-impl From<AllocError> for Stop {
+impl From<AllocError> for StepStop {
     ghost from_gives = { λ _ e. e ≡ NoMemory };
 
     ghost use Rattle.std.specs.Prelude.{◌≡◌};
-    ghost use Rattle.emm_state.specs.declared.draft.Stop.TheVariants.{NoMemory};
+    ghost use Rattle.emm_state.specs.declared.draft.StepStop.TheVariants.{NoMemory};
 
-    fn from(_e: AllocError) -> Stop {
-        Stop::NoMemory
+    fn from(_e: AllocError) -> StepStop {
+        StepStop::NoMemory
     }
 }
 

@@ -8,8 +8,8 @@ mod setting;
 mod solo;
 
 pub use actions::is_registered;
-pub use draft::{Draft, Sealed, Stop};
+pub use draft::{Draft, Sealed, StepStop};
 pub use setting::{Setting, Vectors};
 pub use solo::{
-    Asked, Context, Countdown, Counter, Phase, Protection, Repeat, Solo, Stations, Timer,
+    Asked, Context, Countdown, Counter, NasTimer, Phase, Protection, Repeat, Solo, Stations,
 };

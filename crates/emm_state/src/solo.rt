@@ -2,7 +2,7 @@
 
 ghost use Rattle.std.specs.Prelude.{◌≡◌, ◌==◌, not, filter, IfOk};
 ghost use Rattle.std.specs.List.{list_any};
-ghost use Rattle.identity_slots.specs.Ids.{next_counter, id_of};
+ghost use Rattle.identity_slots.specs.Ids.{next_counter, id_of_slot};
 ghost use Rattle.emm_state.specs.Timers.{repeats_of, ticks_of};
 
 use esm_machine::Bearer;
@@ -10,7 +10,7 @@ use identity_slots::{AssociationId, Slot, Tmsi};
 use mme_vocabulary::{Connection, NasOctets, RadioKeys, StationNumber};
 use nas_elements::UeCapability;
 use nas_messages::SecurityHeader;
-use nas_security::{Eia2, SecurityContext};
+use nas_security::{Eia2, EpsSecurityContext};
 use s1ap_elements::Tai;
 use std::alloc::{AllocError, Global};
 use std::marker::Model;
@@ -38,14 +38,14 @@ pub enum Phase {
 #[derive(Clone, Copy)]
 pub struct Context {
     pub place: usize,
-    pub security: SecurityContext<Eia2>,
+    pub security: EpsSecurityContext<Eia2>,
     pub kasme: [u8; 32],
     pub radio: RadioKeys,
 }
 
 /// A timer of a procedure (TS 24.301 clause 10.2).
 #[derive(Clone, Copy, PartialEq, Eq, Debug)]
-pub enum Timer {
+pub enum NasTimer {
     T3413,
     T3422,
     T3450,
@@ -53,17 +53,17 @@ pub enum Timer {
     T3489,
 }
 
-impl Timer {
+impl NasTimer {
     /// Its length in ticks.
     pub fn ticks(self) -> u32
         ensures { result ≡ ticks_of self }
     {
         match self {
-            Timer::T3413 => 10,
-            Timer::T3422 => 6,
-            Timer::T3450 => 6,
-            Timer::T3460 => 6,
-            Timer::T3489 => 4,
+            NasTimer::T3413 => 10,
+            NasTimer::T3422 => 6,
+            NasTimer::T3450 => 6,
+            NasTimer::T3460 => 6,
+            NasTimer::T3489 => 4,
         }
     }
 
@@ -72,11 +72,11 @@ impl Timer {
         ensures { result ≡ repeats_of self }
     {
         match self {
-            Timer::T3413 => 1,
-            Timer::T3422 => 4,
-            Timer::T3450 => 4,
-            Timer::T3460 => 4,
-            Timer::T3489 => 2,
+            NasTimer::T3413 => 1,
+            NasTimer::T3422 => 4,
+            NasTimer::T3450 => 4,
+            NasTimer::T3460 => 4,
+            NasTimer::T3489 => 2,
         }
     }
 }
@@ -84,7 +84,7 @@ impl Timer {
 /// A countdown that runs: the ticks left, and how often its message may still be sent again.
 #[derive(Clone, Copy)]
 pub struct Countdown {
-    pub timer: Timer,
+    pub timer: NasTimer,
     pub left: u32,
     pub repeats: u32,
 }
@@ -215,7 +215,7 @@ impl Counter {
 
     /// The slot's next association, and the counter after it.
     pub fn association(self, slot: Slot) -> (AssociationId, Counter)
-        ensures id { result.0 ≡ id_of slot (next_counter self) }
+        ensures id { result.0 ≡ id_of_slot slot (next_counter self) }
         ensures counter { result.1 ≡ next_counter self }
     {
         let (id, count) = AssociationId::after(slot, self.count);
@@ -224,7 +224,7 @@ impl Counter {
 
     /// The slot's next M-TMSI, and the counter after it.
     pub fn tmsi(self, slot: Slot) -> (Tmsi, Counter)
-        ensures tmsi { result.0 ≡ id_of slot (next_counter self) }
+        ensures tmsi { result.0 ≡ id_of_slot slot (next_counter self) }
         ensures counter { result.1 ≡ next_counter self }
     {
         let (tmsi, count) = Tmsi::after(slot, self.count);

@@ -5,7 +5,7 @@ use Rattle.std.proofs.lemmas.List.{take-append-le, take_all, take-append-drop}
 use Rattle.eps_keys.specs.Aes.{aes, cipher, key_expansion, xor_blocks}
 use Rattle.eps_keys.specs.Cmac.{blocks_before, chain, cmac_from, last_block, masked_last}
 use Rattle.eps_keys.specs.Eia2.{direction_octets, eia2_prefix}
-use Rattle.eps_keys.specs.declared.direction.Direction.{Direction}
+use Rattle.eps_keys.specs.declared.direction.DirectionBit.{DirectionBit}
 use Rattle.eps_keys.specs.Words.{octets}
 
 -- under the round keys of a key
@@ -63,7 +63,7 @@ eight (a ∷ b ∷ c ∷ d ∷ e ∷ f ∷ g ∷ []) h = absurd (omega arith)
 eight (a ∷ b ∷ c ∷ d ∷ e ∷ f ∷ g ∷ i ∷ m) h = refl
 
 -- a first block of the prefix and eight octets, and the rest
-pub whole_message : (count : ℕ) (direction : Direction) (m c0 c1 c2 : List ℕ) → 8 < length m
+pub whole_message : (count : ℕ) (direction : DirectionBit) (m c0 c1 c2 : List ℕ) → 8 < length m
     → c0 ≡ direction_octets direction
     → c1 ≡ slice_index m 0 ∷ slice_index m 1 ∷ slice_index m 2 ∷ slice_index m 3 ∷ []
     → c2 ≡ slice_index m 4 ∷ slice_index m 5 ∷ slice_index m 6 ∷ slice_index m 7 ∷ []

@@ -6,7 +6,8 @@ ghost use Rattle.eps_keys.specs.Words.{octets};
 ghost use Rattle.eps_keys.specs.Aes.{aes, zeros, cipher, key_expansion, last_round, next_key, round, rounds, xor_blocks};
 
 use crate::words::{
-    joined, mixed_column, moved_left, substituted_column, turned, word_at, xor_words,
+    joined, mixed_column, moved_left, rotated_and_substituted, substituted_column, word_at,
+    xor_words,
 };
 use std::marker::Model;
 
@@ -150,7 +151,10 @@ impl Block {
     fn next_key(self, constant: u8) -> Self
         ensures { result ≡ next_key constant self }
     {
-        let a = xor_words(xor_words(self.a, turned(self.d)), joined(constant, 0, 0, 0));
+        let a = xor_words(
+            xor_words(self.a, rotated_and_substituted(self.d)),
+            joined(constant, 0, 0, 0),
+        );
         let b = xor_words(self.b, a);
         let c = xor_words(self.c, b);
         let d = xor_words(self.d, c);

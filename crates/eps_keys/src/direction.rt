@@ -7,20 +7,20 @@ ghost use Rattle.eps_keys.specs.Words.{octets};
 /// The direction of a message, an input of its MAC (TS 33.401, B.2.1): bit 0 from the phone and bit
 /// 1 to it.
 #[derive(Clone, Copy, Debug, PartialEq, Eq)]
-pub enum Direction {
+pub enum DirectionBit {
     Uplink,
     Downlink,
 }
 
-impl Direction {
+impl DirectionBit {
     // The octet after COUNT: bearer 0, the direction and two bits 0.
     #[inline(always)]
     pub(crate) fn octet(self) -> u8
         ensures { result ≡ direction_bit self * 4 }
     {
         match self {
-            Direction::Uplink => 0,
-            Direction::Downlink => 4,
+            DirectionBit::Uplink => 0,
+            DirectionBit::Downlink => 4,
         }
     }
 
@@ -30,8 +30,8 @@ impl Direction {
         ensures { octets result ≡ direction_octets self }
     {
         match self {
-            Direction::Uplink => 0,
-            Direction::Downlink => 0x0400_0000,
+            DirectionBit::Uplink => 0,
+            DirectionBit::Downlink => 0x0400_0000,
         }
     }
 }

@@ -17,7 +17,7 @@ mod words;
 
 pub use aes::aes_encrypt;
 pub use derive::{hmac_sha256, kenb, nas_integrity_key, next_hop};
-pub use direction::Direction;
+pub use direction::DirectionBit;
 pub use equal::same_octets;
 pub use laws::same_is_equal;
 pub use mac::{MacKey, cmac, eia2};

@@ -1,11 +1,11 @@
 //! CMAC (RFC 4493) over AES-128 and 128-EIA2 (TS 33.401, B.2.3), under a key that is kept expanded.
 
 ghost use Rattle.std.specs.Prelude.{◌≡◌, ◌*◌, ◌<◌, ◌≤◌, ◌++◌, length};
-ghost use Rattle.eps_keys.specs.Cmac.{cmac, cmac_from, masked_last, padded};
+ghost use Rattle.eps_keys.specs.Cmac.{cmac, cmac_from, masked_last, padded_block};
 ghost use Rattle.eps_keys.specs.Eia2.{eia2, eia2_prefix};
 
 use crate::aes::{Block, RoundKeys, cipher, first_half, key_expansion, second_half};
-use crate::direction::Direction;
+use crate::direction::DirectionBit;
 use crate::words::word_at;
 use std::marker::Model;
 
@@ -36,9 +36,9 @@ impl Model for MacKey {
 
 // The octets, one bit 1 and zeros.
 #[inline(always)]
-fn padded(octets: &[u8]) -> [u8; 16]
+fn padded_block(octets: &[u8]) -> [u8; 16]
     requires { length octets.now < 16 }
-    ensures { result ≡ padded octets.now }
+    ensures { result ≡ padded_block octets.now }
 {
     let mut block = [0; 16];
     for i in 0..octets.len() {
@@ -70,7 +70,7 @@ impl MacKey {
         ensures { result ≡ masked_last self.now last.now }
     {
         if last.len() < 16 {
-            return Block::from_octets(&padded(last)).xor(self.subkey2);
+            return Block::from_octets(&padded_block(last)).xor(self.subkey2);
         }
         Block::at(last, 0).xor(self.subkey1)
     }
@@ -99,7 +99,7 @@ impl MacKey {
     }
 
     // The CMAC of the prefix and a message that ends in the first block.
-    fn prefixed_short(&self, count: u32, direction: Direction, message: &[u8]) -> Block
+    fn prefixed_short(&self, count: u32, direction: DirectionBit, message: &[u8]) -> Block
         requires { length message.now ≤ 8 }
         ensures { result ≡ cmac self.now (eia2_prefix count direction ++ message.now) }
     {
@@ -130,7 +130,7 @@ impl MacKey {
 
     // The CMAC of the prefix and a message, which isn't copied.
     #[inline(always)]
-    fn prefixed(&self, count: u32, direction: Direction, message: &[u8]) -> Block
+    fn prefixed(&self, count: u32, direction: DirectionBit, message: &[u8]) -> Block
         ensures { result ≡ cmac self.now (eia2_prefix count direction ++ message.now) }
     {
         if message.len() <= 8 {
@@ -147,7 +147,7 @@ impl MacKey {
 
     /// The MAC of 128-EIA2: the first four octets of the CMAC of COUNT, bearer 0, the direction
     /// and the message (TS 33.401, B.2.3). A NAS COUNT has 24 bits; all 32 are taken as they are.
-    pub fn eia2(&self, count: u32, direction: Direction, message: &[u8]) -> [u8; 4]
+    pub fn eia2(&self, count: u32, direction: DirectionBit, message: &[u8]) -> [u8; 4]
         ensures { result ≡ eia2 self.now count direction message.now }
     {
         self.prefixed(count, direction, message).first_octets()
@@ -163,7 +163,7 @@ pub fn cmac(key: &[u8; 16], message: &[u8]) -> [u8; 16]
 }
 
 /// The MAC of 128-EIA2 under a key (TS 33.401, B.2.3), as [`MacKey::eia2`].
-pub fn eia2(key: &[u8; 16], count: u32, direction: Direction, message: &[u8]) -> [u8; 4]
+pub fn eia2(key: &[u8; 16], count: u32, direction: DirectionBit, message: &[u8]) -> [u8; 4]
     ensures { result ≡ eia2 key.now count direction message.now }
 {
     MacKey::new(key).eia2(count, direction, message)

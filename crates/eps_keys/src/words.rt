@@ -1,8 +1,8 @@
 //! Words of four octets, the first of them the highest: one column of a block (FIPS 197, 3.5).
 
 ghost use Rattle.std.specs.Prelude.{◌≡◌, ◌+◌, ◌<◌, ◌≤◌, [], ◌∷◌, length, slice_index};
-ghost use Rattle.eps_keys.specs.Aes.{mixed_column, row_0, row_1, row_2, row_3, substituted_column, turned, xor_words};
-ghost use Rattle.eps_keys.specs.Cmac.{moved};
+ghost use Rattle.eps_keys.specs.Aes.{mixed_column, row_0, row_1, row_2, row_3, substituted_column, rotated_and_substituted, xor_words};
+ghost use Rattle.eps_keys.specs.Cmac.{octet_moved_left};
 ghost use Rattle.eps_keys.specs.Field.{substitute};
 ghost use Rattle.eps_keys.specs.Words.{octet, octets};
 
@@ -82,8 +82,8 @@ pub fn substituted_column(a: u32, b: u32, c: u32, d: u32) -> u32
 
 // A key's word turned by one octet and substituted (FIPS 197, 5.2).
 #[inline(always)]
-pub fn turned(word: u32) -> u32
-    ensures { octets result ≡ turned (octets word) }
+pub fn rotated_and_substituted(word: u32) -> u32
+    ensures { octets result ≡ rotated_and_substituted (octets word) }
 {
     joined(
         substitute((word >> 16) as usize % 256),
@@ -108,8 +108,8 @@ pub fn word_at(message: &[u8], i: usize) -> u32
 #[inline(always)]
 pub fn moved_left(word: u32, next: u32) -> u32
     ensures { octets result
-        ≡ moved (octet 0 word) (octet 1 word) ∷ moved (octet 1 word) (octet 2 word)
-        ∷ moved (octet 2 word) (octet 3 word) ∷ moved (octet 3 word) (octet 0 next) ∷ [] }
+        ≡ octet_moved_left (octet 0 word) (octet 1 word) ∷ octet_moved_left (octet 1 word) (octet 2 word)
+        ∷ octet_moved_left (octet 2 word) (octet 3 word) ∷ octet_moved_left (octet 3 word) (octet 0 next) ∷ [] }
 {
     word % 0x8000_0000 * 2 + next / 0x8000_0000
 }

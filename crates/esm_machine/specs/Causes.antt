@@ -3,10 +3,10 @@ use Rattle.std.specs.Prelude.{ℕ}
 use Rattle.esm_machine.specs.declared.cause.EsmCause.{EsmCause}
 use Rattle.esm_machine.specs.declared.cause.EsmCause.TheVariants.{RequestRejected, LastDisconnection, OnlyIpv4, InvalidMandatory, UnknownType, NotCompatible}
 
-abbrev pub code_of : EsmCause → ℕ
-code_of RequestRejected = 31
-code_of LastDisconnection = 49
-code_of OnlyIpv4 = 50
-code_of InvalidMandatory = 96
-code_of UnknownType = 97
-code_of NotCompatible = 98
+abbrev pub esm_cause_code : EsmCause → ℕ
+esm_cause_code RequestRejected = 31
+esm_cause_code LastDisconnection = 49
+esm_cause_code OnlyIpv4 = 50
+esm_cause_code InvalidMandatory = 96
+esm_cause_code UnknownType = 97
+esm_cause_code NotCompatible = 98

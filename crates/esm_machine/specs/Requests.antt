@@ -18,10 +18,10 @@ requested_lists (Refused octets) = Refused octets.items
 requested_lists Taken = Taken
 
 -- octets of an answer may stand in an element of any length field
-abbrev pub IsShort : Requested (List ℕ) → Type 0
-IsShort Unreadable = Unit {0}
-IsShort (Refused octets) = length octets < 2 ^ 16
-IsShort Taken = Unit {0}
+abbrev pub FitsElement : Requested (List ℕ) → Type 0
+FitsElement Unreadable = Unit {0}
+FitsElement (Refused octets) = length octets < 2 ^ 16
+FitsElement Taken = Unit {0}
 
 -- ---- no request, and no message sent
 
@@ -31,8 +31,8 @@ inactive = record { state = Inactive; request = None }
 -- ---- the connectivity request of an attach (TS 24.301, 6.5.1.3 and 6.5.1.4)
 
 -- PDN type 2 is IPv6 alone, 3 is IPv4v6 (TS 24.301, 9.9.4.10)
-abbrev pub taken : Connectivity → Request
-taken wanted = record { transaction = wanted.transaction; dual = wanted.pdn_type == 3; information = wanted.information }
+abbrev pub request_taken : Connectivity → Request
+request_taken wanted = record { transaction = wanted.transaction; dual = wanted.pdn_type == 3; information = wanted.information }
 
 -- the request that was taken before, and what is asked for now
 abbrev pub requested_after : Option Request → Option Connectivity → Requested (List ℕ)
@@ -45,7 +45,7 @@ requested session octets = requested_after session.request (asked octets)
 
 abbrev pub request_after : Option Request → Option Connectivity → Option Request
 request_after before None = before
-request_after None (Some wanted) = if wanted.pdn_type == 2 then None else Some (taken wanted)
+request_after None (Some wanted) = if wanted.pdn_type == 2 then None else Some (request_taken wanted)
 request_after (Some first) (Some wanted) = Some first
 
 unfoldable pub after_request : Session → List ℕ → Session

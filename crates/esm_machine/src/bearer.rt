@@ -6,7 +6,7 @@ ghost use Rattle.nas_messages.specs.EsmMessages.{body_lists, esm_lists};
 ghost use Rattle.nas_messages.specs.declared.esm_types.EsmBody.TheVariants as bodies;
 ghost use Rattle.esm_machine.specs.Reading.{is_accept};
 ghost use Rattle.esm_machine.specs.Reactions.{informed, reaction, reaction_lists, reaction_to, reaction_to_fault};
-ghost use Rattle.esm_machine.specs.Requests.{IsShort, accepted_by, activated, after_request, inactive, requested, requested_lists};
+ghost use Rattle.esm_machine.specs.Requests.{FitsElement, accepted_by, activated, after_request, inactive, requested, requested_lists};
 ghost use Rattle.esm_machine.specs.Sent.{activation, disconnect_reject, information_request};
 ghost use Rattle.esm_machine.specs.Sessions.{asks_information, is_dual, is_transaction_of, transaction_of};
 
@@ -80,7 +80,7 @@ impl Bearer {
         esm: &[u8],
     ) -> Result<Requested<Vec<u8>>, AllocError>
         ensures ok { IfOk result (λ answer. requested_lists answer ≡ requested self.old esm.now) }
-        ensures short { IfOk result (λ answer. IsShort (requested_lists answer)) }
+        ensures short { IfOk result (λ answer. FitsElement (requested_lists answer)) }
         ensures state { OnOk result (self.new ≡ after_request self.old esm.now) }
         ensures err { OnErr result (self.new ≡ self.old) }
     {

@@ -1,7 +1,7 @@
 //! ESM causes.
 
 ghost use Rattle.std.specs.Prelude.{◌≡◌};
-ghost use Rattle.esm_machine.specs.Causes.{code_of};
+ghost use Rattle.esm_machine.specs.Causes.{esm_cause_code};
 
 /// An ESM cause that is sent (TS 24.301, Annex B).
 #[derive(Clone, Copy, PartialEq, Eq, Debug)]
@@ -23,7 +23,7 @@ pub enum EsmCause {
 impl EsmCause {
     /// Its code (TS 24.301, 9.9.4.4).
     pub fn code(self) -> u8
-        ensures { result ≡ code_of self }
+        ensures { result ≡ esm_cause_code self }
     {
         match self {
             EsmCause::RequestRejected => 31,

@@ -17,8 +17,8 @@ enb_ids = 2 ^ 24
 abbrev pub next_counter : ℕ → ℕ
 next_counter counter = (counter + 1) % counters
 
-abbrev pub id_of : ℕ → ℕ → ℕ
-id_of slot counter = slot * counters + counter
+abbrev pub id_of_slot : ℕ → ℕ → ℕ
+id_of_slot slot counter = slot * counters + counter
 
 -- an id that is made of a slot
 abbrev pub is_of_slot : ℕ → Bool

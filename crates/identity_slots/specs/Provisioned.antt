@@ -62,11 +62,11 @@ abbrev pub with_vector : ℕ → Vector → Provisioned → Provisioned
 with_vector slot v s = record { profiles = s.profiles; vectors = slice_set s.vectors slot (vectors_at slot s.vectors ++ v ∷ []) }
 
 -- octets as numbers are below 256
-abbrev pub AreOctets : List ℕ → Type 0
-AreOctets os = (i : ℕ) → slice_index os i < 256
+abbrev pub AreOctetNumbers : List ℕ → Type 0
+AreOctetNumbers os = (i : ℕ) → slice_index os i < 256
 
 abbrev pub EightOctetsApart : Type 0
-EightOctetsApart = (a b : List ℕ) → length a ≡ 8 → length b ≡ 8 → AreOctets a → AreOctets b → from_be_bytes w64 a ≡ from_be_bytes w64 b → a ≡ b
+EightOctetsApart = (a b : List ℕ) → length a ≡ 8 → length b ≡ 8 → AreOctetNumbers a → AreOctetNumbers b → from_be_bytes w64 a ≡ from_be_bytes w64 b → a ≡ b
 
 abbrev pub FourOctetsApart : Type 0
-FourOctetsApart = (a b : List ℕ) → length a ≡ 4 → length b ≡ 4 → AreOctets a → AreOctets b → from_be_bytes w32 a ≡ from_be_bytes w32 b → a ≡ b
+FourOctetsApart = (a b : List ℕ) → length a ≡ 4 → length b ≡ 4 → AreOctetNumbers a → AreOctetNumbers b → from_be_bytes w32 a ≡ from_be_bytes w32 b → a ≡ b

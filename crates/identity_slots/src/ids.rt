@@ -1,7 +1,7 @@
 //! Slots, and the ids that are made of them.
 
 ghost use Rattle.std.specs.Prelude.{◌≡◌, ◌+◌, ◌*◌, ◌<◌, ◌≤◌, ◌^◌, SomeIff};
-ghost use Rattle.identity_slots.specs.Ids.{id_of, is_of_slot, next_counter, number_in, station_in, stranger_id};
+ghost use Rattle.identity_slots.specs.Ids.{id_of_slot, is_of_slot, next_counter, number_in, station_in, stranger_id};
 
 use std::marker::Model;
 
@@ -58,7 +58,7 @@ impl Slot {
     /// The next id, and the counter that it was made with, modulo 2^20: the slot and the counter in one number.
     fn id_after(self, counter: u32) -> (u32, u32)
         requires { counter < 2 ^ 20 }
-        ensures id { result.0 ≡ id_of self (next_counter counter) }
+        ensures id { result.0 ≡ id_of_slot self (next_counter counter) }
         ensures counter { result.1 ≡ next_counter counter }
         ensures small { next_counter counter < 2 ^ 20 }
         ensures slot { self < 2048 }
@@ -110,10 +110,10 @@ impl AssociationId {
     /// The slot's next id after this counter below 2^20, and the next counter.
     pub fn after(slot: Slot, counter: u32) -> (AssociationId, u32)
         requires { counter < 2 ^ 20 }
-        ensures id { result.0 ≡ id_of slot (next_counter counter) }
+        ensures id { result.0 ≡ id_of_slot slot (next_counter counter) }
         ensures counter { result.1 ≡ next_counter counter }
         ensures small { next_counter counter < 2 ^ 20 }
-        ensures below_strangers { id_of slot (next_counter counter) < 2 ^ 31 }
+        ensures below_strangers { id_of_slot slot (next_counter counter) < 2 ^ 31 }
     {
         let (id, next) = slot.id_after(counter);
         (AssociationId { id }, next)
@@ -179,10 +179,10 @@ impl Tmsi {
     /// The slot's next M-TMSI after this counter below 2^20, and the next counter.
     pub fn after(slot: Slot, counter: u32) -> (Tmsi, u32)
         requires { counter < 2 ^ 20 }
-        ensures id { result.0 ≡ id_of slot (next_counter counter) }
+        ensures id { result.0 ≡ id_of_slot slot (next_counter counter) }
         ensures counter { result.1 ≡ next_counter counter }
         ensures small { next_counter counter < 2 ^ 20 }
-        ensures below_strangers { id_of slot (next_counter counter) < 2 ^ 31 }
+        ensures below_strangers { id_of_slot slot (next_counter counter) < 2 ^ 31 }
     {
         let (tmsi, next) = slot.id_after(counter);
         (Tmsi { tmsi }, next)

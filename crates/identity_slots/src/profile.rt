@@ -98,11 +98,11 @@ impl Clone for Vector {
 
 /// The vectors of a subscriber, in the order in which they were given.
 #[derive(Drop)]
-pub(crate) struct Vectors {
+pub(crate) struct GivenVectors {
     items: Vec<Vector>,
 }
 
-impl Model for Vectors {
+impl Model for GivenVectors {
     ghost use Rattle.std.specs.Prelude.{List};
     ghost use Rattle.identity_slots.specs.declared.profile.Vector.{Vector};
 
@@ -111,11 +111,11 @@ impl Model for Vectors {
     ghost view = { λ v. v.items.items };
 }
 
-impl Vectors {
-    pub(crate) fn new(alloc: Global) -> Vectors
+impl GivenVectors {
+    pub(crate) fn new(alloc: Global) -> GivenVectors
         ensures { result ≡ [] }
     {
-        Vectors {
+        GivenVectors {
             items: Vec::new(alloc),
         }
     }

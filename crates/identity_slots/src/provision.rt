@@ -9,7 +9,7 @@ ghost use Rattle.identity_slots.specs.declared.provision.ProvisionFault.TheVaria
 ghost use Rattle.identity_slots.specs.Provisioned.{Provisioned, imsi_number, address_number, slot_of_imsi, slot_of_address, slot_of_id, add_fault, with_profile, with_vector, vectors_at, AreDistinct, imsi_key, address_key};
 
 use crate::ids::{AssociationId, COUNTERS, STRANGERS, Slot, Tmsi};
-use crate::profile::{Profile, Vector, Vectors};
+use crate::profile::{GivenVectors, Profile, Vector};
 use nas_elements::Imsi;
 use std::alloc::{AllocError, Global};
 use std::collections::HashMap;
@@ -46,7 +46,7 @@ fn address_number(address: [u8; 4]) -> u32
 /// Makes room for one more in each, or leaves them as they are.
 fn reserve_one(
     profiles: &mut Vec<Profile>,
-    vectors: &mut Vec<Vectors>,
+    vectors: &mut Vec<GivenVectors>,
     by_imsi: &mut HashMap<u64, Slot>,
     by_address: &mut HashMap<u32, Slot>,
 ) -> Result<(), AllocError>
@@ -70,7 +70,7 @@ fn reserve_one(
 #[derive(Drop)]
 pub struct Provision {
     profiles: Vec<Profile>,
-    vectors: Vec<Vectors>,
+    vectors: Vec<GivenVectors>,
     by_imsi: HashMap<u64, Slot>,
     by_address: HashMap<u32, Slot>,
     alloc: Global,
@@ -81,11 +81,11 @@ impl Model for Provision {
 
     ghost Value = { Provisioned };
 
-    ghost use Rattle.identity_slots.specs.Kept.{IsKept};
+    ghost use Rattle.identity_slots.specs.Kept.{IsProvision};
 
     ghost view = { λ p. record { profiles = p.profiles.items; vectors = p.vectors.items } };
 
-    ghost invariant = { λ p. IsKept p.profiles.items p.vectors.items p.by_imsi p.by_address };
+    ghost invariant = { λ p. IsProvision p.profiles.items p.vectors.items p.by_imsi p.by_address };
 }
 
 impl Provision {
@@ -191,7 +191,7 @@ impl Provision {
             return Err(ProvisionFault::NoMemory);
         }
         self.profiles.push_reserved(profile);
-        self.vectors.push_reserved(Vectors::new(self.alloc));
+        self.vectors.push_reserved(GivenVectors::new(self.alloc));
         let _ = self.by_imsi.insert(imsi, slot);
         let _ = self.by_address.insert(address, slot);
         Ok(slot)
@@ -217,7 +217,7 @@ impl Provision {
     }
 }
 
-fn push_at(vectors: &mut Vec<Vectors>, at: usize, vector: Vector) -> Result<(), AllocError>
+fn push_at(vectors: &mut Vec<GivenVectors>, at: usize, vector: Vector) -> Result<(), AllocError>
     requires { at < vec_len vectors.old }
     ensures items { OnOk result (vectors.new.items ≡ slice_set vectors.old.items at (vectors_at at vectors.old.items ++ vector ∷ [])) }
     ensures err { OnErr result (vectors.new.items ≡ vectors.old.items) }

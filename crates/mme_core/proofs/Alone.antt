@@ -2,14 +2,14 @@
 use Rattle.std.proofs.Common.{◌≡◌, ℕ, List, [], ◌∷◌, map, Option, Some, None, refl, ◌∙◌, ap}
 use Rattle.std.specs.Prelude.{slice_get}
 use Rattle.ordered_lists.specs.Ordered.{Rising}
-use Rattle.emm_machine.specs.Whole.{Whole}
+use Rattle.emm_machine.specs.SubscriberView.{SubscriberView}
 use Rattle.stranger_machine.specs.declared.state.Stranger.{Stranger}
 use Rattle.stranger_machine.specs.Machine.{stranger_step}
 use Rattle.stranger_machine.specs.Table.{known_id, stranger_at}
 use Rattle.mme_core.specs.declared.event.Event.{Event}
-use Rattle.mme_core.specs.Projection.{alone_after, answer_told, is_slot, is_station, is_stranger, item_for, own_sends, projection, silence, station_told, stranger_input, stranger_run, stranger_told, strangers_after, subscriber_told, told}
+use Rattle.mme_core.specs.Projection.{alone_after, answer_told, is_slot, is_station, is_stranger, item_for, own_told, projection, silence, station_told, stranger_input, stranger_run, stranger_told, strangers_after, subscriber_told, told}
 use Rattle.mme_core.specs.Sight.{Sight}
-use Rattle.mme_core.specs.World.{World, fault_of, happens, replies, sight_after, station_of, strangers_in, unless, whole_after, whole_step, world_after, world_run}
+use Rattle.mme_core.specs.World.{World, event_fault, happens, replies, sight_after, station_of, strangers_in, unless, subscriber_after, subscriber_step, world_after, world_run}
 use Rattle.mme_core.proofs.Turns.{absent_after, absent_told, item_same, rising_once, sight_once, slot_after, slot_told, station_told_once, stranger_once, stranger_told_once}
 
 -- strangers that are the same one by one
@@ -29,22 +29,22 @@ items_on w e es slot h =
 
 -- ---- a subscriber
 
-pub slots_told : (w : World) (es : List Event) (slot : ℕ) (x : Whole) → Rising known_id w.strangers → slice_get w.subscribers slot ≡ Some x
+pub slots_told : (w : World) (es : List Event) (slot : ℕ) (x : SubscriberView) → Rising known_id w.strangers → slice_get w.subscribers slot ≡ Some x
     → told (is_slot slot) (replies w es) ≡ subscriber_told x (projection slot w.sight (strangers_in w) es)
 slots_told w [] slot x r h = refl
 slots_told w (e ∷ es) slot x r h =
     let i = item_for slot w.sight (strangers_in w) e in
     ap (λ zs. zs ∷ told (is_slot slot) (replies (world_after w e) es)) (slot_told w e slot x h)
-    ∙ ap (λ zs. map answer_told (whole_step x i).sent ∷ zs) (slots_told (world_after w e) es slot (whole_after x i) (rising_once w e r) (slot_after w e slot x h)
-    ∙ ap (subscriber_told (whole_after x i)) (items_on w e es slot r))
+    ∙ ap (λ zs. map answer_told (subscriber_step x i).sent ∷ zs) (slots_told (world_after w e) es slot (subscriber_after x i) (rising_once w e r) (slot_after w e slot x h)
+    ∙ ap (subscriber_told (subscriber_after x i)) (items_on w e es slot r))
 
-pub slots_end : (w : World) (es : List Event) (slot : ℕ) (x : Whole) → Rising known_id w.strangers → slice_get w.subscribers slot ≡ Some x
+pub slots_end : (w : World) (es : List Event) (slot : ℕ) (x : SubscriberView) → Rising known_id w.strangers → slice_get w.subscribers slot ≡ Some x
     → slice_get (world_run w es).subscribers slot ≡ Some (alone_after x (projection slot w.sight (strangers_in w) es))
 slots_end w [] slot x r h = h
 slots_end w (e ∷ es) slot x r h =
     let i = item_for slot w.sight (strangers_in w) e in
-    slots_end (world_after w e) es slot (whole_after x i) (rising_once w e r) (slot_after w e slot x h)
-    ∙ ap (λ is. Some (alone_after (whole_after x i) is)) (items_on w e es slot r)
+    slots_end (world_after w e) es slot (subscriber_after x i) (rising_once w e r) (slot_after w e slot x h)
+    ∙ ap (λ is. Some (alone_after (subscriber_after x i) is)) (items_on w e es slot r)
 
 -- who isn't provisioned is sent nothing
 pub absent_each : (w : World) (es : List Event) (slot : ℕ) → slice_get w.subscribers slot ≡ None → told (is_slot slot) (replies w es) ≡ silence es
@@ -77,5 +77,5 @@ pub stations_told : (w : World) (es : List Event) (e : ℕ) → told (is_station
 stations_told w [] e = refl
 stations_told w (event ∷ es) e =
     ap (λ zs. zs ∷ told (is_station e) (replies (world_after w event) es)) (station_told_once w event e)
-    ∙ ap (λ zs. unless (fault_of w.sight event) [] (own_sends (station_of event) e (happens w.sight event).sends) ∷ zs)
+    ∙ ap (λ zs. unless (event_fault w.sight event) [] (own_told (station_of event) e (happens w.sight event).sent) ∷ zs)
     (stations_told (world_after w event) es e ∙ ap (λ s. station_told s e es) (sight_once w event))

@@ -8,66 +8,66 @@ use Rattle.emm_state.specs.declared.solo.Solo.{Solo}
 use Rattle.emm_state.specs.Actions.{untouched}
 use Rattle.mme_vocabulary.specs.Events.{Item, Nothing}
 use Rattle.emm_machine.specs.Steps.{row, solo_step}
-use Rattle.emm_machine.specs.Whole.{Whole}
+use Rattle.emm_machine.specs.SubscriberView.{SubscriberView}
 use Rattle.mme_routing.specs.Outcomes.{One}
-use Rattle.mme_core.specs.World.{called, each_after, each_sends, slot_out, whole_after, whole_step}
+use Rattle.mme_core.specs.World.{called, each_after, each_sent, slot_out, subscriber_after, subscriber_step}
 
 -- nothing reaches a subscriber: it stays, and sends nothing
 pub at_nothing : (s : Setting) (solo : Solo) → solo_step s solo Nothing ≡ untouched solo
 unfolding solo_step row
 at_nothing s solo = refl
 
-pub stays : (w : Whole) → whole_after w Nothing ≡ w
+pub stays : (w : SubscriberView) → subscriber_after w Nothing ≡ w
 stays w = ap (λ d. record { setting = w.setting; solo = d.solo }) (at_nothing w.setting w.solo)
 
-pub silent : (n : ℕ) (w : Whole) → map (slot_out n) (whole_step w Nothing).sent ≡ []
+pub silent : (n : ℕ) (w : SubscriberView) → map (slot_out n) (subscriber_step w Nothing).sent ≡ []
 silent n w = ap (λ d. map (slot_out n) d.sent) (at_nothing w.setting w.solo)
 
 -- where nothing is for the slots from n on, they stay and send nothing
-pub after_nothing : (n : ℕ) (items : ℕ → Item) (ws : List Whole) → ((m : ℕ) → n ≤ m → items m ≡ Nothing) → each_after items n ws ≡ ws
+pub after_nothing : (n : ℕ) (items : ℕ → Item) (ws : List SubscriberView) → ((m : ℕ) → n ≤ m → items m ≡ Nothing) → each_after items n ws ≡ ws
 after_nothing n items [] h = refl
 after_nothing n items (w ∷ ws) h =
     let here : items n ≡ Nothing = h n (omega arith) in
-    ap (λ i. whole_after w i ∷ each_after items (n + 1) ws) here ∙ ap (λ x. x ∷ each_after items (n + 1) ws) (stays w)
+    ap (λ i. subscriber_after w i ∷ each_after items (n + 1) ws) here ∙ ap (λ x. x ∷ each_after items (n + 1) ws) (stays w)
     ∙ ap (λ xs. w ∷ xs) (after_nothing (n + 1) items ws (λ m le. h m (omega arith)))
 
-pub sends_nothing : (n : ℕ) (items : ℕ → Item) (ws : List Whole) → ((m : ℕ) → n ≤ m → items m ≡ Nothing) → each_sends items n ws ≡ []
+pub sends_nothing : (n : ℕ) (items : ℕ → Item) (ws : List SubscriberView) → ((m : ℕ) → n ≤ m → items m ≡ Nothing) → each_sent items n ws ≡ []
 sends_nothing n items [] h = refl
 sends_nothing n items (w ∷ ws) h =
     let here : items n ≡ Nothing = h n (omega arith) in
-    ap (λ i. map (slot_out n) (whole_step w i).sent ++ each_sends items (n + 1) ws) here ∙ ap (λ xs. xs ++ each_sends items (n + 1) ws) (silent n w)
+    ap (λ i. map (slot_out n) (subscriber_step w i).sent ++ each_sent items (n + 1) ws) here ∙ ap (λ xs. xs ++ each_sent items (n + 1) ws) (silent n w)
     ∙ sends_nothing (n + 1) items ws (λ m le. h m (omega arith))
 
 -- one slot alone is called
-pub after_one : (n k : ℕ) (items : ℕ → Item) (ws : List Whole) (w : Whole) → slice_get ws k ≡ Some w → ((m : ℕ) → m ≢ n + k → items m ≡ Nothing) → each_after items n ws ≡ set ws k (whole_after w (items (n + k)))
+pub after_one : (n k : ℕ) (items : ℕ → Item) (ws : List SubscriberView) (w : SubscriberView) → slice_get ws k ≡ Some w → ((m : ℕ) → m ≢ n + k → items m ≡ Nothing) → each_after items n ws ≡ set ws k (subscriber_after w (items (n + k)))
 after_one n k items [] w h only = cc
 after_one n zero items (x ∷ ws) w h only =
     let here : x ≡ w = cc in
     let at : n ≡ n + 0 = omega arith in
-    ap (λ y. whole_after y (items n) ∷ each_after items (n + 1) ws) here
-    ∙ ap (λ m. whole_after w (items m) ∷ each_after items (n + 1) ws) at
-    ∙ ap (λ xs. whole_after w (items (n + 0)) ∷ xs) (after_nothing (n + 1) items ws (λ m le. only m (λ same. omega arith)))
+    ap (λ y. subscriber_after y (items n) ∷ each_after items (n + 1) ws) here
+    ∙ ap (λ m. subscriber_after w (items m) ∷ each_after items (n + 1) ws) at
+    ∙ ap (λ xs. subscriber_after w (items (n + 0)) ∷ xs) (after_nothing (n + 1) items ws (λ m le. only m (λ same. omega arith)))
 after_one n (suc k) items (x ∷ ws) w h only =
     let here : items n ≡ Nothing = only n (λ same. omega arith) in
     let at : (n + 1) + k ≡ n + suc k = omega arith in
-    ap (λ i. whole_after x i ∷ each_after items (n + 1) ws) here ∙ ap (λ y. y ∷ each_after items (n + 1) ws) (stays x)
-    ∙ ap (λ xs. x ∷ xs) (after_one (n + 1) k items ws w h (λ m ne. only m (λ same. ne (omega arith))) ∙ ap (λ m. set ws k (whole_after w (items m))) at)
+    ap (λ i. subscriber_after x i ∷ each_after items (n + 1) ws) here ∙ ap (λ y. y ∷ each_after items (n + 1) ws) (stays x)
+    ∙ ap (λ xs. x ∷ xs) (after_one (n + 1) k items ws w h (λ m ne. only m (λ same. ne (omega arith))) ∙ ap (λ m. set ws k (subscriber_after w (items m))) at)
 
-pub sends_one : (n k : ℕ) (items : ℕ → Item) (ws : List Whole) (w : Whole) → slice_get ws k ≡ Some w → ((m : ℕ) → m ≢ n + k → items m ≡ Nothing)
-    → each_sends items n ws ≡ map (slot_out (n + k)) (whole_step w (items (n + k))).sent
+pub sends_one : (n k : ℕ) (items : ℕ → Item) (ws : List SubscriberView) (w : SubscriberView) → slice_get ws k ≡ Some w → ((m : ℕ) → m ≢ n + k → items m ≡ Nothing)
+    → each_sent items n ws ≡ map (slot_out (n + k)) (subscriber_step w (items (n + k))).sent
 sends_one n k items [] w h only = cc
 sends_one n zero items (x ∷ ws) w h only =
     let here : x ≡ w = cc in
     let at : n ≡ n + 0 = omega arith in
-    ap (λ y. map (slot_out n) (whole_step y (items n)).sent ++ each_sends items (n + 1) ws) here
-    ∙ ap (λ m. map (slot_out m) (whole_step w (items m)).sent ++ each_sends items (n + 1) ws) at
-    ∙ ap (λ xs. map (slot_out (n + 0)) (whole_step w (items (n + 0))).sent ++ xs) (sends_nothing (n + 1) items ws (λ m le. only m (λ same. omega arith)))
+    ap (λ y. map (slot_out n) (subscriber_step y (items n)).sent ++ each_sent items (n + 1) ws) here
+    ∙ ap (λ m. map (slot_out m) (subscriber_step w (items m)).sent ++ each_sent items (n + 1) ws) at
+    ∙ ap (λ xs. map (slot_out (n + 0)) (subscriber_step w (items (n + 0))).sent ++ xs) (sends_nothing (n + 1) items ws (λ m le. only m (λ same. omega arith)))
     ∙ append-nil _
 sends_one n (suc k) items (x ∷ ws) w h only =
     let here : items n ≡ Nothing = only n (λ same. omega arith) in
     let at : (n + 1) + k ≡ n + suc k = omega arith in
-    ap (λ i. map (slot_out n) (whole_step x i).sent ++ each_sends items (n + 1) ws) here ∙ ap (λ xs. xs ++ each_sends items (n + 1) ws) (silent n x)
-    ∙ sends_one (n + 1) k items ws w h (λ m ne. only m (λ same. ne (omega arith))) ∙ ap (λ m. map (slot_out m) (whole_step w (items m)).sent) at
+    ap (λ i. map (slot_out n) (subscriber_step x i).sent ++ each_sent items (n + 1) ws) here ∙ ap (λ xs. xs ++ each_sent items (n + 1) ws) (silent n x)
+    ∙ sends_one (n + 1) k items ws w h (λ m ne. only m (λ same. ne (omega arith))) ∙ ap (λ m. map (slot_out m) (subscriber_step w (items m)).sent) at
 
 pub called_itself : (slot : ℕ) (item : Item) → called (One slot item) slot ≡ item
 called_itself slot item = grind (arith, nat_tests)
@@ -76,33 +76,33 @@ pub called_other : (slot m : ℕ) (item : Item) → m ≢ slot → called (One s
 called_other slot m item ne = grind (arith, nat_tests)
 
 -- one slot alone is called: that slot takes its step
-pub after_call : (slot : ℕ) (item : Item) (ws : List Whole) (w : Whole) → slice_get ws slot ≡ Some w → set ws slot (whole_after w item) ≡ each_after (called (One slot item)) 0 ws
+pub after_call : (slot : ℕ) (item : Item) (ws : List SubscriberView) (w : SubscriberView) → slice_get ws slot ≡ Some w → set ws slot (subscriber_after w item) ≡ each_after (called (One slot item)) 0 ws
 after_call slot item ws w h =
     let items = called (One slot item) in
     let at : 0 + slot ≡ slot = omega arith in
     sym (after_one 0 slot items ws w h (λ m ne. called_other slot m item (λ same. ne (omega arith)))
-    ∙ ap (λ m. set ws slot (whole_after w (items m))) at ∙ ap (λ i. set ws slot (whole_after w i)) (called_itself slot item))
+    ∙ ap (λ m. set ws slot (subscriber_after w (items m))) at ∙ ap (λ i. set ws slot (subscriber_after w i)) (called_itself slot item))
 
-pub sends_call : (slot : ℕ) (item : Item) (ws : List Whole) (w : Whole) → slice_get ws slot ≡ Some w → map (slot_out slot) (whole_step w item).sent ≡ each_sends (called (One slot item)) 0 ws
+pub sends_call : (slot : ℕ) (item : Item) (ws : List SubscriberView) (w : SubscriberView) → slice_get ws slot ≡ Some w → map (slot_out slot) (subscriber_step w item).sent ≡ each_sent (called (One slot item)) 0 ws
 sends_call slot item ws w h =
     let items = called (One slot item) in
     let at : 0 + slot ≡ slot = omega arith in
     sym (sends_one 0 slot items ws w h (λ m ne. called_other slot m item (λ same. ne (omega arith)))
-    ∙ ap (λ m. map (slot_out m) (whole_step w (items m)).sent) at ∙ ap (λ i. map (slot_out slot) (whole_step w i).sent) (called_itself slot item))
+    ∙ ap (λ m. map (slot_out m) (subscriber_step w (items m)).sent) at ∙ ap (λ i. map (slot_out slot) (subscriber_step w i).sent) (called_itself slot item))
 
 -- a slot that nobody has
-past_after : (slot n : ℕ) (items : ℕ → Item) (ws : List Whole) → n + length ws ≤ slot → ((m : ℕ) → m ≢ slot → items m ≡ Nothing) → (each_after items n ws ≡ ws) × (each_sends items n ws ≡ [])
+past_after : (slot n : ℕ) (items : ℕ → Item) (ws : List SubscriberView) → n + length ws ≤ slot → ((m : ℕ) → m ≢ slot → items m ≡ Nothing) → (each_after items n ws ≡ ws) × (each_sent items n ws ≡ [])
 past_after slot n items [] le only = (refl, refl)
 past_after slot n items (w ∷ ws) le only =
     let here : items n ≡ Nothing = only n (λ same. omega arith) in
     let rest = past_after slot (n + 1) items ws (omega arith) only in (
-      ap (λ i. whole_after w i ∷ each_after items (n + 1) ws) here ∙ ap (λ x. x ∷ each_after items (n + 1) ws) (stays w) ∙ ap (λ xs. w ∷ xs) rest.0,
-      ap (λ i. map (slot_out n) (whole_step w i).sent ++ each_sends items (n + 1) ws) here ∙ ap (λ xs. xs ++ each_sends items (n + 1) ws) (silent n w) ∙ rest.1,
+      ap (λ i. subscriber_after w i ∷ each_after items (n + 1) ws) here ∙ ap (λ x. x ∷ each_after items (n + 1) ws) (stays w) ∙ ap (λ xs. w ∷ xs) rest.0,
+      ap (λ i. map (slot_out n) (subscriber_step w i).sent ++ each_sent items (n + 1) ws) here ∙ ap (λ xs. xs ++ each_sent items (n + 1) ws) (silent n w) ∙ rest.1,
     )
 
-pub call_past : (slot : ℕ) (item : Item) (ws : List Whole) → length ws ≤ slot → (each_after (called (One slot item)) 0 ws ≡ ws) × (each_sends (called (One slot item)) 0 ws ≡ [])
+pub call_past : (slot : ℕ) (item : Item) (ws : List SubscriberView) → length ws ≤ slot → (each_after (called (One slot item)) 0 ws ≡ ws) × (each_sent (called (One slot item)) 0 ws ≡ [])
 call_past slot item ws le = past_after slot 0 (called (One slot item)) ws (omega arith) (λ m ne. called_other slot m item ne)
 
-pub each_after_length : (items : ℕ → Item) (n : ℕ) (ws : List Whole) → length (each_after items n ws) ≡ length ws
+pub each_after_length : (items : ℕ → Item) (n : ℕ) (ws : List SubscriberView) → length (each_after items n ws) ≡ length ws
 each_after_length items n [] = refl
 each_after_length items n (w ∷ ws) = ap suc (each_after_length items (n + 1) ws)

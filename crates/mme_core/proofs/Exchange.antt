@@ -16,11 +16,11 @@ use Rattle.mme_vocabulary.specs.declared.stations.StationState.{StationState}
 use Rattle.mme_vocabulary.specs.declared.stations.StationState.TheVariants.{Down, Up, Ready}
 use Rattle.mme_vocabulary.specs.Stations.{station_at}
 use Rattle.mme_vocabulary.specs.Events.{Item, Nothing, Initial, Message, Data, Cancel}
-use Rattle.emm_machine.specs.Whole.{Whole}
-use Rattle.stranger_machine.specs.Machine.{Told}
+use Rattle.emm_machine.specs.SubscriberView.{SubscriberView}
+use Rattle.stranger_machine.specs.Machine.{Receives}
 use Rattle.stranger_machine.specs.Table.{Nobody, Reach, reached}
 use Rattle.stranger_machine.specs.Table as table
-use Rattle.stranger_machine.specs.Turns.{said}
+use Rattle.stranger_machine.specs.Turns.{sent_to}
 use Rattle.mme_vocabulary.specs.declared.network.Network.{Network}
 use Rattle.mme_core.specs.declared.event.Event.{Event}
 use Rattle.mme_core.specs.declared.event.Event.TheVariants.{Up as UpEvent, Lost as LostEvent, In as InEvent, Tick as TickEvent, Data as DataEvent, Cancel as CancelEvent}
@@ -28,38 +28,38 @@ use Rattle.mme_core.specs.declared.event.StepFault.TheVariants.{NotUp}
 use Rattle.mme_core.specs.Laws.{Exchanges, event_name, one_called}
 use Rattle.mme_routing.specs.Naming.{named_slot}
 use Rattle.mme_core.specs.Sight.{Sight}
-use Rattle.mme_routing.specs.Outcomes.{One, Outcome, broadcasts, begins_anew, calling, enters, entered, entry_of, outcome_of, outcome_of_message, reaching, reset, setup_failure, setup_response, phone_message, message_of_slot, ue_message}
-use Rattle.mme_core.specs.World.{World, called, calls_by, each_after, each_sends, fault_of, happens, if_down, if_known, items_of, moved, one_if, outputs, reply, reply_of, sight_moved, slot_out, station_of, station_sends, strangers_in, strangers_send, unless, whole_after, whole_step, world_after}
+use Rattle.mme_routing.specs.Outcomes.{One, Outcome, broadcasts, begins_anew, calling, enters, entry_routed, entry_of, outcome_of, outcome_of_message, reaching, interface_reset, setup_failure, setup_response, phone_message, message_of_slot, ue_message}
+use Rattle.mme_core.specs.World.{World, called, calls_by, each_after, each_sent, event_fault, happens, if_down, if_known, items_of, world_moved, calls_if_known, outputs, reply, reply_of, sight_moved, slot_out, station_of, station_sent, strangers_in, strangers_sent, unless, subscriber_after, subscriber_step, world_after}
 use Rattle.mme_core.proofs.Calling.{at_nothing, called_other, stays}
 
 -- ---- subscribers, each of whom one of two events has nothing for
 
-after_apart : (w : Whole) (i j : Item) → (i ≡ Nothing) ⊎ (j ≡ Nothing) → whole_after (whole_after w i) j ≡ whole_after (whole_after w j) i
+after_apart : (w : SubscriberView) (i j : Item) → (i ≡ Nothing) ⊎ (j ≡ Nothing) → subscriber_after (subscriber_after w i) j ≡ subscriber_after (subscriber_after w j) i
 after_apart w i j (inl e) =
-    ap (λ k. whole_after (whole_after w k) j) e ∙ ap (λ x. whole_after x j) (stays w)
-    ∙ sym (ap (λ k. whole_after (whole_after w j) k) e ∙ stays (whole_after w j))
+    ap (λ k. subscriber_after (subscriber_after w k) j) e ∙ ap (λ x. subscriber_after x j) (stays w)
+    ∙ sym (ap (λ k. subscriber_after (subscriber_after w j) k) e ∙ stays (subscriber_after w j))
 after_apart w i j (inr e) =
-    ap (λ k. whole_after (whole_after w i) k) e ∙ stays (whole_after w i)
-    ∙ sym (ap (λ k. whole_after (whole_after w k) i) e ∙ ap (λ x. whole_after x i) (stays w))
+    ap (λ k. subscriber_after (subscriber_after w i) k) e ∙ stays (subscriber_after w i)
+    ∙ sym (ap (λ k. subscriber_after (subscriber_after w k) i) e ∙ ap (λ x. subscriber_after x i) (stays w))
 
-each_after_apart : (i j : ℕ → Item) → ((m : ℕ) → (i m ≡ Nothing) ⊎ (j m ≡ Nothing)) → (n : ℕ) (ws : List Whole)
+each_after_apart : (i j : ℕ → Item) → ((m : ℕ) → (i m ≡ Nothing) ⊎ (j m ≡ Nothing)) → (n : ℕ) (ws : List SubscriberView)
     → each_after j n (each_after i n ws) ≡ each_after i n (each_after j n ws)
 each_after_apart i j apart n [] = refl
 each_after_apart i j apart n (w ∷ ws) =
     ap (λ x. x ∷ each_after j (n + 1) (each_after i (n + 1) ws)) (after_apart w (i n) (j n) (apart n))
-    ∙ ap (λ xs. whole_after (whole_after w (j n)) (i n) ∷ xs) (each_after_apart i j apart (n + 1) ws)
+    ∙ ap (λ xs. subscriber_after (subscriber_after w (j n)) (i n) ∷ xs) (each_after_apart i j apart (n + 1) ws)
 
-sent_apart : (w : Whole) (i j : Item) → (i ≡ Nothing) ⊎ (j ≡ Nothing) → (whole_step (whole_after w i) j).sent ≡ (whole_step w j).sent
-sent_apart w i j (inl e) = ap (λ k. (whole_step (whole_after w k) j).sent) e ∙ ap (λ x. (whole_step x j).sent) (stays w)
+sent_apart : (w : SubscriberView) (i j : Item) → (i ≡ Nothing) ⊎ (j ≡ Nothing) → (subscriber_step (subscriber_after w i) j).sent ≡ (subscriber_step w j).sent
+sent_apart w i j (inl e) = ap (λ k. (subscriber_step (subscriber_after w k) j).sent) e ∙ ap (λ x. (subscriber_step x j).sent) (stays w)
 sent_apart w i j (inr e) =
-    ap (λ k. (whole_step (whole_after w i) k).sent) e ∙ ap (λ d. d.sent) (at_nothing w.setting (whole_after w i).solo)
-    ∙ sym (ap (λ k. (whole_step w k).sent) e ∙ ap (λ d. d.sent) (at_nothing w.setting w.solo))
+    ap (λ k. (subscriber_step (subscriber_after w i) k).sent) e ∙ ap (λ d. d.sent) (at_nothing w.setting (subscriber_after w i).solo)
+    ∙ sym (ap (λ k. (subscriber_step w k).sent) e ∙ ap (λ d. d.sent) (at_nothing w.setting w.solo))
 
-each_sends_apart : (i j : ℕ → Item) → ((m : ℕ) → (i m ≡ Nothing) ⊎ (j m ≡ Nothing)) → (n : ℕ) (ws : List Whole) → each_sends j n (each_after i n ws) ≡ each_sends j n ws
+each_sends_apart : (i j : ℕ → Item) → ((m : ℕ) → (i m ≡ Nothing) ⊎ (j m ≡ Nothing)) → (n : ℕ) (ws : List SubscriberView) → each_sent j n (each_after i n ws) ≡ each_sent j n ws
 each_sends_apart i j apart n [] = refl
 each_sends_apart i j apart n (w ∷ ws) =
-    ap (λ sent. map (slot_out n) sent ++ each_sends j (n + 1) (each_after i (n + 1) ws)) (sent_apart w (i n) (j n) (apart n))
-    ∙ ap (λ outs. map (slot_out n) (whole_step w (j n)).sent ++ outs) (each_sends_apart i j apart (n + 1) ws)
+    ap (λ sent. map (slot_out n) sent ++ each_sent j (n + 1) (each_after i (n + 1) ws)) (sent_apart w (i n) (j n) (apart n))
+    ∙ ap (λ outs. map (slot_out n) (subscriber_step w (j n)).sent ++ outs) (each_sends_apart i j apart (n + 1) ws)
 
 called_apart : (s t : ℕ) (i j : Item) → s ≢ t → (m : ℕ) → (called (One s i) m ≡ Nothing) ⊎ (called (One t j) m ≡ Nothing)
 called_apart s t i j ne m = elim (cases_eq m s) [
@@ -73,7 +73,7 @@ called_apart s t i j ne m = elim (cases_eq m s) [
 record NamesIn (state : StationState) (h : Outcome) (slot : ℕ) : Type 0 where
   accepted : if_down state (Some NotUp) None ≡ None
   same : h.state ≡ state
-  silent : h.sends ≡ []
+  silent : h.sent ≡ []
   nobody : h.reach ≡ Nobody
   item : Item
   calls : h.calls ≡ One slot item
@@ -89,13 +89,13 @@ named_set_up : (b : Bool) (x y : Outcome) (state : StationState) (slot : ℕ) �
 named_set_up true x y state slot h k is = cc
 named_set_up false x y state slot h k is = cc
 
-named_reset : (e : ℕ) (state : StationState) (slot : ℕ) → one_called (reset e state).calls ≡ Some slot → NamesIn state (reset e state) slot
+named_reset : (e : ℕ) (state : StationState) (slot : ℕ) → one_called (interface_reset e state).calls ≡ Some slot → NamesIn state (interface_reset e state) slot
 named_reset e Down slot is = cc
 named_reset e Up slot is = cc
 named_reset e (Ready tas) slot is = cc
 
 named_entered : (o : Option ℕ) (e : ℕ) (state : StationState) (m : InitialUeMessage (List ℕ)) (slot : ℕ) → if_down state (Some NotUp) None ≡ None
-    → one_called (entered o e state m).calls ≡ Some slot → NamesIn state (entered o e state m) slot
+    → one_called (entry_routed o e state m).calls ≡ Some slot → NamesIn state (entry_routed o e state m) slot
 named_entered None e state m slot up is = cc
 named_entered (Some n) e state m slot up is = called_in state n slot (Initial (entry_of e m)) up is
 
@@ -115,12 +115,12 @@ named_tells : (ps : List Profile) (state : StationState) (m : UeMessage (List �
 named_tells ps Down m slot is = cc
 named_tells ps Up m slot is = cc
 named_tells ps (Ready tas) m slot is =
-    named_told (nat_lt m.mme_id (2 ^ 31)) (slot_of_id m.mme_id ps) (reaching (Ready tas) (table.One m.mme_id (Told m))) (Ready tas) m slot refl refl is
+    named_told (nat_lt m.mme_id (2 ^ 31)) (slot_of_id m.mme_id ps) (reaching (Ready tas) (table.One m.mme_id (Receives m))) (Ready tas) m slot refl refl is
 
 named_message : (n : Network) (ps : List Profile) (e : ℕ) (state : StationState) (m : Pdu (List ℕ)) (slot : ℕ)
     → one_called (outcome_of_message n ps e state m).calls ≡ Some slot → NamesIn state (outcome_of_message n ps e state m) slot
 named_message n ps e state (pdu.SetupRequest m) slot is =
-    named_set_up (broadcasts n.plmn m.supported_tas) (begins_anew e (Ready m.supported_tas) (said e (setup_response n))) (begins_anew e Up (said e setup_failure)) state slot refl refl is
+    named_set_up (broadcasts n.plmn m.supported_tas) (begins_anew e (Ready m.supported_tas) (sent_to e (setup_response n))) (begins_anew e Up (sent_to e setup_failure)) state slot refl refl is
 named_message n ps e state (pdu.Reset m) slot is = named_reset e state slot is
 named_message n ps e state (pdu.InitialUeMessage m) slot is = named_enters n ps e state m slot is
 named_message n ps e state (pdu.UplinkNasTransport m) slot is = named_tells ps state (ue_message e m.mme_id m.enb_id (Uplink m.nas m.tai)) slot is
@@ -142,14 +142,14 @@ named_heard n ps e state (Ok m) slot is = named_message n ps e state m slot is
 
 -- it is accepted, calls the slot alone, and nothing else happens
 record Names (s : Sight) (event : Event) (slot : ℕ) : Type 0 where
-  accepted : fault_of s event ≡ None
+  accepted : event_fault s event ≡ None
   same : sight_moved s event ≡ s
-  silent : (happens s event).sends ≡ []
+  silent : (happens s event).sent ≡ []
   nobody : (happens s event).reach ≡ Nobody
   item : Item
   calls : (happens s event).calls ≡ One slot item
 
-called_if : (o : Option ℕ) (item : Item) (slot : ℕ) → one_called (one_if o item) ≡ Some slot → (if_known o ≡ None) × (one_if o item ≡ One slot item)
+called_if : (o : Option ℕ) (item : Item) (slot : ℕ) → one_called (calls_if_known o item) ≡ Some slot → (if_known o ≡ None) × (calls_if_known o item ≡ One slot item)
 called_if None item slot is = absurd cc
 called_if (Some n) item slot is =
     let same : n ≡ slot = cc in
@@ -188,24 +188,24 @@ named_after : (w : World) (event : Event) (slot : ℕ) (n : Names w.sight event 
     → world_after w event ≡ record { sight = w.sight; strangers = w.strangers; subscribers = each_after (called (One slot n.item)) 0 w.subscribers }
 named_after w event slot n =
     let each = each_after (items_of w.sight (strangers_in w) event) 0 w.subscribers in
-    ap (λ o. unless o w (moved w event)) n.accepted
+    ap (λ o. unless o w (world_moved w event)) n.accepted
     ∙ ap (λ (s : Sight). record { sight = s; strangers = reached w.sight.profiles (happens w.sight event).reach w.strangers; subscribers = each }) n.same
     ∙ ap (λ r. record { sight = w.sight; strangers = reached w.sight.profiles r w.strangers; subscribers = each }) n.nobody
     ∙ ap (λ items. record { sight = w.sight; strangers = w.strangers; subscribers = each_after items 0 w.subscribers }) (named_items w event slot n)
 
-nothing_said : (o : Option ℕ) → station_sends o [] ≡ []
+nothing_said : (o : Option ℕ) → station_sent o [] ≡ []
 nothing_said None = refl
 nothing_said (Some e) = refl
 
-named_reply : (w : World) (event : Event) (slot : ℕ) (n : Names w.sight event slot) → reply w event ≡ Ok (each_sends (called (One slot n.item)) 0 w.subscribers)
+named_reply : (w : World) (event : Event) (slot : ℕ) (n : Names w.sight event slot) → reply w event ≡ Ok (each_sent (called (One slot n.item)) 0 w.subscribers)
 named_reply w event slot n =
-    let others = strangers_send w.sight.profiles (happens w.sight event).reach w.strangers in
-    let each = each_sends (items_of w.sight (strangers_in w) event) 0 w.subscribers in
+    let others = strangers_sent w.sight.profiles (happens w.sight event).reach w.strangers in
+    let each = each_sent (items_of w.sight (strangers_in w) event) 0 w.subscribers in
     ap (λ o. reply_of o (outputs w event)) n.accepted
-    ∙ ap (λ sends. Ok (station_sends (station_of event) sends ++ (others ++ each))) n.silent
+    ∙ ap (λ sent. Ok (station_sent (station_of event) sent ++ (others ++ each))) n.silent
     ∙ ap (λ outs. Ok (outs ++ (others ++ each))) (nothing_said (station_of event))
-    ∙ ap (λ r. Ok (strangers_send w.sight.profiles r w.strangers ++ each)) n.nobody
-    ∙ ap (λ items. Ok (each_sends items 0 w.subscribers)) (named_items w event slot n)
+    ∙ ap (λ r. Ok (strangers_sent w.sight.profiles r w.strangers ++ each)) n.nobody
+    ∙ ap (λ items. Ok (each_sent items 0 w.subscribers)) (named_items w event slot n)
 
 exchanged : (w : World) (a b : Event) (s t : ℕ) → Names w.sight a s → Names w.sight b t → s ≢ t
     → (world_after (world_after w a) b ≡ world_after (world_after w b) a) × (reply (world_after w a) b ≡ reply w b) × (reply (world_after w b) a ≡ reply w a)
@@ -217,7 +217,7 @@ exchanged w a b s t p q ne =
     let first : World = record { sight = w.sight; strangers = w.strangers; subscribers = each_after i 0 w.subscribers } in
     let second : World = record { sight = w.sight; strangers = w.strangers; subscribers = each_after j 0 w.subscribers } in (
       ap (λ v. world_after v b) (named_after w a s p) ∙ named_after first b t q
-          ∙ ap (λ (ws : List Whole). record { sight = w.sight; strangers = w.strangers; subscribers = ws }) (each_after_apart i j apart 0 w.subscribers)
+          ∙ ap (λ (ws : List SubscriberView). record { sight = w.sight; strangers = w.strangers; subscribers = ws }) (each_after_apart i j apart 0 w.subscribers)
           ∙ sym (ap (λ v. world_after v a) (named_after w b t q) ∙ named_after second a s p),
       ap (λ v. reply v b) (named_after w a s p) ∙ named_reply first b t q ∙ ap Ok (each_sends_apart i j apart 0 w.subscribers) ∙ sym (named_reply w b t q),
       ap (λ v. reply v a) (named_after w b t q) ∙ named_reply second a s p ∙ ap Ok (each_sends_apart j i back 0 w.subscribers) ∙ sym (named_reply w a s p),

@@ -6,11 +6,11 @@ use Rattle.std.proofs.lemmas.Option.{slice_get_within, get_or_from_slice_get}
 use Rattle.identity_slots.specs.declared.profile.Profile.{Profile}
 use Rattle.identity_slots.specs.declared.profile.Vector.{Vector}
 use Rattle.mme_vocabulary.specs.declared.network.Network.{Network}
-use Rattle.emm_machine.specs.Whole.{Whole}
+use Rattle.emm_machine.specs.SubscriberView.{SubscriberView}
 use Rattle.emm_machine.specs.Words.{fresh_solo}
 use Rattle.mme_core.specs.World.{fresh_subscribers}
 
-abbrev pub fresh_one : Network → ℕ → Profile → List Vector → Whole
+abbrev pub fresh_one : Network → ℕ → Profile → List Vector → SubscriberView
 fresh_one n slot p vs = record { setting = record { network = n; slot = slot; profile = p; vectors = vs }; solo = fresh_solo }
 
 -- the next one is made
@@ -22,6 +22,6 @@ fresh_more n slot ps vectors p vs h k =
     ∙ ap (λ ys. fresh_one n slot p ys ∷ fresh_subscribers n (slot + 1) (drop (slot + 1) ps) vectors) (get_or_from_slice_get vectors slot vs [] k)
 
 -- one more stands behind those who were made
-pub fresh_pushed : (made now rest rest_now all : List Whole) (w x : Whole) → now ≡ made ++ w ∷ [] → w ≡ x → rest ≡ x ∷ rest_now → made ++ rest ≡ all → now ++ rest_now ≡ all
+pub fresh_pushed : (made now rest rest_now all : List SubscriberView) (w x : SubscriberView) → now ≡ made ++ w ∷ [] → w ≡ x → rest ≡ x ∷ rest_now → made ++ rest ≡ all → now ++ rest_now ≡ all
 fresh_pushed made now rest rest_now all w x push same more whole =
     ap (λ xs. xs ++ rest_now) push ∙ append_assoc made (w ∷ []) rest_now ∙ ap (λ y. made ++ y ∷ rest_now) same ∙ ap (λ xs. made ++ xs) (sym more) ∙ whole

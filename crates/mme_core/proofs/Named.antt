@@ -14,15 +14,15 @@ use Rattle.mme_vocabulary.specs.declared.event.UeMessage.{UeMessage}
 use Rattle.mme_vocabulary.specs.declared.stations.StationState.{StationState}
 use Rattle.mme_vocabulary.specs.declared.stations.StationState.TheVariants.{Ready}
 use Rattle.mme_vocabulary.specs.Events.{Cancel, Data, Item}
-use Rattle.stranger_machine.specs.Machine.{Told}
+use Rattle.stranger_machine.specs.Machine.{Receives}
 use Rattle.stranger_machine.specs.Table as table
 use Rattle.mme_vocabulary.specs.declared.network.Network.{Network}
 use Rattle.mme_core.specs.Laws.{NamedById, NamedByIdentity, NamedByImsi, id_in, one_called}
 use Rattle.mme_routing.specs.Naming.{named_slot}
-use Rattle.mme_routing.specs.Outcomes.{Outcome, entered, outcome_of, outcome_of_message, reaching, phone_message, message_of_slot, ue_message}
-use Rattle.mme_core.specs.World.{happens, one_if}
+use Rattle.mme_routing.specs.Outcomes.{Outcome, entry_routed, outcome_of, outcome_of_message, reaching, phone_message, message_of_slot, ue_message}
+use Rattle.mme_core.specs.World.{happens, calls_if_known}
 
-one_again : (o : Option ℕ) (item : Item) → one_called (one_if o item) ≡ o
+one_again : (o : Option ℕ) (item : Item) → one_called (calls_if_known o item) ≡ o
 one_again None item = refl
 one_again (Some slot) item = refl
 
@@ -30,7 +30,7 @@ pub named_by_imsi : NamedByImsi
 unfolding happens
 named_by_imsi s imsi = (one_again (slot_of_imsi imsi s.profiles) (Data s.stations), one_again (slot_of_imsi imsi s.profiles) Cancel)
 
-entered_named : (o : Option ℕ) (e : ℕ) (state : StationState) (m : InitialUeMessage (List ℕ)) → one_called (entered o e state m).calls ≡ o
+entered_named : (o : Option ℕ) (e : ℕ) (state : StationState) (m : InitialUeMessage (List ℕ)) → one_called (entry_routed o e state m).calls ≡ o
 entered_named None e state m = refl
 entered_named (Some slot) e state m = refl
 
@@ -50,7 +50,7 @@ told_if false here slot r state m none = none
 
 tells_named : (ps : List Profile) (tas : List SupportedTa) (m : UeMessage (List ℕ)) → one_called (phone_message ps (Ready tas) m).calls ≡ slot_of_id m.mme_id ps
 tells_named ps tas m =
-    told_if (nat_lt m.mme_id (2 ^ 31)) (nat_lt (m.mme_id / 2 ^ 20) (length ps)) (m.mme_id / 2 ^ 20) (reaching (Ready tas) (table.One m.mme_id (Told m))) (Ready tas) m refl
+    told_if (nat_lt m.mme_id (2 ^ 31)) (nat_lt (m.mme_id / 2 ^ 20) (length ps)) (m.mme_id / 2 ^ 20) (reaching (Ready tas) (table.One m.mme_id (Receives m))) (Ready tas) m refl
 
 told_named : (ps : List Profile) (e : ℕ) (tas : List SupportedTa) (mme_id enb_id : ℕ) (body : UeBody (List ℕ)) (id : ℕ) → Some mme_id ≡ Some id
     → one_called (phone_message ps (Ready tas) (ue_message e mme_id enb_id body)).calls ≡ slot_of_id id ps

@@ -2,22 +2,22 @@
 use Rattle.std.proofs.Common.{◌≡◌, ℕ, List, [], ◌∷◌, map, Bool, true, false, Option, Some, None, Ok, eqb, refl, sym, ◌∙◌, ap, subst, arith}
 use Rattle.std.specs.Prelude.{filter, if◌then◌else◌, slice_get}
 use Rattle.std.proofs.lemmas.Bool.Decides.{nat_tests}
-use Rattle.emm_machine.specs.Whole.{Whole}
+use Rattle.emm_machine.specs.SubscriberView.{SubscriberView}
 use Rattle.mme_core.specs.declared.event.Event.{Event}
 use Rattle.mme_core.specs.declared.event.StepFault.{StepFault}
 use Rattle.mme_core.specs.declared.out.Out.{Out}
 use Rattle.mme_core.specs.declared.out.Owner.{Owner}
 use Rattle.mme_core.specs.declared.out.Owner.TheVariants.{Station, Stranger, Subscriber}
-use Rattle.mme_core.specs.Laws.{IsOutput, OneOutput, RepliesSo, sent_if}
-use Rattle.mme_core.specs.Projection.{AllFrom, AreInOrder, Reaches, Told, is_slot, is_station, is_stranger, item_for, owned_by, told_in, told_of}
-use Rattle.mme_core.specs.World.{World, fault_of, outputs, reply, reply_of, strangers_in}
+use Rattle.mme_core.specs.Laws.{IsOutput, OneOutput, RepliesSo, told_if}
+use Rattle.mme_core.specs.Projection.{AllFrom, AreInOrder, IsNotBehind, Told, is_slot, is_station, is_stranger, item_for, owned_by, told_in, told_of}
+use Rattle.mme_core.specs.World.{World, event_fault, outputs, reply, reply_of, strangers_in}
 use Rattle.mme_core.proofs.Order.{output_order}
 use Rattle.mme_core.proofs.Turns.{absent_told, slot_told, station_told_once, stranger_told_once}
 
 -- ---- the reply is an output
 
-slot_sent : (w : World) (event : Event) (slot : ℕ) (o : Option Whole) → slice_get w.subscribers slot ≡ o
-    → told_in (is_slot slot) (reply w event) ≡ sent_if o (item_for slot w.sight (strangers_in w) event)
+slot_sent : (w : World) (event : Event) (slot : ℕ) (o : Option SubscriberView) → slice_get w.subscribers slot ≡ o
+    → told_in (is_slot slot) (reply w event) ≡ told_if o (item_for slot w.sight (strangers_in w) event)
 slot_sent w event slot None is = absent_told w event slot is
 slot_sent w event slot (Some x) is = slot_told w event slot x is
 
@@ -34,7 +34,7 @@ replies_so w event outs rising is =
       stations = λ e. own (is_station e) ∙ station_told_once w event e;
       strangers = λ id. own (is_stranger id) ∙ stranger_told_once w event id rising;
       subscribers = λ slot. own (is_slot slot) ∙ slot_sent w event slot (slice_get w.subscribers slot) refl;
-      order = order_by (fault_of w.sight event) (outputs w event) outs is (output_order w event rising);
+      order = order_by (event_fault w.sight event) (outputs w event) outs is (output_order w event rising);
     }
 
 -- ---- an owner's own messages
@@ -70,12 +70,12 @@ owner_itself (Station a) = itself a
 owner_itself (Stranger a) = itself a
 owner_itself (Subscriber a) = itself a
 
-reaches_itself : (o : Owner) → Reaches o o
+reaches_itself : (o : Owner) → IsNotBehind o o
 reaches_itself (Station a) = omega arith
 reaches_itself (Stranger a) = omega arith
 reaches_itself (Subscriber a) = omega arith
 
-between : (p q : Owner) → Reaches p q → Reaches q p → p ≡ q
+between : (p q : Owner) → IsNotBehind p q → IsNotBehind q p → p ≡ q
 between (Station a) (Station b) h k = ap Station (omega arith)
 between (Station a) (Stranger b) h k = absurd k
 between (Station a) (Subscriber b) h k = absurd k
@@ -97,12 +97,12 @@ sent_first : (x : Out) (xs : List Out) → sent_by x.owner (x ∷ xs) ≡ told_o
 sent_first x xs = sent_cons x.owner x xs ∙ ap (λ b. if b then told_of x ∷ sent_by x.owner xs else sent_by x.owner xs) (owner_itself x.owner)
 
 -- an owner that sends something is reached by the one that all are from
-from_if : (p o : Owner) (y : Out) (ys : List Out) (a : Told) (rest : List Told) (b : Bool) → is_owner o y.owner ≡ b → Reaches p y.owner → (sent_by o ys ≡ a ∷ rest → Reaches p o)
-    → (if b then told_of y ∷ sent_by o ys else sent_by o ys) ≡ a ∷ rest → Reaches p o
-from_if p o y ys a rest true e r next h = subst (Reaches p) (owner_is o y.owner e) r
+from_if : (p o : Owner) (y : Out) (ys : List Out) (a : Told) (rest : List Told) (b : Bool) → is_owner o y.owner ≡ b → IsNotBehind p y.owner → (sent_by o ys ≡ a ∷ rest → IsNotBehind p o)
+    → (if b then told_of y ∷ sent_by o ys else sent_by o ys) ≡ a ∷ rest → IsNotBehind p o
+from_if p o y ys a rest true e r next h = subst (IsNotBehind p) (owner_is o y.owner e) r
 from_if p o y ys a rest false e r next h = next h
 
-from_sent : (p o : Owner) (ys : List Out) (a : Told) (rest : List Told) → AllFrom p ys → sent_by o ys ≡ a ∷ rest → Reaches p o
+from_sent : (p o : Owner) (ys : List Out) (a : Told) (rest : List Told) → AllFrom p ys → sent_by o ys ≡ a ∷ rest → IsNotBehind p o
 from_sent p o [] a rest f h = absurd cc
 from_sent p o (y ∷ ys) a rest f h = from_if p o y ys a rest (is_owner o y.owner) refl f.0 (from_sent p o ys a rest f.1) (sym (sent_cons o y ys) ∙ h)
 
@@ -130,8 +130,8 @@ one [] [] h k same = refl
 one [] (y ∷ ys) h k same = absurd (nothing_more y ys (same y.owner))
 one (x ∷ xs) [] h k same = absurd (nothing_more x xs (sym (same x.owner)))
 one (x ∷ xs) (y ∷ ys) h k same =
-    let there : Reaches y.owner x.owner = from_sent y.owner x.owner (y ∷ ys) (told_of x) (sent_by x.owner xs) (reaches_itself y.owner, k.0) (sym (same x.owner) ∙ sent_first x xs) in
-    let back : Reaches x.owner y.owner = from_sent x.owner y.owner (x ∷ xs) (told_of y) (sent_by y.owner ys) (reaches_itself x.owner, h.0) (same y.owner ∙ sent_first y ys) in
+    let there : IsNotBehind y.owner x.owner = from_sent y.owner x.owner (y ∷ ys) (told_of x) (sent_by x.owner xs) (reaches_itself y.owner, k.0) (sym (same x.owner) ∙ sent_first x xs) in
+    let back : IsNotBehind x.owner y.owner = from_sent x.owner y.owner (x ∷ xs) (told_of y) (sent_by y.owner ys) (reaches_itself x.owner, h.0) (same y.owner ∙ sent_first y ys) in
     let owner : x.owner ≡ y.owner = between x.owner y.owner back there in
     let first : told_of x ≡ told_of y =
     heads (told_of x) (told_of y) (sent_by x.owner xs) (sent_by y.owner ys)

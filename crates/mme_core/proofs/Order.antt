@@ -2,7 +2,7 @@
 use Rattle.std.proofs.Common.{◌≡◌, ℕ, ◌+◌, ◌<◌, ◌≤◌, List, [], ◌∷◌, ◌++◌, map, Option, Some, None, Result, Ok, Err, sym, subst, arith}
 use Rattle.mme_vocabulary.specs.declared.octets.Answer.{Answer}
 use Rattle.mme_vocabulary.specs.Events.{Item}
-use Rattle.emm_machine.specs.Whole.{Whole}
+use Rattle.emm_machine.specs.SubscriberView.{SubscriberView}
 use Rattle.identity_slots.specs.declared.profile.Profile.{Profile}
 use Rattle.ordered_lists.specs.Ordered.{AllOver, Rising}
 use Rattle.stranger_machine.specs.declared.table.Known.{Known}
@@ -16,10 +16,10 @@ use Rattle.mme_core.specs.declared.event.StepFault.TheVariants.{NotUp, AlreadyUp
 use Rattle.mme_core.specs.declared.out.Out.{Out}
 use Rattle.mme_core.specs.declared.out.Owner.{Owner}
 use Rattle.mme_core.specs.declared.out.Owner.TheVariants.{Station, Stranger, Subscriber}
-use Rattle.mme_core.specs.Projection.{AllFrom, AllInOrder, AreInOrder, Reaches}
-use Rattle.mme_core.specs.World.{World, each_known, each_sends, fault_of, given, happens, items_of, outputs, owner_out, replies, reply_of, slot_out, station_of, station_sends, stranger_out, strangers_in, strangers_send, whole_step, world_after}
+use Rattle.mme_core.specs.Projection.{AllFrom, AllInOrder, AreInOrder, IsNotBehind}
+use Rattle.mme_core.specs.World.{World, each_known, each_sent, event_fault, replies_given, happens, items_of, outputs, owner_out, replies, reply_of, slot_out, station_of, station_sent, stranger_out, strangers_in, strangers_sent, subscriber_step, world_after}
 
-reaches_itself : (o : Owner) → Reaches o o
+reaches_itself : (o : Owner) → IsNotBehind o o
 reaches_itself (Station a) = omega arith
 reaches_itself (Stranger a) = omega arith
 reaches_itself (Subscriber a) = omega arith
@@ -43,7 +43,7 @@ before_append (x ∷ xs) ys zs h k = (h.0, before_append xs ys zs h.1 k)
 
 -- ---- of one owner
 
-from_own : (p o : Owner) (sent : List Answer) → Reaches p o → AllFrom p (map (owner_out o) sent)
+from_own : (p o : Owner) (sent : List Answer) → IsNotBehind p o → AllFrom p (map (owner_out o) sent)
 from_own p o [] r = tt
 from_own p o (a ∷ sent) r = (r, from_own p o sent r)
 
@@ -57,22 +57,22 @@ before_own o (a ∷ sent) ys f = (f, before_own o sent ys f)
 
 -- ---- subscribers by slot
 
-from_each : (p : Owner) (items : ℕ → Item) (n : ℕ) (ws : List Whole) → ((m : ℕ) → n ≤ m → Reaches p (Subscriber m)) → AllFrom p (each_sends items n ws)
+from_each : (p : Owner) (items : ℕ → Item) (n : ℕ) (ws : List SubscriberView) → ((m : ℕ) → n ≤ m → IsNotBehind p (Subscriber m)) → AllFrom p (each_sent items n ws)
 from_each p items n [] r = tt
 from_each p items n (w ∷ ws) r =
-    let own = (whole_step w (items n)).sent in
-    from_append p (map (slot_out n) own) (each_sends items (n + 1) ws) (from_own p (Subscriber n) own (r n (omega arith))) (from_each p items (n + 1) ws (λ m le. r m (omega arith)))
+    let own = (subscriber_step w (items n)).sent in
+    from_append p (map (slot_out n) own) (each_sent items (n + 1) ws) (from_own p (Subscriber n) own (r n (omega arith))) (from_each p items (n + 1) ws (λ m le. r m (omega arith)))
 
-order_each : (items : ℕ → Item) (n : ℕ) (ws : List Whole) → AreInOrder (each_sends items n ws)
+order_each : (items : ℕ → Item) (n : ℕ) (ws : List SubscriberView) → AreInOrder (each_sent items n ws)
 order_each items n [] = tt
 order_each items n (w ∷ ws) =
-    let own = (whole_step w (items n)).sent in
-    order_append (map (slot_out n) own) (each_sends items (n + 1) ws) (order_own (Subscriber n) own) (order_each items (n + 1) ws)
-    (before_own (Subscriber n) own (each_sends items (n + 1) ws) (from_each (Subscriber n) items (n + 1) ws (λ m le. omega arith)))
+    let own = (subscriber_step w (items n)).sent in
+    order_append (map (slot_out n) own) (each_sent items (n + 1) ws) (order_own (Subscriber n) own) (order_each items (n + 1) ws)
+    (before_own (Subscriber n) own (each_sent items (n + 1) ws) (from_each (Subscriber n) items (n + 1) ws (λ m le. omega arith)))
 
 -- ---- strangers by id
 
-from_known : (p : Owner) (notice : Notice) (ks : List Known) (n : ℕ) → AllOver known_id n ks → ((m : ℕ) → n < m → Reaches p (Stranger m)) → AllFrom p (each_known notice ks)
+from_known : (p : Owner) (notice : Notice) (ks : List Known) (n : ℕ) → AllOver known_id n ks → ((m : ℕ) → n < m → IsNotBehind p (Stranger m)) → AllFrom p (each_known notice ks)
 from_known p notice [] n h r = tt
 from_known p notice (k ∷ ks) n h r =
     let own = (notes k.id (Some k.stranger) notice).sent in
@@ -91,51 +91,51 @@ known_before notice (k ∷ ks) ys f =
     let own = (notes k.id (Some k.stranger) notice).sent in
     before_append (map (stranger_out k.id) own) (each_known notice ks) ys (before_own (Stranger k.id) own ys (f k.id)) (known_before notice ks ys f)
 
-all_known : (p : Owner) (notice : Notice) (ks : List Known) → ((m : ℕ) → Reaches p (Stranger m)) → AllFrom p (each_known notice ks)
+all_known : (p : Owner) (notice : Notice) (ks : List Known) → ((m : ℕ) → IsNotBehind p (Stranger m)) → AllFrom p (each_known notice ks)
 all_known p notice [] r = tt
 all_known p notice (k ∷ ks) r =
     let own = (notes k.id (Some k.stranger) notice).sent in
     from_append p (map (stranger_out k.id) own) (each_known notice ks) (from_own p (Stranger k.id) own (r k.id)) (all_known p notice ks r)
 
-order_strangers : (ps : List Profile) (r : Reach) (ks : List Known) → Rising known_id ks → AreInOrder (strangers_send ps r ks)
+order_strangers : (ps : List Profile) (r : Reach) (ks : List Known) → Rising known_id ks → AreInOrder (strangers_sent ps r ks)
 order_strangers ps Nobody ks h = tt
 order_strangers ps (One id input) ks h = order_own (Stranger id) (stranger_step ps id (stranger_at id ks) input).sent
 order_strangers ps (Each notice) ks h = order_known notice ks h
 
-strangers_before : (ps : List Profile) (r : Reach) (ks : List Known) (ys : List Out) → ((id : ℕ) → AllFrom (Stranger id) ys) → AllBefore (strangers_send ps r ks) ys
+strangers_before : (ps : List Profile) (r : Reach) (ks : List Known) (ys : List Out) → ((id : ℕ) → AllFrom (Stranger id) ys) → AllBefore (strangers_sent ps r ks) ys
 strangers_before ps Nobody ks ys f = tt
 strangers_before ps (One id input) ks ys f = before_own (Stranger id) (stranger_step ps id (stranger_at id ks) input).sent ys (f id)
 strangers_before ps (Each notice) ks ys f = known_before notice ks ys f
 
-from_strangers : (p : Owner) (ps : List Profile) (r : Reach) (ks : List Known) → ((m : ℕ) → Reaches p (Stranger m)) → AllFrom p (strangers_send ps r ks)
+from_strangers : (p : Owner) (ps : List Profile) (r : Reach) (ks : List Known) → ((m : ℕ) → IsNotBehind p (Stranger m)) → AllFrom p (strangers_sent ps r ks)
 from_strangers p ps Nobody ks f = tt
 from_strangers p ps (One id input) ks f = from_own p (Stranger id) (stranger_step ps id (stranger_at id ks) input).sent (f id)
 from_strangers p ps (Each notice) ks f = all_known p notice ks f
 
 -- ---- a station
 
-order_station : (o : Option ℕ) (sent : List Answer) → AreInOrder (station_sends o sent)
+order_station : (o : Option ℕ) (sent : List Answer) → AreInOrder (station_sent o sent)
 order_station None sent = tt
 order_station (Some e) sent = order_own (Station e) sent
 
-before_station : (o : Option ℕ) (sent : List Answer) (ys : List Out) → ((e : ℕ) → AllFrom (Station e) ys) → AllBefore (station_sends o sent) ys
+before_station : (o : Option ℕ) (sent : List Answer) (ys : List Out) → ((e : ℕ) → AllFrom (Station e) ys) → AllBefore (station_sent o sent) ys
 before_station None sent ys f = tt
 before_station (Some e) sent ys f = before_own (Station e) sent ys (f e)
 
 -- ---- the whole output
 
-pub parts_order : (o : Option ℕ) (sends : List Answer) (ps : List Profile) (r : Reach) (ks : List Known) (items : ℕ → Item) (ws : List Whole) → Rising known_id ks
-    → AreInOrder (station_sends o sends ++ (strangers_send ps r ks ++ each_sends items 0 ws))
-parts_order o sends ps r ks items ws h =
-    let others = strangers_send ps r ks in
-    let each = each_sends items 0 ws in
-    order_append (station_sends o sends) (others ++ each) (order_station o sends)
+pub parts_order : (o : Option ℕ) (sent : List Answer) (ps : List Profile) (r : Reach) (ks : List Known) (items : ℕ → Item) (ws : List SubscriberView) → Rising known_id ks
+    → AreInOrder (station_sent o sent ++ (strangers_sent ps r ks ++ each_sent items 0 ws))
+parts_order o sent ps r ks items ws h =
+    let others = strangers_sent ps r ks in
+    let each = each_sent items 0 ws in
+    order_append (station_sent o sent) (others ++ each) (order_station o sent)
     (order_append others each (order_strangers ps r ks h) (order_each items 0 ws) (strangers_before ps r ks each (λ id. from_each (Stranger id) items 0 ws (λ m le. tt))))
-    (before_station o sends (others ++ each)
+    (before_station o sent (others ++ each)
     (λ n. from_append (Station n) others each (from_strangers (Station n) ps r ks (λ m. tt)) (from_each (Station n) items 0 ws (λ m le. tt))))
 
 pub output_order : (w : World) (e : Event) → Rising known_id w.strangers → AreInOrder (outputs w e)
-output_order w e h = parts_order (station_of e) (happens w.sight e).sends w.sight.profiles (happens w.sight e).reach w.strangers (items_of w.sight (strangers_in w) e) w.subscribers h
+output_order w e h = parts_order (station_of e) (happens w.sight e).sent w.sight.profiles (happens w.sight e).reach w.strangers (items_of w.sight (strangers_in w) e) w.subscribers h
 
 -- ---- a list of replies
 
@@ -146,9 +146,9 @@ order_cons (Some fault) outs rs h k = k
 replies_order : (w : World) (es : List Event) → Rising known_id w.strangers → AllInOrder (replies w es)
 replies_order w [] h = tt
 replies_order w (e ∷ es) h =
-    order_cons (fault_of w.sight e) (outputs w e) (replies (world_after w e) es) (output_order w e h) (replies_order (world_after w e) es (rising_once w e h))
+    order_cons (event_fault w.sight e) (outputs w e) (replies (world_after w e) es) (output_order w e h) (replies_order (world_after w e) es (rising_once w e h))
 
-of_given : (rs : List (Result (List Out) StepFault)) → AllInOrder (given rs) → AllInOrder rs
+of_given : (rs : List (Result (List Out) StepFault)) → AllInOrder (replies_given rs) → AllInOrder rs
 of_given [] h = tt
 of_given (Ok outs ∷ rs) h = (h.0, of_given rs h.1)
 of_given (Err NoMemory ∷ rs) h = of_given rs h
@@ -158,5 +158,5 @@ of_given (Err ClockSpent ∷ rs) h = of_given rs h
 of_given (Err UnknownImsi ∷ rs) h = of_given rs h
 
 -- all replies of a run
-pub run_order : (w : World) (es : List Event) (rs : List (Result (List Out) StepFault)) → Rising known_id w.strangers → given rs ≡ replies w es → AllInOrder rs
+pub run_order : (w : World) (es : List Event) (rs : List (Result (List Out) StepFault)) → Rising known_id w.strangers → replies_given rs ≡ replies w es → AllInOrder rs
 run_order w es rs r h = of_given rs (subst AllInOrder (sym h) (replies_order w es r))

@@ -7,7 +7,7 @@ use Rattle.identity_slots.specs.declared.profile.Profile.{Profile}
 use Rattle.ordered_lists.specs.Ordered.{AllOver, Rising}
 use Rattle.mme_vocabulary.specs.declared.octets.Answer.{Answer}
 use Rattle.mme_vocabulary.specs.Events.{Item}
-use Rattle.emm_machine.specs.Whole.{Whole}
+use Rattle.emm_machine.specs.SubscriberView.{SubscriberView}
 use Rattle.stranger_machine.specs.declared.table.Known.{Known}
 use Rattle.stranger_machine.specs.declared.turn.Notice.{Notice}
 use Rattle.stranger_machine.specs.Machine.{Input, Nothing, notes, stranger_step}
@@ -16,8 +16,8 @@ use Rattle.stranger_machine.specs.Laws.{at_nothing, at_notice, closed_notes}
 use Rattle.mme_core.specs.declared.out.Out.{Out}
 use Rattle.mme_core.specs.declared.out.Owner.{Owner}
 use Rattle.mme_core.specs.declared.out.Owner.TheVariants.{Station, Stranger, Subscriber}
-use Rattle.mme_core.specs.Projection.{answer_told, is_slot, is_station, is_stranger, own_sends, owned_by, told_of}
-use Rattle.mme_core.specs.World.{each_known, each_sends, owner_out, slot_out, station_sends, stranger_out, strangers_send, whole_step}
+use Rattle.mme_core.specs.Projection.{answer_told, is_slot, is_station, is_stranger, own_told, owned_by, told_of}
+use Rattle.mme_core.specs.World.{each_known, each_sent, owner_out, slot_out, station_sent, stranger_out, strangers_sent, subscriber_step}
 
 append_if : (b : Bool) (o : Out) (xs ys zs : List Out) → map told_of zs ≡ map told_of xs ++ map told_of ys
     → map told_of (if b then o ∷ zs else zs) ≡ map told_of (if b then o ∷ xs else xs) ++ map told_of ys
@@ -52,7 +52,7 @@ owned_second own xs ys h = owned_append own xs ys ∙ ap (λ r. r ++ owned_by ow
 
 -- ---- parts that have nothing of others
 
-pub no_station : (own : Owner → Bool) (o : Option ℕ) (sent : List Answer) → ((e : ℕ) → own (Station e) ≡ false) → owned_by own (station_sends o sent) ≡ []
+pub no_station : (own : Owner → Bool) (o : Option ℕ) (sent : List Answer) → ((e : ℕ) → own (Station e) ≡ false) → owned_by own (station_sent o sent) ≡ []
 no_station own None sent h = refl
 no_station own (Some e) sent h = owned_none own (Station e) sent (h e)
 
@@ -62,15 +62,15 @@ no_known own notice (k ∷ ks) h =
     owned_second own (map (stranger_out k.id) (notes k.id (Some k.stranger) notice).sent) (each_known notice ks) (owned_none own (Stranger k.id) (notes k.id (Some k.stranger) notice).sent (h k.id))
     ∙ no_known own notice ks h
 
-pub no_stranger : (own : Owner → Bool) (ps : List Profile) (r : Reach) (ks : List Known) → ((id : ℕ) → own (Stranger id) ≡ false) → owned_by own (strangers_send ps r ks) ≡ []
+pub no_stranger : (own : Owner → Bool) (ps : List Profile) (r : Reach) (ks : List Known) → ((id : ℕ) → own (Stranger id) ≡ false) → owned_by own (strangers_sent ps r ks) ≡ []
 no_stranger own ps Nobody ks h = refl
 no_stranger own ps (One id input) ks h = owned_none own (Stranger id) (stranger_step ps id (stranger_at id ks) input).sent (h id)
 no_stranger own ps (Each notice) ks h = no_known own notice ks h
 
-pub no_slot : (own : Owner → Bool) (items : ℕ → Item) (n : ℕ) (ws : List Whole) → ((m : ℕ) → own (Subscriber m) ≡ false) → owned_by own (each_sends items n ws) ≡ []
+pub no_slot : (own : Owner → Bool) (items : ℕ → Item) (n : ℕ) (ws : List SubscriberView) → ((m : ℕ) → own (Subscriber m) ≡ false) → owned_by own (each_sent items n ws) ≡ []
 no_slot own items n [] h = refl
 no_slot own items n (w ∷ ws) h =
-    owned_second own (map (slot_out n) (whole_step w (items n)).sent) (each_sends items (n + 1) ws) (owned_none own (Subscriber n) (whole_step w (items n)).sent (h n))
+    owned_second own (map (slot_out n) (subscriber_step w (items n)).sent) (each_sent items (n + 1) ws) (owned_none own (Subscriber n) (subscriber_step w (items n)).sent (h n))
     ∙ no_slot own items (n + 1) ws h
 
 -- ---- a slot's
@@ -82,34 +82,34 @@ other_slot : (slot n : ℕ) → n ≢ slot → is_slot slot (Subscriber n) ≡ f
 other_slot slot n e = ne_eqb n slot e
 
 -- the slots from n on send nothing for a slot below n
-later_slots : (slot n : ℕ) (items : ℕ → Item) (ws : List Whole) → slot < n → owned_by (is_slot slot) (each_sends items n ws) ≡ []
+later_slots : (slot n : ℕ) (items : ℕ → Item) (ws : List SubscriberView) → slot < n → owned_by (is_slot slot) (each_sent items n ws) ≡ []
 later_slots slot n items [] lt = refl
 later_slots slot n items (w ∷ ws) lt =
-    owned_second (is_slot slot) (map (slot_out n) (whole_step w (items n)).sent) (each_sends items (n + 1) ws)
-    (owned_none (is_slot slot) (Subscriber n) (whole_step w (items n)).sent (other_slot slot n (λ same. omega (arith, same))))
+    owned_second (is_slot slot) (map (slot_out n) (subscriber_step w (items n)).sent) (each_sent items (n + 1) ws)
+    (owned_none (is_slot slot) (Subscriber n) (subscriber_step w (items n)).sent (other_slot slot n (λ same. omega (arith, same))))
     ∙ later_slots slot (n + 1) items ws (omega arith)
 
 -- what is sent for a slot is what its machine sends
-pub owned_slot : (slot n k : ℕ) (items : ℕ → Item) (ws : List Whole) (w : Whole) → slot ≡ n + k → slice_get ws k ≡ Some w → owned_by (is_slot slot) (each_sends items n ws) ≡ map answer_told (whole_step w (items slot)).sent
+pub owned_slot : (slot n k : ℕ) (items : ℕ → Item) (ws : List SubscriberView) (w : SubscriberView) → slot ≡ n + k → slice_get ws k ≡ Some w → owned_by (is_slot slot) (each_sent items n ws) ≡ map answer_told (subscriber_step w (items slot)).sent
 owned_slot slot n k items [] w e h = cc
 owned_slot slot n zero items (x ∷ ws) w e h =
     let here : x ≡ w = cc in
     let at : n ≡ slot = omega (arith, e) in
-    owned_first (is_slot slot) (map (slot_out n) (whole_step x (items n)).sent) (each_sends items (n + 1) ws) (later_slots slot (n + 1) items ws (omega (arith, e)))
-    ∙ owned_all (is_slot slot) (Subscriber n) (whole_step x (items n)).sent (own_slot slot n at)
-    ∙ ap (λ y. map answer_told (whole_step y (items n)).sent) here ∙ ap (λ m. map answer_told (whole_step w (items m)).sent) at
+    owned_first (is_slot slot) (map (slot_out n) (subscriber_step x (items n)).sent) (each_sent items (n + 1) ws) (later_slots slot (n + 1) items ws (omega (arith, e)))
+    ∙ owned_all (is_slot slot) (Subscriber n) (subscriber_step x (items n)).sent (own_slot slot n at)
+    ∙ ap (λ y. map answer_told (subscriber_step y (items n)).sent) here ∙ ap (λ m. map answer_told (subscriber_step w (items m)).sent) at
 owned_slot slot n (suc k) items (x ∷ ws) w e h =
-    owned_second (is_slot slot) (map (slot_out n) (whole_step x (items n)).sent) (each_sends items (n + 1) ws)
-    (owned_none (is_slot slot) (Subscriber n) (whole_step x (items n)).sent (other_slot slot n (λ same. omega (arith, e, same))))
+    owned_second (is_slot slot) (map (slot_out n) (subscriber_step x (items n)).sent) (each_sent items (n + 1) ws)
+    (owned_none (is_slot slot) (Subscriber n) (subscriber_step x (items n)).sent (other_slot slot n (λ same. omega (arith, e, same))))
     ∙ owned_slot slot (n + 1) k items ws w (omega (arith, e)) h
 
 -- and of a slot that isn't provisioned nothing
-pub owned_absent : (slot n k : ℕ) (items : ℕ → Item) (ws : List Whole) → slot ≡ n + k → slice_get ws k ≡ None → owned_by (is_slot slot) (each_sends items n ws) ≡ []
+pub owned_absent : (slot n k : ℕ) (items : ℕ → Item) (ws : List SubscriberView) → slot ≡ n + k → slice_get ws k ≡ None → owned_by (is_slot slot) (each_sent items n ws) ≡ []
 owned_absent slot n k items [] e h = refl
 owned_absent slot n zero items (x ∷ ws) e h = absurd cc
 owned_absent slot n (suc k) items (x ∷ ws) e h =
-    owned_second (is_slot slot) (map (slot_out n) (whole_step x (items n)).sent) (each_sends items (n + 1) ws)
-    (owned_none (is_slot slot) (Subscriber n) (whole_step x (items n)).sent (other_slot slot n (λ same. omega (arith, e, same))))
+    owned_second (is_slot slot) (map (slot_out n) (subscriber_step x (items n)).sent) (each_sent items (n + 1) ws)
+    (owned_none (is_slot slot) (Subscriber n) (subscriber_step x (items n)).sent (other_slot slot n (λ same. omega (arith, e, same))))
     ∙ owned_absent slot (n + 1) k items ws (omega (arith, e)) h
 
 -- ---- a stranger's
@@ -165,14 +165,14 @@ owned_one ps id n input ks = elim (cases_eq n id) [
 
 -- what is sent for a stranger is what its machine sends
 pub owned_stranger : (ps : List Profile) (id : ℕ) (r : Reach) (ks : List Known) → Rising known_id ks
-    → owned_by (is_stranger id) (strangers_send ps r ks) ≡ map answer_told (stranger_step ps id (stranger_at id ks) (input_at r id)).sent
+    → owned_by (is_stranger id) (strangers_sent ps r ks) ≡ map answer_told (stranger_step ps id (stranger_at id ks) (input_at r id)).sent
 owned_stranger ps id Nobody ks h = sym (ap (λ t. map answer_told t.sent) (at_nothing ps id (stranger_at id ks)))
 owned_stranger ps id (One n input) ks h = owned_one ps id n input ks
 owned_stranger ps id (Each notice) ks h = owned_known id notice ks h ∙ sym (ap (λ t. map answer_told t.sent) (at_notice ps id (stranger_at id ks) notice))
 
 -- ---- a station's
 
-pub owned_station : (e : ℕ) (o : Option ℕ) (sent : List Answer) → owned_by (is_station e) (station_sends o sent) ≡ own_sends o e sent
+pub owned_station : (e : ℕ) (o : Option ℕ) (sent : List Answer) → owned_by (is_station e) (station_sent o sent) ≡ own_told o e sent
 owned_station e None sent = refl
 owned_station e (Some n) sent = elim (cases_eq n e) [
   | inl same ↦ owned_all (is_station e) (Station n) sent (eq-eqb n e same) ∙ ap (λ b. if b then map answer_told sent else []) (sym (eq-eqb n e same))

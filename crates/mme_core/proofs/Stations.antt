@@ -10,7 +10,7 @@ use Rattle.mme_core.specs.declared.event.Event.{Event}
 use Rattle.mme_core.specs.declared.event.StepFault.{StepFault}
 use Rattle.mme_core.specs.Projection.{own_state, station_run}
 use Rattle.mme_core.specs.Sight.{Sight}
-use Rattle.mme_core.specs.World.{World, fault_of, happens, sight_after, sight_moved, sight_run, station_of, stations_by, unless, world_after, world_run}
+use Rattle.mme_core.specs.World.{World, event_fault, happens, sight_after, sight_moved, sight_run, station_of, stations_by, unless, world_after, world_run}
 use Rattle.mme_core.proofs.Turns.{sight_once}
 
 -- what every owner may see after a run
@@ -30,7 +30,7 @@ many_unless (Some fault) s t h = refl
 
 -- as many stations as before
 pub as_many_stations : (s : Sight) (event : Event) → length (sight_after s event).stations ≡ length s.stations
-as_many_stations s event = many_unless (fault_of s event) s (sight_moved s event) (many_by (station_of event) s.stations (happens s event).state)
+as_many_stations s event = many_unless (event_fault s event) s (sight_moved s event) (many_by (station_of event) s.stations (happens s event).state)
 
 own_by : (o : Option ℕ) (e : ℕ) (stations : List StationState) (state : StationState) → e < length stations → station_at (stations_by o stations state) e ≡ own_state o e (station_at stations e) state
 own_by None e stations state lt = refl
@@ -45,8 +45,8 @@ own_unless : (o : Option StepFault) (s t : Sight) (e : ℕ) (state : StationStat
 own_unless None s t e state h = h
 own_unless (Some fault) s t e state h = refl
 
-turn : (s : Sight) (event : Event) (e : ℕ) → e < length s.stations → station_at (sight_after s event).stations e ≡ unless (fault_of s event) (station_at s.stations e) (own_state (station_of event) e (station_at s.stations e) (happens s event).state)
-turn s event e lt = own_unless (fault_of s event) s (sight_moved s event) e _ (own_by (station_of event) e s.stations (happens s event).state lt)
+turn : (s : Sight) (event : Event) (e : ℕ) → e < length s.stations → station_at (sight_after s event).stations e ≡ unless (event_fault s event) (station_at s.stations e) (own_state (station_of event) e (station_at s.stations e) (happens s event).state)
+turn s event e lt = own_unless (event_fault s event) s (sight_moved s event) e _ (own_by (station_of event) e s.stations (happens s event).state lt)
 
 -- ---- a list of events
 

@@ -5,7 +5,7 @@ use Rattle.std.proofs.lemmas.Bool.Decides.{nat_tests}
 use Rattle.std.proofs.lemmas.List.{length-set}
 use Rattle.mme_vocabulary.specs.Stations.{station_at}
 use Rattle.mme_vocabulary.specs.declared.stations.StationState.{StationState}
-use Rattle.emm_machine.specs.Whole.{Whole}
+use Rattle.emm_machine.specs.SubscriberView.{SubscriberView}
 use Rattle.mme_core.specs.declared.changes.Prepared.{Prepared}
 use Rattle.mme_core.specs.declared.event.Event.{Event}
 use Rattle.mme_core.specs.declared.out.Out.{Out}
@@ -20,23 +20,23 @@ use Rattle.mme_core.specs.declared.mme.Moves.{Moves}
 use Rattle.mme_core.specs.declared.mme.Ready.{Ready}
 use Rattle.mme_core.specs.Ready.{placed, ready_world}
 use Rattle.mme_routing.specs.Outcomes.{Outcome}
-use Rattle.mme_core.specs.World.{World, called, calls_by, clock_after, each_after, each_sends, fault_of, happens, if_down, moved, outputs, reply, reply_of, sight_moved, station_of, station_sends, stations_by, strangers_in, strangers_send, unless, world_after}
+use Rattle.mme_core.specs.World.{World, called, calls_by, clock_after, each_after, each_sent, event_fault, happens, if_down, world_moved, outputs, reply, reply_of, sight_moved, station_of, station_sent, stations_by, strangers_in, strangers_sent, unless, world_after}
 use Rattle.mme_core.proofs.Stepping.{solo_many, stepped_many}
 
 -- what is prepared for an event that is not refused, from what its station outcome_of: the reply
-pub reply_so : (w : World) (e : Event) (h : Outcome) (outs : List Out) → fault_of w.sight e ≡ None → h ≡ happens w.sight e
-    → outs ≡ station_sends (station_of e) h.sends ++ (strangers_send w.sight.profiles h.reach w.strangers ++ each_sends (called (calls_by h.reach h.calls w.sight.profiles (strangers_in w))) 0 w.subscribers)
+pub reply_so : (w : World) (e : Event) (h : Outcome) (outs : List Out) → event_fault w.sight e ≡ None → h ≡ happens w.sight e
+    → outs ≡ station_sent (station_of e) h.sent ++ (strangers_sent w.sight.profiles h.reach w.strangers ++ each_sent (called (calls_by h.reach h.calls w.sight.profiles (strangers_in w))) 0 w.subscribers)
     → reply w e ≡ Ok outs
 reply_so w e h outs fine is sent =
     ap (λ o. reply_of o (outputs w e)) fine
-    ∙ ap Ok (sym (sent ∙ ap (λ (x : Outcome). station_sends (station_of e) x.sends ++ (strangers_send w.sight.profiles x.reach w.strangers
-    ++ each_sends (called (calls_by x.reach x.calls w.sight.profiles (strangers_in w))) 0 w.subscribers)) is))
+    ∙ ap Ok (sym (sent ∙ ap (λ (x : Outcome). station_sent (station_of e) x.sent ++ (strangers_sent w.sight.profiles x.reach w.strangers
+    ++ each_sent (called (calls_by x.reach x.calls w.sight.profiles (strangers_in w))) 0 w.subscribers)) is))
 
 abbrev pub sight_by : Sight → Event → StationState → Sight
 sight_by s e state = record { config = s.config; clock = clock_after s.clock e; stations = stations_by (station_of e) s.stations state; profiles = s.profiles }
 
 -- and the MME after it
-pub after_so : (w v : World) (e : Event) (h : Outcome) → fault_of w.sight e ≡ None → h ≡ happens w.sight e
+pub after_so : (w v : World) (e : Event) (h : Outcome) → event_fault w.sight e ≡ None → h ≡ happens w.sight e
     → v.sight ≡ sight_by w.sight e h.state → v.strangers ≡ reached w.sight.profiles h.reach w.strangers
     → v.subscribers ≡ each_after (called (calls_by h.reach h.calls w.sight.profiles (strangers_in w))) 0 w.subscribers → v ≡ world_after w e
 after_so w v e h fine is seen others each =
@@ -44,15 +44,15 @@ after_so w v e h fine is seen others each =
     ∙ ap (λ ks. record { sight = sight_moved w.sight e; strangers = ks; subscribers = v.subscribers }) (others ∙ ap (λ (x : Outcome). reached w.sight.profiles x.reach w.strangers) is)
     ∙ ap (λ xs. record { sight = sight_moved w.sight e; strangers = reached w.sight.profiles (happens w.sight e).reach w.strangers; subscribers = xs })
     (each ∙ ap (λ (x : Outcome). each_after (called (calls_by x.reach x.calls w.sight.profiles (strangers_in w))) 0 w.subscribers) is)
-    ∙ ap (λ o. unless o w (moved w e)) (sym fine)
+    ∙ ap (λ o. unless o w (world_moved w e)) (sym fine)
 
 -- ---- what was prepared
 
 abbrev pub sent_by : World → Event → Outcome → List Out
 sent_by w e h =
-    station_sends (station_of e) h.sends ++ (strangers_send w.sight.profiles h.reach w.strangers ++ each_sends (called (calls_by h.reach h.calls w.sight.profiles (strangers_in w))) 0 w.subscribers)
+    station_sent (station_of e) h.sent ++ (strangers_sent w.sight.profiles h.reach w.strangers ++ each_sent (called (calls_by h.reach h.calls w.sight.profiles (strangers_in w))) 0 w.subscribers)
 
-pub reply_ready : (w : World) (e : Event) (h : Outcome) (r : Result Ready StepFault) → fault_of w.sight e ≡ None → h ≡ happens w.sight e
+pub reply_ready : (w : World) (e : Event) (h : Outcome) (r : Result Ready StepFault) → event_fault w.sight e ≡ None → h ≡ happens w.sight e
     → IfOk r (λ x. x.outs ≡ sent_by w e h) → IfOk r (λ x. reply w e ≡ Ok x.outs)
 reply_ready w e h (Ok x) fine is sent = reply_so w e h x.outs fine is sent
 reply_ready w e h (Err fault) fine is sent = tt
@@ -61,7 +61,7 @@ reply_ready w e h (Err fault) fine is sent = tt
 abbrev pub sight_with : Moves → Sight → Sight
 sight_with m s = record { config = s.config; clock = m.clock; stations = placed m.station m.state s.stations; profiles = s.profiles }
 
-pub after_ready : (w : World) (e : Event) (h : Outcome) (m : Moves) (r : Result Ready StepFault) → fault_of w.sight e ≡ None → h ≡ happens w.sight e
+pub after_ready : (w : World) (e : Event) (h : Outcome) (m : Moves) (r : Result Ready StepFault) → event_fault w.sight e ≡ None → h ≡ happens w.sight e
     → sight_with m w.sight ≡ sight_by w.sight e h.state
     → IfOk r (λ x. x.moves ≡ m) → IfOk r (λ x. changed x.change w.strangers ≡ reached w.sight.profiles h.reach w.strangers)
     → IfOk r (λ x. settled x.prepared w.subscribers ≡ each_after (called (calls_by h.reach h.calls w.sight.profiles (strangers_in w))) 0 w.subscribers)
@@ -87,7 +87,7 @@ clock_goes_on clock lt = grind (arith, nat_tests)
 -- ---- the subscribers
 
 -- as many as before
-pub settled_many : (p : Prepared) (ws : List Whole) → length (settled p ws) ≡ length ws
+pub settled_many : (p : Prepared) (ws : List SubscriberView) → length (settled p ws) ≡ length ws
 settled_many prepared.Nobody ws = refl
 settled_many (prepared.One slot s) ws = solo_many slot s ws
 settled_many (prepared.Everyone xs) ws = stepped_many xs.items ws

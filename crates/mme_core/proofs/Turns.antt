@@ -4,7 +4,7 @@ use Rattle.std.specs.Prelude.{slice_get}
 use Rattle.identity_slots.specs.declared.profile.Profile.{Profile}
 use Rattle.ordered_lists.specs.Ordered.{Rising}
 use Rattle.mme_vocabulary.specs.Events.{Item, Nothing}
-use Rattle.emm_machine.specs.Whole.{Whole}
+use Rattle.emm_machine.specs.SubscriberView.{SubscriberView}
 use Rattle.stranger_machine.specs.declared.state.Stranger.{Stranger}
 use Rattle.stranger_machine.specs.Machine.{Input, stranger_step}
 use Rattle.stranger_machine.specs.Machine as inputs
@@ -13,9 +13,9 @@ use Rattle.stranger_machine.specs.Laws as laws
 use Rattle.mme_core.specs.declared.event.Event.{Event}
 use Rattle.mme_core.specs.declared.event.StepFault.{StepFault}
 use Rattle.mme_core.specs.declared.out.Out.{Out}
-use Rattle.mme_core.specs.Projection.{Told, answer_told, is_slot, is_station, is_stranger, item_for, own_sends, owned_by, stranger_input, strangers_after, told_in}
+use Rattle.mme_core.specs.Projection.{Told, answer_told, is_slot, is_station, is_stranger, item_for, own_told, owned_by, stranger_input, strangers_after, told_in}
 use Rattle.mme_core.specs.Sight.{Sight}
-use Rattle.mme_core.specs.World.{World, called, each_after, each_sends, fault_of, happens, items_of, moved, outputs, reach_call, reply, reply_of, sight_after, station_of, station_sends, strangers_in, strangers_send, unless, whole_after, whole_step, with_call, world_after}
+use Rattle.mme_core.specs.World.{World, called, each_after, each_sent, event_fault, happens, items_of, world_moved, outputs, reach_call, reply, reply_of, sight_after, station_of, station_sent, strangers_in, strangers_sent, unless, subscriber_after, subscriber_step, with_call, world_after}
 use Rattle.mme_core.proofs.Calling.{at_nothing, stays}
 use Rattle.mme_core.proofs.Owned.{no_slot, no_station, no_stranger, owned_absent, owned_first, owned_second, owned_slot, owned_station, owned_stranger}
 
@@ -24,28 +24,28 @@ sight_by None w v = refl
 sight_by (Some fault) w v = refl
 
 pub sight_once : (w : World) (e : Event) → (world_after w e).sight ≡ sight_after w.sight e
-sight_once w e = sight_by (fault_of w.sight e) w (moved w e)
+sight_once w e = sight_by (event_fault w.sight e) w (world_moved w e)
 
 -- ---- a subscriber
 
-slot_by : (o : Option StepFault) (outs : List Out) (slot : ℕ) (w : Whole) (i : Item) → owned_by (is_slot slot) outs ≡ map answer_told (whole_step w i).sent
-    → told_in (is_slot slot) (reply_of o outs) ≡ map answer_told (whole_step w (unless o Nothing i)).sent
+slot_by : (o : Option StepFault) (outs : List Out) (slot : ℕ) (w : SubscriberView) (i : Item) → owned_by (is_slot slot) outs ≡ map answer_told (subscriber_step w i).sent
+    → told_in (is_slot slot) (reply_of o outs) ≡ map answer_told (subscriber_step w (unless o Nothing i)).sent
 slot_by None outs slot w i h = h
 slot_by (Some fault) outs slot w i h = ap (λ d. map answer_told d.sent) (sym (at_nothing w.setting w.solo))
 
 -- of an output a slot has nothing but what subscribers send
-slot_part : (w : World) (e : Event) (slot : ℕ) → owned_by (is_slot slot) (outputs w e) ≡ owned_by (is_slot slot) (each_sends (items_of w.sight (strangers_in w) e) 0 w.subscribers)
+slot_part : (w : World) (e : Event) (slot : ℕ) → owned_by (is_slot slot) (outputs w e) ≡ owned_by (is_slot slot) (each_sent (items_of w.sight (strangers_in w) e) 0 w.subscribers)
 slot_part w e slot =
-    let each = each_sends (items_of w.sight (strangers_in w) e) 0 w.subscribers in
-    let others = strangers_send w.sight.profiles (happens w.sight e).reach w.strangers in
-    owned_second (is_slot slot) (station_sends (station_of e) (happens w.sight e).sends) (others ++ each) (no_station (is_slot slot) (station_of e) (happens w.sight e).sends (λ n. refl))
+    let each = each_sent (items_of w.sight (strangers_in w) e) 0 w.subscribers in
+    let others = strangers_sent w.sight.profiles (happens w.sight e).reach w.strangers in
+    owned_second (is_slot slot) (station_sent (station_of e) (happens w.sight e).sent) (others ++ each) (no_station (is_slot slot) (station_of e) (happens w.sight e).sent (λ n. refl))
     ∙ owned_second (is_slot slot) others each (no_stranger (is_slot slot) w.sight.profiles (happens w.sight e).reach w.strangers (λ id. refl))
 
-pub slot_told : (w : World) (e : Event) (slot : ℕ) (x : Whole) → slice_get w.subscribers slot ≡ Some x
-    → told_in (is_slot slot) (reply w e) ≡ map answer_told (whole_step x (item_for slot w.sight (strangers_in w) e)).sent
+pub slot_told : (w : World) (e : Event) (slot : ℕ) (x : SubscriberView) → slice_get w.subscribers slot ≡ Some x
+    → told_in (is_slot slot) (reply w e) ≡ map answer_told (subscriber_step x (item_for slot w.sight (strangers_in w) e)).sent
 slot_told w e slot x h =
     let items = items_of w.sight (strangers_in w) e in
-    slot_by (fault_of w.sight e) (outputs w e) slot x (items slot) (slot_part w e slot ∙ owned_slot slot 0 slot items w.subscribers x (omega arith) h)
+    slot_by (event_fault w.sight e) (outputs w e) slot x (items slot) (slot_part w e slot ∙ owned_slot slot 0 slot items w.subscribers x (omega arith) h)
 
 nothing_by : (o : Option StepFault) (outs : List Out) (slot : ℕ) → owned_by (is_slot slot) outs ≡ [] → told_in (is_slot slot) (reply_of o outs) ≡ []
 nothing_by None outs slot h = h
@@ -53,39 +53,39 @@ nothing_by (Some fault) outs slot h = refl
 
 pub absent_told : (w : World) (e : Event) (slot : ℕ) → slice_get w.subscribers slot ≡ None → told_in (is_slot slot) (reply w e) ≡ []
 absent_told w e slot h =
-    nothing_by (fault_of w.sight e) (outputs w e) slot (slot_part w e slot ∙ owned_absent slot 0 slot (items_of w.sight (strangers_in w) e) w.subscribers (omega arith) h)
+    nothing_by (event_fault w.sight e) (outputs w e) slot (slot_part w e slot ∙ owned_absent slot 0 slot (items_of w.sight (strangers_in w) e) w.subscribers (omega arith) h)
 
-slice_get-each_after : (n k : ℕ) (items : ℕ → Item) (ws : List Whole) (w : Whole) → slice_get ws k ≡ Some w → slice_get (each_after items n ws) k ≡ Some (whole_after w (items (n + k)))
+slice_get-each_after : (n k : ℕ) (items : ℕ → Item) (ws : List SubscriberView) (w : SubscriberView) → slice_get ws k ≡ Some w → slice_get (each_after items n ws) k ≡ Some (subscriber_after w (items (n + k)))
 slice_get-each_after n k items [] w h = cc
 slice_get-each_after n zero items (x ∷ ws) w h =
     let here : x ≡ w = cc in
-    ap (λ y. Some (whole_after y (items n))) here ∙ ap (λ m. Some (whole_after w (items m))) (omega arith)
+    ap (λ y. Some (subscriber_after y (items n))) here ∙ ap (λ m. Some (subscriber_after w (items m))) (omega arith)
 slice_get-each_after n (suc k) items (x ∷ ws) w h =
-    slice_get-each_after (n + 1) k items ws w h ∙ ap (λ m. Some (whole_after w (items m))) (omega arith)
+    slice_get-each_after (n + 1) k items ws w h ∙ ap (λ m. Some (subscriber_after w (items m))) (omega arith)
 
-absent-each_after : (n k : ℕ) (items : ℕ → Item) (ws : List Whole) → slice_get ws k ≡ None → slice_get (each_after items n ws) k ≡ None
+absent-each_after : (n k : ℕ) (items : ℕ → Item) (ws : List SubscriberView) → slice_get ws k ≡ None → slice_get (each_after items n ws) k ≡ None
 absent-each_after n k items [] h = h
 absent-each_after n zero items (x ∷ ws) h = absurd cc
 absent-each_after n (suc k) items (x ∷ ws) h = absent-each_after (n + 1) k items ws h
 
-after_by : (slot : ℕ) (o : Option StepFault) (w v : World) (x : Whole) (i : Item) → slice_get w.subscribers slot ≡ Some x → slice_get v.subscribers slot ≡ Some (whole_after x i)
-    → slice_get (unless o w v).subscribers slot ≡ Some (whole_after x (unless o Nothing i))
+after_by : (slot : ℕ) (o : Option StepFault) (w v : World) (x : SubscriberView) (i : Item) → slice_get w.subscribers slot ≡ Some x → slice_get v.subscribers slot ≡ Some (subscriber_after x i)
+    → slice_get (unless o w v).subscribers slot ≡ Some (subscriber_after x (unless o Nothing i))
 after_by slot None w v x i h k = k
 after_by slot (Some fault) w v x i h k = h ∙ ap Some (sym (stays x))
 
-pub slot_after : (w : World) (e : Event) (slot : ℕ) (x : Whole) → slice_get w.subscribers slot ≡ Some x
-    → slice_get (world_after w e).subscribers slot ≡ Some (whole_after x (item_for slot w.sight (strangers_in w) e))
+pub slot_after : (w : World) (e : Event) (slot : ℕ) (x : SubscriberView) → slice_get w.subscribers slot ≡ Some x
+    → slice_get (world_after w e).subscribers slot ≡ Some (subscriber_after x (item_for slot w.sight (strangers_in w) e))
 slot_after w e slot x h =
     let items = items_of w.sight (strangers_in w) e in
-    after_by slot (fault_of w.sight e) w (moved w e) x (items slot) h
-    (slice_get-each_after 0 slot items w.subscribers x h ∙ ap (λ m. Some (whole_after x (items m))) (omega arith))
+    after_by slot (event_fault w.sight e) w (world_moved w e) x (items slot) h
+    (slice_get-each_after 0 slot items w.subscribers x h ∙ ap (λ m. Some (subscriber_after x (items m))) (omega arith))
 
 absent_by : (slot : ℕ) (o : Option StepFault) (w v : World) → slice_get w.subscribers slot ≡ None → slice_get v.subscribers slot ≡ None → slice_get (unless o w v).subscribers slot ≡ None
 absent_by slot None w v h k = k
 absent_by slot (Some fault) w v h k = h
 
 pub absent_after : (w : World) (e : Event) (slot : ℕ) → slice_get w.subscribers slot ≡ None → slice_get (world_after w e).subscribers slot ≡ None
-absent_after w e slot h = absent_by slot (fault_of w.sight e) w (moved w e) h (absent-each_after 0 slot (items_of w.sight (strangers_in w) e) w.subscribers h)
+absent_after w e slot h = absent_by slot (event_fault w.sight e) w (world_moved w e) h (absent-each_after 0 slot (items_of w.sight (strangers_in w) e) w.subscribers h)
 
 -- ---- a stranger
 
@@ -97,11 +97,11 @@ stranger_by id ps (Some fault) outs x i h = sym (ap (λ t. map answer_told t.sen
 pub stranger_told_once : (w : World) (e : Event) (id : ℕ) → Rising known_id w.strangers
     → told_in (is_stranger id) (reply w e) ≡ map answer_told (stranger_step w.sight.profiles id (stranger_at id w.strangers) (stranger_input w.sight id e)).sent
 stranger_told_once w e id h =
-    let each = each_sends (items_of w.sight (strangers_in w) e) 0 w.subscribers in
+    let each = each_sent (items_of w.sight (strangers_in w) e) 0 w.subscribers in
     let r = (happens w.sight e).reach in
-    let own = strangers_send w.sight.profiles r w.strangers in
-    stranger_by id w.sight.profiles (fault_of w.sight e) (outputs w e) (stranger_at id w.strangers) (input_at r id)
-    (owned_second (is_stranger id) (station_sends (station_of e) (happens w.sight e).sends) (own ++ each) (no_station (is_stranger id) (station_of e) (happens w.sight e).sends (λ n. refl))
+    let own = strangers_sent w.sight.profiles r w.strangers in
+    stranger_by id w.sight.profiles (event_fault w.sight e) (outputs w e) (stranger_at id w.strangers) (input_at r id)
+    (owned_second (is_stranger id) (station_sent (station_of e) (happens w.sight e).sent) (own ++ each) (no_station (is_stranger id) (station_of e) (happens w.sight e).sent (λ n. refl))
     ∙ owned_first (is_stranger id) own each (no_slot (is_stranger id) (items_of w.sight (strangers_in w) e) 0 w.subscribers (λ m. refl))
     ∙ owned_stranger w.sight.profiles id r w.strangers h)
 
@@ -112,14 +112,14 @@ stranger_unless id ps (Some fault) w v i h = sym (ap (λ t. t.stranger) (laws.at
 
 pub stranger_once : (w : World) (e : Event) (id : ℕ) → Rising known_id w.strangers → stranger_at id (world_after w e).strangers ≡ strangers_after w.sight (strangers_in w) e id
 stranger_once w e id h =
-    stranger_unless id w.sight.profiles (fault_of w.sight e) w (moved w e) (input_at (happens w.sight e).reach id) (laws.turned w.sight.profiles id (happens w.sight e).reach w.strangers h)
+    stranger_unless id w.sight.profiles (event_fault w.sight e) w (world_moved w e) (input_at (happens w.sight e).reach id) (laws.turned w.sight.profiles id (happens w.sight e).reach w.strangers h)
 
 rising_by : (o : Option StepFault) (w v : World) → Rising known_id w.strangers → Rising known_id v.strangers → Rising known_id (unless o w v).strangers
 rising_by None w v h k = k
 rising_by (Some fault) w v h k = h
 
 pub rising_once : (w : World) (e : Event) → Rising known_id w.strangers → Rising known_id (world_after w e).strangers
-rising_once w e h = rising_by (fault_of w.sight e) w (moved w e) h (laws.rising_reached w.sight.profiles (happens w.sight e).reach w.strangers h)
+rising_once w e h = rising_by (event_fault w.sight e) w (world_moved w e) h (laws.rising_reached w.sight.profiles (happens w.sight e).reach w.strangers h)
 
 -- ---- a station
 
@@ -127,16 +127,16 @@ station_by : (e : ℕ) (o : Option StepFault) (outs : List Out) (own : List Told
 station_by e None outs own h = h
 station_by e (Some fault) outs own h = refl
 
-pub station_told_once : (w : World) (event : Event) (e : ℕ) → told_in (is_station e) (reply w event) ≡ unless (fault_of w.sight event) [] (own_sends (station_of event) e (happens w.sight event).sends)
+pub station_told_once : (w : World) (event : Event) (e : ℕ) → told_in (is_station e) (reply w event) ≡ unless (event_fault w.sight event) [] (own_told (station_of event) e (happens w.sight event).sent)
 station_told_once w event e =
-    let each = each_sends (items_of w.sight (strangers_in w) event) 0 w.subscribers in
+    let each = each_sent (items_of w.sight (strangers_in w) event) 0 w.subscribers in
     let r = (happens w.sight event).reach in
-    let others = strangers_send w.sight.profiles r w.strangers in
-    let own = station_sends (station_of event) (happens w.sight event).sends in
-    station_by e (fault_of w.sight event) (outputs w event) (own_sends (station_of event) e (happens w.sight event).sends)
+    let others = strangers_sent w.sight.profiles r w.strangers in
+    let own = station_sent (station_of event) (happens w.sight event).sent in
+    station_by e (event_fault w.sight event) (outputs w event) (own_told (station_of event) e (happens w.sight event).sent)
     (owned_first (is_station e) own (others ++ each)
     (owned_second (is_station e) others each (no_stranger (is_station e) w.sight.profiles r w.strangers (λ id. refl)) ∙ no_slot (is_station e) (items_of w.sight (strangers_in w) event) 0 w.subscribers (λ m. refl))
-    ∙ owned_station e (station_of event) (happens w.sight event).sends)
+    ∙ owned_station e (station_of event) (happens w.sight event).sent)
 
 -- ---- strangers that are the same one by one have the same items
 
@@ -147,4 +147,4 @@ call_same ps (Each notice) g h same = refl
 
 pub item_same : (slot : ℕ) (s : Sight) (g h : ℕ → Option Stranger) (e : Event) → ((id : ℕ) → g id ≡ h id) → item_for slot s g e ≡ item_for slot s h e
 item_same slot s g h e same =
-    ap (λ c. unless (fault_of s e) Nothing (called (with_call c (happens s e).calls) slot)) (call_same s.profiles (happens s e).reach g h same)
+    ap (λ c. unless (event_fault s e) Nothing (called (with_call c (happens s e).calls) slot)) (call_same s.profiles (happens s e).reach g h same)

@@ -11,7 +11,7 @@ use Rattle.identity_slots.specs.Provisioned.{slot_of_id, slot_of_imsi}
 use Rattle.mme_vocabulary.specs.declared.stations.StationState.TheVariants.{Ready}
 use Rattle.mme_vocabulary.specs.Stations.{station_at}
 use Rattle.mme_vocabulary.specs.Events.{Item, Nothing}
-use Rattle.emm_machine.specs.Whole.{Whole}
+use Rattle.emm_machine.specs.SubscriberView.{SubscriberView}
 use Rattle.stranger_machine.specs.declared.state.Stranger.{Stranger}
 use Rattle.stranger_machine.specs.Machine.{stranger_step}
 use Rattle.stranger_machine.specs.Table.{known_id, stranger_at}
@@ -19,10 +19,10 @@ use Rattle.mme_core.specs.declared.event.Event.{Event}
 use Rattle.mme_core.specs.declared.event.Event.TheVariants.{In as InEvent, Data as DataEvent, Cancel as CancelEvent}
 use Rattle.mme_core.specs.declared.out.Out.{Out}
 use Rattle.mme_routing.specs.Naming.{named_slot}
-use Rattle.mme_core.specs.Projection.{AreInOrder, Told, alone_after, answer_told, is_slot, is_station, is_stranger, item_for, own_sends, owned_by, projection, stranger_input, subscriber_told, told}
+use Rattle.mme_core.specs.Projection.{AreInOrder, Told, alone_after, answer_told, is_slot, is_station, is_stranger, item_for, own_told, owned_by, projection, stranger_input, subscriber_told, told}
 use Rattle.mme_core.specs.Sight.{Sight}
 use Rattle.mme_routing.specs.Outcomes.{Calls, NoOne, One, Everyone}
-use Rattle.mme_core.specs.World.{World, fault_of, happens, replies, reply, station_of, strangers_in, unless, whole_step, world_after, world_run}
+use Rattle.mme_core.specs.World.{World, event_fault, happens, replies, reply, station_of, strangers_in, unless, subscriber_step, world_after, world_run}
 
 -- ---- what is the same to a slot
 
@@ -42,7 +42,7 @@ in_order = flat_map (λ told. told)
 -- two lists of events that are the same to a slot tell its machine the same, and leave it the same
 abbrev pub SameToSlot : Type 0
 SameToSlot =
-    (slot : ℕ) (s t : Sight) (g h : ℕ → Option Stranger) (es ds : List Event) (w : Whole)
+    (slot : ℕ) (s t : Sight) (g h : ℕ → Option Stranger) (es ds : List Event) (w : SubscriberView)
     → busy (projection slot s g es) ≡ busy (projection slot t h ds)
     → (in_order (subscriber_told w (projection slot s g es)) ≡ in_order (subscriber_told w (projection slot t h ds)))
     × (alone_after w (projection slot s g es) ≡ alone_after w (projection slot t h ds))
@@ -50,7 +50,7 @@ SameToSlot =
 -- and so two MMEs that have the same subscriber there
 abbrev pub SameFromMme : Type 0
 SameFromMme =
-    (slot : ℕ) (w v : World) (es ds : List Event) (x : Whole) → Rising known_id w.strangers → Rising known_id v.strangers
+    (slot : ℕ) (w v : World) (es ds : List Event) (x : SubscriberView) → Rising known_id w.strangers → Rising known_id v.strangers
     → slice_get w.subscribers slot ≡ Some x → slice_get v.subscribers slot ≡ Some x
     → busy (projection slot w.sight (strangers_in w) es) ≡ busy (projection slot v.sight (strangers_in v) ds)
     → (in_order (told (is_slot slot) (replies w es)) ≡ in_order (told (is_slot slot) (replies v ds)))
@@ -111,15 +111,15 @@ Exchanges =
 -- ---- one output
 
 -- what the machine of a subscriber, if there is one, sends at an item
-abbrev pub sent_if : Option Whole → Item → List Told
-sent_if None item = []
-sent_if (Some x) item = map answer_told (whole_step x item).sent
+abbrev pub told_if : Option SubscriberView → Item → List Told
+told_if None item = []
+told_if (Some x) item = map answer_told (subscriber_step x item).sent
 
 -- each owner's messages are those of its machine, and the owners stand in their order
 pub record IsOutput (w : World) (event : Event) (outs : List Out) : Type 0 where
-  pub stations : (e : ℕ) → owned_by (is_station e) outs ≡ unless (fault_of w.sight event) [] (own_sends (station_of event) e (happens w.sight event).sends)
+  pub stations : (e : ℕ) → owned_by (is_station e) outs ≡ unless (event_fault w.sight event) [] (own_told (station_of event) e (happens w.sight event).sent)
   pub strangers : (id : ℕ) → owned_by (is_stranger id) outs ≡ map answer_told (stranger_step w.sight.profiles id (stranger_at id w.strangers) (stranger_input w.sight id event)).sent
-  pub subscribers : (slot : ℕ) → owned_by (is_slot slot) outs ≡ sent_if (slice_get w.subscribers slot) (item_for slot w.sight (strangers_in w) event)
+  pub subscribers : (slot : ℕ) → owned_by (is_slot slot) outs ≡ told_if (slice_get w.subscribers slot) (item_for slot w.sight (strangers_in w) event)
   pub order : AreInOrder outs
 
 -- the output of an event that is not refused is one

@@ -5,7 +5,7 @@ use Rattle.mme_vocabulary.specs.declared.stations.StationState.{StationState}
 use Rattle.mme_vocabulary.specs.Events.{Item, Nothing}
 use Rattle.emm_machine.specs.Steps.{solo_after, solo_answers}
 use Rattle.emm_machine.specs.declared.subscriber.States.{States}
-use Rattle.emm_machine.specs.Whole.{Whole}
+use Rattle.emm_machine.specs.SubscriberView.{SubscriberView}
 use Rattle.emm_machine.specs.Words.{states_of}
 use Rattle.stranger_machine.specs.declared.state.Stranger.{Stranger as StrangerState}
 use Rattle.stranger_machine.specs.Machine.{Input, stranger_step}
@@ -17,13 +17,13 @@ use Rattle.mme_core.specs.declared.out.Out.{Out}
 use Rattle.mme_core.specs.declared.out.Owner.{Owner}
 use Rattle.mme_core.specs.declared.out.Owner.TheVariants.{Station, Stranger, Subscriber}
 use Rattle.mme_core.specs.Sight.{Sight}
-use Rattle.mme_core.specs.World.{World, fault_of, happens, items_of, sight_after, station_of, unless}
+use Rattle.mme_core.specs.World.{World, event_fault, happens, items_of, sight_after, station_of, unless}
 
 -- ---- one stranger
 
 -- what reaches the stranger with the id at an event
 abbrev pub stranger_input : Sight → ℕ → Event → Input
-stranger_input s id event = unless (fault_of s event) inputs.Nothing (input_at (happens s event).reach id)
+stranger_input s id event = unless (event_fault s event) inputs.Nothing (input_at (happens s event).reach id)
 
 -- the strangers after an event, each by its own machine
 abbrev pub strangers_after : Sight → (ℕ → Option StrangerState) → Event → ℕ → Option StrangerState
@@ -38,7 +38,7 @@ stranger_run s id x (event ∷ events) = stranger_run (sight_after s event) id (
 
 -- the item of a slot at an event, by what every owner may see and by the strangers
 abbrev pub item_for : ℕ → Sight → (ℕ → Option StrangerState) → Event → Item
-item_for slot s g event = unless (fault_of s event) Nothing (items_of s g event slot)
+item_for slot s g event = unless (event_fault s event) Nothing (items_of s g event slot)
 
 -- the items of a slot over a list, one for each event: by the list, the configuration and the provisioning alone, and by the
 -- strangers, who are so too
@@ -88,11 +88,11 @@ answer_told a = record { station = a.station; octets = a.octets }
 
 -- ---- what each owner's machine sends, by event
 
-abbrev pub subscriber_told : Whole → List Item → List (List Told)
+abbrev pub subscriber_told : SubscriberView → List Item → List (List Told)
 subscriber_told w items = map (λ sent. map answer_told sent) (solo_answers w.setting w.solo items)
 
 -- a subscriber after its machine has run over items
-abbrev pub alone_after : Whole → List Item → Whole
+abbrev pub alone_after : SubscriberView → List Item → SubscriberView
 alone_after w items = record { setting = w.setting; solo = solo_after w.setting w.solo items }
 
 abbrev pub stranger_told : Sight → ℕ → Option StrangerState → List Event → List (List Told)
@@ -102,13 +102,13 @@ stranger_told s id x (event ∷ events) =
     ∷ stranger_told (sight_after s event) id (stranger_step s.profiles id x (stranger_input s id event)).stranger events
 
 -- what a station is told of its own
-abbrev pub own_sends : Option ℕ → ℕ → List Answer → List Told
-own_sends None e sends = []
-own_sends (Some n) e sends = if n == e then map answer_told sends else []
+abbrev pub own_told : Option ℕ → ℕ → List Answer → List Told
+own_told None e sent = []
+own_told (Some n) e sent = if n == e then map answer_told sent else []
 
 abbrev pub station_told : Sight → ℕ → List Event → List (List Told)
 station_told s e [] = []
-station_told s e (event ∷ events) = unless (fault_of s event) [] (own_sends (station_of event) e (happens s event).sends) ∷ station_told (sight_after s event) e events
+station_told s e (event ∷ events) = unless (event_fault s event) [] (own_told (station_of event) e (happens s event).sent) ∷ station_told (sight_after s event) e events
 
 -- nothing at each event
 abbrev pub silence : List Event → List (List Told)
@@ -118,20 +118,20 @@ silence (event ∷ events) = [] ∷ silence events
 -- ---- the owners of an output, in their order
 
 -- stations by number, then strangers by id, that is by station and number there, then subscribers by slot
-abbrev pub Reaches : Owner → Owner → Type 0
-Reaches (Station a) (Station b) = a ≤ b
-Reaches (Station a) (Stranger b) = Unit {0}
-Reaches (Station a) (Subscriber b) = Unit {0}
-Reaches (Stranger a) (Station b) = ⊥
-Reaches (Stranger a) (Stranger b) = a ≤ b
-Reaches (Stranger a) (Subscriber b) = Unit {0}
-Reaches (Subscriber a) (Station b) = ⊥
-Reaches (Subscriber a) (Stranger b) = ⊥
-Reaches (Subscriber a) (Subscriber b) = a ≤ b
+abbrev pub IsNotBehind : Owner → Owner → Type 0
+IsNotBehind (Station a) (Station b) = a ≤ b
+IsNotBehind (Station a) (Stranger b) = Unit {0}
+IsNotBehind (Station a) (Subscriber b) = Unit {0}
+IsNotBehind (Stranger a) (Station b) = ⊥
+IsNotBehind (Stranger a) (Stranger b) = a ≤ b
+IsNotBehind (Stranger a) (Subscriber b) = Unit {0}
+IsNotBehind (Subscriber a) (Station b) = ⊥
+IsNotBehind (Subscriber a) (Stranger b) = ⊥
+IsNotBehind (Subscriber a) (Subscriber b) = a ≤ b
 
 abbrev pub AllFrom : Owner → List Out → Type 0
 AllFrom owner [] = Unit {0}
-AllFrom owner (o ∷ os) = Reaches owner o.owner × AllFrom owner os
+AllFrom owner (o ∷ os) = IsNotBehind owner o.owner × AllFrom owner os
 
 abbrev pub AreInOrder : List Out → Type 0
 AreInOrder [] = Unit {0}
@@ -153,7 +153,7 @@ own_state (Some n) e state after = if n == e then after else state
 abbrev pub station_run : Sight → ℕ → StationState → List Event → StationState
 station_run s e state [] = state
 station_run s e state (event ∷ events) =
-    station_run (sight_after s event) e (unless (fault_of s event) state (own_state (station_of event) e state (happens s event).state)) events
+    station_run (sight_after s event) e (unless (event_fault s event) state (own_state (station_of event) e state (happens s event).state)) events
 
 -- the states of a slot that is provisioned
 abbrev pub states_at : ℕ → World → Option States

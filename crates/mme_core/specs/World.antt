@@ -12,7 +12,7 @@ use Rattle.mme_vocabulary.specs.declared.stations.StationState.TheVariants.{Down
 use Rattle.mme_vocabulary.specs.Stations.{no_stations, station_at}
 use Rattle.mme_vocabulary.specs.Events.{Item, Nothing, Tick, Data, Cancel}
 use Rattle.emm_machine.specs.Steps.{solo_step}
-use Rattle.emm_machine.specs.Whole.{Whole}
+use Rattle.emm_machine.specs.SubscriberView.{SubscriberView}
 use Rattle.emm_machine.specs.Words.{fresh_solo}
 use Rattle.stranger_machine.specs.declared.state.Stranger.{Stranger}
 use Rattle.stranger_machine.specs.declared.table.Known.{Known}
@@ -51,13 +51,13 @@ if_known None = Some UnknownImsi
 if_known (Some slot) = None
 
 -- the fault of an event, want of memory apart
-abbrev pub fault_of : Sight → Event → Option StepFault
-fault_of s (UpEvent e) = if_down (station_at s.stations e) None (Some AlreadyUp)
-fault_of s (LostEvent e) = if_down (station_at s.stations e) (Some NotUp) None
-fault_of s (InEvent e octets) = if_down (station_at s.stations e) (Some NotUp) None
-fault_of s TickEvent = if nat_lt s.clock (2 ^ 62) then None else Some ClockSpent
-fault_of s (DataEvent imsi) = if_known (slot_of_imsi imsi s.profiles)
-fault_of s (CancelEvent imsi) = if_known (slot_of_imsi imsi s.profiles)
+abbrev pub event_fault : Sight → Event → Option StepFault
+event_fault s (UpEvent e) = if_down (station_at s.stations e) None (Some AlreadyUp)
+event_fault s (LostEvent e) = if_down (station_at s.stations e) (Some NotUp) None
+event_fault s (InEvent e octets) = if_down (station_at s.stations e) (Some NotUp) None
+event_fault s TickEvent = if nat_lt s.clock (2 ^ 62) then None else Some ClockSpent
+event_fault s (DataEvent imsi) = if_known (slot_of_imsi imsi s.profiles)
+event_fault s (CancelEvent imsi) = if_known (slot_of_imsi imsi s.profiles)
 
 -- ---- what an event that is not refused makes of the station that it is of, and whom it calls
 
@@ -70,18 +70,18 @@ station_of TickEvent = None
 station_of (DataEvent imsi) = None
 station_of (CancelEvent imsi) = None
 
-abbrev pub one_if : Option ℕ → Item → Calls
-one_if None item = NoOne
-one_if (Some slot) item = One slot item
+abbrev pub calls_if_known : Option ℕ → Item → Calls
+calls_if_known None item = NoOne
+calls_if_known (Some slot) item = One slot item
 
 -- where an event is of no station, the state that is named here is no station's
 unfoldable pub happens : Sight → Event → Outcome
 happens s (UpEvent e) = answered Up []
 happens s (LostEvent e) = begins_anew e Down []
 happens s (InEvent e octets) = outcome_of s.config.network s.profiles e (station_at s.stations e) (decoded octets.now)
-happens s TickEvent = record { state = Down; sends = []; reach = Each notices.Tick; calls = Everyone Tick }
-happens s (DataEvent imsi) = calling Down (one_if (slot_of_imsi imsi s.profiles) (Data s.stations))
-happens s (CancelEvent imsi) = calling Down (one_if (slot_of_imsi imsi s.profiles) Cancel)
+happens s TickEvent = record { state = Down; sent = []; reach = Each notices.Tick; calls = Everyone Tick }
+happens s (DataEvent imsi) = calling Down (calls_if_known (slot_of_imsi imsi s.profiles) (Data s.stations))
+happens s (CancelEvent imsi) = calling Down (calls_if_known (slot_of_imsi imsi s.profiles) Cancel)
 
 abbrev pub clock_after : ℕ → Event → ℕ
 clock_after clock (UpEvent e) = clock
@@ -105,7 +105,7 @@ sight_moved s event = record {
 
 -- the clock and the stations after an event
 abbrev pub sight_after : Sight → Event → Sight
-sight_after s event = unless (fault_of s event) s (sight_moved s event)
+sight_after s event = unless (event_fault s event) s (sight_moved s event)
 
 abbrev pub sight_run : Sight → List Event → Sight
 sight_run s [] = s
@@ -133,16 +133,16 @@ called NoOne slot = Nothing
 called (One n item) slot = if n == slot then item else Nothing
 called (Everyone item) slot = item
 
-abbrev pub whole_step : Whole → Item → Draft
-whole_step w item = solo_step w.setting w.solo item
+abbrev pub subscriber_step : SubscriberView → Item → Draft
+subscriber_step w item = solo_step w.setting w.solo item
 
-abbrev pub whole_after : Whole → Item → Whole
-whole_after w item = record { setting = w.setting; solo = (whole_step w item).solo }
+abbrev pub subscriber_after : SubscriberView → Item → SubscriberView
+subscriber_after w item = record { setting = w.setting; solo = (subscriber_step w item).solo }
 
 -- each subscriber after its own item, from slot n on
-abbrev pub each_after : (ℕ → Item) → ℕ → List Whole → List Whole
+abbrev pub each_after : (ℕ → Item) → ℕ → List SubscriberView → List SubscriberView
 each_after items n [] = []
-each_after items n (w ∷ ws) = whole_after w (items n) ∷ each_after items (n + 1) ws
+each_after items n (w ∷ ws) = subscriber_after w (items n) ∷ each_after items (n + 1) ws
 
 abbrev pub owner_out : Owner → Answer → Out
 owner_out owner a = record { owner = owner; station = a.station; octets = a.octets }
@@ -151,12 +151,12 @@ abbrev pub slot_out : ℕ → Answer → Out
 slot_out slot a = owner_out (Subscriber slot) a
 
 -- what each subscriber sends at its own item, by slot
-abbrev pub each_sends : (ℕ → Item) → ℕ → List Whole → List Out
-each_sends items n [] = []
-each_sends items n (w ∷ ws) = map (slot_out n) (whole_step w (items n)).sent ++ each_sends items (n + 1) ws
+abbrev pub each_sent : (ℕ → Item) → ℕ → List SubscriberView → List Out
+each_sent items n [] = []
+each_sent items n (w ∷ ws) = map (slot_out n) (subscriber_step w (items n)).sent ++ each_sent items (n + 1) ws
 
 -- subscribers who were never seen, from a slot on
-abbrev pub fresh_subscribers : Network → ℕ → List Profile → List (List Vector) → List Whole
+abbrev pub fresh_subscribers : Network → ℕ → List Profile → List (List Vector) → List SubscriberView
 fresh_subscribers n slot [] vectors = []
 fresh_subscribers n slot (p ∷ ps) vectors =
     record { setting = record { network = n; slot = slot; profile = p; vectors = vectors_at slot vectors }; solo = fresh_solo } ∷ fresh_subscribers n (slot + 1) ps vectors
@@ -171,17 +171,17 @@ abbrev pub each_known : Notice → List Known → List Out
 each_known notice [] = []
 each_known notice (k ∷ ks) = map (stranger_out k.id) (notes k.id (Some k.stranger) notice).sent ++ each_known notice ks
 
-abbrev pub strangers_send : List Profile → Reach → List Known → List Out
-strangers_send ps Nobody ks = []
-strangers_send ps (table.One id input) ks = map (stranger_out id) (stranger_step ps id (stranger_at id ks) input).sent
-strangers_send ps (Each notice) ks = each_known notice ks
+abbrev pub strangers_sent : List Profile → Reach → List Known → List Out
+strangers_sent ps Nobody ks = []
+strangers_sent ps (table.One id input) ks = map (stranger_out id) (stranger_step ps id (stranger_at id ks) input).sent
+strangers_sent ps (Each notice) ks = each_known notice ks
 
 -- ---- the MME
 
 pub record World : Type 0 where
   pub sight : Sight
   pub strangers : List Known
-  pub subscribers : List Whole
+  pub subscribers : List SubscriberView
 
 abbrev pub fresh_world : Config → Provisioned → World
 fresh_world config p = record {
@@ -198,8 +198,8 @@ strangers_in w id = stranger_at id w.strangers
 abbrev pub items_of : Sight → (ℕ → Option Stranger) → Event → ℕ → Item
 items_of s g event = called (calls_by (happens s event).reach (happens s event).calls s.profiles g)
 
-abbrev pub moved : World → Event → World
-moved w event = record {
+abbrev pub world_moved : World → Event → World
+world_moved w event = record {
   sight = sight_moved w.sight event;
   strangers = reached w.sight.profiles (happens w.sight event).reach w.strangers;
   subscribers = each_after (items_of w.sight (strangers_in w) event) 0 w.subscribers;
@@ -207,7 +207,7 @@ moved w event = record {
 
 -- the MME after an event
 abbrev pub world_after : World → Event → World
-world_after w event = unless (fault_of w.sight event) w (moved w event)
+world_after w event = unless (event_fault w.sight event) w (world_moved w event)
 
 abbrev pub world_run : World → List Event → World
 world_run w [] = w
@@ -218,15 +218,15 @@ world_run w (event ∷ events) = world_run (world_after w event) events
 abbrev pub station_out : ℕ → Answer → Out
 station_out e a = owner_out (Station e) a
 
-abbrev pub station_sends : Option ℕ → List Answer → List Out
-station_sends None sends = []
-station_sends (Some e) sends = map (station_out e) sends
+abbrev pub station_sent : Option ℕ → List Answer → List Out
+station_sent None sent = []
+station_sent (Some e) sent = map (station_out e) sent
 
 abbrev pub outputs : World → Event → List Out
 outputs w event =
-    station_sends (station_of event) (happens w.sight event).sends
-    ++ (strangers_send w.sight.profiles (happens w.sight event).reach w.strangers
-    ++ each_sends (items_of w.sight (strangers_in w) event) 0 w.subscribers)
+    station_sent (station_of event) (happens w.sight event).sent
+    ++ (strangers_sent w.sight.profiles (happens w.sight event).reach w.strangers
+    ++ each_sent (items_of w.sight (strangers_in w) event) 0 w.subscribers)
 
 abbrev pub reply_of : Option StepFault → List Out → Result (List Out) StepFault
 reply_of None outs = Ok outs
@@ -234,7 +234,7 @@ reply_of (Some fault) outs = Err fault
 
 -- the whole output of an event, or its fault
 abbrev pub reply : World → Event → Result (List Out) StepFault
-reply w event = reply_of (fault_of w.sight event) (outputs w event)
+reply w event = reply_of (event_fault w.sight event) (outputs w event)
 
 abbrev pub replies : World → List Event → List (Result (List Out) StepFault)
 replies w [] = []
@@ -250,11 +250,11 @@ is_no_memory (Err AlreadyUp) = false
 is_no_memory (Err ClockSpent) = false
 is_no_memory (Err UnknownImsi) = false
 
-abbrev pub taken : List Event → List (Result (List Out) StepFault) → List Event
-taken [] rs = []
-taken (e ∷ es) [] = []
-taken (e ∷ es) (r ∷ rs) = if is_no_memory r then taken es rs else e ∷ taken es rs
+abbrev pub events_taken : List Event → List (Result (List Out) StepFault) → List Event
+events_taken [] rs = []
+events_taken (e ∷ es) [] = []
+events_taken (e ∷ es) (r ∷ rs) = if is_no_memory r then events_taken es rs else e ∷ events_taken es rs
 
-abbrev pub given : List (Result (List Out) StepFault) → List (Result (List Out) StepFault)
-given [] = []
-given (r ∷ rs) = if is_no_memory r then given rs else r ∷ given rs
+abbrev pub replies_given : List (Result (List Out) StepFault) → List (Result (List Out) StepFault)
+replies_given [] = []
+replies_given (r ∷ rs) = if is_no_memory r then replies_given rs else r ∷ replies_given rs

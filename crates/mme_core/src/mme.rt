@@ -3,7 +3,7 @@
 ghost use Rattle.std.specs.Prelude.{◌≡◌, ◌≢◌, ◌<◌, ◌++◌, ℕ, length, slice_get, IfOk, IfErr, IsOk, OnOk, OnErr, Ok, Err, Some, None};
 ghost use Rattle.identity_slots.specs.Provisioned.{slot_of_imsi};
 ghost use Rattle.mme_vocabulary.specs.Stations.{station_at};
-ghost use Rattle.emm_machine.specs.Whole.{Whole};
+ghost use Rattle.emm_machine.specs.SubscriberView.{SubscriberView};
 ghost use Rattle.ordered_lists.specs.Ordered.{Rising};
 ghost use Rattle.stranger_machine.specs.Table.{known_id, reached, stranger_at};
 ghost use Rattle.mme_core.specs.declared.event.Event.TheVariants as events;
@@ -13,7 +13,7 @@ ghost use Rattle.mme_routing.specs.Seen.{calls_of, reach_of};
 ghost use Rattle.mme_core.specs.Settled.{IsFor, changed, settled};
 ghost use Rattle.mme_core.specs.Ready.{ready_world};
 ghost use Rattle.mme_core.specs.Short.{AreShort};
-ghost use Rattle.mme_core.specs.World.{called, calls_by, each_after, each_sends, fresh_world, given, replies, reply, station_sends, strangers_in, strangers_send, taken, world_after, world_run};
+ghost use Rattle.mme_core.specs.World.{called, calls_by, each_after, each_sent, fresh_world, replies_given, replies, reply, station_sent, strangers_in, strangers_sent, events_taken, world_after, world_run};
 
 use crate::changes::{Change, Prepared, Turned};
 use crate::config::Config;
@@ -138,7 +138,7 @@ impl Mme {
                 self.conclude(ready)
             }
             Event::In(station, octets) => {
-                let ready = self.hear(station, octets);
+                let ready = self.take_in(station, octets);
                 self.conclude(ready)
             }
             Event::Tick => {
@@ -161,21 +161,21 @@ impl Mme {
     /// list holds, and nothing else is sent; and each is in the state of its machine.
     pub fn run(&mut self, events: &[Event]) -> Result<Vec<Result<Outs, StepFault>>, AllocError>
         ensures count { IfOk result (λ rs. length rs.items ≡ length events.now) }
-        ensures replies { IfOk result (λ rs. given rs.items ≡ replies self.old (taken events.now rs.items)) }
-        ensures after { IfOk result (λ rs. self.new ≡ world_run self.old (taken events.now rs.items)) }
-        ensures told { IfOk result (λ rs. (slot : ℕ) (w : Whole) → slice_get self.old.subscribers slot ≡ Some w →
-            told (is_slot slot) (given rs.items) ≡ subscriber_told w (projection slot self.old.sight (strangers_in self.old) (taken events.now rs.items))) }
-        ensures states { IfOk result (λ rs. (slot : ℕ) (w : Whole) → slice_get self.old.subscribers slot ≡ Some w →
-            slice_get self.new.subscribers slot ≡ Some (alone_after w (projection slot self.old.sight (strangers_in self.old) (taken events.now rs.items)))) }
+        ensures replies { IfOk result (λ rs. replies_given rs.items ≡ replies self.old (events_taken events.now rs.items)) }
+        ensures after { IfOk result (λ rs. self.new ≡ world_run self.old (events_taken events.now rs.items)) }
+        ensures told { IfOk result (λ rs. (slot : ℕ) (w : SubscriberView) → slice_get self.old.subscribers slot ≡ Some w →
+            told (is_slot slot) (replies_given rs.items) ≡ subscriber_told w (projection slot self.old.sight (strangers_in self.old) (events_taken events.now rs.items))) }
+        ensures states { IfOk result (λ rs. (slot : ℕ) (w : SubscriberView) → slice_get self.old.subscribers slot ≡ Some w →
+            slice_get self.new.subscribers slot ≡ Some (alone_after w (projection slot self.old.sight (strangers_in self.old) (events_taken events.now rs.items)))) }
         ensures absent { IfOk result (λ rs. (slot : ℕ) → slice_get self.old.subscribers slot ≡ None →
-            told (is_slot slot) (given rs.items) ≡ silence (taken events.now rs.items)) }
+            told (is_slot slot) (replies_given rs.items) ≡ silence (events_taken events.now rs.items)) }
         ensures strangers { IfOk result (λ rs. (id : ℕ) →
-            told (is_stranger id) (given rs.items) ≡ stranger_told self.old.sight id (stranger_at id self.old.strangers) (taken events.now rs.items)) }
+            told (is_stranger id) (replies_given rs.items) ≡ stranger_told self.old.sight id (stranger_at id self.old.strangers) (events_taken events.now rs.items)) }
         ensures stranger_states { IfOk result (λ rs. (id : ℕ) →
-            stranger_at id self.new.strangers ≡ stranger_run self.old.sight id (stranger_at id self.old.strangers) (taken events.now rs.items)) }
-        ensures stations { IfOk result (λ rs. (e : ℕ) → told (is_station e) (given rs.items) ≡ station_told self.old.sight e (taken events.now rs.items)) }
+            stranger_at id self.new.strangers ≡ stranger_run self.old.sight id (stranger_at id self.old.strangers) (events_taken events.now rs.items)) }
+        ensures stations { IfOk result (λ rs. (e : ℕ) → told (is_station e) (replies_given rs.items) ≡ station_told self.old.sight e (events_taken events.now rs.items)) }
         ensures station_states { IfOk result (λ rs. (e : ℕ) → e < 128 →
-            station_at self.new.sight.stations e ≡ station_run self.old.sight e (station_at self.old.sight.stations e) (taken events.now rs.items)) }
+            station_at self.new.sight.stations e ≡ station_run self.old.sight e (station_at self.old.sight.stations e) (events_taken events.now rs.items)) }
         ensures order { IfOk result (λ rs. AllInOrder rs.items) }
         ensures err { OnErr result (self.new ≡ self.old) }
     {
@@ -209,8 +209,8 @@ impl Mme {
             state: Some(StationState::Up),
             clock: self.clock,
         };
-        let says = Answers::new(self.alloc);
-        self.ready(moves, &says, &summoned.reach, &summoned.calls)
+        let sent = Answers::new(self.alloc);
+        self.ready(moves, &sent, &summoned.reach, &summoned.calls)
     }
 
     // A station's connection is lost.
@@ -234,12 +234,12 @@ impl Mme {
             state: Some(StationState::Down),
             clock: self.clock,
         };
-        let says = Answers::new(self.alloc);
-        self.ready(moves, &says, &summoned.reach, &summoned.calls)
+        let sent = Answers::new(self.alloc);
+        self.ready(moves, &sent, &summoned.reach, &summoned.calls)
     }
 
     // A station sends a message.
-    fn hear(&self, station: StationNumber, octets: &[u8]) -> Result<Ready, StepFault>
+    fn take_in(&self, station: StationNumber, octets: &[u8]) -> Result<Ready, StepFault>
         ensures reply { IfOk result (λ r. reply self.now (events.In station octets.entry) ≡ Ok r.outs) }
         ensures after { IfOk result (λ r. ready_world r self.now ≡ world_after self.now (events.In station octets.entry)) }
         ensures fits { IfOk result (λ r. IsFor r.prepared self.now.subscribers) }
@@ -253,7 +253,7 @@ impl Mme {
         }
         let Outcome {
             state,
-            says,
+            sent,
             reach,
             calls,
         } = outcome_of(
@@ -270,7 +270,7 @@ impl Mme {
             state,
             clock: self.clock,
         };
-        self.ready(moves, &says, &summoned.reach, &summoned.calls)
+        self.ready(moves, &sent, &summoned.reach, &summoned.calls)
     }
 
     // A second has passed.
@@ -294,8 +294,8 @@ impl Mme {
             state: None,
             clock: self.clock + 1,
         };
-        let says = Answers::new(self.alloc);
-        self.ready(moves, &says, &summoned.reach, &summoned.calls)
+        let sent = Answers::new(self.alloc);
+        self.ready(moves, &sent, &summoned.reach, &summoned.calls)
     }
 
     // The slot of an IMSI that an event names.
@@ -329,8 +329,8 @@ impl Mme {
             state: None,
             clock: self.clock,
         };
-        let says = Answers::new(self.alloc);
-        self.ready(moves, &says, &summoned.reach, &summoned.calls)
+        let sent = Answers::new(self.alloc);
+        self.ready(moves, &sent, &summoned.reach, &summoned.calls)
     }
 
     // A subscription is withdrawn.
@@ -352,21 +352,21 @@ impl Mme {
             state: None,
             clock: self.clock,
         };
-        let says = Answers::new(self.alloc);
-        self.ready(moves, &says, &summoned.reach, &summoned.calls)
+        let sent = Answers::new(self.alloc);
+        self.ready(moves, &sent, &summoned.reach, &summoned.calls)
     }
 
     // What an event leads to, on copies.
     fn ready<'a>(
         &'a self,
         moves: Moves,
-        says: &Answers,
+        sent: &Answers,
         reach: &Reach<'a>,
         calls: &Calls<'a>,
     ) -> Result<Ready, StepFault>
-        ensures sent { IfOk result (λ r. r.outs ≡ station_sends moves.station says.now
-            ++ (strangers_send self.entry.now.sight.profiles (reach_of reach.now) self.entry.now.strangers
-            ++ each_sends (called (calls_by (reach_of reach.now) (calls_of calls.now self.entry.now.sight.stations) self.entry.now.sight.profiles (strangers_in self.entry.now))) 0 self.entry.now.subscribers)) }
+        ensures sent { IfOk result (λ r. r.outs ≡ station_sent moves.station sent.now
+            ++ (strangers_sent self.entry.now.sight.profiles (reach_of reach.now) self.entry.now.strangers
+            ++ each_sent (called (calls_by (reach_of reach.now) (calls_of calls.now self.entry.now.sight.stations) self.entry.now.sight.profiles (strangers_in self.entry.now))) 0 self.entry.now.subscribers)) }
         ensures strangers { IfOk result (λ r. changed r.change self.entry.now.strangers ≡ reached self.entry.now.sight.profiles (reach_of reach.now) self.entry.now.strangers) }
         ensures subscribers { IfOk result (λ r. settled r.prepared self.entry.now.subscribers
             ≡ each_after (called (calls_by (reach_of reach.now) (calls_of calls.now self.entry.now.sight.stations) self.entry.now.sight.profiles (strangers_in self.entry.now))) 0 self.entry.now.subscribers) }
@@ -376,7 +376,7 @@ impl Mme {
         ensures order { IfOk result (λ r. AreInOrder r.outs) }
         ensures memory { IfErr result (λ fault. fault ≡ NoMemory) }
     {
-        let mut outs = station_outs(self.alloc, moves.station, says)?;
+        let mut outs = station_outs(self.alloc, moves.station, sent)?;
         let (provision, strangers) = (&self.provision, &self.strangers);
         let turned = turn(self.alloc, provision, strangers, reach, &mut outs)?;
         let prepared = prepare_called(

@@ -8,7 +8,7 @@ ghost use Rattle.stranger_machine.specs.Turns.{call_of};
 ghost use Rattle.mme_routing.specs.Seen.{calls_of, reach_of};
 ghost use Rattle.mme_core.specs.Settled.{IsFor, changed, settled, stepped_from};
 ghost use Rattle.mme_routing.specs.Outcomes.{Everyone, One};
-ghost use Rattle.mme_core.specs.World.{called, each_after, each_sends, reach_call, slot_out, strangers_send, with_call, whole_step};
+ghost use Rattle.mme_core.specs.World.{called, each_after, each_sent, reach_call, slot_out, strangers_sent, with_call, subscriber_step};
 
 use crate::changes::{Change, Prepared, Stepped, Turned};
 use crate::out::{Outs, Owner};
@@ -20,7 +20,7 @@ use identity_slots::{Provision, Slot};
 use mme_routing::{Calls, Reach};
 use mme_vocabulary::{EnbWorld, SoloEvent};
 use std::alloc::{AllocError, Global};
-use stranger_machine::{Call, Strangers, Turn, begins, told};
+use stranger_machine::{Call, Strangers, Turn, begins, receives};
 
 /// What strangers do at an event, with what they send behind what is sent so far, and whom they call.
 pub(crate) fn turn<'a>(
@@ -30,7 +30,7 @@ pub(crate) fn turn<'a>(
     reach: &Reach<'a>,
     outs: &mut Outs,
 ) -> Result<Turned<'a>, AllocError>
-    ensures sends { OnOk result (outs.new ≡ outs.old ++ strangers_send provision.now.profiles (reach_of reach.now) strangers.entry.now) }
+    ensures sends { OnOk result (outs.new ≡ outs.old ++ strangers_sent provision.now.profiles (reach_of reach.now) strangers.entry.now) }
     ensures change { IfOk result (λ t. changed t.change strangers.entry.now ≡ reached provision.now.profiles (reach_of reach.now) strangers.entry.now) }
     ensures call { IfOk result (λ t. (stations : List StationState) → call_of stations t.call ≡ reach_call provision.now.profiles (reach_of reach.now) (λ id. stranger_at id strangers.entry.now)) }
 {
@@ -47,9 +47,14 @@ pub(crate) fn turn<'a>(
                 call,
             })
         }
-        Reach::Told(message) => {
+        Reach::Receives(message) => {
             let id = message.mme_id;
-            let Turn { after, sent, call } = told(alloc, provision, strangers.find(id), message)?;
+            let Turn { after, sent, call } = receives(
+                alloc,
+                provision,
+                strangers.find(id),
+                message,
+            )?;
             send_all(alloc, outs, Owner::Stranger(id), &sent)?;
             Ok(Turned {
                 change: Change::One(id, after),
@@ -75,8 +80,8 @@ fn prepare_step(
     stations: &EnbWorld,
     outs: &mut Outs,
 ) -> Result<Solo, AllocError>
-    ensures after { IfOk result (λ s. s ≡ (whole_step subscriber.now (item_of event.now stations.now)).solo) }
-    ensures sends { OnOk result (outs.new ≡ outs.old ++ map (slot_out slot) (whole_step subscriber.now (item_of event.now stations.now)).sent) }
+    ensures after { IfOk result (λ s. s ≡ (subscriber_step subscriber.now (item_of event.now stations.now)).solo) }
+    ensures sends { OnOk result (outs.new ≡ outs.old ++ map (slot_out slot) (subscriber_step subscriber.now (item_of event.now stations.now)).sent) }
 {
     let Draft {
         solo,
@@ -97,7 +102,7 @@ fn prepare_everyone(
 ) -> Result<Vec<Stepped>, AllocError>
     requires { length subscribers.now ≤ 2048 }
     ensures stepped { IfOk result (λ xs. xs.items ≡ stepped_from (item_of event.now stations.now) 0 subscribers.now) }
-    ensures sends { OnOk result (outs.new ≡ outs.old ++ each_sends (called (Everyone (item_of event.now stations.now))) 0 subscribers.now) }
+    ensures sends { OnOk result (outs.new ≡ outs.old ++ each_sent (called (Everyone (item_of event.now stations.now))) 0 subscribers.now) }
 {
     let mut stepped = Vec::new(alloc);
     for (place, subscriber) in subscribers.iter().enumerate() {
@@ -122,7 +127,7 @@ fn prepare_one(
 ) -> Result<Prepared, AllocError>
     ensures after { IfOk result (λ p. settled p subscribers.now ≡ each_after (called (One slot (item_of event.now stations.now))) 0 subscribers.now) }
     ensures fits { IfOk result (λ p. IsFor p subscribers.now) }
-    ensures sends { OnOk result (outs.new ≡ outs.old ++ each_sends (called (One slot (item_of event.now stations.now))) 0 subscribers.now) }
+    ensures sends { OnOk result (outs.new ≡ outs.old ++ each_sent (called (One slot (item_of event.now stations.now))) 0 subscribers.now) }
 {
     let place = slot.get() as usize;
     if place >= subscribers.len() {
@@ -144,7 +149,7 @@ fn prepare(
     requires few { length subscribers.now ≤ 2048 }
     ensures after { IfOk result (λ p. settled p subscribers.now ≡ each_after (called (calls_of calls.now stations.now)) 0 subscribers.now) }
     ensures fits { IfOk result (λ p. IsFor p subscribers.now) }
-    ensures sends { OnOk result (outs.new ≡ outs.old ++ each_sends (called (calls_of calls.now stations.now)) 0 subscribers.now) }
+    ensures sends { OnOk result (outs.new ≡ outs.old ++ each_sent (called (calls_of calls.now stations.now)) 0 subscribers.now) }
 {
     match calls {
         Calls::NoOne => Ok(Prepared::Nobody),
@@ -168,7 +173,7 @@ pub(crate) fn prepare_called(
     requires few { length subscribers.now ≤ 2048 }
     ensures after { IfOk result (λ p. settled p subscribers.now ≡ each_after (called (with_call (call_of stations.now call.now) (calls_of calls.now stations.now))) 0 subscribers.now) }
     ensures fits { IfOk result (λ p. IsFor p subscribers.now) }
-    ensures sends { OnOk result (outs.new ≡ outs.old ++ each_sends (called (with_call (call_of stations.now call.now) (calls_of calls.now stations.now))) 0 subscribers.now) }
+    ensures sends { OnOk result (outs.new ≡ outs.old ++ each_sent (called (with_call (call_of stations.now call.now) (calls_of calls.now stations.now))) 0 subscribers.now) }
 {
     match call {
         Some(call) => {

@@ -1,7 +1,7 @@
 //! What owners send, behind what is sent so far.
 
 ghost use Rattle.std.specs.Prelude.{◌≡◌, ◌++◌, map, IfOk, OnOk};
-ghost use Rattle.mme_core.specs.World.{each_known, owner_out, station_sends};
+ghost use Rattle.mme_core.specs.World.{each_known, owner_out, station_sent};
 
 use crate::out::{Out, Outs, Owner};
 use mme_vocabulary::{Answers, StationNumber};
@@ -31,13 +31,13 @@ pub(crate) fn send_all(
 pub(crate) fn station_outs(
     alloc: Global,
     station: Option<StationNumber>,
-    sends: &Answers,
+    sent: &Answers,
 ) -> Result<Outs, AllocError>
-    ensures { IfOk result (λ outs. outs ≡ station_sends station sends.now) }
+    ensures { IfOk result (λ outs. outs ≡ station_sent station sent.now) }
 {
     let mut outs = Outs::new(alloc);
     if let Some(station) = station {
-        send_all(alloc, &mut outs, Owner::Station(station), sends)?;
+        send_all(alloc, &mut outs, Owner::Station(station), sent)?;
     }
     Ok(outs)
 }

@@ -6,7 +6,7 @@ use Rattle.mme_main.specs.declared.fault.PlayFault.TheVariants.{Trace, Read, Wri
 use Rattle.mme_main.specs.declared.player.Player.{Player}
 use Rattle.mme_main.specs.declared.progress.Progress.TheVariants.{Nothing}
 use Rattle.mme_main.specs.Text.{prepended, play, lines_of, played_of}
-use Rattle.mme_main.specs.Play.{breaks, whole, IsReady, IsPrefix, Takes, Finishes, Tells, Reaches, Plays}
+use Rattle.mme_main.specs.Play.{breaks, played_from, IsReady, IsPrefix, TakesPiece, Finishes, WritesFor, ReadsFarEnough, Plays}
 use Rattle.mme_main.proofs.Known.{Appends-nil, Appends-then, Consumes-nil, Consumes-then, Consumes-keeps, Consumes-same}
 use Rattle.mme_main.proofs.Taken.{breaks-append, prepended-then}
 
@@ -16,7 +16,7 @@ pub record Playing (left_old left_new held_old held_new : Option (List ℕ)) (pl
   pub written : List ℕ
   pub consumed : Consumes left_old left_new read
   pub appended : Appends held_old held_new written
-  pub follows : (more : List ℕ) → played_of (read ++ more) ≡ prepended written (whole player more)
+  pub follows : (more : List ℕ) → played_of (read ++ more) ≡ prepended written (played_from player more)
   pub ready : IsReady player
   pub counted : player.line ≡ 1 + breaks read
 
@@ -37,29 +37,29 @@ module _ (left_old left_mid left_new held_old held_mid held_new : Option (List �
   all_read : List ℕ
   all_read = playing.read ++ piece
 
-  turn_whole : (more : List ℕ) → played_of ((playing.read ++ piece) ++ more) ≡ prepended playing.written (whole player (piece ++ more))
+  turn_whole : (more : List ℕ) → played_of ((playing.read ++ piece) ++ more) ≡ prepended playing.written (played_from player (piece ++ more))
   turn_whole more = ap played_of (append_assoc playing.read piece more) ∙ playing.follows (piece ++ more)
 
-  pub Playing-turn : (new : Player) → Takes player piece (Ok tt) new added → Playing left_old left_new held_old held_new new
+  pub Playing-turn : (new : Player) → TakesPiece player piece (Ok tt) new added → Playing left_old left_new held_old held_new new
   Playing-turn new taken = record {
     read = playing.read ++ piece;
     written = playing.written ++ added;
     consumed = Consumes-then left_old left_mid left_new playing.read piece playing.consumed consumed;
     appended = Appends-then held_old held_mid held_new playing.written added playing.appended appended;
     follows = λ more. turn_whole more ∙ ap (prepended playing.written) (taken.0 more)
-        ∙ prepended-then playing.written added (whole new more);
+        ∙ prepended-then playing.written added (played_from new more);
     ready = taken.1;
     counted = omega (arith, playing.counted, taken.2, breaks-append playing.read piece);
   }
 
-  turn_all : played_of (playing.read ++ piece) ≡ prepended playing.written (whole player (piece ++ []))
+  turn_all : played_of (playing.read ++ piece) ≡ prepended playing.written (played_from player (piece ++ []))
   turn_all = ap played_of (sym (append-nil (playing.read ++ piece))) ∙ turn_whole []
 
-  turn_prefix : IsPrefix added ((whole player (piece ++ [])).text) → IsPrefix (playing.written ++ added) ((played_of (playing.read ++ piece)).text)
+  turn_prefix : IsPrefix added ((played_from player (piece ++ [])).text) → IsPrefix (playing.written ++ added) ((played_of (playing.read ++ piece)).text)
   turn_prefix p =
       (p.0, ap (λ v. v.text) turn_all ∙ ap (λ v. playing.written ++ v) p.1 ∙ sym (append_assoc playing.written added p.0))
 
-  turn_plays : (ended : Bool) (result : Result (Unit {0}) PlayFault) → Tells (playing.read ++ piece) (playing.written ++ added) result → Reaches (playing.read ++ piece) ended result
+  turn_plays : (ended : Bool) (result : Result (Unit {0}) PlayFault) → WritesFor (playing.read ++ piece) (playing.written ++ added) result → ReadsFarEnough (playing.read ++ piece) ended result
       → Plays left_old left_new held_old held_new ended result
   turn_plays ended result told reached = (
     playing.read ++ piece,
@@ -70,7 +70,7 @@ module _ (left_old left_mid left_new held_old held_mid held_new : Option (List �
     reached,
   )
 
-  pub Plays-fault : (new : Player) (ended : Bool) (fault : PlayFault) → Takes player piece (Err fault) new added → Plays left_old left_new held_old held_new ended (Err fault)
+  pub Plays-fault : (new : Player) (ended : Bool) (fault : PlayFault) → TakesPiece player piece (Err fault) new added → Plays left_old left_new held_old held_new ended (Err fault)
   Plays-fault new ended (Trace line fault) t =
       turn_plays ended (Err (Trace line fault)) (turn_all ∙ ap (prepended playing.written) (t.0 []))
       (elim t.1 [ inl h ↦ inr (inr h) | inr h ↦ inr (inl (omega (arith, h, playing.counted, breaks-append playing.read piece))) ])
@@ -93,13 +93,13 @@ Playing-idle left_old left_mid left_new held_old held_new player playing none = 
 
 module _ (left_old left_new held_old held_mid held_new : Option (List ℕ)) (player : Player) (playing : Playing left_old left_new held_old held_mid player)
     (added : List ℕ) (appended : Appends held_mid held_new added) where
-  last_all : played_of playing.read ≡ prepended playing.written (whole player [])
+  last_all : played_of playing.read ≡ prepended playing.written (played_from player [])
   last_all = ap played_of (sym (append-nil playing.read)) ∙ playing.follows []
 
-  last_prefix : IsPrefix added ((whole player []).text) → IsPrefix (playing.written ++ added) ((played_of playing.read).text)
+  last_prefix : IsPrefix added ((played_from player []).text) → IsPrefix (playing.written ++ added) ((played_of playing.read).text)
   last_prefix p = (p.0, ap (λ v. v.text) last_all ∙ ap (λ v. playing.written ++ v) p.1 ∙ sym (append_assoc playing.written added p.0))
 
-  last_plays : (ended : Bool) (result : Result (Unit {0}) PlayFault) → Tells playing.read (playing.written ++ added) result → Reaches playing.read ended result
+  last_plays : (ended : Bool) (result : Result (Unit {0}) PlayFault) → WritesFor playing.read (playing.written ++ added) result → ReadsFarEnough playing.read ended result
       → Plays left_old left_new held_old held_new ended result
   last_plays ended result told reached = (
     playing.read,

@@ -11,8 +11,8 @@ use Rattle.mme_main.specs.declared.fault.PlayFault.TheVariants.{Trace, Read, Wri
 use Rattle.mme_main.specs.declared.player.Player.{Player}
 use Rattle.mme_main.specs.declared.progress.Progress.{Progress}
 use Rattle.mme_main.specs.Effects.{Effect}
-use Rattle.mme_main.specs.Text.{Played, prepended, ends, play, then_play, line_effect, lines_of}
-use Rattle.mme_main.specs.Play.{breaks, whole, IsReady, IsPrefix, Acts, effect_text, Takes, Finishes}
+use Rattle.mme_main.specs.Text.{Played, prepended, played_text, play, then_play, line_effect, lines_of}
+use Rattle.mme_main.specs.Play.{breaks, played_from, IsReady, IsPrefix, Acts, effect_text, TakesPiece, Finishes}
 use Rattle.mme_main.proofs.Fronts.{IsPrefix-of, IsPrefix-after, IsPrefix-more}
 use Rattle.mme_main.proofs.Lines.{lines_of-at, lines_of-front, lines_of-last, lines_of-nil, line_of-long}
 
@@ -57,14 +57,14 @@ pub play-cons : (progress : Progress) (line : ℕ) (text : List ℕ) (texts : Li
 unfolding play
 play-cons progress line text texts = refl
 
-pub play-nil : (progress : Progress) (line : ℕ) → play progress line [] ≡ ends [] None
+pub play-nil : (progress : Progress) (line : ℕ) → play progress line [] ≡ played_text [] None
 unfolding play
 play-nil progress line = refl
 
 pub prepended-then : (a b : List ℕ) (p : Played) → prepended a (prepended b p) ≡ prepended (a ++ b) p
 prepended-then a b p = ap (λ (v : List ℕ). let r : Played = record { text = v; fault = p.fault } in r) (sym (append_assoc a b p.text))
 
-pub prepended-ends : (a : List ℕ) (fault : Option (ℕ × TraceFault)) → prepended a (ends [] fault) ≡ ends a fault
+pub prepended-ends : (a : List ℕ) (fault : Option (ℕ × TraceFault)) → prepended a (played_text [] fault) ≡ played_text a fault
 prepended-ends a fault = ap (λ (v : List ℕ). let r : Played = record { text = v; fault = fault } in r) (append-nil a)
 
 effect_then : (line : ℕ) (effect same : Effect) (rest : Progress → Played) → effect ≡ same → then_play line effect rest ≡ then_play line same rest
@@ -85,7 +85,7 @@ too_long : (progress : Progress) (text : List ℕ) → 40000 < length text → l
 too_long progress text h = rw (line_of-long text h) refl
 
 pub line_too_long : (progress : Progress) (line : ℕ) (front : List ℕ) → breaks front ≡ 0 → 40000 < length front
-    → (more : List ℕ) → play progress line (lines_of (front ++ more)) ≡ ends [] (Some (line, TooLong))
+    → (more : List ℕ) → play progress line (lines_of (front ++ more)) ≡ played_text [] (Some (line, TooLong))
 line_too_long progress line front unbroken long more =
     let cut = lines_of-front front more unbroken (omega arith) in
     let text = front ++ cut.0 in
@@ -96,54 +96,54 @@ line_too_long progress line front unbroken long more =
 
 -- one piece after another
 pub Takes-then : (old mid new : Player) (before after first second : List ℕ) (result : Result (Unit {0}) PlayFault)
-    → Takes old first (Ok tt) mid before → Takes mid second result new after → Takes old (first ++ second) result new (before ++ after)
+    → TakesPiece old first (Ok tt) mid before → TakesPiece mid second result new after → TakesPiece old (first ++ second) result new (before ++ after)
 Takes-then old mid new before after first second (Ok _) p q = (
-  (λ more. ap (whole old) (append_assoc first second more) ∙ p.0 (second ++ more) ∙ ap (prepended before) (q.0 more) ∙ prepended-then before after (whole new more)),
+  (λ more. ap (played_from old) (append_assoc first second more) ∙ p.0 (second ++ more) ∙ ap (prepended before) (q.0 more) ∙ prepended-then before after (played_from new more)),
   q.1,
   omega (arith, p.2, q.2, breaks-append first second),
 )
 Takes-then old mid new before after first second (Err (Trace line fault)) p q = (
-  (λ more. ap (whole old) (append_assoc first second more) ∙ p.0 (second ++ more) ∙ ap (prepended before) (q.0 more)),
+  (λ more. ap (played_from old) (append_assoc first second more) ∙ p.0 (second ++ more) ∙ ap (prepended before) (q.0 more)),
   elim q.1 [ inl h ↦ inl h | inr h ↦ inr (omega (arith, p.2, h, breaks-append first second)) ],
 )
 Takes-then old mid new before after first second (Err NoMemory) p q = λ more.
-    IsPrefix-of (before ++ after) _ _ (sym (ap (λ v. v.text) (ap (whole old) (append_assoc first second more) ∙ p.0 (second ++ more)))) (IsPrefix-after before after _ (q more))
+    IsPrefix-of (before ++ after) _ _ (sym (ap (λ v. v.text) (ap (played_from old) (append_assoc first second more) ∙ p.0 (second ++ more)))) (IsPrefix-after before after _ (q more))
 Takes-then old mid new before after first second (Err Write) p q = λ more.
-    IsPrefix-of (before ++ after) _ _ (sym (ap (λ v. v.text) (ap (whole old) (append_assoc first second more) ∙ p.0 (second ++ more)))) (IsPrefix-after before after _ (q more))
+    IsPrefix-of (before ++ after) _ _ (sym (ap (λ v. v.text) (ap (played_from old) (append_assoc first second more) ∙ p.0 (second ++ more)))) (IsPrefix-after before after _ (q more))
 Takes-then old mid new before after first second (Err Read) p q = absurd q
 
 -- what comes after a fault is not looked at
-pub Takes-stop : (old new : Player) (written first second : List ℕ) (fault : PlayFault) → Takes old first (Err fault) new written → Takes old (first ++ second) (Err fault) new written
+pub Takes-stop : (old new : Player) (written first second : List ℕ) (fault : PlayFault) → TakesPiece old first (Err fault) new written → TakesPiece old (first ++ second) (Err fault) new written
 Takes-stop old new written first second (Trace line fault) p = (
-  (λ more. ap (whole old) (append_assoc first second more) ∙ p.0 (second ++ more)),
+  (λ more. ap (played_from old) (append_assoc first second more) ∙ p.0 (second ++ more)),
   elim p.1 [ inl h ↦ inl h | inr h ↦ inr (omega (arith, h, breaks-append first second)) ],
 )
 Takes-stop old new written first second NoMemory p = λ more.
-    IsPrefix-of written _ _ (sym (ap (λ v. v.text) (ap (whole old) (append_assoc first second more)))) (p (second ++ more))
+    IsPrefix-of written _ _ (sym (ap (λ v. v.text) (ap (played_from old) (append_assoc first second more)))) (p (second ++ more))
 Takes-stop old new written first second Write p = λ more.
-    IsPrefix-of written _ _ (sym (ap (λ v. v.text) (ap (whole old) (append_assoc first second more)))) (p (second ++ more))
+    IsPrefix-of written _ _ (sym (ap (λ v. v.text) (ap (played_from old) (append_assoc first second more)))) (p (second ++ more))
 Takes-stop old new written first second Read p = absurd p
 
-pub Takes-none : (player : Player) → IsReady player → Takes player [] (Ok tt) player []
+pub Takes-none : (player : Player) → IsReady player → TakesPiece player [] (Ok tt) player []
 Takes-none player ready = ((λ more. refl), ready, omega arith)
 
 -- what has been written is a front of what is to be written
-pub Takes-prefix : (old new : Player) (written piece : List ℕ) (result : Result (Unit {0}) PlayFault) → Takes old piece result new written
-    → (more : List ℕ) → IsPrefix written ((whole old (piece ++ more)).text)
-Takes-prefix old new written piece (Ok _) p more = ((whole new more).text, ap (λ v. v.text) (p.0 more))
+pub Takes-prefix : (old new : Player) (written piece : List ℕ) (result : Result (Unit {0}) PlayFault) → TakesPiece old piece result new written
+    → (more : List ℕ) → IsPrefix written ((played_from old (piece ++ more)).text)
+Takes-prefix old new written piece (Ok _) p more = ((played_from new more).text, ap (λ v. v.text) (p.0 more))
 Takes-prefix old new written piece (Err (Trace line fault)) p more = ([], ap (λ v. v.text) (p.0 more) ∙ sym (append-nil written))
 Takes-prefix old new written piece (Err NoMemory) p more = p more
 Takes-prefix old new written piece (Err Write) p more = p more
 Takes-prefix old new written piece (Err Read) p more = absurd p
 
-pub Takes-piece : (old new : Player) (written piece same : List ℕ) (result : Result (Unit {0}) PlayFault) → piece ≡ same → Takes old piece result new written → Takes old same result new written
-Takes-piece old new written piece same result e h = let P : List ℕ → Type 0 = λ v. Takes old v result new written in subst P e h
+pub Takes-piece : (old new : Player) (written piece same : List ℕ) (result : Result (Unit {0}) PlayFault) → piece ≡ same → TakesPiece old piece result new written → TakesPiece old same result new written
+Takes-piece old new written piece same result e h = let P : List ℕ → Type 0 = λ v. TakesPiece old v result new written in subst P e h
 
 -- ---- a line, as a piece
 
 -- a line that is done
 pub Takes-line : (old new : Player) (written : List ℕ) → IsReady old → line_effect old.progress old.pending.items ≡ Ok (new.progress, written)
-    → new.line ≡ old.line + 1 → new.pending.items ≡ [] → Takes old (10 ∷ []) (Ok tt) new written
+    → new.line ≡ old.line + 1 → new.pending.items ≡ [] → TakesPiece old (10 ∷ []) (Ok tt) new written
 Takes-line old new written ready h l p = (
   (λ more. line_played old.progress old.line old.pending.items ready.0 more
       ∙ effect_then old.line (line_effect old.progress old.pending.items) (Ok (new.progress, written)) (λ w. play w (old.line + 1) (lines_of more)) h
@@ -154,14 +154,14 @@ Takes-line old new written ready h l p = (
 )
 
 line-prefix : (old : Player) (written : List ℕ) → IsReady old → IsPrefix written (effect_text (line_effect old.progress old.pending.items))
-    → (more : List ℕ) → IsPrefix written ((whole old (10 ∷ more)).text)
+    → (more : List ℕ) → IsPrefix written ((played_from old (10 ∷ more)).text)
 line-prefix old written ready p more =
     let rest : Progress → Played = λ w. play w (old.line + 1) (lines_of more) in
     IsPrefix-of written _ _ (sym (ap (λ v. v.text) (line_played old.progress old.line old.pending.items ready.0 more)))
     (effect-prefix old.line (line_effect old.progress old.pending.items) rest written p)
 
-ends-at : (line number : ℕ) (written : List ℕ) (fault : TraceFault) → number ≡ line → written ≡ [] → ends [] (Some (line, fault)) ≡ ends written (Some (number, fault))
-ends-at line number written fault n w = sym (ap (λ m. ends written (Some (m, fault))) n ∙ ap (λ v. ends v (Some (line, fault))) w)
+ends-at : (line number : ℕ) (written : List ℕ) (fault : TraceFault) → number ≡ line → written ≡ [] → played_text [] (Some (line, fault)) ≡ played_text written (Some (number, fault))
+ends-at line number written fault n w = sym (ap (λ m. played_text written (Some (m, fault))) n ∙ ap (λ v. played_text v (Some (line, fault))) w)
 
 pub Acts-text : (line : ℕ) (progress new : Progress) (text same written : List ℕ) (result : Result (Unit {0}) PlayFault) → text ≡ same
     → Acts line (line_effect progress text) result new written → Acts line (line_effect progress same) result new written
@@ -169,7 +169,7 @@ Acts-text line progress new text same written result e h = let P : List ℕ → 
 
 -- a line that is not
 pub Takes-line_fault : (old new : Player) (progress : Progress) (written : List ℕ) (fault : PlayFault) → IsReady old
-    → Acts old.line (line_effect old.progress old.pending.items) (Err fault) progress written → Takes old (10 ∷ []) (Err fault) new written
+    → Acts old.line (line_effect old.progress old.pending.items) (Err fault) progress written → TakesPiece old (10 ∷ []) (Err fault) new written
 Takes-line_fault old new progress written (Trace number fault) ready h = (
   (λ more. line_played old.progress old.line old.pending.items ready.0 more
       ∙ effect_then old.line (line_effect old.progress old.pending.items) (Err fault) (λ w. play w (old.line + 1) (lines_of more)) h.0
@@ -188,13 +188,13 @@ octet_joins progress line pending joined octet e more =
     ap (λ v. play progress line (lines_of v)) (sym (append_assoc pending (octet ∷ []) more) ∙ ap (λ v. v ++ more) (sym e))
 
 pub octet_too_many : (progress : Progress) (line : ℕ) (pending : List ℕ) (octet : ℕ) → breaks pending ≡ 0 → octet ≢ 10 → 40000 ≤ length pending
-    → (more : List ℕ) → play progress line (lines_of (pending ++ octet ∷ more)) ≡ ends [] (Some (line, TooLong))
+    → (more : List ℕ) → play progress line (lines_of (pending ++ octet ∷ more)) ≡ played_text [] (Some (line, TooLong))
 octet_too_many progress line pending octet unbroken other long more =
     octet_joins progress line pending (pending ++ octet ∷ []) octet refl more
     ∙ line_too_long progress line (pending ++ octet ∷ []) (unbroken_more pending octet unbroken other) (grind (arith, common_steps)) more
 
 pub Takes-octet : (old new : Player) (octet : ℕ) → IsReady old → octet ≢ 10 → length old.pending.items < 40000
-    → new.progress ≡ old.progress → new.line ≡ old.line → new.pending.items ≡ old.pending.items ++ octet ∷ [] → Takes old (octet ∷ []) (Ok tt) new []
+    → new.progress ≡ old.progress → new.line ≡ old.line → new.pending.items ≡ old.pending.items ++ octet ∷ [] → TakesPiece old (octet ∷ []) (Ok tt) new []
 Takes-octet old new octet ready other short m l p = (
   (λ more. octet_joins old.progress old.line old.pending.items new.pending.items octet p more
       ∙ ap (λ w. play w old.line (lines_of (new.pending.items ++ more))) (sym m)
@@ -206,24 +206,24 @@ Takes-octet old new octet ready other short m l p = (
 -- ---- the end
 
 -- nothing more comes
-pub whole-end : (player : Player) → player.pending.items ≡ [] → whole player [] ≡ ends [] None
+pub whole-end : (player : Player) → player.pending.items ≡ [] → played_from player [] ≡ played_text [] None
 whole-end player e =
     ap (λ v. play player.progress player.line (lines_of (v ++ []))) e ∙ ap (play player.progress player.line) lines_of-nil ∙ play-nil player.progress player.line
 
 -- a last line is played as one that has its LF
-whole-last : (player : Player) → IsReady player → 0 < length player.pending.items → whole player [] ≡ whole player (10 ∷ [])
+whole-last : (player : Player) → IsReady player → 0 < length player.pending.items → played_from player [] ≡ played_from player (10 ∷ [])
 whole-last player ready some =
     ap (play player.progress player.line) (ap lines_of (append-nil player.pending.items) ∙ lines_of-last player.pending.items ready.0 some)
 
 pub Finishes-from_line : (old new : Player) (written : List ℕ) (result : Result (Unit {0}) PlayFault) → IsReady old → 0 < length old.pending.items
-    → Takes old (10 ∷ []) result new written → OnOk result (new.pending.items ≡ []) → Finishes old result written
+    → TakesPiece old (10 ∷ []) result new written → OnOk result (new.pending.items ≡ []) → Finishes old result written
 Finishes-from_line old new written (Ok _) ready some p e = whole-last old ready some ∙ p.0 [] ∙ ap (prepended written) (whole-end new e) ∙ prepended-ends written None
 Finishes-from_line old new written (Err (Trace line fault)) ready some p e = whole-last old ready some ∙ p.0 []
 Finishes-from_line old new written (Err NoMemory) ready some p e = IsPrefix-of written _ _ (sym (ap (λ v. v.text) (whole-last old ready some))) (p [])
 Finishes-from_line old new written (Err Write) ready some p e = IsPrefix-of written _ _ (sym (ap (λ v. v.text) (whole-last old ready some))) (p [])
 Finishes-from_line old new written (Err Read) ready some p e = absurd p
 
-pub Finishes-prefix : (old : Player) (written : List ℕ) (result : Result (Unit {0}) PlayFault) → Finishes old result written → IsPrefix written ((whole old []).text)
+pub Finishes-prefix : (old : Player) (written : List ℕ) (result : Result (Unit {0}) PlayFault) → Finishes old result written → IsPrefix written ((played_from old []).text)
 Finishes-prefix old written (Ok _) p = ([], ap (λ v. v.text) p ∙ sym (append-nil written))
 Finishes-prefix old written (Err (Trace line fault)) p = ([], ap (λ v. v.text) p ∙ sym (append-nil written))
 Finishes-prefix old written (Err NoMemory) p = p

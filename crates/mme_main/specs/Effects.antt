@@ -38,20 +38,20 @@ config_of line = record {
 abbrev pub nobody : Provisioned
 nobody = record { profiles = []; vectors = [] }
 
-abbrev pub started : Progress → MmeLine → Effect
-started Nothing line = Ok (Provisioning (config_of line) nobody, [])
-started (Provisioning config provisioned) line = Err Order
-started (Running world) line = Err Order
+abbrev pub configured : Progress → MmeLine → Effect
+configured Nothing line = Ok (Provisioning (config_of line) nobody, [])
+configured (Provisioning config provisioned) line = Err Order
+configured (Running world) line = Err Order
 
 -- a subscriber more, unless that is refused
 abbrev pub with_subscriber : Config → Provisioned → Profile → Option ProvisionFault → Effect
 with_subscriber config provisioned profile None = Ok (Provisioning config (with_profile profile provisioned), [])
 with_subscriber config provisioned profile (Some fault) = Err Provision
 
-abbrev pub added : Progress → Profile → Effect
-added Nothing profile = Err Order
-added (Provisioning config provisioned) profile = with_subscriber config provisioned profile (add_fault profile provisioned.profiles)
-added (Running world) profile = Err Order
+abbrev pub subscriber_added : Progress → Profile → Effect
+subscriber_added Nothing profile = Err Order
+subscriber_added (Provisioning config provisioned) profile = with_subscriber config provisioned profile (add_fault profile provisioned.profiles)
+subscriber_added (Running world) profile = Err Order
 
 -- a vector more for the subscriber of this slot, who has 64 at most
 abbrev pub with_vector_at : Config → Provisioned → Vector → Option ℕ → Effect
@@ -60,10 +60,10 @@ with_vector_at config provisioned vector (Some slot) =
     if nat_le 64 (length (vectors_at slot provisioned.vectors)) then Err Provision
     else Ok (Provisioning config (with_vector slot vector provisioned), [])
 
-abbrev pub given : Progress → List ℕ → Vector → Effect
-given Nothing imsi vector = Err Order
-given (Provisioning config provisioned) imsi vector = with_vector_at config provisioned vector (slot_of_imsi imsi provisioned.profiles)
-given (Running world) imsi vector = Err Order
+abbrev pub vector_given : Progress → List ℕ → Vector → Effect
+vector_given Nothing imsi vector = Err Order
+vector_given (Provisioning config provisioned) imsi vector = with_vector_at config provisioned vector (slot_of_imsi imsi provisioned.profiles)
+vector_given (Running world) imsi vector = Err Order
 
 -- ---- events
 
@@ -81,18 +81,18 @@ abbrev pub left_by : World → Event → Result (List Out) StepFault → World
 left_by world event (Ok outs) = world_after world event
 left_by world event (Err fault) = world
 
-abbrev pub answered : World → Event → World × List ℕ
-answered world event = (left_by world event (reply world event), reply_text (reply world event))
+abbrev pub event_played : World → Event → World × List ℕ
+event_played world event = (left_by world event (reply world event), reply_text (reply world event))
 
 abbrev pub happened : Progress → Event → Effect
-happened progress event = running progress >>= (λ world. left (answered world event))
+happened progress event = running progress >>= (λ world. left (event_played world event))
 
-abbrev pub said : List ℕ → World × List ℕ → World × List ℕ
-said text done = (done.0, text ++ done.1)
+abbrev pub with_text_before : List ℕ → World × List ℕ → World × List ℕ
+with_text_before text done = (done.0, text ++ done.1)
 
 -- one tick, and then the others unless it is refused
 abbrev pub tick_then : World → Result (List Out) StepFault → (World → World × List ℕ) → World × List ℕ
-tick_then world (Ok outs) others = said (reply_text (Ok outs)) (others (world_after world event.Tick))
+tick_then world (Ok outs) others = with_text_before (reply_text (Ok outs)) (others (world_after world event.Tick))
 tick_then world (Err fault) others = (world, reply_text (Err fault))
 
 -- so many ticks, up to the first that is refused
@@ -100,8 +100,8 @@ unfoldable pub ticked : ℕ → World → World × List ℕ
 ticked zero world = (world, [])
 ticked (suc n) world = tick_then world (reply world event.Tick) (λ after. ticked n after)
 
-abbrev pub passed : Progress → ℕ → Effect
-passed progress n = running progress >>= (λ world. left (ticked n world))
+abbrev pub ticks_passed : Progress → ℕ → Effect
+ticks_passed progress n = running progress >>= (λ world. left (ticked n world))
 
 -- ---- what is asked
 
@@ -112,12 +112,12 @@ states_in world (Some slot) = states_at slot world
 abbrev pub states_of_imsi : List ℕ → World → Option States
 states_of_imsi imsi world = states_in world (slot_of_imsi imsi world.sight.profiles)
 
-abbrev pub told : List ℕ → World → Option States → Effect
-told imsi world None = Err Provision
-told imsi world (Some states) = Ok (Running world, states_text imsi states)
+abbrev pub states_shown : List ℕ → World → Option States → Effect
+states_shown imsi world None = Err Provision
+states_shown imsi world (Some states) = Ok (Running world, states_text imsi states)
 
 abbrev pub shown : Progress → List ℕ → Effect
-shown progress imsi = running progress >>= (λ world. told imsi world (states_of_imsi imsi world))
+shown progress imsi = running progress >>= (λ world. states_shown imsi world (states_of_imsi imsi world))
 
 -- ---- lines
 
@@ -127,13 +127,13 @@ in_event e octets = event.In e (record { ref_ptr = (0, 0); now = octets })
 
 unfoldable pub effect_of : Progress → Line → Effect
 effect_of progress Skip = Ok (progress, [])
-effect_of progress (Mme line) = started progress line
-effect_of progress (Sub profile) = added progress profile
-effect_of progress (Vec imsi vector) = given progress imsi vector
+effect_of progress (Mme line) = configured progress line
+effect_of progress (Sub profile) = subscriber_added progress profile
+effect_of progress (Vec imsi vector) = vector_given progress imsi vector
 effect_of progress (Up e) = happened progress (event.Up e)
 effect_of progress (Lost e) = happened progress (event.Lost e)
 effect_of progress (In e octets) = happened progress (in_event e octets)
-effect_of progress (Tick n) = passed progress n
+effect_of progress (Tick n) = ticks_passed progress n
 effect_of progress (Data imsi) = happened progress (event.Data imsi)
 effect_of progress (Cancel imsi) = happened progress (event.Cancel imsi)
 effect_of progress (Show imsi) = shown progress imsi

@@ -13,7 +13,7 @@ use Rattle.identity_slots.specs.declared.provision.ProvisionFault.{ProvisionFaul
 use Rattle.identity_slots.specs.declared.provision.ProvisionFault.TheVariants as provision
 use Rattle.mme_core.specs.World.{World}
 use Rattle.mme_main.specs.Effects.{Effect}
-use Rattle.mme_main.specs.Text.{Played, prepended, ends, play, lines_of, played_of}
+use Rattle.mme_main.specs.Text.{Played, prepended, played_text, play, lines_of, played_of}
 
 -- how many LFs there are
 abbrev pub breaks : List ℕ → ℕ
@@ -21,11 +21,11 @@ breaks [] = 0
 breaks (c ∷ cs) = if c == 10 then 1 + breaks cs else breaks cs
 
 abbrev pub IsPrefix : List ℕ → List ℕ → Type 0
-IsPrefix front whole = (rest : List ℕ) × (whole ≡ front ++ rest)
+IsPrefix front played_from = (rest : List ℕ) × (played_from ≡ front ++ rest)
 
 -- where a writer's octets are known, they grow by some of which this holds
-abbrev pub Adds : Option (List ℕ) → Option (List ℕ) → (List ℕ → Type 0) → Type 0
-Adds held_old held_new P = (written : List ℕ) × Appends held_old held_new written × P written
+abbrev pub GrowsBy : Option (List ℕ) → Option (List ℕ) → (List ℕ → Type 0) → Type 0
+GrowsBy held_old held_new P = (written : List ℕ) × Appends held_old held_new written × P written
 
 -- ---- one text, one line
 
@@ -84,50 +84,50 @@ in_line line Provision = Trace line Provision
 -- ---- a piece of a trace
 
 -- all that the trace gives from here on, where these octets are still to come
-abbrev pub whole : Player → List ℕ → Played
-whole player more = play player.progress player.line (lines_of (player.pending.items ++ more))
+abbrev pub played_from : Player → List ℕ → Played
+played_from player more = play player.progress player.line (lines_of (player.pending.items ++ more))
 
 -- less than a line stands there
 abbrev pub IsReady : Player → Type 0
 IsReady player = (breaks player.pending.items ≡ 0) × (length player.pending.items ≤ 40000)
 
 -- what a player that takes a piece of the trace leaves and writes
-abbrev pub Takes : Player → List ℕ → Result (Unit {0}) PlayFault → Player → List ℕ → Type 0
-Takes old piece (Ok _) new written =
-    ((more : List ℕ) → whole old (piece ++ more) ≡ prepended written (whole new more)) × IsReady new × (new.line ≡ old.line + breaks piece)
-Takes old piece (Err (Trace line fault)) new written =
-    ((more : List ℕ) → whole old (piece ++ more) ≡ ends written (Some (line, fault))) × ((fault ≡ TooLong) ⊎ (line < old.line + breaks piece))
-Takes old piece (Err NoMemory) new written = (more : List ℕ) → IsPrefix written ((whole old (piece ++ more)).text)
-Takes old piece (Err Write) new written = (more : List ℕ) → IsPrefix written ((whole old (piece ++ more)).text)
-Takes old piece (Err Read) new written = ⊥
+abbrev pub TakesPiece : Player → List ℕ → Result (Unit {0}) PlayFault → Player → List ℕ → Type 0
+TakesPiece old piece (Ok _) new written =
+    ((more : List ℕ) → played_from old (piece ++ more) ≡ prepended written (played_from new more)) × IsReady new × (new.line ≡ old.line + breaks piece)
+TakesPiece old piece (Err (Trace line fault)) new written =
+    ((more : List ℕ) → played_from old (piece ++ more) ≡ played_text written (Some (line, fault))) × ((fault ≡ TooLong) ⊎ (line < old.line + breaks piece))
+TakesPiece old piece (Err NoMemory) new written = (more : List ℕ) → IsPrefix written ((played_from old (piece ++ more)).text)
+TakesPiece old piece (Err Write) new written = (more : List ℕ) → IsPrefix written ((played_from old (piece ++ more)).text)
+TakesPiece old piece (Err Read) new written = ⊥
 
 -- what a player writes at the end of the trace
 abbrev pub Finishes : Player → Result (Unit {0}) PlayFault → List ℕ → Type 0
-Finishes old (Ok _) written = whole old [] ≡ ends written None
-Finishes old (Err (Trace line fault)) written = whole old [] ≡ ends written (Some (line, fault))
-Finishes old (Err NoMemory) written = IsPrefix written ((whole old []).text)
-Finishes old (Err Write) written = IsPrefix written ((whole old []).text)
+Finishes old (Ok _) written = played_from old [] ≡ played_text written None
+Finishes old (Err (Trace line fault)) written = played_from old [] ≡ played_text written (Some (line, fault))
+Finishes old (Err NoMemory) written = IsPrefix written ((played_from old []).text)
+Finishes old (Err Write) written = IsPrefix written ((played_from old []).text)
 Finishes old (Err Read) written = ⊥
 
 -- ---- a whole run
 
 -- what has been written for a trace that is read so far, by the answer
-abbrev pub Tells : List ℕ → List ℕ → Result (Unit {0}) PlayFault → Type 0
-Tells read written (Ok _) = played_of read ≡ ends written None
-Tells read written (Err (Trace line fault)) = played_of read ≡ ends written (Some (line, fault))
-Tells read written (Err Read) = IsPrefix written ((played_of read).text)
-Tells read written (Err Write) = IsPrefix written ((played_of read).text)
-Tells read written (Err NoMemory) = IsPrefix written ((played_of read).text)
+abbrev pub WritesFor : List ℕ → List ℕ → Result (Unit {0}) PlayFault → Type 0
+WritesFor read written (Ok _) = played_of read ≡ played_text written None
+WritesFor read written (Err (Trace line fault)) = played_of read ≡ played_text written (Some (line, fault))
+WritesFor read written (Err Read) = IsPrefix written ((played_of read).text)
+WritesFor read written (Err Write) = IsPrefix written ((played_of read).text)
+WritesFor read written (Err NoMemory) = IsPrefix written ((played_of read).text)
 
 -- the end was met, or the line was whole, or it was too long already
-abbrev pub Reaches : List ℕ → Bool → Result (Unit {0}) PlayFault → Type 0
-Reaches read ended (Ok _) = ended ≡ true
-Reaches read ended (Err (Trace line fault)) = (ended ≡ true) ⊎ (line ≤ breaks read) ⊎ (fault ≡ TooLong)
-Reaches read ended (Err Read) = ⊤
-Reaches read ended (Err Write) = ⊤
-Reaches read ended (Err NoMemory) = ⊤
+abbrev pub ReadsFarEnough : List ℕ → Bool → Result (Unit {0}) PlayFault → Type 0
+ReadsFarEnough read ended (Ok _) = ended ≡ true
+ReadsFarEnough read ended (Err (Trace line fault)) = (ended ≡ true) ⊎ (line ≤ breaks read) ⊎ (fault ≡ TooLong)
+ReadsFarEnough read ended (Err Read) = ⊤
+ReadsFarEnough read ended (Err Write) = ⊤
+ReadsFarEnough read ended (Err NoMemory) = ⊤
 
 -- what a run read and wrote, in the known octets of its reader and its writer
 abbrev pub Plays : Option (List ℕ) → Option (List ℕ) → Option (List ℕ) → Option (List ℕ) → Bool → Result (Unit {0}) PlayFault → Type 0
 Plays left_old left_new held_old held_new ended result =
-    (read : List ℕ) × (written : List ℕ) × Consumes left_old left_new read × Appends held_old held_new written × Tells read written result × Reaches read ended result
+    (read : List ℕ) × (written : List ℕ) × Consumes left_old left_new read × Appends held_old held_new written × WritesFor read written result × ReadsFarEnough read ended result

@@ -23,16 +23,16 @@ pub record Played : Type 0 where
 abbrev pub prepended : List ℕ → Played → Played
 prepended text played = record { text = text ++ played.text; fault = played.fault }
 
-abbrev pub ends : List ℕ → Option (ℕ × TraceFault) → Played
-ends text fault = record { text = text; fault = fault }
+abbrev pub played_text : List ℕ → Option (ℕ × TraceFault) → Played
+played_text text fault = record { text = text; fault = fault }
 
 abbrev pub then_play : ℕ → Effect → (Progress → Played) → Played
 then_play line (Ok done) rest = prepended done.1 (rest done.0)
-then_play line (Err fault) rest = ends [] (Some (line, fault))
+then_play line (Err fault) rest = played_text [] (Some (line, fault))
 
 -- the lines from this one on, which has this number
 unfoldable pub play : Progress → ℕ → List (List ℕ) → Played
-play progress line [] = ends [] None
+play progress line [] = played_text [] None
 play progress line (text ∷ texts) = then_play line (line_effect progress text) (λ new. play new (line + 1) texts)
 
 -- a whole trace

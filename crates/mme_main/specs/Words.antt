@@ -16,12 +16,12 @@ use Rattle.mme_core.specs.declared.out.Owner.TheVariants.{Station, Stranger, Sub
 use Rattle.trace_text.specs.Trace.{sent_text, refused_text, state_text}
 use Rattle.trace_text.specs.declared.answer.AnswerOwner.{AnswerOwner}
 use Rattle.trace_text.specs.declared.answer.AnswerOwner.TheVariants as owner
-use Rattle.trace_text.specs.declared.answer.EmmState.{EmmState as EmmWord}
-use Rattle.trace_text.specs.declared.answer.EmmState.TheVariants as emm_words
-use Rattle.trace_text.specs.declared.answer.EcmState.{EcmState as EcmWord}
-use Rattle.trace_text.specs.declared.answer.EcmState.TheVariants as ecm_words
-use Rattle.trace_text.specs.declared.answer.EsmState.{EsmState as EsmWord}
-use Rattle.trace_text.specs.declared.answer.EsmState.TheVariants as esm_words
+use Rattle.trace_text.specs.declared.answer.EmmWord.{EmmWord}
+use Rattle.trace_text.specs.declared.answer.EmmWord.TheVariants as emm_words
+use Rattle.trace_text.specs.declared.answer.EcmWord.{EcmWord}
+use Rattle.trace_text.specs.declared.answer.EcmWord.TheVariants as ecm_words
+use Rattle.trace_text.specs.declared.answer.EsmWord.{EsmWord}
+use Rattle.trace_text.specs.declared.answer.EsmWord.TheVariants as esm_words
 
 -- ---- the answer to an event
 

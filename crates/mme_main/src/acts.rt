@@ -2,9 +2,9 @@
 
 ghost use Rattle.std.specs.Prelude.{◌≡◌, true, is_ok, IfOk, OnOk, IsErrOf};
 ghost use Rattle.mme_core.specs.World.{reply};
-ghost use Rattle.mme_main.specs.Effects.{effect_of, happened, left_by, passed, shown, states_of_imsi, ticked, told};
+ghost use Rattle.mme_main.specs.Effects.{effect_of, happened, left_by, ticks_passed, shown, states_of_imsi, ticked, states_shown};
 ghost use Rattle.mme_main.specs.Words.{reply_text};
-ghost use Rattle.mme_main.specs.Play.{Acts, Adds, Puts};
+ghost use Rattle.mme_main.specs.Play.{Acts, GrowsBy, Puts};
 ghost use Rattle.mme_main.specs.declared.progress.Progress.TheVariants.{Running};
 
 use crate::answers::{write_all, write_refusal, write_states};
@@ -27,7 +27,7 @@ pub(crate) fn act_on_line<W: Write>(
     line: Line,
     writer: &mut Watched<W>,
 ) -> Result<(), PlayFault>
-    ensures acts { Adds (W.contents writer.old.inner) (W.contents writer.new.inner) (Acts number (effect_of progress.old line) result progress.new) }
+    ensures acts { GrowsBy (W.contents writer.old.inner) (W.contents writer.new.inner) (Acts number (effect_of progress.old line) result progress.new) }
     ensures write { IsErrOf result PlayFault.Write → writer.new.failed ≡ true }
 {
     match line {
@@ -62,7 +62,7 @@ fn play_event<W: Write>(
     event: &Event<'_>,
     writer: &mut Watched<W>,
 ) -> Result<(), PlayFault>
-    ensures acts { Adds (W.contents writer.old.inner) (W.contents writer.new.inner) (Acts number (happened progress.old event.now) result progress.new) }
+    ensures acts { GrowsBy (W.contents writer.old.inner) (W.contents writer.new.inner) (Acts number (happened progress.old event.now) result progress.new) }
     ensures write { IsErrOf result PlayFault.Write → writer.new.failed ≡ true }
 {
     run(alloc, progress, number)?;
@@ -83,7 +83,7 @@ fn play_ticks<W: Write>(
     count: u32,
     writer: &mut Watched<W>,
 ) -> Result<(), PlayFault>
-    ensures acts { Adds (W.contents writer.old.inner) (W.contents writer.new.inner) (Acts number (passed progress.old count) result progress.new) }
+    ensures acts { GrowsBy (W.contents writer.old.inner) (W.contents writer.new.inner) (Acts number (ticks_passed progress.old count) result progress.new) }
     ensures write { IsErrOf result PlayFault.Write → writer.new.failed ≡ true }
 {
     run(alloc, progress, number)?;
@@ -101,12 +101,12 @@ fn show<W: Write>(
     imsi: Imsi,
     writer: &mut Watched<W>,
 ) -> Result<(), PlayFault>
-    ensures acts { Adds (W.contents writer.old.inner) (W.contents writer.new.inner) (Acts number (shown progress.old imsi) result progress.new) }
+    ensures acts { GrowsBy (W.contents writer.old.inner) (W.contents writer.new.inner) (Acts number (shown progress.old imsi) result progress.new) }
     ensures write { IsErrOf result PlayFault.Write → writer.new.failed ≡ true }
 {
     run(alloc, progress, number)?;
     match progress {
-        Progress::Running(mme) => tell(alloc, mme, number, imsi, writer),
+        Progress::Running(mme) => show_states(alloc, mme, number, imsi, writer),
         Progress::Nothing | Progress::Provisioning(_, _) => unreachable!(),
     }
 }
@@ -118,7 +118,7 @@ fn step_event<W: Write>(
     event: &Event<'_>,
     writer: &mut Watched<W>,
 ) -> Result<bool, PlayFault>
-    ensures put { Adds (W.contents writer.old.inner) (W.contents writer.new.inner) (Puts (reply_text (reply mme.old event.now)) result) }
+    ensures put { GrowsBy (W.contents writer.old.inner) (W.contents writer.new.inner) (Puts (reply_text (reply mme.old event.now)) result) }
     ensures after { OnOk result (mme.new ≡ left_by mme.old event.now (reply mme.old event.now)) }
     ensures taken { IfOk result (λ taken. taken ≡ is_ok (reply mme.old event.now)) }
     ensures write { IsErrOf result PlayFault.Write → writer.new.failed ≡ true }
@@ -143,7 +143,7 @@ fn step_ticks<W: Write>(
     count: u32,
     writer: &mut Watched<W>,
 ) -> Result<(), PlayFault>
-    ensures put { Adds (W.contents writer.old.inner) (W.contents writer.new.inner) (Puts (ticked count mme.old).1 result) }
+    ensures put { GrowsBy (W.contents writer.old.inner) (W.contents writer.new.inner) (Puts (ticked count mme.old).1 result) }
     ensures after { OnOk result (mme.new ≡ (ticked count mme.old).0) }
     ensures write { IsErrOf result PlayFault.Write → writer.new.failed ≡ true }
 {
@@ -157,14 +157,14 @@ fn step_ticks<W: Write>(
     Ok(())
 }
 
-fn tell<W: Write>(
+fn show_states<W: Write>(
     alloc: Global,
     mme: &Mme,
     number: u64,
     imsi: Imsi,
     writer: &mut Watched<W>,
 ) -> Result<(), PlayFault>
-    ensures acts { Adds (W.contents writer.old.inner) (W.contents writer.new.inner) (Acts number (told imsi mme.now (states_of_imsi imsi mme.now)) result (Running mme.now)) }
+    ensures acts { GrowsBy (W.contents writer.old.inner) (W.contents writer.new.inner) (Acts number (states_shown imsi mme.now (states_of_imsi imsi mme.now)) result (Running mme.now)) }
     ensures write { IsErrOf result PlayFault.Write → writer.new.failed ≡ true }
 {
     match states_of_imsi(mme, imsi) {

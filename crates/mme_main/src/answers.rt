@@ -4,7 +4,7 @@ ghost use Rattle.std.specs.Prelude.{◌≡◌, ℕ, List, length, take, true, fa
 ghost use Rattle.std.specs.Io.KnownBytes.{Appends};
 ghost use Rattle.trace_text.specs.Trace.{answer_text, refused_text};
 ghost use Rattle.mme_main.specs.Words.{answer_owner, answers_of, ecm_shown, emm_shown, esm_shown, out_text, refusal_number, states_text};
-ghost use Rattle.mme_main.specs.Play.{Adds, Puts};
+ghost use Rattle.mme_main.specs.Play.{GrowsBy, Puts};
 
 use crate::fault::PlayFault;
 use crate::watched::Watched;
@@ -15,9 +15,7 @@ use mme_core::{Out, Owner};
 use nas_elements::Imsi;
 use std::alloc::Global;
 use std::io::Write;
-use trace_text::{
-    Answer, AnswerOwner, EcmState as EcmWord, EmmState as EmmWord, EsmState, write_answer,
-};
+use trace_text::{AnswerLine, AnswerOwner, EcmWord, EmmWord, EsmWord, write_answer};
 
 /// Writes these octets; at `false` the writer failed, and has the first of them.
 fn write_whole<W: Write>(writer: &mut Watched<W>, octets: &[u8]) -> bool
@@ -42,10 +40,10 @@ fn write_whole<W: Write>(writer: &mut Watched<W>, octets: &[u8]) -> bool
 /// Writes the line of one answer.
 fn write_one<W: Write>(
     alloc: Global,
-    answer: &Answer<'_>,
+    answer: &AnswerLine<'_>,
     writer: &mut Watched<W>,
 ) -> Result<(), PlayFault>
-    ensures put { Adds (W.contents writer.old.inner) (W.contents writer.new.inner) (Puts (answer_text answer.now) result) }
+    ensures put { GrowsBy (W.contents writer.old.inner) (W.contents writer.new.inner) (Puts (answer_text answer.now) result) }
     ensures write { IsErrOf result PlayFault.Write → writer.new.failed ≡ true }
 {
     let Ok(text) = write_answer(alloc, answer) else {
@@ -63,7 +61,7 @@ pub(crate) fn write_all<W: Write>(
     outs: &[Out],
     writer: &mut Watched<W>,
 ) -> Result<(), PlayFault>
-    ensures put { Adds (W.contents writer.old.inner) (W.contents writer.new.inner) (Puts (answers_of outs.now) result) }
+    ensures put { GrowsBy (W.contents writer.old.inner) (W.contents writer.new.inner) (Puts (answers_of outs.now) result) }
     ensures write { IsErrOf result PlayFault.Write → writer.new.failed ≡ true }
 {
     for out in outs {
@@ -76,11 +74,11 @@ pub(crate) fn write_all<W: Write>(
 }
 
 fn write_out<W: Write>(alloc: Global, out: &Out, writer: &mut Watched<W>) -> Result<(), PlayFault>
-    ensures put { Adds (W.contents writer.old.inner) (W.contents writer.new.inner) (Puts (out_text out.now) result) }
+    ensures put { GrowsBy (W.contents writer.old.inner) (W.contents writer.new.inner) (Puts (out_text out.now) result) }
     ensures write { IsErrOf result PlayFault.Write → writer.new.failed ≡ true }
 {
     let owner = answer_owner(out.owner);
-    let answer = Answer::Sent(owner, out.station.get(), out.octets.as_slice());
+    let answer = AnswerLine::Sent(owner, out.station.get(), out.octets.as_slice());
     write_one(alloc, &answer, writer)
 }
 
@@ -100,11 +98,11 @@ pub(crate) fn write_refusal<W: Write>(
     number: u8,
     writer: &mut Watched<W>,
 ) -> Result<bool, PlayFault>
-    ensures put { Adds (W.contents writer.old.inner) (W.contents writer.new.inner) (Puts (refused_text number) result) }
+    ensures put { GrowsBy (W.contents writer.old.inner) (W.contents writer.new.inner) (Puts (refused_text number) result) }
     ensures taken { IfOk result (λ taken. taken ≡ false) }
     ensures write { IsErrOf result PlayFault.Write → writer.new.failed ≡ true }
 {
-    match write_one(alloc, &Answer::Refused(number), writer) {
+    match write_one(alloc, &AnswerLine::Refused(number), writer) {
         Ok(()) => Ok(false),
         Err(fault) => Err(fault),
     }
@@ -117,12 +115,12 @@ pub(crate) fn write_states<W: Write>(
     states: States,
     writer: &mut Watched<W>,
 ) -> Result<(), PlayFault>
-    ensures put { Adds (W.contents writer.old.inner) (W.contents writer.new.inner) (Puts (states_text imsi states) result) }
+    ensures put { GrowsBy (W.contents writer.old.inner) (W.contents writer.new.inner) (Puts (states_text imsi states) result) }
     ensures write { IsErrOf result PlayFault.Write → writer.new.failed ≡ true }
 {
     let emm = emm_shown(states.emm);
     let ecm = ecm_shown(states.ecm);
-    let answer = Answer::State(imsi, emm, ecm, esm_shown(states.esm));
+    let answer = AnswerLine::State(imsi, emm, ecm, esm_shown(states.esm));
     write_one(alloc, &answer, writer)
 }
 
@@ -146,12 +144,12 @@ fn ecm_shown(state: EcmState) -> EcmWord
     }
 }
 
-fn esm_shown(state: BearerState) -> EsmState
+fn esm_shown(state: BearerState) -> EsmWord
     ensures { result ≡ esm_shown state }
 {
     match state {
-        BearerState::Inactive => EsmState::Inactive,
-        BearerState::ActivePending => EsmState::ActivePending,
-        BearerState::Active => EsmState::Active,
+        BearerState::Inactive => EsmWord::Inactive,
+        BearerState::ActivePending => EsmWord::ActivePending,
+        BearerState::Active => EsmWord::Active,
     }
 }

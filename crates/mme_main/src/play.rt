@@ -1,7 +1,7 @@
 //! A trace played from a reader to a writer.
 
 ghost use Rattle.std.specs.Prelude.{◌≡◌, ◌⊎◌, ◌<◌, ◌≤◌, ◌+◌, ◌^◌, length, true, IsErrOf};
-ghost use Rattle.mme_main.specs.Play.{Plays, Adds, Takes, Finishes, IsReady};
+ghost use Rattle.mme_main.specs.Play.{Plays, GrowsBy, TakesPiece, Finishes, IsReady};
 
 use crate::fault::PlayFault;
 use crate::player::Player;
@@ -51,7 +51,7 @@ fn one_turn<W: Write>(
 ) -> Result<(), PlayFault>
     requires ready { IsReady player.old }
     requires counted { player.old.line + length piece.now < 2 ^ 64 }
-    ensures takes { Adds (W.contents writer.old.inner) (W.contents writer.new.inner) (Takes player.old piece.now result player.new) }
+    ensures takes { GrowsBy (W.contents writer.old.inner) (W.contents writer.new.inner) (TakesPiece player.old piece.now result player.new) }
     ensures write { IsErrOf result PlayFault.Write → writer.new.failed ≡ true }
 {
     let result = player.feed(alloc, piece, writer);
@@ -69,7 +69,7 @@ fn last_turn<W: Write>(
 ) -> Result<(), PlayFault>
     requires ready { IsReady player.old }
     requires counted { player.old.line + 1 < 2 ^ 64 }
-    ensures finishes { Adds (W.contents writer.old.inner) (W.contents writer.new.inner) (Finishes player.old result) }
+    ensures finishes { GrowsBy (W.contents writer.old.inner) (W.contents writer.new.inner) (Finishes player.old result) }
     ensures write { IsErrOf result PlayFault.Write → writer.new.failed ≡ true }
 {
     let result = player.finish(alloc, writer);

@@ -3,7 +3,7 @@
 ghost use Rattle.std.specs.Prelude.{◌≡◌, ◌<◌, ◌+◌, ◌∷◌, [], ◌^◌, length, OnOk, IsErrOf, true};
 ghost use Rattle.mme_main.specs.declared.progress.Progress.TheVariants.{Nothing};
 ghost use Rattle.mme_main.specs.Text.{line_effect};
-ghost use Rattle.mme_main.specs.Play.{Acts, Adds, Takes, Finishes, IsReady};
+ghost use Rattle.mme_main.specs.Play.{Acts, GrowsBy, TakesPiece, Finishes, IsReady};
 
 use crate::acts::act_on_line;
 use crate::fault::{PlayFault, fault_in_line};
@@ -47,7 +47,7 @@ impl Player {
     ) -> Result<(), PlayFault>
         requires ready { IsReady self.old }
         requires counted { self.old.line + length piece.now < 2 ^ 64 }
-        ensures takes { Adds (W.contents writer.old.inner) (W.contents writer.new.inner) (Takes self.old piece.now result self.new) }
+        ensures takes { GrowsBy (W.contents writer.old.inner) (W.contents writer.new.inner) (TakesPiece self.old piece.now result self.new) }
         ensures write { IsErrOf result PlayFault.Write → writer.new.failed ≡ true }
     {
         for octet in piece {
@@ -67,7 +67,7 @@ impl Player {
     ) -> Result<(), PlayFault>
         requires ready { IsReady self.old }
         requires counted { self.old.line + 1 < 2 ^ 64 }
-        ensures takes { Adds (W.contents writer.old.inner) (W.contents writer.new.inner) (Takes self.old (octet ∷ []) result self.new) }
+        ensures takes { GrowsBy (W.contents writer.old.inner) (W.contents writer.new.inner) (TakesPiece self.old (octet ∷ []) result self.new) }
         ensures write { IsErrOf result PlayFault.Write → writer.new.failed ≡ true }
     {
         if octet == b'\n' {
@@ -90,7 +90,7 @@ impl Player {
     ) -> Result<(), PlayFault>
         requires ready { IsReady self.old }
         requires counted { self.old.line + 1 < 2 ^ 64 }
-        ensures finishes { Adds (W.contents writer.old.inner) (W.contents writer.new.inner) (Finishes self.old result) }
+        ensures finishes { GrowsBy (W.contents writer.old.inner) (W.contents writer.new.inner) (Finishes self.old result) }
         ensures write { IsErrOf result PlayFault.Write → writer.new.failed ≡ true }
     {
         if self.pending.is_empty() {
@@ -106,7 +106,7 @@ impl Player {
     ) -> Result<(), PlayFault>
         requires ready { IsReady self.old }
         requires counted { self.old.line + 1 < 2 ^ 64 }
-        ensures takes { Adds (W.contents writer.old.inner) (W.contents writer.new.inner) (Takes self.old (10 ∷ []) result self.new) }
+        ensures takes { GrowsBy (W.contents writer.old.inner) (W.contents writer.new.inner) (TakesPiece self.old (10 ∷ []) result self.new) }
         ensures cleared { OnOk result (self.new.pending.items ≡ []) }
         ensures write { IsErrOf result PlayFault.Write → writer.new.failed ≡ true }
     {
@@ -131,7 +131,7 @@ fn play_line<W: Write>(
     text: &[u8],
     writer: &mut Watched<W>,
 ) -> Result<(), PlayFault>
-    ensures acts { Adds (W.contents writer.old.inner) (W.contents writer.new.inner) (Acts number (line_effect progress.old text.now) result progress.new) }
+    ensures acts { GrowsBy (W.contents writer.old.inner) (W.contents writer.new.inner) (Acts number (line_effect progress.old text.now) result progress.new) }
     ensures write { IsErrOf result PlayFault.Write → writer.new.failed ≡ true }
 {
     match parse_line(alloc, text) {

@@ -1,7 +1,7 @@
 //! How far a trace has got: what is provisioned, and the MME that is made of it.
 
 ghost use Rattle.std.specs.Prelude.{◌≡◌, ◌≢◌, [], IfErr};
-ghost use Rattle.mme_main.specs.Effects.{added, config_of, given, running, started};
+ghost use Rattle.mme_main.specs.Effects.{subscriber_added, config_of, vector_given, running, configured};
 ghost use Rattle.mme_main.specs.Play.{Acts, Runs, in_provision};
 
 use crate::fault::PlayFault;
@@ -32,7 +32,7 @@ pub(crate) fn start(
     number: u64,
     fields: &MmeLine,
 ) -> Result<(), PlayFault>
-    ensures acts { Acts number (started progress.old fields.now) result progress.new [] }
+    ensures acts { Acts number (configured progress.old fields.now) result progress.new [] }
     ensures write { IfErr result (λ fault. fault ≢ PlayFault.Write) }
 {
     match progress {
@@ -48,7 +48,7 @@ pub(crate) fn start(
 
 /// Provisions a subscriber.
 pub(crate) fn add(progress: &mut Progress, number: u64, profile: Profile) -> Result<(), PlayFault>
-    ensures acts { Acts number (added progress.old profile) result progress.new [] }
+    ensures acts { Acts number (subscriber_added progress.old profile) result progress.new [] }
     ensures write { IfErr result (λ fault. fault ≢ PlayFault.Write) }
 {
     match progress {
@@ -69,7 +69,7 @@ pub(crate) fn give(
     imsi: Imsi,
     vector: Vector,
 ) -> Result<(), PlayFault>
-    ensures acts { Acts number (given progress.old imsi vector) result progress.new [] }
+    ensures acts { Acts number (vector_given progress.old imsi vector) result progress.new [] }
     ensures write { IfErr result (λ fault. fault ≢ PlayFault.Write) }
 {
     match progress {

@@ -32,15 +32,15 @@ slot_of_s_tmsi n ps None = None
 slot_of_s_tmsi n ps (Some t) = if bytes_eq t.code n.code then slot_of_id (from_be_bytes w32 t.m_tmsi) ps else None
 
 -- by a message: of its identity, and for SERVICE REQUEST, which has none, of the S-TMSI beside it
-abbrev pub slot_in : Network → List Profile → Option STmsi → Emm (List ℕ) → Option ℕ
-slot_in n ps t (emm.AttachRequest m) = slot_of_identity n ps m.identity
-slot_in n ps t (emm.DetachRequest m) = slot_of_identity n ps m.identity
-slot_in n ps t (emm.AreaUpdateRequest m) = slot_of_guti n ps m.guti
-slot_in n ps t (emm.ServiceRequest octets) = slot_of_s_tmsi n ps t
-slot_in n ps t _ = None
+abbrev pub slot_of_message : Network → List Profile → Option STmsi → Emm (List ℕ) → Option ℕ
+slot_of_message n ps t (emm.AttachRequest m) = slot_of_identity n ps m.identity
+slot_of_message n ps t (emm.DetachRequest m) = slot_of_identity n ps m.identity
+slot_of_message n ps t (emm.AreaUpdateRequest m) = slot_of_guti n ps m.guti
+slot_of_message n ps t (emm.ServiceRequest octets) = slot_of_s_tmsi n ps t
+slot_of_message n ps t _ = None
 
 abbrev pub slot_by : Network → List Profile → Option STmsi → Result (Emm (List ℕ)) NasFault → Option ℕ
-slot_by n ps t (Ok m) = slot_in n ps t m
+slot_by n ps t (Ok m) = slot_of_message n ps t m
 slot_by n ps t (Err fault) = None
 
 -- the slot that is named, or nobody's: the message is foreign

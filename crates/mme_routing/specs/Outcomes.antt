@@ -28,10 +28,10 @@ use Rattle.mme_vocabulary.specs.declared.stations.StationState.{StationState}
 use Rattle.mme_vocabulary.specs.declared.stations.StationState.TheVariants.{Down, Up, Ready}
 use Rattle.mme_vocabulary.specs.Events.{Item, Initial, Message, StationGone}
 use Rattle.stranger_machine.specs.declared.turn.Notice.TheVariants.{Gone}
-use Rattle.stranger_machine.specs.Machine.{Begins, Told, unknown}
+use Rattle.stranger_machine.specs.Machine.{Begins, Receives, unknown}
 use Rattle.stranger_machine.specs.Table.{Reach, Nobody, Each}
 use Rattle.stranger_machine.specs.Table as table
-use Rattle.stranger_machine.specs.Turns.{said}
+use Rattle.stranger_machine.specs.Turns.{sent_to}
 use Rattle.mme_routing.specs.Naming.{named_slot}
 
 -- ---- what the MME says to stations
@@ -66,7 +66,7 @@ cause_of NoMemory = None
 
 abbrev pub indicated : ℕ → Option Cause → List Answer
 indicated e None = []
-indicated e (Some cause) = said e (indication cause)
+indicated e (Some cause) = sent_to e (indication cause)
 
 -- ---- what a station makes of a message
 
@@ -79,56 +79,56 @@ pub data Calls : Type 0 where
 -- the station's state, what it is told for itself, the strangers that are reached, and who is called
 pub record Outcome : Type 0 where
   pub state : StationState
-  pub sends : List Answer
+  pub sent : List Answer
   pub reach : Reach
   pub calls : Calls
 
 abbrev pub answered : StationState → List Answer → Outcome
-answered state sends = record { state = state; sends = sends; reach = Nobody; calls = NoOne }
+answered state sent = record { state = state; sent = sent; reach = Nobody; calls = NoOne }
 
 abbrev pub calling : StationState → Calls → Outcome
-calling state calls = record { state = state; sends = []; reach = Nobody; calls = calls }
+calling state calls = record { state = state; sent = []; reach = Nobody; calls = calls }
 
 abbrev pub reaching : StationState → Reach → Outcome
-reaching state r = record { state = state; sends = []; reach = r; calls = NoOne }
+reaching state r = record { state = state; sent = []; reach = r; calls = NoOne }
 
 -- the associations of a station end, with what it is told
 abbrev pub begins_anew : ℕ → StationState → List Answer → Outcome
-begins_anew e state sends = record { state = state; sends = sends; reach = Each (Gone e); calls = Everyone (StationGone e) }
+begins_anew e state sent = record { state = state; sent = sent; reach = Each (Gone e); calls = Everyone (StationGone e) }
 
 -- whether some tracking area broadcasts the network
 abbrev pub broadcasts : List ℕ → List SupportedTa → Bool
 broadcasts plmn tas = list_any (λ ta. is_broadcast plmn ta.plmns) tas
 
 -- S1 SETUP REQUEST: the station begins anew, whatever the answer
-abbrev pub set_up : Network → ℕ → List SupportedTa → Outcome
-set_up network e tas =
+abbrev pub station_set_up : Network → ℕ → List SupportedTa → Outcome
+station_set_up network e tas =
     if broadcasts network.plmn tas
-    then begins_anew e (Ready tas) (said e (setup_response network))
-    else begins_anew e Up (said e setup_failure)
+    then begins_anew e (Ready tas) (sent_to e (setup_response network))
+    else begins_anew e Up (sent_to e setup_failure)
 
 -- a message that the state of the station doesn't take
 abbrev pub not_compatible : ℕ → StationState → Outcome
-not_compatible e state = answered state (said e (indication (Protocol MessageNotCompatible)))
+not_compatible e state = answered state (sent_to e (indication (Protocol MessageNotCompatible)))
 
 -- a reset of the whole interface, of a station that is set up (TS 36.413 clause 8.7.1)
-abbrev pub reset : ℕ → StationState → Outcome
-reset e Down = not_compatible e Down
-reset e Up = not_compatible e Up
-reset e (Ready tas) = begins_anew e (Ready tas) (said e pdu.ResetAcknowledge)
+abbrev pub interface_reset : ℕ → StationState → Outcome
+interface_reset e Down = not_compatible e Down
+interface_reset e Up = not_compatible e Up
+interface_reset e (Ready tas) = begins_anew e (Ready tas) (sent_to e pdu.ResetAcknowledge)
 
 abbrev pub entry_of : ℕ → InitialUeMessage (List ℕ) → Entry (List ℕ)
 entry_of e m = record { station = e; enb_id = m.enb_id; nas = m.nas; tai = m.tai }
 
-abbrev pub entered : Option ℕ → ℕ → StationState → InitialUeMessage (List ℕ) → Outcome
-entered (Some slot) e state m = calling state (One slot (Initial (entry_of e m)))
-entered None e state m = reaching state (table.One (stranger_id e m.enb_id) (Begins (entry_of e m)))
+abbrev pub entry_routed : Option ℕ → ℕ → StationState → InitialUeMessage (List ℕ) → Outcome
+entry_routed (Some slot) e state m = calling state (One slot (Initial (entry_of e m)))
+entry_routed None e state m = reaching state (table.One (stranger_id e m.enb_id) (Begins (entry_of e m)))
 
 -- INITIAL UE MESSAGE, of a station that is set up
 abbrev pub enters : Network → List Profile → ℕ → StationState → InitialUeMessage (List ℕ) → Outcome
 enters n ps e Down m = not_compatible e Down
 enters n ps e Up m = not_compatible e Up
-enters n ps e (Ready tas) m = entered (named_slot n ps m.nas m.s_tmsi) e (Ready tas) m
+enters n ps e (Ready tas) m = entry_routed (named_slot n ps m.nas m.s_tmsi) e (Ready tas) m
 
 -- a message with an id of a slot; one that isn't provisioned is nobody's
 abbrev pub message_of_slot : Option ℕ → StationState → UeMessage (List ℕ) → Outcome
@@ -136,7 +136,7 @@ message_of_slot (Some slot) state m = calling state (One slot (Message m))
 message_of_slot None state m = answered state (unknown m.body m)
 
 abbrev pub message_by_id : List Profile → StationState → UeMessage (List ℕ) → Outcome
-message_by_id ps state m = if is_of_slot m.mme_id then message_of_slot (slot_of_id m.mme_id ps) state m else reaching state (table.One m.mme_id (Told m))
+message_by_id ps state m = if is_of_slot m.mme_id then message_of_slot (slot_of_id m.mme_id ps) state m else reaching state (table.One m.mme_id (Receives m))
 
 -- a message with an MME UE id, of a station that is set up
 abbrev pub phone_message : List Profile → StationState → UeMessage (List ℕ) → Outcome
@@ -149,8 +149,8 @@ ue_message e mme_id enb_id body = record { station = e; mme_id = mme_id; enb_id 
 
 -- what a station that is not down makes of the message that it sends
 abbrev pub outcome_of_message : Network → List Profile → ℕ → StationState → Pdu (List ℕ) → Outcome
-outcome_of_message n ps e state (pdu.SetupRequest m) = set_up n e m.supported_tas
-outcome_of_message n ps e state (pdu.Reset m) = reset e state
+outcome_of_message n ps e state (pdu.SetupRequest m) = station_set_up n e m.supported_tas
+outcome_of_message n ps e state (pdu.Reset m) = interface_reset e state
 outcome_of_message n ps e state (pdu.ErrorIndication m) = answered state []
 outcome_of_message n ps e state pdu.ResetAcknowledge = answered state []
 outcome_of_message n ps e state (pdu.InitialUeMessage m) = enters n ps e state m

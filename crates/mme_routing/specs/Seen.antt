@@ -2,7 +2,7 @@
 use Rattle.std.specs.Prelude.{List, unwrap_or}
 use Rattle.mme_vocabulary.specs.declared.stations.StationState.{StationState}
 use Rattle.mme_vocabulary.specs.Events.{entry_lists, item_of, message_lists}
-use Rattle.stranger_machine.specs.Machine.{Begins, Told}
+use Rattle.stranger_machine.specs.Machine.{Begins, Receives}
 use Rattle.stranger_machine.specs.Table.{Reach, Nobody, Each}
 use Rattle.stranger_machine.specs.Table as table
 use Rattle.mme_routing.specs.declared.calls.Calls.{Calls as CallsInCode}
@@ -20,8 +20,8 @@ calls_of (code.Everyone event) stations = Everyone (item_of event stations)
 abbrev pub reach_of : ReachInCode → Reach
 reach_of reaches.Nobody = Nobody
 reach_of (reaches.Begins id m) = table.One id (Begins (entry_lists m))
-reach_of (reaches.Told m) = table.One m.mme_id (Told (message_lists m))
+reach_of (reaches.Receives m) = table.One m.mme_id (Receives (message_lists m))
 reach_of (reaches.Each notice) = Each notice
 
-abbrev pub seen : StationState → List StationState → OutcomeInCode → Outcome
-seen state stations h = record { state = unwrap_or h.state state; sends = h.says; reach = reach_of h.reach; calls = calls_of h.calls stations }
+abbrev pub seen_outcome : StationState → List StationState → OutcomeInCode → Outcome
+seen_outcome state stations h = record { state = unwrap_or h.state state; sent = h.sent; reach = reach_of h.reach; calls = calls_of h.calls stations }

@@ -19,7 +19,7 @@ pub enum Reach<'a> {
     /// An INITIAL UE MESSAGE that names nobody, by the stranger's id.
     Begins(AssociationId, Entry<&'a [u8]>),
     /// A message with a stranger's id.
-    Told(UeMessage<&'a [u8]>),
+    Receives(UeMessage<&'a [u8]>),
     Each(Notice),
 }
 

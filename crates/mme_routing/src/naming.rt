@@ -2,7 +2,7 @@
 
 ghost use Rattle.std.specs.Prelude.{◌≡◌};
 ghost use Rattle.nas_messages.specs.Messages.{lists};
-ghost use Rattle.mme_routing.specs.Naming.{is_own, named_slot, slot_in, slot_of_guti, slot_of_identity, slot_of_s_tmsi};
+ghost use Rattle.mme_routing.specs.Naming.{is_own, named_slot, slot_of_message, slot_of_guti, slot_of_identity, slot_of_s_tmsi};
 
 use identity_slots::{Provision, Slot, Tmsi};
 use mme_signalling::initial_octets;
@@ -55,13 +55,13 @@ fn slot_of_s_tmsi(network: &Network, provision: &Provision, s_tmsi: Option<STmsi
     }
 }
 
-fn slot_in(
+fn slot_of_message(
     network: &Network,
     provision: &Provision,
     s_tmsi: Option<STmsi>,
     message: &EmmMessage,
 ) -> Option<Slot>
-    ensures { result ≡ slot_in network.now provision.now.profiles s_tmsi (lists message.now) }
+    ensures { result ≡ slot_of_message network.now provision.now.profiles s_tmsi (lists message.now) }
 {
     match message {
         Emm::AttachRequest(request) => slot_of_identity(network, provision, &request.identity),
@@ -91,7 +91,7 @@ pub fn named_slot(
     match decode_emm(initial_octets(nas), Direction::Uplink) {
         Ok(message) => {
             let decoded = Decoded { message };
-            slot_in(network, provision, s_tmsi, &decoded.message)
+            slot_of_message(network, provision, s_tmsi, &decoded.message)
         }
         Err(_) => None,
     }

@@ -5,9 +5,9 @@ ghost use Rattle.identity_slots.specs.Ids.{stranger_id};
 ghost use Rattle.s1ap_messages.specs.Pdus.{lists, decoded, initial_ue_message_lists};
 ghost use Rattle.s1ap_rows.specs.declared.fault.S1apFault.TheVariants as faults;
 ghost use Rattle.mme_vocabulary.specs.declared.stations.StationState.{StationState};
-ghost use Rattle.mme_vocabulary.specs.Events.{body_lists, message_lists};
-ghost use Rattle.mme_routing.specs.Seen.{seen};
-ghost use Rattle.mme_routing.specs.Outcomes.{begins_anew, broadcasts, cause_of, entered, enters, outcome_of, outcome_of_message, indicated, indication, not_compatible, reset, answered, set_up, phone_message, message_by_id, message_of_slot, ue_message};
+ghost use Rattle.mme_vocabulary.specs.Events.{ue_body_lists, message_lists};
+ghost use Rattle.mme_routing.specs.Seen.{seen_outcome};
+ghost use Rattle.mme_routing.specs.Outcomes.{begins_anew, broadcasts, cause_of, entry_routed, enters, outcome_of, outcome_of_message, indicated, indication, not_compatible, interface_reset, answered, station_set_up, phone_message, message_by_id, message_of_slot, ue_message};
 
 use crate::answers::{cause_of, indication, setup_failure, setup_response};
 use crate::calls::{Calls, Reach};
@@ -20,23 +20,23 @@ use mme_vocabulary::{
 use s1ap_elements::{Cause, EnbUeId, MmeUeId, Plmn, ProtocolCause, SupportedTa};
 use s1ap_messages::{InitialUeMessage, Pdu, S1apFault, S1apPdu, SetupRequest, decode};
 use std::alloc::{AllocError, Global};
-use stranger_machine::{Notice, saying, unknown};
+use stranger_machine::{Notice, sent_to, unknown};
 
 /// The new state of the station, where it has one, what it is told, the strangers that are reached, and who is called.
 #[derive(Drop)]
 pub struct Outcome<'a> {
     pub state: Option<StationState>,
-    pub says: Answers,
+    pub sent: Answers,
     pub reach: Reach<'a>,
     pub calls: Calls<'a>,
 }
 
-fn answered<'a>(sends: Answers) -> Outcome<'a>
-    ensures { (state : StationState) (stations : List StationState) → seen state stations result ≡ answered state sends }
+fn answered<'a>(sent: Answers) -> Outcome<'a>
+    ensures { (state : StationState) (stations : List StationState) → seen_outcome state stations result ≡ answered state sent }
 {
     Outcome {
         state: None,
-        says: sends,
+        sent,
         reach: Reach::Nobody,
         calls: Calls::NoOne,
     }
@@ -46,53 +46,50 @@ fn answered<'a>(sends: Answers) -> Outcome<'a>
 fn begins_anew<'a>(
     station: StationNumber,
     state: Option<StationState>,
-    sends: Answers,
+    sent: Answers,
 ) -> Outcome<'a>
-    ensures { (old : StationState) (stations : List StationState) → seen old stations result ≡ begins_anew station (unwrap_or state old) sends }
+    ensures { (old : StationState) (stations : List StationState) → seen_outcome old stations result ≡ begins_anew station (unwrap_or state old) sent }
 {
     Outcome {
         state,
-        says: sends,
+        sent,
         reach: Reach::Each(Notice::Gone(station)),
         calls: Calls::Everyone(SoloEvent::StationGone(station)),
     }
 }
 
 // What octets with a fault are answered with.
-fn hears_indication<'a>(
+fn outcome_of_cause<'a>(
     alloc: Global,
     station: StationNumber,
     cause: Option<Cause>,
 ) -> Result<Outcome<'a>, AllocError>
-    ensures { IfOk result (λ h. (state : StationState) (stations : List StationState) → seen state stations h ≡ answered state (indicated station cause)) }
+    ensures { IfOk result (λ h. (state : StationState) (stations : List StationState) → seen_outcome state stations h ≡ answered state (indicated station cause)) }
 {
     match cause {
-        Some(cause) => Ok(answered(saying(alloc, station, &indication(cause))?)),
+        Some(cause) => Ok(answered(sent_to(alloc, station, &indication(cause))?)),
         None => Ok(answered(Answers::new(alloc))),
     }
 }
 
-fn hears_not_compatible<'a>(
-    alloc: Global,
-    station: StationNumber,
-) -> Result<Outcome<'a>, AllocError>
-    ensures { IfOk result (λ h. (state : StationState) (stations : List StationState) → seen state stations h ≡ not_compatible station state) }
+fn not_compatible<'a>(alloc: Global, station: StationNumber) -> Result<Outcome<'a>, AllocError>
+    ensures { IfOk result (λ h. (state : StationState) (stations : List StationState) → seen_outcome state stations h ≡ not_compatible station state) }
 {
     let cause = Cause::Protocol(ProtocolCause::MessageNotCompatible);
-    hears_indication(alloc, station, Some(cause))
+    outcome_of_cause(alloc, station, Some(cause))
 }
 
-fn hears_fault<'a>(
+fn outcome_of_fault<'a>(
     alloc: Global,
     station: StationNumber,
     fault: S1apFault,
 ) -> Result<Outcome<'a>, AllocError>
-    ensures rows { IfOk result (λ h. (state : StationState) (stations : List StationState) → seen state stations h ≡ answered state (indicated station (cause_of fault))) }
+    ensures rows { IfOk result (λ h. (state : StationState) (stations : List StationState) → seen_outcome state stations h ≡ answered state (indicated station (cause_of fault))) }
     ensures other { OnOk result (fault ≢ faults.NoMemory) }
 {
     match fault {
         S1apFault::NoMemory => Err(AllocError),
-        _ => hears_indication(alloc, station, cause_of(&fault)),
+        _ => outcome_of_cause(alloc, station, cause_of(&fault)),
     }
 }
 
@@ -103,13 +100,13 @@ fn broadcasts(plmn: Plmn, tas: &[SupportedTa]) -> bool
     tas.iter().any(|ta| is_broadcast(plmn, ta.plmns.as_slice()))
 }
 
-fn hears_setup<'a>(
+fn station_set_up<'a>(
     alloc: Global,
     network: &Network,
     station: StationNumber,
     request: SetupRequest<&[u8]>,
 ) -> Result<Outcome<'a>, AllocError>
-    ensures { IfOk result (λ h. (state : StationState) (stations : List StationState) → seen state stations h ≡ set_up network.now station request.entry.supported_tas) }
+    ensures { IfOk result (λ h. (state : StationState) (stations : List StationState) → seen_outcome state stations h ≡ station_set_up network.now station request.entry.supported_tas) }
 {
     let SetupRequest {
         station: _,
@@ -118,28 +115,28 @@ fn hears_setup<'a>(
         paging_drx: _,
     } = request;
     if broadcasts(network.plmn, supported_tas.as_slice()) {
-        let sends = saying(alloc, station, &setup_response(alloc, network)?)?;
+        let sent = sent_to(alloc, station, &setup_response(alloc, network)?)?;
         let ready = StationState::Ready(supported_tas);
-        Ok(begins_anew(station, Some(ready), sends))
+        Ok(begins_anew(station, Some(ready), sent))
     } else {
-        let sends = saying(alloc, station, &setup_failure())?;
-        Ok(begins_anew(station, Some(StationState::Up), sends))
+        let sent = sent_to(alloc, station, &setup_failure())?;
+        Ok(begins_anew(station, Some(StationState::Up), sent))
     }
 }
 
-fn hears_reset<'a>(
+fn interface_reset<'a>(
     alloc: Global,
     station: StationNumber,
     state: &StationState,
 ) -> Result<Outcome<'a>, AllocError>
-    ensures { IfOk result (λ h. (stations : List StationState) → seen state.now stations h ≡ reset station state.now) }
+    ensures { IfOk result (λ h. (stations : List StationState) → seen_outcome state.now stations h ≡ interface_reset station state.now) }
 {
     match state {
         StationState::Ready(_) => {
-            let sends = saying(alloc, station, &Pdu::ResetAcknowledge)?;
-            Ok(begins_anew(station, None, sends))
+            let sent = sent_to(alloc, station, &Pdu::ResetAcknowledge)?;
+            Ok(begins_anew(station, None, sent))
         }
-        StationState::Up | StationState::Down => hears_not_compatible(alloc, station),
+        StationState::Up | StationState::Down => not_compatible(alloc, station),
     }
 }
 
@@ -158,11 +155,11 @@ fn enters<'a>(
     state: &StationState,
     message: InitialUeMessage<&'a [u8]>,
 ) -> Result<Outcome<'a>, AllocError>
-    ensures { IfOk result (λ h. (stations : List StationState) → seen state.now stations h
+    ensures { IfOk result (λ h. (stations : List StationState) → seen_outcome state.now stations h
         ≡ enters network.now provision.now.profiles station state.now (initial_ue_message_lists message.entry)) }
 {
     match state {
-        StationState::Down | StationState::Up => hears_not_compatible(alloc, station),
+        StationState::Down | StationState::Up => not_compatible(alloc, station),
         StationState::Ready(_) => {
             let entry = Entry {
                 station,
@@ -173,7 +170,7 @@ fn enters<'a>(
             match named_slot(network, provision, message.nas, message.s_tmsi) {
                 Some(slot) => Ok(Outcome {
                     state: None,
-                    says: Answers::new(alloc),
+                    sent: Answers::new(alloc),
                     reach: Reach::Nobody,
                     calls: Calls::One(slot, SoloEvent::Initial(entry)),
                 }),
@@ -181,7 +178,7 @@ fn enters<'a>(
                     let id = stranger_id(station, message.enb_id);
                     Ok(Outcome {
                         state: None,
-                        says: Answers::new(alloc),
+                        sent: Answers::new(alloc),
                         reach: Reach::Begins(id, entry),
                         calls: Calls::NoOne,
                     })
@@ -208,21 +205,21 @@ fn message_by_id<'a>(
     provision: &Provision,
     message: &UeMessage<&'a [u8]>,
 ) -> Result<Outcome<'a>, AllocError>
-    ensures { IfOk result (λ h. (state : StationState) (stations : List StationState) → seen state stations h
+    ensures { IfOk result (λ h. (state : StationState) (stations : List StationState) → seen_outcome state stations h
         ≡ message_by_id provision.now.profiles state (message_lists message.now)) }
 {
     if !message.mme_id.is_of_slot() {
         return Ok(Outcome {
             state: None,
-            says: Answers::new(alloc),
-            reach: Reach::Told(again(message)),
+            sent: Answers::new(alloc),
+            reach: Reach::Receives(again(message)),
             calls: Calls::NoOne,
         });
     }
     match provision.slot_of_association(message.mme_id) {
         Some(slot) => Ok(Outcome {
             state: None,
-            says: Answers::new(alloc),
+            sent: Answers::new(alloc),
             reach: Reach::Nobody,
             calls: Calls::One(slot, SoloEvent::Message(again(message))),
         }),
@@ -236,11 +233,11 @@ fn phone_message<'a>(
     state: &StationState,
     message: &UeMessage<&'a [u8]>,
 ) -> Result<Outcome<'a>, AllocError>
-    ensures { IfOk result (λ h. (stations : List StationState) → seen state.now stations h
+    ensures { IfOk result (λ h. (stations : List StationState) → seen_outcome state.now stations h
         ≡ phone_message provision.now.profiles state.now (message_lists message.now)) }
 {
     match state {
-        StationState::Down | StationState::Up => hears_not_compatible(alloc, message.station),
+        StationState::Down | StationState::Up => not_compatible(alloc, message.station),
         StationState::Ready(_) => message_by_id(alloc, provision, message),
     }
 }
@@ -262,8 +259,8 @@ fn phone_message_of<'a>(
     enb_id: EnbUeId,
     body: &UeBody<&'a [u8]>,
 ) -> Result<Outcome<'a>, AllocError>
-    ensures { IfOk result (λ h. (stations : List StationState) → seen state.now stations h
-        ≡ phone_message provision.now.profiles state.now (ue_message station mme_id enb_id (body_lists body.now))) }
+    ensures { IfOk result (λ h. (stations : List StationState) → seen_outcome state.now stations h
+        ≡ phone_message provision.now.profiles state.now (ue_message station mme_id enb_id (ue_body_lists body.now))) }
 {
     let message = UeMessage {
         station,
@@ -282,12 +279,12 @@ fn outcome_of_message<'a>(
     state: &StationState,
     message: S1apPdu<'a>,
 ) -> Result<Outcome<'a>, AllocError>
-    ensures { IfOk result (λ h. (stations : List StationState) → seen state.now stations h
+    ensures { IfOk result (λ h. (stations : List StationState) → seen_outcome state.now stations h
         ≡ outcome_of_message network.now provision.now.profiles station state.now (lists message.entry)) }
 {
     match message {
-        Pdu::SetupRequest(m) => hears_setup(alloc, network, station, m),
-        Pdu::Reset(_) => hears_reset(alloc, station, state),
+        Pdu::SetupRequest(m) => station_set_up(alloc, network, station, m),
+        Pdu::Reset(_) => interface_reset(alloc, station, state),
         Pdu::ErrorIndication(_) | Pdu::ResetAcknowledge => Ok(answered(Answers::new(alloc))),
         Pdu::InitialUeMessage(m) => enters(alloc, network, provision, station, state, m),
         Pdu::UplinkNasTransport(m) => {
@@ -361,7 +358,7 @@ fn outcome_of_message<'a>(
         | Pdu::ReleaseCommand(_)
         | Pdu::Paging(_)
         | Pdu::PathSwitchAcknowledge(_)
-        | Pdu::PathSwitchFailure(_) => hears_not_compatible(alloc, station),
+        | Pdu::PathSwitchFailure(_) => not_compatible(alloc, station),
     }
 }
 
@@ -374,11 +371,11 @@ pub fn outcome_of<'a>(
     state: &StationState,
     octets: &'a [u8],
 ) -> Result<Outcome<'a>, AllocError>
-    ensures { IfOk result (λ h. (stations : List StationState) → seen state.now stations h
+    ensures { IfOk result (λ h. (stations : List StationState) → seen_outcome state.now stations h
         ≡ outcome_of network.now provision.now.profiles station state.now (decoded octets.entry.now)) }
 {
     match decode(alloc, octets) {
         Ok(message) => outcome_of_message(alloc, network, provision, station, state, message),
-        Err(fault) => hears_fault(alloc, station, fault),
+        Err(fault) => outcome_of_fault(alloc, station, fault),
     }
 }

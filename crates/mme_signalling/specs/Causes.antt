@@ -5,18 +5,18 @@ use Rattle.nas_elements.specs.declared.fault.NasFault.TheVariants as faults
 use Rattle.mme_signalling.specs.declared.cause.EmmCause.{EmmCause}
 use Rattle.mme_signalling.specs.declared.cause.EmmCause.TheVariants.{ServicesNotAllowed, IdentityNotDerived, ImplicitlyDetached, NetworkFailure, CsDomainNotAvailable, EsmFailure, SynchFailure, InvalidMandatory, UnknownType, NotCompatible, ProtocolError}
 
-abbrev pub code_of : EmmCause → ℕ
-code_of ServicesNotAllowed = 8
-code_of IdentityNotDerived = 9
-code_of ImplicitlyDetached = 10
-code_of NetworkFailure = 17
-code_of CsDomainNotAvailable = 18
-code_of EsmFailure = 19
-code_of SynchFailure = 21
-code_of InvalidMandatory = 96
-code_of UnknownType = 97
-code_of NotCompatible = 98
-code_of ProtocolError = 111
+abbrev pub emm_cause_code : EmmCause → ℕ
+emm_cause_code ServicesNotAllowed = 8
+emm_cause_code IdentityNotDerived = 9
+emm_cause_code ImplicitlyDetached = 10
+emm_cause_code NetworkFailure = 17
+emm_cause_code CsDomainNotAvailable = 18
+emm_cause_code EsmFailure = 19
+emm_cause_code SynchFailure = 21
+emm_cause_code InvalidMandatory = 96
+emm_cause_code UnknownType = 97
+emm_cause_code NotCompatible = 98
+emm_cause_code ProtocolError = 111
 
 -- the cause of the status that answers octets with a fault (TS 24.301 clause 7)
 abbrev pub cause_of_fault : NasFault → Option EmmCause

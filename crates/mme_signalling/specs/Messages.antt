@@ -11,7 +11,7 @@ use Rattle.mme_vocabulary.specs.declared.network.Network.{Network}
 use Rattle.mme_signalling.specs.declared.cause.EmmCause.{EmmCause}
 use Rattle.mme_signalling.specs.declared.cause.EmmCause.TheVariants.{CsDomainNotAvailable}
 use Rattle.mme_signalling.specs.declared.messages.Grant.{Grant}
-use Rattle.mme_signalling.specs.Causes.{code_of}
+use Rattle.mme_signalling.specs.Causes.{emm_cause_code}
 
 -- the GUTI of an M-TMSI (TS 23.003 clause 2.8)
 abbrev pub guti : Network → ℕ → Guti
@@ -28,10 +28,10 @@ tai_list tai = record { plmn = record { octets = plmn_from_s1ap tai.plmn }; tac 
 
 -- a combined request is granted for EPS services only
 abbrev pub cause_of_combined : Bool → Option (List ℕ)
-cause_of_combined combined = if combined then Some (code_of CsDomainNotAvailable ∷ []) else None
+cause_of_combined combined = if combined then Some (emm_cause_code CsDomainNotAvailable ∷ []) else None
 
 unfoldable pub attach_reject : EmmCause → Option (List ℕ) → List ℕ
-attach_reject cause esm = encoded_emm (emm.AttachReject (record { cause = code_of cause; esm = esm }))
+attach_reject cause esm = encoded_emm (emm.AttachReject (record { cause = emm_cause_code cause; esm = esm }))
 
 unfoldable pub authentication_request : ℕ → List ℕ → List ℕ → List ℕ
 authentication_request ksi rand autn = encoded_emm (emm.AuthenticationRequest (record { ksi = ksi; rand = rand; autn = autn }))
@@ -57,10 +57,10 @@ update_accept n g =
     }))
 
 unfoldable pub update_reject : EmmCause → List ℕ
-update_reject cause = encoded_emm (emm.AreaUpdateReject (code_of cause))
+update_reject cause = encoded_emm (emm.AreaUpdateReject (emm_cause_code cause))
 
 unfoldable pub service_reject : EmmCause → List ℕ
-service_reject cause = encoded_emm (emm.ServiceReject (code_of cause))
+service_reject cause = encoded_emm (emm.ServiceReject (emm_cause_code cause))
 
 unfoldable pub detach_accept : List ℕ
 detach_accept = encoded_emm emm.DetachAccept
@@ -69,4 +69,4 @@ unfoldable pub network_detach : List ℕ
 network_detach = encoded_emm emm.NetworkDetach
 
 unfoldable pub emm_status : EmmCause → List ℕ
-emm_status cause = encoded_emm (emm.EmmStatus (code_of cause))
+emm_status cause = encoded_emm (emm.EmmStatus (emm_cause_code cause))

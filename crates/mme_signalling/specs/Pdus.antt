@@ -54,13 +54,13 @@ path_switch_acknowledge k keys =
 abbrev pub qos : Qos
 qos = record { qci = 9; arp = record { priority = 15; capability = 0; vulnerability = 0 } }
 
-abbrev pub is_set : ℕ → ℕ → Bool
-is_set n weight = n / weight % 2 == 1
+abbrev pub is_bit_set : ℕ → ℕ → Bool
+is_bit_set n weight = n / weight % 2 == 1
 
 -- the algorithms 1 to 7 of an octet that begins with algorithm 0, as the first of 16 (TS 36.413 clause 9.2.1.40)
 abbrev pub algorithm_bits : ℕ → List Bool
 algorithm_bits o =
-    is_set o 64 ∷ is_set o 32 ∷ is_set o 16 ∷ is_set o 8 ∷ is_set o 4 ∷ is_set o 2 ∷ is_set o 1 ∷ false
+    is_bit_set o 64 ∷ is_bit_set o 32 ∷ is_bit_set o 16 ∷ is_bit_set o 8 ∷ is_bit_set o 4 ∷ is_bit_set o 2 ∷ is_bit_set o 1 ∷ false
     ∷ false ∷ false ∷ false ∷ false ∷ false ∷ false ∷ false ∷ false ∷ []
 
 -- the default bearer: E-RAB 5, its tunnel at the S-GW, and the NAS message where there is one
@@ -88,7 +88,7 @@ ue_index imsi = number_from 0 (imsi_text imsi) % 1024
 
 abbrev pub index_bits : ℕ → List Bool
 index_bits n =
-    is_set n 512 ∷ is_set n 256 ∷ is_set n 128 ∷ is_set n 64 ∷ is_set n 32 ∷ is_set n 16 ∷ is_set n 8 ∷ is_set n 4 ∷ is_set n 2 ∷ is_set n 1 ∷ []
+    is_bit_set n 512 ∷ is_bit_set n 256 ∷ is_bit_set n 128 ∷ is_bit_set n 64 ∷ is_bit_set n 32 ∷ is_bit_set n 16 ∷ is_bit_set n 8 ∷ is_bit_set n 4 ∷ is_bit_set n 2 ∷ is_bit_set n 1 ∷ []
 
 unfoldable pub paging : Network → List ℕ → ℕ → Tai → Pdu (List ℕ)
 paging n imsi tmsi tai =

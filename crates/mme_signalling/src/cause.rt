@@ -1,7 +1,7 @@
 //! EMM causes.
 
 ghost use Rattle.std.specs.Prelude.{◌≡◌};
-ghost use Rattle.mme_signalling.specs.Causes.{cause_of_fault, code_of};
+ghost use Rattle.mme_signalling.specs.Causes.{cause_of_fault, emm_cause_code};
 
 use nas_elements::NasFault;
 
@@ -35,7 +35,7 @@ pub enum EmmCause {
 impl EmmCause {
     /// Its code (TS 24.301 clause 9.9.3.9).
     pub fn code(self) -> u8
-        ensures { result ≡ code_of self }
+        ensures { result ≡ emm_cause_code self }
     {
         match self {
             EmmCause::ServicesNotAllowed => 8,

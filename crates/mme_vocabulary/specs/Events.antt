@@ -26,16 +26,16 @@ pub data Item : Type 0 where
 abbrev pub entry_lists : Entry (Bor (List ℕ)) → Entry (List ℕ)
 entry_lists m = record { station = m.station; enb_id = m.enb_id; nas = m.nas.now; tai = m.tai }
 
-abbrev pub body_lists : UeBody (Bor (List ℕ)) → UeBody (List ℕ)
-body_lists (bodies.Uplink nas tai) = bodies.Uplink nas.now tai
-body_lists (bodies.ReleaseRequest cause) = bodies.ReleaseRequest cause
-body_lists bodies.ReleaseComplete = bodies.ReleaseComplete
-body_lists bodies.ContextSetupFailure = bodies.ContextSetupFailure
-body_lists bodies.PathSwitch = bodies.PathSwitch
-body_lists bodies.Notice = bodies.Notice
+abbrev pub ue_body_lists : UeBody (Bor (List ℕ)) → UeBody (List ℕ)
+ue_body_lists (bodies.Uplink nas tai) = bodies.Uplink nas.now tai
+ue_body_lists (bodies.ReleaseRequest cause) = bodies.ReleaseRequest cause
+ue_body_lists bodies.ReleaseComplete = bodies.ReleaseComplete
+ue_body_lists bodies.ContextSetupFailure = bodies.ContextSetupFailure
+ue_body_lists bodies.PathSwitch = bodies.PathSwitch
+ue_body_lists bodies.Notice = bodies.Notice
 
 abbrev pub message_lists : UeMessage (Bor (List ℕ)) → UeMessage (List ℕ)
-message_lists m = record { station = m.station; mme_id = m.mme_id; enb_id = m.enb_id; body = body_lists m.body }
+message_lists m = record { station = m.station; mme_id = m.mme_id; enb_id = m.enb_id; body = ue_body_lists m.body }
 
 abbrev pub item_of : SoloEvent → List StationState → Item
 item_of events.Nothing stations = Nothing

@@ -1,14 +1,14 @@
 -- When octets are accepted.
 use Rattle.std.proofs.Common.{◌≡◌, ℕ, ◌/◌, ◌%◌, ◌^◌, ◌<◌, ◌≤◌, ◌==◌, ◌&&◌, ◌↔◌, Bool, true, false, cond, List, ◌∷◌, take, drop, slice_index, Option, Some, None, Result, Ok, Err, refl, sym, ap, ◌∙◌}
 use Rattle.eps_keys.specs.Same.{same_octets}
-use Rattle.eps_keys.specs.declared.direction.Direction.TheVariants.{Uplink}
+use Rattle.eps_keys.specs.declared.direction.DirectionBit.TheVariants.{Uplink}
 use Rattle.nas_messages.specs.declared.protection.SecurityHeader.{SecurityHeader}
 use Rattle.nas_messages.specs.declared.protection.Protected.{Protected}
 use Rattle.nas_messages.specs.Protection.{split}
 use Rattle.nas_security.specs.declared.fault.SecurityFault.{SecurityFault}
 use Rattle.nas_security.specs.declared.fault.SecurityFault.TheVariants.{BadMac, WrongHeader}
 use Rattle.nas_security.specs.Counts.{estimate, first_after}
-use Rattle.nas_security.specs.Accepting.{Answer, accepted, accepted_parts, accepted_under, is_allowed, short_accepted, short_under}
+use Rattle.nas_security.specs.Accepting.{Acceptance, accepted, accepted_parts, accepted_under, is_allowed, short_accepted, short_under}
 use Rattle.nas_security.specs.Context.{Mac}
 use Rattle.nas_security.specs.Laws.{IsAccepted}
 use Rattle.nas_security.proofs.Estimates.{estimated}
@@ -27,7 +27,7 @@ from_estimate : SameIsEqual → (mac : Mac) (last : Option ℕ) (allowed : List 
     → (o : Option ℕ) → estimate last p.sequence (2 ^ 8) ≡ o → accepted_under mac p o ≡ Ok (count, message) → IsAccepted mac last allowed octets count message
 from_estimate same mac last allowed octets count message p form header None counted e = absurd (cc)
 from_estimate same mac last allowed octets count message p form header (Some n) counted e =
-    let answer : Answer = Ok (n, p.message) in
+    let answer : Acceptance = Ok (n, p.message) in
     let found = where_ok (same_octets p.mac (mac n Uplink (p.sequence ∷ p.message))) answer BadMac (count, message) e in
     let there : ℕ × List ℕ = (n, p.message) in
     let here : ℕ × List ℕ = (count, message) in

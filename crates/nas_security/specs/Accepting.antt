@@ -3,7 +3,7 @@ use Rattle.std.specs.Prelude.{ℕ, ◌/◌, ◌%◌, ◌^◌, ◌==◌, ◌&&◌
 use Rattle.std.specs.List.{list_any}
 use Rattle.std.specs.Borrow.{Bor}
 use Rattle.eps_keys.specs.Same.{same_octets}
-use Rattle.eps_keys.specs.declared.direction.Direction.TheVariants.{Uplink}
+use Rattle.eps_keys.specs.declared.direction.DirectionBit.TheVariants.{Uplink}
 use Rattle.nas_messages.specs.declared.protection.SecurityHeader.{SecurityHeader}
 use Rattle.nas_messages.specs.declared.protection.Protected.{Protected}
 use Rattle.nas_messages.specs.Protection.{header_code, split, unlent}
@@ -17,37 +17,37 @@ abbrev pub is_allowed : List SecurityHeader → SecurityHeader → Bool
 is_allowed allowed header = list_any (λ one. header_code one == header_code header) allowed
 
 -- the count and the message, or the fault
-abbrev pub Answer : Type 0
-Answer = Result (ℕ × List ℕ) SecurityFault
+abbrev pub Acceptance : Type 0
+Acceptance = Result (ℕ × List ℕ) SecurityFault
 
 -- the answer on these parts under the count that the sequence number gave: the MAC is over the
 -- sequence number and the message (TS 24.301, 9.5)
-abbrev pub accepted_under : Mac → Protected (List ℕ) → Option ℕ → Answer
+abbrev pub accepted_under : Mac → Protected (List ℕ) → Option ℕ → Acceptance
 accepted_under mac p None = Err CountSpent
 accepted_under mac p (Some count) =
     if same_octets p.mac (mac count Uplink (p.sequence ∷ p.message)) then Ok (count, p.message)
     else Err BadMac
 
 -- on the parts of a protected message, or none, with the last accepted count and the headers allowed
-abbrev pub accepted_parts : Mac → Option ℕ → List SecurityHeader → Option (Protected (List ℕ)) → Answer
+abbrev pub accepted_parts : Mac → Option ℕ → List SecurityHeader → Option (Protected (List ℕ)) → Acceptance
 accepted_parts mac last allowed None = Err WrongHeader
 accepted_parts mac last allowed (Some p) =
     if is_allowed allowed p.header then accepted_under mac p (estimate last p.sequence (2 ^ 8))
     else Err WrongHeader
 
 -- on octets
-unfoldable pub accepted : Mac → Option ℕ → List SecurityHeader → List ℕ → Answer
+unfoldable pub accepted : Mac → Option ℕ → List SecurityHeader → List ℕ → Acceptance
 accepted mac last allowed octets = accepted_parts mac last allowed (split octets)
 
 -- the last accepted count after that answer
-abbrev pub last_after : Option ℕ → Answer → Option ℕ
+abbrev pub last_after : Option ℕ → Acceptance → Option ℕ
 last_after last (Ok found) = Some found.0
 last_after last (Err fault) = last
 
 -- an answer without where its message lies in memory
-abbrev pub seen_answer : Result (ℕ × Bor (List ℕ)) SecurityFault → Answer
-seen_answer (Ok found) = Ok (found.0, found.1.now)
-seen_answer (Err fault) = Err fault
+abbrev pub seen_acceptance : Result (ℕ × Bor (List ℕ)) SecurityFault → Acceptance
+seen_acceptance (Ok found) = Ok (found.0, found.1.now)
+seen_acceptance (Err fault) = Err fault
 
 -- the parts of a message and what its MAC is over, likewise
 abbrev pub seen_parts :

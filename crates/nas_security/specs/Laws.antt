@@ -1,6 +1,6 @@
 -- When octets are accepted.
 use Rattle.std.specs.Prelude.{◌≡◌, ℕ, ◌^◌, true, List, ◌∷◌, Option, Some}
-use Rattle.eps_keys.specs.declared.direction.Direction.TheVariants.{Uplink}
+use Rattle.eps_keys.specs.declared.direction.DirectionBit.TheVariants.{Uplink}
 use Rattle.nas_messages.specs.declared.protection.SecurityHeader.{SecurityHeader}
 use Rattle.nas_messages.specs.declared.protection.Protected.{Protected}
 use Rattle.nas_messages.specs.Protection.{split}

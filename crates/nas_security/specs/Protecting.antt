@@ -1,6 +1,6 @@
 -- What a security context sends.
 use Rattle.std.specs.Prelude.{ℕ, ◌%◌, ◌^◌, List, ◌∷◌}
-use Rattle.eps_keys.specs.declared.direction.Direction.TheVariants.{Downlink}
+use Rattle.eps_keys.specs.declared.direction.DirectionBit.TheVariants.{Downlink}
 use Rattle.nas_messages.specs.declared.protection.SecurityHeader.{SecurityHeader}
 use Rattle.nas_messages.specs.declared.protection.Protected.{Protected}
 use Rattle.nas_messages.specs.Protection.{protected_form}

@@ -3,12 +3,12 @@
 ghost use Rattle.std.specs.Prelude.{◌≡◌, ◌≤◌, ◌+◌, ◌^◌, ◌↔◌, ◌⊎◌, ◌∷◌, option_map, IfOk, IfErr, OnOk, OnErr, IsErrOf};
 ghost use Rattle.nas_messages.specs.Protection.{split};
 ghost use Rattle.nas_security.specs.Protecting.{protected_by};
-ghost use Rattle.nas_security.specs.Accepting.{accepted, is_allowed, last_after, seen_answer, seen_parts, short_accepted, short_after};
+ghost use Rattle.nas_security.specs.Accepting.{accepted, is_allowed, last_after, seen_acceptance, seen_parts, short_accepted, short_after};
 
 use crate::counts::{COUNT_LIMIT, estimate};
 use crate::fault::SecurityFault;
 use crate::integrity::Integrity;
-use eps_keys::{Direction, same_octets};
+use eps_keys::{DirectionBit, same_octets};
 use nas_messages::{Protected, SecurityHeader, join_protected, split_protected};
 use std::alloc::{AllocError, Global};
 use std::marker::Model;
@@ -17,17 +17,17 @@ use std::marker::Model;
 /// algorithm under its key, the key set identifier, the next downlink count and the last accepted
 /// uplink count.
 #[derive(Clone, Copy)]
-pub struct SecurityContext<I> {
+pub struct EpsSecurityContext<I> {
     integrity: I,
     ksi: u8,
     down_next: u32,
     up_last: Option<u32>,
 }
 
-impl<I> Model for SecurityContext<I> {
-    ghost use Rattle.nas_security.specs.Context.{Context};
+impl<I> Model for EpsSecurityContext<I> {
+    ghost use Rattle.nas_security.specs.Context.{SecurityContextView};
 
-    ghost Value = { Context I };
+    ghost Value = { SecurityContextView I };
 
     ghost view = { λ c. record { integrity = c.integrity; ksi = c.ksi; down_next = c.down_next; up_last = c.up_last } };
 
@@ -49,13 +49,13 @@ fn is_allowed(allowed: &[SecurityHeader], header: SecurityHeader) -> bool
     allowed.iter().any(|one| one.code() == header.code())
 }
 
-impl<I: Integrity> SecurityContext<I> {
+impl<I: Integrity> EpsSecurityContext<I> {
     /// A context under an algorithm with its key. A next downlink count beyond 24 bits leaves none to
     /// spend, and such a last accepted uplink count none to accept.
     pub fn new(integrity: I, ksi: u8, down_next: u32, up_last: Option<u32>) -> Self
         ensures { result ≡ record { integrity = integrity; ksi = ksi; down_next = down_next; up_last = up_last } }
     {
-        SecurityContext {
+        EpsSecurityContext {
             integrity,
             ksi,
             down_next,
@@ -128,9 +128,9 @@ impl<I: Integrity> SecurityContext<I> {
         octets: &'a [u8],
         allowed: &[SecurityHeader],
     ) -> Result<(u32, &'a [u8]), SecurityFault>
-        ensures answer { seen_answer result
+        ensures answer { seen_acceptance result
             ≡ accepted (I.mac_of self.old.integrity) self.old.up_last allowed.now octets.entry.now }
-        ensures state { self.new ≡ record self.old { up_last = last_after self.old.up_last (seen_answer result) } }
+        ensures state { self.new ≡ record self.old { up_last = last_after self.old.up_last (seen_acceptance result) } }
     {
         let Some((protected, authenticated)) = parts(octets) else {
             return Err(SecurityFault::WrongHeader);
@@ -141,7 +141,9 @@ impl<I: Integrity> SecurityContext<I> {
         let Some(count) = estimate(self.up_last, protected.sequence, 256) else {
             return Err(SecurityFault::CountSpent);
         };
-        let mac = self.integrity.mac(count, Direction::Uplink, authenticated);
+        let mac = self
+            .integrity
+            .mac(count, DirectionBit::Uplink, authenticated);
         if !same_octets(&protected.mac, &mac) {
             return Err(SecurityFault::BadMac);
         }
@@ -165,7 +167,9 @@ impl<I: Integrity> SecurityContext<I> {
         let Some(count) = estimate(self.up_last, octets[1] % 32, 32) else {
             return Err(SecurityFault::CountSpent);
         };
-        let mac = self.integrity.mac(count, Direction::Uplink, &octets[..2]);
+        let mac = self
+            .integrity
+            .mac(count, DirectionBit::Uplink, &octets[..2]);
         if !same_octets(&octets[2..4], &mac[2..4]) {
             return Err(SecurityFault::BadMac);
         }
@@ -194,7 +198,7 @@ fn protected<I: Integrity>(
         message,
     };
     let mut form = join_protected(alloc, &blank)?;
-    let [a, b, c, d] = integrity.mac(count, Direction::Downlink, &form.as_slice()[5..]);
+    let [a, b, c, d] = integrity.mac(count, DirectionBit::Downlink, &form.as_slice()[5..]);
     form[1] = a;
     form[2] = b;
     form[3] = c;

@@ -3,7 +3,7 @@
 ghost use Rattle.std.specs.Prelude.{◌≡◌};
 ghost use Rattle.nas_security.specs.Context.{Mac};
 
-use eps_keys::{Direction, MacKey};
+use eps_keys::{DirectionBit, MacKey};
 use std::marker::Model;
 
 /// An integrity algorithm of NAS signalling under one key (TS 33.401, B.2.1).
@@ -12,7 +12,7 @@ pub trait Integrity {
     ghost mac_of: { Self → Mac };
 
     /// The MAC of four octets of a message with its count and direction (TS 24.301, 9.5).
-    fn mac(&self, count: u32, direction: Direction, message: &[u8]) -> [u8; 4]
+    fn mac(&self, count: u32, direction: DirectionBit, message: &[u8]) -> [u8; 4]
         ensures { result ≡ mac_of self.now count direction message.now };
 }
 
@@ -49,7 +49,7 @@ impl Integrity for Eia2 {
 
     ghost mac_of = { eia2 };
 
-    fn mac(&self, count: u32, direction: Direction, message: &[u8]) -> [u8; 4] {
+    fn mac(&self, count: u32, direction: DirectionBit, message: &[u8]) -> [u8; 4] {
         self.key.eia2(count, direction, message)
     }
 }

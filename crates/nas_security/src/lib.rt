@@ -12,7 +12,7 @@ mod fault;
 mod integrity;
 mod laws;
 
-pub use context::SecurityContext;
+pub use context::EpsSecurityContext;
 pub use fault::SecurityFault;
 pub use integrity::{Eia2, Integrity};
 pub use laws::{accepted_is_exact, accepted_is_fresh, estimate_is_least};

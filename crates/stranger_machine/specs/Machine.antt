@@ -31,7 +31,7 @@ use Rattle.stranger_machine.specs.declared.state.Stranger.{Stranger}
 use Rattle.stranger_machine.specs.declared.state.Stranger.TheVariants.{Waiting, Held}
 use Rattle.stranger_machine.specs.declared.turn.Notice.{Notice}
 use Rattle.stranger_machine.specs.declared.turn.Notice.TheVariants.{Tick, Gone}
-use Rattle.stranger_machine.specs.Turns.{Call, Turn, asked, calling, closing, entry_of, kept_of, place_of, refused, released, said, stays}
+use Rattle.stranger_machine.specs.Turns.{Call, Turn, identity_asked, also_calling, closing, as_entry, as_kept, place_of, refused, released, sent_to, stays}
 
 -- T3470: the ticks until IDENTITY REQUEST is sent again, and how often it is (TS 24.301 clause 10.2)
 abbrev pub identity_ticks : ℕ
@@ -48,37 +48,37 @@ pub data Welcome : Type 0 where
   Refuse : List ℕ → Welcome
   TurnAway : Welcome
 
-abbrev pub by_identity : MobileIdentity → Welcome
-by_identity (Imsi digits) = Refuse (attach_reject ServicesNotAllowed None)
-by_identity (Temporary g) = Ask
+abbrev pub welcome_by_identity : MobileIdentity → Welcome
+welcome_by_identity (Imsi digits) = Refuse (attach_reject ServicesNotAllowed None)
+welcome_by_identity (Temporary g) = Ask
 
 -- an identity of elsewhere can be asked for in an attach alone: any other request is refused
-abbrev pub by_message : Emm (List ℕ) → Welcome
-by_message (emm.AttachRequest m) = by_identity m.identity
-by_message (emm.AreaUpdateRequest m) = Refuse (update_reject IdentityNotDerived)
-by_message (emm.ServiceRequest octets) = Refuse (service_reject IdentityNotDerived)
-by_message _ = TurnAway
+abbrev pub welcome_by_message : Emm (List ℕ) → Welcome
+welcome_by_message (emm.AttachRequest m) = welcome_by_identity m.identity
+welcome_by_message (emm.AreaUpdateRequest m) = Refuse (update_reject IdentityNotDerived)
+welcome_by_message (emm.ServiceRequest octets) = Refuse (service_reject IdentityNotDerived)
+welcome_by_message _ = TurnAway
 
 -- a request with a part that can't be read is refused by its type
-abbrev pub by_type : ℕ → Welcome
-by_type code = if code == 0x41 then Refuse (attach_reject InvalidMandatory None) else if code == 0x48 then Refuse (update_reject InvalidMandatory) else TurnAway
+abbrev pub welcome_by_type : ℕ → Welcome
+welcome_by_type code = if code == 0x41 then Refuse (attach_reject InvalidMandatory None) else if code == 0x48 then Refuse (update_reject InvalidMandatory) else TurnAway
 
-abbrev pub by_fault : NasFault → ℕ → Welcome
-by_fault Mandatory code = by_type code
-by_fault OptionalPart code = by_type code
-by_fault TooShort code = TurnAway
-by_fault UnknownType code = TurnAway
-by_fault NoMemory code = TurnAway
+abbrev pub welcome_by_fault : NasFault → ℕ → Welcome
+welcome_by_fault Mandatory code = welcome_by_type code
+welcome_by_fault OptionalPart code = welcome_by_type code
+welcome_by_fault TooShort code = TurnAway
+welcome_by_fault UnknownType code = TurnAway
+welcome_by_fault NoMemory code = TurnAway
 
-abbrev pub by_reading : Result (Emm (List ℕ)) NasFault → ℕ → Welcome
-by_reading (Ok m) code = by_message m
-by_reading (Err fault) code = by_fault fault code
+abbrev pub welcome_by_reading : Result (Emm (List ℕ)) NasFault → ℕ → Welcome
+welcome_by_reading (Ok m) code = welcome_by_message m
+welcome_by_reading (Err fault) code = welcome_by_fault fault code
 
 unfoldable pub meet : List ℕ → Welcome
-meet nas = by_reading (decoded_emm UplinkDirection (initial_octets nas)) (slice_index (initial_octets nas) 1)
+meet nas = welcome_by_reading (decoded_emm UplinkDirection (initial_octets nas)) (slice_index (initial_octets nas) 1)
 
 unfoldable pub welcomed : ℕ → Kept → Welcome → Turn
-welcomed id k Ask = stays (Some (Waiting k identity_ticks identity_repeats)) (asked (place_of id k))
+welcomed id k Ask = stays (Some (Waiting k identity_ticks identity_repeats)) (identity_asked (place_of id k))
 welcomed id k (Refuse nas) = closing (refused (place_of id k) nas)
 welcomed id k TurnAway = closing (released (place_of id k) (Nas Unspecified))
 
@@ -89,64 +89,64 @@ displaced_by id (Some (Waiting k left repeats)) = None
 displaced_by id (Some (Held slot)) = Some (record { slot = slot; item = Displaced id })
 
 unfoldable pub begins : ℕ → Option Stranger → Entry (List ℕ) → Turn
-begins id s m = calling (displaced_by id s) (welcomed id (kept_of m) (meet m.nas))
+begins id s m = also_calling (displaced_by id s) (welcomed id (as_kept m) (meet m.nas))
 
 -- ---- a message with the id
 
 -- of nobody (TS 36.413 clauses 10.6 and 8.4.4.3)
 unfoldable pub unknown : UeBody (List ℕ) → UeMessage (List ℕ) → List Answer
 unknown ReleaseComplete m = []
-unknown PathSwitch m = said m.station (path_switch_failure m.mme_id m.enb_id (RadioNetwork UnknownMmeUeS1apId))
-unknown (Uplink nas tai) m = said m.station (error_indication m.mme_id m.enb_id (RadioNetwork UnknownMmeUeS1apId))
-unknown (ReleaseRequest cause) m = said m.station (error_indication m.mme_id m.enb_id (RadioNetwork UnknownMmeUeS1apId))
-unknown ContextSetupFailure m = said m.station (error_indication m.mme_id m.enb_id (RadioNetwork UnknownMmeUeS1apId))
-unknown NoticeBody m = said m.station (error_indication m.mme_id m.enb_id (RadioNetwork UnknownMmeUeS1apId))
+unknown PathSwitch m = sent_to m.station (path_switch_failure m.mme_id m.enb_id (RadioNetwork UnknownMmeUeS1apId))
+unknown (Uplink nas tai) m = sent_to m.station (error_indication m.mme_id m.enb_id (RadioNetwork UnknownMmeUeS1apId))
+unknown (ReleaseRequest cause) m = sent_to m.station (error_indication m.mme_id m.enb_id (RadioNetwork UnknownMmeUeS1apId))
+unknown ContextSetupFailure m = sent_to m.station (error_indication m.mme_id m.enb_id (RadioNetwork UnknownMmeUeS1apId))
+unknown NoticeBody m = sent_to m.station (error_indication m.mme_id m.enb_id (RadioNetwork UnknownMmeUeS1apId))
 
 -- the IMSI of an IDENTITY RESPONSE, which is plain
-abbrev pub imsi_of : MobileIdentity → Option (List ℕ)
-imsi_of (Imsi digits) = Some digits
-imsi_of (Temporary g) = None
+abbrev pub imsi_of_identity : MobileIdentity → Option (List ℕ)
+imsi_of_identity (Imsi digits) = Some digits
+imsi_of_identity (Temporary g) = None
 
-abbrev pub told_imsi : Result (Emm (List ℕ)) NasFault → Option (List ℕ)
-told_imsi (Ok (emm.IdentityResponse identity)) = imsi_of identity
-told_imsi _ = None
+abbrev pub imsi_in_response : Result (Emm (List ℕ)) NasFault → Option (List ℕ)
+imsi_in_response (Ok (emm.IdentityResponse identity)) = imsi_of_identity identity
+imsi_in_response _ = None
 
 -- who is provisioned claims the association, with the message that began it
 unfoldable pub claimed_by : Option ℕ → ℕ → Kept → Turn
 claimed_by None id k = closing (refused (place_of id k) (attach_reject ServicesNotAllowed None))
-claimed_by (Some slot) id k = record { stranger = Some (Held slot); sent = []; call = Some (record { slot = slot; item = Claim id (entry_of k) }) }
+claimed_by (Some slot) id k = record { stranger = Some (Held slot); sent = []; call = Some (record { slot = slot; item = Claim id (as_entry k) }) }
 
 unfoldable pub identified : Option (List ℕ) → List Profile → ℕ → Kept → Stranger → Turn
 identified None ps id k s = stays (Some s) []
 identified (Some imsi) ps id k s = claimed_by (slot_of_imsi imsi ps) id k
 
 -- from its own station and number
-unfoldable pub heeds : UeBody (List ℕ) → List Profile → ℕ → Kept → Stranger → Turn
-heeds (Uplink nas tai) ps id k s = identified (told_imsi (decoded_emm UplinkDirection nas)) ps id k s
-heeds (ReleaseRequest cause) ps id k s = closing (released (place_of id k) (cause_of_request cause))
-heeds ReleaseComplete ps id k s = stays (Some s) []
-heeds ContextSetupFailure ps id k s = stays (Some s) []
-heeds PathSwitch ps id k s = stays (Some s) []
-heeds NoticeBody ps id k s = stays (Some s) []
+unfoldable pub receives_own : UeBody (List ℕ) → List Profile → ℕ → Kept → Stranger → Turn
+receives_own (Uplink nas tai) ps id k s = identified (imsi_in_response (decoded_emm UplinkDirection nas)) ps id k s
+receives_own (ReleaseRequest cause) ps id k s = closing (released (place_of id k) (cause_of_request cause))
+receives_own ReleaseComplete ps id k s = stays (Some s) []
+receives_own ContextSetupFailure ps id k s = stays (Some s) []
+receives_own PathSwitch ps id k s = stays (Some s) []
+receives_own NoticeBody ps id k s = stays (Some s) []
 
-unfoldable pub checked : List Profile → UeMessage (List ℕ) → Kept → Stranger → Turn
-checked ps m k s =
-    if k.station == m.station && k.enb_id == m.enb_id then heeds m.body ps m.mme_id k s
-    else stays (Some s) (said m.station (error_indication m.mme_id m.enb_id (RadioNetwork UnknownPairUeS1apId)))
+unfoldable pub checked_for_pair : List Profile → UeMessage (List ℕ) → Kept → Stranger → Turn
+checked_for_pair ps m k s =
+    if k.station == m.station && k.enb_id == m.enb_id then receives_own m.body ps m.mme_id k s
+    else stays (Some s) (sent_to m.station (error_indication m.mme_id m.enb_id (RadioNetwork UnknownPairUeS1apId)))
 
 -- waiting: UE CONTEXT RELEASE COMPLETE is never answered, and no path switch leads away
-unfoldable pub waiting_told : UeBody (List ℕ) → List Profile → UeMessage (List ℕ) → Kept → Stranger → Turn
-waiting_told ReleaseComplete ps m k s = stays (Some s) []
-waiting_told PathSwitch ps m k s = stays (Some s) (unknown PathSwitch m)
-waiting_told (Uplink nas tai) ps m k s = checked ps m k s
-waiting_told (ReleaseRequest cause) ps m k s = checked ps m k s
-waiting_told ContextSetupFailure ps m k s = checked ps m k s
-waiting_told NoticeBody ps m k s = checked ps m k s
+unfoldable pub receives_waiting : UeBody (List ℕ) → List Profile → UeMessage (List ℕ) → Kept → Stranger → Turn
+receives_waiting ReleaseComplete ps m k s = stays (Some s) []
+receives_waiting PathSwitch ps m k s = stays (Some s) (unknown PathSwitch m)
+receives_waiting (Uplink nas tai) ps m k s = checked_for_pair ps m k s
+receives_waiting (ReleaseRequest cause) ps m k s = checked_for_pair ps m k s
+receives_waiting ContextSetupFailure ps m k s = checked_for_pair ps m k s
+receives_waiting NoticeBody ps m k s = checked_for_pair ps m k s
 
-unfoldable pub told : List Profile → Option Stranger → UeMessage (List ℕ) → Turn
-told ps None m = closing (unknown m.body m)
-told ps (Some (Waiting k left repeats)) m = waiting_told m.body ps m k (Waiting k left repeats)
-told ps (Some (Held slot)) m = record { stranger = Some (Held slot); sent = []; call = Some (record { slot = slot; item = Message m }) }
+unfoldable pub receives : List Profile → Option Stranger → UeMessage (List ℕ) → Turn
+receives ps None m = closing (unknown m.body m)
+receives ps (Some (Waiting k left repeats)) m = receives_waiting m.body ps m k (Waiting k left repeats)
+receives ps (Some (Held slot)) m = record { stranger = Some (Held slot); sent = []; call = Some (record { slot = slot; item = Message m }) }
 
 -- ---- what comes to all
 
@@ -154,7 +154,7 @@ told ps (Some (Held slot)) m = record { stranger = Some (Held slot); sent = []; 
 unfoldable pub waits : ℕ → Kept → ℕ → ℕ → Turn
 waits id k left repeats =
     if nat_lt 1 left then stays (Some (Waiting k (left - 1) repeats)) []
-    else if nat_lt 0 repeats then stays (Some (Waiting k identity_ticks (repeats - 1))) (asked (place_of id k))
+    else if nat_lt 0 repeats then stays (Some (Waiting k identity_ticks (repeats - 1))) (identity_asked (place_of id k))
     else closing (released (place_of id k) (Nas Unspecified))
 
 unfoldable pub ticks : ℕ → Option Stranger → Turn
@@ -176,11 +176,11 @@ notes id s (Gone e) = loses id s e
 pub data Input : Type 0 where
   Nothing : Input
   Begins : Entry (List ℕ) → Input
-  Told : UeMessage (List ℕ) → Input
+  Receives : UeMessage (List ℕ) → Input
   Notes : Notice → Input
 
 unfoldable pub stranger_step : List Profile → ℕ → Option Stranger → Input → Turn
 stranger_step ps id s Nothing = stays s []
 stranger_step ps id s (Begins m) = begins id s m
-stranger_step ps id s (Told m) = told ps s m
+stranger_step ps id s (Receives m) = receives ps s m
 stranger_step ps id s (Notes notice) = notes id s notice

@@ -40,38 +40,38 @@ stays s sent = record { stranger = s; sent = sent; call = None }
 abbrev pub closing : List Answer → Turn
 closing sent = record { stranger = None; sent = sent; call = None }
 
-abbrev pub calling : Option Call → Turn → Turn
-calling call t = record t { call = call }
+abbrev pub also_calling : Option Call → Turn → Turn
+also_calling call t = record t { call = call }
 
 -- ---- what is sent
 
-abbrev pub said : ℕ → Pdu (List ℕ) → List Answer
-said station message = answer_of station None (encoded message)
+abbrev pub sent_to : ℕ → Pdu (List ℕ) → List Answer
+sent_to station message = answer_of station None (encoded message)
 
 -- an INITIAL UE MESSAGE as it is kept, and as it was
-abbrev pub kept_of : Entry (List ℕ) → Kept
-kept_of m = record { station = m.station; enb_id = m.enb_id; nas = m.nas; tai = m.tai }
+abbrev pub as_kept : Entry (List ℕ) → Kept
+as_kept m = record { station = m.station; enb_id = m.enb_id; nas = m.nas; tai = m.tai }
 
-abbrev pub entry_of : Kept → Entry (List ℕ)
-entry_of k = record { station = k.station; enb_id = k.enb_id; nas = k.nas; tai = k.tai }
+abbrev pub as_entry : Kept → Entry (List ℕ)
+as_entry k = record { station = k.station; enb_id = k.enb_id; nas = k.nas; tai = k.tai }
 
 -- the association of a stranger
 abbrev pub place_of : ℕ → Kept → Connection
 place_of id k = record { id = id; station = k.station; enb_id = k.enb_id }
 
 unfoldable pub released : Connection → Cause → List Answer
-released k cause = said k.station (release_command k.id k.enb_id cause)
+released k cause = sent_to k.station (release_command k.id k.enb_id cause)
 
 -- the NAS message, plain, and a release
 unfoldable pub refused : Connection → List ℕ → List Answer
-refused k nas = said k.station (downlink k nas) ++ released k (Nas NormalRelease)
+refused k nas = sent_to k.station (downlink k nas) ++ released k (Nas NormalRelease)
 
 -- IDENTITY REQUEST for the IMSI (TS 24.301 clause 8.2.18)
 unfoldable pub identity_request : List ℕ
 identity_request = encoded_emm emm.IdentityRequest
 
-unfoldable pub asked : Connection → List Answer
-asked k = said k.station (downlink k identity_request)
+unfoldable pub identity_asked : Connection → List Answer
+identity_asked k = sent_to k.station (downlink k identity_request)
 
 -- ---- what functions of the code returned
 

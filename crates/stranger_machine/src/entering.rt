@@ -4,11 +4,11 @@ ghost use Rattle.std.specs.Prelude.{◌≡◌, List, IfOk, option_map, slice_ind
 ghost use Rattle.nas_messages.specs.Messages.{lists};
 ghost use Rattle.mme_vocabulary.specs.declared.stations.StationState.{StationState};
 ghost use Rattle.mme_vocabulary.specs.Events.{entry_lists};
-ghost use Rattle.stranger_machine.specs.Machine.{begins, by_fault, by_identity, by_message, by_type, displaced_by, meet, welcomed};
+ghost use Rattle.stranger_machine.specs.Machine.{begins, welcome_by_fault, welcome_by_identity, welcome_by_message, welcome_by_type, displaced_by, meet, welcomed};
 ghost use Rattle.stranger_machine.specs.Seen.{refusal_of, welcome_of};
-ghost use Rattle.stranger_machine.specs.Turns.{call_of, kept_of, turn_of};
+ghost use Rattle.stranger_machine.specs.Turns.{call_of, as_kept, turn_of};
 
-use crate::sending::{asked, place, refused, released};
+use crate::sending::{identity_asked, place, refused, released};
 use crate::state::{Kept, Stranger};
 use crate::turn::{After, Call, Turn};
 use identity_slots::AssociationId;
@@ -43,8 +43,8 @@ pub(crate) enum Welcome {
     TurnAway,
 }
 
-fn by_identity(identity: &MobileIdentity) -> Welcome
-    ensures { welcome_of result ≡ by_identity identity.now }
+fn welcome_by_identity(identity: &MobileIdentity) -> Welcome
+    ensures { welcome_of result ≡ welcome_by_identity identity.now }
 {
     match identity {
         MobileIdentity::Imsi(_) => Welcome::Refuse(Rejected::Attach(EmmCause::ServicesNotAllowed)),
@@ -52,12 +52,12 @@ fn by_identity(identity: &MobileIdentity) -> Welcome
     }
 }
 
-fn by_message(message: &EmmMessage) -> Welcome
-    ensures { welcome_of result ≡ by_message (lists message.now) }
+fn welcome_by_message(message: &EmmMessage) -> Welcome
+    ensures { welcome_of result ≡ welcome_by_message (lists message.now) }
 {
     let not_derived = EmmCause::IdentityNotDerived;
     match message {
-        Emm::AttachRequest(request) => by_identity(&request.identity),
+        Emm::AttachRequest(request) => welcome_by_identity(&request.identity),
         Emm::AreaUpdateRequest(_) => Welcome::Refuse(Rejected::AreaUpdate(not_derived)),
         Emm::ServiceRequest { octets: _ } => Welcome::Refuse(Rejected::Service(not_derived)),
         _ => Welcome::TurnAway,
@@ -65,8 +65,8 @@ fn by_message(message: &EmmMessage) -> Welcome
 }
 
 // A request with a part that can't be read, by its type (TS 24.301 clause 9.8).
-fn by_type(code: u8) -> Welcome
-    ensures { welcome_of result ≡ by_type code }
+fn welcome_by_type(code: u8) -> Welcome
+    ensures { welcome_of result ≡ welcome_by_type code }
 {
     match code {
         0x41 => Welcome::Refuse(Rejected::Attach(EmmCause::InvalidMandatory)),
@@ -75,11 +75,11 @@ fn by_type(code: u8) -> Welcome
     }
 }
 
-fn by_fault(fault: NasFault, code: u8) -> Welcome
-    ensures { welcome_of result ≡ by_fault fault code }
+fn welcome_by_fault(fault: NasFault, code: u8) -> Welcome
+    ensures { welcome_of result ≡ welcome_by_fault fault code }
 {
     match fault {
-        NasFault::Mandatory | NasFault::OptionalPart => by_type(code),
+        NasFault::Mandatory | NasFault::OptionalPart => welcome_by_type(code),
         NasFault::TooShort | NasFault::UnknownType | NasFault::NoMemory => Welcome::TurnAway,
     }
 }
@@ -108,9 +108,9 @@ fn meet(nas: &[u8]) -> Welcome
     match decode_emm(octets, Direction::Uplink) {
         Ok(message) => {
             let decoded = Decoded { message };
-            by_message(&decoded.message)
+            welcome_by_message(&decoded.message)
         }
-        Err(fault) => by_fault(fault, second(octets)),
+        Err(fault) => welcome_by_fault(fault, second(octets)),
     }
 }
 
@@ -160,7 +160,7 @@ pub fn begins<'a>(
     let (station, enb_id) = (entry.station, entry.enb_id);
     match meet(entry.nas) {
         Welcome::Ask => {
-            let sent = asked(alloc, place(id, station, enb_id))?;
+            let sent = identity_asked(alloc, place(id, station, enb_id))?;
             let waiting = Stranger::Waiting {
                 kept: Kept::of_entry(alloc, entry)?,
                 left: IDENTITY_TICKS,

@@ -7,15 +7,15 @@
 #![tactic(auto)]
 
 mod entering;
+mod receiving;
 mod sending;
 mod state;
 mod table;
-mod telling;
 mod turn;
 
 pub use entering::begins;
-pub use sending::saying;
+pub use receiving::{receives, unknown};
+pub use sending::sent_to;
 pub use state::{Kept, Stranger};
 pub use table::{Known, Strangers};
-pub use telling::{told, unknown};
 pub use turn::{After, Call, Notice, Turn};

@@ -4,7 +4,7 @@ ghost use Rattle.std.specs.Prelude.{◌≡◌, ◌++◌, IfOk, OnOk};
 ghost use Rattle.nas_messages.specs.Messages.{encoded_emm};
 ghost use Rattle.s1ap_messages.specs.Pdus.{lists};
 ghost use Rattle.mme_signalling.specs.Pdus.{downlink};
-ghost use Rattle.stranger_machine.specs.Turns.{asked, identity_request, refused, released, said};
+ghost use Rattle.stranger_machine.specs.Turns.{identity_asked, identity_request, refused, released, sent_to};
 
 use identity_slots::AssociationId;
 use mme_signalling::{downlink, release_command};
@@ -15,13 +15,13 @@ use s1ap_messages::S1apPdu;
 use std::alloc::{AllocError, Global};
 
 // The message behind what is sent so far; one without a written form isn't sent.
-pub(crate) fn say(
+pub(crate) fn push_sent(
     alloc: Global,
     sent: &mut Answers,
     station: StationNumber,
     message: &S1apPdu,
 ) -> Result<(), AllocError>
-    ensures { OnOk result (sent.new ≡ sent.old ++ said station (lists message.now)) }
+    ensures { OnOk result (sent.new ≡ sent.old ++ sent_to station (lists message.now)) }
 {
     match SentOctets::of_message(alloc, message)? {
         Some(octets) => sent.push(Answer {
@@ -34,15 +34,15 @@ pub(crate) fn say(
 }
 
 /// The message alone, to a station; one without a written form isn't sent.
-pub fn saying(
+pub fn sent_to(
     alloc: Global,
     station: StationNumber,
     message: &S1apPdu,
 ) -> Result<Answers, AllocError>
-    ensures { IfOk result (λ sent. sent ≡ said station (lists message.now)) }
+    ensures { IfOk result (λ sent. sent ≡ sent_to station (lists message.now)) }
 {
     let mut sent = Answers::new(alloc);
-    say(alloc, &mut sent, station, message)?;
+    push_sent(alloc, &mut sent, station, message)?;
     Ok(sent)
 }
 
@@ -56,7 +56,7 @@ fn release(
 ) -> Result<(), AllocError>
     ensures { OnOk result (sent.new ≡ sent.old ++ released place cause) }
 {
-    say(
+    push_sent(
         alloc,
         sent,
         place.station,
@@ -78,10 +78,10 @@ pub(crate) fn released(
 }
 
 // A NAS message, plain.
-fn telling(alloc: Global, place: Connection, nas: &[u8]) -> Result<Answers, AllocError>
-    ensures { IfOk result (λ sent. sent ≡ said place.station (downlink place nas.now)) }
+fn sent_plainly(alloc: Global, place: Connection, nas: &[u8]) -> Result<Answers, AllocError>
+    ensures { IfOk result (λ sent. sent ≡ sent_to place.station (downlink place nas.now)) }
 {
-    saying(alloc, place.station, &downlink(place, nas))
+    sent_to(alloc, place.station, &downlink(place, nas))
 }
 
 /// A stranger's association, by its id, its station and its number there.
@@ -106,7 +106,7 @@ pub(crate) fn refused(
 ) -> Result<Answers, AllocError>
     ensures { IfOk result (λ sent. sent ≡ refused (record { id = id; station = station; enb_id = enb_id }) nas.now) }
 {
-    let mut sent = telling(alloc, place(id, station, enb_id), nas)?;
+    let mut sent = sent_plainly(alloc, place(id, station, enb_id), nas)?;
     let cause = Cause::Nas(NasCause::NormalRelease);
     release(alloc, &mut sent, place(id, station, enb_id), cause)?;
     Ok(sent)
@@ -130,10 +130,10 @@ fn identity_request(alloc: Global) -> Result<Vec<u8>, AllocError>
 }
 
 /// IDENTITY REQUEST.
-#[tactic(auto, unfolding(crate::specs::Turns::asked))]
-pub(crate) fn asked(alloc: Global, place: Connection) -> Result<Answers, AllocError>
-    ensures { IfOk result (λ sent. sent ≡ asked place) }
+#[tactic(auto, unfolding(crate::specs::Turns::identity_asked))]
+pub(crate) fn identity_asked(alloc: Global, place: Connection) -> Result<Answers, AllocError>
+    ensures { IfOk result (λ sent. sent ≡ identity_asked place) }
 {
     let nas = identity_request(alloc)?;
-    telling(alloc, place, nas.as_slice())
+    sent_plainly(alloc, place, nas.as_slice())
 }

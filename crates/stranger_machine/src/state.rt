@@ -2,7 +2,7 @@
 
 ghost use Rattle.std.specs.Prelude.{◌≡◌, IfOk};
 ghost use Rattle.mme_vocabulary.specs.Events.{entry_lists};
-ghost use Rattle.stranger_machine.specs.Turns.{entry_of, kept_of, place_of};
+ghost use Rattle.stranger_machine.specs.Turns.{as_entry, as_kept, place_of};
 
 use crate::sending::place;
 use identity_slots::{AssociationId, Slot};
@@ -23,7 +23,7 @@ pub struct Kept {
 impl Kept {
     /// A copy of the message.
     pub fn of_entry(alloc: Global, entry: &Entry<&[u8]>) -> Result<Kept, AllocError>
-        ensures { IfOk result (λ k. k ≡ kept_of (entry_lists entry.now)) }
+        ensures { IfOk result (λ k. k ≡ as_kept (entry_lists entry.now)) }
     {
         Ok(Kept {
             station: entry.station,
@@ -35,7 +35,7 @@ impl Kept {
 
     /// The message as it was.
     pub fn entry<'a>(&'a self) -> Entry<&'a [u8]>
-        ensures { entry_lists result ≡ entry_of self.now }
+        ensures { entry_lists result ≡ as_entry self.now }
     {
         Entry {
             station: self.station,

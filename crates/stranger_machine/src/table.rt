@@ -7,7 +7,7 @@ ghost use Rattle.stranger_machine.specs.Table.{known_id, noted, passed, stays_op
 ghost use Rattle.stranger_machine.specs.Turns.{after_of};
 
 use crate::entering::IDENTITY_TICKS;
-use crate::sending::{asked, released};
+use crate::sending::{identity_asked, released};
 use crate::state::Stranger;
 use crate::turn::{After, Notice};
 use identity_slots::{AssociationId, station_in};
@@ -60,7 +60,7 @@ impl Known {
                 if *left > 1 {
                     Ok(Answers::new(alloc))
                 } else if *repeats > 0 {
-                    asked(alloc, kept.place(self.id))
+                    identity_asked(alloc, kept.place(self.id))
                 } else {
                     released(
                         alloc,

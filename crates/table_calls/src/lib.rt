@@ -11,7 +11,7 @@ use associations::AssociationDesk;
 use call_text::Answer;
 use esm_machine::Bearer;
 use identity_slots::Provision;
-use nas_security::{Eia2, SecurityContext};
+use nas_security::{Eia2, EpsSecurityContext};
 use sessions::{bearer_answer, context_answer, context_of};
 use std::alloc::Global;
 use timers::TimerDesk;
@@ -23,7 +23,7 @@ pub struct Desk {
     associations: AssociationDesk,
     provision: Provision,
     bearer: Bearer,
-    context: SecurityContext<Eia2>,
+    context: EpsSecurityContext<Eia2>,
 }
 
 impl Desk {

@@ -6,10 +6,10 @@ use call_text::{
     Answer, Fault, Hex, number_8, number_32, octets_answer, octets_of, sized, word_answer,
     yes_answer,
 };
-use eps_keys::{Direction, nas_integrity_key};
+use eps_keys::{DirectionBit, nas_integrity_key};
 use esm_machine::{Bearer, Reaction, Requested};
 use nas_messages::SecurityHeader;
-use nas_security::{Eia2, Integrity, SecurityContext, SecurityFault};
+use nas_security::{Eia2, EpsSecurityContext, Integrity, SecurityFault};
 use std::alloc::Global;
 
 /// The answer of a call behind the word `bearer`.
@@ -67,8 +67,8 @@ pub fn context_of(
     ksi: u8,
     down_next: u32,
     up_last: Option<u32>,
-) -> SecurityContext<Eia2> {
-    SecurityContext::new(
+) -> EpsSecurityContext<Eia2> {
+    EpsSecurityContext::new(
         Eia2::new(&nas_integrity_key(kasme)),
         ksi,
         down_next,
@@ -78,7 +78,7 @@ pub fn context_of(
 
 /// The answer of a call behind the word `context`.
 pub fn context_answer(
-    context: &mut SecurityContext<Eia2>,
+    context: &mut EpsSecurityContext<Eia2>,
     alloc: Global,
     words: &[&str],
 ) -> Answer {
@@ -118,7 +118,7 @@ pub fn context_answer(
 }
 
 /// A message with header 1 or 2.
-fn accepted(context: &mut SecurityContext<Eia2>, alloc: Global, octets: &[u8]) -> Answer {
+fn accepted(context: &mut EpsSecurityContext<Eia2>, alloc: Global, octets: &[u8]) -> Answer {
     let either = [
         SecurityHeader::IntegrityProtected,
         SecurityHeader::IntegrityProtectedCiphered,
@@ -131,7 +131,7 @@ fn accepted(context: &mut SecurityContext<Eia2>, alloc: Global, octets: &[u8]) -
     }
 }
 
-fn counts_answer(context: &SecurityContext<Eia2>, alloc: Global) -> Answer {
+fn counts_answer(context: &EpsSecurityContext<Eia2>, alloc: Global) -> Answer {
     let (ksi, next) = (context.ksi(), context.down_next());
     match context.up_last() {
         Some(last) => Ok(Some(format!(in alloc; "ksi {ksi} down next {next} up last {last}")?)),
@@ -144,8 +144,14 @@ fn fault_answer(alloc: Global, fault: SecurityFault) -> Answer {
 }
 
 /// The MAC of an uplink message through the bound alone.
-fn mac_through<I: Integrity>(context: &SecurityContext<I>, count: u32, message: &[u8]) -> [u8; 4] {
-    context.integrity().mac(count, Direction::Uplink, message)
+fn mac_through<I: Integrity>(
+    context: &EpsSecurityContext<I>,
+    count: u32,
+    message: &[u8],
+) -> [u8; 4] {
+    context
+        .integrity()
+        .mac(count, DirectionBit::Uplink, message)
 }
 
 fn header_of(word: &str) -> Result<SecurityHeader, Fault> {

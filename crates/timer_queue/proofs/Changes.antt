@@ -15,8 +15,8 @@ use Rattle.timer_queue.specs.declared.timer.Timer.{Timer}
 use Rattle.timer_queue.specs.Countdowns.{Countdown}
 use Rattle.timer_queue.specs.declared.queue.Deadline.{Deadline}
 use Rattle.timer_queue.specs.Rank.{rank}
-use Rattle.timer_queue.specs.Countdowns.{countdown_rank, left_of, started, stopped}
-use Rattle.timer_queue.specs.Queued.{name, moment, as_left, running_at, IsQueue, AreLate, IsIndex}
+use Rattle.timer_queue.specs.Countdowns.{countdown_rank, ticks_left, started, stopped}
+use Rattle.timer_queue.specs.Queued.{name, moment, as_left, running_at, IsQueue, AreLate, IsDeadlineIndex}
 
 pub rank_small : (t : Timer) → rank t < 2 ^ 64
 unfolding rank
@@ -30,8 +30,8 @@ left_by : (clock : ℕ) (o : Option Deadline) → option_map (λ (c : Countdown)
 left_by clock None = refl
 left_by clock (Some e) = refl
 
-pub left_is : {S : Type 0} (clock : ℕ) (timer : Timer) (index : HashMap ℕ ℕ S) (queue : List Deadline) → IsQueue queue → IsIndex index queue
-    → left_of timer.owner timer.kind (running_at clock queue) ≡ option_map (λ d. d - clock) (get nat_eq index (rank timer))
+pub left_is : {S : Type 0} (clock : ℕ) (timer : Timer) (index : HashMap ℕ ℕ S) (queue : List Deadline) → IsQueue queue → IsDeadlineIndex index queue
+    → ticks_left timer.owner timer.kind (running_at clock queue) ≡ option_map (λ d. d - clock) (get nat_eq index (rank timer))
 left_is clock timer index queue h i =
     ap (option_map (λ (c : Countdown). c.ticks)) (running_there clock (rank timer) queue h) ∙ left_by clock (at name (rank timer) queue) ∙ ap (option_map (λ d. d - clock)) (sym (i (rank timer)))
 
@@ -39,17 +39,17 @@ found_by : (d r : ℕ) (o : Option Deadline) → option_map (λ (e : Deadline). 
 found_by d r None h = absurd (cc)
 found_by d r (Some e) h = (e, refl, (cc))
 
-pub found : {S : Type 0} (d r : ℕ) (index : HashMap ℕ ℕ S) (queue : List Deadline) → IsIndex index queue → get nat_eq index r ≡ Some d → (e : Deadline) × (at name r queue ≡ Some e) × (e.deadline ≡ d)
+pub found : {S : Type 0} (d r : ℕ) (index : HashMap ℕ ℕ S) (queue : List Deadline) → IsDeadlineIndex index queue → get nat_eq index r ≡ Some d → (e : Deadline) × (at name r queue ≡ Some e) × (e.deadline ≡ d)
 found d r index queue i h = found_by d r (at name r queue) (sym (i r) ∙ h)
 
 none_by : (o : Option Deadline) → option_map (λ (e : Deadline). e.deadline) o ≡ None → o ≡ None
 none_by None h = refl
 none_by (Some e) h = absurd (cc)
 
-pub not_found : {S : Type 0} (r : ℕ) (index : HashMap ℕ ℕ S) (queue : List Deadline) → IsIndex index queue → get nat_eq index r ≡ None → at name r queue ≡ None
+pub not_found : {S : Type 0} (r : ℕ) (index : HashMap ℕ ℕ S) (queue : List Deadline) → IsDeadlineIndex index queue → get nat_eq index r ≡ None → at name r queue ≡ None
 not_found r index queue i h = none_by (at name r queue) (sym (i r) ∙ h)
 
-pub late_found : {S : Type 0} (clock d r : ℕ) (index : HashMap ℕ ℕ S) (queue : List Deadline) → AreLate clock queue → IsIndex index queue → get nat_eq index r ≡ Some d → clock < d
+pub late_found : {S : Type 0} (clock d r : ℕ) (index : HashMap ℕ ℕ S) (queue : List Deadline) → AreLate clock queue → IsDeadlineIndex index queue → get nat_eq index r ≡ Some d → clock < d
 late_found clock d r index queue l i h =
     let f = found d r index queue i h in
     let late : clock < f.0.deadline = every_at (λ e. clock < e.deadline) name r f.0 queue f.1 l in
@@ -86,8 +86,8 @@ index_by : (j r : ℕ) (b : Bool) (o : Option Deadline) → cond b None (option_
 index_by j r true o = refl
 index_by j r false o = refl
 
-pub index_without : {S : Type 0} (r : ℕ) (old new : HashMap ℕ ℕ S) (queue : List Deadline) → IsQueue queue → IsIndex old queue
-    → ((j : ℕ) → get nat_eq new j ≡ cond (nat_eq r j) None (get nat_eq old j)) → IsIndex new (without name r queue)
+pub index_without : {S : Type 0} (r : ℕ) (old new : HashMap ℕ ℕ S) (queue : List Deadline) → IsQueue queue → IsDeadlineIndex old queue
+    → ((j : ℕ) → get nat_eq new j ≡ cond (nat_eq r j) None (get nat_eq old j)) → IsDeadlineIndex new (without name r queue)
 index_without r old new queue h i u j =
     u j ∙ ap (λ o. cond (nat_eq r j) None o) (i j) ∙ index_by j r (nat_eq r j) (at name j queue) ∙ ap (option_map (λ (e : Deadline). e.deadline)) (sym (at-without_distinct name r j queue h.distinct))
 
@@ -145,8 +145,8 @@ index_add_by : (b : Bool) (e : Deadline) (o : Option Deadline) → cond b (Some 
 index_add_by true e o = refl
 index_add_by false e o = refl
 
-pub index_added : {S : Type 0} (e : Deadline) (old new : HashMap ℕ ℕ S) (queue : List Deadline) → at name (name e) queue ≡ None → IsIndex old queue
-    → ((j : ℕ) → get nat_eq new j ≡ cond (nat_eq (name e) j) (Some e.deadline) (get nat_eq old j)) → IsIndex new (add moment e queue)
+pub index_added : {S : Type 0} (e : Deadline) (old new : HashMap ℕ ℕ S) (queue : List Deadline) → at name (name e) queue ≡ None → IsDeadlineIndex old queue
+    → ((j : ℕ) → get nat_eq new j ≡ cond (nat_eq (name e) j) (Some e.deadline) (get nat_eq old j)) → IsDeadlineIndex new (add moment e queue)
 index_added e old new queue a i u j =
     u j ∙ ap (λ o. cond (nat_eq (name e) j) (Some e.deadline) o) (i j) ∙ index_add_by (nat_eq (name e) j) e (at name j queue)
     ∙ ap (option_map (λ (e : Deadline). e.deadline)) (sym (at-add name j e queue a moment))
@@ -159,9 +159,9 @@ on_some (Some y) x e p = p
 pub record Keeps {S : Type 0} (clock : ℕ) (index : HashMap ℕ ℕ S) (queue : List Deadline) : Type 0 where
   pub queued : IsQueue queue
   pub late : AreLate clock queue
-  pub indexed : IsIndex index queue
+  pub indexed : IsDeadlineIndex index queue
 
-pub keeps_without : {S : Type 0} (clock d : ℕ) (timer : Timer) (old new : HashMap ℕ ℕ S) (queue : List Deadline) → IsQueue queue → AreLate clock queue → IsIndex old queue
+pub keeps_without : {S : Type 0} (clock d : ℕ) (timer : Timer) (old new : HashMap ℕ ℕ S) (queue : List Deadline) → IsQueue queue → AreLate clock queue → IsDeadlineIndex old queue
     → get nat_eq old (rank timer) ≡ Some d → ((j : ℕ) → get nat_eq new j ≡ cond (nat_eq (rank timer) j) None (get nat_eq old j)) → Keeps clock new (without name (rank timer) queue)
 keeps_without clock d timer old new queue h l i g u =
     let f = found d (rank timer) old queue i g in
@@ -171,7 +171,7 @@ keeps_without clock d timer old new queue h l i g u =
       indexed = index_without (rank timer) old new queue h i u;
     }
 
-pub keeps_added : {S : Type 0} (clock : ℕ) (e : Deadline) (old new : HashMap ℕ ℕ S) (queue : List Deadline) → IsQueue queue → AreLate clock queue → IsIndex old queue
+pub keeps_added : {S : Type 0} (clock : ℕ) (e : Deadline) (old new : HashMap ℕ ℕ S) (queue : List Deadline) → IsQueue queue → AreLate clock queue → IsDeadlineIndex old queue
     → at name (name e) queue ≡ None → clock < e.deadline → ((j : ℕ) → get nat_eq new j ≡ cond (nat_eq (name e) j) (Some e.deadline) (get nat_eq old j)) → Keeps clock new (add moment e queue)
 keeps_added clock e old new queue h l i a lt u = record {
   queued = added e queue h a;

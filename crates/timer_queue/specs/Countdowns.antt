@@ -23,8 +23,8 @@ abbrev pub timer_of : Owner → Kind → Timer
 timer_of owner kind = record { owner = owner; kind = kind }
 
 -- the ticks that a timer has left
-abbrev pub left_of : Owner → Kind → List Countdown → Option ℕ
-left_of owner kind cs = option_map (λ (c : Countdown). c.ticks) (at countdown_rank (rank (timer_of owner kind)) cs)
+abbrev pub ticks_left : Owner → Kind → List Countdown → Option ℕ
+ticks_left owner kind cs = option_map (λ (c : Countdown). c.ticks) (at countdown_rank (rank (timer_of owner kind)) cs)
 
 -- with this timer's countdown in place of the one that it had
 abbrev pub started : Owner → Kind → ℕ → List Countdown → List Countdown

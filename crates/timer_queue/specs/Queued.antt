@@ -41,5 +41,5 @@ abbrev pub AreLate : ℕ → List Deadline → Type 0
 AreLate clock queue = Every (λ e. clock < e.deadline) queue
 
 -- the index gives the deadline of each timer
-abbrev pub IsIndex : {S : Type 0} → HashMap ℕ ℕ S → List Deadline → Type 0
-IsIndex index queue = (r : ℕ) → get nat_eq index r ≡ deadline_at r queue
+abbrev pub IsDeadlineIndex : {S : Type 0} → HashMap ℕ ℕ S → List Deadline → Type 0
+IsDeadlineIndex index queue = (r : ℕ) → get nat_eq index r ≡ deadline_at r queue

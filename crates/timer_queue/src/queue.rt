@@ -3,8 +3,8 @@
 ghost use Rattle.std.specs.Prelude.{◌≡◌, ℕ, ◌+◌, ◌-◌, ◌*◌, ◌<◌, ◌≤◌, ◌^◌, ◌↔◌, List, [], IfOk, OnOk, OnErr, Option, Err};
 ghost use Rattle.timer_queue.specs.declared.queue.TickFault.TheVariants.{ClockSpent, NoMemory};
 ghost use Rattle.ordered_lists.specs.Ordered.{place, Rising, Every};
-ghost use Rattle.timer_queue.specs.Countdowns.{Countdowns, countdown_rank, left_of, started, stopped, due_of, aged};
-ghost use Rattle.timer_queue.specs.Queued.{moment, leading, later_than, IsQueue, IsIndex};
+ghost use Rattle.timer_queue.specs.Countdowns.{Countdowns, countdown_rank, ticks_left, started, stopped, due_of, aged};
+ghost use Rattle.timer_queue.specs.Queued.{moment, leading, later_than, IsQueue, IsDeadlineIndex};
 ghost use Rattle.std.specs.VecDeque.{deque_len, deque_capacity};
 ghost use Rattle.std.specs.HashMap.{spare};
 
@@ -74,10 +74,10 @@ fn due_at(alloc: Global, queue: &VecDeque<Deadline>, clock: u64) -> Result<Vec<E
 /// Takes what is due out of the queue and its index.
 fn drop_due(queue: &mut VecDeque<Deadline>, index: &mut HashMap<u64, u64>, clock: u64)
     requires queued { IsQueue queue.old.items }
-    requires indexed { IsIndex index.old queue.old.items }
+    requires indexed { IsDeadlineIndex index.old queue.old.items }
     ensures queue { queue.new.items ≡ later_than clock queue.old.items }
     ensures queued { IsQueue queue.new.items }
-    ensures indexed { IsIndex index.new queue.new.items }
+    ensures indexed { IsDeadlineIndex index.new queue.new.items }
     ensures room { deque_capacity queue.old - deque_len queue.old ≤ deque_capacity queue.new - deque_len queue.new }
     ensures spare { spare index.old ≤ spare index.new }
 {
@@ -109,11 +109,11 @@ impl Model for Timers {
 
     ghost Value = { Countdowns };
 
-    ghost use Rattle.timer_queue.specs.Queued.{running_at, IsQueue, AreLate, IsIndex};
+    ghost use Rattle.timer_queue.specs.Queued.{running_at, IsQueue, AreLate, IsDeadlineIndex};
 
     ghost view = { λ t. record { clock = t.clock; running = running_at t.clock t.queue.items; room = min (deque_capacity t.queue - deque_len t.queue) (spare t.index) } };
 
-    ghost invariant = { λ t. (t.clock ≤ 2 ^ 62) × IsQueue t.queue.items × AreLate t.clock t.queue.items × IsIndex t.index t.queue.items };
+    ghost invariant = { λ t. (t.clock ≤ 2 ^ 62) × IsQueue t.queue.items × AreLate t.clock t.queue.items × IsDeadlineIndex t.index t.queue.items };
 }
 
 impl Timers {
@@ -144,7 +144,7 @@ impl Timers {
 
     /// The ticks that a timer has left, if it runs.
     pub fn left(&self, owner: Owner, kind: Kind) -> Option<u64>
-        ensures { result ≡ left_of owner kind self.now.running }
+        ensures { result ≡ ticks_left owner kind self.now.running }
     {
         match self.index.get(&rank(Timer { owner, kind })) {
             Some(deadline) => Some(*deadline - self.clock),

@@ -6,7 +6,7 @@ use Rattle.std.proofs.lemmas.Fmt.{decimal_digit}
 use Rattle.std.proofs.lemmas.Bool.{eq-eqb, ne_eqb}
 use Rattle.std.proofs.lemmas.Bool.Decides.{nat_tests}
 use Rattle.trace_text.specs.declared.fault.TraceFault.TheVariants.{BadNumber}
-use Rattle.trace_text.specs.Trace.{digit_of, country_of, network_of, packed, plmn_octets, plmn_of, country_text, network_text, ◌>>=◌}
+use Rattle.trace_text.specs.Trace.{digit_of, country_of, network_of, packed, plmn_octets, plmn_field, country_text, network_text, ◌>>=◌}
 use Rattle.trace_text.proofs.Rewritten.{ok_with}
 use Rattle.trace_text.proofs.Words.{is_word, word_over}
 
@@ -128,7 +128,7 @@ same_digits a b c n t (inr three) = record {
 }
 
 -- a network is written in the digits from which it was read
-pub plmn_same : (a b p : List ℕ) → plmn_of a b ≡ Ok p → SameDigits a b p
+pub plmn_same : (a b p : List ℕ) → plmn_field a b ≡ Ok p → SameDigits a b p
 plmn_same a b p e =
     ok_with (SameDigits a b p) (country_of a) (λ c. network_of b >>= (λ n. Ok (plmn_octets c n))) p e
     (λ c r h. ok_with (SameDigits a b p) (network_of b) (λ n. Ok (plmn_octets c n)) p h

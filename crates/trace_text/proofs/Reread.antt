@@ -11,7 +11,7 @@ use Rattle.trace_text.specs.declared.line.Line.{Line}
 use Rattle.trace_text.specs.declared.line.Line.TheVariants.{Skip, Mme, Sub, Vec, Up, Lost, In, Tick, Data, Cancel, Show}
 use Rattle.trace_text.specs.declared.fault.TraceFault.{TraceFault}
 use Rattle.trace_text.specs.declared.fault.TraceFault.TheVariants.{UnknownWord, TooLong}
-use Rattle.trace_text.specs.Trace.{◌>>=◌, ◌␣◌, plmn_of, sized_of, label_of, station_of, rate_of, ticks_of, octets_of, xres_of, subscriber_of, shown, country_text, network_text, line_of, line_text, is_skipped, read_words, read_event, read_mme, read_sub, read_vec, read_up, read_lost, read_in, read_tick, read_data, read_cancel, read_show}
+use Rattle.trace_text.specs.Trace.{◌>>=◌, ◌␣◌, plmn_field, sized_of, label_field, station_field, rate_field, ticks_field, octets_field, xres_field, subscriber_field, octets_text, country_text, network_text, line_of, line_text, is_skipped, read_words, read_event, read_mme, read_sub, read_vec, read_up, read_lost, read_in, read_tick, read_data, read_cancel, read_show}
 use Rattle.trace_text.proofs.Words.{is_word, spaced, spaced-split, Spelled, Spelled-word, Spelled-field}
 use Rattle.trace_text.proofs.Rewritten.{TextIsImsi, ok_with, number_again, sized_again, xres_again, octets_again, label_again, subscriber_again}
 use Rattle.trace_text.proofs.Networks.{plmn_same}
@@ -37,7 +37,7 @@ sub_reread law (a ∷ b ∷ []) line e = absurd (cc e)
 sub_reread law (a ∷ b ∷ c ∷ []) line e = absurd (cc e)
 sub_reread law (a ∷ b ∷ c ∷ d ∷ []) line e =
     let most : ℕ = 4 + spaced (a ∷ b ∷ c ∷ d ∷ []) in
-    ok_with (Reread line most) (subscriber_of a) (λ i. sized_of 4 b >>= (λ x. sized_of 4 c >>= (λ y. sized_of 4 d >>= (λ z. Ok (Sub (record { imsi = i; address = x; gateway = y; teid = z })))))) line e
+    ok_with (Reread line most) (subscriber_field a) (λ i. sized_of 4 b >>= (λ x. sized_of 4 c >>= (λ y. sized_of 4 d >>= (λ z. Ok (Sub (record { imsi = i; address = x; gateway = y; teid = z })))))) line e
     (λ i r0 e0. ok_with (Reread line most) (sized_of 4 b) (λ x. sized_of 4 c >>= (λ y. sized_of 4 d >>= (λ z. Ok (Sub (record { imsi = i; address = x; gateway = y; teid = z }))))) line e0
     (λ x r1 e1. ok_with (Reread line most) (sized_of 4 c) (λ y. sized_of 4 d >>= (λ z. Ok (Sub (record { imsi = i; address = x; gateway = y; teid = z })))) line e1
     (λ y r2 e2. ok_with (Reread line most) (sized_of 4 d) (λ z. Ok (Sub (record { imsi = i; address = x; gateway = y; teid = z }))) line e2
@@ -63,10 +63,10 @@ vec_reread law (a ∷ b ∷ c ∷ []) line e = absurd (cc e)
 vec_reread law (a ∷ b ∷ c ∷ d ∷ []) line e = absurd (cc e)
 vec_reread law (a ∷ b ∷ c ∷ d ∷ f ∷ []) line e =
     let most : ℕ = 4 + spaced (a ∷ b ∷ c ∷ d ∷ f ∷ []) in
-    ok_with (Reread line most) (subscriber_of a) (λ i. sized_of 16 b >>= (λ x. sized_of 16 c >>= (λ y. xres_of d >>= (λ z. sized_of 32 f >>= (λ k. Ok (Vec i (record { rand = x; autn = y; xres = z; kasme = k }))))))) line e
-    (λ i r0 e0. ok_with (Reread line most) (sized_of 16 b) (λ x. sized_of 16 c >>= (λ y. xres_of d >>= (λ z. sized_of 32 f >>= (λ k. Ok (Vec i (record { rand = x; autn = y; xres = z; kasme = k })))))) line e0
-    (λ x r1 e1. ok_with (Reread line most) (sized_of 16 c) (λ y. xres_of d >>= (λ z. sized_of 32 f >>= (λ k. Ok (Vec i (record { rand = x; autn = y; xres = z; kasme = k }))))) line e1
-    (λ y r2 e2. ok_with (Reread line most) (xres_of d) (λ z. sized_of 32 f >>= (λ k. Ok (Vec i (record { rand = x; autn = y; xres = z; kasme = k })))) line e2
+    ok_with (Reread line most) (subscriber_field a) (λ i. sized_of 16 b >>= (λ x. sized_of 16 c >>= (λ y. xres_field d >>= (λ z. sized_of 32 f >>= (λ k. Ok (Vec i (record { rand = x; autn = y; xres = z; kasme = k }))))))) line e
+    (λ i r0 e0. ok_with (Reread line most) (sized_of 16 b) (λ x. sized_of 16 c >>= (λ y. xres_field d >>= (λ z. sized_of 32 f >>= (λ k. Ok (Vec i (record { rand = x; autn = y; xres = z; kasme = k })))))) line e0
+    (λ x r1 e1. ok_with (Reread line most) (sized_of 16 c) (λ y. xres_field d >>= (λ z. sized_of 32 f >>= (λ k. Ok (Vec i (record { rand = x; autn = y; xres = z; kasme = k }))))) line e1
+    (λ y r2 e2. ok_with (Reread line most) (xres_field d) (λ z. sized_of 32 f >>= (λ k. Ok (Vec i (record { rand = x; autn = y; xres = z; kasme = k })))) line e2
     (λ z r3 e3. ok_with (Reread line most) (sized_of 32 f) (λ k. Ok (Vec i (record { rand = x; autn = y; xres = z; kasme = k }))) line e3
     (λ k r4 e4.
     let f0 = subscriber_again law a i r0 in
@@ -87,7 +87,7 @@ unfolding line_text
 up_reread [] line e = absurd (cc e)
 up_reread (a ∷ []) line e =
     let most : ℕ = 3 + spaced (a ∷ []) in
-    ok_with (Reread line most) (station_of a) (λ n. Ok (Up n)) line e
+    ok_with (Reread line most) (station_field a) (λ n. Ok (Up n)) line e
     (λ n r0 e0.
     let f0 = number_again 0 127 n a (omega arith) r0 in
     same_reread (Up n) line most e0 (record {
@@ -103,7 +103,7 @@ unfolding line_text
 lost_reread [] line e = absurd (cc e)
 lost_reread (a ∷ []) line e =
     let most : ℕ = 5 + spaced (a ∷ []) in
-    ok_with (Reread line most) (station_of a) (λ n. Ok (Lost n)) line e
+    ok_with (Reread line most) (station_field a) (λ n. Ok (Lost n)) line e
     (λ n r0 e0.
     let f0 = number_again 0 127 n a (omega arith) r0 in
     same_reread (Lost n) line most e0 (record {
@@ -120,14 +120,14 @@ in_reread [] line e = absurd (cc e)
 in_reread (a ∷ []) line e = absurd (cc e)
 in_reread (a ∷ b ∷ []) line e =
     let most : ℕ = 3 + spaced (a ∷ b ∷ []) in
-    ok_with (Reread line most) (station_of a) (λ n. octets_of b >>= (λ o. Ok (In n o))) line e
-    (λ n r0 e0. ok_with (Reread line most) (octets_of b) (λ o. Ok (In n o)) line e0
+    ok_with (Reread line most) (station_field a) (λ n. octets_field b >>= (λ o. Ok (In n o))) line e
+    (λ n r0 e0. ok_with (Reread line most) (octets_field b) (λ o. Ok (In n o)) line e0
     (λ o r1 e1.
     let f0 = number_again 0 127 n a (omega arith) r0 in
     let f1 = octets_again b o r1 in
     same_reread (In n o) line most e1 (record {
-      words = codes "in" ∷ decimal n ∷ shown o ∷ [];
-      spelled = no_longer (line_text (In n o)) (codes "in" ∷ decimal n ∷ shown o ∷ []) (3 + (length a + 1) + (length b + 1)) most (omega arith) (Spelled-field (codes "in" ␣ decimal n) (codes "in" ∷ decimal n ∷ []) (3 + (length a + 1)) (shown o) b (Spelled-field (codes "in") (codes "in" ∷ []) (3) (decimal n) a (Spelled-word (codes "in") refl) f0.word f0.short) f1.word f1.short);
+      words = codes "in" ∷ decimal n ∷ octets_text o ∷ [];
+      spelled = no_longer (line_text (In n o)) (codes "in" ∷ decimal n ∷ octets_text o ∷ []) (3 + (length a + 1) + (length b + 1)) most (omega arith) (Spelled-field (codes "in" ␣ decimal n) (codes "in" ∷ decimal n ∷ []) (3 + (length a + 1)) (octets_text o) b (Spelled-field (codes "in") (codes "in" ∷ []) (3) (decimal n) a (Spelled-word (codes "in") refl) f0.word f0.short) f1.word f1.short);
       again = rw (f0.again, f1.again) refl;
       said = refl;
     })))
@@ -138,7 +138,7 @@ unfolding line_text
 tick_reread [] line e = absurd (cc e)
 tick_reread (a ∷ []) line e =
     let most : ℕ = 5 + spaced (a ∷ []) in
-    ok_with (Reread line most) (ticks_of a) (λ n. Ok (Tick n)) line e
+    ok_with (Reread line most) (ticks_field a) (λ n. Ok (Tick n)) line e
     (λ n r0 e0.
     let f0 = number_again 1 1000000 n a (omega arith) r0 in
     same_reread (Tick n) line most e0 (record {
@@ -154,7 +154,7 @@ unfolding line_text
 data_reread law [] line e = absurd (cc e)
 data_reread law (a ∷ []) line e =
     let most : ℕ = 5 + spaced (a ∷ []) in
-    ok_with (Reread line most) (subscriber_of a) (λ i. Ok (Data i)) line e
+    ok_with (Reread line most) (subscriber_field a) (λ i. Ok (Data i)) line e
     (λ i r0 e0.
     let f0 = subscriber_again law a i r0 in
     same_reread (Data i) line most e0 (record {
@@ -170,7 +170,7 @@ unfolding line_text
 cancel_reread law [] line e = absurd (cc e)
 cancel_reread law (a ∷ []) line e =
     let most : ℕ = 7 + spaced (a ∷ []) in
-    ok_with (Reread line most) (subscriber_of a) (λ i. Ok (Cancel i)) line e
+    ok_with (Reread line most) (subscriber_field a) (λ i. Ok (Cancel i)) line e
     (λ i r0 e0.
     let f0 = subscriber_again law a i r0 in
     same_reread (Cancel i) line most e0 (record {
@@ -186,7 +186,7 @@ unfolding line_text
 show_reread law [] line e = absurd (cc e)
 show_reread law (a ∷ []) line e =
     let most : ℕ = 5 + spaced (a ∷ []) in
-    ok_with (Reread line most) (subscriber_of a) (λ i. Ok (Show i)) line e
+    ok_with (Reread line most) (subscriber_field a) (λ i. Ok (Show i)) line e
     (λ i r0 e0.
     let f0 = subscriber_again law a i r0 in
     same_reread (Show i) line most e0 (record {
@@ -224,12 +224,12 @@ mme_reread (a ∷ b ∷ c ∷ d ∷ f ∷ []) line e = absurd (cc e)
 mme_reread (a ∷ b ∷ c ∷ d ∷ f ∷ g ∷ []) line e = absurd (cc e)
 mme_reread (a ∷ b ∷ c ∷ d ∷ f ∷ g ∷ h ∷ []) line e =
     let most : ℕ = 4 + spaced (a ∷ b ∷ c ∷ d ∷ f ∷ g ∷ h ∷ []) in
-    ok_with (Reread line most) (plmn_of a b) (λ p. sized_of 2 c >>= (λ x. sized_of 1 d >>= (λ y. label_of f >>= (λ z. rate_of g >>= (λ u. rate_of h >>= (λ v. Ok (Mme (record { plmn = p; group = x; code = y; apn = z; down = u; up = v })))))))) line e
-    (λ p r0 e0. ok_with (Reread line most) (sized_of 2 c) (λ x. sized_of 1 d >>= (λ y. label_of f >>= (λ z. rate_of g >>= (λ u. rate_of h >>= (λ v. Ok (Mme (record { plmn = p; group = x; code = y; apn = z; down = u; up = v }))))))) line e0
-    (λ x r1 e1. ok_with (Reread line most) (sized_of 1 d) (λ y. label_of f >>= (λ z. rate_of g >>= (λ u. rate_of h >>= (λ v. Ok (Mme (record { plmn = p; group = x; code = y; apn = z; down = u; up = v })))))) line e1
-    (λ y r2 e2. ok_with (Reread line most) (label_of f) (λ z. rate_of g >>= (λ u. rate_of h >>= (λ v. Ok (Mme (record { plmn = p; group = x; code = y; apn = z; down = u; up = v }))))) line e2
-    (λ z r3 e3. ok_with (Reread line most) (rate_of g) (λ u. rate_of h >>= (λ v. Ok (Mme (record { plmn = p; group = x; code = y; apn = z; down = u; up = v })))) line e3
-    (λ u r4 e4. ok_with (Reread line most) (rate_of h) (λ v. Ok (Mme (record { plmn = p; group = x; code = y; apn = z; down = u; up = v }))) line e4
+    ok_with (Reread line most) (plmn_field a b) (λ p. sized_of 2 c >>= (λ x. sized_of 1 d >>= (λ y. label_field f >>= (λ z. rate_field g >>= (λ u. rate_field h >>= (λ v. Ok (Mme (record { plmn = p; group = x; code = y; apn = z; down = u; up = v })))))))) line e
+    (λ p r0 e0. ok_with (Reread line most) (sized_of 2 c) (λ x. sized_of 1 d >>= (λ y. label_field f >>= (λ z. rate_field g >>= (λ u. rate_field h >>= (λ v. Ok (Mme (record { plmn = p; group = x; code = y; apn = z; down = u; up = v }))))))) line e0
+    (λ x r1 e1. ok_with (Reread line most) (sized_of 1 d) (λ y. label_field f >>= (λ z. rate_field g >>= (λ u. rate_field h >>= (λ v. Ok (Mme (record { plmn = p; group = x; code = y; apn = z; down = u; up = v })))))) line e1
+    (λ y r2 e2. ok_with (Reread line most) (label_field f) (λ z. rate_field g >>= (λ u. rate_field h >>= (λ v. Ok (Mme (record { plmn = p; group = x; code = y; apn = z; down = u; up = v }))))) line e2
+    (λ z r3 e3. ok_with (Reread line most) (rate_field g) (λ u. rate_field h >>= (λ v. Ok (Mme (record { plmn = p; group = x; code = y; apn = z; down = u; up = v })))) line e3
+    (λ u r4 e4. ok_with (Reread line most) (rate_field h) (λ v. Ok (Mme (record { plmn = p; group = x; code = y; apn = z; down = u; up = v }))) line e4
     (λ v r5 e5.
     let s = plmn_same a b p r0 in
     let f1 = sized_again 2 c x r1 in

@@ -15,7 +15,7 @@ use Rattle.nas_elements.specs.Digits.{is_digit, is_digit_text, filled, imsi_of_t
 use Rattle.trace_text.specs.declared.fault.TraceFault.{TraceFault}
 use Rattle.trace_text.specs.declared.fault.TraceFault.TheVariants.{BadNumber, BadHex}
 use Rattle.trace_text.specs.Fields.{is_apn_label}
-use Rattle.trace_text.specs.Trace.{decimal_of, decimal_from, capped, at_least, number_in, hex_of, octets_of, sized_of, xres_sized, xres_of, label_of, subscriber_of, shown, ◌>>=◌}
+use Rattle.trace_text.specs.Trace.{decimal_of, decimal_from, capped, at_least, number_field, hex_of, octets_field, sized_of, xres_sized, xres_field, label_field, subscriber_field, octets_text, ◌>>=◌}
 use Rattle.trace_text.proofs.Printed.{decimal_from-decimal, length-decimal-read}
 use Rattle.trace_text.proofs.Texts.{label_octets}
 use Rattle.trace_text.proofs.Words.{is_word, decimal_word, digits_word, label_word, hex_word, shown_word}
@@ -61,7 +61,7 @@ in_range : (least most n : ℕ) (o : Option ℕ) → at_least least (capped most
 in_range least most n None e = absurd (cc e)
 in_range least most n (Some v) e = some_in_range least most n v (nat_le v most) (nat_le least v) (leb-true v most) (leb-true least v) refl e
 
-pub number_again : (least most n : ℕ) (text : List ℕ) → most < 2 ^ 60 → number_in least most text ≡ Ok n → Again (number_in least most) n text (decimal n)
+pub number_again : (least most n : ℕ) (text : List ℕ) → most < 2 ^ 60 → number_field least most text ≡ Ok n → Again (number_field least most) n text (decimal n)
 number_again least most n text h e =
     let r = in_range least most n (decimal_of text) e in
     let small : n < 2 ^ 64 = omega (arith, r.high, h) in
@@ -99,13 +99,13 @@ xres_same ys xs e = go (nat_le 4 (length ys) && nat_le (length ys) 16) e
     go true h = (cc h, refl)
     go false h = absurd (cc h)
 
-pub xres_again : (text xs : List ℕ) → xres_of text ≡ Ok xs → Again xres_of xs text (encode_lower xs)
+pub xres_again : (text xs : List ℕ) → xres_field text ≡ Ok xs → Again xres_field xs text (encode_lower xs)
 xres_again text xs e =
-    ok_with (Again xres_of xs text (encode_lower xs)) (hex_of (decode_of text)) xres_sized xs e
+    ok_with (Again xres_field xs text (encode_lower xs)) (hex_of (decode_of text)) xres_sized xs e
     (λ ys r h.
     let same = xres_same ys xs h in
     let again = hex_again text ys r in
-    subst (λ (v : List ℕ). Again xres_of v text (encode_lower v)) same.0
+    subst (λ (v : List ℕ). Again xres_field v text (encode_lower v)) same.0
     (record { again = ap (λ v. v >>= xres_sized) again.0 ∙ same.1; word = hex_word ys; short = omega (arith, again.1) }))
 
 not_one : (b : Bool) → (b && false) ≡ false
@@ -115,7 +115,7 @@ not_one false = refl
 not_dash : (x y : ℕ) (r : List ℕ) → bytes_eq (x ∷ y ∷ r) (codes "-") ≡ false
 not_dash x y r = not_one (x == 45)
 
-octets_of-shown : (xs : List ℕ) → IsBytes xs → octets_of (shown xs) ≡ Ok xs
+octets_of-shown : (xs : List ℕ) → IsBytes xs → octets_field (octets_text xs) ≡ Ok xs
 unfolding encode_with
 octets_of-shown [] h = refl
 octets_of-shown (b ∷ bs) h =
@@ -123,7 +123,7 @@ octets_of-shown (b ∷ bs) h =
     let plain : bytes_eq (encode_lower (b ∷ bs)) (codes "-") ≡ false = not_dash (slice_index lower_digits (b / 16)) (slice_index lower_digits (b % 16)) (encode_lower bs) in
     rw (some, plain, decode_of-encode_lower (b ∷ bs) h) refl
 
-shown_length : (xs : List ℕ) (n : ℕ) → 0 < n → n ≡ 2 * length xs → length (shown xs) ≤ n
+shown_length : (xs : List ℕ) (n : ℕ) → 0 < n → n ≡ 2 * length xs → length (octets_text xs) ≤ n
 shown_length [] n h e = omega arith
 shown_length (b ∷ bs) n h e = let l = length-encode_with lower_digits (b ∷ bs) in omega (arith, l)
 
@@ -133,14 +133,14 @@ empty_bytes i = omega arith
 not_empty : (n : ℕ) → (n == 0) ≡ false → 0 < n
 not_empty n h = grind (arith, nat_tests)
 
-octets_read : (text xs : List ℕ) → octets_of text ≡ Ok xs → IsBytes xs × (length (shown xs) ≤ length text)
+octets_read : (text xs : List ℕ) → octets_field text ≡ Ok xs → IsBytes xs × (length (octets_text xs) ≤ length text)
 octets_read text xs e =
-    let P : Type 0 = IsBytes xs × (length (shown xs) ≤ length text) in
+    let P : Type 0 = IsBytes xs × (length (octets_text xs) ≤ length text) in
     let dash : (b : Bool) → (b ≡ true → text ≡ codes "-") → 0 < length text → cond b (Ok []) (hex_of (decode_of text)) ≡ Ok xs → P
     = λ b. elim b as (λ b. (b ≡ true → text ≡ codes "-") → 0 < length text → cond b (Ok []) (hex_of (decode_of text)) ≡ Ok xs → P) [
       | true ↦ λ s some h.
           let same : [] ≡ xs = cc h in
-          let Q : List ℕ → Type 0 = λ v. IsBytes v × (length (shown v) ≤ length text) in
+          let Q : List ℕ → Type 0 = λ v. IsBytes v × (length (octets_text v) ≤ length text) in
           subst Q same (empty_bytes, omega arith)
       | false ↦ λ s some h. let ok = decode_of-ok text xs (hex_read (decode_of text) xs h) in (ok.3, shown_length xs (length text) some ok.2)
     ] in
@@ -149,19 +149,19 @@ octets_read text xs e =
     [ true ↦ λ s h. absurd (cc h) | false ↦ λ s h. dash (bytes_eq text (codes "-")) (bytes_eq-Decides text (codes "-")).0 (s refl) h ] in
     go (length text == 0) (not_empty (length text)) e
 
-pub octets_again : (text xs : List ℕ) → octets_of text ≡ Ok xs → Again octets_of xs text (shown xs)
+pub octets_again : (text xs : List ℕ) → octets_field text ≡ Ok xs → Again octets_field xs text (octets_text xs)
 octets_again text xs e = let r = octets_read text xs e in record { again = octets_of-shown xs r.0; word = shown_word xs; short = r.1 }
 
 -- ---- names
 
-pub label_again : (text xs : List ℕ) → label_of text ≡ Ok xs → Again label_of xs text xs
+pub label_again : (text xs : List ℕ) → label_field text ≡ Ok xs → Again label_field xs text xs
 label_again text xs e = go (is_apn_label text) refl e
   where
-    go : (b : Bool) → is_apn_label text ≡ b → cond b (Ok text) (Err BadNumber) ≡ Ok xs → Again label_of xs text xs
+    go : (b : Bool) → is_apn_label text ≡ b → cond b (Ok text) (Err BadNumber) ≡ Ok xs → Again label_field xs text xs
     go false s h = absurd (cc h)
     go true s h =
         let same : text ≡ xs = cc h in
-        subst (λ (v : List ℕ). Again label_of v text v) same
+        subst (λ (v : List ℕ). Again label_field v text v) same
         (record { again = ap (λ b. cond b (Ok text) (Err BadNumber)) s; word = label_word text (label_octets text s); short = omega arith })
 
 some_subscriber : (o : Option (List ℕ)) (xs : List ℕ) → ok_or o BadNumber ≡ Ok xs → o ≡ Some xs
@@ -176,9 +176,9 @@ subscriber_digits text xs e = go (is_digit_text text) (λ t. (and_parts _ (list_
     go true s h = s refl
     go false s h = absurd (cc h)
 
-pub subscriber_again : TextIsImsi → (text xs : List ℕ) → subscriber_of text ≡ Ok xs → Again subscriber_of xs text (imsi_text xs)
+pub subscriber_again : TextIsImsi → (text xs : List ℕ) → subscriber_field text ≡ Ok xs → Again subscriber_field xs text (imsi_text xs)
 subscriber_again law text xs e =
     let o = some_subscriber (imsi_of_text text) xs e in
     let same : text ≡ imsi_text xs = sym (law text xs o) in
-    subst (λ (v : List ℕ). Again subscriber_of xs text v) same
+    subst (λ (v : List ℕ). Again subscriber_field xs text v) same
     (record { again = e; word = digits_word text (subscriber_digits text xs o); short = omega arith })

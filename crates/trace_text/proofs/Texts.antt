@@ -10,7 +10,7 @@ use Rattle.std.proofs.lemmas.Str.Ascii.{IsAscii-nil, IsAscii-cons}
 use Rattle.nas_elements.specs.Digits.{is_digit, is_digit_text, filled, imsi_of_text}
 use Rattle.trace_text.specs.declared.fault.TraceFault.TheVariants.{BadNumber}
 use Rattle.trace_text.specs.Fields.{is_label_octet, is_apn_label}
-use Rattle.trace_text.specs.Trace.{subscriber_of}
+use Rattle.trace_text.specs.Trace.{subscriber_field}
 
 digit_ascii : (b : ℕ) → is_digit b ≡ true → b < 128
 digit_ascii b e = let s = leb-true b 57 (and_parts (nat_le 48 b) (nat_le b 57) e).1 in omega (arith, s)
@@ -23,7 +23,7 @@ digits_utf8 : (bs : List ℕ) → is_digit_text bs ≡ true → IsUtf8 bs
 digits_utf8 bs e = IsUtf8-from_ascii bs (digits_ascii bs (and_parts ((length bs == 14) || (length bs == 15)) (list_all is_digit bs) e).1)
 
 -- a text that is no UTF-8 names no subscriber
-pub not_subscriber : (bs : List ℕ) → (IsUtf8 bs → ⊥) → subscriber_of bs ≡ Err BadNumber
+pub not_subscriber : (bs : List ℕ) → (IsUtf8 bs → ⊥) → subscriber_field bs ≡ Err BadNumber
 unfolding imsi_of_text
 not_subscriber bs other = go (is_digit_text bs) (digits_utf8 bs)
   where

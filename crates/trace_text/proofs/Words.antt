@@ -9,7 +9,7 @@ use Rattle.std.proofs.lemmas.Bool.Decides.{nat_tests}
 use Rattle.hex.specs.Hex.{encode_with, encode_lower, lower_digits}
 use Rattle.nas_elements.specs.Digits.{is_digit}
 use Rattle.trace_text.specs.Fields.{is_label_octet}
-use Rattle.trace_text.specs.Trace.{◌␣◌, shown}
+use Rattle.trace_text.specs.Trace.{◌␣◌, octets_text}
 
 -- neither a space nor an LF
 abbrev pub is_word : List ℕ → Bool
@@ -77,7 +77,7 @@ encode_word t (b ∷ rest) h =
 pub hex_word : (xs : List ℕ) → is_word (encode_lower xs) ≡ true
 hex_word xs = encode_word lower_digits xs refl
 
-pub shown_word : (xs : List ℕ) → is_word (shown xs) ≡ true
+pub shown_word : (xs : List ℕ) → is_word (octets_text xs) ≡ true
 shown_word [] = refl
 shown_word (b ∷ bs) = hex_word (b ∷ bs)
 

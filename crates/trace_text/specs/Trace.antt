@@ -10,16 +10,16 @@ use Rattle.nas_elements.specs.Digits.{imsi_of_text, imsi_text}
 use Rattle.trace_text.specs.Fields.{is_apn_label}
 use Rattle.trace_text.specs.declared.line.Line.{Line}
 use Rattle.trace_text.specs.declared.line.Line.TheVariants.{Skip, Mme, Sub, Vec, Up, Lost, In, Tick, Data, Cancel, Show}
-use Rattle.trace_text.specs.declared.answer.Answer.{Answer}
-use Rattle.trace_text.specs.declared.answer.Answer.TheVariants.{Sent, Refused, State}
+use Rattle.trace_text.specs.declared.answer.AnswerLine.{AnswerLine}
+use Rattle.trace_text.specs.declared.answer.AnswerLine.TheVariants.{Sent, Refused, State}
 use Rattle.trace_text.specs.declared.answer.AnswerOwner.{AnswerOwner}
 use Rattle.trace_text.specs.declared.answer.AnswerOwner.TheVariants.{Station, Stranger, Subscriber}
-use Rattle.trace_text.specs.declared.answer.EmmState.{EmmState}
-use Rattle.trace_text.specs.declared.answer.EmmState.TheVariants.{Deregistered, CommonProcedureInitiated, Registered, DeregisteredInitiated}
-use Rattle.trace_text.specs.declared.answer.EcmState.{EcmState}
-use Rattle.trace_text.specs.declared.answer.EcmState.TheVariants.{Idle, Connected}
-use Rattle.trace_text.specs.declared.answer.EsmState.{EsmState}
-use Rattle.trace_text.specs.declared.answer.EsmState.TheVariants.{Inactive, ActivePending, Active}
+use Rattle.trace_text.specs.declared.answer.EmmWord.{EmmWord}
+use Rattle.trace_text.specs.declared.answer.EmmWord.TheVariants.{Deregistered, CommonProcedureInitiated, Registered, DeregisteredInitiated}
+use Rattle.trace_text.specs.declared.answer.EcmWord.{EcmWord}
+use Rattle.trace_text.specs.declared.answer.EcmWord.TheVariants.{Idle, Connected}
+use Rattle.trace_text.specs.declared.answer.EsmWord.{EsmWord}
+use Rattle.trace_text.specs.declared.answer.EsmWord.TheVariants.{Inactive, ActivePending, Active}
 use Rattle.trace_text.specs.declared.fault.TraceFault.{TraceFault}
 use Rattle.trace_text.specs.declared.fault.TraceFault.TheVariants.{UnknownWord, FieldCount, BadNumber, BadHex, TooLong, Order, Provision, NoMemory}
 
@@ -60,8 +60,8 @@ at_least least None = Err BadNumber
 at_least least (Some v) = if nat_le least v then Ok v else Err BadNumber
 
 -- a number from `least` to `most`
-abbrev pub number_in : ℕ → ℕ → List ℕ → Result ℕ TraceFault
-number_in least most text = at_least least (capped most (decimal_of text))
+abbrev pub number_field : ℕ → ℕ → List ℕ → Result ℕ TraceFault
+number_field least most text = at_least least (capped most (decimal_of text))
 
 -- ---- networks
 
@@ -88,8 +88,8 @@ packed first second = 16 * second + first
 abbrev pub plmn_octets : ℕ × ℕ × ℕ → ℕ × ℕ × ℕ → List ℕ
 plmn_octets c n = packed c.0 c.1 ∷ packed c.2 n.0 ∷ packed n.1 n.2 ∷ []
 
-abbrev pub plmn_of : List ℕ → List ℕ → Result (List ℕ) TraceFault
-plmn_of country network = country_of country >>= (λ c. network_of network >>= (λ n. Ok (plmn_octets c n)))
+abbrev pub plmn_field : List ℕ → List ℕ → Result (List ℕ) TraceFault
+plmn_field country network = country_of country >>= (λ c. network_of network >>= (λ n. Ok (plmn_octets c n)))
 
 -- ---- octets and names
 
@@ -98,42 +98,42 @@ hex_of (Ok octets) = Ok octets
 hex_of (Err e) = Err BadHex
 
 -- octets: `-` alone for none, or hex digits of either case
-abbrev pub octets_of : List ℕ → Result (List ℕ) TraceFault
-octets_of text = if length text == 0 then Err BadHex else (if bytes_eq text (codes "-") then Ok [] else hex_of (decode_of text))
+abbrev pub octets_field : List ℕ → Result (List ℕ) TraceFault
+octets_field text = if length text == 0 then Err BadHex else (if bytes_eq text (codes "-") then Ok [] else hex_of (decode_of text))
 
 -- n octets in hex
 abbrev pub sized_of : ℕ → List ℕ → Result (List ℕ) TraceFault
 sized_of n text = if length text == 2 * n then hex_of (decode_of text) else Err BadHex
 
-abbrev pub label_of : List ℕ → Result (List ℕ) TraceFault
-label_of text = if is_apn_label text then Ok text else Err BadNumber
+abbrev pub label_field : List ℕ → Result (List ℕ) TraceFault
+label_field text = if is_apn_label text then Ok text else Err BadNumber
 
 -- 4 to 16 octets in hex
 abbrev pub xres_sized : List ℕ → Result (List ℕ) TraceFault
 xres_sized octets = if nat_le 4 (length octets) && nat_le (length octets) 16 then Ok octets else Err BadHex
 
-abbrev pub xres_of : List ℕ → Result (List ℕ) TraceFault
-xres_of text = hex_of (decode_of text) >>= xres_sized
+abbrev pub xres_field : List ℕ → Result (List ℕ) TraceFault
+xres_field text = hex_of (decode_of text) >>= xres_sized
 
 -- a subscriber's IMSI, in its fourteen or fifteen digits
-abbrev pub subscriber_of : List ℕ → Result (List ℕ) TraceFault
-subscriber_of text = ok_or (imsi_of_text text) BadNumber
+abbrev pub subscriber_field : List ℕ → Result (List ℕ) TraceFault
+subscriber_field text = ok_or (imsi_of_text text) BadNumber
 
 -- ---- lines
 
-abbrev pub station_of : List ℕ → Result ℕ TraceFault
-station_of text = number_in 0 127 text
+abbrev pub station_field : List ℕ → Result ℕ TraceFault
+station_field text = number_field 0 127 text
 
-abbrev pub rate_of : List ℕ → Result ℕ TraceFault
-rate_of text = number_in 1 10000000000 text
+abbrev pub rate_field : List ℕ → Result ℕ TraceFault
+rate_field text = number_field 1 10000000000 text
 
-abbrev pub ticks_of : List ℕ → Result ℕ TraceFault
-ticks_of text = number_in 1 1000000 text
+abbrev pub ticks_field : List ℕ → Result ℕ TraceFault
+ticks_field text = number_field 1 1000000 text
 
 abbrev pub mme_of : List ℕ → List ℕ → List ℕ → List ℕ → List ℕ → List ℕ → List ℕ → Result Line TraceFault
 mme_of country network group code apn down up =
-    plmn_of country network >>= (λ p. sized_of 2 group >>= (λ g. sized_of 1 code >>= (λ c.
-    label_of apn >>= (λ a. rate_of down >>= (λ d. rate_of up >>= (λ u.
+    plmn_field country network >>= (λ p. sized_of 2 group >>= (λ g. sized_of 1 code >>= (λ c.
+    label_field apn >>= (λ a. rate_field down >>= (λ d. rate_field up >>= (λ u.
     Ok (Mme (record { plmn = p; group = g; code = c; apn = a; down = d; up = u }))))))))
 
 abbrev pub read_mme : List (List ℕ) → Result Line TraceFault
@@ -142,7 +142,7 @@ read_mme _ = Err FieldCount
 
 abbrev pub sub_of : List ℕ → List ℕ → List ℕ → List ℕ → Result Line TraceFault
 sub_of imsi address gateway teid =
-    subscriber_of imsi >>= (λ i. sized_of 4 address >>= (λ a. sized_of 4 gateway >>= (λ g. sized_of 4 teid >>= (λ t.
+    subscriber_field imsi >>= (λ i. sized_of 4 address >>= (λ a. sized_of 4 gateway >>= (λ g. sized_of 4 teid >>= (λ t.
     Ok (Sub (record { imsi = i; address = a; gateway = g; teid = t }))))))
 
 abbrev pub read_sub : List (List ℕ) → Result Line TraceFault
@@ -151,7 +151,7 @@ read_sub _ = Err FieldCount
 
 abbrev pub vec_of : List ℕ → List ℕ → List ℕ → List ℕ → List ℕ → Result Line TraceFault
 vec_of imsi rand autn xres kasme =
-    subscriber_of imsi >>= (λ i. sized_of 16 rand >>= (λ r. sized_of 16 autn >>= (λ a. xres_of xres >>= (λ x. sized_of 32 kasme >>= (λ k.
+    subscriber_field imsi >>= (λ i. sized_of 16 rand >>= (λ r. sized_of 16 autn >>= (λ a. xres_field xres >>= (λ x. sized_of 32 kasme >>= (λ k.
     Ok (Vec i (record { rand = r; autn = a; xres = x; kasme = k })))))))
 
 abbrev pub read_vec : List (List ℕ) → Result Line TraceFault
@@ -159,31 +159,31 @@ read_vec (imsi ∷ rand ∷ autn ∷ xres ∷ kasme ∷ []) = vec_of imsi rand a
 read_vec _ = Err FieldCount
 
 abbrev pub read_up : List (List ℕ) → Result Line TraceFault
-read_up (station ∷ []) = station_of station >>= (λ e. Ok (Up e))
+read_up (station ∷ []) = station_field station >>= (λ e. Ok (Up e))
 read_up _ = Err FieldCount
 
 abbrev pub read_lost : List (List ℕ) → Result Line TraceFault
-read_lost (station ∷ []) = station_of station >>= (λ e. Ok (Lost e))
+read_lost (station ∷ []) = station_field station >>= (λ e. Ok (Lost e))
 read_lost _ = Err FieldCount
 
 abbrev pub read_in : List (List ℕ) → Result Line TraceFault
-read_in (station ∷ octets ∷ []) = station_of station >>= (λ e. octets_of octets >>= (λ o. Ok (In e o)))
+read_in (station ∷ octets ∷ []) = station_field station >>= (λ e. octets_field octets >>= (λ o. Ok (In e o)))
 read_in _ = Err FieldCount
 
 abbrev pub read_tick : List (List ℕ) → Result Line TraceFault
-read_tick (ticks ∷ []) = ticks_of ticks >>= (λ n. Ok (Tick n))
+read_tick (ticks ∷ []) = ticks_field ticks >>= (λ n. Ok (Tick n))
 read_tick _ = Err FieldCount
 
 abbrev pub read_data : List (List ℕ) → Result Line TraceFault
-read_data (imsi ∷ []) = subscriber_of imsi >>= (λ i. Ok (Data i))
+read_data (imsi ∷ []) = subscriber_field imsi >>= (λ i. Ok (Data i))
 read_data _ = Err FieldCount
 
 abbrev pub read_cancel : List (List ℕ) → Result Line TraceFault
-read_cancel (imsi ∷ []) = subscriber_of imsi >>= (λ i. Ok (Cancel i))
+read_cancel (imsi ∷ []) = subscriber_field imsi >>= (λ i. Ok (Cancel i))
 read_cancel _ = Err FieldCount
 
 abbrev pub read_show : List (List ℕ) → Result Line TraceFault
-read_show (imsi ∷ []) = subscriber_of imsi >>= (λ i. Ok (Show i))
+read_show (imsi ∷ []) = subscriber_field imsi >>= (λ i. Ok (Show i))
 read_show _ = Err FieldCount
 
 -- a line of what happens, or a question
@@ -222,9 +222,9 @@ line_of text =
 -- ---- how a line is written
 
 -- octets: lower case, `-` for none
-abbrev pub shown : List ℕ → List ℕ
-shown [] = codes "-"
-shown (b ∷ bs) = encode_lower (b ∷ bs)
+abbrev pub octets_text : List ℕ → List ℕ
+octets_text [] = codes "-"
+octets_text (b ∷ bs) = encode_lower (b ∷ bs)
 
 -- a text, a space and a field
 infixl 10 ◌␣◌
@@ -250,7 +250,7 @@ line_text (Sub p) = codes "sub" ␣ imsi_text p.imsi ␣ encode_lower p.address 
 line_text (Vec i v) = codes "vec" ␣ imsi_text i ␣ encode_lower v.rand ␣ encode_lower v.autn ␣ encode_lower v.xres ␣ encode_lower v.kasme
 line_text (Up e) = codes "up" ␣ decimal e
 line_text (Lost e) = codes "lost" ␣ decimal e
-line_text (In e octets) = codes "in" ␣ decimal e ␣ shown octets
+line_text (In e octets) = codes "in" ␣ decimal e ␣ octets_text octets
 line_text (Tick n) = codes "tick" ␣ decimal n
 line_text (Data i) = codes "data" ␣ imsi_text i
 line_text (Cancel i) = codes "cancel" ␣ imsi_text i
@@ -265,34 +265,34 @@ owner_text (Stranger e b) = codes "out x" ++ decimal e ++ codes "." ++ decimal b
 owner_text (Subscriber slot) = codes "out s" ++ decimal slot ++ codes " "
 
 unfoldable pub sent_text : AnswerOwner → ℕ → List ℕ → List ℕ
-sent_text owner e octets = owner_text owner ++ (decimal e ++ codes " ") ++ shown octets ++ codes "\n"
+sent_text owner e octets = owner_text owner ++ (decimal e ++ codes " ") ++ octets_text octets ++ codes "\n"
 
 unfoldable pub refused_text : ℕ → List ℕ
 refused_text k = codes "refused " ++ decimal k ++ codes "\n"
 
 -- the states of a subscriber (TS 24.301 clause 5.1.3)
-abbrev pub emm_word : EmmState → List ℕ
+abbrev pub emm_word : EmmWord → List ℕ
 emm_word Deregistered = codes "DEREGISTERED"
 emm_word CommonProcedureInitiated = codes "COMMON-PROCEDURE-INITIATED"
 emm_word Registered = codes "REGISTERED"
 emm_word DeregisteredInitiated = codes "DEREGISTERED-INITIATED"
 
 -- whether it has a connection (TS 23.401 clause 4.6.3)
-abbrev pub ecm_word : EcmState → List ℕ
+abbrev pub ecm_word : EcmWord → List ℕ
 ecm_word Idle = codes "IDLE"
 ecm_word Connected = codes "CONNECTED"
 
 -- the states of its default bearer (TS 24.301 clause 6.1.3)
-abbrev pub esm_word : EsmState → List ℕ
+abbrev pub esm_word : EsmWord → List ℕ
 esm_word Inactive = codes "INACTIVE"
 esm_word ActivePending = codes "ACTIVE-PENDING"
 esm_word Active = codes "ACTIVE"
 
-unfoldable pub state_text : List ℕ → EmmState → EcmState → EsmState → List ℕ
+unfoldable pub state_text : List ℕ → EmmWord → EcmWord → EsmWord → List ℕ
 state_text imsi emm ecm esm = (codes "state" ␣ imsi_text imsi ␣ emm_word emm ␣ ecm_word ecm ␣ esm_word esm) ++ codes "\n"
 
 -- the line of an answer, with its LF
-abbrev pub answer_text : Answer → List ℕ
+abbrev pub answer_text : AnswerLine → List ℕ
 answer_text (Sent owner e octets) = sent_text owner e octets.now
 answer_text (Refused k) = refused_text k
 answer_text (State imsi emm ecm esm) = state_text imsi emm ecm esm

@@ -2,7 +2,7 @@
 
 ghost use Rattle.std.specs.Prelude.{◌≡◌, ◌++◌, IfOk, codes, string_bytes};
 ghost use Rattle.std.specs.Fmt.{decimal};
-ghost use Rattle.trace_text.specs.Trace.{answer_text, sent_text, state_text, owner_text, shown, emm_word, ecm_word, esm_word};
+ghost use Rattle.trace_text.specs.Trace.{answer_text, sent_text, state_text, owner_text, octets_text, emm_word, ecm_word, esm_word};
 
 use crate::written::push_field;
 use nas_elements::Imsi;
@@ -21,7 +21,7 @@ pub enum AnswerOwner {
 
 /// How a subscriber is registered (TS 24.301 clause 5.1.3).
 #[derive(Clone, Copy, Debug, PartialEq, Eq)]
-pub enum EmmState {
+pub enum EmmWord {
     /// It isn't.
     Deregistered,
     /// It waits for the answer to a common procedure.
@@ -34,7 +34,7 @@ pub enum EmmState {
 
 /// Whether a subscriber has a connection (TS 23.401 clause 4.6.3).
 #[derive(Clone, Copy, Debug, PartialEq, Eq)]
-pub enum EcmState {
+pub enum EcmWord {
     /// It has none.
     Idle,
     /// It has one.
@@ -43,7 +43,7 @@ pub enum EcmState {
 
 /// How far a subscriber's default bearer is (TS 24.301 clause 6.1.3).
 #[derive(Clone, Copy, Debug, PartialEq, Eq)]
-pub enum EsmState {
+pub enum EsmWord {
     /// There is none.
     Inactive,
     /// It is offered.
@@ -52,62 +52,62 @@ pub enum EsmState {
     Active,
 }
 
-impl EmmState {
+impl EmmWord {
     fn word(self) -> &'static str
         ensures { result.now ≡ emm_word self }
     {
         match self {
-            EmmState::Deregistered => "DEREGISTERED",
-            EmmState::CommonProcedureInitiated => "COMMON-PROCEDURE-INITIATED",
-            EmmState::Registered => "REGISTERED",
-            EmmState::DeregisteredInitiated => "DEREGISTERED-INITIATED",
+            EmmWord::Deregistered => "DEREGISTERED",
+            EmmWord::CommonProcedureInitiated => "COMMON-PROCEDURE-INITIATED",
+            EmmWord::Registered => "REGISTERED",
+            EmmWord::DeregisteredInitiated => "DEREGISTERED-INITIATED",
         }
     }
 }
 
-impl EcmState {
+impl EcmWord {
     fn word(self) -> &'static str
         ensures { result.now ≡ ecm_word self }
     {
         match self {
-            EcmState::Idle => "IDLE",
-            EcmState::Connected => "CONNECTED",
+            EcmWord::Idle => "IDLE",
+            EcmWord::Connected => "CONNECTED",
         }
     }
 }
 
-impl EsmState {
+impl EsmWord {
     fn word(self) -> &'static str
         ensures { result.now ≡ esm_word self }
     {
         match self {
-            EsmState::Inactive => "INACTIVE",
-            EsmState::ActivePending => "ACTIVE-PENDING",
-            EsmState::Active => "ACTIVE",
+            EsmWord::Inactive => "INACTIVE",
+            EsmWord::ActivePending => "ACTIVE-PENDING",
+            EsmWord::Active => "ACTIVE",
         }
     }
 }
 
 /// What a line of the answers says.
 #[derive(Clone, Copy)]
-pub enum Answer<'a> {
+pub enum AnswerLine<'a> {
     /// `out OWNER E OCTETS`: for the owner these octets are sent to the station of that number.
     Sent(AnswerOwner, u8, &'a [u8]),
     /// `refused K`: the event was refused with the fault of that number.
     Refused(u8),
     /// `state IMSI EMM ECM ESM`: the states of the subscriber of that IMSI.
-    State(Imsi, EmmState, EcmState, EsmState),
+    State(Imsi, EmmWord, EcmWord, EsmWord),
 }
 
 /// The line of an answer, with its LF.
 #[tactic(auto, unfolding(crate::specs::Trace::sent_text, crate::specs::Trace::refused_text))]
-pub fn write_answer(alloc: Global, answer: &Answer<'_>) -> Result<String, AllocError>
+pub fn write_answer(alloc: Global, answer: &AnswerLine<'_>) -> Result<String, AllocError>
     ensures { IfOk result (λ text. string_bytes text ≡ answer_text answer.now) }
 {
     match answer {
-        Answer::Sent(owner, station, octets) => write_sent(alloc, *owner, *station, octets),
-        Answer::Refused(fault) => format!(in alloc; "refused {fault}\n"),
-        Answer::State(imsi, emm, ecm, esm) => write_state(alloc, imsi, *emm, *ecm, *esm),
+        AnswerLine::Sent(owner, station, octets) => write_sent(alloc, *owner, *station, octets),
+        AnswerLine::Refused(fault) => format!(in alloc; "refused {fault}\n"),
+        AnswerLine::State(imsi, emm, ecm, esm) => write_state(alloc, imsi, *emm, *ecm, *esm),
     }
 }
 
@@ -152,9 +152,9 @@ fn write_stranger(alloc: Global, station: u8, phone: u32) -> Result<String, Allo
 fn write_state(
     alloc: Global,
     imsi: &Imsi,
-    emm: EmmState,
-    ecm: EcmState,
-    esm: EsmState,
+    emm: EmmWord,
+    ecm: EcmWord,
+    esm: EsmWord,
 ) -> Result<String, AllocError>
     ensures { IfOk result (λ text. string_bytes text ≡ state_text imsi.now emm ecm esm) }
 {
@@ -168,7 +168,7 @@ fn write_state(
 }
 
 pub(crate) fn write_octets(alloc: Global, octets: &[u8]) -> Result<String, AllocError>
-    ensures { IfOk result (λ text. string_bytes text ≡ shown octets.now) }
+    ensures { IfOk result (λ text. string_bytes text ≡ octets_text octets.now) }
 {
     if octets.is_empty() {
         String::from_str(alloc, "-")

@@ -1,7 +1,7 @@
 //! The fields of a line, each from its text.
 
 ghost use Rattle.std.specs.Prelude.{◌≡◌, ◌⊎◌, ◌<◌, ◌≤◌, ◌^◌, ◌*◌, length, IfOk, Ok, Err};
-ghost use Rattle.trace_text.specs.Trace.{capped, decimal_of, number_in, station_of, rate_of, digit_of, country_of, network_of, plmn_of, octets_of, sized_of, label_of, ticks_of, xres_of, subscriber_of};
+ghost use Rattle.trace_text.specs.Trace.{capped, decimal_of, number_field, station_field, rate_field, digit_of, country_of, network_of, plmn_field, octets_field, sized_of, label_field, ticks_field, xres_field, subscriber_field};
 
 use crate::fault::TraceFault;
 use crate::values::{ApnLabel, BitRate, TraceOctets, TraceTicks};
@@ -34,7 +34,7 @@ pub(crate) fn decimal(text: &[u8], most: u64) -> Option<u64>
 /// A number in decimal digits from `least` to `most`.
 fn number(text: &[u8], least: u64, most: u64) -> Result<u64, TraceFault>
     requires { most < 2 ^ 60 }
-    ensures value { result ≡ number_in least most text.now }
+    ensures value { result ≡ number_field least most text.now }
     ensures range { IfOk result (λ n. (least ≤ n) × (n ≤ most)) }
 {
     match decimal(text, most) {
@@ -44,7 +44,7 @@ fn number(text: &[u8], least: u64, most: u64) -> Result<u64, TraceFault>
 }
 
 pub(crate) fn station(text: &[u8]) -> Result<StationNumber, TraceFault>
-    ensures { result ≡ station_of text.now }
+    ensures { result ≡ station_field text.now }
 {
     match StationNumber::try_new(number(text, 0, 127)? as u8) {
         Some(station) => Ok(station),
@@ -53,7 +53,7 @@ pub(crate) fn station(text: &[u8]) -> Result<StationNumber, TraceFault>
 }
 
 pub(crate) fn bit_rate(text: &[u8]) -> Result<BitRate, TraceFault>
-    ensures { result ≡ rate_of text.now }
+    ensures { result ≡ rate_field text.now }
 {
     match BitRate::try_new(number(text, 1, 10_000_000_000)?) {
         Some(rate) => Ok(rate),
@@ -62,7 +62,7 @@ pub(crate) fn bit_rate(text: &[u8]) -> Result<BitRate, TraceFault>
 }
 
 pub(crate) fn ticks(text: &[u8]) -> Result<TraceTicks, TraceFault>
-    ensures { result ≡ ticks_of text.now }
+    ensures { result ≡ ticks_field text.now }
 {
     match TraceTicks::try_new(number(text, 1, 1_000_000)? as u32) {
         Some(ticks) => Ok(ticks),
@@ -106,7 +106,7 @@ fn network(text: &[u8]) -> Result<(u8, u8, u8), TraceFault>
 
 /// The octets that name a network, from the digits of its country and its own.
 pub(crate) fn plmn(country_text: &[u8], network_text: &[u8]) -> Result<[u8; 3], TraceFault>
-    ensures { result ≡ plmn_of country_text.now network_text.now }
+    ensures { result ≡ plmn_field country_text.now network_text.now }
 {
     let of_country = country(country_text)?;
     let of_network = network(network_text)?;
@@ -118,7 +118,7 @@ pub(crate) fn plmn(country_text: &[u8], network_text: &[u8]) -> Result<[u8; 3], 
 }
 
 pub(crate) fn octets(alloc: Global, text: &[u8]) -> Result<TraceOctets, TraceFault>
-    ensures { (result ≡ Err TraceFault.NoMemory) ⊎ (result ≡ octets_of text.now) }
+    ensures { (result ≡ Err TraceFault.NoMemory) ⊎ (result ≡ octets_field text.now) }
 {
     if text.is_empty() {
         return Err(TraceFault::BadHex);
@@ -146,7 +146,7 @@ pub(crate) fn sized_octets<const N: usize>(text: &[u8]) -> Result<[u8; N], Trace
 }
 
 pub(crate) fn label(alloc: Global, text: &[u8]) -> Result<ApnLabel, TraceFault>
-    ensures { (result ≡ Err TraceFault.NoMemory) ⊎ (result ≡ label_of text.now) }
+    ensures { (result ≡ Err TraceFault.NoMemory) ⊎ (result ≡ label_field text.now) }
 {
     match ApnLabel::try_new(alloc, text) {
         Ok(Some(label)) => Ok(label),
@@ -156,7 +156,7 @@ pub(crate) fn label(alloc: Global, text: &[u8]) -> Result<ApnLabel, TraceFault>
 }
 
 pub(crate) fn imsi(text: &[u8]) -> Result<Imsi, TraceFault>
-    ensures { result ≡ subscriber_of text.now }
+    ensures { result ≡ subscriber_field text.now }
 {
     match str::from_utf8(text) {
         Ok(digits) => Imsi::try_from_digits(digits).ok_or(TraceFault::BadNumber),
@@ -165,7 +165,7 @@ pub(crate) fn imsi(text: &[u8]) -> Result<Imsi, TraceFault>
 }
 
 pub(crate) fn xres(alloc: Global, text: &[u8]) -> Result<Xres, TraceFault>
-    ensures { (result ≡ Err TraceFault.NoMemory) ⊎ (result ≡ xres_of text.now) }
+    ensures { (result ≡ Err TraceFault.NoMemory) ⊎ (result ≡ xres_field text.now) }
 {
     match hex::decode(alloc, text) {
         Ok(octets) => Xres::try_new(octets.as_slice()).ok_or(TraceFault::BadHex),

@@ -8,7 +8,7 @@ mod line;
 mod values;
 mod written;
 
-pub use answer::{Answer, AnswerOwner, EcmState, EmmState, EsmState, write_answer};
+pub use answer::{AnswerLine, AnswerOwner, EcmWord, EmmWord, EsmWord, write_answer};
 pub use fault::TraceFault;
 pub use line::{LONGEST_LINE, Line, MmeLine, parse_line};
 pub use values::{ApnLabel, BitRate, TraceOctets, TraceTicks};

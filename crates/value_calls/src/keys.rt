@@ -2,7 +2,7 @@
 
 use call_text::{Answer, Fault, number_32, octets_answer, octets_of, sized, yes_answer};
 use eps_keys::{
-    Direction, MacKey, aes_encrypt, cmac, eia2, hmac_sha256, kenb, nas_integrity_key, next_hop,
+    DirectionBit, MacKey, aes_encrypt, cmac, eia2, hmac_sha256, kenb, nas_integrity_key, next_hop,
     same_octets,
 };
 use std::alloc::Global;
@@ -58,10 +58,10 @@ fn mac_answer(alloc: Global, words: &[&str]) -> Answer {
 }
 
 /// `up` or `down`.
-fn direction(word: &str) -> Result<Direction, Fault> {
+fn direction(word: &str) -> Result<DirectionBit, Fault> {
     match word {
-        "up" => Ok(Direction::Uplink),
-        "down" => Ok(Direction::Downlink),
+        "up" => Ok(DirectionBit::Uplink),
+        "down" => Ok(DirectionBit::Downlink),
         _ => Err(Fault::Name),
     }
 }

@@ -9,8 +9,8 @@ use identity_slots::StationNumber;
 use nas_elements::Imsi;
 use std::alloc::Global;
 use trace_text::{
-    Answer as TraceAnswer, AnswerOwner, ApnLabel, BitRate, EcmState, EmmState, EsmState, Line,
-    TraceFault, TraceTicks, parse_line, write_answer, write_line,
+    AnswerLine, AnswerOwner, ApnLabel, BitRate, EcmWord, EmmWord, EsmWord, Line, TraceFault,
+    TraceTicks, parse_line, write_answer, write_line,
 };
 
 /// What a line of a trace says, written again, with the octets of its network, or its fault. A comment says nothing.
@@ -53,15 +53,15 @@ pub fn answer(alloc: Global, words: &[&str]) -> Answer {
         }
         ["out", owner, station, octets] => {
             let octets = octets_of(alloc, octets)?;
-            let sent = TraceAnswer::Sent(owner_of(owner)?, number_8(station)?, &octets);
+            let sent = AnswerLine::Sent(owner_of(owner)?, number_8(station)?, &octets);
             shown(alloc, &sent)
         }
-        ["refused", fault] => shown(alloc, &TraceAnswer::Refused(number_8(fault)?)),
+        ["refused", fault] => shown(alloc, &AnswerLine::Refused(number_8(fault)?)),
         ["state", imsi, emm, ecm, esm] => {
             let Some(imsi) = Imsi::try_from_digits(imsi) else {
                 return Err(Fault::Number);
             };
-            let state = TraceAnswer::State(imsi, emm_of(emm)?, ecm_of(ecm)?, esm_of(esm)?);
+            let state = AnswerLine::State(imsi, emm_of(emm)?, ecm_of(ecm)?, esm_of(esm)?);
             shown(alloc, &state)
         }
         _ => Ok(None),
@@ -69,7 +69,7 @@ pub fn answer(alloc: Global, words: &[&str]) -> Answer {
 }
 
 /// The line of an answer, whose LF is shown as `\n`.
-fn shown(alloc: Global, answer: &TraceAnswer) -> Answer {
+fn shown(alloc: Global, answer: &AnswerLine) -> Answer {
     let line = write_answer(alloc, answer)?;
     match line.as_str().strip_suffix("\n") {
         Some(text) => Ok(Some(format!(in alloc; "{text}\\n")?)),
@@ -112,29 +112,29 @@ fn owner_of(text: &str) -> Result<AnswerOwner, Fault> {
     }
 }
 
-fn emm_of(word: &str) -> Result<EmmState, Fault> {
+fn emm_of(word: &str) -> Result<EmmWord, Fault> {
     match word {
-        "DEREGISTERED" => Ok(EmmState::Deregistered),
-        "COMMON-PROCEDURE-INITIATED" => Ok(EmmState::CommonProcedureInitiated),
-        "REGISTERED" => Ok(EmmState::Registered),
-        "DEREGISTERED-INITIATED" => Ok(EmmState::DeregisteredInitiated),
+        "DEREGISTERED" => Ok(EmmWord::Deregistered),
+        "COMMON-PROCEDURE-INITIATED" => Ok(EmmWord::CommonProcedureInitiated),
+        "REGISTERED" => Ok(EmmWord::Registered),
+        "DEREGISTERED-INITIATED" => Ok(EmmWord::DeregisteredInitiated),
         _ => Err(Fault::Name),
     }
 }
 
-fn ecm_of(word: &str) -> Result<EcmState, Fault> {
+fn ecm_of(word: &str) -> Result<EcmWord, Fault> {
     match word {
-        "IDLE" => Ok(EcmState::Idle),
-        "CONNECTED" => Ok(EcmState::Connected),
+        "IDLE" => Ok(EcmWord::Idle),
+        "CONNECTED" => Ok(EcmWord::Connected),
         _ => Err(Fault::Name),
     }
 }
 
-fn esm_of(word: &str) -> Result<EsmState, Fault> {
+fn esm_of(word: &str) -> Result<EsmWord, Fault> {
     match word {
-        "INACTIVE" => Ok(EsmState::Inactive),
-        "ACTIVE-PENDING" => Ok(EsmState::ActivePending),
-        "ACTIVE" => Ok(EsmState::Active),
+        "INACTIVE" => Ok(EsmWord::Inactive),
+        "ACTIVE-PENDING" => Ok(EsmWord::ActivePending),
+        "ACTIVE" => Ok(EsmWord::Active),
         _ => Err(Fault::Name),
     }
 }

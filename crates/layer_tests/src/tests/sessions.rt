@@ -3,7 +3,7 @@
 use eps_keys::nas_integrity_key;
 use esm_machine::{Bearer, BearerState, Requested};
 use nas_messages::SecurityHeader;
-use nas_security::{Eia2, SecurityContext, SecurityFault};
+use nas_security::{Eia2, EpsSecurityContext, SecurityFault};
 use std::test::Fail;
 
 #[test]
@@ -44,7 +44,7 @@ fn refused_protection(rt: HostRuntime) -> Result<(), Fail> {
         0x3f, 0x40, 0x41, 0x42, 0x43, 0x44, 0x45, 0x46, 0x47, 0x48, 0x49, 0x4a, 0x4b, 0x4c, 0x4d,
         0x4e, 0x4f,
     ];
-    let mut context = SecurityContext::new(Eia2::new(&nas_integrity_key(&kasme)), 0, 0, None);
+    let mut context = EpsSecurityContext::new(Eia2::new(&nas_integrity_key(&kasme)), 0, 0, None);
     let command = [0x07, 0x5d, 0x02, 0x00, 0x02, 0xe0, 0x60];
     let form = match context.protect(rt.alloc(), SecurityHeader::NewContext, &command) {
         Ok(form) => form,

@@ -4,7 +4,7 @@ use Rattle.std.specs.Option.{option_map_or}
 use Rattle.std.proofs.lemmas.List.{append-nil}
 use Rattle.std.proofs.lemmas.Option.{slice_get_read}
 use Rattle.mme_vocabulary.specs.Events.{item_of}
-use Rattle.emm_machine.specs.Whole.{Whole}
+use Rattle.emm_machine.specs.SubscriberView.{SubscriberView}
 use Rattle.mme_core.specs.Settled.{in_state}
 use Rattle.mme_core.proofs.Calling.{after_call, sends_call, call_past}
 use Rattle.mme_core.proofs.preparing.prepare_one.Goals as goal
@@ -23,7 +23,7 @@ returns-clause-after c =
     let item = item_of c.args.event.now c.args.stations.now in
     let x = c.index-subscribers-place.result in
     let at : slice_get ws c.args.slot ≡ Some x = slice_get_read ws (length ws) c.args.slot x refl (omega (arith, c.if-place-subscribers.false, c.get-place.ensures.value)) (c.index-subscribers-place.is ∙ ap (λ n. get_or ws n x) c.get-place.ensures.value) in
-    ap (λ (o : Option Whole). option_map_or (λ w. slice_set ws c.args.slot (in_state c.in_ok-solo.solo w)) o ws) at
+    ap (λ (o : Option SubscriberView). option_map_or (λ w. slice_set ws c.args.slot (in_state c.in_ok-solo.solo w)) o ws) at
     ∙ ap (λ s. slice_set ws c.args.slot (in_state s x)) c.in_ok-solo.ensures.after
     ∙ after_call c.args.slot item ws x at
 

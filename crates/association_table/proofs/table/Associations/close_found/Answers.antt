@@ -4,7 +4,7 @@ use Rattle.slab.specs.Slab.{get}
 use Rattle.ordered_lists.specs.Ordered.{without}
 use Rattle.ordered_lists.specs.Indexed.{every_at}
 use Rattle.association_table.specs.Table.{Table, found, closed}
-use Rattle.association_table.specs.Kept.{place_id, entries_of, IsKept}
+use Rattle.association_table.specs.Kept.{place_id, entries_of, IsTable}
 use Rattle.association_table.proofs.Entries.{on_some, rising_seats, taken_place, close_entries, close_kept, seat_there, closed_gone}
 use Rattle.association_table.proofs.table.Associations.close_found.Goals as goal
 
@@ -20,8 +20,8 @@ pub invariant_of-self : goal.invariant_of-self
 invariant_of-self c =
     let f : found c.args.association.id (entries_of c.self.inside.slab c.self.inside.by_id.items) ≡ Some c.args.association = ap (λ (v : Table). found c.args.association.id v.entries) c.self.view_is ∙ c.requires in
     let h = sym c.take_place.ensures.place ∙ c.unwrap-place.ensures in
-    subst (λ qs. IsKept c.try_remove.new.self qs c.take_seat.new.seats.items) (sym c.take_place.ensures.items)
-    (subst (λ ss. IsKept c.try_remove.new.self (without place_id c.args.association.id c.self.inside.by_id.items) ss) (sym c.take_seat.ensures.items)
+    subst (λ qs. IsTable c.try_remove.new.self qs c.take_seat.new.seats.items) (sym c.take_place.ensures.items)
+    (subst (λ ss. IsTable c.try_remove.new.self (without place_id c.args.association.id c.self.inside.by_id.items) ss) (sym c.take_seat.ensures.items)
     (close_kept c.self.inside.slab c.try_remove.new.self c.args.association.id c.args.association c.unwrap-place.result c.self.inside.by_id.items c.self.inside.by_station.items c.self.invariant f h c.try_remove.ensures.updates))
 
 pub returns-clause-entries : goal.returns-clause-entries

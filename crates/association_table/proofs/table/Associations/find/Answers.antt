@@ -4,7 +4,7 @@ use Rattle.slab.specs.Slab.{get}
 use Rattle.ordered_lists.specs.Ordered.{Rising}
 use Rattle.ordered_lists.specs.Indexed.{every_at}
 use Rattle.ordered_lists.specs.Laws.{at_key}
-use Rattle.association_table.specs.Table.{Table, id_of, found}
+use Rattle.association_table.specs.Table.{Table, association_id, found}
 use Rattle.association_table.specs.Kept.{place_id, entry_at, with_id, or_blank}
 use Rattle.association_table.proofs.Entries.{rising_entries, found_place, none_some}
 use Rattle.association_table.proofs.table.Associations.find.Goals as goal
@@ -25,10 +25,10 @@ returns-in-None-clause-value c =
     absurd (none_some (get c.self.inside.slab c.in_ok-place.place.key) there (sym c.in-None.ensures))
 
 pub returns-in_err-place-clause-order : goal.returns-in_err-place-clause-order
-returns-in_err-place-clause-order c = subst (λ (v : Table). Rising id_of v.entries) c.self.view_is (rising_entries c.self.inside.slab c.self.inside.by_id.items c.self.invariant.rising)
+returns-in_err-place-clause-order c = subst (λ (v : Table). Rising association_id v.entries) c.self.view_is (rising_entries c.self.inside.slab c.self.inside.by_id.items c.self.invariant.rising)
 
 pub returns-in-Some-clause-order : goal.returns-in-Some-clause-order
-returns-in-Some-clause-order c = subst (λ (v : Table). Rising id_of v.entries) c.self.view_is (rising_entries c.self.inside.slab c.self.inside.by_id.items c.self.invariant.rising)
+returns-in-Some-clause-order c = subst (λ (v : Table). Rising association_id v.entries) c.self.view_is (rising_entries c.self.inside.slab c.self.inside.by_id.items c.self.invariant.rising)
 
 pub returns-in-None-clause-order : goal.returns-in-None-clause-order
-returns-in-None-clause-order c = subst (λ (v : Table). Rising id_of v.entries) c.self.view_is (rising_entries c.self.inside.slab c.self.inside.by_id.items c.self.invariant.rising)
+returns-in-None-clause-order c = subst (λ (v : Table). Rising association_id v.entries) c.self.view_is (rising_entries c.self.inside.slab c.self.inside.by_id.items c.self.invariant.rising)

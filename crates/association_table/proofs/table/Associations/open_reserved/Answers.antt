@@ -2,7 +2,7 @@ use Rattle.std.proofs.Common.{◌<◌, ◌≡◌, arith, sym, ◌∙◌, ap, sub
 use Rattle.std.specs.Prelude.{None}
 use Rattle.ordered_lists.specs.Ordered.{add}
 use Rattle.association_table.specs.Table.{Table, found, opened}
-use Rattle.association_table.specs.Kept.{place_id, seat_rank, entries_of, IsKept}
+use Rattle.association_table.specs.Kept.{place_id, seat_rank, entries_of, IsTable}
 use Rattle.association_table.proofs.Entries.{rising_seats, open_entries, open_kept}
 use Rattle.association_table.proofs.table.Associations.open_reserved.Goals as goal
 
@@ -11,16 +11,16 @@ add_seat-requires-clause-rising c = rising_seats c.self.inside.slab c.self.insid
 
 pub invariant_of-self : goal.invariant_of-self
 invariant_of-self c =
-    let small = c.id_of-id.type_inv in let id : c.args.association.id < 4294967296 = omega (arith, c.id_of-id.ensures) in
+    let small = c.association_id-id.type_inv in let id : c.args.association.id < 4294967296 = omega (arith, c.association_id-id.ensures) in
     let f : found c.args.association.id (entries_of c.self.inside.slab c.self.inside.by_id.items) ≡ None = ap (λ (v : Table). found c.args.association.id v.entries) c.self.view_is ∙ c.requires.free in
-    subst (λ qs. IsKept c.insert_reserved-key.new.self qs c.add_seat.new.seats.items) (sym c.add_place.ensures.items)
-    (subst (λ ss. IsKept c.insert_reserved-key.new.self (add place_id (record { id = c.id_of-id.result; key = c.insert_reserved-key.result }) c.self.inside.by_id.items) ss) (sym c.add_seat.ensures.items)
-    (subst (λ i. IsKept c.insert_reserved-key.new.self (add place_id (record { id = i; key = c.insert_reserved-key.result }) c.self.inside.by_id.items) (add seat_rank (record { station = c.args.association.station; id = i }) c.self.inside.by_station.items)) (sym c.id_of-id.ensures)
+    subst (λ qs. IsTable c.insert_reserved-key.new.self qs c.add_seat.new.seats.items) (sym c.add_place.ensures.items)
+    (subst (λ ss. IsTable c.insert_reserved-key.new.self (add place_id (record { id = c.association_id-id.result; key = c.insert_reserved-key.result }) c.self.inside.by_id.items) ss) (sym c.add_seat.ensures.items)
+    (subst (λ i. IsTable c.insert_reserved-key.new.self (add place_id (record { id = i; key = c.insert_reserved-key.result }) c.self.inside.by_id.items) (add seat_rank (record { station = c.args.association.station; id = i }) c.self.inside.by_station.items)) (sym c.association_id-id.ensures)
     (open_kept c.self.inside.slab c.insert_reserved-key.new.self c.args.association c.insert_reserved-key.result c.self.inside.by_id.items c.self.inside.by_station.items c.self.invariant id f c.insert_reserved-key.ensures.was_vacant c.insert_reserved-key.ensures.updates)))
 
 pub returns-clause-entries : goal.returns-clause-entries
 returns-clause-entries c =
     ap (entries_of c.insert_reserved-key.new.self) c.add_place.ensures.items
-    ∙ ap (λ i. entries_of c.insert_reserved-key.new.self (add place_id (record { id = i; key = c.insert_reserved-key.result }) c.self.inside.by_id.items)) c.id_of-id.ensures
+    ∙ ap (λ i. entries_of c.insert_reserved-key.new.self (add place_id (record { id = i; key = c.insert_reserved-key.result }) c.self.inside.by_id.items)) c.association_id-id.ensures
     ∙ open_entries c.self.inside.slab c.insert_reserved-key.new.self c.args.association c.insert_reserved-key.result c.self.inside.by_id.items c.insert_reserved-key.ensures.was_vacant c.self.invariant.held c.insert_reserved-key.ensures.updates
     ∙ ap (λ (v : Table). opened c.args.association v.entries) c.self.view_is

@@ -1,7 +1,7 @@
 use Rattle.std.proofs.Common.{◌≡◌, List, ℕ, length, ap, ◌∙◌, sym, arith}
 use Rattle.std.proofs.lemmas.List.{take_all}
 use Rattle.eps_keys.specs.Aes.{xor_blocks}
-use Rattle.eps_keys.specs.Cmac.{padded, subkey1, subkey2}
+use Rattle.eps_keys.specs.Cmac.{padded_block, subkey1, subkey2}
 use Rattle.eps_keys.proofs.Subkeys.{masked_short, masked_full}
 use Rattle.eps_keys.proofs.mac.MacKey.masked_last.Goals as goal
 
@@ -9,7 +9,7 @@ pub returns-then-last-lt16 : goal.returns-then-last-lt16
 returns-then-last-lt16 c =
     let m = c.args.last.now in
     c.xor.ensures ∙ ap (λ (b : List ℕ). xor_blocks b c.self.inside.subkey2) (c.from_octets.ensures ∙ c.padded.ensures)
-    ∙ ap (xor_blocks (padded m)) (c.self.invariant.second ∙ ap subkey2 c.self.view_is)
+    ∙ ap (xor_blocks (padded_block m)) (c.self.invariant.second ∙ ap subkey2 c.self.view_is)
     ∙ sym (masked_short c.args.self.now m c.if-last-lt16.true)
 
 pub returns : goal.returns

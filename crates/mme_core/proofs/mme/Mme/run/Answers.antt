@@ -4,7 +4,7 @@ use Rattle.std.proofs.lemmas.List.{take_all, take_more, length_push}
 use Rattle.ordered_lists.specs.Ordered.{Rising}
 use Rattle.stranger_machine.specs.Table.{known_id, stranger_at}
 use Rattle.mme_core.specs.Projection.{is_slot, is_station, is_stranger, told}
-use Rattle.mme_core.specs.World.{World, replies, world_run, taken}
+use Rattle.mme_core.specs.World.{World, replies, world_run, events_taken}
 use Rattle.mme_core.proofs.Alone.{absent_each, slots_end, slots_told, stations_told, strangers_end, strangers_told}
 use Rattle.mme_core.proofs.Order.{run_order}
 use Rattle.mme_core.proofs.Runs.{ran_more}
@@ -37,7 +37,7 @@ returns-clause-told c =
     let es = c.args.events.now in
     let all : take l.event-index es ≡ es = take_all l.event-index es (let t = c.loop-event-test.false in omega (arith, t)) in
     let rising : Rising known_id w.strangers = subst (λ (v : World). Rising known_id v.strangers) c.self.view_is c.self.invariant.2 in
-    λ slot x at. ap (told (is_slot slot)) (l.invariant.ran.replies ∙ ap (λ xs. replies w (taken xs l.replies.items)) all) ∙ slots_told w (taken es l.replies.items) slot x rising at
+    λ slot x at. ap (told (is_slot slot)) (l.invariant.ran.replies ∙ ap (λ xs. replies w (events_taken xs l.replies.items)) all) ∙ slots_told w (events_taken es l.replies.items) slot x rising at
 
 pub returns-clause-states : goal.returns-clause-states
 returns-clause-states c =
@@ -46,7 +46,7 @@ returns-clause-states c =
     let es = c.args.events.now in
     let all : take l.event-index es ≡ es = take_all l.event-index es (let t = c.loop-event-test.false in omega (arith, t)) in
     let rising : Rising known_id w.strangers = subst (λ (v : World). Rising known_id v.strangers) c.self.view_is c.self.invariant.2 in
-    λ slot x at. ap (λ (v : World). slice_get v.subscribers slot) (l.invariant.ran.state ∙ ap (λ xs. world_run w (taken xs l.replies.items)) all) ∙ slots_end w (taken es l.replies.items) slot x rising at
+    λ slot x at. ap (λ (v : World). slice_get v.subscribers slot) (l.invariant.ran.state ∙ ap (λ xs. world_run w (events_taken xs l.replies.items)) all) ∙ slots_end w (events_taken es l.replies.items) slot x rising at
 
 pub returns-clause-absent : goal.returns-clause-absent
 returns-clause-absent c =
@@ -54,7 +54,7 @@ returns-clause-absent c =
     let l = c.loop-event in
     let es = c.args.events.now in
     let all : take l.event-index es ≡ es = take_all l.event-index es (let t = c.loop-event-test.false in omega (arith, t)) in
-    λ slot none. ap (told (is_slot slot)) (l.invariant.ran.replies ∙ ap (λ xs. replies w (taken xs l.replies.items)) all) ∙ absent_each w (taken es l.replies.items) slot none
+    λ slot none. ap (told (is_slot slot)) (l.invariant.ran.replies ∙ ap (λ xs. replies w (events_taken xs l.replies.items)) all) ∙ absent_each w (events_taken es l.replies.items) slot none
 
 pub returns-clause-strangers : goal.returns-clause-strangers
 returns-clause-strangers c =
@@ -63,7 +63,7 @@ returns-clause-strangers c =
     let es = c.args.events.now in
     let all : take l.event-index es ≡ es = take_all l.event-index es (let t = c.loop-event-test.false in omega (arith, t)) in
     let rising : Rising known_id w.strangers = subst (λ (v : World). Rising known_id v.strangers) c.self.view_is c.self.invariant.2 in
-    λ id. ap (told (is_stranger id)) (l.invariant.ran.replies ∙ ap (λ xs. replies w (taken xs l.replies.items)) all) ∙ strangers_told w (taken es l.replies.items) id rising
+    λ id. ap (told (is_stranger id)) (l.invariant.ran.replies ∙ ap (λ xs. replies w (events_taken xs l.replies.items)) all) ∙ strangers_told w (events_taken es l.replies.items) id rising
 
 pub returns-clause-stranger_states : goal.returns-clause-stranger_states
 returns-clause-stranger_states c =
@@ -72,7 +72,7 @@ returns-clause-stranger_states c =
     let es = c.args.events.now in
     let all : take l.event-index es ≡ es = take_all l.event-index es (let t = c.loop-event-test.false in omega (arith, t)) in
     let rising : Rising known_id w.strangers = subst (λ (v : World). Rising known_id v.strangers) c.self.view_is c.self.invariant.2 in
-    λ id. ap (λ (v : World). stranger_at id v.strangers) (l.invariant.ran.state ∙ ap (λ xs. world_run w (taken xs l.replies.items)) all) ∙ strangers_end w (taken es l.replies.items) id rising
+    λ id. ap (λ (v : World). stranger_at id v.strangers) (l.invariant.ran.state ∙ ap (λ xs. world_run w (events_taken xs l.replies.items)) all) ∙ strangers_end w (events_taken es l.replies.items) id rising
 
 pub returns-clause-stations : goal.returns-clause-stations
 returns-clause-stations c =
@@ -80,7 +80,7 @@ returns-clause-stations c =
     let l = c.loop-event in
     let es = c.args.events.now in
     let all : take l.event-index es ≡ es = take_all l.event-index es (let t = c.loop-event-test.false in omega (arith, t)) in
-    λ e. ap (told (is_station e)) (l.invariant.ran.replies ∙ ap (λ xs. replies w (taken xs l.replies.items)) all) ∙ stations_told w (taken es l.replies.items) e
+    λ e. ap (told (is_station e)) (l.invariant.ran.replies ∙ ap (λ xs. replies w (events_taken xs l.replies.items)) all) ∙ stations_told w (events_taken es l.replies.items) e
 
 pub returns-clause-station_states : goal.returns-clause-station_states
 returns-clause-station_states c =
@@ -89,11 +89,11 @@ returns-clause-station_states c =
     let es = c.args.events.now in
     let all : take l.event-index es ≡ es = take_all l.event-index es (let t = c.loop-event-test.false in omega (arith, t)) in
     let long : length w.sight.stations ≡ 128 = sym (ap (λ (v : World). length v.sight.stations) c.self.view_is) ∙ c.self.invariant.1 in
-    λ e lt. station_ends w l.self e (taken es l.replies.items) (l.invariant.ran.state ∙ ap (λ xs. world_run w (taken xs l.replies.items)) all) (omega (arith, long, lt))
+    λ e lt. station_ends w l.self e (events_taken es l.replies.items) (l.invariant.ran.state ∙ ap (λ xs. world_run w (events_taken xs l.replies.items)) all) (omega (arith, long, lt))
 
 pub returns-clause-order : goal.returns-clause-order
 returns-clause-order c =
     let w = c.args.self.now in
     let l = c.loop-event in
     let rising : Rising known_id w.strangers = subst (λ (v : World). Rising known_id v.strangers) c.self.view_is c.self.invariant.2 in
-    run_order w (taken (take l.event-index c.args.events.now) l.replies.items) l.replies.items rising l.invariant.ran.replies
+    run_order w (events_taken (take l.event-index c.args.events.now) l.replies.items) l.replies.items rising l.invariant.ran.replies

@@ -1,7 +1,7 @@
 use Rattle.std.proofs.Common.{◌≡◌, ◌-◌, arith, Some, None, ap, ◌∙◌, sym}
 use Rattle.std.specs.Prelude.{option_map, nat_eq}
 use Rattle.std.specs.HashMap.{get}
-use Rattle.timer_queue.specs.Countdowns.{timer_of, left_of, Countdowns}
+use Rattle.timer_queue.specs.Countdowns.{timer_of, ticks_left, Countdowns}
 use Rattle.timer_queue.specs.Rank.{rank}
 use Rattle.timer_queue.proofs.Changes.{left_is, late_found}
 use Rattle.timer_queue.proofs.queue.Timers.left.Goals as goal
@@ -15,9 +15,9 @@ overflow_sub-result c =
 pub returns-in-Some : goal.returns-in-Some
 returns-in-Some c =
     let there : get nat_eq c.self.inside.index (rank (timer_of c.args.owner c.args.kind)) ≡ Some c.in-Some.deadline.now = ap (get nat_eq c.self.inside.index) (sym c.rank.ensures) ∙ sym c.in-Some.ensures.value in
-    sym (ap (λ (v : Countdowns). left_of c.args.owner c.args.kind v.running) (sym c.self.view_is) ∙ left_is c.self.inside.clock (timer_of c.args.owner c.args.kind) c.self.inside.index c.self.inside.queue.items c.self.invariant.1 c.self.invariant.3 ∙ ap (option_map (λ d. d - c.self.inside.clock)) there)
+    sym (ap (λ (v : Countdowns). ticks_left c.args.owner c.args.kind v.running) (sym c.self.view_is) ∙ left_is c.self.inside.clock (timer_of c.args.owner c.args.kind) c.self.inside.index c.self.inside.queue.items c.self.invariant.1 c.self.invariant.3 ∙ ap (option_map (λ d. d - c.self.inside.clock)) there)
 
 pub returns-in-None : goal.returns-in-None
 returns-in-None c =
     let there : get nat_eq c.self.inside.index (rank (timer_of c.args.owner c.args.kind)) ≡ None = ap (get nat_eq c.self.inside.index) (sym c.rank.ensures) ∙ sym c.in-None.ensures.value in
-    sym (ap (λ (v : Countdowns). left_of c.args.owner c.args.kind v.running) (sym c.self.view_is) ∙ left_is c.self.inside.clock (timer_of c.args.owner c.args.kind) c.self.inside.index c.self.inside.queue.items c.self.invariant.1 c.self.invariant.3 ∙ ap (option_map (λ d. d - c.self.inside.clock)) there)
+    sym (ap (λ (v : Countdowns). ticks_left c.args.owner c.args.kind v.running) (sym c.self.view_is) ∙ left_is c.self.inside.clock (timer_of c.args.owner c.args.kind) c.self.inside.index c.self.inside.queue.items c.self.invariant.1 c.self.invariant.3 ∙ ap (option_map (λ d. d - c.self.inside.clock)) there)

@@ -7,10 +7,10 @@ ghost use Rattle.mme_vocabulary.specs.declared.stations.StationState.{StationSta
 ghost use Rattle.mme_vocabulary.specs.Events.{Message, message_lists};
 ghost use Rattle.stranger_machine.specs.declared.state.Stranger.{Stranger};
 ghost use Rattle.stranger_machine.specs.declared.turn.After.TheVariants as afters;
-ghost use Rattle.stranger_machine.specs.Machine.{checked, claimed_by, heeds, identified, imsi_of, told, told_imsi, unknown, waiting_told};
+ghost use Rattle.stranger_machine.specs.Machine.{checked_for_pair, claimed_by, receives_own, identified, imsi_of_identity, receives, imsi_in_response, unknown, receives_waiting};
 ghost use Rattle.stranger_machine.specs.Turns.{turn_of};
 
-use crate::sending::{refused, released, saying};
+use crate::sending::{refused, released, sent_to};
 use crate::state::{Kept, Stranger};
 use crate::turn::{After, Call, Turn};
 use identity_slots::{AssociationId, Provision, Slot};
@@ -34,14 +34,14 @@ pub fn unknown(alloc: Global, message: &UeMessage<&[u8]>) -> Result<Answers, All
         UeBody::ReleaseComplete => Ok(Answers::new(alloc)),
         UeBody::PathSwitch => {
             let failure = path_switch_failure(message.mme_id, message.enb_id, cause);
-            saying(alloc, message.station, &failure)
+            sent_to(alloc, message.station, &failure)
         }
         UeBody::Uplink { nas: _, tai: _ }
         | UeBody::ReleaseRequest { cause: _ }
         | UeBody::ContextSetupFailure
         | UeBody::Notice => {
             let indication = error_indication(message.mme_id, message.enb_id, cause);
-            saying(alloc, message.station, &indication)
+            sent_to(alloc, message.station, &indication)
         }
     }
 }
@@ -71,8 +71,8 @@ fn closing<'a>(sent: Answers) -> Turn<'a>
     }
 }
 
-fn imsi_of(identity: &MobileIdentity) -> Option<Imsi>
-    ensures { result ≡ imsi_of identity.now }
+fn imsi_of_identity(identity: &MobileIdentity) -> Option<Imsi>
+    ensures { result ≡ imsi_of_identity identity.now }
 {
     match identity {
         MobileIdentity::Imsi(imsi) => Some(*imsi),
@@ -87,17 +87,17 @@ struct Decoded<'a> {
 }
 
 fn imsi_in(message: &EmmMessage) -> Option<Imsi>
-    ensures { result ≡ told_imsi (Ok (lists message.now)) }
+    ensures { result ≡ imsi_in_response (Ok (lists message.now)) }
 {
     match message {
-        Emm::IdentityResponse { identity } => imsi_of(identity),
+        Emm::IdentityResponse { identity } => imsi_of_identity(identity),
         _ => None,
     }
 }
 
 // The IMSI of a plain IDENTITY RESPONSE (TS 24.301 clause 8.2.19).
-fn told_imsi(nas: &[u8]) -> Option<Imsi>
-    ensures { result ≡ told_imsi (decoded_emm Uplink nas.now) }
+fn imsi_in_response(nas: &[u8]) -> Option<Imsi>
+    ensures { result ≡ imsi_in_response (decoded_emm Uplink nas.now) }
 {
     match decode_emm(nas, Direction::Uplink) {
         Ok(message) => {
@@ -140,19 +140,25 @@ fn identified<'a>(
 }
 
 // A message from the stranger's own station and number.
-#[tactic(auto, unfolding(crate::specs::Machine::heeds))]
-fn heeds<'a>(
+#[tactic(auto, unfolding(crate::specs::Machine::receives_own))]
+fn receives_own<'a>(
     alloc: Global,
     provision: &Provision,
     kept: &'a Kept,
     message: &UeMessage<&[u8]>,
 ) -> Result<Turn<'a>, AllocError>
     ensures { (stations : List StationState) (s : Stranger) → IfOk result (λ t. turn_of stations (Some s) t
-        ≡ heeds (message_lists message.now).body provision.now.profiles message.now.mme_id kept.entry.now s) }
+        ≡ receives_own (message_lists message.now).body provision.now.profiles message.now.mme_id kept.entry.now s) }
 {
     match message.body {
         UeBody::Uplink { nas, tai: _ } => {
-            identified(alloc, provision, message.mme_id, kept, told_imsi(nas))
+            identified(
+                alloc,
+                provision,
+                message.mme_id,
+                kept,
+                imsi_in_response(nas),
+            )
         }
         UeBody::ReleaseRequest { cause } => {
             let place = kept.place(message.mme_id);
@@ -165,33 +171,33 @@ fn heeds<'a>(
     }
 }
 
-#[tactic(auto, unfolding(crate::specs::Machine::checked))]
-fn checked<'a>(
+#[tactic(auto, unfolding(crate::specs::Machine::checked_for_pair))]
+fn checked_for_pair<'a>(
     alloc: Global,
     provision: &Provision,
     kept: &'a Kept,
     message: &UeMessage<&[u8]>,
 ) -> Result<Turn<'a>, AllocError>
-    ensures { (stations : List StationState) (s : Stranger) → IfOk result (λ t. turn_of stations (Some s) t ≡ checked provision.now.profiles (message_lists message.now) kept.entry.now s) }
+    ensures { (stations : List StationState) (s : Stranger) → IfOk result (λ t. turn_of stations (Some s) t ≡ checked_for_pair provision.now.profiles (message_lists message.now) kept.entry.now s) }
 {
     if kept.station == message.station && kept.enb_id == message.enb_id {
-        return heeds(alloc, provision, kept, message);
+        return receives_own(alloc, provision, kept, message);
     }
     let cause = Cause::RadioNetwork(RadioNetworkCause::UnknownPairUeS1apId);
     let indication = error_indication(message.mme_id, message.enb_id, cause);
-    Ok(staying(saying(alloc, message.station, &indication)?))
+    Ok(staying(sent_to(alloc, message.station, &indication)?))
 }
 
 // A message for a stranger that waits.
-#[tactic(auto, unfolding(crate::specs::Machine::waiting_told))]
-fn waiting_told<'a>(
+#[tactic(auto, unfolding(crate::specs::Machine::receives_waiting))]
+fn receives_waiting<'a>(
     alloc: Global,
     provision: &Provision,
     kept: &'a Kept,
     message: &UeMessage<&[u8]>,
 ) -> Result<Turn<'a>, AllocError>
     ensures { (stations : List StationState) (s : Stranger) → IfOk result (λ t. turn_of stations (Some s) t
-        ≡ waiting_told (message_lists message.now).body provision.now.profiles (message_lists message.now) kept.entry.now s) }
+        ≡ receives_waiting (message_lists message.now).body provision.now.profiles (message_lists message.now) kept.entry.now s) }
 {
     match message.body {
         UeBody::ReleaseComplete => Ok(staying(Answers::new(alloc))),
@@ -199,7 +205,7 @@ fn waiting_told<'a>(
         UeBody::Uplink { nas: _, tai: _ }
         | UeBody::ReleaseRequest { cause: _ }
         | UeBody::ContextSetupFailure
-        | UeBody::Notice => checked(alloc, provision, kept, message),
+        | UeBody::Notice => checked_for_pair(alloc, provision, kept, message),
     }
 }
 
@@ -225,15 +231,15 @@ fn handed_on<'a>(alloc: Global, slot: Slot, message: &UeMessage<&'a [u8]>) -> Tu
 
 /// A message with the stranger's id: one that is closed is nobody, one that waits heeds its identity and its release, and one that
 /// is held hands it on to its subscriber.
-#[tactic(auto, unfolding(crate::specs::Machine::told))]
-pub fn told<'a>(
+#[tactic(auto, unfolding(crate::specs::Machine::receives))]
+pub fn receives<'a>(
     alloc: Global,
     provision: &Provision,
     before: Option<&'a Stranger>,
     message: &UeMessage<&'a [u8]>,
 ) -> Result<Turn<'a>, AllocError>
     ensures { (stations : List StationState) → IfOk result (λ t. turn_of stations (option_map (λ s. s.now) before.entry) t
-        ≡ told provision.now.profiles (option_map (λ s. s.now) before.entry) (message_lists message.now)) }
+        ≡ receives provision.now.profiles (option_map (λ s. s.now) before.entry) (message_lists message.now)) }
 {
     match before {
         None => Ok(closing(unknown(alloc, message)?)),
@@ -243,7 +249,7 @@ pub fn told<'a>(
                 left: _,
                 repeats: _,
             },
-        ) => waiting_told(alloc, provision, kept, message),
+        ) => receives_waiting(alloc, provision, kept, message),
         Some(Stranger::Held(slot)) => Ok(handed_on(alloc, *slot, message)),
     }
 }
