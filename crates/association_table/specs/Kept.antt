@@ -1,7 +1,7 @@
 -- The slab and its two lists.
 use Rattle.std.specs.Prelude.{◌≡◌, ℕ, ◌+◌, ◌*◌, ◌^◌, ◌<◌, List, [], ◌∷◌, map, Option, Some, None, IsSome, ◌==◌, nat_le, if◌then◌else◌}
 use Rattle.slab.specs.Slab.{Slab, get}
-use Rattle.association_table.specs.declared.association.Owner.TheVariants.{Stranger}
+use Rattle.association_table.specs.declared.association.AssociationOwner.TheVariants.{Stranger}
 use Rattle.association_table.specs.declared.association.Association.{Association}
 use Rattle.association_table.specs.declared.places.Held.{Held}
 use Rattle.association_table.specs.declared.places.SlabPlace.{SlabPlace}

@@ -2,7 +2,7 @@
 
 /// Whose association it is.
 #[derive(Clone, Copy, PartialEq, Eq, Debug)]
-pub enum Owner {
+pub enum AssociationOwner {
     /// A phone that is not known yet: the association's station and eNB UE id name it.
     Stranger,
     /// A subscriber, by its slot.
@@ -14,7 +14,7 @@ pub enum Owner {
 pub struct Association {
     /// MME UE S1AP ID (TS 36.413 clause 9.2.3.3).
     pub id: u32,
-    pub owner: Owner,
+    pub owner: AssociationOwner,
     /// The number of the station.
     pub station: u8,
     /// eNB UE S1AP ID (TS 36.413 clause 9.2.3.4).

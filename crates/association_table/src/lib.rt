@@ -9,5 +9,5 @@ mod association;
 mod places;
 mod table;
 
-pub use association::{Association, MoveFault, OpenFault, Owner};
+pub use association::{Association, AssociationOwner, MoveFault, OpenFault};
 pub use table::Associations;

@@ -5,12 +5,12 @@ ghost use Rattle.std.specs.Vec.{vec_capacity};
 ghost use Rattle.ordered_lists.specs.Ordered.{place, at, add, without, Rising, Every};
 ghost use Rattle.association_table.specs.Kept.{place_id, seat_rank, IsSeat, first_seat};
 
-use crate::association::Owner;
+use crate::association::AssociationOwner;
 
 /// What the slab holds of an association.
 #[derive(Clone, Copy)]
 pub(crate) struct Held {
-    pub(crate) owner: Owner,
+    pub(crate) owner: AssociationOwner,
     pub(crate) station: u8,
     pub(crate) enb_id: u32,
 }

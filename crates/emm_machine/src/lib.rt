@@ -1,8 +1,8 @@
 //! The mobility management of one subscriber (TS 24.301 clause 5, TS 36.413 clause 8): what an MME sends for it, and what it
 //! keeps of it.
 //!
-//! A [`Subscriber`] is told of events and answers with S1AP messages. Each step is proved to be that of `solo_step` in
-//! `specs/`, a function on values; where memory is refused nothing changes.
+//! A [`Subscriber`] takes what of each event is for it and answers with S1AP messages. Each step is proved to be that of
+//! `solo_step` in `specs/`, a function on values; where memory is refused nothing changes.
 #![tactic(auto)]
 
 mod laws;

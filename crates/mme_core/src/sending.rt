@@ -27,7 +27,7 @@ pub(crate) fn send_all(
     Ok(())
 }
 
-/// What a station is told for itself.
+/// What is sent for a station.
 pub(crate) fn station_outs(
     alloc: Global,
     station: Option<StationNumber>,

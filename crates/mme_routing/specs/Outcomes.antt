@@ -1,4 +1,4 @@
--- What is said to stations, and what a station that is not down makes of what it sends (TS 36.413 clauses 8.7.3 and 8.7.2).
+-- What is sent to stations, and what a station that is not down makes of what it sends (TS 36.413 clauses 8.7.3 and 8.7.2).
 use Rattle.std.specs.Prelude.{ℕ, Bool, List, [], ◌∷◌, Option, Some, None, Result, Ok, Err, if◌then◌else◌}
 use Rattle.std.specs.List.{list_any}
 use Rattle.s1ap_elements.specs.declared.cause.Cause.{Cause}
@@ -34,7 +34,7 @@ use Rattle.stranger_machine.specs.Table as table
 use Rattle.stranger_machine.specs.Turns.{sent_to}
 use Rattle.mme_routing.specs.Naming.{named_slot}
 
--- ---- what the MME says to stations
+-- ---- what the MME sends to stations
 
 -- the one network, group and code of the MME
 abbrev pub served_gummei : Network → ServedGummei
@@ -76,7 +76,7 @@ pub data Calls : Type 0 where
   One : ℕ → Item → Calls
   Everyone : Item → Calls
 
--- the station's state, what it is told for itself, the strangers that are reached, and who is called
+-- the station's state, what is sent for it, the strangers that are reached, and who is called
 pub record Outcome : Type 0 where
   pub state : StationState
   pub sent : List Answer
@@ -92,7 +92,7 @@ calling state calls = record { state = state; sent = []; reach = Nobody; calls =
 abbrev pub reaching : StationState → Reach → Outcome
 reaching state r = record { state = state; sent = []; reach = r; calls = NoOne }
 
--- the associations of a station end, with what it is told
+-- the associations of a station end, with what is sent for it
 abbrev pub begins_anew : ℕ → StationState → List Answer → Outcome
 begins_anew e state sent = record { state = state; sent = sent; reach = Each (Gone e); calls = Everyone (StationGone e) }
 

@@ -1,4 +1,4 @@
-//! What the MME says to stations.
+//! What the MME sends to stations.
 
 ghost use Rattle.std.specs.Prelude.{◌≡◌, ◌≤◌, ◌∷◌, [], IfOk, Ok, Err};
 ghost use Rattle.s1ap_messages.specs.Pdus.{lists};

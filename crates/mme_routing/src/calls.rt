@@ -4,7 +4,7 @@ use identity_slots::{AssociationId, Slot};
 use mme_vocabulary::{Entry, SoloEvent, UeMessage};
 use stranger_machine::Notice;
 
-/// Who is told of an event, and what.
+/// Who is called by an event, and with what.
 #[derive(Drop)]
 pub enum Calls<'a> {
     NoOne,

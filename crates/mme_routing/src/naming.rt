@@ -74,7 +74,7 @@ fn slot_of_message(
 
 // A message that is lent to be read.
 #[derive(Drop)]
-struct Decoded<'a> {
+struct LentMessage<'a> {
     message: EmmMessage<'a>,
 }
 
@@ -90,7 +90,7 @@ pub fn named_slot(
 {
     match decode_emm(initial_octets(nas), Direction::Uplink) {
         Ok(message) => {
-            let decoded = Decoded { message };
+            let decoded = LentMessage { message };
             slot_of_message(network, provision, s_tmsi, &decoded.message)
         }
         Err(_) => None,

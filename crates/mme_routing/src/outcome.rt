@@ -22,7 +22,7 @@ use s1ap_messages::{InitialUeMessage, Pdu, S1apFault, S1apPdu, SetupRequest, dec
 use std::alloc::{AllocError, Global};
 use stranger_machine::{Notice, sent_to, unknown};
 
-/// The new state of the station, where it has one, what it is told, the strangers that are reached, and who is called.
+/// The new state of the station, where it has one, what is sent for it, the strangers that are reached, and who is called.
 #[derive(Drop)]
 pub struct Outcome<'a> {
     pub state: Option<StationState>,
@@ -42,7 +42,7 @@ fn answered<'a>(sent: Answers) -> Outcome<'a>
     }
 }
 
-// The associations of a station end, with what it is told, and the state that it begins anew in, where that is another.
+// The associations of a station end, with what is sent for it, and the state that it begins anew in, where that is another.
 fn begins_anew<'a>(
     station: StationNumber,
     state: Option<StationState>,

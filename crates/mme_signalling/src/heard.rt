@@ -53,7 +53,7 @@ pub enum Heard<B> {
 
 // A message that is lent to be sorted.
 #[derive(Drop)]
-struct Decoded<'a> {
+struct LentMessage<'a> {
     message: EmmMessage<'a>,
 }
 
@@ -114,7 +114,7 @@ pub fn hear<'a>(octets: &'a [u8]) -> Heard<&'a [u8]>
 {
     match decode_emm(octets, Direction::Uplink) {
         Ok(message) => {
-            let decoded = Decoded { message };
+            let decoded = LentMessage { message };
             sorted(&decoded.message)
         }
         Err(fault) => Heard::Unreadable(fault),

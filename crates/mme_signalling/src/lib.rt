@@ -1,4 +1,4 @@
-//! What is heard of phones and what is said to them and their stations: a phone's NAS message by what the machines do with it
+//! What is heard of phones and what is sent to them and their stations: a phone's NAS message by what the machines do with it
 //! ([`Heard`]), the NAS messages with their causes ([`EmmCause`]), and the S1AP messages that are sent.
 #![tactic(auto)]
 

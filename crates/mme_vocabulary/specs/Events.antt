@@ -1,4 +1,4 @@
--- What a subscriber is told of an event, without where its octets lie in memory.
+-- What of an event is for one subscriber, without where its octets lie in memory.
 use Rattle.std.specs.Prelude.{ℕ, List}
 use Rattle.std.specs.Borrow.{Bor}
 use Rattle.mme_vocabulary.specs.declared.event.Entry.{Entry}
@@ -9,7 +9,7 @@ use Rattle.mme_vocabulary.specs.declared.event.UeBody.TheVariants as bodies
 use Rattle.mme_vocabulary.specs.declared.event.UeMessage.{UeMessage}
 use Rattle.mme_vocabulary.specs.declared.stations.StationState.{StationState}
 
--- what a subscriber is told of an event: none but Data carries the stations
+-- what of an event is for one subscriber: none but Data carries the stations
 pub data Item : Type 0 where
   Nothing : Item
   Initial : Entry (List ℕ) → Item

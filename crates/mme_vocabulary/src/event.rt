@@ -13,7 +13,7 @@ pub struct Entry<B> {
     pub tai: Tai,
 }
 
-/// What a station says of a phone.
+/// What a station sends about a phone.
 #[derive(Clone, Copy)]
 pub enum UeBody<B> {
     /// UPLINK NAS TRANSPORT.

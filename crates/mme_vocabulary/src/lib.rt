@@ -1,5 +1,5 @@
 //! What the machines and the MME speak of: stations and what is known of them ([`EnbWorld`]), what the network grants
-//! ([`Network`]), what a subscriber is told of an event ([`SoloEvent`]), and the messages that a step sends ([`Answers`]).
+//! ([`Network`]), what of an event is for one subscriber ([`SoloEvent`]), and the messages that a step sends ([`Answers`]).
 #![tactic(auto)]
 
 mod connection;

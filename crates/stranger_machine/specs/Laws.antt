@@ -25,7 +25,7 @@ closed_either : (b : Bool) → (if b then closing [] else stays None []) ≡ sta
 closed_either true = refl
 closed_either false = refl
 
--- one that is closed heeds no notice
+-- a notice leaves one that is closed as it is
 pub closed_notes : (id : ℕ) (notice : Notice) → notes id None notice ≡ stays None []
 unfolding notes ticks loses
 closed_notes id Tick = refl

@@ -86,7 +86,7 @@ fn welcome_by_fault(fault: NasFault, code: u8) -> Welcome
 
 // A message that is lent to be read.
 #[derive(Drop)]
-struct Decoded<'a> {
+struct LentMessage<'a> {
     message: EmmMessage<'a>,
 }
 
@@ -107,7 +107,7 @@ fn meet(nas: &[u8]) -> Welcome
     let octets = initial_octets(nas);
     match decode_emm(octets, Direction::Uplink) {
         Ok(message) => {
-            let decoded = Decoded { message };
+            let decoded = LentMessage { message };
             welcome_by_message(&decoded.message)
         }
         Err(fault) => welcome_by_fault(fault, second(octets)),

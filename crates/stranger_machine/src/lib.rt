@@ -2,7 +2,7 @@
 //! TS 36.413 clause 8.6.2.1).
 //!
 //! A [`Stranger`] waits for an identity, or is held by the subscriber that it turned out to be; any other is closed. What one
-//! stranger does at an event is a function of its state and the event ([`begins`], [`told`], [`Known::noted`]), and
+//! stranger does at an event is a function of its state and the event ([`begins`], [`receives`], [`Known::noted`]), and
 //! [`Strangers`] keeps those that aren't closed by their ids.
 #![tactic(auto)]
 

@@ -82,7 +82,7 @@ fn imsi_of_identity(identity: &MobileIdentity) -> Option<Imsi>
 
 // A message that is lent to be read.
 #[derive(Drop)]
-struct Decoded<'a> {
+struct LentMessage<'a> {
     message: EmmMessage<'a>,
 }
 
@@ -101,7 +101,7 @@ fn imsi_in_response(nas: &[u8]) -> Option<Imsi>
 {
     match decode_emm(nas, Direction::Uplink) {
         Ok(message) => {
-            let decoded = Decoded { message };
+            let decoded = LentMessage { message };
             imsi_in(&decoded.message)
         }
         Err(_) => None,
@@ -209,7 +209,7 @@ fn receives_waiting<'a>(
     }
 }
 
-// Who holds the association is told.
+// Who holds the association is called.
 fn handed_on<'a>(alloc: Global, slot: Slot, message: &UeMessage<&'a [u8]>) -> Turn<'a>
     ensures { (stations : List StationState) (s : Stranger) → turn_of stations (Some s) result
         ≡ record { stranger = Some s; sent = []; call = Some (record { slot = slot; item = Message (message_lists message.now) }) } }
@@ -229,7 +229,7 @@ fn handed_on<'a>(alloc: Global, slot: Slot, message: &UeMessage<&'a [u8]>) -> Tu
     }
 }
 
-/// A message with the stranger's id: one that is closed is nobody, one that waits heeds its identity and its release, and one that
+/// A message with the stranger's id: one that is closed is nobody, one that waits takes its identity and its release, and one that
 /// is held hands it on to its subscriber.
 #[tactic(auto, unfolding(crate::specs::Machine::receives))]
 pub fn receives<'a>(

@@ -2,7 +2,7 @@
 
 ghost use Rattle.std.specs.Prelude.{◌<◌, ◌≤◌};
 
-use association_table::{Association, Associations, Owner};
+use association_table::{Association, AssociationOwner, Associations};
 use call_text::{Answer, Fault, number_8, number_32, word_answer, yes_answer};
 use std::alloc::{AllocError, Global};
 use std::fmt;
@@ -27,8 +27,8 @@ impl fmt::Display for AssociationText {
             enb_id,
         } = self.0;
         match owner {
-            Owner::Stranger => write!(f, "{id} x {station} {enb_id}"),
-            Owner::Subscriber(slot) => write!(f, "{id} s{slot} {station} {enb_id}"),
+            AssociationOwner::Stranger => write!(f, "{id} x {station} {enb_id}"),
+            AssociationOwner::Subscriber(slot) => write!(f, "{id} s{slot} {station} {enb_id}"),
         }
     }
 }
@@ -151,12 +151,12 @@ fn association_of(
 }
 
 /// `x` for a stranger, or `s` and a slot.
-fn owner_of(text: &str) -> Result<Owner, Fault> {
+fn owner_of(text: &str) -> Result<AssociationOwner, Fault> {
     if text == "x" {
-        return Ok(Owner::Stranger);
+        return Ok(AssociationOwner::Stranger);
     }
     match text.strip_prefix("s") {
-        Some(slot) => Ok(Owner::Subscriber(number_32(slot)?)),
+        Some(slot) => Ok(AssociationOwner::Subscriber(number_32(slot)?)),
         None => Err(Fault::Name),
     }
 }

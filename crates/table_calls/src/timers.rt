@@ -5,7 +5,7 @@ ghost use Rattle.std.specs.Prelude.{◌<◌, ◌≤◌, ◌^◌};
 use call_text::{Answer, Fault, number, number_8, number_32, word_answer};
 use std::alloc::{AllocError, Global};
 use std::fmt;
-use timer_queue::{Kind, Owner, Timer, Timers};
+use timer_queue::{Kind, Timer, TimerOwner, Timers};
 
 /// The greatest clock (2^62).
 const LAST_CLOCK: u64 = 0x4000_0000_0000_0000;
@@ -28,8 +28,8 @@ impl fmt::Display for TimerText {
             Kind::Reachable => "reachable",
         };
         match self.0.owner {
-            Owner::Stranger { station, enb_id } => write!(f, "x{station}.{enb_id} {kind}"),
-            Owner::Subscriber(slot) => write!(f, "s{slot} {kind}"),
+            TimerOwner::Stranger { station, enb_id } => write!(f, "x{station}.{enb_id} {kind}"),
+            TimerOwner::Subscriber(slot) => write!(f, "s{slot} {kind}"),
         }
     }
 }
@@ -153,15 +153,15 @@ fn timer_of(owner: &str, kind: &str) -> Result<Timer, Fault> {
 }
 
 /// `s` and a slot, or `x`, a station, `.` and a phone's number there.
-fn owner_of(text: &str) -> Result<Owner, Fault> {
+fn owner_of(text: &str) -> Result<TimerOwner, Fault> {
     if let Some(slot) = text.strip_prefix("s") {
-        return Ok(Owner::Subscriber(number_32(slot)?));
+        return Ok(TimerOwner::Subscriber(number_32(slot)?));
     }
     let Some((station, enb_id)) = text.split_once(".") else {
         return Err(Fault::Name);
     };
     match station.strip_prefix("x") {
-        Some(station) => Ok(Owner::Stranger {
+        Some(station) => Ok(TimerOwner::Stranger {
             station: number_8(station)?,
             enb_id: number_32(enb_id)?,
         }),

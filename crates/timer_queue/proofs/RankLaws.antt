@@ -1,12 +1,12 @@
 -- Timers in range have ranks of their own, in the order of owners and kinds.
 use Rattle.std.proofs.Common.{◌≡◌, ℕ, ◌+◌, ◌*◌, ◌^◌, ◌%◌, ◌<◌, refl, ap, arith, ◌∙◌}
-use Rattle.timer_queue.specs.declared.timer.Owner.{Owner}
-use Rattle.timer_queue.specs.declared.timer.Owner.TheVariants.{Stranger, Subscriber}
+use Rattle.timer_queue.specs.declared.timer.TimerOwner.{TimerOwner}
+use Rattle.timer_queue.specs.declared.timer.TimerOwner.TheVariants.{Stranger, Subscriber}
 use Rattle.timer_queue.specs.declared.timer.Kind.{Kind}
 use Rattle.timer_queue.specs.declared.timer.Kind.TheVariants.{Procedure, Reachable}
 use Rattle.timer_queue.specs.Rank.{rank, owner_rank, kind_rank, IsOwner, TimersApart, InOwnerOrder, ProcedureFirst}
 
-small : (o : Owner) → IsOwner o → owner_rank o < 2 ^ 41
+small : (o : TimerOwner) → IsOwner o → owner_rank o < 2 ^ 41
 small (Stranger station id) h = omega (arith, h.0, h.1)
 small (Subscriber slot) h = omega (arith, h)
 
@@ -20,7 +20,7 @@ parts a b c d p q r s e = (omega arith, omega arith)
 strangers : (s i t j : ℕ) → i < 2 ^ 32 → j < 2 ^ 32 → s * 2 ^ 32 + i ≡ t * 2 ^ 32 + j → (s ≡ t) × (i ≡ j)
 strangers s i t j p q e = (omega arith, omega arith)
 
-same_owner : (a b : Owner) → IsOwner a → IsOwner b → owner_rank a ≡ owner_rank b → a ≡ b
+same_owner : (a b : TimerOwner) → IsOwner a → IsOwner b → owner_rank a ≡ owner_rank b → a ≡ b
 same_owner (Stranger s i) (Stranger t j) p q e = let r = strangers s i t j p.1 q.1 e in ap (λ n. Stranger n i) r.0 ∙ ap (λ n. Stranger t n) r.1
 same_owner (Stranger s i) (Subscriber n) p q e = absurd (omega (arith, p.0, p.1))
 same_owner (Subscriber n) (Stranger s i) p q e = absurd (omega (arith, q.0, q.1))

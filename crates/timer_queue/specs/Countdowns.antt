@@ -1,7 +1,7 @@
 -- What a caller sees of the timers: the clock, and the running countdowns in the order of their timers.
 use Rattle.std.specs.Prelude.{ℕ, ◌-◌, List, [], ◌∷◌, Option, option_map, nat_le, if◌then◌else◌}
 use Rattle.timer_queue.specs.declared.timer.Timer.{Timer}
-use Rattle.timer_queue.specs.declared.timer.Owner.{Owner}
+use Rattle.timer_queue.specs.declared.timer.TimerOwner.{TimerOwner}
 use Rattle.timer_queue.specs.declared.timer.Kind.{Kind}
 use Rattle.timer_queue.specs.Rank.{rank}
 use Rattle.ordered_lists.specs.Ordered.{at, put, without}
@@ -19,18 +19,18 @@ pub record Countdowns : Type 0 where
   pub running : List Countdown
   pub room : ℕ  -- so many more can be started with no allocation
 
-abbrev pub timer_of : Owner → Kind → Timer
+abbrev pub timer_of : TimerOwner → Kind → Timer
 timer_of owner kind = record { owner = owner; kind = kind }
 
 -- the ticks that a timer has left
-abbrev pub ticks_left : Owner → Kind → List Countdown → Option ℕ
+abbrev pub ticks_left : TimerOwner → Kind → List Countdown → Option ℕ
 ticks_left owner kind cs = option_map (λ (c : Countdown). c.ticks) (at countdown_rank (rank (timer_of owner kind)) cs)
 
 -- with this timer's countdown in place of the one that it had
-abbrev pub started : Owner → Kind → ℕ → List Countdown → List Countdown
+abbrev pub started : TimerOwner → Kind → ℕ → List Countdown → List Countdown
 started owner kind ticks cs = put countdown_rank (record { timer = timer_of owner kind; ticks = ticks }) cs
 
-abbrev pub stopped : Owner → Kind → List Countdown → List Countdown
+abbrev pub stopped : TimerOwner → Kind → List Countdown → List Countdown
 stopped owner kind cs = without countdown_rank (rank (timer_of owner kind)) cs
 
 -- those that the next tick brings to zero, in order

@@ -1,12 +1,12 @@
 -- The order of timers: strangers by station and eNB UE id, then subscribers by slot; of one owner the procedure's first.
 use Rattle.std.specs.Prelude.{◌≡◌, ℕ, ◌+◌, ◌*◌, ◌^◌, ◌%◌, ◌<◌}
 use Rattle.timer_queue.specs.declared.timer.Timer.{Timer}
-use Rattle.timer_queue.specs.declared.timer.Owner.{Owner}
-use Rattle.timer_queue.specs.declared.timer.Owner.TheVariants.{Stranger, Subscriber}
+use Rattle.timer_queue.specs.declared.timer.TimerOwner.{TimerOwner}
+use Rattle.timer_queue.specs.declared.timer.TimerOwner.TheVariants.{Stranger, Subscriber}
 use Rattle.timer_queue.specs.declared.timer.Kind.{Kind}
 use Rattle.timer_queue.specs.declared.timer.Kind.TheVariants.{Procedure, Reachable}
 
-abbrev pub owner_rank : Owner → ℕ
+abbrev pub owner_rank : TimerOwner → ℕ
 owner_rank (Stranger station enb_id) = station * 2 ^ 32 + enb_id
 owner_rank (Subscriber slot) = 2 ^ 40 + slot
 
@@ -19,7 +19,7 @@ unfoldable pub rank : Timer → ℕ
 rank t = (2 * owner_rank t.owner + kind_rank t.kind) % 2 ^ 64
 
 -- an owner whose numbers are in the range of their types
-abbrev pub IsOwner : Owner → Type 0
+abbrev pub IsOwner : TimerOwner → Type 0
 IsOwner (Stranger station enb_id) = (station < 2 ^ 8) × (enb_id < 2 ^ 32)
 IsOwner (Subscriber slot) = slot < 2 ^ 32
 
@@ -33,4 +33,4 @@ InOwnerOrder = (a b : Timer) → IsOwner a.owner → IsOwner b.owner → owner_r
 
 -- the procedure's timer stands before the reachable one
 abbrev pub ProcedureFirst : Type 0
-ProcedureFirst = (o : Owner) → IsOwner o → rank (record { owner = o; kind = Procedure }) < rank (record { owner = o; kind = Reachable })
+ProcedureFirst = (o : TimerOwner) → IsOwner o → rank (record { owner = o; kind = Procedure }) < rank (record { owner = o; kind = Reachable })

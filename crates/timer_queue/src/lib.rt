@@ -10,4 +10,4 @@ mod timer;
 
 pub use laws::{in_owner_order, procedure_first, timers_apart};
 pub use queue::{TickFault, Timers};
-pub use timer::{Expiry, Kind, Owner, Timer};
+pub use timer::{Expiry, Kind, Timer, TimerOwner};

@@ -8,7 +8,7 @@ ghost use Rattle.timer_queue.specs.Queued.{moment, leading, later_than, IsQueue,
 ghost use Rattle.std.specs.VecDeque.{deque_len, deque_capacity};
 ghost use Rattle.std.specs.HashMap.{spare};
 
-use crate::timer::{Expiry, Kind, Owner, Timer, rank};
+use crate::timer::{Expiry, Kind, Timer, TimerOwner, rank};
 use std::alloc::{AllocError, Global};
 use std::collections::{HashMap, VecDeque};
 use std::marker::Model;
@@ -143,7 +143,7 @@ impl Timers {
     }
 
     /// The ticks that a timer has left, if it runs.
-    pub fn left(&self, owner: Owner, kind: Kind) -> Option<u64>
+    pub fn left(&self, owner: TimerOwner, kind: Kind) -> Option<u64>
         ensures { result ≡ ticks_left owner kind self.now.running }
     {
         match self.index.get(&rank(Timer { owner, kind })) {
@@ -165,7 +165,7 @@ impl Timers {
     }
 
     /// Starts a timer of 1 to 3480 ticks, in place of one that runs. Where room for it is refused the timers are as they were.
-    pub fn start(&mut self, owner: Owner, kind: Kind, ticks: u64) -> Result<(), AllocError>
+    pub fn start(&mut self, owner: TimerOwner, kind: Kind, ticks: u64) -> Result<(), AllocError>
         requires { (1 ≤ ticks) × (ticks ≤ 3480) }
         ensures clock { self.new.clock ≡ self.old.clock }
         ensures running { OnOk result (self.new.running ≡ started owner kind ticks self.old.running) }
@@ -178,7 +178,7 @@ impl Timers {
     }
 
     /// Starts a timer of 1 to 3480 ticks, in place of one that runs, where there is room. Takes no memory.
-    pub fn start_reserved(&mut self, owner: Owner, kind: Kind, ticks: u64)
+    pub fn start_reserved(&mut self, owner: TimerOwner, kind: Kind, ticks: u64)
         requires ticks { (1 ≤ ticks) × (ticks ≤ 3480) }
         requires room { 0 < self.old.room }
         ensures clock { self.new.clock ≡ self.old.clock }
@@ -195,7 +195,7 @@ impl Timers {
     }
 
     /// Ends a timer without an expiry, if it runs. Takes no memory.
-    pub fn stop(&mut self, owner: Owner, kind: Kind)
+    pub fn stop(&mut self, owner: TimerOwner, kind: Kind)
         ensures clock { self.new.clock ≡ self.old.clock }
         ensures running { self.new.running ≡ stopped owner kind self.old.running }
         ensures room { self.old.room ≤ self.new.room }

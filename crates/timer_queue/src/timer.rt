@@ -5,7 +5,7 @@ ghost use Rattle.timer_queue.specs.Rank.{rank};
 
 /// Whose timer it is. Owners stand in this order: strangers by station and eNB UE id, then subscribers by slot.
 #[derive(Clone, Copy, PartialEq, Eq, Debug)]
-pub enum Owner {
+pub enum TimerOwner {
     /// A phone that is not known yet: its station's number, and its eNB UE id there.
     Stranger { station: u8, enb_id: u32 },
     /// A subscriber, by its slot.
@@ -24,7 +24,7 @@ pub enum Kind {
 /// The name of a timer.
 #[derive(Clone, Copy, PartialEq, Eq, Debug)]
 pub struct Timer {
-    pub owner: Owner,
+    pub owner: TimerOwner,
     pub kind: Kind,
 }
 
@@ -37,10 +37,10 @@ pub(crate) fn rank(timer: Timer) -> u64
     ensures { result ≡ rank timer }
 {
     let owner = match timer.owner {
-        Owner::Stranger { station, enb_id } => {
+        TimerOwner::Stranger { station, enb_id } => {
             u64::from(station) * 0x1_0000_0000 + u64::from(enb_id)
         }
-        Owner::Subscriber(slot) => 0x100_0000_0000 + u64::from(slot),
+        TimerOwner::Subscriber(slot) => 0x100_0000_0000 + u64::from(slot),
     };
     let kind = match timer.kind {
         Kind::Procedure => 0,

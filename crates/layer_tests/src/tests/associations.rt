@@ -2,7 +2,7 @@
 
 ghost use Rattle.std.specs.Prelude.{◌≡◌, ◌≤◌, OnOk};
 
-use association_table::{Association, Associations, OpenFault, Owner};
+use association_table::{Association, AssociationOwner, Associations, OpenFault};
 use std::test::Fail;
 
 fn phone(id: u32, slot: u32, station: u8, enb_id: u32) -> Association
@@ -10,7 +10,7 @@ fn phone(id: u32, slot: u32, station: u8, enb_id: u32) -> Association
 {
     Association {
         id,
-        owner: Owner::Subscriber(slot),
+        owner: AssociationOwner::Subscriber(slot),
         station,
         enb_id,
     }

@@ -1,12 +1,12 @@
 //! Timers where memory is refused: what runs stays, and the call is asked again.
 
 use std::test::Fail;
-use timer_queue::{Kind, Owner, TickFault, Timer, Timers};
+use timer_queue::{Kind, TickFault, Timer, TimerOwner, Timers};
 
 #[test]
 fn refused_start_and_tick(rt: HostRuntime) -> Result<(), Fail> {
     let mut timers = Timers::new(rt.alloc(), 7);
-    let owner = Owner::Subscriber(0);
+    let owner = TimerOwner::Subscriber(0);
     if timers.start(owner, Kind::Procedure, 1).is_err() {
         assert_eq!(rt; timers.left(owner, Kind::Procedure), None);
         assert_eq!(rt; timers.clock(), 7);
@@ -31,7 +31,7 @@ fn refused_start_and_tick(rt: HostRuntime) -> Result<(), Fail> {
 #[test]
 fn refused_room_and_copy(rt: HostRuntime) -> Result<(), Fail> {
     let mut timers = Timers::new(rt.alloc(), 0);
-    let owner = Owner::Subscriber(2047);
+    let owner = TimerOwner::Subscriber(2047);
     timers.start(owner, Kind::Procedure, 1)?;
     let mut copy = match timers.copy() {
         Ok(copy) => copy,
