@@ -59,11 +59,11 @@ fn wrong_res(rt: HostRuntime) -> Result<(), Fail> {
     let release = "0 00170010000002 0063000400010001 0002400122";
     for nas in ["075308 2021222324252628", "075c14"] {
         let mut trial = Trial::challenged(rt.alloc())?;
-        assert!(rt; trial.says(nas, &[reject, release])?);
+        assert!(rt; trial.sends_nas(nas, &[reject, release])?);
     }
     let mut trial = Trial::challenged(rt.alloc())?;
     let reject = "0 000b4017000003 000000020001 000800020001 001a000403 074411";
-    assert!(rt; trial.says("075c15", &[reject, RELEASE])?);
+    assert!(rt; trial.sends_nas("075c15", &[reject, RELEASE])?);
     assert!(rt; trial.subscriber.states() == GONE);
     Ok(())
 }
@@ -74,26 +74,26 @@ fn attach_with_information(rt: HostRuntime) -> Result<(), Fail> {
     let mut trial = Trial::new(rt.alloc(), false)?;
     let request = "07417108 0910100000000010 02e060 0005 0201d011d1";
     assert!(rt; trial.enters(1, request, &[CHALLENGE])?);
-    assert!(rt; trial.says(RESPONSE, &[COMMAND])?);
+    assert!(rt; trial.sends_nas(RESPONSE, &[COMMAND])?);
     let command =
         "0 000b4021000003 000000020001 000800020001 001a000e0d 37280c064101075d020002e060";
     assert!(rt; trial.passes(6, &[command])?);
     let information = "0 000b401d000003 000000020001 000800020001 001a000a09 2728e53ed9020201d9";
-    assert!(rt; trial.says(COMPLETE, &[information])?);
+    assert!(rt; trial.sends_nas(COMPLETE, &[information])?);
     let information = "0 000b401d000003 000000020001 000800020001 001a000a09 2767ffe9bf030201d9";
     assert!(rt; trial.passes(4, &[information])?);
     let states = trial.subscriber.states();
     assert!(rt; states.emm == EmmState::CommonProcedureInitiated);
     assert!(rt; states.ecm == EcmState::Connected && states.esm == BearerState::Inactive);
-    assert!(rt; trial.says("17e8708c3b010202da", &[])?);
+    assert!(rt; trial.sends_nas("17e8708c3b010202da", &[])?);
     let setup =
         "0 00090080970000060000000200010008000200010042000a183b9aca00603b9aca000018004900003400444500093c0f800a0000640000000135270b71dcaf0407420149060000f110000100155201c101090908696e7465726e657405010a000001500bf600f11080010100000001006b000518000c0000004900200b32766850f0463fb5cbf377484df6ef28934aee6ee5cc93d19e03bb9742a76d";
-    assert!(rt; trial.says("179b01f875020201da", &[setup])?);
+    assert!(rt; trial.sends_nas("179b01f875020201da", &[setup])?);
     assert!(rt; trial.subscriber.states().esm == BearerState::ActivePending);
     let accept =
         "0 000b4049000003 000000020001 000800020001 001a003635 27583cfc380507420149060000f110000100155201c101090908696e7465726e657405010a000001500bf600f11080010100000001";
     assert!(rt; trial.passes(6, &[accept])?);
-    assert!(rt; trial.says("17ee1b31b503074300035200c2", &[])?);
+    assert!(rt; trial.sends_nas("17ee1b31b503074300035200c2", &[])?);
     assert!(rt; trial.subscriber.states() == CONNECTED);
     assert!(rt; trial.subscriber.countdowns() == (None, None));
     Ok(())
@@ -105,10 +105,10 @@ fn uplink_replayed(rt: HostRuntime) -> Result<(), Fail> {
     let mut trial = Trial::attached(rt.alloc())?;
     let request = "179a5aee0e020201d011";
     let reject = "0 000b401e000003 000000020001 000800020001 001a000b0a 27078a11d4020201d11f";
-    assert!(rt; trial.says(request, &[reject])?);
-    assert!(rt; trial.says(request, &[])?);
+    assert!(rt; trial.sends_nas(request, &[reject])?);
+    assert!(rt; trial.sends_nas(request, &[])?);
     let status = "0 000b401d000003 000000020001 000800020001 001a000a09 27264105bd03076062";
-    assert!(rt; trial.says("17f5971a7703075e", &[status])?);
+    assert!(rt; trial.sends_nas("17f5971a7703075e", &[status])?);
     Ok(())
 }
 
@@ -154,12 +154,12 @@ fn path_switch(rt: HostRuntime) -> Result<(), Fail> {
     let mut trial = Trial::attached(rt.alloc())?;
     let second =
         "1 20030034000003 000040020001 000840020007 0028002110 bc96924633489036a0cae5828d4c4267350bba1e599c86928abe896a87bbb2ff";
-    assert!(rt; trial.hears((1, 1, 7), Said::Switch, &[second])?);
+    assert!(rt; trial.gets((1, 1, 7), StationMessage::Switch, &[second])?);
     let third =
         "0 20030034000003 000040020001 000840020009 0028002118 02c2827674bec9d51041f1d668d62cdf2cd8e202c79c848acdb98547c6b2a4f3";
-    assert!(rt; trial.hears((0, 1, 9), Said::Switch, &[third])?);
+    assert!(rt; trial.gets((0, 1, 9), StationMessage::Switch, &[third])?);
     let failure = "0 40030015000003 000040020005 000840020007 0002400201a0";
-    assert!(rt; trial.hears((0, 5, 7), Said::Switch, &[failure])?);
+    assert!(rt; trial.gets((0, 5, 7), StationMessage::Switch, &[failure])?);
     Ok(())
 }
 
@@ -177,7 +177,7 @@ fn update_of_an_idle_phone(rt: HostRuntime) -> Result<(), Fail> {
     let states = trial.subscriber.states();
     assert!(rt; states.emm == EmmState::CommonProcedureInitiated);
     let release = "0 00170010000002 0063000400030003 0002400120";
-    assert!(rt; trial.says("1713ae58ae03074a", &[release])?);
+    assert!(rt; trial.sends_nas("1713ae58ae03074a", &[release])?);
     assert!(rt; trial.subscriber.states() == IDLE);
     Ok(())
 }
@@ -191,11 +191,11 @@ fn detach(rt: HostRuntime) -> Result<(), Fail> {
     assert!(rt; trial.enters(1, DETACH, &[RELEASE_SECOND])?);
     let request = "179b177e0a020745010bf600f11080010100000001";
     let accept = "0 000b401c000003 000000020001 000800020001 001a000908 2783cb75c0020746";
-    assert!(rt; trial.says(request, &[accept, RELEASE_DETACH])?);
+    assert!(rt; trial.sends_nas(request, &[accept, RELEASE_DETACH])?);
     assert!(rt; trial.subscriber.states() == GONE);
     let mut switched_off = Trial::attached(rt.alloc())?;
     let request = "17b9db717b020745090bf600f11080010100000001";
-    assert!(rt; switched_off.says(request, &[RELEASE_DETACH])?);
+    assert!(rt; switched_off.sends_nas(request, &[RELEASE_DETACH])?);
     Ok(())
 }
 
@@ -208,7 +208,7 @@ fn cancel(rt: HostRuntime) -> Result<(), Fail> {
     let request = "0 000b401d000003 000000020001 000800020001 001a000a09 27bab31b3602074502";
     assert!(rt; trial.is_cancelled(&[request])?);
     assert!(rt; trial.subscriber.states().emm == EmmState::DeregisteredInitiated);
-    assert!(rt; trial.says("17c15cfcaa020746", &[RELEASE_DETACH])?);
+    assert!(rt; trial.sends_nas("17c15cfcaa020746", &[RELEASE_DETACH])?);
     assert!(rt; trial.subscriber.states() == GONE);
     Ok(())
 }
@@ -217,12 +217,12 @@ fn cancel(rt: HostRuntime) -> Result<(), Fail> {
 fn wrong_ids(rt: HostRuntime) -> Result<(), Fail> {
     let mut trial = Trial::challenged(rt.alloc())?;
     let pair = "0 000f4015000003 000040020001 000840020009 0002400201e0";
-    assert!(rt; trial.hears((0, 1, 9), Said::Notice, &[pair])?);
+    assert!(rt; trial.gets((0, 1, 9), StationMessage::Notice, &[pair])?);
     let elsewhere = "1 000f4015000003 000040020001 000840020001 0002400201e0";
-    assert!(rt; trial.hears((1, 1, 1), Said::Notice, &[elsewhere])?);
+    assert!(rt; trial.gets((1, 1, 1), StationMessage::Notice, &[elsewhere])?);
     let unknown = "0 000f4015000003 000040020005 000840020001 0002400201a0";
-    assert!(rt; trial.hears((0, 5, 1), Said::Notice, &[unknown])?);
-    assert!(rt; trial.hears((0, 5, 1), Said::Released, &[])?);
-    assert!(rt; trial.says(RESPONSE, &[COMMAND])?);
+    assert!(rt; trial.gets((0, 5, 1), StationMessage::Notice, &[unknown])?);
+    assert!(rt; trial.gets((0, 5, 1), StationMessage::Released, &[])?);
+    assert!(rt; trial.sends_nas(RESPONSE, &[COMMAND])?);
     Ok(())
 }

@@ -125,23 +125,23 @@ fn vector(rand: [u8; 16]) -> Result<Vector, Fail> {
     })
 }
 
-// What a station says of a phone.
+// What a station sends about a phone.
 #[derive(Clone, Copy)]
-pub enum Said {
+pub enum StationMessage {
     Inactive,
     Released,
     Switch,
     Notice,
 }
 
-fn body_of<'a>(said: Said) -> UeBody<&'a [u8]> {
-    match said {
-        Said::Inactive => UeBody::ReleaseRequest {
+fn body_of<'a>(message: StationMessage) -> UeBody<&'a [u8]> {
+    match message {
+        StationMessage::Inactive => UeBody::ReleaseRequest {
             cause: Cause::RadioNetwork(RadioNetworkCause::UserInactivity),
         },
-        Said::Released => UeBody::ReleaseComplete,
-        Said::Switch => UeBody::PathSwitch,
-        Said::Notice => UeBody::Notice,
+        StationMessage::Released => UeBody::ReleaseComplete,
+        StationMessage::Switch => UeBody::PathSwitch,
+        StationMessage::Notice => UeBody::Notice,
     }
 }
 
@@ -193,7 +193,7 @@ impl Trial {
     }
 
     // Whether an event sends these messages, and no more.
-    fn told(&mut self, event: &SoloEvent, wanted: &[&str]) -> Result<bool, Fail> {
+    fn steps(&mut self, event: &SoloEvent, wanted: &[&str]) -> Result<bool, Fail> {
         let answers = self.subscriber.step(event, &self.world)?;
         let mut is_so = answers.as_slice().len() == wanted.len();
         for (answer, text) in answers.as_slice().iter().zip(wanted) {
@@ -217,14 +217,14 @@ impl Trial {
                 tai: area(1),
             }),
         };
-        self.told(&lent.event, wanted)
+        self.steps(&lent.event, wanted)
     }
 
-    // A station's number, an association and the phone's number there.
-    pub fn hears(
+    // From a station, by its number, an association and the phone's number there.
+    pub fn gets(
         &mut self,
         from: (u8, u32, u64),
-        said: Said,
+        message: StationMessage,
         wanted: &[&str],
     ) -> Result<bool, Fail> {
         let lent = Lent {
@@ -232,14 +232,14 @@ impl Trial {
                 station: station(from.0)?,
                 mme_id: AssociationId::new(from.1),
                 enb_id: Whole::try_new(from.2).ok_or("enb id")?,
-                body: body_of(said),
+                body: body_of(message),
             }),
         };
-        self.told(&lent.event, wanted)
+        self.steps(&lent.event, wanted)
     }
 
     // UPLINK NAS TRANSPORT on the connection.
-    pub fn says(&mut self, nas: &str, wanted: &[&str]) -> Result<bool, Fail> {
+    pub fn sends_nas(&mut self, nas: &str, wanted: &[&str]) -> Result<bool, Fail> {
         let octets = octets(self.alloc, nas.as_bytes())?;
         let connection = self.subscriber.connection().ok_or("idle")?;
         let lent = Lent {
@@ -253,7 +253,7 @@ impl Trial {
                 },
             }),
         };
-        self.told(&lent.event, wanted)
+        self.steps(&lent.event, wanted)
     }
 
     // Whether the last of so many ticks sends these messages, and the others none.
@@ -263,30 +263,30 @@ impl Trial {
         };
         let mut is_so = true;
         for _ in 1..ticks {
-            is_so = self.told(&tick.event, &[])? && is_so;
+            is_so = self.steps(&tick.event, &[])? && is_so;
         }
-        Ok(self.told(&tick.event, wanted)? && is_so)
+        Ok(self.steps(&tick.event, wanted)? && is_so)
     }
 
     pub fn has_data(&mut self, wanted: &[&str]) -> Result<bool, Fail> {
         let lent = Lent {
             event: SoloEvent::Data,
         };
-        self.told(&lent.event, wanted)
+        self.steps(&lent.event, wanted)
     }
 
     pub fn is_cancelled(&mut self, wanted: &[&str]) -> Result<bool, Fail> {
         let lent = Lent {
             event: SoloEvent::Cancel,
         };
-        self.told(&lent.event, wanted)
+        self.steps(&lent.event, wanted)
     }
 
     pub fn loses_station(&mut self, number: u8) -> Result<bool, Fail> {
         let lent = Lent {
             event: SoloEvent::StationGone(station(number)?),
         };
-        self.told(&lent.event, &[])
+        self.steps(&lent.event, &[])
     }
 
     // Challenged on association 1.
@@ -301,9 +301,9 @@ impl Trial {
     // Registered and connected on association 1.
     pub fn attached(alloc: Global) -> Result<Trial, Fail> {
         let mut trial = Trial::challenged(alloc)?;
-        if !trial.says(RESPONSE, &[COMMAND])?
-            || !trial.says(COMPLETE, &[SETUP])?
-            || !trial.says(ATTACH_COMPLETE, &[])?
+        if !trial.sends_nas(RESPONSE, &[COMMAND])?
+            || !trial.sends_nas(COMPLETE, &[SETUP])?
+            || !trial.sends_nas(ATTACH_COMPLETE, &[])?
             || trial.subscriber.states() != CONNECTED
         {
             return Err("attach")?;
@@ -315,7 +315,7 @@ impl Trial {
     pub fn resting(alloc: Global) -> Result<Trial, Fail> {
         let mut trial = Trial::attached(alloc)?;
         let release = "0 00170011000002 0063000400010001 000240020280";
-        if !trial.hears((0, 1, 1), Said::Inactive, &[release])?
+        if !trial.gets((0, 1, 1), StationMessage::Inactive, &[release])?
             || trial.subscriber.states() != IDLE
             || trial.subscriber.countdowns() != (None, Some(3480))
         {
