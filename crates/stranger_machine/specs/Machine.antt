@@ -26,7 +26,7 @@ use Rattle.mme_signalling.specs.Hearing.{initial_octets}
 use Rattle.mme_signalling.specs.Messages.{attach_reject, service_reject, update_reject}
 use Rattle.mme_signalling.specs.Pdus.{error_indication, path_switch_failure}
 use Rattle.mme_vocabulary.specs.Events.{Claim, Displaced, Message}
-use Rattle.stranger_machine.specs.declared.state.Kept.{Kept}
+use Rattle.stranger_machine.specs.declared.state.KeptEntry.{KeptEntry}
 use Rattle.stranger_machine.specs.declared.state.Stranger.{Stranger}
 use Rattle.stranger_machine.specs.declared.state.Stranger.TheVariants.{Waiting, Held}
 use Rattle.stranger_machine.specs.declared.turn.Notice.{Notice}
@@ -77,7 +77,7 @@ welcome_by_reading (Err fault) code = welcome_by_fault fault code
 unfoldable pub meet : List ℕ → Welcome
 meet nas = welcome_by_reading (decoded_emm UplinkDirection (initial_octets nas)) (slice_index (initial_octets nas) 1)
 
-unfoldable pub welcomed : ℕ → Kept → Welcome → Turn
+unfoldable pub welcomed : ℕ → KeptEntry → Welcome → Turn
 welcomed id k Ask = stays (Some (Waiting k identity_ticks identity_repeats)) (identity_asked (place_of id k))
 welcomed id k (Refuse nas) = closing (refused (place_of id k) nas)
 welcomed id k TurnAway = closing (released (place_of id k) (Nas Unspecified))
@@ -112,16 +112,16 @@ imsi_in_response (Ok (emm.IdentityResponse identity)) = imsi_of_identity identit
 imsi_in_response _ = None
 
 -- who is provisioned claims the association, with the message that began it
-unfoldable pub claimed_by : Option ℕ → ℕ → Kept → Turn
+unfoldable pub claimed_by : Option ℕ → ℕ → KeptEntry → Turn
 claimed_by None id k = closing (refused (place_of id k) (attach_reject ServicesNotAllowed None))
 claimed_by (Some slot) id k = record { stranger = Some (Held slot); sent = []; call = Some (record { slot = slot; item = Claim id (as_entry k) }) }
 
-unfoldable pub identified : Option (List ℕ) → List Profile → ℕ → Kept → Stranger → Turn
+unfoldable pub identified : Option (List ℕ) → List Profile → ℕ → KeptEntry → Stranger → Turn
 identified None ps id k s = stays (Some s) []
 identified (Some imsi) ps id k s = claimed_by (slot_of_imsi imsi ps) id k
 
 -- from its own station and number
-unfoldable pub receives_own : UeBody (List ℕ) → List Profile → ℕ → Kept → Stranger → Turn
+unfoldable pub receives_own : UeBody (List ℕ) → List Profile → ℕ → KeptEntry → Stranger → Turn
 receives_own (Uplink nas tai) ps id k s = identified (imsi_in_response (decoded_emm UplinkDirection nas)) ps id k s
 receives_own (ReleaseRequest cause) ps id k s = closing (released (place_of id k) (cause_of_request cause))
 receives_own ReleaseComplete ps id k s = stays (Some s) []
@@ -129,13 +129,13 @@ receives_own ContextSetupFailure ps id k s = stays (Some s) []
 receives_own PathSwitch ps id k s = stays (Some s) []
 receives_own NoticeBody ps id k s = stays (Some s) []
 
-unfoldable pub checked_for_pair : List Profile → UeMessage (List ℕ) → Kept → Stranger → Turn
+unfoldable pub checked_for_pair : List Profile → UeMessage (List ℕ) → KeptEntry → Stranger → Turn
 checked_for_pair ps m k s =
     if k.station == m.station && k.enb_id == m.enb_id then receives_own m.body ps m.mme_id k s
     else stays (Some s) (sent_to m.station (error_indication m.mme_id m.enb_id (RadioNetwork UnknownPairUeS1apId)))
 
 -- waiting: UE CONTEXT RELEASE COMPLETE is never answered, and no path switch leads away
-unfoldable pub receives_waiting : UeBody (List ℕ) → List Profile → UeMessage (List ℕ) → Kept → Stranger → Turn
+unfoldable pub receives_waiting : UeBody (List ℕ) → List Profile → UeMessage (List ℕ) → KeptEntry → Stranger → Turn
 receives_waiting ReleaseComplete ps m k s = stays (Some s) []
 receives_waiting PathSwitch ps m k s = stays (Some s) (unknown PathSwitch m)
 receives_waiting (Uplink nas tai) ps m k s = checked_for_pair ps m k s
@@ -151,7 +151,7 @@ receives ps (Some (Held slot)) m = record { stranger = Some (Held slot); sent = 
 -- ---- what comes to all
 
 -- a second has passed: T3470
-unfoldable pub waits : ℕ → Kept → ℕ → ℕ → Turn
+unfoldable pub waits : ℕ → KeptEntry → ℕ → ℕ → Turn
 waits id k left repeats =
     if nat_lt 1 left then stays (Some (Waiting k (left - 1) repeats)) []
     else if nat_lt 0 repeats then stays (Some (Waiting k identity_ticks (repeats - 1))) (identity_asked (place_of id k))

@@ -14,7 +14,7 @@ use Rattle.mme_vocabulary.specs.declared.stations.StationState.{StationState}
 use Rattle.mme_vocabulary.specs.Answers.{answer_of}
 use Rattle.mme_signalling.specs.Pdus.{downlink, release_command}
 use Rattle.mme_vocabulary.specs.Events.{Item, item_of}
-use Rattle.stranger_machine.specs.declared.state.Kept.{Kept}
+use Rattle.stranger_machine.specs.declared.state.KeptEntry.{KeptEntry}
 use Rattle.stranger_machine.specs.declared.state.Stranger.{Stranger}
 use Rattle.stranger_machine.specs.declared.turn.After.{After}
 use Rattle.stranger_machine.specs.declared.turn.After.TheVariants as after
@@ -49,14 +49,14 @@ abbrev pub sent_to : ℕ → Pdu (List ℕ) → List Answer
 sent_to station message = answer_of station None (encoded message)
 
 -- an INITIAL UE MESSAGE as it is kept, and as it was
-abbrev pub as_kept : Entry (List ℕ) → Kept
+abbrev pub as_kept : Entry (List ℕ) → KeptEntry
 as_kept m = record { station = m.station; enb_id = m.enb_id; nas = m.nas; tai = m.tai }
 
-abbrev pub as_entry : Kept → Entry (List ℕ)
+abbrev pub as_entry : KeptEntry → Entry (List ℕ)
 as_entry k = record { station = k.station; enb_id = k.enb_id; nas = k.nas; tai = k.tai }
 
 -- the association of a stranger
-abbrev pub place_of : ℕ → Kept → Connection
+abbrev pub place_of : ℕ → KeptEntry → Connection
 place_of id k = record { id = id; station = k.station; enb_id = k.enb_id }
 
 unfoldable pub released : Connection → Cause → List Answer

@@ -9,7 +9,7 @@ ghost use Rattle.stranger_machine.specs.Seen.{refusal_of, welcome_of};
 ghost use Rattle.stranger_machine.specs.Turns.{call_of, as_kept, turn_of};
 
 use crate::sending::{identity_asked, place, refused, released};
-use crate::state::{Kept, Stranger};
+use crate::state::{KeptEntry, Stranger};
 use crate::turn::{After, Call, Turn};
 use identity_slots::AssociationId;
 use mme_signalling::{EmmCause, attach_reject, initial_octets, service_reject, update_reject};
@@ -162,7 +162,7 @@ pub fn begins<'a>(
         Welcome::Ask => {
             let sent = identity_asked(alloc, place(id, station, enb_id))?;
             let waiting = Stranger::Waiting {
-                kept: Kept::of_entry(alloc, entry)?,
+                kept: KeptEntry::of_entry(alloc, entry)?,
                 left: IDENTITY_TICKS,
                 repeats: IDENTITY_REPEATS,
             };

@@ -16,6 +16,6 @@ mod turn;
 pub use entering::begins;
 pub use receiving::{receives, unknown};
 pub use sending::sent_to;
-pub use state::{Kept, Stranger};
+pub use state::{KeptEntry, Stranger};
 pub use table::{Known, Strangers};
 pub use turn::{After, Call, Notice, Turn};

@@ -11,7 +11,7 @@ ghost use Rattle.stranger_machine.specs.Machine.{checked_for_pair, claimed_by, r
 ghost use Rattle.stranger_machine.specs.Turns.{turn_of};
 
 use crate::sending::{refused, released, sent_to};
-use crate::state::{Kept, Stranger};
+use crate::state::{KeptEntry, Stranger};
 use crate::turn::{After, Call, Turn};
 use identity_slots::{AssociationId, Provision, Slot};
 use mme_signalling::{
@@ -114,7 +114,7 @@ fn identified<'a>(
     alloc: Global,
     provision: &Provision,
     id: AssociationId,
-    kept: &'a Kept,
+    kept: &'a KeptEntry,
     imsi: Option<Imsi>,
 ) -> Result<Turn<'a>, AllocError>
     ensures { (stations : List StationState) (s : Stranger) → IfOk result (λ t. turn_of stations (Some s) t ≡ identified imsi provision.now.profiles id kept.entry.now s) }
@@ -144,7 +144,7 @@ fn identified<'a>(
 fn receives_own<'a>(
     alloc: Global,
     provision: &Provision,
-    kept: &'a Kept,
+    kept: &'a KeptEntry,
     message: &UeMessage<&[u8]>,
 ) -> Result<Turn<'a>, AllocError>
     ensures { (stations : List StationState) (s : Stranger) → IfOk result (λ t. turn_of stations (Some s) t
@@ -175,7 +175,7 @@ fn receives_own<'a>(
 fn checked_for_pair<'a>(
     alloc: Global,
     provision: &Provision,
-    kept: &'a Kept,
+    kept: &'a KeptEntry,
     message: &UeMessage<&[u8]>,
 ) -> Result<Turn<'a>, AllocError>
     ensures { (stations : List StationState) (s : Stranger) → IfOk result (λ t. turn_of stations (Some s) t ≡ checked_for_pair provision.now.profiles (message_lists message.now) kept.entry.now s) }
@@ -193,7 +193,7 @@ fn checked_for_pair<'a>(
 fn receives_waiting<'a>(
     alloc: Global,
     provision: &Provision,
-    kept: &'a Kept,
+    kept: &'a KeptEntry,
     message: &UeMessage<&[u8]>,
 ) -> Result<Turn<'a>, AllocError>
     ensures { (stations : List StationState) (s : Stranger) → IfOk result (λ t. turn_of stations (Some s) t

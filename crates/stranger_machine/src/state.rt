@@ -12,7 +12,7 @@ use std::alloc::{AllocError, Global};
 
 /// The INITIAL UE MESSAGE that began an association (TS 36.413 clause 8.6.2.1).
 #[derive(Drop)]
-pub struct Kept {
+pub struct KeptEntry {
     pub station: StationNumber,
     pub enb_id: EnbUeId,
     /// Its NAS message.
@@ -20,12 +20,12 @@ pub struct Kept {
     pub tai: Tai,
 }
 
-impl Kept {
+impl KeptEntry {
     /// A copy of the message.
-    pub fn of_entry(alloc: Global, entry: &Entry<&[u8]>) -> Result<Kept, AllocError>
+    pub fn of_entry(alloc: Global, entry: &Entry<&[u8]>) -> Result<KeptEntry, AllocError>
         ensures { IfOk result (λ k. k ≡ as_kept (entry_lists entry.now)) }
     {
-        Ok(Kept {
+        Ok(KeptEntry {
             station: entry.station,
             enb_id: entry.enb_id,
             nas: NasOctets::new(Vec::from_slice(alloc, entry.nas)?),
@@ -58,7 +58,11 @@ impl Kept {
 pub enum Stranger {
     /// It was asked for its identity: the message that began, and of T3470 the ticks left and how often the request may still
     /// be sent again (TS 24.301 clause 5.4.4).
-    Waiting { kept: Kept, left: u32, repeats: u32 },
+    Waiting {
+        kept: KeptEntry,
+        left: u32,
+        repeats: u32,
+    },
     /// It turned out to be this subscriber, who has its association.
     Held(Slot),
 }
