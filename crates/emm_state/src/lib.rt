@@ -9,7 +9,7 @@ mod solo;
 
 pub use actions::is_registered;
 pub use draft::{Draft, Sealed, Stop};
-pub use setting::{Setting, Vectors};
+pub use setting::Setting;
 pub use solo::{
     Asked, Context, Countdown, Counter, Phase, Protection, Repeat, Solo, Stations, Timer,
 };

@@ -6,7 +6,7 @@ ghost use Rattle.std.specs.HashMap.{get, spare};
 ghost use Rattle.std.specs.Int.{from_be_bytes, w32, w64};
 ghost use Rattle.nas_elements.specs.Digits.{imsi_octets};
 ghost use Rattle.identity_slots.specs.declared.provision.ProvisionFault.TheVariants.{Full, NoMemory};
-ghost use Rattle.identity_slots.specs.Provisioned.{Provisioned, imsi_number, address_number, slot_of_imsi, slot_of_address, slot_of_id, add_fault, with_profile, with_vector, vectors_at, AreDistinct, imsi_key, address_key};
+ghost use Rattle.identity_slots.specs.Provisioned.{Provisioned, imsi_number, address_number, slot_of_imsi, slot_of_address, slot_of_id, add_fault, with_profile, with_vector, without_vectors, vectors_at, AreDistinct, imsi_key, address_key};
 
 use crate::ids::{AssociationId, COUNTERS, STRANGERS, Slot, Tmsi};
 use crate::profile::{Profile, Vector, Vectors};
@@ -14,6 +14,7 @@ use nas_elements::Imsi;
 use std::alloc::{AllocError, Global};
 use std::collections::HashMap;
 use std::marker::Model;
+use std::mem;
 
 /// How many vectors a subscriber has at most.
 const VECTORS: usize = 64;
@@ -191,7 +192,7 @@ impl Provision {
             return Err(ProvisionFault::NoMemory);
         }
         self.profiles.push_reserved(profile);
-        self.vectors.push_reserved(Vectors::new(self.alloc));
+        self.vectors.push_reserved(Vectors::none(self.alloc));
         let _ = self.by_imsi.insert(imsi, slot);
         let _ = self.by_address.insert(address, slot);
         Ok(slot)
@@ -214,6 +215,16 @@ impl Provision {
             Ok(()) => Ok(()),
             Err(_) => Err(ProvisionFault::NoMemory),
         }
+    }
+
+    /// Takes the vectors of a subscriber that is provisioned, to be kept elsewhere; it has none here from then on. Takes no memory.
+    pub fn take_vectors(&mut self, slot: Slot) -> Vectors
+        requires { slot < length self.old.profiles }
+        ensures taken { slice_get self.old.vectors slot ≡ Some result }
+        ensures left { self.new ≡ without_vectors slot self.old }
+    {
+        let none = Vectors::none(self.alloc);
+        mem::replace(&mut self.vectors[slot.get() as usize], none)
     }
 }
 
