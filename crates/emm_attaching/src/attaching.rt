@@ -347,18 +347,18 @@ pub fn accept(
 ) -> Result<(), StepStop>
     ensures { Does result draft.new (accept setting.now kenb draft.old) }
 {
-    let apn = setting.network.apn.as_slice();
+    let network = setting.network.get();
     let esm = draft
         .solo
         .bearer
-        .activate(alloc, apn, setting.profile.address)?;
+        .activate(alloc, network.apn.as_slice(), setting.profile.address)?;
     let tmsi = given_tmsi(draft, setting);
     let grant = Grant {
         tmsi,
         tai: draft.solo.tai,
         combined: draft.solo.asked.combined_attach,
     };
-    let message = attach_accept(alloc, &setting.network, grant, esm.as_slice())?;
+    let message = attach_accept(alloc, network, grant, esm.as_slice())?;
     draft.solo.phase = Phase::Accepting;
     draft.set_up_with(alloc, setting, kenb, message.as_slice())?;
     draft.start(

@@ -12,10 +12,10 @@ use crate::still::is_still;
 use emm_serving::{
     cancelled, claim, data_waits, displaced, initial, message_of, station_gone, tick,
 };
-use emm_state::{Asked, Counter, Draft, Phase, Repeat, Setting, Solo, StepStop, Vectors};
+use emm_state::{Asked, Counter, Draft, Phase, Repeat, Setting, Solo, StepStop};
 use esm_machine::{Bearer, BearerState};
-use identity_slots::{Profile, Slot, Vector};
-use mme_vocabulary::{Answers, Connection, EnbWorld, Network, SoloEvent, StationNumber};
+use identity_slots::{Profile, Slot, Vectors};
+use mme_vocabulary::{Answers, Connection, EnbWorld, SharedNetwork, SoloEvent, StationNumber};
 use nas_elements::UeCapability;
 use per_bits::Octets;
 use s1ap_elements::{Cause, NasCause, Tai};
@@ -167,13 +167,13 @@ impl Subscriber {
     /// A subscriber who was never seen, with its vectors in the order in which they are taken.
     pub fn new(
         alloc: Global,
-        network: &Network,
+        network: &SharedNetwork,
         slot: Slot,
         profile: &Profile,
-        vectors: Vec<Vector>,
+        vectors: Vectors,
     ) -> Result<Subscriber, AllocError>
         ensures { IfOk result (λ s. s ≡ record {
-          setting = record { network = network.now; slot = slot; profile = profile.now; vectors = vectors.items };
+          setting = record { network = network.now; slot = slot; profile = profile.now; vectors = vectors };
           solo = fresh_solo;
         }) }
     {
@@ -181,7 +181,7 @@ impl Subscriber {
             network: network.clone()?,
             slot,
             profile: *profile,
-            vectors: Vectors::new(vectors),
+            vectors,
         };
         Ok(Subscriber {
             setting,

@@ -97,7 +97,7 @@ fn page(
     };
     let message = paging(
         alloc,
-        &setting.network,
+        setting.network.get(),
         setting.profile.imsi,
         tmsi,
         draft.solo.tai,

@@ -167,7 +167,7 @@ fn update(
         tai: draft.solo.tai,
         combined,
     };
-    let message = update_accept(alloc, &setting.network, grant)?;
+    let message = update_accept(alloc, setting.network.get(), grant)?;
     draft.protect(
         alloc,
         SecurityHeader::IntegrityProtectedCiphered,

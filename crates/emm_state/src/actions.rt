@@ -346,7 +346,7 @@ impl Draft {
         let station = connection.station;
         let message = context_setup(
             alloc,
-            &setting.network,
+            setting.network.get(),
             &setting.profile,
             &self.solo.asked.capability,
             connection,

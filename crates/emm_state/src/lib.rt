@@ -9,7 +9,7 @@ mod solo;
 
 pub use actions::is_registered;
 pub use draft::{Draft, Sealed, StepStop};
-pub use setting::{Setting, Vectors};
+pub use setting::Setting;
 pub use solo::{
     Asked, Context, Countdown, Counter, NasTimer, Phase, Protection, Repeat, Solo, Stations,
 };

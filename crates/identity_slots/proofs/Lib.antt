@@ -1,1 +1,2 @@
+mod Imsis
 pub mod Places

@@ -1,7 +1,7 @@
 -- What a caller sees of the provisioning: the profiles by slot, and the vectors of each.
-use Rattle.std.specs.Prelude.{◌≡◌, ℕ, ◌+◌, ◌==◌, ◌&&◌, ◌<◌, slice_index, nat_lt, nat_le, List, [], ◌∷◌, ◌++◌, length, slice_set, slice_index_or, Option, Some, None, is_some, if◌then◌else◌}
+use Rattle.std.specs.Prelude.{◌≡◌, ℕ, ◌+◌, ◌==◌, ◌&&◌, ◌<◌, true, slice_index, nat_lt, nat_le, List, [], ◌∷◌, ◌++◌, length, slice_set, slice_index_or, Option, Some, None, is_some, if◌then◌else◌}
 use Rattle.std.specs.Int.{from_be_bytes, w32, w64}
-use Rattle.nas_elements.specs.Digits.{imsi_octets}
+use Rattle.nas_elements.specs.Digits.{imsi_octets, is_imsi}
 use Rattle.identity_slots.specs.declared.profile.Profile.{Profile}
 use Rattle.identity_slots.specs.declared.profile.Vector.{Vector}
 use Rattle.identity_slots.specs.declared.provision.ProvisionFault.{ProvisionFault}
@@ -61,12 +61,20 @@ vectors_at slot vs = slice_index_or vs slot []
 abbrev pub with_vector : ℕ → Vector → Provisioned → Provisioned
 with_vector slot v s = record { profiles = s.profiles; vectors = slice_set s.vectors slot (vectors_at slot s.vectors ++ v ∷ []) }
 
+-- where a slot's vectors were taken out
+abbrev pub without_vectors : ℕ → Provisioned → Provisioned
+without_vectors slot s = record { profiles = s.profiles; vectors = slice_set s.vectors slot [] }
+
 -- octets as numbers are below 256
 abbrev pub AreOctetNumbers : List ℕ → Type 0
 AreOctetNumbers os = (i : ℕ) → slice_index os i < 256
 
 abbrev pub EightOctetsApart : Type 0
 EightOctetsApart = (a b : List ℕ) → length a ≡ 8 → length b ≡ 8 → AreOctetNumbers a → AreOctetNumbers b → from_be_bytes w64 a ≡ from_be_bytes w64 b → a ≡ b
+
+-- no two IMSIs have one number
+abbrev pub ImsisApart : Type 0
+ImsisApart = (a b : List ℕ) → is_imsi a ≡ true → is_imsi b ≡ true → imsi_number a ≡ imsi_number b → a ≡ b
 
 abbrev pub FourOctetsApart : Type 0
 FourOctetsApart = (a b : List ℕ) → length a ≡ 4 → length b ≡ 4 → AreOctetNumbers a → AreOctetNumbers b → from_be_bytes w32 a ≡ from_be_bytes w32 b → a ≡ b

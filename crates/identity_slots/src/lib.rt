@@ -9,7 +9,7 @@ mod provision;
 mod station;
 
 pub use ids::{AssociationId, Slot, Tmsi, number_in, station_in};
-pub use laws::octets_apart;
-pub use profile::{Profile, Vector, Xres};
+pub use laws::{imsis_apart, octets_apart};
+pub use profile::{Profile, Vector, Vectors, Xres};
 pub use provision::{Provision, ProvisionFault};
 pub use station::StationNumber;

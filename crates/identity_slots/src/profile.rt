@@ -1,6 +1,6 @@
 //! A subscriber's profile and its authentication vectors.
 
-ghost use Rattle.std.specs.Prelude.{◌≡◌, ◌≤◌, ◌++◌, ◌∷◌, [], IfSome, IsSome, OnOk, OnErr, length};
+ghost use Rattle.std.specs.Prelude.{◌≡◌, ◌<◌, ◌≤◌, ◌^◌, ◌++◌, ◌∷◌, [], IfSome, IsSome, OnOk, OnErr, length, option_map, slice_get};
 
 use arrayvec::ArrayVec;
 use nas_elements::Imsi;
@@ -96,13 +96,13 @@ impl Clone for Vector {
     }
 }
 
-/// The vectors of a subscriber, in the order in which they were given.
+/// The vectors of a subscriber, in the order in which they were given; a contract sees their list.
 #[derive(Drop)]
-pub(crate) struct GivenVectors {
+pub struct Vectors {
     items: Vec<Vector>,
 }
 
-impl Model for GivenVectors {
+impl Model for Vectors {
     ghost use Rattle.std.specs.Prelude.{List};
     ghost use Rattle.identity_slots.specs.declared.profile.Vector.{Vector};
 
@@ -111,13 +111,28 @@ impl Model for GivenVectors {
     ghost view = { λ v. v.items.items };
 }
 
-impl GivenVectors {
-    pub(crate) fn new(alloc: Global) -> GivenVectors
+impl Vectors {
+    pub(crate) fn none(alloc: Global) -> Vectors
         ensures { result ≡ [] }
     {
-        GivenVectors {
+        Vectors {
             items: Vec::new(alloc),
         }
+    }
+
+    /// These vectors.
+    pub fn new(items: Vec<Vector>) -> Vectors
+        ensures { result ≡ items.items }
+    {
+        Vectors { items }
+    }
+
+    /// The vector at a place, from 0, if there is one. Takes no memory.
+    pub fn get(&self, place: usize) -> Option<&Vector>
+        ensures value { option_map (λ v. v.now) result ≡ slice_get self.entry.now place }
+        ensures bound { IsSome result → place < 2 ^ 63 }
+    {
+        self.items.as_slice().get(place)
     }
 
     pub(crate) fn len(&self) -> usize
@@ -139,5 +154,17 @@ impl GivenVectors {
     {
         self.items.push(vector)?;
         Ok(())
+    }
+}
+
+impl Clone for Vectors {
+    ghost use Rattle.std.specs.Prelude.{◌≡◌};
+
+    ghost is_clone = { λ x y. y ≡ x };
+
+    fn clone(&self) -> Result<Vectors, AllocError> {
+        Ok(Vectors {
+            items: self.items.clone()?,
+        })
     }
 }

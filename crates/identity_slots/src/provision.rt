@@ -6,14 +6,15 @@ ghost use Rattle.std.specs.HashMap.{get, spare};
 ghost use Rattle.std.specs.Int.{from_be_bytes, w32, w64};
 ghost use Rattle.nas_elements.specs.Digits.{imsi_octets};
 ghost use Rattle.identity_slots.specs.declared.provision.ProvisionFault.TheVariants.{Full, NoMemory};
-ghost use Rattle.identity_slots.specs.Provisioned.{Provisioned, imsi_number, address_number, slot_of_imsi, slot_of_address, slot_of_id, add_fault, with_profile, with_vector, vectors_at, AreDistinct, imsi_key, address_key};
+ghost use Rattle.identity_slots.specs.Provisioned.{Provisioned, imsi_number, address_number, slot_of_imsi, slot_of_address, slot_of_id, add_fault, with_profile, with_vector, without_vectors, vectors_at, AreDistinct, imsi_key, address_key};
 
 use crate::ids::{AssociationId, COUNTERS, STRANGERS, Slot, Tmsi};
-use crate::profile::{GivenVectors, Profile, Vector};
+use crate::profile::{Profile, Vector, Vectors};
 use nas_elements::Imsi;
 use std::alloc::{AllocError, Global};
 use std::collections::HashMap;
 use std::marker::Model;
+use std::mem;
 
 /// How many vectors a subscriber has at most.
 const VECTORS: usize = 64;
@@ -46,7 +47,7 @@ fn address_number(address: [u8; 4]) -> u32
 /// Makes room for one more in each, or leaves them as they are.
 fn reserve_one(
     profiles: &mut Vec<Profile>,
-    vectors: &mut Vec<GivenVectors>,
+    vectors: &mut Vec<Vectors>,
     by_imsi: &mut HashMap<u64, Slot>,
     by_address: &mut HashMap<u32, Slot>,
 ) -> Result<(), AllocError>
@@ -70,7 +71,7 @@ fn reserve_one(
 #[derive(Drop)]
 pub struct Provision {
     profiles: Vec<Profile>,
-    vectors: Vec<GivenVectors>,
+    vectors: Vec<Vectors>,
     by_imsi: HashMap<u64, Slot>,
     by_address: HashMap<u32, Slot>,
     alloc: Global,
@@ -191,7 +192,7 @@ impl Provision {
             return Err(ProvisionFault::NoMemory);
         }
         self.profiles.push_reserved(profile);
-        self.vectors.push_reserved(GivenVectors::new(self.alloc));
+        self.vectors.push_reserved(Vectors::none(self.alloc));
         let _ = self.by_imsi.insert(imsi, slot);
         let _ = self.by_address.insert(address, slot);
         Ok(slot)
@@ -215,9 +216,19 @@ impl Provision {
             Err(_) => Err(ProvisionFault::NoMemory),
         }
     }
+
+    /// Takes the vectors of a subscriber that is provisioned, to be kept elsewhere; it has none here from then on. Takes no memory.
+    pub fn take_vectors(&mut self, slot: Slot) -> Vectors
+        requires { slot < length self.old.profiles }
+        ensures taken { slice_get self.old.vectors slot ≡ Some result }
+        ensures left { self.new ≡ without_vectors slot self.old }
+    {
+        let none = Vectors::none(self.alloc);
+        mem::replace(&mut self.vectors[slot.get() as usize], none)
+    }
 }
 
-fn push_at(vectors: &mut Vec<GivenVectors>, at: usize, vector: Vector) -> Result<(), AllocError>
+fn push_at(vectors: &mut Vec<Vectors>, at: usize, vector: Vector) -> Result<(), AllocError>
     requires { at < vec_len vectors.old }
     ensures items { OnOk result (vectors.new.items ≡ slice_set vectors.old.items at (vectors_at at vectors.old.items ++ vector ∷ [])) }
     ensures err { OnErr result (vectors.new.items ≡ vectors.old.items) }

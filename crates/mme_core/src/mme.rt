@@ -26,7 +26,7 @@ use crate::settling::{settle, settle_station, settle_strangers};
 use emm_machine::{States, Subscriber};
 use identity_slots::{Provision, Slot};
 use mme_routing::{Calls, Outcome, Reach, Summoned, outcome_of};
-use mme_vocabulary::{Answers, EnbWorld, SoloEvent, StationNumber, StationState};
+use mme_vocabulary::{Answers, EnbWorld, SharedNetwork, SoloEvent, StationNumber, StationState};
 use nas_elements::Imsi;
 use std::alloc::{AllocError, Global};
 use std::marker::Model;
@@ -88,7 +88,9 @@ impl Mme {
     pub fn new(alloc: Global, config: Config, provision: Provision) -> Result<Mme, AllocError>
         ensures { IfOk result (λ m. m ≡ fresh_world config provision) }
     {
-        let subscribers = fresh_subscribers(alloc, &config.network, &provision)?;
+        let mut provision = provision;
+        let network = SharedNetwork::new(alloc, config.network.clone()?)?;
+        let subscribers = fresh_subscribers(alloc, &network, &mut provision)?;
         let stations = EnbWorld::new(alloc)?;
         let clock = config.clock;
         Ok(Mme {

@@ -1,11 +1,11 @@
 //! The subscribers of a provisioning.
 
-ghost use Rattle.std.specs.Prelude.{◌≡◌, ◌<◌, ◌≤◌, length, IfOk};
+ghost use Rattle.std.specs.Prelude.{◌≡◌, ◌<◌, ◌≤◌, length, IfOk, OnOk};
 ghost use Rattle.mme_core.specs.World.{fresh_subscribers};
 
 use emm_machine::Subscriber;
-use identity_slots::{Provision, Slot, Vector};
-use mme_vocabulary::Network;
+use identity_slots::{Provision, Slot};
+use mme_vocabulary::SharedNetwork;
 use std::alloc::{AllocError, Global};
 
 /// The slot of a place.
@@ -19,33 +19,23 @@ pub(crate) fn slot_of(place: usize) -> Slot
     }
 }
 
-/// The subscribers of a provisioning, who were never seen.
+/// The subscribers of a provisioning, who were never seen; their vectors are taken out of it.
 pub(crate) fn fresh_subscribers(
     alloc: Global,
-    network: &Network,
-    provision: &Provision,
+    network: &SharedNetwork,
+    provision: &mut Provision,
 ) -> Result<Vec<Subscriber>, AllocError>
-    ensures value { IfOk result (λ v. v.items ≡ fresh_subscribers network.now 0 provision.now.profiles provision.now.vectors) }
+    ensures value { IfOk result (λ v. v.items ≡ fresh_subscribers network.now 0 provision.old.profiles provision.old.vectors) }
     ensures few { IfOk result (λ v. length v.items ≤ 2048) }
+    ensures profiles { OnOk result (provision.new.profiles ≡ provision.old.profiles) }
 {
     let count = provision.len();
     let mut subscribers = Vec::with_capacity(alloc, count)?;
     for place in 0..count {
         let slot = slot_of(place);
-        let vectors = copied(alloc, provision.vectors(slot))?;
+        let vectors = provision.take_vectors(slot);
         let profile = provision.profile(slot);
         subscribers.push(Subscriber::new(alloc, network, slot, profile, vectors)?)?;
     }
     Ok(subscribers)
-}
-
-// The same vectors once more.
-fn copied(alloc: Global, vectors: &[Vector]) -> Result<Vec<Vector>, AllocError>
-    ensures { IfOk result (λ v. v.items ≡ vectors.now) }
-{
-    let mut copies = Vec::with_capacity(alloc, vectors.len())?;
-    for vector in vectors {
-        copies.push(vector.clone()?)?;
-    }
-    Ok(copies)
 }

@@ -14,19 +14,6 @@ use s1ap_messages::{
 };
 use std::alloc::{AllocError, Global};
 
-// A list of one value.
-fn only<T: Drop, const MAX: usize>(alloc: Global, value: T) -> Result<Items<T, 1, MAX>, AllocError>
-    requires { 1 ≤ MAX }
-    ensures { IfOk result (λ items. items ≡ value ∷ []) }
-{
-    let mut values = Vec::new(alloc);
-    values.push(value)?;
-    match Items::try_new(values) {
-        Some(items) => Ok(items),
-        None => unreachable!(),
-    }
-}
-
 fn whole_capacity() -> RelativeCapacity
     ensures { result ≡ 255 }
 {
@@ -41,11 +28,11 @@ pub fn setup_response<'a>(alloc: Global, network: &Network) -> Result<S1apPdu<'a
     ensures { IfOk result (λ m. lists m ≡ setup_response network.now) }
 {
     let gummei = ServedGummei {
-        plmns: only::<Plmn, 32>(alloc, network.plmn)?,
-        groups: only::<MmeGroup, 65535>(alloc, network.group)?,
-        codes: only::<MmeCode, 256>(alloc, network.code)?,
+        plmns: Items::only(alloc, network.plmn)?,
+        groups: Items::only(alloc, network.group)?,
+        codes: Items::only(alloc, network.code)?,
     };
-    let served_gummeis = only::<ServedGummei, 8>(alloc, gummei)?;
+    let served_gummeis = Items::only(alloc, gummei)?;
     Ok(Pdu::SetupResponse(SetupResponse {
         served_gummeis,
         capacity: whole_capacity(),

@@ -31,19 +31,6 @@ fn whole<const LO: u64, const HI: u64>(value: u64) -> Whole<LO, HI>
     }
 }
 
-// A list of one value.
-fn only<T: Drop, const MAX: usize>(alloc: Global, value: T) -> Result<Items<T, 1, MAX>, AllocError>
-    requires { 1 ≤ MAX }
-    ensures { IfOk result (λ items. items ≡ value ∷ []) }
-{
-    let mut values = Vec::new(alloc);
-    values.push(value)?;
-    match Items::try_new(values) {
-        Some(items) => Ok(items),
-        None => unreachable!(),
-    }
-}
-
 // An association's id as S1AP has it.
 fn mme_ue_id(id: AssociationId) -> MmeUeId
     ensures { result ≡ id }
@@ -202,10 +189,7 @@ pub fn context_setup<'a>(
         teid: Octets::new(profile.teid),
         nas,
     };
-    let erabs = only::<Listed<ErabToBeSetup<'a, &'a [u8]>, 52, 0>, 256>(
-        alloc,
-        Listed { value: erab },
-    )?;
+    let erabs = Items::only(alloc, Listed { value: erab })?;
     Ok(Pdu::ContextSetupRequest(ContextSetupRequest {
         mme_id: mme_ue_id(connection.id),
         enb_id: connection.enb_id,
@@ -271,7 +255,7 @@ pub fn paging<'a>(
 ) -> Result<S1apPdu<'a>, AllocError>
     ensures { IfOk result (λ m. lists m ≡ paging network.now imsi tmsi tai) }
 {
-    let tai_list = only::<Listed<TaiItem, 47, 1>, 256>(
+    let tai_list = Items::only(
         alloc,
         Listed {
             value: TaiItem { tai },

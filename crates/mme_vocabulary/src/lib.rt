@@ -11,6 +11,6 @@ mod stations;
 pub use connection::{Connection, RadioKeys};
 pub use event::{Entry, SoloEvent, UeBody, UeMessage};
 pub use identity_slots::StationNumber;
-pub use network::{AggregateBitRate, Apn, Network};
+pub use network::{AggregateBitRate, Apn, Network, SharedNetwork};
 pub use octets::{Answer, Answers, Mark, NasOctets, SentOctets};
 pub use stations::{EnbWorld, StationState, is_broadcast};

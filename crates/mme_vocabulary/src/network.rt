@@ -6,8 +6,9 @@ ghost use Rattle.mme_vocabulary.specs.Network.{IsLabel, is_label_octet};
 use arrayvec::ArrayVec;
 use per_bits::Whole;
 use s1ap_elements::{MmeCode, MmeGroup, Plmn};
-use std::alloc::AllocError;
+use std::alloc::{AllocError, Global};
 use std::marker::Model;
+use std::rc::Rc;
 
 /// A maximum bit rate of all bearers of a phone, 1 to 10^10 bits a second (TS 36.413 clause 9.2.1.20).
 pub type AggregateBitRate = Whole<1, 10000000000>;
@@ -104,6 +105,50 @@ impl Clone for Network {
             apn: self.apn.clone()?,
             down: self.down,
             up: self.up,
+        })
+    }
+}
+
+/// A network that all subscribers share; a contract sees the network.
+#[derive(Drop)]
+pub struct SharedNetwork {
+    network: Rc<Network>,
+}
+
+impl Model for SharedNetwork {
+    ghost use Rattle.mme_vocabulary.specs.declared.network.Network.{Network};
+
+    ghost Value = { Network };
+
+    ghost view = { λ s. s.network.value };
+}
+
+impl SharedNetwork {
+    /// This network, to be shared.
+    pub fn new(alloc: Global, network: Network) -> Result<SharedNetwork, AllocError>
+        ensures { IfOk result (λ s. s ≡ network) }
+    {
+        Ok(SharedNetwork {
+            network: Rc::new(alloc, network)?,
+        })
+    }
+
+    /// The network.
+    pub fn get(&self) -> &Network
+        ensures { result.now ≡ self.now }
+    {
+        self.network.as_ref()
+    }
+}
+
+impl Clone for SharedNetwork {
+    ghost use Rattle.std.specs.Prelude.{◌≡◌};
+
+    ghost is_clone = { λ x y. y ≡ x };
+
+    fn clone(&self) -> Result<SharedNetwork, AllocError> {
+        Ok(SharedNetwork {
+            network: self.network.clone()?,
         })
     }
 }

@@ -1,6 +1,6 @@
 //! Lists of elements.
 
-ghost use Rattle.std.specs.Prelude.{◌≡◌, ◌≤◌, ◌-◌, ◌↔◌, List, map, length, IsSome, IfSome, IsTrue, slice_get, option_copied};
+ghost use Rattle.std.specs.Prelude.{◌≡◌, ◌≤◌, ◌-◌, ◌↔◌, ◌∷◌, [], List, map, length, IsSome, IfSome, IfOk, IsTrue, slice_get, option_copied};
 ghost use Rattle.bit_streams.specs.Bits.{Place, Gives};
 ghost use Rattle.per_bits.specs.Formats.{Format, Value, items};
 ghost use Rattle.per_bits.specs.Reading.{read_at, number_at};
@@ -10,7 +10,7 @@ ghost use Rattle.per_bits.specs.Writing.{write_at, Wrote, write_each, write_numb
 use crate::element::Element;
 use crate::whole::{offset_of, put_number};
 use bit_streams::{BitReader, BitWriter, PerError};
-use std::alloc::Global;
+use std::alloc::{AllocError, Global};
 use std::marker::Model;
 
 fn read_times<'a, T: Element<'a>>(
@@ -95,6 +95,18 @@ impl<T: Drop, const MIN: usize, const MAX: usize> Items<T, MIN, MAX> {
         ensures { result.now ≡ self.now }
     {
         self.values.as_slice()
+    }
+}
+
+impl<T: Drop, const MAX: usize> Items<T, 1, MAX> {
+    /// A list of one value.
+    pub fn only(alloc: Global, value: T) -> Result<Self, AllocError>
+        requires { 1 ≤ MAX }
+        ensures { IfOk result (λ items. items ≡ value ∷ []) }
+    {
+        let mut values = Vec::new(alloc);
+        values.push(value)?;
+        Ok(Items { values })
     }
 }
 

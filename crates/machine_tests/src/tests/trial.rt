@@ -2,9 +2,10 @@
 
 use emm_machine::{EcmState, EmmState, States, Subscriber};
 use esm_machine::BearerState;
-use identity_slots::{AssociationId, Profile, Slot, Vector, Xres};
+use identity_slots::{AssociationId, Profile, Slot, Vector, Vectors, Xres};
 use mme_vocabulary::{
-    Apn, EnbWorld, Entry, Network, SoloEvent, StationNumber, StationState, UeBody, UeMessage,
+    Apn, EnbWorld, Entry, Network, SharedNetwork, SoloEvent, StationNumber, StationState, UeBody,
+    UeMessage,
 };
 use nas_elements::Imsi;
 use per_bits::{Items, Octets, Whole};
@@ -169,6 +170,7 @@ impl Trial {
             down: Whole::try_new(1_000_000_000).ok_or("rate")?,
             up: Whole::try_new(1_000_000_000).ok_or("rate")?,
         };
+        let network = SharedNetwork::new(alloc, network)?;
         let profile = Profile {
             imsi: Imsi::try_from_digits("001010000000001").ok_or("imsi")?,
             address: [10, 0, 0, 1],
@@ -187,7 +189,7 @@ impl Trial {
         let slot = Slot::try_new(0).ok_or("slot")?;
         Ok(Trial {
             alloc,
-            subscriber: Subscriber::new(alloc, &network, slot, &profile, vectors)?,
+            subscriber: Subscriber::new(alloc, &network, slot, &profile, Vectors::new(vectors))?,
             world,
         })
     }

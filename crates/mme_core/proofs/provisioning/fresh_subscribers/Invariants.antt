@@ -1,11 +1,14 @@
-use Rattle.std.proofs.Common.{◌≡◌, ◌++◌, drop, length}
+use Rattle.std.proofs.Common.{◌≡◌, ◌≤◌, ◌++◌, ℕ, [], drop, length}
+use Rattle.identity_slots.specs.Provisioned.{vectors_at}
 use Rattle.mme_core.specs.World.{fresh_subscribers}
 use Rattle.mme_core.proofs.provisioning.fresh_subscribers.Given as goal
 
--- who was made, and who is left
+-- who was made, and who is left with the vectors given
 abbrev pub invariant-loop-place : goal.invariant-loop-place
 invariant-loop-place l = record {
-  made : l.subscribers.items ++ fresh_subscribers l.network l.place (drop l.place l.provision.profiles) l.provision.vectors
-      ≡ fresh_subscribers l.network 0 l.provision.profiles l.provision.vectors;
+  made : l.subscribers.items ++ fresh_subscribers l.network l.place (drop l.place l.fn.provision.profiles) l.fn.provision.vectors
+      ≡ fresh_subscribers l.network 0 l.fn.provision.profiles l.fn.provision.vectors;
   count : length l.subscribers.items ≡ l.place;
+  profiles : l.provision.profiles ≡ l.fn.provision.profiles;
+  left : (k : ℕ) → l.place ≤ k → vectors_at k l.provision.vectors ≡ vectors_at k l.fn.provision.vectors;
 }
