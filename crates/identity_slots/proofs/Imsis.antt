@@ -5,7 +5,7 @@ use Rattle.std.specs.Int.{from_be_bytes, w64}
 use Rattle.std.proofs.lemmas.Nat.{be_bytes_8}
 use Rattle.nas_elements.specs.Digits.{is_imsi, imsi_octets, imsi_of, imsi_type}
 use Rattle.nas_elements.specs.DigitLaws.{small, imsi_again}
-use Rattle.identity_slots.specs.Provisioned.{AreOctets, ImsisApart, imsi_number}
+use Rattle.identity_slots.specs.Provisioned.{AreOctetNumbers, ImsisApart, imsi_number}
 
 two_halves : (high low : ℕ) → high < 16 → low < 16 → high * 16 + low < 256
 two_halves high low p q = omega (arith, p, q)
@@ -14,7 +14,7 @@ one_or_nine : (b : Bool) → cond b 1 9 < 16
 one_or_nine true = omega arith
 one_or_nine false = omega arith
 
-are_octets : (ds : List ℕ) → is_imsi ds ≡ true → AreOctets (imsi_octets ds)
+are_octets : (ds : List ℕ) → is_imsi ds ≡ true → AreOctetNumbers (imsi_octets ds)
 unfolding imsi_octets
 are_octets ds h zero = two_halves _ _ (small ds h 0 (omega arith)) (one_or_nine _)
 are_octets ds h (suc zero) = two_halves _ _ (small ds h 2 (omega arith)) (small ds h 1 (omega arith))

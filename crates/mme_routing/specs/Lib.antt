@@ -1,3 +1,4 @@
+pub mod Destinations
 pub mod Naming
 pub mod Outcomes
 pub mod Seen

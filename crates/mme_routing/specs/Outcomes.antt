@@ -26,12 +26,11 @@ use Rattle.mme_vocabulary.specs.declared.octets.Answer.{Answer}
 use Rattle.mme_vocabulary.specs.Stations.{is_broadcast}
 use Rattle.mme_vocabulary.specs.declared.stations.StationState.{StationState}
 use Rattle.mme_vocabulary.specs.declared.stations.StationState.TheVariants.{Down, Up, Ready}
-use Rattle.mme_vocabulary.specs.Events.{Item, Initial, Message, StationGone}
+use Rattle.mme_vocabulary.specs.Events.{Initial, Message}
 use Rattle.stranger_machine.specs.declared.turn.Notice.TheVariants.{Gone}
-use Rattle.stranger_machine.specs.Machine.{Begins, Receives, unknown}
-use Rattle.stranger_machine.specs.Table.{Reach, Nobody, Each}
-use Rattle.stranger_machine.specs.Table as table
+use Rattle.stranger_machine.specs.Machine.{unknown}
 use Rattle.stranger_machine.specs.Turns.{sent_to}
+use Rattle.mme_routing.specs.Destinations.{Destination, Nobody, Subscriber, Beginner, Stranger, Everyone}
 use Rattle.mme_routing.specs.Naming.{named_slot}
 
 -- ---- what the MME sends to stations
@@ -70,31 +69,21 @@ indicated e (Some cause) = sent_to e (indication cause)
 
 -- ---- what a station makes of a message
 
--- who is called by an event, with which item
-pub data Calls : Type 0 where
-  NoOne : Calls
-  One : ℕ → Item → Calls
-  Everyone : Item → Calls
-
--- the station's state, what is sent for it, the strangers that are reached, and who is called
+-- the station's new state, if it has one, what is sent for it, and where the event goes
 pub record Outcome : Type 0 where
-  pub state : StationState
+  pub state : Option StationState
   pub sent : List Answer
-  pub reach : Reach
-  pub calls : Calls
+  pub destination : Destination
 
-abbrev pub answered : StationState → List Answer → Outcome
-answered state sent = record { state = state; sent = sent; reach = Nobody; calls = NoOne }
+abbrev pub answered : List Answer → Outcome
+answered sent = record { state = None; sent = sent; destination = Nobody }
 
-abbrev pub calling : StationState → Calls → Outcome
-calling state calls = record { state = state; sent = []; reach = Nobody; calls = calls }
-
-abbrev pub reaching : StationState → Reach → Outcome
-reaching state r = record { state = state; sent = []; reach = r; calls = NoOne }
+abbrev pub goes_to : Destination → Outcome
+goes_to d = record { state = None; sent = []; destination = d }
 
 -- the associations of a station end, with what is sent for it
-abbrev pub begins_anew : ℕ → StationState → List Answer → Outcome
-begins_anew e state sent = record { state = state; sent = sent; reach = Each (Gone e); calls = Everyone (StationGone e) }
+abbrev pub begins_anew : ℕ → Option StationState → List Answer → Outcome
+begins_anew e state sent = record { state = state; sent = sent; destination = Everyone (Gone e) }
 
 -- whether some tracking area broadcasts the network
 abbrev pub broadcasts : List ℕ → List SupportedTa → Bool
@@ -104,74 +93,76 @@ broadcasts plmn tas = list_any (λ ta. is_broadcast plmn ta.plmns) tas
 abbrev pub station_set_up : Network → ℕ → List SupportedTa → Outcome
 station_set_up network e tas =
     if broadcasts network.plmn tas
-    then begins_anew e (Ready tas) (sent_to e (setup_response network))
-    else begins_anew e Up (sent_to e setup_failure)
+    then begins_anew e (Some (Ready tas)) (sent_to e (setup_response network))
+    else begins_anew e (Some Up) (sent_to e setup_failure)
 
 -- a message that the state of the station doesn't take
-abbrev pub not_compatible : ℕ → StationState → Outcome
-not_compatible e state = answered state (sent_to e (indication (Protocol MessageNotCompatible)))
+abbrev pub not_compatible : ℕ → Outcome
+not_compatible e = answered (sent_to e (indication (Protocol MessageNotCompatible)))
 
 -- a reset of the whole interface, of a station that is set up (TS 36.413 clause 8.7.1)
 abbrev pub interface_reset : ℕ → StationState → Outcome
-interface_reset e Down = not_compatible e Down
-interface_reset e Up = not_compatible e Up
-interface_reset e (Ready tas) = begins_anew e (Ready tas) (sent_to e pdu.ResetAcknowledge)
+interface_reset e Down = not_compatible e
+interface_reset e Up = not_compatible e
+interface_reset e (Ready tas) = begins_anew e None (sent_to e pdu.ResetAcknowledge)
 
 abbrev pub entry_of : ℕ → InitialUeMessage (List ℕ) → Entry (List ℕ)
 entry_of e m = record { station = e; enb_id = m.enb_id; nas = m.nas; tai = m.tai }
 
-abbrev pub entry_routed : Option ℕ → ℕ → StationState → InitialUeMessage (List ℕ) → Outcome
-entry_routed (Some slot) e state m = calling state (One slot (Initial (entry_of e m)))
-entry_routed None e state m = reaching state (table.One (stranger_id e m.enb_id) (Begins (entry_of e m)))
+abbrev pub entry_routed : Option ℕ → ℕ → InitialUeMessage (List ℕ) → Outcome
+entry_routed (Some slot) e m = goes_to (Subscriber slot (Initial (entry_of e m)))
+entry_routed None e m = goes_to (Beginner (stranger_id e m.enb_id) (entry_of e m))
 
 -- INITIAL UE MESSAGE, of a station that is set up
 abbrev pub enters : Network → List Profile → ℕ → StationState → InitialUeMessage (List ℕ) → Outcome
-enters n ps e Down m = not_compatible e Down
-enters n ps e Up m = not_compatible e Up
-enters n ps e (Ready tas) m = entry_routed (named_slot n ps m.nas m.s_tmsi) e (Ready tas) m
+enters n ps e Down m = not_compatible e
+enters n ps e Up m = not_compatible e
+enters n ps e (Ready tas) m = entry_routed (named_slot n ps m.nas m.s_tmsi) e m
 
 -- a message with an id of a slot; one that isn't provisioned is nobody's
-abbrev pub message_of_slot : Option ℕ → StationState → UeMessage (List ℕ) → Outcome
-message_of_slot (Some slot) state m = calling state (One slot (Message m))
-message_of_slot None state m = answered state (unknown m.body m)
+abbrev pub message_of_slot : Option ℕ → UeMessage (List ℕ) → Outcome
+message_of_slot (Some slot) m = goes_to (Subscriber slot (Message m))
+message_of_slot None m = answered (unknown m.body m)
 
-abbrev pub message_by_id : List Profile → StationState → UeMessage (List ℕ) → Outcome
-message_by_id ps state m = if is_of_slot m.mme_id then message_of_slot (slot_of_id m.mme_id ps) state m else reaching state (table.One m.mme_id (Receives m))
+abbrev pub message_by_id : List Profile → UeMessage (List ℕ) → Outcome
+message_by_id ps m = if is_of_slot m.mme_id then message_of_slot (slot_of_id m.mme_id ps) m else goes_to (Stranger m)
 
 -- a message with an MME UE id, of a station that is set up
 abbrev pub phone_message : List Profile → StationState → UeMessage (List ℕ) → Outcome
-phone_message ps Down m = not_compatible m.station Down
-phone_message ps Up m = not_compatible m.station Up
-phone_message ps (Ready tas) m = message_by_id ps (Ready tas) m
+phone_message ps Down m = not_compatible m.station
+phone_message ps Up m = not_compatible m.station
+phone_message ps (Ready tas) m = message_by_id ps m
 
 abbrev pub ue_message : ℕ → ℕ → ℕ → UeBody (List ℕ) → UeMessage (List ℕ)
 ue_message e mme_id enb_id body = record { station = e; mme_id = mme_id; enb_id = enb_id; body = body }
+
+-- the messages with an MME UE id that a station sends
+abbrev pub ue_message_in : ℕ → Pdu (List ℕ) → Option (UeMessage (List ℕ))
+ue_message_in e (pdu.UplinkNasTransport m) = Some (ue_message e m.mme_id m.enb_id (Uplink m.nas m.tai))
+ue_message_in e (pdu.NasNonDelivery m) = Some (ue_message e m.mme_id m.enb_id Notice)
+ue_message_in e (pdu.CapabilityInfo m) = Some (ue_message e m.mme_id m.enb_id Notice)
+ue_message_in e (pdu.ContextSetupResponse m) = Some (ue_message e m.mme_id m.enb_id Notice)
+ue_message_in e (pdu.ContextSetupFailure m) = Some (ue_message e m.mme_id m.enb_id ContextSetupFailure)
+ue_message_in e (pdu.ReleaseRequest m) = Some (ue_message e m.mme_id m.enb_id (ReleaseRequest m.cause))
+ue_message_in e (pdu.ReleaseComplete m) = Some (ue_message e m.mme_id m.enb_id ReleaseComplete)
+ue_message_in e (pdu.PathSwitchRequest m) = Some (ue_message e m.source_mme_id m.enb_id PathSwitch)
+ue_message_in e _ = None
+
+-- any other is one that an MME sends
+abbrev pub phone_message_if : List Profile → ℕ → StationState → Option (UeMessage (List ℕ)) → Outcome
+phone_message_if ps e state (Some m) = phone_message ps state m
+phone_message_if ps e state None = not_compatible e
 
 -- what a station that is not down makes of the message that it sends
 abbrev pub outcome_of_message : Network → List Profile → ℕ → StationState → Pdu (List ℕ) → Outcome
 outcome_of_message n ps e state (pdu.SetupRequest m) = station_set_up n e m.supported_tas
 outcome_of_message n ps e state (pdu.Reset m) = interface_reset e state
-outcome_of_message n ps e state (pdu.ErrorIndication m) = answered state []
-outcome_of_message n ps e state pdu.ResetAcknowledge = answered state []
+outcome_of_message n ps e state (pdu.ErrorIndication m) = answered []
+outcome_of_message n ps e state pdu.ResetAcknowledge = answered []
 outcome_of_message n ps e state (pdu.InitialUeMessage m) = enters n ps e state m
-outcome_of_message n ps e state (pdu.UplinkNasTransport m) = phone_message ps state (ue_message e m.mme_id m.enb_id (Uplink m.nas m.tai))
-outcome_of_message n ps e state (pdu.NasNonDelivery m) = phone_message ps state (ue_message e m.mme_id m.enb_id Notice)
-outcome_of_message n ps e state (pdu.CapabilityInfo m) = phone_message ps state (ue_message e m.mme_id m.enb_id Notice)
-outcome_of_message n ps e state (pdu.ContextSetupResponse m) = phone_message ps state (ue_message e m.mme_id m.enb_id Notice)
-outcome_of_message n ps e state (pdu.ContextSetupFailure m) = phone_message ps state (ue_message e m.mme_id m.enb_id ContextSetupFailure)
-outcome_of_message n ps e state (pdu.ReleaseRequest m) = phone_message ps state (ue_message e m.mme_id m.enb_id (ReleaseRequest m.cause))
-outcome_of_message n ps e state (pdu.ReleaseComplete m) = phone_message ps state (ue_message e m.mme_id m.enb_id ReleaseComplete)
-outcome_of_message n ps e state (pdu.PathSwitchRequest m) = phone_message ps state (ue_message e m.source_mme_id m.enb_id PathSwitch)
-outcome_of_message n ps e state (pdu.SetupResponse m) = not_compatible e state
-outcome_of_message n ps e state (pdu.SetupFailure m) = not_compatible e state
-outcome_of_message n ps e state (pdu.DownlinkNasTransport m) = not_compatible e state
-outcome_of_message n ps e state (pdu.ContextSetupRequest m) = not_compatible e state
-outcome_of_message n ps e state (pdu.ReleaseCommand m) = not_compatible e state
-outcome_of_message n ps e state (pdu.Paging m) = not_compatible e state
-outcome_of_message n ps e state (pdu.PathSwitchAcknowledge m) = not_compatible e state
-outcome_of_message n ps e state (pdu.PathSwitchFailure m) = not_compatible e state
+outcome_of_message n ps e state m = phone_message_if ps e state (ue_message_in e m)
 
 -- and of the octets
 abbrev pub outcome_of : Network → List Profile → ℕ → StationState → Result (Pdu (List ℕ)) S1apFault → Outcome
-outcome_of n ps e state (Err fault) = answered state (indicated e (cause_of fault))
+outcome_of n ps e state (Err fault) = answered (indicated e (cause_of fault))
 outcome_of n ps e state (Ok m) = outcome_of_message n ps e state m

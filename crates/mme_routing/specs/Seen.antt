@@ -1,27 +1,20 @@
 -- What functions of the code returned, without where octets lie in memory.
-use Rattle.std.specs.Prelude.{List, unwrap_or}
+use Rattle.std.specs.Prelude.{List}
 use Rattle.mme_vocabulary.specs.declared.stations.StationState.{StationState}
 use Rattle.mme_vocabulary.specs.Events.{entry_lists, item_of, message_lists}
-use Rattle.stranger_machine.specs.Machine.{Begins, Receives}
-use Rattle.stranger_machine.specs.Table.{Reach, Nobody, Each}
-use Rattle.stranger_machine.specs.Table as table
-use Rattle.mme_routing.specs.declared.calls.Calls.{Calls as CallsInCode}
-use Rattle.mme_routing.specs.declared.calls.Calls.TheVariants as code
-use Rattle.mme_routing.specs.declared.calls.Reach.{Reach as ReachInCode}
-use Rattle.mme_routing.specs.declared.calls.Reach.TheVariants as reaches
+use Rattle.mme_routing.specs.declared.destination.Destination.{Destination as DestinationInCode}
+use Rattle.mme_routing.specs.declared.destination.Destination.TheVariants as code
 use Rattle.mme_routing.specs.declared.outcome.Outcome.{Outcome as OutcomeInCode}
-use Rattle.mme_routing.specs.Outcomes.{Calls, NoOne, One, Everyone, Outcome}
+use Rattle.mme_routing.specs.Destinations.{Destination, Nobody, Subscriber, Beginner, Stranger, Everyone}
+use Rattle.mme_routing.specs.Outcomes.{Outcome}
 
-abbrev pub calls_of : CallsInCode → List StationState → Calls
-calls_of code.NoOne stations = NoOne
-calls_of (code.One slot event) stations = One slot (item_of event stations)
-calls_of (code.Everyone event) stations = Everyone (item_of event stations)
+-- data carries the stations
+abbrev pub destination_of : List StationState → DestinationInCode → Destination
+destination_of stations code.Nobody = Nobody
+destination_of stations (code.Subscriber slot event) = Subscriber slot (item_of event stations)
+destination_of stations (code.Beginner id m) = Beginner id (entry_lists m)
+destination_of stations (code.Stranger m) = Stranger (message_lists m)
+destination_of stations (code.Everyone notice) = Everyone notice
 
-abbrev pub reach_of : ReachInCode → Reach
-reach_of reaches.Nobody = Nobody
-reach_of (reaches.Begins id m) = table.One id (Begins (entry_lists m))
-reach_of (reaches.Receives m) = table.One m.mme_id (Receives (message_lists m))
-reach_of (reaches.Each notice) = Each notice
-
-abbrev pub seen_outcome : StationState → List StationState → OutcomeInCode → Outcome
-seen_outcome state stations h = record { state = unwrap_or h.state state; sent = h.sent; reach = reach_of h.reach; calls = calls_of h.calls stations }
+abbrev pub seen_outcome : List StationState → OutcomeInCode → Outcome
+seen_outcome stations h = record { state = h.state; sent = h.sent; destination = destination_of stations h.destination }

@@ -3,9 +3,9 @@
 #![tactic(auto)]
 
 mod answers;
-mod calls;
+mod destination;
 mod naming;
 mod outcome;
 
-pub use calls::{Calls, Reach, Summoned};
+pub use destination::Destination;
 pub use outcome::{Outcome, outcome_of};

@@ -1,16 +1,16 @@
-//! What a station that isn't down makes of the octets that it sends, and whom they call.
+//! What a station that isn't down makes of the octets that it sends, and where they go.
 
-ghost use Rattle.std.specs.Prelude.{◌≡◌, ◌≢◌, ◌^◌, ◌≤◌, List, [], unwrap_or, IfOk, IfErr, OnOk, Ok, Err};
+ghost use Rattle.std.specs.Prelude.{◌≡◌, ◌≢◌, ◌^◌, ◌≤◌, List, [], IfOk, OnOk, Ok, Err, option_map};
 ghost use Rattle.identity_slots.specs.Ids.{stranger_id};
 ghost use Rattle.s1ap_messages.specs.Pdus.{lists, decoded, initial_ue_message_lists};
 ghost use Rattle.s1ap_rows.specs.declared.fault.S1apFault.TheVariants as faults;
 ghost use Rattle.mme_vocabulary.specs.declared.stations.StationState.{StationState};
 ghost use Rattle.mme_vocabulary.specs.Events.{ue_body_lists, message_lists};
-ghost use Rattle.mme_routing.specs.Seen.{seen_outcome};
-ghost use Rattle.mme_routing.specs.Outcomes.{begins_anew, broadcasts, cause_of, entry_routed, enters, outcome_of, outcome_of_message, indicated, indication, not_compatible, interface_reset, answered, station_set_up, phone_message, message_by_id, message_of_slot, ue_message};
+ghost use Rattle.mme_routing.specs.Seen.{destination_of, seen_outcome};
+ghost use Rattle.mme_routing.specs.Outcomes.{begins_anew, broadcasts, cause_of, entry_routed, enters, goes_to, outcome_of, outcome_of_message, indicated, indication, not_compatible, interface_reset, answered, station_set_up, phone_message, phone_message_if, message_by_id, message_of_slot, ue_message, ue_message_in};
 
 use crate::answers::{cause_of, indication, setup_failure, setup_response};
-use crate::calls::{Calls, Reach};
+use crate::destination::Destination;
 use crate::naming::named_slot;
 use identity_slots::{AssociationId, Provision};
 use mme_vocabulary::{
@@ -22,39 +22,40 @@ use s1ap_messages::{InitialUeMessage, Pdu, S1apFault, S1apPdu, SetupRequest, dec
 use std::alloc::{AllocError, Global};
 use stranger_machine::{Notice, sent_to, unknown};
 
-/// The new state of the station, where it has one, what is sent for it, the strangers that are reached, and who is called.
+/// What comes of an event that isn't refused: the new state of its station, where it has one, what is sent for the station, and
+/// where the event goes.
 #[derive(Drop)]
 pub struct Outcome<'a> {
     pub state: Option<StationState>,
     pub sent: Answers,
-    pub reach: Reach<'a>,
-    pub calls: Calls<'a>,
+    pub destination: Destination<'a>,
 }
 
-fn answered<'a>(sent: Answers) -> Outcome<'a>
-    ensures { (state : StationState) (stations : List StationState) → seen_outcome state stations result ≡ answered state sent }
-{
-    Outcome {
-        state: None,
-        sent,
-        reach: Reach::Nobody,
-        calls: Calls::NoOne,
+impl<'a> Outcome<'a> {
+    /// Nothing but what is sent for the station.
+    pub fn answered(sent: Answers) -> Outcome<'a>
+        ensures { (stations : List StationState) → seen_outcome stations result ≡ answered sent }
+    {
+        Outcome {
+            state: None,
+            sent,
+            destination: Destination::Nobody,
+        }
     }
-}
 
-// The associations of a station end, with what is sent for it, and the state that it begins anew in, where that is another.
-fn begins_anew<'a>(
-    station: StationNumber,
-    state: Option<StationState>,
-    sent: Answers,
-) -> Outcome<'a>
-    ensures { (old : StationState) (stations : List StationState) → seen_outcome old stations result ≡ begins_anew station (unwrap_or state old) sent }
-{
-    Outcome {
-        state,
-        sent,
-        reach: Reach::Each(Notice::Gone(station)),
-        calls: Calls::Everyone(SoloEvent::StationGone(station)),
+    /// The associations of a station end, with what is sent for it, and the state that it begins anew in, where that is another.
+    pub fn begins_anew(
+        station: StationNumber,
+        state: Option<StationState>,
+        sent: Answers,
+    ) -> Outcome<'a>
+        ensures { (stations : List StationState) → seen_outcome stations result ≡ begins_anew station state sent }
+    {
+        Outcome {
+            state,
+            sent,
+            destination: Destination::Everyone(Notice::Gone(station)),
+        }
     }
 }
 
@@ -64,16 +65,16 @@ fn outcome_of_cause<'a>(
     station: StationNumber,
     cause: Option<Cause>,
 ) -> Result<Outcome<'a>, AllocError>
-    ensures { IfOk result (λ h. (state : StationState) (stations : List StationState) → seen_outcome state stations h ≡ answered state (indicated station cause)) }
+    ensures { IfOk result (λ h. (stations : List StationState) → seen_outcome stations h ≡ answered (indicated station cause)) }
 {
     match cause {
-        Some(cause) => Ok(answered(sent_to(alloc, station, &indication(cause))?)),
-        None => Ok(answered(Answers::new(alloc))),
+        Some(cause) => Ok(Outcome::answered(sent_to(alloc, station, &indication(cause))?)),
+        None => Ok(Outcome::answered(Answers::new(alloc))),
     }
 }
 
 fn not_compatible<'a>(alloc: Global, station: StationNumber) -> Result<Outcome<'a>, AllocError>
-    ensures { IfOk result (λ h. (state : StationState) (stations : List StationState) → seen_outcome state stations h ≡ not_compatible station state) }
+    ensures { IfOk result (λ h. (stations : List StationState) → seen_outcome stations h ≡ not_compatible station) }
 {
     let cause = Cause::Protocol(ProtocolCause::MessageNotCompatible);
     outcome_of_cause(alloc, station, Some(cause))
@@ -84,7 +85,7 @@ fn outcome_of_fault<'a>(
     station: StationNumber,
     fault: S1apFault,
 ) -> Result<Outcome<'a>, AllocError>
-    ensures rows { IfOk result (λ h. (state : StationState) (stations : List StationState) → seen_outcome state stations h ≡ answered state (indicated station (cause_of fault))) }
+    ensures rows { IfOk result (λ h. (stations : List StationState) → seen_outcome stations h ≡ answered (indicated station (cause_of fault))) }
     ensures other { OnOk result (fault ≢ faults.NoMemory) }
 {
     match fault {
@@ -106,7 +107,7 @@ fn station_set_up<'a>(
     station: StationNumber,
     request: SetupRequest<&[u8]>,
 ) -> Result<Outcome<'a>, AllocError>
-    ensures { IfOk result (λ h. (state : StationState) (stations : List StationState) → seen_outcome state stations h ≡ station_set_up network.now station request.entry.supported_tas) }
+    ensures { IfOk result (λ h. (stations : List StationState) → seen_outcome stations h ≡ station_set_up network.now station request.entry.supported_tas) }
 {
     let SetupRequest {
         station: _,
@@ -117,10 +118,10 @@ fn station_set_up<'a>(
     if broadcasts(network.plmn, supported_tas.as_slice()) {
         let sent = sent_to(alloc, station, &setup_response(alloc, network)?)?;
         let ready = StationState::Ready(supported_tas);
-        Ok(begins_anew(station, Some(ready), sent))
+        Ok(Outcome::begins_anew(station, Some(ready), sent))
     } else {
         let sent = sent_to(alloc, station, &setup_failure())?;
-        Ok(begins_anew(station, Some(StationState::Up), sent))
+        Ok(Outcome::begins_anew(station, Some(StationState::Up), sent))
     }
 }
 
@@ -129,12 +130,12 @@ fn interface_reset<'a>(
     station: StationNumber,
     state: &StationState,
 ) -> Result<Outcome<'a>, AllocError>
-    ensures { IfOk result (λ h. (stations : List StationState) → seen_outcome state.now stations h ≡ interface_reset station state.now) }
+    ensures { IfOk result (λ h. (stations : List StationState) → seen_outcome stations h ≡ interface_reset station state.now) }
 {
     match state {
         StationState::Ready(_) => {
             let sent = sent_to(alloc, station, &Pdu::ResetAcknowledge)?;
-            Ok(begins_anew(station, None, sent))
+            Ok(Outcome::begins_anew(station, None, sent))
         }
         StationState::Up | StationState::Down => not_compatible(alloc, station),
     }
@@ -155,7 +156,7 @@ fn enters<'a>(
     state: &StationState,
     message: InitialUeMessage<&'a [u8]>,
 ) -> Result<Outcome<'a>, AllocError>
-    ensures { IfOk result (λ h. (stations : List StationState) → seen_outcome state.now stations h
+    ensures { IfOk result (λ h. (stations : List StationState) → seen_outcome stations h
         ≡ enters network.now provision.now.profiles station state.now (initial_ue_message_lists message.entry)) }
 {
     match state {
@@ -171,16 +172,14 @@ fn enters<'a>(
                 Some(slot) => Ok(Outcome {
                     state: None,
                     sent: Answers::new(alloc),
-                    reach: Reach::Nobody,
-                    calls: Calls::One(slot, SoloEvent::Initial(entry)),
+                    destination: Destination::Subscriber(slot, SoloEvent::Initial(entry)),
                 }),
                 None => {
                     let id = stranger_id(station, message.enb_id);
                     Ok(Outcome {
                         state: None,
                         sent: Answers::new(alloc),
-                        reach: Reach::Begins(id, entry),
-                        calls: Calls::NoOne,
+                        destination: Destination::Beginner(id, entry),
                     })
                 }
             }
@@ -205,25 +204,22 @@ fn message_by_id<'a>(
     provision: &Provision,
     message: &UeMessage<&'a [u8]>,
 ) -> Result<Outcome<'a>, AllocError>
-    ensures { IfOk result (λ h. (state : StationState) (stations : List StationState) → seen_outcome state stations h
-        ≡ message_by_id provision.now.profiles state (message_lists message.now)) }
+    ensures { IfOk result (λ h. (stations : List StationState) → seen_outcome stations h ≡ message_by_id provision.now.profiles (message_lists message.now)) }
 {
     if !message.mme_id.is_of_slot() {
         return Ok(Outcome {
             state: None,
             sent: Answers::new(alloc),
-            reach: Reach::Receives(again(message)),
-            calls: Calls::NoOne,
+            destination: Destination::Stranger(again(message)),
         });
     }
     match provision.slot_of_association(message.mme_id) {
         Some(slot) => Ok(Outcome {
             state: None,
             sent: Answers::new(alloc),
-            reach: Reach::Nobody,
-            calls: Calls::One(slot, SoloEvent::Message(again(message))),
+            destination: Destination::Subscriber(slot, SoloEvent::Message(again(message))),
         }),
-        None => Ok(answered(unknown(alloc, message)?)),
+        None => Ok(Outcome::answered(unknown(alloc, message)?)),
     }
 }
 
@@ -233,7 +229,7 @@ fn phone_message<'a>(
     state: &StationState,
     message: &UeMessage<&'a [u8]>,
 ) -> Result<Outcome<'a>, AllocError>
-    ensures { IfOk result (λ h. (stations : List StationState) → seen_outcome state.now stations h
+    ensures { IfOk result (λ h. (stations : List StationState) → seen_outcome stations h
         ≡ phone_message provision.now.profiles state.now (message_lists message.now)) }
 {
     match state {
@@ -249,26 +245,50 @@ fn id_of(id: MmeUeId) -> AssociationId
     AssociationId::new(id.get() as u32)
 }
 
-// A message with an MME UE id.
-fn phone_message_of<'a>(
+// The message with an MME UE id that a station sends, where this is one.
+fn ue_message_in<'a>(station: StationNumber, message: &S1apPdu<'a>) -> Option<UeMessage<&'a [u8]>>
+    ensures { option_map message_lists result ≡ ue_message_in station (lists message.now) }
+{
+    let (mme_id, enb_id, body) = match message {
+        Pdu::UplinkNasTransport(m) => {
+            let (nas, tai) = (m.nas, m.tai);
+            (m.mme_id, m.enb_id, UeBody::Uplink { nas, tai })
+        }
+        Pdu::NasNonDelivery(m) => (m.mme_id, m.enb_id, UeBody::Notice),
+        Pdu::CapabilityInfo(m) => (m.mme_id, m.enb_id, UeBody::Notice),
+        Pdu::ContextSetupResponse(m) => (m.mme_id, m.enb_id, UeBody::Notice),
+        Pdu::ContextSetupFailure(m) => (m.mme_id, m.enb_id, UeBody::ContextSetupFailure),
+        Pdu::ReleaseRequest(m) => (
+            m.mme_id,
+            m.enb_id,
+            UeBody::ReleaseRequest { cause: m.cause },
+        ),
+        Pdu::ReleaseComplete(m) => (m.mme_id, m.enb_id, UeBody::ReleaseComplete),
+        Pdu::PathSwitchRequest(m) => (m.source_mme_id, m.enb_id, UeBody::PathSwitch),
+        _ => return None,
+    };
+    Some(UeMessage {
+        station,
+        mme_id: id_of(mme_id),
+        enb_id,
+        body,
+    })
+}
+
+fn phone_message_if<'a>(
     alloc: Global,
     provision: &Provision,
     station: StationNumber,
     state: &StationState,
-    mme_id: MmeUeId,
-    enb_id: EnbUeId,
-    body: &UeBody<&'a [u8]>,
+    message: &S1apPdu<'a>,
 ) -> Result<Outcome<'a>, AllocError>
-    ensures { IfOk result (λ h. (stations : List StationState) → seen_outcome state.now stations h
-        ≡ phone_message provision.now.profiles state.now (ue_message station mme_id enb_id (ue_body_lists body.now))) }
+    ensures { IfOk result (λ h. (stations : List StationState) → seen_outcome stations h
+        ≡ phone_message_if provision.now.profiles station state.now (ue_message_in station (lists message.now))) }
 {
-    let message = UeMessage {
-        station,
-        mme_id: id_of(mme_id),
-        enb_id,
-        body: body.again(),
-    };
-    phone_message(alloc, provision, state, &message)
+    match ue_message_in(station, message) {
+        Some(message) => phone_message(alloc, provision, state, &message),
+        None => not_compatible(alloc, station),
+    }
 }
 
 fn outcome_of_message<'a>(
@@ -279,90 +299,21 @@ fn outcome_of_message<'a>(
     state: &StationState,
     message: S1apPdu<'a>,
 ) -> Result<Outcome<'a>, AllocError>
-    ensures { IfOk result (λ h. (stations : List StationState) → seen_outcome state.now stations h
+    ensures { IfOk result (λ h. (stations : List StationState) → seen_outcome stations h
         ≡ outcome_of_message network.now provision.now.profiles station state.now (lists message.entry)) }
 {
     match message {
         Pdu::SetupRequest(m) => station_set_up(alloc, network, station, m),
         Pdu::Reset(_) => interface_reset(alloc, station, state),
-        Pdu::ErrorIndication(_) | Pdu::ResetAcknowledge => Ok(answered(Answers::new(alloc))),
+        Pdu::ErrorIndication(_) | Pdu::ResetAcknowledge => {
+            Ok(Outcome::answered(Answers::new(alloc)))
+        }
         Pdu::InitialUeMessage(m) => enters(alloc, network, provision, station, state, m),
-        Pdu::UplinkNasTransport(m) => {
-            let body = UeBody::Uplink {
-                nas: m.nas,
-                tai: m.tai,
-            };
-            phone_message_of(alloc, provision, station, state, m.mme_id, m.enb_id, &body)
-        }
-        Pdu::NasNonDelivery(m) => {
-            phone_message_of(
-                alloc,
-                provision,
-                station,
-                state,
-                m.mme_id,
-                m.enb_id,
-                &UeBody::Notice,
-            )
-        }
-        Pdu::CapabilityInfo(m) => {
-            phone_message_of(
-                alloc,
-                provision,
-                station,
-                state,
-                m.mme_id,
-                m.enb_id,
-                &UeBody::Notice,
-            )
-        }
-        Pdu::ContextSetupResponse(m) => {
-            phone_message_of(
-                alloc,
-                provision,
-                station,
-                state,
-                m.mme_id,
-                m.enb_id,
-                &UeBody::Notice,
-            )
-        }
-        Pdu::ContextSetupFailure(m) => {
-            let body = UeBody::ContextSetupFailure;
-            phone_message_of(alloc, provision, station, state, m.mme_id, m.enb_id, &body)
-        }
-        Pdu::ReleaseRequest(m) => {
-            let body = UeBody::ReleaseRequest { cause: m.cause };
-            phone_message_of(alloc, provision, station, state, m.mme_id, m.enb_id, &body)
-        }
-        Pdu::ReleaseComplete(m) => {
-            let body = UeBody::ReleaseComplete;
-            phone_message_of(alloc, provision, station, state, m.mme_id, m.enb_id, &body)
-        }
-        Pdu::PathSwitchRequest(m) => {
-            let body = UeBody::PathSwitch;
-            phone_message_of(
-                alloc,
-                provision,
-                station,
-                state,
-                m.source_mme_id,
-                m.enb_id,
-                &body,
-            )
-        }
-        Pdu::SetupResponse(_)
-        | Pdu::SetupFailure(_)
-        | Pdu::DownlinkNasTransport(_)
-        | Pdu::ContextSetupRequest(_)
-        | Pdu::ReleaseCommand(_)
-        | Pdu::Paging(_)
-        | Pdu::PathSwitchAcknowledge(_)
-        | Pdu::PathSwitchFailure(_) => not_compatible(alloc, station),
+        message => phone_message_if(alloc, provision, station, state, &message),
     }
 }
 
-/// What the octets make of a station in that state, and whom they call.
+/// What the octets make of a station in that state, and where they go.
 pub fn outcome_of<'a>(
     alloc: Global,
     network: &Network,
@@ -371,7 +322,7 @@ pub fn outcome_of<'a>(
     state: &StationState,
     octets: &'a [u8],
 ) -> Result<Outcome<'a>, AllocError>
-    ensures { IfOk result (λ h. (stations : List StationState) → seen_outcome state.now stations h
+    ensures { IfOk result (λ h. (stations : List StationState) → seen_outcome stations h
         ≡ outcome_of network.now provision.now.profiles station state.now (decoded octets.entry.now)) }
 {
     match decode(alloc, octets) {

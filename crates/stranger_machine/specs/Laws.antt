@@ -12,7 +12,7 @@ use Rattle.stranger_machine.specs.declared.turn.Notice.TheVariants.{Tick, Gone}
 use Rattle.identity_slots.specs.Ids.{station_in}
 use Rattle.stranger_machine.specs.Machine.{Input, Nothing, Notes, loses, notes, stranger_step, ticks}
 use Rattle.stranger_machine.specs.Turns.{closing, stays}
-use Rattle.stranger_machine.specs.Table.{Each, Nobody, One, Reach, input_at, known_id, known_if, noted, reached, stranger_at, with_stranger}
+use Rattle.stranger_machine.specs.Table.{known_id, known_if, noted, stranger_at, with_input, with_stranger}
 
 -- ---- one stranger
 
@@ -58,11 +58,8 @@ rising_with : (id : ℕ) (s : Option Stranger) (ks : List Known) → Rising know
 rising_with id None ks h = rising-without known_id id ks h
 rising_with id (Some s) ks h = rising-put known_id (record { id = id; stranger = s }) ks h
 
--- the ids rise behind every event
-pub rising_reached : (ps : List Profile) (r : Reach) (ks : List Known) → Rising known_id ks → Rising known_id (reached ps r ks)
-rising_reached ps Nobody ks h = h
-rising_reached ps (One id input) ks h = rising_with id (stranger_step ps id (stranger_at id ks) input).stranger ks h
-rising_reached ps (Each notice) ks h = rising_noted notice ks h
+pub rising_input : (ps : List Profile) (id : ℕ) (input : Input) (ks : List Known) → Rising known_id ks → Rising known_id (with_input ps id input ks)
+rising_input ps id input ks h = rising_with id (stranger_step ps id (stranger_at id ks) input).stranger ks h
 
 -- ---- what is at an id
 
@@ -109,9 +106,12 @@ one_by ps id n input ks true e =
     ap (λ m. (stranger_step ps m (stranger_at m ks) input).stranger) same
 one_by ps id n input ks false e = sym (ap (λ t. t.stranger) (at_nothing ps id (stranger_at id ks)))
 
--- each stranger goes as its own machine
-pub turned : (ps : List Profile) (id : ℕ) (r : Reach) (ks : List Known) → Rising known_id ks → stranger_at id (reached ps r ks) ≡ (stranger_step ps id (stranger_at id ks) (input_at r id)).stranger
-turned ps id Nobody ks h = sym (ap (λ t. t.stranger) (at_nothing ps id (stranger_at id ks)))
-turned ps id (One n input) ks h =
-    with_at id n (stranger_step ps n (stranger_at n ks) input).stranger ks h ∙ one_by ps id n input ks (n == id) refl
-turned ps id (Each notice) ks h = noted_at id notice ks h ∙ sym (ap (λ t. t.stranger) (at_notice ps id (stranger_at id ks) notice))
+-- where one takes an input, each goes as its own machine
+pub one_turned : (ps : List Profile) (id n : ℕ) (input : Input) (ks : List Known) → Rising known_id ks
+    → stranger_at id (with_input ps n input ks) ≡ (stranger_step ps id (stranger_at id ks) (if n == id then input else Nothing)).stranger
+one_turned ps id n input ks h = with_at id n (stranger_step ps n (stranger_at n ks) input).stranger ks h ∙ one_by ps id n input ks (n == id) refl
+
+-- and at a notice
+pub all_turned : (ps : List Profile) (id : ℕ) (notice : Notice) (ks : List Known) → Rising known_id ks
+    → stranger_at id (noted notice ks) ≡ (stranger_step ps id (stranger_at id ks) (Notes notice)).stranger
+all_turned ps id notice ks h = noted_at id notice ks h ∙ sym (ap (λ t. t.stranger) (at_notice ps id (stranger_at id ks) notice))
