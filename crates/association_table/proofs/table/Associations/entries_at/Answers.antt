@@ -11,8 +11,8 @@ loop-association-init c = record {
 pub loop-association-smaller : goal.loop-association-smaller
 loop-association-smaller c =
     let there = first_is c.args.station c.loop-association.least c.in-Some.association c.args.self.now.entries (sym c.first_at.ensures.value ∙ c.in-Some.is) in
-    let small = c.id_of.type_inv in
-    let is = c.id_of.ensures in
+    let small = c.association_id.type_inv in
+    let is = c.association_id.ensures in
     let wide = c.from-least.ensures in
     omega (arith, there.1, small, is, wide)
 
@@ -20,8 +20,8 @@ pub loop-association-preserved : goal.loop-association-preserved
 loop-association-preserved c =
     let a = c.in-Some.association in
     let es = c.args.self.now.entries in
-    let wide = c.from-least.ensures ∙ c.id_of.ensures in
-    let small = c.id_of.type_inv in
+    let wide = c.from-least.ensures ∙ c.association_id.ensures in
+    let small = c.association_id.type_inv in
     let next = from_some c.args.station c.loop-association.least a es c.first_at.ensures.order (sym c.first_at.ensures.value ∙ c.in-Some.is) in
     record {
       listed = ap (λ xs. xs ++ station_from c.args.station (c.from-least.result + 1) es) c.in_ok-push.ensures.items

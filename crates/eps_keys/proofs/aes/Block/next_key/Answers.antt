@@ -10,7 +10,7 @@ returns c =
     let k = c.self.inside in
     let w = λ (x : ℕ). xor_words (octets x) in
     let inner : octets c.xor_words.result ≡ xor_words (octets k.a) (rotated_and_substituted (octets k.d)) =
-    c.xor_words.ensures ∙ ap (w k.a) c.turned.ensures in
+    c.xor_words.ensures ∙ ap (w k.a) c.rotated_and_substituted.ensures in
     let first : octets c.xor_words-a.result ≡ xor_words (xor_words (octets k.a) (rotated_and_substituted (octets k.d))) (c.args.constant ∷ 0 ∷ 0 ∷ 0 ∷ []) =
     c.xor_words-a.ensures ∙ ap (λ (l : List ℕ). xor_words l (octets c.joined.result)) inner ∙ ap (xor_words (xor_words (octets k.a) (rotated_and_substituted (octets k.d)))) c.joined.ensures in
     let second : octets c.xor_words-b.result ≡ _ = c.xor_words-b.ensures ∙ ap (w k.b) first in

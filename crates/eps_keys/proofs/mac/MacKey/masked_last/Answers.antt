@@ -8,7 +8,7 @@ use Rattle.eps_keys.proofs.mac.MacKey.masked_last.Goals as goal
 pub returns-then-last-lt16 : goal.returns-then-last-lt16
 returns-then-last-lt16 c =
     let m = c.args.last.now in
-    c.xor.ensures ∙ ap (λ (b : List ℕ). xor_blocks b c.self.inside.subkey2) (c.from_octets.ensures ∙ c.padded.ensures)
+    c.xor.ensures ∙ ap (λ (b : List ℕ). xor_blocks b c.self.inside.subkey2) (c.from_octets.ensures ∙ c.padded_block.ensures)
     ∙ ap (xor_blocks (padded_block m)) (c.self.invariant.second ∙ ap subkey2 c.self.view_is)
     ∙ sym (masked_short c.args.self.now m c.if-last-lt16.true)
 
