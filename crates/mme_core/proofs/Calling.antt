@@ -9,8 +9,8 @@ use Rattle.emm_state.specs.Actions.{untouched}
 use Rattle.mme_vocabulary.specs.Events.{Item, Nothing}
 use Rattle.emm_machine.specs.Steps.{row, solo_step}
 use Rattle.emm_machine.specs.SubscriberView.{SubscriberView}
-use Rattle.mme_routing.specs.Outcomes.{One}
-use Rattle.mme_core.specs.World.{called, each_after, each_sent, slot_out, subscriber_after, subscriber_step}
+use Rattle.mme_routing.specs.Destinations.{for_one}
+use Rattle.mme_core.specs.World.{each_after, each_sent, slot_out, subscriber_after, subscriber_step}
 
 -- nothing reaches a subscriber: it stays, and sends nothing
 pub at_nothing : (s : Setting) (solo : Solo) → solo_step s solo Nothing ≡ untouched solo
@@ -69,26 +69,26 @@ sends_one n (suc k) items (x ∷ ws) w h only =
     ap (λ i. map (slot_out n) (subscriber_step x i).sent ++ each_sent items (n + 1) ws) here ∙ ap (λ xs. xs ++ each_sent items (n + 1) ws) (silent n x)
     ∙ sends_one (n + 1) k items ws w h (λ m ne. only m (λ same. ne (omega arith))) ∙ ap (λ m. map (slot_out m) (subscriber_step w (items m)).sent) at
 
-pub called_itself : (slot : ℕ) (item : Item) → called (One slot item) slot ≡ item
-called_itself slot item = grind (arith, nat_tests)
+pub item_itself : (slot : ℕ) (item : Item) → for_one slot item slot ≡ item
+item_itself slot item = grind (arith, nat_tests)
 
-pub called_other : (slot m : ℕ) (item : Item) → m ≢ slot → called (One slot item) m ≡ Nothing
-called_other slot m item ne = grind (arith, nat_tests)
+pub item_other : (slot m : ℕ) (item : Item) → m ≢ slot → for_one slot item m ≡ Nothing
+item_other slot m item ne = grind (arith, nat_tests)
 
 -- one slot alone is called: that slot takes its step
-pub after_call : (slot : ℕ) (item : Item) (ws : List SubscriberView) (w : SubscriberView) → slice_get ws slot ≡ Some w → set ws slot (subscriber_after w item) ≡ each_after (called (One slot item)) 0 ws
+pub after_call : (slot : ℕ) (item : Item) (ws : List SubscriberView) (w : SubscriberView) → slice_get ws slot ≡ Some w → set ws slot (subscriber_after w item) ≡ each_after (for_one slot item) 0 ws
 after_call slot item ws w h =
-    let items = called (One slot item) in
+    let items = for_one slot item in
     let at : 0 + slot ≡ slot = omega arith in
-    sym (after_one 0 slot items ws w h (λ m ne. called_other slot m item (λ same. ne (omega arith)))
-    ∙ ap (λ m. set ws slot (subscriber_after w (items m))) at ∙ ap (λ i. set ws slot (subscriber_after w i)) (called_itself slot item))
+    sym (after_one 0 slot items ws w h (λ m ne. item_other slot m item (λ same. ne (omega arith)))
+    ∙ ap (λ m. set ws slot (subscriber_after w (items m))) at ∙ ap (λ i. set ws slot (subscriber_after w i)) (item_itself slot item))
 
-pub sends_call : (slot : ℕ) (item : Item) (ws : List SubscriberView) (w : SubscriberView) → slice_get ws slot ≡ Some w → map (slot_out slot) (subscriber_step w item).sent ≡ each_sent (called (One slot item)) 0 ws
+pub sends_call : (slot : ℕ) (item : Item) (ws : List SubscriberView) (w : SubscriberView) → slice_get ws slot ≡ Some w → map (slot_out slot) (subscriber_step w item).sent ≡ each_sent (for_one slot item) 0 ws
 sends_call slot item ws w h =
-    let items = called (One slot item) in
+    let items = for_one slot item in
     let at : 0 + slot ≡ slot = omega arith in
-    sym (sends_one 0 slot items ws w h (λ m ne. called_other slot m item (λ same. ne (omega arith)))
-    ∙ ap (λ m. map (slot_out m) (subscriber_step w (items m)).sent) at ∙ ap (λ i. map (slot_out slot) (subscriber_step w i).sent) (called_itself slot item))
+    sym (sends_one 0 slot items ws w h (λ m ne. item_other slot m item (λ same. ne (omega arith)))
+    ∙ ap (λ m. map (slot_out m) (subscriber_step w (items m)).sent) at ∙ ap (λ i. map (slot_out slot) (subscriber_step w i).sent) (item_itself slot item))
 
 -- a slot that nobody has
 past_after : (slot n : ℕ) (items : ℕ → Item) (ws : List SubscriberView) → n + length ws ≤ slot → ((m : ℕ) → m ≢ slot → items m ≡ Nothing) → (each_after items n ws ≡ ws) × (each_sent items n ws ≡ [])
@@ -100,8 +100,8 @@ past_after slot n items (w ∷ ws) le only =
       ap (λ i. map (slot_out n) (subscriber_step w i).sent ++ each_sent items (n + 1) ws) here ∙ ap (λ xs. xs ++ each_sent items (n + 1) ws) (silent n w) ∙ rest.1,
     )
 
-pub call_past : (slot : ℕ) (item : Item) (ws : List SubscriberView) → length ws ≤ slot → (each_after (called (One slot item)) 0 ws ≡ ws) × (each_sent (called (One slot item)) 0 ws ≡ [])
-call_past slot item ws le = past_after slot 0 (called (One slot item)) ws (omega arith) (λ m ne. called_other slot m item ne)
+pub call_past : (slot : ℕ) (item : Item) (ws : List SubscriberView) → length ws ≤ slot → (each_after (for_one slot item) 0 ws ≡ ws) × (each_sent (for_one slot item) 0 ws ≡ [])
+call_past slot item ws le = past_after slot 0 (for_one slot item) ws (omega arith) (λ m ne. item_other slot m item ne)
 
 pub each_after_length : (items : ℕ → Item) (n : ℕ) (ws : List SubscriberView) → length (each_after items n ws) ≡ length ws
 each_after_length items n [] = refl

@@ -1,6 +1,6 @@
 -- Two events that name different slots may change places.
 use Rattle.std.proofs.Common.{◌≡◌, ◌≢◌, ◌^◌, ℕ, ◌+◌, List, [], ◌∷◌, ◌++◌, map, set, Bool, true, false, Option, Some, None, Result, Ok, Err, refl, sym, ◌∙◌, ap, ◌⊎◌, inl, inr}
-use Rattle.std.specs.Prelude.{if◌then◌else◌, nat_lt}
+use Rattle.std.specs.Prelude.{if◌then◌else◌, unwrap_or}
 use Rattle.std.proofs.lemmas.Bool.{cases_eq}
 use Rattle.std.proofs.lemmas.List.{set-get_or}
 use Rattle.s1ap_rows.specs.declared.fault.S1apFault.{S1apFault}
@@ -9,28 +9,26 @@ use Rattle.s1ap_messages.specs.declared.pdu.Pdu.TheVariants as pdu
 use Rattle.s1ap_messages.specs.declared.pdu.InitialUeMessage.{InitialUeMessage}
 use Rattle.s1ap_messages.specs.Pdus.{decoded}
 use Rattle.identity_slots.specs.declared.profile.Profile.{Profile}
+use Rattle.identity_slots.specs.Ids.{is_of_slot}
 use Rattle.identity_slots.specs.Provisioned.{slot_of_id, slot_of_imsi}
-use Rattle.mme_vocabulary.specs.declared.event.UeBody.TheVariants.{Uplink, ReleaseRequest, ReleaseComplete, ContextSetupFailure, PathSwitch, Notice}
 use Rattle.mme_vocabulary.specs.declared.event.UeMessage.{UeMessage}
 use Rattle.mme_vocabulary.specs.declared.stations.StationState.{StationState}
 use Rattle.mme_vocabulary.specs.declared.stations.StationState.TheVariants.{Down, Up, Ready}
 use Rattle.mme_vocabulary.specs.Stations.{station_at}
 use Rattle.mme_vocabulary.specs.Events.{Item, Nothing, Initial, Message, Data, Cancel}
 use Rattle.emm_machine.specs.SubscriberView.{SubscriberView}
-use Rattle.stranger_machine.specs.Machine.{Receives}
-use Rattle.stranger_machine.specs.Table.{Nobody, Reach, reached}
-use Rattle.stranger_machine.specs.Table as table
 use Rattle.stranger_machine.specs.Turns.{sent_to}
 use Rattle.mme_vocabulary.specs.declared.network.Network.{Network}
 use Rattle.mme_core.specs.declared.event.Event.{Event}
 use Rattle.mme_core.specs.declared.event.Event.TheVariants.{Up as UpEvent, Lost as LostEvent, In as InEvent, Tick as TickEvent, Data as DataEvent, Cancel as CancelEvent}
 use Rattle.mme_core.specs.declared.event.StepFault.TheVariants.{NotUp}
-use Rattle.mme_core.specs.Laws.{Exchanges, event_name, one_called}
+use Rattle.mme_core.specs.Laws.{Exchanges, event_name, slot_named}
 use Rattle.mme_routing.specs.Naming.{named_slot}
 use Rattle.mme_core.specs.Sight.{Sight}
-use Rattle.mme_routing.specs.Outcomes.{One, Outcome, broadcasts, begins_anew, calling, enters, entry_routed, entry_of, outcome_of, outcome_of_message, reaching, interface_reset, setup_failure, setup_response, phone_message, message_of_slot, ue_message}
-use Rattle.mme_core.specs.World.{World, called, calls_by, each_after, each_sent, event_fault, happens, if_down, if_known, items_of, world_moved, calls_if_known, outputs, reply, reply_of, sight_moved, slot_out, station_of, station_sent, strangers_in, strangers_sent, unless, subscriber_after, subscriber_step, world_after}
-use Rattle.mme_core.proofs.Calling.{at_nothing, called_other, stays}
+use Rattle.mme_routing.specs.Destinations.{Subscriber, Stranger, for_one, item_at, strangers_behind}
+use Rattle.mme_routing.specs.Outcomes.{Outcome, broadcasts, begins_anew, enters, entry_routed, entry_of, goes_to, outcome_of, outcome_of_message, interface_reset, setup_failure, setup_response, phone_message, phone_message_if, message_of_slot, ue_message_in}
+use Rattle.mme_core.specs.World.{World, each_after, each_sent, event_fault, happens, if_down, if_known, items_of, world_moved, to_slot, outputs, reply, reply_of, sight_moved, slot_out, station_of, station_sent, strangers_in, strangers_sent, unless, subscriber_after, subscriber_step, world_after}
+use Rattle.mme_core.proofs.Calling.{at_nothing, item_other, stays}
 
 -- ---- subscribers, each of whom one of two events has nothing for
 
@@ -61,99 +59,95 @@ each_sends_apart i j apart n (w ∷ ws) =
     ap (λ sent. map (slot_out n) sent ++ each_sent j (n + 1) (each_after i (n + 1) ws)) (sent_apart w (i n) (j n) (apart n))
     ∙ ap (λ outs. map (slot_out n) (subscriber_step w (j n)).sent ++ outs) (each_sends_apart i j apart (n + 1) ws)
 
-called_apart : (s t : ℕ) (i j : Item) → s ≢ t → (m : ℕ) → (called (One s i) m ≡ Nothing) ⊎ (called (One t j) m ≡ Nothing)
-called_apart s t i j ne m = elim (cases_eq m s) [
-  | inl same ↦ inr (called_other t m j (λ k. ne (sym same ∙ k)))
-  | inr other ↦ inl (called_other s m i other)
+apart_slots : (s t : ℕ) (i j : Item) → s ≢ t → (m : ℕ) → (for_one s i m ≡ Nothing) ⊎ (for_one t j m ≡ Nothing)
+apart_slots s t i j ne m = elim (cases_eq m s) [
+  | inl same ↦ inr (item_other t m j (λ k. ne (sym same ∙ k)))
+  | inr other ↦ inl (item_other s m i other)
 ]
 
--- ---- what a station outcome_of that names a slot
+-- ---- what a station sends that names a slot
 
--- the slot alone is called, and nothing else happens
+-- it goes to the slot, and nothing else happens
 record NamesIn (state : StationState) (h : Outcome) (slot : ℕ) : Type 0 where
   accepted : if_down state (Some NotUp) None ≡ None
-  same : h.state ≡ state
+  same : h.state ≡ None
   silent : h.sent ≡ []
-  nobody : h.reach ≡ Nobody
   item : Item
-  calls : h.calls ≡ One slot item
+  goes : h.destination ≡ Subscriber slot item
 
--- a station that is ready calls one
-called_in : (state : StationState) (n slot : ℕ) (item : Item) → if_down state (Some NotUp) None ≡ None → Some n ≡ Some slot → NamesIn state (calling state (One n item)) slot
-called_in state n slot item up is =
+-- a station that is ready names one
+named_in : (state : StationState) (n slot : ℕ) (item : Item) → if_down state (Some NotUp) None ≡ None → Some n ≡ Some slot → NamesIn state (goes_to (Subscriber n item)) slot
+named_in state n slot item up is =
     let same : n ≡ slot = cc in
-    record { accepted = up; same = refl; silent = refl; nobody = refl; item = item; calls = ap (λ k. One k item) same }
+    record { accepted = up; same = refl; silent = refl; item = item; goes = ap (λ k. Subscriber k item) same }
 
-named_set_up : (b : Bool) (x y : Outcome) (state : StationState) (slot : ℕ) → one_called x.calls ≡ None → one_called y.calls ≡ None
-    → one_called (if b then x else y).calls ≡ Some slot → NamesIn state (if b then x else y) slot
+named_set_up : (b : Bool) (x y : Outcome) (state : StationState) (slot : ℕ) → slot_named x.destination ≡ None → slot_named y.destination ≡ None
+    → slot_named (if b then x else y).destination ≡ Some slot → NamesIn state (if b then x else y) slot
 named_set_up true x y state slot h k is = cc
 named_set_up false x y state slot h k is = cc
 
-named_reset : (e : ℕ) (state : StationState) (slot : ℕ) → one_called (interface_reset e state).calls ≡ Some slot → NamesIn state (interface_reset e state) slot
+named_reset : (e : ℕ) (state : StationState) (slot : ℕ) → slot_named (interface_reset e state).destination ≡ Some slot → NamesIn state (interface_reset e state) slot
 named_reset e Down slot is = cc
 named_reset e Up slot is = cc
 named_reset e (Ready tas) slot is = cc
 
-named_entered : (o : Option ℕ) (e : ℕ) (state : StationState) (m : InitialUeMessage (List ℕ)) (slot : ℕ) → if_down state (Some NotUp) None ≡ None
-    → one_called (entry_routed o e state m).calls ≡ Some slot → NamesIn state (entry_routed o e state m) slot
-named_entered None e state m slot up is = cc
-named_entered (Some n) e state m slot up is = called_in state n slot (Initial (entry_of e m)) up is
+named_entry : (o : Option ℕ) (e : ℕ) (state : StationState) (m : InitialUeMessage (List ℕ)) (slot : ℕ) → if_down state (Some NotUp) None ≡ None
+    → slot_named (entry_routed o e m).destination ≡ Some slot → NamesIn state (entry_routed o e m) slot
+named_entry None e state m slot up is = cc
+named_entry (Some n) e state m slot up is = named_in state n slot (Initial (entry_of e m)) up is
 
 named_enters : (n : Network) (ps : List Profile) (e : ℕ) (state : StationState) (m : InitialUeMessage (List ℕ)) (slot : ℕ)
-    → one_called (enters n ps e state m).calls ≡ Some slot → NamesIn state (enters n ps e state m) slot
+    → slot_named (enters n ps e state m).destination ≡ Some slot → NamesIn state (enters n ps e state m) slot
 named_enters n ps e Down m slot is = cc
 named_enters n ps e Up m slot is = cc
-named_enters n ps e (Ready tas) m slot is = named_entered (named_slot n ps m.nas m.s_tmsi) e (Ready tas) m slot refl is
+named_enters n ps e (Ready tas) m slot is = named_entry (named_slot n ps m.nas m.s_tmsi) e (Ready tas) m slot refl is
 
-named_told : (b : Bool) (o : Option ℕ) (r : Outcome) (state : StationState) (m : UeMessage (List ℕ)) (slot : ℕ) → if_down state (Some NotUp) None ≡ None → one_called r.calls ≡ None
-    → one_called (if b then message_of_slot o state m else r).calls ≡ Some slot → NamesIn state (if b then message_of_slot o state m else r) slot
-named_told true (Some n) r state m slot up none is = called_in state n slot (Message m) up is
-named_told true None r state m slot up none is = cc
-named_told false o r state m slot up none is = cc
+named_by_slot : (b : Bool) (o : Option ℕ) (r : Outcome) (state : StationState) (m : UeMessage (List ℕ)) (slot : ℕ) → if_down state (Some NotUp) None ≡ None → slot_named r.destination ≡ None
+    → slot_named (if b then message_of_slot o m else r).destination ≡ Some slot → NamesIn state (if b then message_of_slot o m else r) slot
+named_by_slot true (Some n) r state m slot up none is = named_in state n slot (Message m) up is
+named_by_slot true None r state m slot up none is = cc
+named_by_slot false o r state m slot up none is = cc
 
-named_tells : (ps : List Profile) (state : StationState) (m : UeMessage (List ℕ)) (slot : ℕ) → one_called (phone_message ps state m).calls ≡ Some slot → NamesIn state (phone_message ps state m) slot
-named_tells ps Down m slot is = cc
-named_tells ps Up m slot is = cc
-named_tells ps (Ready tas) m slot is =
-    named_told (nat_lt m.mme_id (2 ^ 31)) (slot_of_id m.mme_id ps) (reaching (Ready tas) (table.One m.mme_id (Receives m))) (Ready tas) m slot refl refl is
+named_phone : (ps : List Profile) (state : StationState) (m : UeMessage (List ℕ)) (slot : ℕ) → slot_named (phone_message ps state m).destination ≡ Some slot → NamesIn state (phone_message ps state m) slot
+named_phone ps Down m slot is = cc
+named_phone ps Up m slot is = cc
+named_phone ps (Ready tas) m slot is = named_by_slot (is_of_slot m.mme_id) (slot_of_id m.mme_id ps) (goes_to (Stranger m)) (Ready tas) m slot refl refl is
+
+named_phone_if : (ps : List Profile) (e : ℕ) (state : StationState) (o : Option (UeMessage (List ℕ))) (slot : ℕ)
+    → slot_named (phone_message_if ps e state o).destination ≡ Some slot → NamesIn state (phone_message_if ps e state o) slot
+named_phone_if ps e state (Some m) slot is = named_phone ps state m slot is
+named_phone_if ps e state None slot is = cc
 
 named_message : (n : Network) (ps : List Profile) (e : ℕ) (state : StationState) (m : Pdu (List ℕ)) (slot : ℕ)
-    → one_called (outcome_of_message n ps e state m).calls ≡ Some slot → NamesIn state (outcome_of_message n ps e state m) slot
+    → slot_named (outcome_of_message n ps e state m).destination ≡ Some slot → NamesIn state (outcome_of_message n ps e state m) slot
 named_message n ps e state (pdu.SetupRequest m) slot is =
-    named_set_up (broadcasts n.plmn m.supported_tas) (begins_anew e (Ready m.supported_tas) (sent_to e (setup_response n))) (begins_anew e Up (sent_to e setup_failure)) state slot refl refl is
+    named_set_up (broadcasts n.plmn m.supported_tas) (begins_anew e (Some (Ready m.supported_tas)) (sent_to e (setup_response n))) (begins_anew e (Some Up) (sent_to e setup_failure)) state slot refl refl is
 named_message n ps e state (pdu.Reset m) slot is = named_reset e state slot is
+named_message n ps e state (pdu.ErrorIndication m) slot is = cc
+named_message n ps e state pdu.ResetAcknowledge slot is = cc
 named_message n ps e state (pdu.InitialUeMessage m) slot is = named_enters n ps e state m slot is
-named_message n ps e state (pdu.UplinkNasTransport m) slot is = named_tells ps state (ue_message e m.mme_id m.enb_id (Uplink m.nas m.tai)) slot is
-named_message n ps e state (pdu.NasNonDelivery m) slot is = named_tells ps state (ue_message e m.mme_id m.enb_id Notice) slot is
-named_message n ps e state (pdu.CapabilityInfo m) slot is = named_tells ps state (ue_message e m.mme_id m.enb_id Notice) slot is
-named_message n ps e state (pdu.ContextSetupResponse m) slot is = named_tells ps state (ue_message e m.mme_id m.enb_id Notice) slot is
-named_message n ps e state (pdu.ContextSetupFailure m) slot is = named_tells ps state (ue_message e m.mme_id m.enb_id ContextSetupFailure) slot is
-named_message n ps e state (pdu.ReleaseRequest m) slot is = named_tells ps state (ue_message e m.mme_id m.enb_id (ReleaseRequest m.cause)) slot is
-named_message n ps e state (pdu.ReleaseComplete m) slot is = named_tells ps state (ue_message e m.mme_id m.enb_id ReleaseComplete) slot is
-named_message n ps e state (pdu.PathSwitchRequest m) slot is = named_tells ps state (ue_message e m.source_mme_id m.enb_id PathSwitch) slot is
-named_message n ps e state m slot is = cc
+named_message n ps e state m slot is = named_phone_if ps e state (ue_message_in e m) slot is
 
 named_heard : (n : Network) (ps : List Profile) (e : ℕ) (state : StationState) (r : Result (Pdu (List ℕ)) S1apFault) (slot : ℕ)
-    → one_called (outcome_of n ps e state r).calls ≡ Some slot → NamesIn state (outcome_of n ps e state r) slot
+    → slot_named (outcome_of n ps e state r).destination ≡ Some slot → NamesIn state (outcome_of n ps e state r) slot
 named_heard n ps e state (Err fault) slot is = cc
 named_heard n ps e state (Ok m) slot is = named_message n ps e state m slot is
 
 -- ---- an event that names a slot
 
--- it is accepted, calls the slot alone, and nothing else happens
+-- it is accepted, goes to the slot alone, and nothing else happens
 record Names (s : Sight) (event : Event) (slot : ℕ) : Type 0 where
   accepted : event_fault s event ≡ None
   same : sight_moved s event ≡ s
   silent : (happens s event).sent ≡ []
-  nobody : (happens s event).reach ≡ Nobody
   item : Item
-  calls : (happens s event).calls ≡ One slot item
+  goes : (happens s event).destination ≡ Subscriber slot item
 
-called_if : (o : Option ℕ) (item : Item) (slot : ℕ) → one_called (calls_if_known o item) ≡ Some slot → (if_known o ≡ None) × (calls_if_known o item ≡ One slot item)
-called_if None item slot is = absurd cc
-called_if (Some n) item slot is =
+named_if : (o : Option ℕ) (item : Item) (slot : ℕ) → slot_named (to_slot o item) ≡ Some slot → (if_known o ≡ None) × (to_slot o item ≡ Subscriber slot item)
+named_if None item slot is = absurd cc
+named_if (Some n) item slot is =
     let same : n ≡ slot = cc in
-    (refl, ap (λ k. One k item) same)
+    (refl, ap (λ k. Subscriber k item) same)
 
 names : (s : Sight) (event : Event) (slot : ℕ) → event_name s event ≡ Some slot → Names s event slot
 unfolding happens
@@ -164,56 +158,54 @@ names s (InEvent e octets) slot is =
     record {
       accepted = n.accepted;
       silent = n.silent;
-      nobody = n.nobody;
       item = n.item;
-      calls = n.calls;
+      goes = n.goes;
       same = ap (λ (stations : List StationState). record { config = s.config; clock = s.clock; stations = stations; profiles = s.profiles })
-          (ap (λ state. set s.stations e state) n.same ∙ set-get_or s.stations e Down);
+          (ap (λ state. set s.stations e (unwrap_or state (station_at s.stations e))) n.same ∙ set-get_or s.stations e Down);
     }
 names s TickEvent slot is = cc
 names s (DataEvent imsi) slot is =
-    let n = called_if (slot_of_imsi imsi s.profiles) (Data s.stations) slot is in
-    record { accepted = n.0; same = refl; silent = refl; nobody = refl; item = Data s.stations; calls = n.1 }
+    let n = named_if (slot_of_imsi imsi s.profiles) (Data s.stations) slot is in
+    record { accepted = n.0; same = refl; silent = refl; item = Data s.stations; goes = n.1 }
 names s (CancelEvent imsi) slot is =
-    let n = called_if (slot_of_imsi imsi s.profiles) Cancel slot is in
-    record { accepted = n.0; same = refl; silent = refl; nobody = refl; item = Cancel; calls = n.1 }
+    let n = named_if (slot_of_imsi imsi s.profiles) Cancel slot is in
+    record { accepted = n.0; same = refl; silent = refl; item = Cancel; goes = n.1 }
 
 -- ---- the MME at such an event
 
-named_items : (w : World) (event : Event) (slot : ℕ) (n : Names w.sight event slot) → items_of w.sight (strangers_in w) event ≡ called (One slot n.item)
-named_items w event slot n =
-    ap (λ r. called (calls_by r (happens w.sight event).calls w.sight.profiles (strangers_in w))) n.nobody ∙ ap called n.calls
+named_items : (w : World) (event : Event) (slot : ℕ) (n : Names w.sight event slot) → items_of w.sight (strangers_in w) event ≡ for_one slot n.item
+named_items w event slot n = ap (λ d. item_at d w.sight.profiles (strangers_in w)) n.goes
 
 named_after : (w : World) (event : Event) (slot : ℕ) (n : Names w.sight event slot)
-    → world_after w event ≡ record { sight = w.sight; strangers = w.strangers; subscribers = each_after (called (One slot n.item)) 0 w.subscribers }
+    → world_after w event ≡ record { sight = w.sight; strangers = w.strangers; subscribers = each_after (for_one slot n.item) 0 w.subscribers }
 named_after w event slot n =
     let each = each_after (items_of w.sight (strangers_in w) event) 0 w.subscribers in
     ap (λ o. unless o w (world_moved w event)) n.accepted
-    ∙ ap (λ (s : Sight). record { sight = s; strangers = reached w.sight.profiles (happens w.sight event).reach w.strangers; subscribers = each }) n.same
-    ∙ ap (λ r. record { sight = w.sight; strangers = reached w.sight.profiles r w.strangers; subscribers = each }) n.nobody
+    ∙ ap (λ (s : Sight). record { sight = s; strangers = strangers_behind w.sight.profiles (happens w.sight event).destination w.strangers; subscribers = each }) n.same
+    ∙ ap (λ d. record { sight = w.sight; strangers = strangers_behind w.sight.profiles d w.strangers; subscribers = each }) n.goes
     ∙ ap (λ items. record { sight = w.sight; strangers = w.strangers; subscribers = each_after items 0 w.subscribers }) (named_items w event slot n)
 
 nothing_said : (o : Option ℕ) → station_sent o [] ≡ []
 nothing_said None = refl
 nothing_said (Some e) = refl
 
-named_reply : (w : World) (event : Event) (slot : ℕ) (n : Names w.sight event slot) → reply w event ≡ Ok (each_sent (called (One slot n.item)) 0 w.subscribers)
+named_reply : (w : World) (event : Event) (slot : ℕ) (n : Names w.sight event slot) → reply w event ≡ Ok (each_sent (for_one slot n.item) 0 w.subscribers)
 named_reply w event slot n =
-    let others = strangers_sent w.sight.profiles (happens w.sight event).reach w.strangers in
+    let others = strangers_sent w.sight.profiles (happens w.sight event).destination w.strangers in
     let each = each_sent (items_of w.sight (strangers_in w) event) 0 w.subscribers in
     ap (λ o. reply_of o (outputs w event)) n.accepted
     ∙ ap (λ sent. Ok (station_sent (station_of event) sent ++ (others ++ each))) n.silent
     ∙ ap (λ outs. Ok (outs ++ (others ++ each))) (nothing_said (station_of event))
-    ∙ ap (λ r. Ok (strangers_sent w.sight.profiles r w.strangers ++ each)) n.nobody
+    ∙ ap (λ d. Ok (strangers_sent w.sight.profiles d w.strangers ++ each)) n.goes
     ∙ ap (λ items. Ok (each_sent items 0 w.subscribers)) (named_items w event slot n)
 
 exchanged : (w : World) (a b : Event) (s t : ℕ) → Names w.sight a s → Names w.sight b t → s ≢ t
     → (world_after (world_after w a) b ≡ world_after (world_after w b) a) × (reply (world_after w a) b ≡ reply w b) × (reply (world_after w b) a ≡ reply w a)
 exchanged w a b s t p q ne =
-    let i = called (One s p.item) in
-    let j = called (One t q.item) in
-    let apart = called_apart s t p.item q.item ne in
-    let back = called_apart t s q.item p.item (λ same. ne (sym same)) in
+    let i = for_one s p.item in
+    let j = for_one t q.item in
+    let apart = apart_slots s t p.item q.item ne in
+    let back = apart_slots t s q.item p.item (λ same. ne (sym same)) in
     let first : World = record { sight = w.sight; strangers = w.strangers; subscribers = each_after i 0 w.subscribers } in
     let second : World = record { sight = w.sight; strangers = w.strangers; subscribers = each_after j 0 w.subscribers } in (
       ap (λ v. world_after v b) (named_after w a s p) ∙ named_after first b t q

@@ -7,8 +7,10 @@ use Rattle.identity_slots.specs.declared.profile.Profile.{Profile}
 use Rattle.ordered_lists.specs.Ordered.{AllOver, Rising}
 use Rattle.stranger_machine.specs.declared.table.Known.{Known}
 use Rattle.stranger_machine.specs.declared.turn.Notice.{Notice}
-use Rattle.stranger_machine.specs.Machine.{notes, stranger_step}
-use Rattle.stranger_machine.specs.Table.{Reach, Nobody, One, Each, known_id, stranger_at}
+use Rattle.stranger_machine.specs.Machine.{Input, Begins, Receives, notes, stranger_step}
+use Rattle.stranger_machine.specs.Table.{known_id, stranger_at}
+use Rattle.mme_routing.specs.Destinations.{Destination}
+use Rattle.mme_routing.specs.Destinations as to
 use Rattle.mme_core.proofs.Turns.{rising_once}
 use Rattle.mme_core.specs.declared.event.Event.{Event}
 use Rattle.mme_core.specs.declared.event.StepFault.{StepFault}
@@ -17,7 +19,7 @@ use Rattle.mme_core.specs.declared.out.Out.{Out}
 use Rattle.mme_core.specs.declared.out.Owner.{Owner}
 use Rattle.mme_core.specs.declared.out.Owner.TheVariants.{Station, Stranger, Subscriber}
 use Rattle.mme_core.specs.Projection.{AllFrom, AllInOrder, AreInOrder, IsNotBehind}
-use Rattle.mme_core.specs.World.{World, each_known, each_sent, event_fault, replies_given, happens, items_of, outputs, owner_out, replies, reply_of, slot_out, station_of, station_sent, stranger_out, strangers_in, strangers_sent, subscriber_step, world_after}
+use Rattle.mme_core.specs.World.{World, each_known, each_sent, event_fault, replies_given, happens, input_sent, items_of, outputs, owner_out, replies, reply_of, slot_out, station_of, station_sent, stranger_out, strangers_in, strangers_sent, subscriber_step, world_after}
 
 reaches_itself : (o : Owner) → IsNotBehind o o
 reaches_itself (Station a) = omega arith
@@ -97,20 +99,35 @@ all_known p notice (k ∷ ks) r =
     let own = (notes k.id (Some k.stranger) notice).sent in
     from_append p (map (stranger_out k.id) own) (each_known notice ks) (from_own p (Stranger k.id) own (r k.id)) (all_known p notice ks r)
 
-order_strangers : (ps : List Profile) (r : Reach) (ks : List Known) → Rising known_id ks → AreInOrder (strangers_sent ps r ks)
-order_strangers ps Nobody ks h = tt
-order_strangers ps (One id input) ks h = order_own (Stranger id) (stranger_step ps id (stranger_at id ks) input).sent
-order_strangers ps (Each notice) ks h = order_known notice ks h
+order_input : (ps : List Profile) (id : ℕ) (input : Input) (ks : List Known) → AreInOrder (input_sent ps id input ks)
+order_input ps id input ks = order_own (Stranger id) (stranger_step ps id (stranger_at id ks) input).sent
 
-strangers_before : (ps : List Profile) (r : Reach) (ks : List Known) (ys : List Out) → ((id : ℕ) → AllFrom (Stranger id) ys) → AllBefore (strangers_sent ps r ks) ys
-strangers_before ps Nobody ks ys f = tt
-strangers_before ps (One id input) ks ys f = before_own (Stranger id) (stranger_step ps id (stranger_at id ks) input).sent ys (f id)
-strangers_before ps (Each notice) ks ys f = known_before notice ks ys f
+input_before : (ps : List Profile) (id : ℕ) (input : Input) (ks : List Known) (ys : List Out) → AllFrom (Stranger id) ys → AllBefore (input_sent ps id input ks) ys
+input_before ps id input ks ys f = before_own (Stranger id) (stranger_step ps id (stranger_at id ks) input).sent ys f
 
-from_strangers : (p : Owner) (ps : List Profile) (r : Reach) (ks : List Known) → ((m : ℕ) → IsNotBehind p (Stranger m)) → AllFrom p (strangers_sent ps r ks)
-from_strangers p ps Nobody ks f = tt
-from_strangers p ps (One id input) ks f = from_own p (Stranger id) (stranger_step ps id (stranger_at id ks) input).sent (f id)
-from_strangers p ps (Each notice) ks f = all_known p notice ks f
+from_input : (p : Owner) (ps : List Profile) (id : ℕ) (input : Input) (ks : List Known) → IsNotBehind p (Stranger id) → AllFrom p (input_sent ps id input ks)
+from_input p ps id input ks f = from_own p (Stranger id) (stranger_step ps id (stranger_at id ks) input).sent f
+
+order_strangers : (ps : List Profile) (d : Destination) (ks : List Known) → Rising known_id ks → AreInOrder (strangers_sent ps d ks)
+order_strangers ps to.Nobody ks h = tt
+order_strangers ps (to.Subscriber n item) ks h = tt
+order_strangers ps (to.Beginner id m) ks h = order_input ps id (Begins m) ks
+order_strangers ps (to.Stranger m) ks h = order_input ps m.mme_id (Receives m) ks
+order_strangers ps (to.Everyone notice) ks h = order_known notice ks h
+
+strangers_before : (ps : List Profile) (d : Destination) (ks : List Known) (ys : List Out) → ((id : ℕ) → AllFrom (Stranger id) ys) → AllBefore (strangers_sent ps d ks) ys
+strangers_before ps to.Nobody ks ys f = tt
+strangers_before ps (to.Subscriber n item) ks ys f = tt
+strangers_before ps (to.Beginner id m) ks ys f = input_before ps id (Begins m) ks ys (f id)
+strangers_before ps (to.Stranger m) ks ys f = input_before ps m.mme_id (Receives m) ks ys (f m.mme_id)
+strangers_before ps (to.Everyone notice) ks ys f = known_before notice ks ys f
+
+from_strangers : (p : Owner) (ps : List Profile) (d : Destination) (ks : List Known) → ((m : ℕ) → IsNotBehind p (Stranger m)) → AllFrom p (strangers_sent ps d ks)
+from_strangers p ps to.Nobody ks f = tt
+from_strangers p ps (to.Subscriber n item) ks f = tt
+from_strangers p ps (to.Beginner id m) ks f = from_input p ps id (Begins m) ks (f id)
+from_strangers p ps (to.Stranger m) ks f = from_input p ps m.mme_id (Receives m) ks (f m.mme_id)
+from_strangers p ps (to.Everyone notice) ks f = all_known p notice ks f
 
 -- ---- a station
 
@@ -124,18 +141,18 @@ before_station (Some e) sent ys f = before_own (Station e) sent ys (f e)
 
 -- ---- the whole output
 
-pub parts_order : (o : Option ℕ) (sent : List Answer) (ps : List Profile) (r : Reach) (ks : List Known) (items : ℕ → Item) (ws : List SubscriberView) → Rising known_id ks
-    → AreInOrder (station_sent o sent ++ (strangers_sent ps r ks ++ each_sent items 0 ws))
-parts_order o sent ps r ks items ws h =
-    let others = strangers_sent ps r ks in
+pub parts_order : (o : Option ℕ) (sent : List Answer) (ps : List Profile) (d : Destination) (ks : List Known) (items : ℕ → Item) (ws : List SubscriberView) → Rising known_id ks
+    → AreInOrder (station_sent o sent ++ (strangers_sent ps d ks ++ each_sent items 0 ws))
+parts_order o sent ps d ks items ws h =
+    let others = strangers_sent ps d ks in
     let each = each_sent items 0 ws in
     order_append (station_sent o sent) (others ++ each) (order_station o sent)
-    (order_append others each (order_strangers ps r ks h) (order_each items 0 ws) (strangers_before ps r ks each (λ id. from_each (Stranger id) items 0 ws (λ m le. tt))))
+    (order_append others each (order_strangers ps d ks h) (order_each items 0 ws) (strangers_before ps d ks each (λ id. from_each (Stranger id) items 0 ws (λ m le. tt))))
     (before_station o sent (others ++ each)
-    (λ n. from_append (Station n) others each (from_strangers (Station n) ps r ks (λ m. tt)) (from_each (Station n) items 0 ws (λ m le. tt))))
+    (λ n. from_append (Station n) others each (from_strangers (Station n) ps d ks (λ m. tt)) (from_each (Station n) items 0 ws (λ m le. tt))))
 
 pub output_order : (w : World) (e : Event) → Rising known_id w.strangers → AreInOrder (outputs w e)
-output_order w e h = parts_order (station_of e) (happens w.sight e).sent w.sight.profiles (happens w.sight e).reach w.strangers (items_of w.sight (strangers_in w) e) w.subscribers h
+output_order w e h = parts_order (station_of e) (happens w.sight e).sent w.sight.profiles (happens w.sight e).destination w.strangers (items_of w.sight (strangers_in w) e) w.subscribers h
 
 -- ---- a list of replies
 

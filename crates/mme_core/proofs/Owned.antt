@@ -10,14 +10,16 @@ use Rattle.mme_vocabulary.specs.Events.{Item}
 use Rattle.emm_machine.specs.SubscriberView.{SubscriberView}
 use Rattle.stranger_machine.specs.declared.table.Known.{Known}
 use Rattle.stranger_machine.specs.declared.turn.Notice.{Notice}
-use Rattle.stranger_machine.specs.Machine.{Input, Nothing, notes, stranger_step}
-use Rattle.stranger_machine.specs.Table.{Reach, Nobody, One, Each, input_at, known_id, stranger_at}
+use Rattle.stranger_machine.specs.Machine.{Input, Begins, Nothing, Receives, notes, stranger_step}
+use Rattle.stranger_machine.specs.Table.{known_id, stranger_at}
+use Rattle.mme_routing.specs.Destinations.{Destination, input_for}
+use Rattle.mme_routing.specs.Destinations as to
 use Rattle.stranger_machine.specs.Laws.{at_nothing, at_notice, closed_notes}
 use Rattle.mme_core.specs.declared.out.Out.{Out}
 use Rattle.mme_core.specs.declared.out.Owner.{Owner}
 use Rattle.mme_core.specs.declared.out.Owner.TheVariants.{Station, Stranger, Subscriber}
 use Rattle.mme_core.specs.Projection.{answer_told, is_slot, is_station, is_stranger, own_told, owned_by, told_of}
-use Rattle.mme_core.specs.World.{each_known, each_sent, owner_out, slot_out, station_sent, stranger_out, strangers_sent, subscriber_step}
+use Rattle.mme_core.specs.World.{each_known, each_sent, input_sent, owner_out, slot_out, station_sent, stranger_out, strangers_sent, subscriber_step}
 
 append_if : (b : Bool) (o : Out) (xs ys zs : List Out) → map told_of zs ≡ map told_of xs ++ map told_of ys
     → map told_of (if b then o ∷ zs else zs) ≡ map told_of (if b then o ∷ xs else xs) ++ map told_of ys
@@ -62,10 +64,15 @@ no_known own notice (k ∷ ks) h =
     owned_second own (map (stranger_out k.id) (notes k.id (Some k.stranger) notice).sent) (each_known notice ks) (owned_none own (Stranger k.id) (notes k.id (Some k.stranger) notice).sent (h k.id))
     ∙ no_known own notice ks h
 
-pub no_stranger : (own : Owner → Bool) (ps : List Profile) (r : Reach) (ks : List Known) → ((id : ℕ) → own (Stranger id) ≡ false) → owned_by own (strangers_sent ps r ks) ≡ []
-no_stranger own ps Nobody ks h = refl
-no_stranger own ps (One id input) ks h = owned_none own (Stranger id) (stranger_step ps id (stranger_at id ks) input).sent (h id)
-no_stranger own ps (Each notice) ks h = no_known own notice ks h
+no_input : (own : Owner → Bool) (ps : List Profile) (id : ℕ) (input : Input) (ks : List Known) → own (Stranger id) ≡ false → owned_by own (input_sent ps id input ks) ≡ []
+no_input own ps id input ks h = owned_none own (Stranger id) (stranger_step ps id (stranger_at id ks) input).sent h
+
+pub no_stranger : (own : Owner → Bool) (ps : List Profile) (d : Destination) (ks : List Known) → ((id : ℕ) → own (Stranger id) ≡ false) → owned_by own (strangers_sent ps d ks) ≡ []
+no_stranger own ps to.Nobody ks h = refl
+no_stranger own ps (to.Subscriber n item) ks h = refl
+no_stranger own ps (to.Beginner id m) ks h = no_input own ps id (Begins m) ks (h id)
+no_stranger own ps (to.Stranger m) ks h = no_input own ps m.mme_id (Receives m) ks (h m.mme_id)
+no_stranger own ps (to.Everyone notice) ks h = no_known own notice ks h
 
 pub no_slot : (own : Owner → Bool) (items : ℕ → Item) (n : ℕ) (ws : List SubscriberView) → ((m : ℕ) → own (Subscriber m) ≡ false) → owned_by own (each_sent items n ws) ≡ []
 no_slot own items n [] h = refl
@@ -151,7 +158,7 @@ owned_known id notice [] h = sym (ap (λ t. map answer_told t.sent) (closed_note
 owned_known id notice (k ∷ ks) h = known_by id notice k ks (k.id == id) refl h (owned_known id notice ks h.1)
 
 owned_one : (ps : List Profile) (id n : ℕ) (input : Input) (ks : List Known)
-    → owned_by (is_stranger id) (map (stranger_out n) (stranger_step ps n (stranger_at n ks) input).sent) ≡ map answer_told (stranger_step ps id (stranger_at id ks) (if n == id then input else Nothing)).sent
+    → owned_by (is_stranger id) (input_sent ps n input ks) ≡ map answer_told (stranger_step ps id (stranger_at id ks) (if n == id then input else Nothing)).sent
 owned_one ps id n input ks = elim (cases_eq n id) [
   | inl same ↦
       owned_all (is_stranger id) (Stranger n) (stranger_step ps n (stranger_at n ks) input).sent (own_stranger id n same)
@@ -164,11 +171,13 @@ owned_one ps id n input ks = elim (cases_eq n id) [
 ]
 
 -- what is sent for a stranger is what its machine sends
-pub owned_stranger : (ps : List Profile) (id : ℕ) (r : Reach) (ks : List Known) → Rising known_id ks
-    → owned_by (is_stranger id) (strangers_sent ps r ks) ≡ map answer_told (stranger_step ps id (stranger_at id ks) (input_at r id)).sent
-owned_stranger ps id Nobody ks h = sym (ap (λ t. map answer_told t.sent) (at_nothing ps id (stranger_at id ks)))
-owned_stranger ps id (One n input) ks h = owned_one ps id n input ks
-owned_stranger ps id (Each notice) ks h = owned_known id notice ks h ∙ sym (ap (λ t. map answer_told t.sent) (at_notice ps id (stranger_at id ks) notice))
+pub owned_stranger : (ps : List Profile) (id : ℕ) (d : Destination) (ks : List Known) → Rising known_id ks
+    → owned_by (is_stranger id) (strangers_sent ps d ks) ≡ map answer_told (stranger_step ps id (stranger_at id ks) (input_for d id)).sent
+owned_stranger ps id to.Nobody ks h = sym (ap (λ t. map answer_told t.sent) (at_nothing ps id (stranger_at id ks)))
+owned_stranger ps id (to.Subscriber n item) ks h = sym (ap (λ t. map answer_told t.sent) (at_nothing ps id (stranger_at id ks)))
+owned_stranger ps id (to.Beginner n m) ks h = owned_one ps id n (Begins m) ks
+owned_stranger ps id (to.Stranger m) ks h = owned_one ps id m.mme_id (Receives m) ks
+owned_stranger ps id (to.Everyone notice) ks h = owned_known id notice ks h ∙ sym (ap (λ t. map answer_told t.sent) (at_notice ps id (stranger_at id ks) notice))
 
 -- ---- a station's
 

@@ -1,6 +1,6 @@
 -- Each station goes as its own machine, whatever the others do.
 use Rattle.std.proofs.Common.{◌≡◌, ℕ, ◌<◌, List, [], ◌∷◌, length, Option, Some, None, refl, sym, ◌∙◌, ap, subst, arith, inl, inr}
-use Rattle.std.specs.Prelude.{slice_set}
+use Rattle.std.specs.Prelude.{slice_set, unwrap_or}
 use Rattle.std.proofs.lemmas.Bool.{cases_eq, eq-eqb, ne_eqb}
 use Rattle.std.proofs.lemmas.List.{length-set, get_or-set_same, get_or-set_other}
 use Rattle.mme_vocabulary.specs.declared.stations.StationState.{StationState}
@@ -10,7 +10,7 @@ use Rattle.mme_core.specs.declared.event.Event.{Event}
 use Rattle.mme_core.specs.declared.event.StepFault.{StepFault}
 use Rattle.mme_core.specs.Projection.{own_state, station_run}
 use Rattle.mme_core.specs.Sight.{Sight}
-use Rattle.mme_core.specs.World.{World, event_fault, happens, sight_after, sight_moved, sight_run, station_of, stations_by, unless, world_after, world_run}
+use Rattle.mme_core.specs.World.{World, event_fault, happens, sight_after, sight_moved, placed, sight_run, station_of, unless, world_after, world_run}
 use Rattle.mme_core.proofs.Turns.{sight_once}
 
 -- what every owner may see after a run
@@ -20,9 +20,9 @@ sight_along w (e ∷ es) = sight_along (world_after w e) es ∙ ap (λ s. sight_
 
 -- ---- one event
 
-many_by : (o : Option ℕ) (stations : List StationState) (state : StationState) → length (stations_by o stations state) ≡ length stations
-many_by None stations state = refl
-many_by (Some e) stations state = length-set stations e state
+pub placed_many : (o : Option ℕ) (state : Option StationState) (stations : List StationState) → length (placed o state stations) ≡ length stations
+placed_many None state stations = refl
+placed_many (Some e) state stations = length-set stations e (unwrap_or state (station_at stations e))
 
 many_unless : (o : Option StepFault) (s t : Sight) → length t.stations ≡ length s.stations → length (unless o s t).stations ≡ length s.stations
 many_unless None s t h = h
@@ -30,15 +30,16 @@ many_unless (Some fault) s t h = refl
 
 -- as many stations as before
 pub as_many_stations : (s : Sight) (event : Event) → length (sight_after s event).stations ≡ length s.stations
-as_many_stations s event = many_unless (event_fault s event) s (sight_moved s event) (many_by (station_of event) s.stations (happens s event).state)
+as_many_stations s event = many_unless (event_fault s event) s (sight_moved s event) (placed_many (station_of event) (happens s event).state s.stations)
 
-own_by : (o : Option ℕ) (e : ℕ) (stations : List StationState) (state : StationState) → e < length stations → station_at (stations_by o stations state) e ≡ own_state o e (station_at stations e) state
+own_by : (o : Option ℕ) (e : ℕ) (stations : List StationState) (state : Option StationState) → e < length stations → station_at (placed o state stations) e ≡ own_state o e (station_at stations e) state
 own_by None e stations state lt = refl
 own_by (Some n) e stations state lt = elim (cases_eq n e) [
   | inl is ↦
       rw (eq-eqb n e is)
-      (subst (λ (k : ℕ). station_at (slice_set stations n state) k ≡ state) is (get_or-set_same stations n state Down (rw is lt)))
-  | inr ne ↦ rw (ne_eqb n e ne) (get_or-set_other stations n e state Down (λ k. ne (sym k)))
+      (subst (λ (k : ℕ). station_at (slice_set stations n (unwrap_or state (station_at stations n))) k ≡ unwrap_or state (station_at stations k)) is
+      (get_or-set_same stations n (unwrap_or state (station_at stations n)) Down (rw is lt)))
+  | inr ne ↦ rw (ne_eqb n e ne) (get_or-set_other stations n e (unwrap_or state (station_at stations n)) Down (λ k. ne (sym k)))
 ]
 
 own_unless : (o : Option StepFault) (s t : Sight) (e : ℕ) (state : StationState) → station_at t.stations e ≡ state → station_at (unless o s t).stations e ≡ unless o (station_at s.stations e) state

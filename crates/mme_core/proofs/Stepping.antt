@@ -8,11 +8,11 @@ use Rattle.emm_machine.specs.Laws.{still_stays}
 use Rattle.mme_vocabulary.specs.Events.{Item}
 use Rattle.emm_machine.specs.Still.{still}
 use Rattle.emm_machine.specs.SubscriberView.{SubscriberView}
-use Rattle.mme_core.specs.declared.changes.Stepped.{Stepped}
+use Rattle.mme_core.specs.declared.prepared.Stepped.{Stepped}
 use Rattle.mme_core.specs.declared.out.Out.{Out}
 use Rattle.mme_core.specs.Settled.{AreUnder, in_state, stepped_from, with_solo, with_stepped}
-use Rattle.mme_routing.specs.Outcomes.{Everyone}
-use Rattle.mme_core.specs.World.{called, each_after, each_sent, slot_out, subscriber_after, subscriber_step}
+use Rattle.mme_routing.specs.Destinations.{for_all}
+use Rattle.mme_core.specs.World.{each_after, each_sent, slot_out, subscriber_after, subscriber_step}
 
 -- ---- one who is left as it is
 
@@ -36,9 +36,9 @@ pub stepped_past : (item : Item) (n : ℕ) (xs all : List Stepped) (zs : List Su
 stepped_past item n xs all zs w ws at h whole = sym (ap (λ ys. xs ++ stepped_from item n ys) at ∙ ap (λ b. xs ++ either item n w ws b) h) ∙ whole
 
 pub sends_past : (item : Item) (n : ℕ) (os all : List Out) (zs : List SubscriberView) (w : SubscriberView) (ws : List SubscriberView) → zs ≡ w ∷ ws → still w.solo item ≡ true
-    → os ++ each_sent (called (Everyone item)) n zs ≡ all → os ++ each_sent (called (Everyone item)) (n + 1) ws ≡ all
+    → os ++ each_sent (for_all item) n zs ≡ all → os ++ each_sent (for_all item) (n + 1) ws ≡ all
 sends_past item n os all zs w ws at h whole =
-    sym (ap (λ ys. os ++ each_sent (called (Everyone item)) n ys) at ∙ ap (λ ys. os ++ (ys ++ each_sent (called (Everyone item)) (n + 1) ws)) (silent n w item h)) ∙ whole
+    sym (ap (λ ys. os ++ each_sent (for_all item) n ys) at ∙ ap (λ ys. os ++ (ys ++ each_sent (for_all item) (n + 1) ws)) (silent n w item h)) ∙ whole
 
 -- ---- each is in the state that was prepared
 
@@ -53,28 +53,28 @@ one_settled (f ∷ fs) ws w s = under_head f (fs ++ w ∷ ws) (length fs) s (sli
 
 -- whoever stands before them
 abbrev AllSettled : Item → List SubscriberView → Type 0
-AllSettled item ws = (fs : List SubscriberView) → with_stepped (stepped_from item (length fs) ws) (fs ++ ws) ≡ fs ++ each_after (called (Everyone item)) (length fs) ws
+AllSettled item ws = (fs : List SubscriberView) → with_stepped (stepped_from item (length fs) ws) (fs ++ ws) ≡ fs ++ each_after (for_all item) (length fs) ws
 
 onward : (item : Item) (fs : List SubscriberView) (w : SubscriberView) (ws : List SubscriberView) → AllSettled item ws
-    → with_stepped (stepped_from item (length fs + 1) ws) (fs ++ w ∷ ws) ≡ fs ++ w ∷ each_after (called (Everyone item)) (length fs + 1) ws
+    → with_stepped (stepped_from item (length fs + 1) ws) (fs ++ w ∷ ws) ≡ fs ++ w ∷ each_after (for_all item) (length fs + 1) ws
 onward item fs w ws ih =
     let gs = fs ++ w ∷ [] in
     let many : length gs ≡ length fs + 1 = length_push fs w in
     ap (λ n. with_stepped (stepped_from item n ws) (fs ++ w ∷ ws)) (sym many)
     ∙ ap (with_stepped (stepped_from item (length gs) ws)) (sym (append_assoc fs (w ∷ []) ws))
-    ∙ ih gs ∙ append_assoc fs (w ∷ []) (each_after (called (Everyone item)) (length gs) ws)
-    ∙ ap (λ n. fs ++ w ∷ each_after (called (Everyone item)) n ws) many
+    ∙ ih gs ∙ append_assoc fs (w ∷ []) (each_after (for_all item) (length gs) ws)
+    ∙ ap (λ n. fs ++ w ∷ each_after (for_all item) n ws) many
 
 settled_by : (item : Item) (fs : List SubscriberView) (w : SubscriberView) (ws : List SubscriberView) (b : Bool) → still w.solo item ≡ b → AllSettled item ws
-    → with_stepped (either item (length fs) w ws b) (fs ++ w ∷ ws) ≡ fs ++ subscriber_after w item ∷ each_after (called (Everyone item)) (length fs + 1) ws
-settled_by item fs w ws true h ih = onward item fs w ws ih ∙ ap (λ x. fs ++ x ∷ each_after (called (Everyone item)) (length fs + 1) ws) (sym (left w item h))
+    → with_stepped (either item (length fs) w ws b) (fs ++ w ∷ ws) ≡ fs ++ subscriber_after w item ∷ each_after (for_all item) (length fs + 1) ws
+settled_by item fs w ws true h ih = onward item fs w ws ih ∙ ap (λ x. fs ++ x ∷ each_after (for_all item) (length fs + 1) ws) (sym (left w item h))
 settled_by item fs w ws false h ih = ap (with_stepped (stepped_from item (length fs + 1) ws)) (one_settled fs ws w (subscriber_step w item).solo) ∙ onward item fs (subscriber_after w item) ws ih
 
 all_settled : (item : Item) (ws : List SubscriberView) → AllSettled item ws
 all_settled item [] fs = refl
 all_settled item (w ∷ ws) fs = settled_by item fs w ws (still w.solo item) refl (all_settled item ws)
 
-pub everyone_settled : (item : Item) (ws : List SubscriberView) (xs : List Stepped) → xs ≡ stepped_from item 0 ws → with_stepped xs ws ≡ each_after (called (Everyone item)) 0 ws
+pub everyone_settled : (item : Item) (ws : List SubscriberView) (xs : List Stepped) → xs ≡ stepped_from item 0 ws → with_stepped xs ws ≡ each_after (for_all item) 0 ws
 everyone_settled item ws xs made = ap (λ ys. with_stepped ys ws) made ∙ all_settled item ws []
 
 -- ---- each is that of a subscriber, and they are as many as before

@@ -6,16 +6,19 @@ use Rattle.ordered_lists.specs.Ordered.{Rising}
 use Rattle.mme_vocabulary.specs.Events.{Item, Nothing}
 use Rattle.emm_machine.specs.SubscriberView.{SubscriberView}
 use Rattle.stranger_machine.specs.declared.state.Stranger.{Stranger}
-use Rattle.stranger_machine.specs.Machine.{Input, stranger_step}
+use Rattle.stranger_machine.specs.declared.table.Known.{Known}
+use Rattle.stranger_machine.specs.Machine.{Input, Begins, Receives, stranger_step}
 use Rattle.stranger_machine.specs.Machine as inputs
-use Rattle.stranger_machine.specs.Table.{Reach, Nobody, One, Each, input_at, known_id, stranger_at}
+use Rattle.stranger_machine.specs.Table.{known_id, stranger_at}
 use Rattle.stranger_machine.specs.Laws as laws
+use Rattle.mme_routing.specs.Destinations.{Destination, if_called, input_for, item_at, strangers_behind}
+use Rattle.mme_routing.specs.Destinations as to
 use Rattle.mme_core.specs.declared.event.Event.{Event}
 use Rattle.mme_core.specs.declared.event.StepFault.{StepFault}
 use Rattle.mme_core.specs.declared.out.Out.{Out}
 use Rattle.mme_core.specs.Projection.{Told, answer_told, is_slot, is_station, is_stranger, item_for, own_told, owned_by, stranger_input, strangers_after, told_in}
 use Rattle.mme_core.specs.Sight.{Sight}
-use Rattle.mme_core.specs.World.{World, called, each_after, each_sent, event_fault, happens, items_of, world_moved, outputs, reach_call, reply, reply_of, sight_after, station_of, station_sent, strangers_in, strangers_sent, unless, subscriber_after, subscriber_step, with_call, world_after}
+use Rattle.mme_core.specs.World.{World, each_after, each_sent, event_fault, happens, items_of, world_moved, outputs, reply, reply_of, sight_after, station_of, station_sent, strangers_in, strangers_sent, unless, subscriber_after, subscriber_step, world_after}
 use Rattle.mme_core.proofs.Calling.{at_nothing, stays}
 use Rattle.mme_core.proofs.Owned.{no_slot, no_station, no_stranger, owned_absent, owned_first, owned_second, owned_slot, owned_station, owned_stranger}
 
@@ -37,9 +40,9 @@ slot_by (Some fault) outs slot w i h = ap (λ d. map answer_told d.sent) (sym (a
 slot_part : (w : World) (e : Event) (slot : ℕ) → owned_by (is_slot slot) (outputs w e) ≡ owned_by (is_slot slot) (each_sent (items_of w.sight (strangers_in w) e) 0 w.subscribers)
 slot_part w e slot =
     let each = each_sent (items_of w.sight (strangers_in w) e) 0 w.subscribers in
-    let others = strangers_sent w.sight.profiles (happens w.sight e).reach w.strangers in
+    let others = strangers_sent w.sight.profiles (happens w.sight e).destination w.strangers in
     owned_second (is_slot slot) (station_sent (station_of e) (happens w.sight e).sent) (others ++ each) (no_station (is_slot slot) (station_of e) (happens w.sight e).sent (λ n. refl))
-    ∙ owned_second (is_slot slot) others each (no_stranger (is_slot slot) w.sight.profiles (happens w.sight e).reach w.strangers (λ id. refl))
+    ∙ owned_second (is_slot slot) others each (no_stranger (is_slot slot) w.sight.profiles (happens w.sight e).destination w.strangers (λ id. refl))
 
 pub slot_told : (w : World) (e : Event) (slot : ℕ) (x : SubscriberView) → slice_get w.subscribers slot ≡ Some x
     → told_in (is_slot slot) (reply w e) ≡ map answer_told (subscriber_step x (item_for slot w.sight (strangers_in w) e)).sent
@@ -98,12 +101,29 @@ pub stranger_told_once : (w : World) (e : Event) (id : ℕ) → Rising known_id 
     → told_in (is_stranger id) (reply w e) ≡ map answer_told (stranger_step w.sight.profiles id (stranger_at id w.strangers) (stranger_input w.sight id e)).sent
 stranger_told_once w e id h =
     let each = each_sent (items_of w.sight (strangers_in w) e) 0 w.subscribers in
-    let r = (happens w.sight e).reach in
-    let own = strangers_sent w.sight.profiles r w.strangers in
-    stranger_by id w.sight.profiles (event_fault w.sight e) (outputs w e) (stranger_at id w.strangers) (input_at r id)
+    let d = (happens w.sight e).destination in
+    let own = strangers_sent w.sight.profiles d w.strangers in
+    stranger_by id w.sight.profiles (event_fault w.sight e) (outputs w e) (stranger_at id w.strangers) (input_for d id)
     (owned_second (is_stranger id) (station_sent (station_of e) (happens w.sight e).sent) (own ++ each) (no_station (is_stranger id) (station_of e) (happens w.sight e).sent (λ n. refl))
     ∙ owned_first (is_stranger id) own each (no_slot (is_stranger id) (items_of w.sight (strangers_in w) e) 0 w.subscribers (λ m. refl))
-    ∙ owned_stranger w.sight.profiles id r w.strangers h)
+    ∙ owned_stranger w.sight.profiles id d w.strangers h)
+
+-- each stranger goes as its own machine
+turned : (ps : List Profile) (id : ℕ) (d : Destination) (ks : List Known) → Rising known_id ks
+    → stranger_at id (strangers_behind ps d ks) ≡ (stranger_step ps id (stranger_at id ks) (input_for d id)).stranger
+turned ps id to.Nobody ks h = sym (ap (λ t. t.stranger) (laws.at_nothing ps id (stranger_at id ks)))
+turned ps id (to.Subscriber n item) ks h = sym (ap (λ t. t.stranger) (laws.at_nothing ps id (stranger_at id ks)))
+turned ps id (to.Beginner n m) ks h = laws.one_turned ps id n (Begins m) ks h
+turned ps id (to.Stranger m) ks h = laws.one_turned ps id m.mme_id (Receives m) ks h
+turned ps id (to.Everyone notice) ks h = laws.all_turned ps id notice ks h
+
+-- and the ids rise
+pub rising_behind : (ps : List Profile) (d : Destination) (ks : List Known) → Rising known_id ks → Rising known_id (strangers_behind ps d ks)
+rising_behind ps to.Nobody ks h = h
+rising_behind ps (to.Subscriber n item) ks h = h
+rising_behind ps (to.Beginner id m) ks h = laws.rising_input ps id (Begins m) ks h
+rising_behind ps (to.Stranger m) ks h = laws.rising_input ps m.mme_id (Receives m) ks h
+rising_behind ps (to.Everyone notice) ks h = laws.rising_noted notice ks h
 
 stranger_unless : (id : ℕ) (ps : List Profile) (o : Option StepFault) (w v : World) (i : Input) → stranger_at id v.strangers ≡ (stranger_step ps id (stranger_at id w.strangers) i).stranger
     → stranger_at id (unless o w v).strangers ≡ (stranger_step ps id (stranger_at id w.strangers) (unless o inputs.Nothing i)).stranger
@@ -112,14 +132,14 @@ stranger_unless id ps (Some fault) w v i h = sym (ap (λ t. t.stranger) (laws.at
 
 pub stranger_once : (w : World) (e : Event) (id : ℕ) → Rising known_id w.strangers → stranger_at id (world_after w e).strangers ≡ strangers_after w.sight (strangers_in w) e id
 stranger_once w e id h =
-    stranger_unless id w.sight.profiles (event_fault w.sight e) w (world_moved w e) (input_at (happens w.sight e).reach id) (laws.turned w.sight.profiles id (happens w.sight e).reach w.strangers h)
+    stranger_unless id w.sight.profiles (event_fault w.sight e) w (world_moved w e) (input_for (happens w.sight e).destination id) (turned w.sight.profiles id (happens w.sight e).destination w.strangers h)
 
 rising_by : (o : Option StepFault) (w v : World) → Rising known_id w.strangers → Rising known_id v.strangers → Rising known_id (unless o w v).strangers
 rising_by None w v h k = k
 rising_by (Some fault) w v h k = h
 
 pub rising_once : (w : World) (e : Event) → Rising known_id w.strangers → Rising known_id (world_after w e).strangers
-rising_once w e h = rising_by (event_fault w.sight e) w (world_moved w e) h (laws.rising_reached w.sight.profiles (happens w.sight e).reach w.strangers h)
+rising_once w e h = rising_by (event_fault w.sight e) w (world_moved w e) h (rising_behind w.sight.profiles (happens w.sight e).destination w.strangers h)
 
 -- ---- a station
 
@@ -130,21 +150,23 @@ station_by e (Some fault) outs own h = refl
 pub station_told_once : (w : World) (event : Event) (e : ℕ) → told_in (is_station e) (reply w event) ≡ unless (event_fault w.sight event) [] (own_told (station_of event) e (happens w.sight event).sent)
 station_told_once w event e =
     let each = each_sent (items_of w.sight (strangers_in w) event) 0 w.subscribers in
-    let r = (happens w.sight event).reach in
-    let others = strangers_sent w.sight.profiles r w.strangers in
+    let d = (happens w.sight event).destination in
+    let others = strangers_sent w.sight.profiles d w.strangers in
     let own = station_sent (station_of event) (happens w.sight event).sent in
     station_by e (event_fault w.sight event) (outputs w event) (own_told (station_of event) e (happens w.sight event).sent)
     (owned_first (is_station e) own (others ++ each)
-    (owned_second (is_station e) others each (no_stranger (is_station e) w.sight.profiles r w.strangers (λ id. refl)) ∙ no_slot (is_station e) (items_of w.sight (strangers_in w) event) 0 w.subscribers (λ m. refl))
+    (owned_second (is_station e) others each (no_stranger (is_station e) w.sight.profiles d w.strangers (λ id. refl)) ∙ no_slot (is_station e) (items_of w.sight (strangers_in w) event) 0 w.subscribers (λ m. refl))
     ∙ owned_station e (station_of event) (happens w.sight event).sent)
 
 -- ---- strangers that are the same one by one have the same items
 
-call_same : (ps : List Profile) (r : Reach) (g h : ℕ → Option Stranger) → ((id : ℕ) → g id ≡ h id) → reach_call ps r g ≡ reach_call ps r h
-call_same ps Nobody g h same = refl
-call_same ps (One id input) g h same = ap (λ x. (stranger_step ps id x input).call) (same id)
-call_same ps (Each notice) g h same = refl
+item_at_same : (slot : ℕ) (d : Destination) (ps : List Profile) (g h : ℕ → Option Stranger) → ((id : ℕ) → g id ≡ h id) → item_at d ps g slot ≡ item_at d ps h slot
+item_at_same slot to.Nobody ps g h same = refl
+item_at_same slot (to.Subscriber n item) ps g h same = refl
+item_at_same slot (to.Beginner id m) ps g h same = ap (λ x. if_called (stranger_step ps id x (Begins m)).call slot) (same id)
+item_at_same slot (to.Stranger m) ps g h same = ap (λ x. if_called (stranger_step ps m.mme_id x (Receives m)).call slot) (same m.mme_id)
+item_at_same slot (to.Everyone notice) ps g h same = refl
 
 pub item_same : (slot : ℕ) (s : Sight) (g h : ℕ → Option Stranger) (e : Event) → ((id : ℕ) → g id ≡ h id) → item_for slot s g e ≡ item_for slot s h e
 item_same slot s g h e same =
-    ap (λ c. unless (event_fault s e) Nothing (called (with_call c (happens s e).calls) slot)) (call_same s.profiles (happens s e).reach g h same)
+    ap (λ item. unless (event_fault s e) Nothing item) (item_at_same slot (happens s e).destination s.profiles g h same)

@@ -21,7 +21,7 @@ use Rattle.mme_core.specs.declared.out.Out.{Out}
 use Rattle.mme_routing.specs.Naming.{named_slot}
 use Rattle.mme_core.specs.Projection.{AreInOrder, Told, alone_after, answer_told, is_slot, is_station, is_stranger, item_for, own_told, owned_by, projection, stranger_input, subscriber_told, told}
 use Rattle.mme_core.specs.Sight.{Sight}
-use Rattle.mme_routing.specs.Outcomes.{Calls, NoOne, One, Everyone}
+use Rattle.mme_routing.specs.Destinations.{Destination, Subscriber}
 use Rattle.mme_core.specs.World.{World, event_fault, happens, replies, reply, station_of, strangers_in, unless, subscriber_step, world_after, world_run}
 
 -- ---- what is the same to a slot
@@ -58,15 +58,14 @@ SameFromMme =
 
 -- ---- events that name a slot
 
--- the slot that is called alone
-abbrev pub one_called : Calls → Option ℕ
-one_called NoOne = None
-one_called (One slot item) = Some slot
-one_called (Everyone item) = None
+-- the slot that an event goes to
+abbrev pub slot_named : Destination → Option ℕ
+slot_named (Subscriber slot item) = Some slot
+slot_named _ = None
 
--- the slot that an event names: the one that it calls itself, no stranger being asked
+-- the slot that an event names: the one that it goes to, no stranger being asked
 abbrev pub event_name : Sight → Event → Option ℕ
-event_name s event = one_called (happens s event).calls
+event_name s event = slot_named (happens s event).destination
 
 -- data for an IMSI and the end of its subscription name its slot
 abbrev pub NamedByImsi : Type 0

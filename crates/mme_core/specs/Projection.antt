@@ -1,5 +1,5 @@
 -- Each owner alone: what of a list of events is a station's, a stranger's or a slot's, and what its machine sends over it.
-use Rattle.std.specs.Prelude.{◌≤◌, ℕ, ◌==◌, Bool, false, List, [], ◌∷◌, map, filter, Option, Some, None, Result, Ok, Err, slice_get, option_map, if◌then◌else◌}
+use Rattle.std.specs.Prelude.{◌≤◌, ℕ, ◌==◌, Bool, false, List, [], ◌∷◌, map, filter, Option, Some, None, Result, Ok, Err, slice_get, option_map, unwrap_or, if◌then◌else◌}
 use Rattle.mme_vocabulary.specs.declared.octets.Answer.{Answer}
 use Rattle.mme_vocabulary.specs.declared.stations.StationState.{StationState}
 use Rattle.mme_vocabulary.specs.Events.{Item, Nothing}
@@ -10,7 +10,7 @@ use Rattle.emm_machine.specs.Words.{states_of}
 use Rattle.stranger_machine.specs.declared.state.Stranger.{Stranger as StrangerState}
 use Rattle.stranger_machine.specs.Machine.{Input, stranger_step}
 use Rattle.stranger_machine.specs.Machine as inputs
-use Rattle.stranger_machine.specs.Table.{input_at}
+use Rattle.mme_routing.specs.Destinations.{input_for}
 use Rattle.mme_core.specs.declared.event.Event.{Event}
 use Rattle.mme_core.specs.declared.event.StepFault.{StepFault}
 use Rattle.mme_core.specs.declared.out.Out.{Out}
@@ -23,7 +23,7 @@ use Rattle.mme_core.specs.World.{World, event_fault, happens, items_of, sight_af
 
 -- what reaches the stranger with the id at an event
 abbrev pub stranger_input : Sight → ℕ → Event → Input
-stranger_input s id event = unless (event_fault s event) inputs.Nothing (input_at (happens s event).reach id)
+stranger_input s id event = unless (event_fault s event) inputs.Nothing (input_for (happens s event).destination id)
 
 -- the strangers after an event, each by its own machine
 abbrev pub strangers_after : Sight → (ℕ → Option StrangerState) → Event → ℕ → Option StrangerState
@@ -146,9 +146,9 @@ AllInOrder (Err fault ∷ rs) = AllInOrder rs
 -- ---- one station
 
 -- one station over a list of events, from a state: by its own events alone, and by what every owner may see
-abbrev pub own_state : Option ℕ → ℕ → StationState → StationState → StationState
+abbrev pub own_state : Option ℕ → ℕ → StationState → Option StationState → StationState
 own_state None e state after = state
-own_state (Some n) e state after = if n == e then after else state
+own_state (Some n) e state after = if n == e then unwrap_or after state else state
 
 abbrev pub station_run : Sight → ℕ → StationState → List Event → StationState
 station_run s e state [] = state

@@ -1,5 +1,5 @@
 -- The whole MME, and the whole output of an event.
-use Rattle.std.specs.Prelude.{ℕ, ◌+◌, ◌^◌, ◌==◌, nat_lt, Bool, true, false, List, [], ◌∷◌, ◌++◌, map, Option, Some, None, Result, Ok, Err, if◌then◌else◌, slice_set}
+use Rattle.std.specs.Prelude.{ℕ, ◌+◌, ◌^◌, nat_lt, Bool, true, false, List, [], ◌∷◌, ◌++◌, map, Option, Some, None, Result, Ok, Err, if◌then◌else◌, slice_set, unwrap_or}
 use Rattle.identity_slots.specs.declared.profile.Profile.{Profile}
 use Rattle.identity_slots.specs.declared.profile.Vector.{Vector}
 use Rattle.identity_slots.specs.Provisioned.{Provisioned, slot_of_imsi, vectors_at}
@@ -10,7 +10,7 @@ use Rattle.mme_vocabulary.specs.declared.network.Network.{Network}
 use Rattle.mme_vocabulary.specs.declared.stations.StationState.{StationState}
 use Rattle.mme_vocabulary.specs.declared.stations.StationState.TheVariants.{Down, Up, Ready}
 use Rattle.mme_vocabulary.specs.Stations.{no_stations, station_at}
-use Rattle.mme_vocabulary.specs.Events.{Item, Nothing, Tick, Data, Cancel}
+use Rattle.mme_vocabulary.specs.Events.{Item, Data, Cancel}
 use Rattle.emm_machine.specs.Steps.{solo_step}
 use Rattle.emm_machine.specs.SubscriberView.{SubscriberView}
 use Rattle.emm_machine.specs.Words.{fresh_solo}
@@ -18,10 +18,8 @@ use Rattle.stranger_machine.specs.declared.state.Stranger.{Stranger}
 use Rattle.stranger_machine.specs.declared.table.Known.{Known}
 use Rattle.stranger_machine.specs.declared.turn.Notice.{Notice}
 use Rattle.stranger_machine.specs.declared.turn.Notice.TheVariants as notices
-use Rattle.stranger_machine.specs.Machine.{notes, stranger_step}
-use Rattle.stranger_machine.specs.Table.{Reach, Nobody, Each, reached, stranger_at}
-use Rattle.stranger_machine.specs.Table as table
-use Rattle.stranger_machine.specs.Turns.{Call}
+use Rattle.stranger_machine.specs.Machine.{Input, Begins, Receives, notes, stranger_step}
+use Rattle.stranger_machine.specs.Table.{stranger_at}
 use Rattle.mme_core.specs.declared.config.Config.{Config}
 use Rattle.mme_core.specs.declared.event.Event.{Event}
 use Rattle.mme_core.specs.declared.event.Event.TheVariants.{Up as UpEvent, Lost as LostEvent, In as InEvent, Tick as TickEvent, Data as DataEvent, Cancel as CancelEvent}
@@ -32,7 +30,9 @@ use Rattle.mme_core.specs.declared.out.Owner.{Owner}
 use Rattle.mme_core.specs.declared.out.Owner.TheVariants.{Station, Subscriber}
 use Rattle.mme_core.specs.declared.out.Owner.TheVariants as owners
 use Rattle.mme_core.specs.Sight.{Sight}
-use Rattle.mme_routing.specs.Outcomes.{Calls, NoOne, One, Everyone, Outcome, begins_anew, calling, outcome_of, answered}
+use Rattle.mme_routing.specs.Destinations.{Destination, item_at, strangers_behind}
+use Rattle.mme_routing.specs.Destinations as to
+use Rattle.mme_routing.specs.Outcomes.{Outcome, begins_anew, goes_to, outcome_of}
 
 -- ---- what is refused
 
@@ -59,7 +59,7 @@ event_fault s TickEvent = if nat_lt s.clock (2 ^ 62) then None else Some ClockSp
 event_fault s (DataEvent imsi) = if_known (slot_of_imsi imsi s.profiles)
 event_fault s (CancelEvent imsi) = if_known (slot_of_imsi imsi s.profiles)
 
--- ---- what an event that is not refused makes of the station that it is of, and whom it calls
+-- ---- what an event that is not refused makes of the station that it is of, and where it goes
 
 -- the station that an event is of
 abbrev pub station_of : Event → Option ℕ
@@ -70,18 +70,17 @@ station_of TickEvent = None
 station_of (DataEvent imsi) = None
 station_of (CancelEvent imsi) = None
 
-abbrev pub calls_if_known : Option ℕ → Item → Calls
-calls_if_known None item = NoOne
-calls_if_known (Some slot) item = One slot item
+abbrev pub to_slot : Option ℕ → Item → Destination
+to_slot None item = to.Nobody
+to_slot (Some slot) item = to.Subscriber slot item
 
--- where an event is of no station, the state that is named here is no station's
 unfoldable pub happens : Sight → Event → Outcome
-happens s (UpEvent e) = answered Up []
-happens s (LostEvent e) = begins_anew e Down []
+happens s (UpEvent e) = record { state = Some Up; sent = []; destination = to.Nobody }
+happens s (LostEvent e) = begins_anew e (Some Down) []
 happens s (InEvent e octets) = outcome_of s.config.network s.profiles e (station_at s.stations e) (decoded octets.now)
-happens s TickEvent = record { state = Down; sent = []; reach = Each notices.Tick; calls = Everyone Tick }
-happens s (DataEvent imsi) = calling Down (calls_if_known (slot_of_imsi imsi s.profiles) (Data s.stations))
-happens s (CancelEvent imsi) = calling Down (calls_if_known (slot_of_imsi imsi s.profiles) Cancel)
+happens s TickEvent = goes_to (to.Everyone notices.Tick)
+happens s (DataEvent imsi) = goes_to (to_slot (slot_of_imsi imsi s.profiles) (Data s.stations))
+happens s (CancelEvent imsi) = goes_to (to_slot (slot_of_imsi imsi s.profiles) Cancel)
 
 abbrev pub clock_after : ℕ → Event → ℕ
 clock_after clock (UpEvent e) = clock
@@ -91,15 +90,16 @@ clock_after clock TickEvent = clock + 1
 clock_after clock (DataEvent imsi) = clock
 clock_after clock (CancelEvent imsi) = clock
 
-abbrev pub stations_by : Option ℕ → List StationState → StationState → List StationState
-stations_by None stations state = stations
-stations_by (Some e) stations state = slice_set stations e state
+-- the stations, where that one has a new state
+abbrev pub placed : Option ℕ → Option StationState → List StationState → List StationState
+placed None state stations = stations
+placed (Some e) state stations = slice_set stations e (unwrap_or state (station_at stations e))
 
 abbrev pub sight_moved : Sight → Event → Sight
 sight_moved s event = record {
   config = s.config;
   clock = clock_after s.clock event;
-  stations = stations_by (station_of event) s.stations (happens s event).state;
+  stations = placed (station_of event) (happens s event).state s.stations;
   profiles = s.profiles;
 }
 
@@ -112,26 +112,6 @@ sight_run s [] = s
 sight_run s (event ∷ events) = sight_run (sight_after s event) events
 
 -- ---- the subscribers
-
--- whom the one stranger calls that an event reaches
-abbrev pub reach_call : List Profile → Reach → (ℕ → Option Stranger) → Option Call
-reach_call ps Nobody g = None
-reach_call ps (table.One id input) g = (stranger_step ps id (g id) input).call
-reach_call ps (Each notice) g = None
-
--- who is called: by a stranger, else by the event itself
-abbrev pub with_call : Option Call → Calls → Calls
-with_call None calls = calls
-with_call (Some c) calls = One c.slot c.item
-
-abbrev pub calls_by : Reach → Calls → List Profile → (ℕ → Option Stranger) → Calls
-calls_by r calls ps g = with_call (reach_call ps r g) calls
-
--- what a slot is called with
-abbrev pub called : Calls → ℕ → Item
-called NoOne slot = Nothing
-called (One n item) slot = if n == slot then item else Nothing
-called (Everyone item) slot = item
 
 abbrev pub subscriber_step : SubscriberView → Item → Draft
 subscriber_step w item = solo_step w.setting w.solo item
@@ -171,10 +151,16 @@ abbrev pub each_known : Notice → List Known → List Out
 each_known notice [] = []
 each_known notice (k ∷ ks) = map (stranger_out k.id) (notes k.id (Some k.stranger) notice).sent ++ each_known notice ks
 
-abbrev pub strangers_sent : List Profile → Reach → List Known → List Out
-strangers_sent ps Nobody ks = []
-strangers_sent ps (table.One id input) ks = map (stranger_out id) (stranger_step ps id (stranger_at id ks) input).sent
-strangers_sent ps (Each notice) ks = each_known notice ks
+-- and what one sends at an input
+abbrev pub input_sent : List Profile → ℕ → Input → List Known → List Out
+input_sent ps id input ks = map (stranger_out id) (stranger_step ps id (stranger_at id ks) input).sent
+
+abbrev pub strangers_sent : List Profile → Destination → List Known → List Out
+strangers_sent ps to.Nobody ks = []
+strangers_sent ps (to.Subscriber n item) ks = []
+strangers_sent ps (to.Beginner id m) ks = input_sent ps id (Begins m) ks
+strangers_sent ps (to.Stranger m) ks = input_sent ps m.mme_id (Receives m) ks
+strangers_sent ps (to.Everyone notice) ks = each_known notice ks
 
 -- ---- the MME
 
@@ -194,14 +180,14 @@ fresh_world config p = record {
 abbrev pub strangers_in : World → ℕ → Option Stranger
 strangers_in w id = stranger_at id w.strangers
 
--- by what every owner may see and by the strangers
+-- what of an event each slot has, by what every owner may see and by the strangers
 abbrev pub items_of : Sight → (ℕ → Option Stranger) → Event → ℕ → Item
-items_of s g event = called (calls_by (happens s event).reach (happens s event).calls s.profiles g)
+items_of s g event = item_at (happens s event).destination s.profiles g
 
 abbrev pub world_moved : World → Event → World
 world_moved w event = record {
   sight = sight_moved w.sight event;
-  strangers = reached w.sight.profiles (happens w.sight event).reach w.strangers;
+  strangers = strangers_behind w.sight.profiles (happens w.sight event).destination w.strangers;
   subscribers = each_after (items_of w.sight (strangers_in w) event) 0 w.subscribers;
 }
 
@@ -225,7 +211,7 @@ station_sent (Some e) sent = map (station_out e) sent
 abbrev pub outputs : World → Event → List Out
 outputs w event =
     station_sent (station_of event) (happens w.sight event).sent
-    ++ (strangers_sent w.sight.profiles (happens w.sight event).reach w.strangers
+    ++ (strangers_sent w.sight.profiles (happens w.sight event).destination w.strangers
     ++ each_sent (items_of w.sight (strangers_in w) event) 0 w.subscribers)
 
 abbrev pub reply_of : Option StepFault → List Out → Result (List Out) StepFault

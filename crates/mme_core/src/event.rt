@@ -24,20 +24,17 @@ pub enum Event<'a> {
     Cancel(Imsi),
 }
 
-impl<'a> Event<'a> {
+impl Event<'_> {
     ghost use Rattle.std.specs.Prelude.{◌≡◌};
+    ghost use Rattle.mme_core.specs.World.{station_of};
 
-    /// The same event.
-    pub fn again(&self) -> Event<'a>
-        ensures { result ≡ self.now }
+    // The station that it is of.
+    pub(crate) fn station(&self) -> Option<StationNumber>
+        ensures { result ≡ station_of self.now }
     {
         match self {
-            Event::Up(station) => Event::Up(*station),
-            Event::Lost(station) => Event::Lost(*station),
-            Event::In(station, octets) => Event::In(*station, octets),
-            Event::Tick => Event::Tick,
-            Event::Data(imsi) => Event::Data(*imsi),
-            Event::Cancel(imsi) => Event::Cancel(*imsi),
+            Event::Up(station) | Event::Lost(station) | Event::In(station, _) => Some(*station),
+            Event::Tick | Event::Data(_) | Event::Cancel(_) => None,
         }
     }
 }

@@ -4,12 +4,12 @@
 //! one machine sends over the items that the events have for it, whatever else they hold.
 #![tactic(auto)]
 
-mod changes;
 mod config;
 mod event;
 mod laws;
 mod mme;
 mod out;
+mod prepared;
 mod preparing;
 mod provisioning;
 mod sending;

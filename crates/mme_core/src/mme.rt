@@ -1,31 +1,33 @@
 //! The MME.
 
-ghost use Rattle.std.specs.Prelude.{◌≡◌, ◌≢◌, ◌<◌, ◌++◌, ℕ, length, slice_get, IfOk, IfErr, IsOk, OnOk, OnErr, Ok, Err, Some, None};
+ghost use Rattle.std.specs.Prelude.{◌≡◌, ◌≢◌, ◌⊎◌, ◌<◌, ℕ, List, length, slice_get, IfOk, IfErr, IfSome, OnOk, OnErr, Ok, Err, Some, None};
 ghost use Rattle.identity_slots.specs.Provisioned.{slot_of_imsi};
 ghost use Rattle.mme_vocabulary.specs.Stations.{station_at};
 ghost use Rattle.emm_machine.specs.SubscriberView.{SubscriberView};
 ghost use Rattle.ordered_lists.specs.Ordered.{Rising};
-ghost use Rattle.stranger_machine.specs.Table.{known_id, reached, stranger_at};
-ghost use Rattle.mme_core.specs.declared.event.Event.TheVariants as events;
-ghost use Rattle.mme_core.specs.declared.event.StepFault.TheVariants.{NoMemory, UnknownImsi};
+ghost use Rattle.stranger_machine.specs.Table.{known_id, stranger_at};
+ghost use Rattle.mme_core.specs.declared.event.StepFault.TheVariants.{NoMemory};
 ghost use Rattle.mme_core.specs.Projection.{AllInOrder, AreInOrder, alone_after, is_slot, is_station, is_stranger, projection, silence, station_run, station_told, states_at, stranger_run, stranger_told, subscriber_told, told};
-ghost use Rattle.mme_routing.specs.Seen.{calls_of, reach_of};
-ghost use Rattle.mme_core.specs.Settled.{IsFor, changed, settled};
+ghost use Rattle.mme_vocabulary.specs.declared.stations.StationState.{StationState};
+ghost use Rattle.mme_vocabulary.specs.Events.{item_of};
+ghost use Rattle.mme_routing.specs.Outcomes.{goes_to};
+ghost use Rattle.mme_routing.specs.Seen.{seen_outcome};
+ghost use Rattle.mme_core.specs.Settled.{IsFor, settled_strangers};
 ghost use Rattle.mme_core.specs.Ready.{ready_world};
 ghost use Rattle.mme_core.specs.Short.{AreShort};
-ghost use Rattle.mme_core.specs.World.{called, calls_by, each_after, each_sent, fresh_world, replies_given, replies, reply, station_sent, strangers_in, strangers_sent, events_taken, world_after, world_run};
+ghost use Rattle.mme_core.specs.World.{clock_after, event_fault, events_taken, fresh_world, happens, replies, replies_given, reply, strangers_in, to_slot, world_after, world_run};
 
-use crate::changes::{Change, Prepared, Turned};
 use crate::config::Config;
 use crate::event::{Event, StepFault};
 use crate::out::Outs;
-use crate::preparing::{prepare_called, turn};
+use crate::prepared::Prepared;
+use crate::preparing::prepare;
 use crate::provisioning::fresh_subscribers;
 use crate::sending::station_outs;
-use crate::settling::{settle, settle_station, settle_strangers};
+use crate::settling::{settle, settle_station};
 use emm_machine::{States, Subscriber};
 use identity_slots::{Provision, Slot};
-use mme_routing::{Calls, Outcome, Reach, Summoned, outcome_of};
+use mme_routing::{Destination, Outcome, outcome_of};
 use mme_vocabulary::{Answers, EnbWorld, SharedNetwork, SoloEvent, StationNumber, StationState};
 use nas_elements::Imsi;
 use std::alloc::{AllocError, Global};
@@ -73,12 +75,11 @@ pub(crate) struct Moves {
     clock: u64,
 }
 
-/// What an event that isn't refused leads to, before it is taken: what it makes of its station and the clock, what strangers and
-/// subscribers are after it, and what is sent.
+/// What an event that isn't refused leads to, before it is taken: what it makes of its station and the clock, what is to become of
+/// those whom it goes to, and what is sent.
 #[derive(Drop)]
 pub(crate) struct Ready {
     moves: Moves,
-    change: Change,
     prepared: Prepared,
     outs: Outs,
 }
@@ -121,41 +122,19 @@ impl Mme {
         }
     }
 
-    /// One event: what is sent, or why it is refused. A refused event leaves the MME as it was. No message is longer than 16,388 octets.
-    pub fn step(&mut self, event: Event) -> Result<Outs, StepFault>
-        ensures reply { IfOk result (λ outs. reply self.old event.entry ≡ Ok outs) }
-        ensures after { OnOk result (self.new ≡ world_after self.old event.entry) }
+    /// One event: what is sent, or why it is refused. A refused event leaves the MME as it was. No message is longer than 16,388
+    /// octets. Want of memory is the fault of no event that is refused for another cause.
+    pub fn step(&mut self, event: &Event<'_>) -> Result<Outs, StepFault>
+        ensures reply { IfOk result (λ outs. reply self.old event.now ≡ Ok outs) }
+        ensures after { OnOk result (self.new ≡ world_after self.old event.now) }
         ensures order { IfOk result (λ outs. AreInOrder outs) }
         ensures short { IfOk result (λ outs. AreShort outs) }
-        ensures refused { IfErr result (λ fault. fault ≢ NoMemory → reply self.old event.entry ≡ Err fault) }
+        ensures fault { IfSome (event_fault self.old.sight event.now) (λ fault. result ≡ Err fault) }
+        ensures refused { IfErr result (λ fault. fault ≢ NoMemory → reply self.old event.now ≡ Err fault) }
         ensures err { OnErr result (self.new ≡ self.old) }
     {
-        match event {
-            Event::Up(station) => {
-                let ready = self.rise(station);
-                self.conclude(ready)
-            }
-            Event::Lost(station) => {
-                let ready = self.fall(station);
-                self.conclude(ready)
-            }
-            Event::In(station, octets) => {
-                let ready = self.take_in(station, octets);
-                self.conclude(ready)
-            }
-            Event::Tick => {
-                let ready = self.tick();
-                self.conclude(ready)
-            }
-            Event::Data(imsi) => {
-                let ready = self.data(imsi);
-                self.conclude(ready)
-            }
-            Event::Cancel(imsi) => {
-                let ready = self.cancel(imsi);
-                self.conclude(ready)
-            }
-        }
+        let ready = self.ready(event)?;
+        self.take(ready)
     }
 
     /// Events in order, each by `step`; room for all replies is made first, and a refused run has taken no event.
@@ -183,242 +162,137 @@ impl Mme {
     {
         let mut replies = Vec::with_capacity(self.alloc, events.len())?;
         for event in events {
-            let reply = self.step(event.again());
+            let reply = self.step(event);
             replies.push_reserved(reply);
         }
         Ok(replies)
     }
 
-    // A station connects.
-    fn rise(&self, station: StationNumber) -> Result<Ready, StepFault>
-        ensures reply { IfOk result (λ r. reply self.now (events.Up station) ≡ Ok r.outs) }
-        ensures after { IfOk result (λ r. ready_world r self.now ≡ world_after self.now (events.Up station)) }
-        ensures fits { IfOk result (λ r. IsFor r.prepared self.now.subscribers) }
-        ensures rising { IfOk result (λ r. Rising known_id (changed r.change self.now.strangers)) }
-        ensures order { IfOk result (λ r. AreInOrder r.outs) }
-        ensures refused { IfErr result (λ fault. fault ≢ NoMemory → reply self.now (events.Up station) ≡ Err fault) }
+    // Why an event is refused, want of memory apart.
+    fn fault_of(&self, event: &Event<'_>) -> Option<StepFault>
+        ensures { result ≡ event_fault self.now.sight event.now }
     {
-        match self.stations.get(station) {
-            StationState::Down => {}
-            StationState::Up | StationState::Ready(_) => return Err(StepFault::AlreadyUp),
+        match event {
+            Event::Up(station) => match self.stations.get(*station) {
+                StationState::Down => None,
+                StationState::Up | StationState::Ready(_) => Some(StepFault::AlreadyUp),
+            },
+            Event::Lost(station) | Event::In(station, _) => match self.stations.get(*station) {
+                StationState::Down => Some(StepFault::NotUp),
+                StationState::Up | StationState::Ready(_) => None,
+            },
+            Event::Tick if self.clock >= LAST_TICK => Some(StepFault::ClockSpent),
+            Event::Tick => None,
+            Event::Data(imsi) | Event::Cancel(imsi) => match self.slot_of_imsi(*imsi) {
+                Some(_) => None,
+                None => Some(StepFault::UnknownImsi),
+            },
         }
-        let summoned = Summoned {
-            reach: Reach::Nobody,
-            calls: Calls::NoOne,
-        };
-        let moves = Moves {
-            station: Some(station),
-            state: Some(StationState::Up),
-            clock: self.clock,
-        };
-        let sent = Answers::new(self.alloc);
-        self.ready(moves, &sent, &summoned.reach, &summoned.calls)
     }
 
-    // A station's connection is lost.
-    fn fall(&self, station: StationNumber) -> Result<Ready, StepFault>
-        ensures reply { IfOk result (λ r. reply self.now (events.Lost station) ≡ Ok r.outs) }
-        ensures after { IfOk result (λ r. ready_world r self.now ≡ world_after self.now (events.Lost station)) }
-        ensures fits { IfOk result (λ r. IsFor r.prepared self.now.subscribers) }
-        ensures rising { IfOk result (λ r. Rising known_id (changed r.change self.now.strangers)) }
-        ensures order { IfOk result (λ r. AreInOrder r.outs) }
-        ensures refused { IfErr result (λ fault. fault ≢ NoMemory → reply self.now (events.Lost station) ≡ Err fault) }
+    // What goes to the subscriber with an IMSI alone.
+    fn to_imsi<'a>(&self, imsi: Imsi, event: SoloEvent<'a>) -> Outcome<'a>
+        ensures { (stations : List StationState) → seen_outcome stations result ≡ goes_to (to_slot (slot_of_imsi imsi self.now.sight.profiles) (item_of event.entry stations)) }
     {
-        if let StationState::Down = self.stations.get(station) {
-            return Err(StepFault::NotUp);
-        }
-        let summoned = Summoned {
-            reach: Reach::Each(Notice::Gone(station)),
-            calls: Calls::Everyone(SoloEvent::StationGone(station)),
+        let destination = match self.slot_of_imsi(imsi) {
+            Some(slot) => Destination::Subscriber(slot, event),
+            None => Destination::Nobody,
         };
-        let moves = Moves {
-            station: Some(station),
-            state: Some(StationState::Down),
-            clock: self.clock,
-        };
-        let sent = Answers::new(self.alloc);
-        self.ready(moves, &sent, &summoned.reach, &summoned.calls)
-    }
-
-    // A station sends a message.
-    fn take_in(&self, station: StationNumber, octets: &[u8]) -> Result<Ready, StepFault>
-        ensures reply { IfOk result (λ r. reply self.now (events.In station octets.entry) ≡ Ok r.outs) }
-        ensures after { IfOk result (λ r. ready_world r self.now ≡ world_after self.now (events.In station octets.entry)) }
-        ensures fits { IfOk result (λ r. IsFor r.prepared self.now.subscribers) }
-        ensures rising { IfOk result (λ r. Rising known_id (changed r.change self.now.strangers)) }
-        ensures order { IfOk result (λ r. AreInOrder r.outs) }
-        ensures refused { IfErr result (λ fault. fault ≢ NoMemory → reply self.now (events.In station octets.entry) ≡ Err fault) }
-    {
-        let state = self.stations.get(station);
-        if let StationState::Down = state {
-            return Err(StepFault::NotUp);
-        }
-        let Outcome {
-            state,
-            sent,
-            reach,
-            calls,
-        } = outcome_of(
-            self.alloc,
-            &self.config.network,
-            &self.provision,
-            station,
-            state,
-            octets,
-        )?;
-        let summoned = Summoned { reach, calls };
-        let moves = Moves {
-            station: Some(station),
-            state,
-            clock: self.clock,
-        };
-        self.ready(moves, &sent, &summoned.reach, &summoned.calls)
-    }
-
-    // A second has passed.
-    fn tick(&self) -> Result<Ready, StepFault>
-        ensures reply { IfOk result (λ r. reply self.now events.Tick ≡ Ok r.outs) }
-        ensures after { IfOk result (λ r. ready_world r self.now ≡ world_after self.now events.Tick) }
-        ensures fits { IfOk result (λ r. IsFor r.prepared self.now.subscribers) }
-        ensures rising { IfOk result (λ r. Rising known_id (changed r.change self.now.strangers)) }
-        ensures order { IfOk result (λ r. AreInOrder r.outs) }
-        ensures refused { IfErr result (λ fault. fault ≢ NoMemory → reply self.now events.Tick ≡ Err fault) }
-    {
-        if self.clock >= LAST_TICK {
-            return Err(StepFault::ClockSpent);
-        }
-        let summoned = Summoned {
-            reach: Reach::Each(Notice::Tick),
-            calls: Calls::Everyone(SoloEvent::Tick),
-        };
-        let moves = Moves {
-            station: None,
+        Outcome {
             state: None,
-            clock: self.clock + 1,
-        };
-        let sent = Answers::new(self.alloc);
-        self.ready(moves, &sent, &summoned.reach, &summoned.calls)
-    }
-
-    // The slot of an IMSI that an event names.
-    fn slot_named(&self, imsi: Imsi) -> Result<Slot, StepFault>
-        ensures slot { IfOk result (λ slot. slot_of_imsi imsi self.now.sight.profiles ≡ Some slot) }
-        ensures nobody { OnErr result (slot_of_imsi imsi self.now.sight.profiles ≡ None) }
-        ensures refused { IfErr result (λ fault. fault ≡ UnknownImsi) }
-    {
-        match self.slot_of_imsi(imsi) {
-            Some(slot) => Ok(slot),
-            None => Err(StepFault::UnknownImsi),
+            sent: Answers::new(self.alloc),
+            destination,
         }
     }
 
-    // Downlink data waits.
-    fn data(&self, imsi: Imsi) -> Result<Ready, StepFault>
-        ensures reply { IfOk result (λ r. reply self.now (events.Data imsi) ≡ Ok r.outs) }
-        ensures after { IfOk result (λ r. ready_world r self.now ≡ world_after self.now (events.Data imsi)) }
-        ensures fits { IfOk result (λ r. IsFor r.prepared self.now.subscribers) }
-        ensures rising { IfOk result (λ r. Rising known_id (changed r.change self.now.strangers)) }
-        ensures order { IfOk result (λ r. AreInOrder r.outs) }
-        ensures refused { IfErr result (λ fault. fault ≢ NoMemory → reply self.now (events.Data imsi) ≡ Err fault) }
+    // What comes of an event that isn't refused.
+    fn outcome<'a>(&self, event: &Event<'a>) -> Result<Outcome<'a>, AllocError>
+        ensures { IfOk result (λ h. seen_outcome self.now.sight.stations h ≡ happens self.now.sight event.now) }
     {
-        let slot = self.slot_named(imsi)?;
-        let summoned = Summoned {
-            reach: Reach::Nobody,
-            calls: Calls::One(slot, SoloEvent::Data),
-        };
-        let moves = Moves {
-            station: None,
-            state: None,
-            clock: self.clock,
-        };
         let sent = Answers::new(self.alloc);
-        self.ready(moves, &sent, &summoned.reach, &summoned.calls)
+        match event {
+            Event::Up(_) => Ok(Outcome {
+                state: Some(StationState::Up),
+                sent,
+                destination: Destination::Nobody,
+            }),
+            Event::Lost(station) => {
+                Ok(Outcome::begins_anew(*station, Some(StationState::Down), sent))
+            }
+            Event::In(station, octets) => {
+                let (network, state) = (&self.config.network, self.stations.get(*station));
+                outcome_of(
+                    self.alloc,
+                    network,
+                    &self.provision,
+                    *station,
+                    state,
+                    octets,
+                )
+            }
+            Event::Tick => Ok(Outcome {
+                state: None,
+                sent,
+                destination: Destination::Everyone(Notice::Tick),
+            }),
+            Event::Data(imsi) => Ok(self.to_imsi(*imsi, SoloEvent::Data)),
+            Event::Cancel(imsi) => Ok(self.to_imsi(*imsi, SoloEvent::Cancel)),
+        }
     }
 
-    // A subscription is withdrawn.
-    fn cancel(&self, imsi: Imsi) -> Result<Ready, StepFault>
-        ensures reply { IfOk result (λ r. reply self.now (events.Cancel imsi) ≡ Ok r.outs) }
-        ensures after { IfOk result (λ r. ready_world r self.now ≡ world_after self.now (events.Cancel imsi)) }
-        ensures fits { IfOk result (λ r. IsFor r.prepared self.now.subscribers) }
-        ensures rising { IfOk result (λ r. Rising known_id (changed r.change self.now.strangers)) }
-        ensures order { IfOk result (λ r. AreInOrder r.outs) }
-        ensures refused { IfErr result (λ fault. fault ≢ NoMemory → reply self.now (events.Cancel imsi) ≡ Err fault) }
+    // The clock after an event that isn't refused.
+    fn clock_after(&self, event: &Event<'_>) -> u64
+        requires { event_fault self.now.sight event.now ≡ None }
+        ensures { result ≡ clock_after self.now.sight.clock event.now }
     {
-        let slot = self.slot_named(imsi)?;
-        let summoned = Summoned {
-            reach: Reach::Nobody,
-            calls: Calls::One(slot, SoloEvent::Cancel),
-        };
-        let moves = Moves {
-            station: None,
-            state: None,
-            clock: self.clock,
-        };
-        let sent = Answers::new(self.alloc);
-        self.ready(moves, &sent, &summoned.reach, &summoned.calls)
+        match event {
+            Event::Tick => self.clock + 1,
+            _ => self.clock,
+        }
     }
 
     // What an event leads to, on copies.
-    fn ready<'a>(
-        &'a self,
-        moves: Moves,
-        sent: &Answers,
-        reach: &Reach<'a>,
-        calls: &Calls<'a>,
-    ) -> Result<Ready, StepFault>
-        ensures sent { IfOk result (λ r. r.outs ≡ station_sent moves.station sent.now
-            ++ (strangers_sent self.entry.now.sight.profiles (reach_of reach.now) self.entry.now.strangers
-            ++ each_sent (called (calls_by (reach_of reach.now) (calls_of calls.now self.entry.now.sight.stations) self.entry.now.sight.profiles (strangers_in self.entry.now))) 0 self.entry.now.subscribers)) }
-        ensures strangers { IfOk result (λ r. changed r.change self.entry.now.strangers ≡ reached self.entry.now.sight.profiles (reach_of reach.now) self.entry.now.strangers) }
-        ensures subscribers { IfOk result (λ r. settled r.prepared self.entry.now.subscribers
-            ≡ each_after (called (calls_by (reach_of reach.now) (calls_of calls.now self.entry.now.sight.stations) self.entry.now.sight.profiles (strangers_in self.entry.now))) 0 self.entry.now.subscribers) }
-        ensures fits { IfOk result (λ r. IsFor r.prepared self.entry.now.subscribers) }
-        ensures moves { IfOk result (λ r. r.moves ≡ moves) }
-        ensures rising { IfOk result (λ r. Rising known_id (changed r.change self.entry.now.strangers)) }
+    fn ready(&self, event: &Event<'_>) -> Result<Ready, StepFault>
+        ensures reply { IfOk result (λ r. reply self.now event.now ≡ Ok r.outs) }
+        ensures after { IfOk result (λ r. ready_world r self.now ≡ world_after self.now event.now) }
+        ensures fits { IfOk result (λ r. IsFor r.prepared self.now.subscribers) }
+        ensures rising { IfOk result (λ r. Rising known_id (settled_strangers r.prepared self.now.strangers)) }
         ensures order { IfOk result (λ r. AreInOrder r.outs) }
-        ensures memory { IfErr result (λ fault. fault ≡ NoMemory) }
+        ensures accepted { OnOk result (event_fault self.now.sight event.now ≡ None) }
+        ensures refused { IfErr result (λ fault. (event_fault self.now.sight event.now ≡ Some fault) ⊎ ((fault ≡ NoMemory) × (event_fault self.now.sight event.now ≡ None))) }
     {
-        let mut outs = station_outs(self.alloc, moves.station, sent)?;
-        let (provision, strangers) = (&self.provision, &self.strangers);
-        let turned = turn(self.alloc, provision, strangers, reach, &mut outs)?;
-        let prepared = prepare_called(
+        if let Some(fault) = self.fault_of(event) {
+            return Err(fault);
+        }
+        let clock = self.clock_after(event);
+        let station = event.station();
+        let outcome = self.outcome(event)?;
+        let mut outs = station_outs(self.alloc, station, &outcome.sent)?;
+        let prepared = prepare(
             self.alloc,
+            &self.provision,
+            &self.strangers,
             self.subscribers.as_slice(),
-            &turned.call,
-            calls,
             &self.stations,
+            &outcome.destination,
             &mut outs,
         )?;
-        let Turned { change, call: _ } = turned;
+        let moves = Moves {
+            station,
+            state: outcome.state,
+            clock,
+        };
         Ok(Ready {
             moves,
-            change,
             prepared,
             outs,
         })
     }
 
-    // What was prepared is so, if it was.
-    fn conclude(&mut self, ready: Result<Ready, StepFault>) -> Result<Outs, StepFault>
-        requires fits { IfOk ready (λ r. IsFor r.prepared self.old.subscribers) }
-        requires rising { IfOk ready (λ r. Rising known_id (changed r.change self.old.strangers)) }
-        ensures after { OnOk result (IfOk ready (λ r. self.new ≡ ready_world r self.old)) }
-        ensures outs { IfOk result (λ outs. IfOk ready (λ r. outs ≡ r.outs)) }
-        ensures short { IfOk result (λ outs. AreShort outs) }
-        ensures ok { OnOk result (IsOk ready) }
-        ensures refused { IfErr result (λ fault. fault ≢ NoMemory → ready ≡ Err fault) }
-        ensures err { OnErr result (self.new ≡ self.old) }
-    {
-        match ready {
-            Ok(ready) => self.take(ready),
-            Err(fault) => Err(fault),
-        }
-    }
-
     // What was prepared is so. Room for a stranger comes first; refused, all is as it was.
     fn take(&mut self, ready: Ready) -> Result<Outs, StepFault>
         requires fits { IsFor ready.prepared self.old.subscribers }
-        requires rising { Rising known_id (changed ready.change self.old.strangers) }
+        requires rising { Rising known_id (settled_strangers ready.prepared self.old.strangers) }
         ensures after { OnOk result (self.new ≡ ready_world ready self.old) }
         ensures outs { IfOk result (λ outs. outs ≡ ready.outs) }
         ensures short { IfOk result (λ outs. AreShort outs) }
@@ -427,19 +301,12 @@ impl Mme {
     {
         let Ready {
             moves,
-            change,
             prepared,
             outs,
         } = ready;
-        let Moves {
-            station,
-            state,
-            clock,
-        } = moves;
-        settle_strangers(&mut self.strangers, change)?;
-        settle_station(&mut self.stations, station, state);
-        self.clock = clock;
-        settle(&mut self.subscribers, prepared);
+        settle(&mut self.strangers, &mut self.subscribers, prepared)?;
+        settle_station(&mut self.stations, moves.station, moves.state);
+        self.clock = moves.clock;
         // The caller is told this of all messages.
         outs.are_short();
         Ok(outs)

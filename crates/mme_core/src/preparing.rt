@@ -3,73 +3,24 @@
 ghost use Rattle.std.specs.Prelude.{◌≡◌, ◌≤◌, ◌++◌, List, map, length, IfOk, OnOk};
 ghost use Rattle.mme_vocabulary.specs.declared.stations.StationState.{StationState};
 ghost use Rattle.mme_vocabulary.specs.Events.{item_of};
-ghost use Rattle.stranger_machine.specs.Table.{reached, stranger_at};
+ghost use Rattle.stranger_machine.specs.Table.{stranger_at};
 ghost use Rattle.stranger_machine.specs.Turns.{call_of};
-ghost use Rattle.mme_routing.specs.Seen.{calls_of, reach_of};
-ghost use Rattle.mme_core.specs.Settled.{IsFor, changed, settled, stepped_from};
-ghost use Rattle.mme_routing.specs.Outcomes.{Everyone, One};
-ghost use Rattle.mme_core.specs.World.{called, each_after, each_sent, reach_call, slot_out, strangers_sent, with_call, subscriber_step};
+ghost use Rattle.mme_routing.specs.Destinations.{for_all, for_one, if_called, item_at, item_of_notice, strangers_behind};
+ghost use Rattle.mme_routing.specs.Seen.{destination_of};
+ghost use Rattle.mme_core.specs.Settled.{IsFor, IsUnder, settled_strangers, settled_subscribers, stepped_from, with_one};
+ghost use Rattle.mme_core.specs.World.{each_after, each_sent, slot_out, strangers_sent, subscriber_step};
 
-use crate::changes::{Change, Prepared, Stepped, Turned};
 use crate::out::{Outs, Owner};
+use crate::prepared::{Prepared, Stepped};
 use crate::provisioning::slot_of;
 use crate::sending::{send_all, send_each};
 use emm_machine::Subscriber;
 use emm_state::{Draft, Solo};
 use identity_slots::{Provision, Slot};
-use mme_routing::{Calls, Reach};
+use mme_routing::Destination;
 use mme_vocabulary::{EnbWorld, SoloEvent};
 use std::alloc::{AllocError, Global};
-use stranger_machine::{Call, Strangers, Turn, begins, receives};
-
-/// What strangers do at an event, with what they send behind what is sent so far, and whom they call.
-pub(crate) fn turn<'a>(
-    alloc: Global,
-    provision: &Provision,
-    strangers: &'a Strangers,
-    reach: &Reach<'a>,
-    outs: &mut Outs,
-) -> Result<Turned<'a>, AllocError>
-    ensures sends { OnOk result (outs.new ≡ outs.old ++ strangers_sent provision.now.profiles (reach_of reach.now) strangers.entry.now) }
-    ensures change { IfOk result (λ t. changed t.change strangers.entry.now ≡ reached provision.now.profiles (reach_of reach.now) strangers.entry.now) }
-    ensures call { IfOk result (λ t. (stations : List StationState) → call_of stations t.call ≡ reach_call provision.now.profiles (reach_of reach.now) (λ id. stranger_at id strangers.entry.now)) }
-{
-    match reach {
-        Reach::Nobody => Ok(Turned {
-            change: Change::Nobody,
-            call: None,
-        }),
-        Reach::Begins(id, entry) => {
-            let Turn { after, sent, call } = begins(alloc, *id, strangers.find(*id), entry)?;
-            send_all(alloc, outs, Owner::Stranger(*id), &sent)?;
-            Ok(Turned {
-                change: Change::One(*id, after),
-                call,
-            })
-        }
-        Reach::Receives(message) => {
-            let id = message.mme_id;
-            let Turn { after, sent, call } = receives(
-                alloc,
-                provision,
-                strangers.find(id),
-                message,
-            )?;
-            send_all(alloc, outs, Owner::Stranger(id), &sent)?;
-            Ok(Turned {
-                change: Change::One(id, after),
-                call,
-            })
-        }
-        Reach::Each(notice) => {
-            send_each(alloc, strangers.as_slice(), notice, outs)?;
-            Ok(Turned {
-                change: Change::Each(*notice),
-                call: None,
-            })
-        }
-    }
-}
+use stranger_machine::{Call, Notice, Strangers, Turn, begins, receives};
 
 // A subscriber's step, on a copy: its state after it; what it sends stands behind what is sent so far.
 fn prepare_step(
@@ -102,7 +53,7 @@ fn prepare_everyone(
 ) -> Result<Vec<Stepped>, AllocError>
     requires { length subscribers.now ≤ 2048 }
     ensures stepped { IfOk result (λ xs. xs.items ≡ stepped_from (item_of event.now stations.now) 0 subscribers.now) }
-    ensures sends { OnOk result (outs.new ≡ outs.old ++ each_sent (called (Everyone (item_of event.now stations.now))) 0 subscribers.now) }
+    ensures sends { OnOk result (outs.new ≡ outs.old ++ each_sent (for_all (item_of event.now stations.now)) 0 subscribers.now) }
 {
     let mut stepped = Vec::new(alloc);
     for (place, subscriber) in subscribers.iter().enumerate() {
@@ -116,7 +67,7 @@ fn prepare_everyone(
     Ok(stepped)
 }
 
-// The step of one.
+// The step of one, if its slot is provisioned.
 fn prepare_one(
     alloc: Global,
     subscribers: &[Subscriber],
@@ -124,62 +75,100 @@ fn prepare_one(
     event: &SoloEvent,
     stations: &EnbWorld,
     outs: &mut Outs,
-) -> Result<Prepared, AllocError>
-    ensures after { IfOk result (λ p. settled p subscribers.now ≡ each_after (called (One slot (item_of event.now stations.now))) 0 subscribers.now) }
-    ensures fits { IfOk result (λ p. IsFor p subscribers.now) }
-    ensures sends { OnOk result (outs.new ≡ outs.old ++ each_sent (called (One slot (item_of event.now stations.now))) 0 subscribers.now) }
+) -> Result<Option<Stepped>, AllocError>
+    ensures after { IfOk result (λ x. with_one x subscribers.now ≡ each_after (for_one slot (item_of event.now stations.now)) 0 subscribers.now) }
+    ensures fits { IfOk result (λ x. IsUnder (length subscribers.now) x) }
+    ensures sends { OnOk result (outs.new ≡ outs.old ++ each_sent (for_one slot (item_of event.now stations.now)) 0 subscribers.now) }
 {
     let place = slot.get() as usize;
     if place >= subscribers.len() {
-        return Ok(Prepared::Nobody);
+        return Ok(None);
     }
     let subscriber = &subscribers[place];
     let solo = prepare_step(alloc, subscriber, slot, event, stations, outs)?;
-    Ok(Prepared::One(slot, solo))
+    Ok(Some(Stepped { slot, solo }))
 }
 
-// The states of those who are called, and what they send behind what is sent so far.
-fn prepare(
-    alloc: Global,
-    subscribers: &[Subscriber],
-    calls: &Calls,
-    stations: &EnbWorld,
-    outs: &mut Outs,
-) -> Result<Prepared, AllocError>
-    requires few { length subscribers.now ≤ 2048 }
-    ensures after { IfOk result (λ p. settled p subscribers.now ≡ each_after (called (calls_of calls.now stations.now)) 0 subscribers.now) }
-    ensures fits { IfOk result (λ p. IsFor p subscribers.now) }
-    ensures sends { OnOk result (outs.new ≡ outs.old ++ each_sent (called (calls_of calls.now stations.now)) 0 subscribers.now) }
-{
-    match calls {
-        Calls::NoOne => Ok(Prepared::Nobody),
-        Calls::One(slot, event) => { prepare_one(alloc, subscribers, *slot, event, stations, outs) }
-        Calls::Everyone(event) => {
-            let stepped = prepare_everyone(alloc, subscribers, event, stations, outs)?;
-            Ok(Prepared::Everyone(stepped))
-        }
-    }
-}
-
-/// The states of those whom a stranger calls, else of those whom the event calls, likewise.
-pub(crate) fn prepare_called(
+// The step of the one whom a stranger calls, if it calls.
+fn prepare_called(
     alloc: Global,
     subscribers: &[Subscriber],
     call: &Option<Call>,
-    calls: &Calls,
     stations: &EnbWorld,
     outs: &mut Outs,
-) -> Result<Prepared, AllocError>
-    requires few { length subscribers.now ≤ 2048 }
-    ensures after { IfOk result (λ p. settled p subscribers.now ≡ each_after (called (with_call (call_of stations.now call.now) (calls_of calls.now stations.now))) 0 subscribers.now) }
-    ensures fits { IfOk result (λ p. IsFor p subscribers.now) }
-    ensures sends { OnOk result (outs.new ≡ outs.old ++ each_sent (called (with_call (call_of stations.now call.now) (calls_of calls.now stations.now))) 0 subscribers.now) }
+) -> Result<Option<Stepped>, AllocError>
+    ensures after { IfOk result (λ x. with_one x subscribers.now ≡ each_after (if_called (call_of stations.now call.now)) 0 subscribers.now) }
+    ensures fits { IfOk result (λ x. IsUnder (length subscribers.now) x) }
+    ensures sends { OnOk result (outs.new ≡ outs.old ++ each_sent (if_called (call_of stations.now call.now)) 0 subscribers.now) }
 {
     match call {
         Some(call) => {
             let event = &call.event;
             prepare_one(alloc, subscribers, call.slot, event, stations, outs)
         }
-        None => prepare(alloc, subscribers, calls, stations, outs),
+        None => Ok(None),
+    }
+}
+
+// What a notice is to a subscriber.
+fn event_of<'a>(notice: Notice) -> SoloEvent<'a>
+    ensures { (stations : List StationState) → item_of result stations ≡ item_of_notice notice }
+{
+    match notice {
+        Notice::Tick => SoloEvent::Tick,
+        Notice::Gone(station) => SoloEvent::StationGone(station),
+    }
+}
+
+/// What is to become of those whom an event goes to, and what they send, behind what is sent so far.
+pub(crate) fn prepare<'a>(
+    alloc: Global,
+    provision: &Provision,
+    strangers: &'a Strangers,
+    subscribers: &[Subscriber],
+    stations: &EnbWorld,
+    destination: &Destination<'a>,
+    outs: &mut Outs,
+) -> Result<Prepared, AllocError>
+    requires few { length subscribers.now ≤ 2048 }
+    ensures sends { OnOk result (outs.new ≡ outs.old ++ (strangers_sent provision.now.profiles (destination_of stations.now destination.now) strangers.entry.now
+        ++ each_sent (item_at (destination_of stations.now destination.now) provision.now.profiles (λ id. stranger_at id strangers.entry.now)) 0 subscribers.now)) }
+    ensures strangers { IfOk result (λ p. settled_strangers p strangers.entry.now ≡ strangers_behind provision.now.profiles (destination_of stations.now destination.now) strangers.entry.now) }
+    ensures subscribers { IfOk result (λ p. settled_subscribers p subscribers.now
+        ≡ each_after (item_at (destination_of stations.now destination.now) provision.now.profiles (λ id. stranger_at id strangers.entry.now)) 0 subscribers.now) }
+    ensures fits { IfOk result (λ p. IsFor p subscribers.now) }
+{
+    match destination {
+        Destination::Nobody => Ok(Prepared::Nobody),
+        Destination::Subscriber(slot, event) => {
+            match prepare_one(alloc, subscribers, *slot, event, stations, outs)? {
+                Some(stepped) => Ok(Prepared::Subscriber(stepped)),
+                None => Ok(Prepared::Nobody),
+            }
+        }
+        Destination::Beginner(id, entry) => {
+            let Turn { after, sent, call } = begins(alloc, *id, strangers.find(*id), entry)?;
+            send_all(alloc, outs, Owner::Stranger(*id), &sent)?;
+            let called = prepare_called(alloc, subscribers, &call, stations, outs)?;
+            Ok(Prepared::Stranger(*id, after, called))
+        }
+        Destination::Stranger(message) => {
+            let id = message.mme_id;
+            let Turn { after, sent, call } = receives(
+                alloc,
+                provision,
+                strangers.find(id),
+                message,
+            )?;
+            send_all(alloc, outs, Owner::Stranger(id), &sent)?;
+            let called = prepare_called(alloc, subscribers, &call, stations, outs)?;
+            Ok(Prepared::Stranger(id, after, called))
+        }
+        Destination::Everyone(notice) => {
+            send_each(alloc, strangers.as_slice(), notice, outs)?;
+            let event = event_of(*notice);
+            let stepped = prepare_everyone(alloc, subscribers, &event, stations, outs)?;
+            Ok(Prepared::Everyone(*notice, stepped))
+        }
     }
 }

@@ -2,10 +2,10 @@
 
 ghost use Rattle.std.specs.Prelude.{◌≡◌, ◌<◌, length, slice_set, unwrap_or, OnOk, OnErr};
 ghost use Rattle.mme_vocabulary.specs.Stations.{station_at};
-ghost use Rattle.mme_core.specs.Settled.{AreUnder, IsFor, changed, settled, with_solo, with_stepped};
-ghost use Rattle.mme_core.specs.Ready.{placed};
+ghost use Rattle.mme_core.specs.Settled.{AreUnder, IsFor, settled_strangers, settled_subscribers, with_solo, with_stepped};
+ghost use Rattle.mme_core.specs.World.{placed};
 
-use crate::changes::{Change, Prepared, Stepped};
+use crate::prepared::{Prepared, Stepped};
 use emm_machine::Subscriber;
 use emm_state::Solo;
 use identity_slots::Slot;
@@ -31,16 +31,33 @@ fn settle_one(subscribers: &mut Vec<Subscriber>, slot: Slot, solo: Solo)
     subscribers[slot.get() as usize].settle(solo);
 }
 
-/// The states that were prepared are theirs.
-pub(crate) fn settle(subscribers: &mut Vec<Subscriber>, prepared: Prepared)
+/// Strangers and subscribers are what was prepared. Room for a stranger comes first; refused, all are as they were.
+pub(crate) fn settle(
+    strangers: &mut Strangers,
+    subscribers: &mut Vec<Subscriber>,
+    prepared: Prepared,
+) -> Result<(), AllocError>
     requires { IsFor prepared subscribers.old.items }
-    ensures { subscribers.new.items ≡ settled prepared subscribers.old.items }
+    ensures strangers { OnOk result (strangers.new ≡ settled_strangers prepared strangers.old) }
+    ensures subscribers { OnOk result (subscribers.new.items ≡ settled_subscribers prepared subscribers.old.items) }
+    ensures same_strangers { OnErr result (strangers.new ≡ strangers.old) }
+    ensures same_subscribers { OnErr result (subscribers.new.items ≡ subscribers.old.items) }
 {
     match prepared {
         Prepared::Nobody => {}
-        Prepared::One(slot, solo) => settle_one(subscribers, slot, solo),
-        Prepared::Everyone(stepped) => settle_everyone(subscribers, stepped),
+        Prepared::Subscriber(one) => settle_one(subscribers, one.slot, one.solo),
+        Prepared::Stranger(id, after, called) => {
+            strangers.settle(id, after)?;
+            if let Some(one) = called {
+                settle_one(subscribers, one.slot, one.solo);
+            }
+        }
+        Prepared::Everyone(notice, stepped) => {
+            strangers.note(notice);
+            settle_everyone(subscribers, stepped);
+        }
     }
+    Ok(())
 }
 
 // A station's new state, where it has one.
@@ -63,20 +80,5 @@ pub(crate) fn settle_station(
     match station {
         Some(station) => settle_own(stations, station, state),
         None => {}
-    }
-}
-
-/// Strangers are what was prepared; refused, they are as they were.
-pub(crate) fn settle_strangers(strangers: &mut Strangers, change: Change) -> Result<(), AllocError>
-    ensures ok { OnOk result (strangers.new ≡ changed change strangers.old) }
-    ensures err { OnErr result (strangers.new ≡ strangers.old) }
-{
-    match change {
-        Change::Nobody => Ok(()),
-        Change::One(id, after) => strangers.settle(id, after),
-        Change::Each(notice) => {
-            strangers.note(notice);
-            Ok(())
-        }
     }
 }

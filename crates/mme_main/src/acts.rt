@@ -123,7 +123,7 @@ fn step_event<W: Write>(
     ensures taken { IfOk result (λ taken. taken ≡ is_ok (reply mme.old event.now)) }
     ensures write { IsErrOf result PlayFault.Write → writer.new.failed ≡ true }
 {
-    match mme.step(event.again()) {
+    match mme.step(event) {
         Ok(outs) => match write_all(alloc, outs.as_slice(), writer) {
             Ok(()) => Ok(true),
             Err(fault) => Err(fault),
