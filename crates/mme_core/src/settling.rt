@@ -45,11 +45,11 @@ pub(crate) fn settle(
 {
     match prepared {
         Prepared::Nobody => {}
-        Prepared::Subscriber(one) => settle_one(subscribers, one.slot, one.solo),
+        Prepared::Subscriber(called) => settle_one(subscribers, called.slot, called.solo),
         Prepared::Stranger(id, after, called) => {
             strangers.settle(id, after)?;
-            if let Some(one) = called {
-                settle_one(subscribers, one.slot, one.solo);
+            if let Some(called) = called {
+                settle_one(subscribers, called.slot, called.solo);
             }
         }
         Prepared::Everyone(notice, stepped) => {

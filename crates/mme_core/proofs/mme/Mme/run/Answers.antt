@@ -18,11 +18,10 @@ loop-event-preserved c =
     let rs = c.loop-event.replies.items in
     let h = c.loop-event.invariant in
     let x = c.event-item.result in
-    let e = c.again.result in
-    let more : take (i + 1) es ≡ take i es ++ e ∷ [] = take_more es i x c.loop-event-test.true ∙ ap (λ y. take i es ++ y ∷ []) (sym c.event-item.is) ∙ ap (λ y. take i es ++ y ∷ []) (sym c.again.ensures) in
+    let more : take (i + 1) es ≡ take i es ++ x ∷ [] = take_more es i x c.loop-event-test.true ∙ ap (λ y. take i es ++ y ∷ []) (sym c.event-item.is) in
     let push : c.push_reserved.new.self.items ≡ rs ++ c.step-reply.result ∷ [] = c.push_reserved.ensures.items in
     let same : length (take i es) ≡ length rs = omega (arith, length-take i es) in
-    let next = ran_more c.args.self.now (take i es) rs c.loop-event.self c.step-reply.new.self e c.step-reply.result same h.ran
+    let next = ran_more c.args.self.now (take i es) rs c.loop-event.self c.step-reply.new.self x c.step-reply.result same h.ran
     c.step-reply.ensures.reply c.step-reply.ensures.after c.step-reply.ensures.refused c.step-reply.ensures.err in
     record {
       room = omega (arith, h.room, c.push_reserved.ensures.capacity);
