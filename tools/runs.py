@@ -232,6 +232,9 @@ ENDS_CONNECTION = {s1ap.AUTHENTICATION_RESPONSE, s1ap.AUTHENTICATION_FAILURE, s1
 # ATTACH REJECT, DETACH ACCEPT, TRACKING AREA UPDATE REJECT, SERVICE REJECT and AUTHENTICATION REJECT: behind them it ends.
 LAST_OF_CONNECTION = {0x44, 0x46, 0x4B, 0x4E, 0x54}
 TIMED_OUT = "nas unspecified"
+# The seconds of the timers that run behind a NAS message: T3450, T3422, T3460, T3470 and T3489 (TS 24.301 tables 10.2.2, 10.3.2).
+TIMERS = {0x42: 6, 0x49: 6, 0x45: 6, 0x52: 6, 0x5D: 6, 0x55: 6, 0xD9: 4}
+PAGING_TIMER = 10  # T3413, which the network chooses (TS 24.301 table 10.2.2)
 
 Content = collections.namedtuple("Content", "message name outcome mme_id enb_id cause nas")
 
@@ -256,7 +259,7 @@ class Causes:
 
     def __init__(self, imsis):
         self.slots = {imsi: slot for slot, imsi in enumerate(imsis)}
-        self.ready, self.sent = set(), {}
+        self.ready, self.sent, self.due = set(), {}, {}
 
     def slot_of(self, heard):
         """The slot that a message names, or nothing."""
@@ -316,8 +319,7 @@ class Causes:
         if event.word == "in":
             return self.fits_message(step, answer, said)
         if event.word == "tick":
-            timed_out = said.message.code == s1ap.RELEASE and said.cause == TIMED_OUT
-            return timed_out or self.kind_of(said) in self.sent.get(answer.owner, ())
+            return self.second_of(step, answer, said) is not None
         named = answer.owner == "s%s" % self.slots.get(event.imsi)
         if event.word == "data":
             return named and said.message.code == s1ap.PAGING
@@ -328,10 +330,27 @@ class Causes:
         """What is the same of a message and of its repeat."""
         return said.nas.name if said.nas else said.outcome
 
-    def note(self, answer, said):
+    def second_of(self, step, answer, said):
+        """The second of a tick at which a timer of the owner ends and this answer can be sent, or nothing."""
+        for second, other in step.answers:
+            if other.owner == answer.owner and other.octets == answer.octets and other.station > answer.station:
+                return None
+            if other.owner == answer.owner and other.octets == answer.octets and other.station < answer.station:
+                return second
+        timed_out = said.message.code == s1ap.RELEASE and said.cause == TIMED_OUT
+        due = self.due.get(answer.owner, step.second)
+        if timed_out or self.kind_of(said) in self.sent.get(answer.owner, ()):
+            return due if step.second < due <= step.second + step.event.ticks else None
+        return None
+
+    def note(self, second, answer, said):
+        """Keeps what was sent, and when it is due again."""
         self.sent.setdefault(answer.owner, set()).add(self.kind_of(said))
         if said.outcome == (s1ap.SETUP, s1ap.SUCCESSFUL):
             self.ready.add(answer.station)
+        timer = PAGING_TIMER if said.message.code == s1ap.PAGING else TIMERS.get(said.nas.type if said.nas else None)
+        if timer:
+            self.due[answer.owner] = second + timer
 
     def give(self, steps, answers):
         """Gives each answer to the first step, not before that of the answer before, which fits it; else to the one before."""
@@ -340,19 +359,12 @@ class Causes:
             said = content(answer.octets)
             fitting = (place for place in range(at, len(steps)) if self.fits(steps[place], answer, said))
             at = next(fitting, at)
-            steps[at].answers.append((steps[at].second, answer))
-            self.note(answer, said)
-
-
-def spread(step):
-    """Gives the answers to ticks their seconds: those of one owner evenly, since no answer says its own."""
-    ticks, places = step.event.ticks, collections.Counter()
-    counts = collections.Counter(answer.owner for _, answer in step.answers)
-    timed = []
-    for _, answer in step.answers:
-        places[answer.owner] += 1
-        timed.append((step.second + max(1, ticks * places[answer.owner] // counts[answer.owner]), answer))
-    step.answers = sorted(timed, key=lambda pair: pair[0])
+            step = steps[at]
+            second = step.second
+            if step.event.word == "tick":
+                second = self.second_of(step, answer, said) or step.second + step.event.ticks
+            step.answers.append((second, answer))
+            self.note(second, answer, said)
 
 
 def matched(trace, answers):
@@ -381,8 +393,7 @@ def matched(trace, answers):
         raise Fault("the answers aren't those to this trace: it ends before they do")
     give_until(len(answers))
     for step in steps:
-        if step.event.word == "tick":
-            spread(step)
+        step.answers.sort(key=lambda pair: pair[0])
     return steps
 
 
