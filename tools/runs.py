@@ -322,7 +322,8 @@ class Causes:
             return self.second_of(step, answer, said) is not None
         named = answer.owner == "s%s" % self.slots.get(event.imsi)
         if event.word == "data":
-            return named and said.message.code == s1ap.PAGING
+            paged = any(other.station == answer.station for _, other in step.answers)
+            return named and not paged and said.message.code == s1ap.PAGING
         return event.word == "cancel" and named and said.message.code in (s1ap.RELEASE, s1ap.DOWNLINK_NAS)
 
     @staticmethod

@@ -74,6 +74,17 @@ class Matching(unittest.TestCase):
         [ticks] = [step for step in steps if step.event.word == "tick"]
         self.assertEqual([second for second, _ in ticks.answers], [6, 12, 18, 24, 30])
 
+    def test_answers_to_data(self):
+        """A page for data, and one more when the MME's T3413 of 10 seconds ends, with nothing shown in between."""
+        path = tools.ROWS / "paging.trace"
+        lines = [line for line in path.read_text().splitlines() if not line.startswith("show")]
+        answers = [line for line in path.with_suffix(".answers").read_text().splitlines() if not line.startswith("state")]
+        trace = RUNS.read_trace("\n".join(lines).encode())
+        steps = RUNS.matched(trace, RUNS.read_answers("\n".join(answers).encode()))
+        [data] = [step for step in steps if step.event.word == "data"]
+        ticks = [second for step in steps if step.event.word == "tick" for second, _ in step.answers]
+        self.assertEqual(([second for second, _ in data.answers], ticks), ([0], [10]))
+
     def test_other_answers(self):
         trace, answers = row("attach_whole")
         for other in (answers[:-1], answers + [RUNS.Answer("refused", fault=1)], row("up_twice")[1]):

@@ -143,6 +143,19 @@ class Lines(unittest.TestCase):
         self.assertEqual(done.returncode, 2)
         self.assertIn(b"MAC-S", done.stderr)
 
+    def test_autn(self):
+        """The AUTN of the first set with its RAND names that set's SQN and AMF; the vector is the same, others follow."""
+        given = FIRST
+        concealed = bytes(x ^ y for x, y in zip(given["sqn"], given["f5"]))
+        autn = concealed + given["amf"] + given["f1"]
+        words = ["--autn", autn.hex(), "--rand", given["rand"].hex()]
+        self.assertEqual(lines(*words), lines("--sqn", given["sqn"].hex(), "--amf", "b9b9", "--rand", given["rand"].hex()))
+        self.assertEqual(sqns(*words, "--count", "2"), ["ff9bb4d0b607", "ff9bb4d0b627"])
+        turned = autn[:-1] + bytes([autn[-1] ^ 1])
+        done = tools.ran("vectors", *SIM, "--autn", turned.hex(), *words[2:])
+        self.assertEqual(done.returncode, 2)
+        self.assertIn(b"MAC in the AUTN", done.stderr)
+
     def test_words_of_a_file(self):
         with tempfile.NamedTemporaryFile("w") as file:
             file.write("# a SIM\n%s  # its words\n" % " ".join(SIM))
@@ -171,7 +184,9 @@ class Faults(unittest.TestCase):
                 (SIM + sqn + ["--plmn", "1", "01"], b"3 digits"),
                 (SIM + sqn + ["--imsi", "0010100000000012"], b"14 or 15 digits"),
                 (SIM + sqn + ["--count", "2", "--rand", "00" * 16], b"as many --rand"),
-                (SIM + ["--auts", "00" * 14], b"needs the RAND"),
+                (SIM + ["--auts", "00" * 14], b"need the RAND"),
+                (SIM + ["--autn", "00" * 16], b"need the RAND"),
+                (SIM + ["--autn", "00" * 15], b"16 octets"),
                 (SIM + ["--sqn", "ffffffffffe0", "--count", "2"], b"more than 48 bits"),
                 (["@/nowhere"], b"No such file"),
                 (["@" + str(tools.TOP)], b"directory")):
