@@ -8,8 +8,8 @@ import collections
 
 INITIATING, SUCCESSFUL, UNSUCCESSFUL = range(3)
 
-PATH_SWITCH, CONTEXT_SETUP, PAGING, DOWNLINK_NAS, INITIAL_UE, UPLINK_NAS, RESET, ERROR, NON_DELIVERY = 3, 9, 10, 11, 12, 13, 14, 15, 16
-SETUP, RELEASE_REQUEST, CAPABILITY, RELEASE = 17, 18, 22, 23
+PATH_SWITCH, CONTEXT_SETUP, PAGING, DOWNLINK_NAS, INITIAL_UE, UPLINK_NAS = 3, 9, 10, 11, 12, 13
+RESET, ERROR, NON_DELIVERY, SETUP, RELEASE_REQUEST, CAPABILITY, RELEASE = 14, 15, 16, 17, 18, 22, 23
 
 # The message of each outcome, by the procedure's code.
 NAMES = {
@@ -53,13 +53,14 @@ NAMES = {
 }
 
 # The messages that only a station sends, and those that only an MME sends, by code and outcome.
-OF_STATION = {(code, INITIATING) for code in (PATH_SWITCH, INITIAL_UE, UPLINK_NAS, NON_DELIVERY, SETUP, RELEASE_REQUEST, CAPABILITY)}
+OF_STATION = {(code, INITIATING) for code in (PATH_SWITCH, INITIAL_UE, UPLINK_NAS, NON_DELIVERY, SETUP)}
+OF_STATION |= {(code, INITIATING) for code in (RELEASE_REQUEST, CAPABILITY)}
 OF_STATION |= {(CONTEXT_SETUP, SUCCESSFUL), (CONTEXT_SETUP, UNSUCCESSFUL), (RELEASE, SUCCESSFUL)}
 OF_MME = {(code, INITIATING) for code in (CONTEXT_SETUP, PAGING, DOWNLINK_NAS, RELEASE)}
 OF_MME |= {(code, outcome) for code in (SETUP, PATH_SWITCH) for outcome in (SUCCESSFUL, UNSUCCESSFUL)}
 
 # Protocol IEs (clause 9.3.6).
-MME_ID, CAUSE, ENB_ID, SETUP_LIST, NAS_PDU, SETUP_ITEM, SOURCE_MME_ID, S_TMSI, BOTH_IDS = 0, 2, 8, 24, 26, 52, 88, 96, 99
+MME_ID, CAUSE, ENB_ID, SETUP_LIST, NAS_PDU, SOURCE_MME_ID, S_TMSI, BOTH_IDS = 0, 2, 8, 24, 26, 88, 96, 99
 
 # The groups of causes with the bits of their root, and the names in it (clause 9.2.1.3, Release 8).
 RADIO_CAUSES = """unspecified tx2relocoverall-expiry successful-handover release-due-to-eutran-generated-reason

@@ -117,10 +117,14 @@ class Text(unittest.TestCase):
         [phone] = CHART.lanes_of(rows)[0]
         self.assertEqual(phone.name(), "IMSI 001010000000001")
 
-    def test_phone_that_is_not_known(self):
-        rows, _ = rows_of("identity_unanswered")
-        [phone] = CHART.lanes_of(rows)[0]
-        self.assertEqual(phone.name(), "UE 2 at station 0")
+    def test_phones_that_are_not_known(self):
+        """One that never tells its IMSI; one with another network's GUTI, whose M-TMSI would be that of the first; one that
+        names an id of nobody."""
+        for name, phones in (("identity_unanswered", ["UE 2 at station 0"]),
+                             ("guti_of_other_plmn", ["IMSI 001010000000001", "UE 2 at station 0"]),
+                             ("unknown_mme_id", ["UE 1 at station 0"])):
+            with self.subTest(row=name):
+                self.assertEqual([phone.name() for phone in CHART.lanes_of(rows_of(name)[0])[2]], phones)
 
     def test_phones_and_stations(self):
         """Each phone and each station has its lane: a path switch moves no phone to another."""
