@@ -226,9 +226,9 @@ ANSWERS_TO = {
 STATUSES = {s1ap.EMM_STATUS, s1ap.ESM_STATUS}
 UNANSWERED = {s1ap.ATTACH_COMPLETE, s1ap.TAU_COMPLETE, s1ap.DETACH_ACCEPT, s1ap.SECURITY_MODE_REJECT} | STATUSES
 SETS_UP_CONTEXT = {s1ap.SERVICE_REQUEST, s1ap.SECURITY_MODE_COMPLETE, s1ap.INFORMATION_RESPONSE}
-# The NAS messages on a connection that may end it.
-ENDS_CONNECTION = {s1ap.AUTHENTICATION_RESPONSE, s1ap.AUTHENTICATION_FAILURE, s1ap.SECURITY_MODE_REJECT, s1ap.DETACH_REQUEST,
-                   s1ap.DETACH_ACCEPT, s1ap.TAU_COMPLETE, s1ap.IDENTITY_RESPONSE}
+# The NAS messages on a connection that may end it with nothing else sent before; a completed update does where it came from idle.
+ENDS_CONNECTION = {s1ap.SECURITY_MODE_REJECT, s1ap.DETACH_REQUEST, s1ap.DETACH_ACCEPT}
+TAU_ACCEPT = 0x49
 # ATTACH REJECT, DETACH ACCEPT, TRACKING AREA UPDATE REJECT, SERVICE REJECT and AUTHENTICATION REJECT: behind them it ends.
 LAST_OF_CONNECTION = {0x44, 0x46, 0x4B, 0x4E, 0x54}
 TIMED_OUT = "nas unspecified"
@@ -259,7 +259,7 @@ class Causes:
 
     def __init__(self, imsis):
         self.slots = {imsi: slot for slot, imsi in enumerate(imsis)}
-        self.ready, self.sent, self.due = set(), {}, {}
+        self.ready, self.sent, self.due, self.from_idle = set(), {}, {}, set()
 
     def slot_of(self, heard):
         """The slot that a message names, or nothing."""
@@ -308,7 +308,8 @@ class Causes:
             return kind in SETS_UP_CONTEXT
         if said.message.code == s1ap.RELEASE:
             asked = heard.message.code == s1ap.RELEASE_REQUEST or heard.outcome == (s1ap.CONTEXT_SETUP, s1ap.UNSUCCESSFUL)
-            return first or asked or heard.nas is not None and kind in ENDS_CONNECTION
+            updated = kind == s1ap.TAU_COMPLETE and answer.owner in self.from_idle
+            return first or asked or updated or bool(before) or kind in ENDS_CONNECTION
         if said.message.code == s1ap.DOWNLINK_NAS and heard.nas and said.nas:
             return said.nas.type in ANSWERS_TO.get(kind, ()) or said.nas.type in STATUSES and kind not in UNANSWERED
         return False
@@ -344,14 +345,17 @@ class Causes:
             return due if step.second < due <= step.second + step.event.ticks else None
         return None
 
-    def note(self, second, answer, said):
-        """Keeps what was sent, and when it is due again."""
+    def note(self, step, second, answer, said):
+        """Keeps what was sent, on what, and when it is due again."""
         self.sent.setdefault(answer.owner, set()).add(self.kind_of(said))
         if said.outcome == (s1ap.SETUP, s1ap.SUCCESSFUL):
             self.ready.add(answer.station)
         timer = PAGING_TIMER if said.message.code == s1ap.PAGING else TIMERS.get(said.nas.type if said.nas else None)
         if timer:
             self.due[answer.owner] = second + timer
+        if said.nas and said.nas.type == TAU_ACCEPT and step.event.word == "in":
+            first = content(step.event.octets).message.code == s1ap.INITIAL_UE
+            (self.from_idle.add if first else self.from_idle.discard)(answer.owner)
 
     def give(self, steps, answers):
         """Gives each answer to the first step, not before that of the answer before, which fits it; else to the one before."""
@@ -365,7 +369,7 @@ class Causes:
             if step.event.word == "tick":
                 second = self.second_of(step, answer, said) or step.second + step.event.ticks
             step.answers.append((second, answer))
-            self.note(second, answer, said)
+            self.note(step, second, answer, said)
 
 
 def matched(trace, answers):

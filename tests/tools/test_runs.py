@@ -4,6 +4,7 @@ import contextlib
 import io
 import os
 import pathlib
+import random
 import sys
 import tempfile
 import unittest
@@ -49,7 +50,56 @@ class Told(PHONES.Trace):
         super().say(line)
 
 
+def life(phone, stations, chance):
+    """Steps of a phone at these stations, by chance, each to be done before the next is asked for."""
+    radio_ids = (phone.slot + 100 * count for count in range(1, 100))
+    yield from phone.attach_steps(chance.choice(stations), next(radio_ids), information=chance.random() < 0.5)
+    for _ in range(chance.randrange(5)):
+        choice = chance.randrange(4)
+        if choice == 0:
+            yield phone.updates
+            yield lambda: phone.completes_update(from_idle=False)
+        elif choice == 1:
+            yield lambda: phone.switches_path(chance.choice(stations), next(radio_ids))
+        elif choice == 2 and phone.place < len(phone.vectors):
+            yield from phone.attach_steps(chance.choice(stations), next(radio_ids))
+        elif choice == 3:
+            break
+    yield phone.is_released
+    for _ in range(2):
+        yield lambda: phone.has_data_waiting(stations)
+        yield lambda: phone.updates_from_idle(chance.choice(stations), next(radio_ids))
+        yield lambda: phone.completes_update(from_idle=True)
+
+
+def by_chance(seed):
+    """A trace of phones whose steps come in any order, with nothing shown in between."""
+    chance, trace = random.Random(seed), Told()
+    phones = [PHONES.Phone(trace, slot, [PHONES.Vector.made("%d.%d" % (slot, place)) for place in range(3)])
+              for slot in range(chance.randrange(2, 9))]
+    trace.provision(phones)
+    stations = [PHONES.Station(0), PHONES.Station(3, identity=2, cell=0x201)]
+    for station in stations:
+        trace.set_up(station)
+    lives = [life(phone, stations, chance) for phone in phones]
+    while lives:
+        going = chance.choice(lives)
+        step = next(going, None)
+        if step is None:
+            lives.remove(going)
+        else:
+            step()
+    return trace
+
+
 class Matching(unittest.TestCase):
+    def test_phones_by_chance(self):
+        for seed in range(30):
+            with self.subTest(seed=seed):
+                trace = by_chance(seed)
+                read = RUNS.read_trace(trace.text().encode())
+                self.assertEqual(given(RUNS.matched(read, RUNS.read_answers(trace.answer_text().encode()))), trace.told())
+
     def test_rows_of_phones(self):
         BENCH_ROWS.Trace = Told
         for name, _, make in BENCH_ROWS.ROWS:
