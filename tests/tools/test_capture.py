@@ -297,6 +297,12 @@ class Associations(unittest.TestCase):
                    up(data(4, INITIAL, number=2, stream=1))]
         self.check(connected() + packets, "up 0", in_line(SETUP), in_line(COMPLETE), in_line(INITIAL))
 
+    def test_acknowledged_and_captured_late(self):
+        """What was given up and comes after all is heard then."""
+        packets = [up(data(1, SETUP)), up(data(3, COMPLETE, number=1, stream=1)), down(sack(3)), up(data(2, INITIAL, stream=1)),
+                   up(data(4, SETUP, number=2, stream=1))]
+        self.check(connected() + packets, "up 0", in_line(SETUP), in_line(COMPLETE), in_line(INITIAL), in_line(SETUP))
+
     def test_what_waits_at_the_end(self):
         self.check(connected() + [up(data(2, INITIAL, number=1))], "up 0", in_line(INITIAL))
         self.check(connected() + [up(data(2, INITIAL, number=1)), up(chunk(ABORT))], "up 0", in_line(INITIAL), "lost 0")
