@@ -1,0 +1,208 @@
+"""tools/chart: whole charts of worked rows, written by hand; that every message of every row is drawn, under its name and
+between the right lanes; that a chart of a browser is XML with the same arrows."""
+import re
+import sys
+import unittest
+import xml.etree.ElementTree
+
+import tools
+
+CHART = tools.module("tools/chart")
+RUNS = CHART.runs
+sys.path.insert(0, str(tools.TOP / "bench"))
+ATTACHES = tools.module("bench/attaches.py")
+del sys.path[0]
+
+SVG = "{http://www.w3.org/2000/svg}"
+
+# An attach with an IMSI that nobody has is rejected with cause 8 and released (TS 24.301 clause 5.5.1.2.5).
+UNKNOWN_IMSI = """\
+P1  IMSI 001010000000009
+E0  station 0
+
+second    P1                           E0                                MME
+     0    |                            |----------- connects ----------->|
+          |                            |------- S1 SETUP REQUEST ------->|
+          |                            |<------ S1 SETUP RESPONSE -------|
+          |------ ATTACH REQUEST ----->|------ INITIAL UE MESSAGE ------>|
+       !  |<-- ATTACH REJECT cause 8 --|<---- DOWNLINK NAS TRANSPORT ----|
+          |                            |<-- UE CONTEXT RELEASE COMMAND --|  P1 nas normal-release
+"""
+
+# T3460 has 6 seconds and 4 repeats (TS 24.301 table 10.2.2).
+UNANSWERED = """\
+P1  IMSI 001010000000001
+E0  station 0
+
+second    P1                            E0                                MME
+     0    |                             |----------- connects ----------->|
+          |                             |------- S1 SETUP REQUEST ------->|
+          |                             |<------ S1 SETUP RESPONSE -------|
+          |------ ATTACH REQUEST ------>|------ INITIAL UE MESSAGE ------>|
+          |<-- AUTHENTICATION REQUEST --|<---- DOWNLINK NAS TRANSPORT ----|
+  +6 s    :                             :                                 :
+     6    |<-- AUTHENTICATION REQUEST --|<---- DOWNLINK NAS TRANSPORT ----|
+  +6 s    :                             :                                 :
+    12    |<-- AUTHENTICATION REQUEST --|<---- DOWNLINK NAS TRANSPORT ----|
+  +6 s    :                             :                                 :
+    18    |<-- AUTHENTICATION REQUEST --|<---- DOWNLINK NAS TRANSPORT ----|
+  +6 s    :                             :                                 :
+    24    |<-- AUTHENTICATION REQUEST --|<---- DOWNLINK NAS TRANSPORT ----|
+  +6 s    :                             :                                 :
+    30    |                             |<-- UE CONTEXT RELEASE COMMAND --|  P1 nas unspecified
+          |                             |                                 |  P1 DEREGISTERED IDLE INACTIVE
+"""
+
+
+def run_of(name):
+    path = tools.ROWS / name
+    return RUNS.run_of(str(path.with_suffix(".trace")), str(path.with_suffix(".answers")))
+
+
+def rows_of(name):
+    trace, steps = run_of(name)
+    return CHART.rows_of(trace, steps), RUNS.end_of(steps)
+
+
+def messages(steps):
+    """What is sent in a run: events and answers that are messages, and connections that come and go."""
+    for step in steps:
+        if step.event.word == "in":
+            yield RUNS.content(step.event.octets)
+        for _, answer in step.answers:
+            if answer.word == "out":
+                yield RUNS.content(answer.octets)
+
+
+def chart(*words, given=b""):
+    return tools.ran("chart", *words, given=given)
+
+
+class Text(unittest.TestCase):
+    def test_whole_charts(self):
+        for name, wanted in (("unknown_imsi", UNKNOWN_IMSI), ("attach_unanswered", UNANSWERED)):
+            with self.subTest(row=name):
+                done = chart(tools.ROWS / (name + ".trace"), tools.ROWS / (name + ".answers"))
+                self.assertEqual((done.returncode, done.stderr), (0, b""))
+                self.assertEqual(done.stdout.decode(), wanted)
+
+    def test_rows(self):
+        """Each line fits, each message has its arrows, whole names, and its line."""
+        for name in tools.playable():
+            with self.subTest(row=name):
+                trace, steps = run_of(name)
+                text = CHART.text_of(CHART.rows_of(trace, steps), RUNS.end_of(steps), 120)
+                self.assertLessEqual(max(map(len, text.split("\n"))), 120)
+                self.assertTrue(text.isascii())
+                sent = list(messages(steps))
+                links = sum(step.event.word in ("up", "lost") for step in steps)
+                drawn = re.findall(r"\|(?=(<?-+ [^|]* -+>?)\|)", text)
+                named = [re.sub(r"^[PE]\d+ ", "", arrow.strip("<>-").strip()) for arrow in drawn]
+                self.assertEqual(sum(label in ("connects", "is lost") for label in named), links)
+                labels = [said.name for said in sent] + [said.nas.name for said in sent if said.nas]
+                self.assertEqual(sorted(label for label in named if label not in ("connects", "is lost")), sorted(labels))
+
+    def test_marks(self):
+        """Refusals, rejects and what can't be read."""
+        for name, count in (("unknown_imsi", 1), ("up_twice", 1), ("wrong_res", 1), ("attach_whole", 0), ("empty_octets", 2),
+                            ("setup_other_plmn", 1)):
+            with self.subTest(row=name):
+                rows, end = rows_of(name)
+                marked = [line for line in CHART.text_of(rows, end, 120).split("\n") if line[7:8] == "!"]
+                self.assertEqual(len(marked), count)
+
+    def test_phone_of_another_mme(self):
+        """A phone that comes with a foreign GUTI is the one whose IMSI it then tells."""
+        rows, _ = rows_of("foreign_guti")
+        [phone] = CHART.lanes_of(rows)[0]
+        self.assertEqual(phone.name(), "IMSI 001010000000001")
+
+    def test_phones_that_are_not_known(self):
+        """One that never tells its IMSI; one with another network's GUTI, whose M-TMSI would be that of the first; one that
+        names an id of nobody."""
+        for name, phones in (("identity_unanswered", ["UE 2 at station 0"]),
+                             ("guti_of_other_plmn", ["IMSI 001010000000001", "UE 2 at station 0"]),
+                             ("unknown_mme_id", ["UE 1 at station 0"])):
+            with self.subTest(row=name):
+                self.assertEqual([phone.name() for phone in CHART.lanes_of(rows_of(name)[0])[2]], phones)
+
+    def test_phones_and_stations(self):
+        """Each phone and each station has its lane: a path switch moves no phone to another."""
+        for name, phones, stations in (("path_switch_eight_times", ["001010000000001"], [0, 1]),
+                                       ("two_phones_on_two_stations", ["001010000000001", "001010000000002"], [0, 127]),
+                                       ("two_phones_on_one_radio_id", ["001010000000001", "001010000000002"], [0])):
+            with self.subTest(row=name):
+                found = CHART.lanes_of(rows_of(name)[0])
+                self.assertEqual([phone.name() for phone in found[0]], ["IMSI " + imsi for imsi in phones])
+                self.assertEqual(found[1], stations)
+
+    def test_many_phones(self):
+        """They share a lane, and each arrow says whose it is."""
+        trace = ATTACHES.attached(60)[0]
+        read = RUNS.read_trace(trace.text().encode())
+        steps = RUNS.matched(read, RUNS.read_answers(trace.answer_text().encode()))
+        text = CHART.text_of(CHART.rows_of(read, steps), 0, 120)
+        self.assertLessEqual(max(map(len, text.split("\n"))), 120)
+        self.assertEqual(len(re.findall(r"- P\d+ ATTACH REQUEST -", text)), 60)
+        self.assertIn("- P60 ATTACH COMPLETE -", text)
+        self.assertIn("P60  IMSI 001010000000060", text)
+
+    def test_one_phone(self):
+        words = [tools.ROWS / "two_phones_on_two_stations.trace", tools.ROWS / "two_phones_on_two_stations.answers"]
+        text = chart(*words, "--imsi", "001010000000002").stdout.decode()
+        self.assertIn("IMSI 001010000000002", text)
+        self.assertNotIn("IMSI 001010000000001", text)
+        self.assertEqual(text.count("ATTACH REQUEST"), 1)
+
+    def test_widths(self):
+        rows, end = rows_of("tau_moves_paging")
+        for width in (80, 90, 100, 150):
+            with self.subTest(width=width):
+                self.assertLessEqual(max(map(len, CHART.text_of(rows, end, width).split("\n"))), width)
+
+    def test_standard_input(self):
+        trace = (tools.ROWS / "unknown_imsi.trace").read_bytes()
+        self.assertEqual(chart("-", tools.ROWS / "unknown_imsi.answers", given=trace).stdout.decode(), UNKNOWN_IMSI)
+
+
+class Svg(unittest.TestCase):
+    def test_rows(self):
+        """As many arrows as in the text, faults as such, and all within the picture."""
+        for name in tools.playable():
+            with self.subTest(row=name):
+                rows, end = rows_of(name)
+                root = xml.etree.ElementTree.fromstring(CHART.svg_of(rows, end))
+                arrows = [line for line in root.iter(SVG + "line") if line.get("class") == "arrow"]
+                self.assertEqual(len(arrows), sum(len(row.arrows) for row in rows))
+                faults = [group for group in root.iter(SVG + "g") if group.get("class") == "fault"]
+                self.assertEqual(len(faults), sum(row.kind == CHART.FAULT for row in rows))
+                width, height = float(root.get("width")), float(root.get("height"))
+                for text in root.iter(SVG + "text"):
+                    self.assertLessEqual(float(text.get("y")), height)
+                    if text.get("text-anchor") == "start":
+                        self.assertLessEqual(float(text.get("x")) + len(text.text or "") * CHART.CHARACTER, width)
+
+    def test_program(self):
+        done = chart("--svg", tools.ROWS / "attach_whole.trace", tools.ROWS / "attach_whole.answers")
+        self.assertEqual((done.returncode, done.stderr), (0, b""))
+        texts = [text.text for text in xml.etree.ElementTree.fromstring(done.stdout).iter(SVG + "text")]
+        for text in ("P1  IMSI 001010000000001", "ATTACH ACCEPT", "INITIAL CONTEXT SETUP REQUEST", "P1 REGISTERED IDLE ACTIVE"):
+            self.assertIn(text, texts)
+
+
+class Faults(unittest.TestCase):
+    def test_words(self):
+        rows = tools.ROWS
+        good = [rows / "setup.trace", rows / "setup.answers"]
+        for words, told in (
+                ((), b"TRACE"), ((rows / "none.trace", rows / "setup.answers"), b"No such file"),
+                ((rows / "bad_hex.trace", rows / "bad_hex.answers"), b"bad_hex.trace: line 3: '0g' aren't octets in hex"),
+                ((rows / "setup.trace", rows / "up_twice.answers"), b"answers aren't those"), (("-", "-"), b"standard input is one file"),
+                ((rows / "setup.answers", rows / "setup.answers"), b"no line begins with 'out'"), ((*good, "--width", "79"), b"80 to 1000"),
+                ((*good, "--imsi", "001010000000001"), b"no message of the run is of IMSI"),
+                ((rows / "setup.trace", "--mme", "/nowhere"), b"No such file")):
+            with self.subTest(told=told):
+                done = chart(*words)
+                self.assertEqual((done.returncode, done.stdout), (2, b""))
+                self.assertIn(told, done.stderr)
+                self.assertNotIn(b"Traceback", done.stderr)

@@ -1,0 +1,250 @@
+"""tools/runs.py and tools/s1ap.py: which event each answer of the rows is to. What is right comes from bench/phones.py, where
+each step of a phone says what the MME owes for it, and from a program that plays a part of the MME's."""
+import contextlib
+import io
+import os
+import pathlib
+import random
+import sys
+import tempfile
+import unittest
+
+import tools
+
+sys.path.insert(0, str(tools.TOP / "bench"))
+S1AP = tools.module("tools/s1ap.py")
+RUNS = tools.module("tools/runs.py")
+PHONES = tools.module("bench/phones.py")
+BENCH_ROWS = tools.module("bench/rows.py")
+del sys.path[0]
+
+
+def row(name):
+    """The trace and the answers of a row."""
+    path = tools.ROWS / name
+    return RUNS.read_trace(path.with_suffix(".trace").read_bytes()), RUNS.read_answers(path.with_suffix(".answers").read_bytes())
+
+
+def answer_text(answer):
+    if answer.word == "out":
+        return "out %s %d %s" % (answer.owner, answer.station, answer.octets.hex())
+    return "refused %d" % answer.fault if answer.word == "refused" else "state %s %s" % (answer.imsi, answer.states)
+
+
+def given(steps):
+    """Each event with the answers to it, as lines."""
+    return [(RUNS.event_text(step.event), [answer_text(answer) for _, answer in step.answers]) for step in steps]
+
+
+class Told(PHONES.Trace):
+    """A trace that keeps which answers are owed to which line."""
+
+    def told(self):
+        """Each line that is an event, with the answers to it."""
+        ends = self.ends[1:] + [len(self.answers)]
+        pairs = zip(self.lines, self.ends, ends)
+        return [(line, self.answers[start:end]) for line, start, end in pairs if line.split(" ")[0] in RUNS.EVENTS]
+
+    def say(self, line):
+        self.ends = getattr(self, "ends", []) + [len(self.answers)]
+        super().say(line)
+
+
+def life(phone, stations, chance):
+    """Steps of a phone at these stations, by chance, each to be done before the next is asked for."""
+    radio_ids = (phone.slot + 100 * count for count in range(1, 100))
+    yield from phone.attach_steps(chance.choice(stations), next(radio_ids), information=chance.random() < 0.5)
+    for _ in range(chance.randrange(5)):
+        choice = chance.randrange(4)
+        if choice == 0:
+            yield phone.updates
+            yield lambda: phone.completes_update(from_idle=False)
+        elif choice == 1:
+            yield lambda: phone.switches_path(chance.choice(stations), next(radio_ids))
+        elif choice == 2 and phone.place < len(phone.vectors):
+            yield from phone.attach_steps(chance.choice(stations), next(radio_ids))
+        elif choice == 3:
+            break
+    yield phone.is_released
+    for _ in range(2):
+        yield lambda: phone.has_data_waiting(stations)
+        yield lambda: phone.updates_from_idle(chance.choice(stations), next(radio_ids))
+        yield lambda: phone.completes_update(from_idle=True)
+
+
+def by_chance(seed):
+    """A trace of phones whose steps come in any order, with nothing shown in between."""
+    chance, trace = random.Random(seed), Told()
+    phones = [PHONES.Phone(trace, slot, [PHONES.Vector.made("%d.%d" % (slot, place)) for place in range(3)])
+              for slot in range(chance.randrange(2, 9))]
+    trace.provision(phones)
+    stations = [PHONES.Station(0), PHONES.Station(3, identity=2, cell=0x201)]
+    for station in stations:
+        trace.set_up(station)
+    lives = [life(phone, stations, chance) for phone in phones]
+    while lives:
+        going = chance.choice(lives)
+        step = next(going, None)
+        if step is None:
+            lives.remove(going)
+        else:
+            step()
+    return trace
+
+
+class Matching(unittest.TestCase):
+    def test_phones_by_chance(self):
+        for seed in range(30):
+            with self.subTest(seed=seed):
+                trace = by_chance(seed)
+                read = RUNS.read_trace(trace.text().encode())
+                self.assertEqual(given(RUNS.matched(read, RUNS.read_answers(trace.answer_text().encode()))), trace.told())
+
+    def test_rows_of_phones(self):
+        BENCH_ROWS.Trace = Told
+        for name, _, make in BENCH_ROWS.ROWS:
+            with self.subTest(row=name):
+                trace = make()
+                read = RUNS.read_trace(trace.text().encode())
+                steps = RUNS.matched(read, RUNS.read_answers(trace.answer_text().encode()))
+                self.assertEqual(given(steps), trace.told())
+
+    def test_all_answers_are_given_in_their_order(self):
+        for name in tools.playable():
+            with self.subTest(row=name):
+                trace, answers = row(name)
+                got = [answer for step in RUNS.matched(trace, answers) for _, answer in step.answers]
+                self.assertEqual(sorted(map(answer_text, got)), sorted(map(answer_text, answers)))
+                told = [answer_text(answer) for answer in answers if answer.word != "out"]
+                self.assertEqual([answer_text(answer) for answer in got if answer.word != "out"], told)
+
+    def test_answers_to_ticks(self):
+        """Five answers to 30 ticks stand at 6, 12, .. 30: T3460 has 6 seconds (TS 24.301 table 10.2.2)."""
+        steps = RUNS.matched(*row("attach_unanswered"))
+        [ticks] = [step for step in steps if step.event.word == "tick"]
+        self.assertEqual([second for second, _ in ticks.answers], [6, 12, 18, 24, 30])
+
+    def test_answers_to_data(self):
+        """A page for data, and one more when the MME's T3413 of 10 seconds ends, with nothing shown in between."""
+        path = tools.ROWS / "paging.trace"
+        lines = [line for line in path.read_text().splitlines() if not line.startswith("show")]
+        answers = [line for line in path.with_suffix(".answers").read_text().splitlines() if not line.startswith("state")]
+        trace = RUNS.read_trace("\n".join(lines).encode())
+        steps = RUNS.matched(trace, RUNS.read_answers("\n".join(answers).encode()))
+        [data] = [step for step in steps if step.event.word == "data"]
+        ticks = [second for step in steps if step.event.word == "tick" for second, _ in step.answers]
+        self.assertEqual(([second for second, _ in data.answers], ticks), ([0], [10]))
+
+    def test_other_answers(self):
+        trace, answers = row("attach_whole")
+        for other in (answers[:-1], answers + [RUNS.Answer("refused", fault=1)], row("up_twice")[1]):
+            with self.assertRaisesRegex(RUNS.Fault, "answers aren't those to this trace"):
+                RUNS.matched(trace, other)
+
+
+PROGRAM = """#!%s
+import sys
+states = {}
+for line in open(sys.argv[2]):
+    word, *fields = line.split()
+    if word == "tick":
+        for _ in range(int(fields[0])):
+            states["clock"] = states.get("clock", 0) + 1
+            if states["clock"] %% 6 == 0:
+                print("out s0 0 %%08x" %% states["clock"])
+    elif word == "show":
+        print("state", fields[0], "DEREGISTERED IDLE INACTIVE")
+    elif word == "up":
+        print("refused 2") if "up" in states else states.update(up=1)
+    elif word == "data" and fields[0] != "001010000000001":
+        print("refused 5")
+    elif word == "in":
+        print("out e0 0 aa\\nout e0 0 bb")
+"""
+
+
+class Playing(unittest.TestCase):
+    def setUp(self):
+        with tempfile.NamedTemporaryFile("w", suffix=".py", delete=False) as file:
+            file.write(PROGRAM % sys.executable)
+        os.chmod(file.name, 0o755)
+        self.addCleanup(os.unlink, file.name)
+        self.program = pathlib.Path(file.name)
+
+    def test_program(self):
+        """The answers to each event and second are known, whatever they are."""
+        lines = ["mme 001 01 8001 01 internet 1 1", "sub 001010000000001 0a000001 0a000064 00000001"]
+        lines += ["up 0", "in 0 00", "up 0", "tick 13", "data 001010000000001", "data 999999999999999", "cancel 001010000000001"]
+        lines += ["show 001010000000001", "tick 4", "tick 1", "in 0 01", "tick 9000"]
+        trace = RUNS.read_trace("\n".join(lines).encode())
+        steps = RUNS.played(trace, self.program)
+        got = [[(second, answer_text(answer)) for second, answer in step.answers] for step in steps]
+        self.assertEqual(got[:-1], [
+            [], [(0, "out e0 0 aa"), (0, "out e0 0 bb")], [(0, "refused 2")], [(6, "out s0 0 00000006"), (12, "out s0 0 0000000c")],
+            [], [(13, "refused 5")], [], [(13, "state 001010000000001 DEREGISTERED IDLE INACTIVE")], [],
+            [(18, "out s0 0 00000012")], [(18, "out e0 0 aa"), (18, "out e0 0 bb")]])
+        self.assertEqual(sum(len(step) for step in got[-1:]), 9018 // 6 - 3)
+
+    def test_no_program(self):
+        trace = RUNS.read_trace(b"mme 001 01 8001 01 internet 1 1\nup 0")
+        with self.assertRaisesRegex(RUNS.Fault, "No such file"):
+            RUNS.played(trace, "/nowhere/mme")
+        with self.assertRaisesRegex(RUNS.Fault, "ended with status 1"), contextlib.redirect_stderr(io.StringIO()):
+            RUNS.played(trace, "/bin/false")
+        with self.assertRaisesRegex(RUNS.Fault, "end before the trace does"):
+            RUNS.played(trace, "/bin/true")
+
+
+class Reading(unittest.TestCase):
+    def test_faulty_traces(self):
+        """What `mme play` refuses as a fault of a line is refused here too, at that line; but for what is a fault of the
+        provisioning's values, which the program alone looks into."""
+        for path in sorted(tools.ROWS.glob("*.status")):
+            number, kind = path.with_suffix(".errors").read_text().removeprefix("mme: line ").split(": fault ")
+            octets = path.with_suffix(".trace").read_bytes()
+            line = octets.split(b"\n")[int(number) - 1]
+            if line[:4] in (b"mme ", b"sub ", b"vec ") and kind.strip() in "347":
+                continue
+            with self.subTest(row=path.stem):
+                with self.assertRaisesRegex(RUNS.Fault, "line %s: " % number):
+                    RUNS.read_trace(octets)
+
+    def test_good_traces(self):
+        for name in tools.playable():
+            with self.subTest(row=name):
+                row(name)
+
+    def test_unknown_imsi(self):
+        self.assertEqual(RUNS.unknown_imsi(["999999999999999", "999999999999997"]), "999999999999998")
+
+
+class Names(unittest.TestCase):
+    def test_messages(self):
+        """Messages of the worked rows by the names of TS 36.413 clause 9.1 and TS 24.301 clause 8."""
+        for text, name, ids, cause, inside in (
+                ("0011001f000003003b00080000f11000000010004000070000004000f1100089400140", "S1 SETUP REQUEST", (None, None), None, None),
+                ("401100080000010002400145", "S1 SETUP FAILURE", (None, None), "misc unknown-PLMN", None),
+                ("000f4018000003000000" + "05c0ffffffff000840020001" + "0002400201a0", "ERROR INDICATION", (2**32 - 1, 1),
+                 "radioNetwork unknown-mme-ue-s1ap-id", None),
+                ("001700100000020063000400010001" + "0002400126", "UE CONTEXT RELEASE COMMAND", (1, 1), "nas unspecified", None),
+                ("00170013000002006300070c800000010001" + "0002400120", "UE CONTEXT RELEASE COMMAND", (2**31 + 1, 1),
+                 "nas normal-release", None),
+                ("000b4017000003000000020002000800020001001a000403074e09", "DOWNLINK NAS TRANSPORT", (2, 1), None, "SERVICE REJECT cause 9"),
+                ("000b401e000003000000020001000800020001001a000b0a0744137800040201d132", "DOWNLINK NAS TRANSPORT", (1, 1), None,
+                 "ATTACH REJECT cause 19"),
+                ("000a4027000004005040020040002b4006001000000001006d400100002e400b00002f40060000f1100001", "PAGING", (None, None), None, None)):
+            with self.subTest(name=name, text=text[-8:]):
+                message = S1AP.read(bytes.fromhex(text))
+                nas = S1AP.nas(S1AP.carried(message))
+                self.assertEqual((S1AP.name(message), S1AP.ids(message), S1AP.cause(message), nas and nas.name), (name, ids, cause, inside))
+                self.assertIsNone(message.fault)
+
+    def test_octets_of_any_kind(self):
+        """Whatever the octets, reading ends and names something."""
+        for name in tools.playable():
+            for event in row(name)[0].events:
+                if event.octets is not None and len(event.octets) < 500:
+                    for cut in range(len(event.octets)):
+                        whole = RUNS.content(event.octets[:cut])
+                        self.assertIsNotNone(whole.message.fault)
+                        self.assertIsInstance(whole.name, str)

@@ -1,0 +1,198 @@
+"""tools/vectors: AES by FIPS 197, HMAC by RFC 4231, Milenage by the six test sets of TS 35.207, KASME by the derivation
+written a second time in bench/lte.py."""
+import tempfile
+import unittest
+
+import tools
+
+VECTORS = tools.module("tools/vectors")
+LTE = tools.module("bench/lte.py")
+
+SET_FIELDS = "k rand sqn amf op opc f1 f1_star f2 f5 f3 f4 f5_star".split()
+SETS = """
+465b5ce8b199b49faa5f0a2ee238a6bc 23553cbe9637a89d218ae64dae47bf35 ff9bb4d0b607 b9b9 cdc202d5123e20f62b6d676ac72cb318
+cd63cb71954a9f4e48a5994e37a02baf 4a9ffac354dfafb3 01cfaf9ec4e871e9 a54211d5e3ba50bf aa689c648370
+b40ba9a3c58b2a05bbf0d987b21bf8cb f769bcd751044604127672711c6d3441 451e8beca43b
+
+fec86ba6eb707ed08905757b1bb44b8f 9f7c8d021accf4db213ccff0c7f71a6a 9d0277595ffc 725c dbc59adcb6f9a0ef735477b7fadf8374
+1006020f0a478bf6b699f15c062e42b3 9cabc3e99baf7281 95814ba2b3044324 8011c48c0c214ed2 33484dc2136b
+5dbdbb2954e8f3cde665b046179a5098 59a92d3b476a0443487055cf88b2307b deacdd848cc6
+
+9e5944aea94b81165c82fbf9f32db751 ce83dbc54ac0274a157c17f80d017bd6 0b604a81eca8 9e09 223014c5806694c007ca1eeef57f004f
+a64a507ae1a2a98bb88eb4210135dc87 74a58220cba84c49 ac2cc74a96871837 f365cd683cd92e96 f0b9c08ad02e
+e203edb3971574f5a94b0d61b816345d 0c4524adeac041c4dd830d20854fc46b 6085a86c6f63
+
+4ab1deb05ca6ceb051fc98e77d026a84 74b0cd6031a1c8339b2b6ce2b8c4a186 e880a1b580b6 9f07 2d16c5cd1fdf6b22383584e3bef2a8d8
+dcf07cbd51855290b92a07a9891e523e 49e785dd12626ef2 9e85790336bb3fa2 5860fc1bce351e7e 31e11a609118
+7657766b373d1c2138f307e3de9242f9 1c42e960d89b8fa99f2744e0708ccb53 fe2555e54aa9
+
+6c38a116ac280c454f59332ee35c8c4f ee6466bc96202c5a557abbeff8babf63 414b98222181 4464 1ba00a1a7c6700ac8c3ff3e96ad08725
+3803ef5363b947c6aaa225e58fae3934 078adfb488241a57 80246b8d0186bcf1 16c8233f05a0ac28 45b0f69ab06c
+3f8c7587fe8e4b233af676aede30ba3b a7466cc1e6b2a1337d49d3b66e95d7b4 1f53cd2b1113
+
+2d609d4db0ac5bf0d2c0de267014de0d 194aa756013896b74b4a2a3b0af4539e 6bf69438c2e4 5f67 460a48385427aa39264aac8efc9e73e8
+c35a0ab0bcbfc9252caff15f24efbde0 bd07d3003b9e5cc3 bcb6c2fcad152250 8c25a16cd918a1df 7e6455f34cf3
+4cd0846020f8fa0731dd47cbdc6be411 88ab80a415f15c73711254a1d388f696 dc6dd01e8f15
+"""
+
+
+def test_sets():
+    for text in SETS.strip().split("\n\n"):
+        yield dict(zip(SET_FIELDS, map(bytes.fromhex, text.split()), strict=True))
+
+
+FIRST = next(test_sets())
+SIM = ["--imsi", "001010000000001", "--plmn", "001", "01", "--k", FIRST["k"].hex(), "--op", FIRST["op"].hex()]
+
+
+def lines(*words):
+    """What the tool prints for the SIM of the first set."""
+    done = tools.ran("vectors", *SIM, *words)
+    assert done.returncode == 0 and not done.stderr, done.stderr
+    return done.stdout.decode().splitlines()
+
+
+def sqns(*words):
+    return [line.removeprefix("# SQN ") for line in lines(*words) if line.startswith("# SQN")]
+
+
+class Parts(unittest.TestCase):
+    def test_aes(self):
+        """FIPS 197 appendix B and appendix C.1."""
+        for key, plain, cipher in (
+                ("2b7e151628aed2a6abf7158809cf4f3c", "3243f6a8885a308d313198a2e0370734", "3925841d02dc09fbdc118597196a0b32"),
+                ("000102030405060708090a0b0c0d0e0f", "00112233445566778899aabbccddeeff", "69c4e0d86a7b0430d8cdb78070b4c55a")):
+            with self.subTest(key=key):
+                self.assertEqual(VECTORS.aes(bytes.fromhex(key), bytes.fromhex(plain)).hex(), cipher)
+
+    def test_round_keys(self):
+        """FIPS 197 appendix A.1: the last round's key."""
+        keys = VECTORS.round_keys(bytes.fromhex("2b7e151628aed2a6abf7158809cf4f3c"))
+        self.assertEqual(keys[10].hex(), "d014f9a8c9ee2589e13f0cc8b6630ca6")
+
+    def test_hmac(self):
+        """HMAC by RFC 4231 clause 4.3, and the derivation on it by the second one."""
+        digest = VECTORS.hmac.new(b"Jefe", b"what do ya want for nothing?", VECTORS.hashlib.sha256).hexdigest()
+        self.assertEqual(digest, "5bdcc146bf60754e6a042426089575c75a003f089d2739839dec58b964ec3843")
+        parameters = bytes.fromhex("00f110"), bytes.fromhex("55f328b43577")
+        key = bytes(range(32))
+        self.assertEqual(VECTORS.derived(key, 0x10, *parameters), LTE.derived(key, 0x10, *parameters))
+
+    def test_milenage(self):
+        for number, given in enumerate(test_sets(), 1):
+            with self.subTest(set=number):
+                opc = VECTORS.operator_key(given["k"], given["op"])
+                self.assertEqual(opc, given["opc"])
+                got = VECTORS.milenage(given["k"], opc, given["rand"], given["sqn"], given["amf"])
+                self.assertEqual(got._asdict(), {name: given[name] for name in VECTORS.Functions._fields})
+
+    def test_plmn(self):
+        """TS 24.301 clause 9.9.3.12: two digits of a network code go with the filler, three stand 2, 1 behind 3."""
+        self.assertEqual(VECTORS.plmn_octets("001", "01").hex(), "00f110")
+        self.assertEqual(VECTORS.plmn_octets("208", "93").hex(), "02f839")
+        self.assertEqual(VECTORS.plmn_octets("310", "410").hex(), "130014")
+
+
+class Lines(unittest.TestCase):
+    def test_a_line(self):
+        given = FIRST
+        [comment, line] = lines("--sqn", given["sqn"].hex(), "--amf", "b9b9", "--rand", given["rand"].hex())
+        word, imsi, rand, autn, xres, kasme = line.split(" ")
+        self.assertEqual((word, imsi, rand, xres), ("vec", "001010000000001", given["rand"].hex(), given["f2"].hex()))
+        concealed = bytes(x ^ y for x, y in zip(given["sqn"], given["f5"]))
+        self.assertEqual(autn, (concealed + given["amf"] + given["f1"]).hex())
+        self.assertEqual(kasme, LTE.derived(given["f3"] + given["f4"], 0x10, b"\x00\xf1\x10", concealed).hex())
+        self.assertEqual(comment, "# SQN ff9bb4d0b607")
+
+    def test_op_and_opc(self):
+        words = ["--sqn", "000000000020", "--seed", "x"]
+        with_opc = tools.ran("vectors", *SIM[:-2], "--opc", FIRST["opc"].hex(), *words)
+        self.assertEqual(with_opc.stdout.decode().splitlines(), lines(*words))
+
+    def test_functions(self):
+        printed = lines("--sqn", "ff9bb4d0b607", "--amf", "b9b9", "--rand", FIRST["rand"].hex(), "--functions")
+        self.assertIn("# OPc " + FIRST["opc"].hex(), printed)
+        self.assertIn("# f1* 01cfaf9ec4e871e9", printed)
+        self.assertIn("# f5* 451e8beca43b", printed)
+
+    def test_what_rises(self):
+        for words, wanted in (
+                ((), ["000000000025", "000000000045", "000000000065"]),
+                (("--ind", "cycle"), ["000000000025", "000000000046", "000000000067"]),
+                (("--ind-bits", "0"), ["000000000025", "000000000026", "000000000027"]),
+                (("--ind-bits", "1", "--ind", "cycle"), ["000000000025", "000000000026", "000000000029"])):
+            with self.subTest(words=words):
+                self.assertEqual(sqns("--sqn", "000000000025", "--count", "3", "--seed", "x", *words), wanted)
+
+    def test_rands(self):
+        """By chance they differ from run to run; from a text they don't, and are distinct."""
+        words = ["--sqn", "000000000020", "--count", "3"]
+        self.assertNotEqual(lines(*words), lines(*words))
+        seeded = lines(*words, "--seed", "a")
+        self.assertEqual(seeded, lines(*words, "--seed", "a"))
+        self.assertEqual(len({line.split()[2] for line in seeded if line.startswith("vec")}), 3)
+
+    def test_auts(self):
+        """A phone at SQN ff9bb4d0b607 answers with it concealed by f5*, and with f1* over AMF 0000; the next vector is behind."""
+        given = FIRST
+        functions = VECTORS.milenage(given["k"], given["opc"], given["rand"], given["sqn"], bytes(2))
+        auts = bytes(x ^ y for x, y in zip(given["sqn"], functions.f5_star)) + functions.f1_star
+        self.assertEqual(sqns("--auts", auts.hex(), "--rand", given["rand"].hex(), "--seed", "x"), ["ff9bb4d0b627"])
+        turned = bytes([auts[0] ^ 1]) + auts[1:]
+        done = tools.ran("vectors", *SIM, "--auts", turned.hex(), "--rand", given["rand"].hex())
+        self.assertEqual(done.returncode, 2)
+        self.assertIn(b"MAC-S", done.stderr)
+
+    def test_autn(self):
+        """The AUTN of the first set with its RAND names that set's SQN and AMF; the vector is the same, others follow."""
+        given = FIRST
+        concealed = bytes(x ^ y for x, y in zip(given["sqn"], given["f5"]))
+        autn = concealed + given["amf"] + given["f1"]
+        words = ["--autn", autn.hex(), "--rand", given["rand"].hex()]
+        self.assertEqual(lines(*words), lines("--sqn", given["sqn"].hex(), "--amf", "b9b9", "--rand", given["rand"].hex()))
+        self.assertEqual(sqns(*words, "--count", "2"), ["ff9bb4d0b607", "ff9bb4d0b627"])
+        turned = autn[:-1] + bytes([autn[-1] ^ 1])
+        done = tools.ran("vectors", *SIM, "--autn", turned.hex(), *words[2:])
+        self.assertEqual(done.returncode, 2)
+        self.assertIn(b"MAC in the AUTN", done.stderr)
+
+    def test_words_of_a_file(self):
+        with tempfile.NamedTemporaryFile("w") as file:
+            file.write("# a SIM\n%s  # its words\n" % " ".join(SIM))
+            file.flush()
+            done = tools.ran("vectors", "@" + file.name, "--sqn", "000000000020", "--seed", "x")
+        self.assertEqual(done.stdout.decode().splitlines(), lines("--sqn", "000000000020", "--seed", "x"))
+
+    def test_separation_bit(self):
+        done = tools.ran("vectors", *SIM, "--sqn", "000000000020", "--amf", "7fff")
+        self.assertEqual(done.returncode, 0)
+        self.assertIn(b"separation bit", done.stderr)
+
+
+class Faults(unittest.TestCase):
+    def test_words(self):
+        """Each ends with status 2, a text and no trace-back."""
+        sqn = ["--sqn", "000000000020"]
+        for words, told in (
+                (SIM, b"--sqn"),
+                (SIM + ["--sqn", "20"], b"6 octets"),
+                (SIM + ["--sqn", "00000000002g"], b"isn't hex"),
+                (SIM + ["--sqn", "00 0000000020"], b"6 octets"),
+                (SIM + sqn + ["--count", "65"], b"from 1 to 64"),
+                (SIM + sqn + ["--count", "x"], b"from 1 to 64"),
+                (SIM + sqn + ["--opc", "00" * 16], b"not allowed with"),
+                (SIM + sqn + ["--plmn", "1", "01"], b"3 digits"),
+                (SIM + sqn + ["--imsi", "0010100000000012"], b"14 or 15 digits"),
+                (SIM + sqn + ["--count", "2", "--rand", "00" * 16], b"as many --rand"),
+                (SIM + ["--auts", "00" * 14], b"need the RAND"),
+                (SIM + ["--autn", "00" * 16], b"need the RAND"),
+                (SIM + ["--autn", "00" * 15], b"16 octets"),
+                (SIM + ["--sqn", "ffffffffffe0", "--count", "2"], b"more than 48 bits"),
+                (["@/nowhere"], b"No such file"),
+                (["@" + str(tools.TOP)], b"directory")):
+            with self.subTest(words=words):
+                done = tools.ran("vectors", *words)
+                self.assertEqual(done.returncode, 2)
+                self.assertIn(told, done.stderr)
+                self.assertNotIn(b"Traceback", done.stderr)
+                self.assertEqual(done.stdout, b"")

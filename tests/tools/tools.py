@@ -1,0 +1,30 @@
+"""How the tests reach the tools: as programs, and as modules."""
+import importlib.machinery
+import importlib.util
+import pathlib
+import subprocess
+import sys
+
+TOP = pathlib.Path(__file__).resolve().parent.parent.parent
+ROWS = TOP / "tests" / "rows"
+
+
+def module(path):
+    """The Python file as a module, whatever its name's end."""
+    path = TOP / path
+    loader = importlib.machinery.SourceFileLoader(path.stem, str(path))
+    found = importlib.util.module_from_spec(importlib.util.spec_from_loader(path.stem, loader))
+    sys.modules[path.stem] = found
+    loader.exec_module(found)
+    return found
+
+
+def ran(tool, *words, given=b"", cwd=TOP):
+    """The tool's run with these words and this standard input."""
+    return subprocess.run([TOP / "tools" / tool, *map(str, words)], input=given, capture_output=True, timeout=60, check=False,
+                          cwd=cwd)
+
+
+def playable():
+    """The names of the rows that `mme play` plays to their end."""
+    return sorted(path.stem for path in ROWS.glob("*.trace") if not path.with_suffix(".status").exists())

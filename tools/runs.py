@@ -1,0 +1,469 @@
+"""A run of the MME for the tools of this folder: the events of a trace, and what the MME answered to each.
+
+`mme play` prints answers without saying to which event each is. `played` runs it with a mark behind each event, and so knows;
+`matched` takes answers that were printed before, and finds for each the event that can have caused it, by the standards'
+procedures. Nothing here is part of a proof.
+"""
+import collections
+import pathlib
+import re
+import subprocess
+import sys
+import tempfile
+
+import s1ap
+
+LONGEST_LINE = 40000  # octets
+STATIONS = 128
+LONGEST_TICK = 1000000
+# No countdown of the MME is longer than its mobile reachable timer (T3412 of 54 minutes and 4 more, TS 24.301 table 10.2.2),
+# which can follow on a procedure of under a minute; so nothing is sent after so many ticks without another event.
+TICKS_WITH_ANSWERS = 3480 + 60
+FIRST_STRANGER = 1 << 31  # MME UE S1AP IDs from here on are strangers'
+SLOT_BITS = 20  # an id and an M-TMSI are a slot and so many bits of a counter behind it
+
+PROVISIONING = {"mme": 7, "sub": 4, "vec": 5}  # the words of a line, with how many fields follow
+EVENTS = {"up": 1, "lost": 1, "in": 2, "tick": 1, "data": 1, "cancel": 1, "show": 1}
+REFUSALS = {1: "the station isn't connected", 2: "the station is connected already", 3: "the clock is spent",
+            5: "nobody has this IMSI"}
+NOT_UP, ALREADY_UP, UNKNOWN_IMSI = 1, 2, 5
+SYSTEM = pathlib.Path(__file__).resolve().parent.parent / "mme"
+
+Event = collections.namedtuple("Event", "line word station octets ticks imsi", defaults=[None, None, None, None])
+Answer = collections.namedtuple("Answer", "word owner station octets imsi states fault", defaults=[None] * 6)
+Trace = collections.namedtuple("Trace", "head imsis events")
+
+
+class Fault(Exception):
+    """Input that can't be taken; its text says why."""
+
+
+class Step:
+    """An event, the second at which it happens, and the answers to it, each with its own second."""
+
+    def __init__(self, event, second):
+        self.event, self.second, self.answers = event, second, []
+
+
+def read_file(path):
+    """The octets of a file, or of standard input for `-`."""
+    try:
+        if path == "-":
+            return sys.stdin.buffer.read()
+        return pathlib.Path(path).read_bytes()
+    except OSError as fault:
+        raise Fault("%s: %s" % (path, fault.strerror)) from None
+
+
+# --- Lines ---
+
+
+def number(text, low, high):
+    digits = text.lstrip("0") or "0"
+    if not (text.isascii() and text.isdigit() and len(digits) < 20 and low <= int(digits) <= high):
+        raise Fault("%r isn't a number from %d to %d" % (text[:40], low, high))
+    return int(digits)
+
+
+def octets_of(text):
+    if text == "-":
+        return b""
+    if not re.fullmatch("(?:[0-9a-fA-F]{2})+", text):
+        raise Fault("%r aren't octets in hex" % text[:40])
+    return bytes.fromhex(text)
+
+
+def imsi_of(text):
+    if not re.fullmatch("[0-9]{14,15}", text):
+        raise Fault("%r isn't an IMSI" % text[:40])
+    return text
+
+
+def event_of(line, word, fields):
+    """An event by its word and its fields."""
+    if word in ("up", "lost"):
+        return Event(line, word, station=number(fields[0], 0, STATIONS - 1))
+    if word == "in":
+        return Event(line, word, station=number(fields[0], 0, STATIONS - 1), octets=octets_of(fields[1]))
+    if word == "tick":
+        return Event(line, word, ticks=number(fields[0], 1, LONGEST_TICK))
+    return Event(line, word, imsi=imsi_of(fields[0]))
+
+
+def event_text(event):
+    """An event as a line of a trace."""
+    if event.word == "in":
+        return "in %d %s" % (event.station, event.octets.hex() or "-")
+    return "%s %s" % (event.word, event.station if event.ticks is None and event.imsi is None else event.ticks or event.imsi)
+
+
+def fields_of(text, counts):
+    """The word and the fields of a line, whose words are these."""
+    word, *fields = text.decode("latin-1").split(" ")
+    if word not in counts:
+        raise Fault("no line begins with %r" % word[:40])
+    if len(fields) != counts[word]:
+        raise Fault("%s has %d fields, not %d" % (word, counts[word], len(fields)))
+    return word, fields
+
+
+def lines_of(octets, name, read):
+    """Reads each line that isn't empty or a comment; a fault gets the line's number."""
+    for line, text in enumerate(octets.split(b"\n"), 1):
+        if text:
+            try:
+                if len(text) > LONGEST_LINE:
+                    raise Fault("longer than %d octets" % LONGEST_LINE)
+                if not text.startswith(b"#"):
+                    read(line, text)
+            except Fault as fault:
+                raise Fault("%s: line %d: %s" % (name, line, fault)) from None
+
+
+def read_trace(octets, name="trace"):
+    """A trace: its lines before the first event as they are, the IMSIs by slot, and its events."""
+    words, imsis, events = [], [], []
+
+    def read(line, text):
+        word, fields = fields_of(text, PROVISIONING | EVENTS)
+        if (word == "mme") != (not words):
+            raise Fault("the line mme stands first, and once")
+        words.append(word)
+        if word in PROVISIONING:
+            if events:
+                raise Fault("%s stands before all events" % word)
+            if word == "sub":
+                imsis.append(imsi_of(fields[0]))
+        else:
+            events.append(event_of(line, word, fields))
+            if word == "show" and events[-1].imsi not in imsis:
+                raise Fault("there is no subscriber %s to show" % events[-1].imsi)
+
+    lines_of(octets, name, read)
+    head = octets.split(b"\n")[:events[0].line - 1] if events else octets.split(b"\n")
+    return Trace(head, imsis, events)
+
+
+ANSWERS = {"out": 3, "refused": 1, "state": 4}
+
+
+def read_answers(octets, name="answers"):
+    """What `mme play` printed."""
+    answers = []
+
+    def read(_, text):
+        word, fields = fields_of(text, ANSWERS)
+        if word == "refused":
+            answers.append(Answer(word, fault=number(fields[0], 1, 9)))
+        elif word == "state":
+            answers.append(Answer(word, imsi=imsi_of(fields[0]), states=" ".join(fields[1:])))
+        elif re.fullmatch(r"e\d+|x\d+\.\d+|s\d+", fields[0]):
+            answers.append(Answer(word, fields[0], number(fields[1], 0, STATIONS - 1), octets_of(fields[2])))
+        else:
+            raise Fault("%r is nobody a message is sent for" % fields[0][:40])
+
+    lines_of(octets, name, read)
+    return answers
+
+
+def owner_text(owner, imsis):
+    """An owner in words."""
+    if owner[0] == "e":
+        return "station %s" % owner[1:]
+    if owner[0] == "x":
+        return "a stranger, eNB UE S1AP ID %s at station %s" % tuple(reversed(owner[1:].split(".")))
+    slot = int(owner[1:])
+    return "subscriber %d%s" % (slot, ", IMSI " + imsis[slot] if slot < len(imsis) else "")
+
+
+# --- What an event must be answered with, whatever the MME's state: refusals and states ---
+
+
+def certain_answers(trace):
+    """For each event the one answer that it is known to get, as `refused` or `state`, or nothing."""
+    up, known = set(), []
+    for event in trace.events:
+        answer = None
+        if event.word == "up":
+            answer = Answer("refused", fault=ALREADY_UP) if event.station in up else None
+            up.add(event.station)
+        elif event.word in ("lost", "in"):
+            answer = Answer("refused", fault=NOT_UP) if event.station not in up else None
+            if event.word == "lost":
+                up.discard(event.station)
+        elif event.word in ("data", "cancel"):
+            answer = Answer("refused", fault=UNKNOWN_IMSI) if event.imsi not in trace.imsis else None
+        elif event.word == "show":
+            answer = Answer("state", imsi=event.imsi)
+        known.append(answer)
+    return known
+
+
+def started(trace):
+    """The steps of a trace without answers: an event stands at the second in which it happens, a tick at its beginning."""
+    steps, second = [], 0
+    for event in trace.events:
+        steps.append(Step(event, second))
+        second += event.ticks or 0
+    return steps
+
+
+def end_of(steps):
+    """The second behind the last step."""
+    return steps[-1].second + (steps[-1].event.ticks or 0) if steps else 0
+
+
+# --- Which event caused an answer ---
+
+# What may be sent by DOWNLINK NAS TRANSPORT on a message of a phone (TS 24.301 clauses 5.4 to 5.6, 6.5, 6.6); each may also be
+# answered by a status.
+ANSWERS_TO = {
+    s1ap.ATTACH_REQUEST: {0x52, 0x44, 0x55}, s1ap.AUTHENTICATION_RESPONSE: {0x5D, 0x54},
+    s1ap.AUTHENTICATION_FAILURE: {0x52, 0x54, 0x44}, s1ap.IDENTITY_RESPONSE: {0x52, 0x44},
+    s1ap.SECURITY_MODE_COMPLETE: {0xD9}, s1ap.TAU_REQUEST: {0x49, 0x4B}, s1ap.SERVICE_REQUEST: {0x4E},
+    s1ap.DETACH_REQUEST: {0x46}, 0xD0: {0xD1}, 0xD2: {0xD3},
+}
+STATUSES = {s1ap.EMM_STATUS, s1ap.ESM_STATUS}
+UNANSWERED = {s1ap.ATTACH_COMPLETE, s1ap.TAU_COMPLETE, s1ap.DETACH_ACCEPT, s1ap.SECURITY_MODE_REJECT} | STATUSES
+SETS_UP_CONTEXT = {s1ap.SERVICE_REQUEST, s1ap.SECURITY_MODE_COMPLETE, s1ap.INFORMATION_RESPONSE}
+# The NAS messages on a connection that may end it with nothing else sent before; a completed update does where it came from idle.
+ENDS_CONNECTION = {s1ap.SECURITY_MODE_REJECT, s1ap.DETACH_REQUEST, s1ap.DETACH_ACCEPT}
+TAU_ACCEPT = 0x49
+# ATTACH REJECT, DETACH ACCEPT, TRACKING AREA UPDATE REJECT, SERVICE REJECT and AUTHENTICATION REJECT: behind them it ends.
+LAST_OF_CONNECTION = {0x44, 0x46, 0x4B, 0x4E, 0x54}
+TIMED_OUT = "nas unspecified"
+# The seconds of the timers that run behind a NAS message: T3450, T3422, T3460, T3470 and T3489 (TS 24.301 tables 10.2.2, 10.3.2).
+TIMERS = {0x42: 6, 0x49: 6, 0x45: 6, 0x52: 6, 0x5D: 6, 0x55: 6, 0xD9: 4}
+PAGING_TIMER = 10  # T3413, which the network chooses (TS 24.301 table 10.2.2)
+
+Content = collections.namedtuple("Content", "message name outcome mme_id enb_id cause nas")
+
+
+def content(octets):
+    """What is read of a message."""
+    message = s1ap.read(octets)
+    return Content(message, s1ap.name(message), (message.code, message.outcome), *s1ap.ids(message), s1ap.cause(message),
+                   s1ap.nas(s1ap.carried(message)))
+
+
+def may_follow(first, second):
+    """Whether two messages for one phone may answer one message: the release of an old connection is first, that of its own is
+    behind what refuses or detaches the phone."""
+    if first.message.code == s1ap.RELEASE:
+        return second.message.code != s1ap.RELEASE
+    return first.nas is not None and first.nas.type in LAST_OF_CONNECTION and second.message.code == s1ap.RELEASE
+
+
+class Causes:
+    """Which events can have caused an answer, by what was heard and sent so far."""
+
+    def __init__(self, imsis):
+        self.slots = {imsi: slot for slot, imsi in enumerate(imsis)}
+        self.ready, self.sent, self.due, self.from_idle = set(), {}, {}, set()
+
+    def slot_of(self, heard):
+        """The slot that a message names, or nothing."""
+        if heard.mme_id is not None and heard.mme_id < FIRST_STRANGER:
+            return heard.mme_id >> SLOT_BITS
+        imsi, tmsi = s1ap.identity(heard.nas) if heard.nas else (None, None)
+        if tmsi is None:
+            tmsi = s1ap.tmsi(heard.message)
+        if imsi is not None:
+            return self.slots.get(imsi)
+        return None if tmsi is None else tmsi >> SLOT_BITS
+
+    def concerns(self, event, heard, answer, said):
+        """Whether what was heard is about whom the answer is for."""
+        if heard.mme_id is not None and heard.mme_id == said.mme_id:
+            return True
+        if answer.owner[0] == "s":
+            return answer.owner == "s%s" % self.slot_of(heard)
+        return answer.owner == "x%d.%s" % (event.station, heard.enb_id)
+
+    def fits_station(self, step, heard, answer, said):
+        """An answer for a station itself, which a message gets one of at the most (TS 36.413 clauses 8.6, 8.7, 10)."""
+        event = step.event
+        if answer.owner != "e%d" % event.station or any(other.owner == answer.owner for _, other in step.answers):
+            return False
+        if said.message.code != s1ap.ERROR:
+            return heard.outcome == (said.message.code, s1ap.INITIATING)
+        wrong = heard.message.fault or heard.outcome not in s1ap.OF_STATION
+        return bool(wrong) or event.station not in self.ready
+
+    def fits_message(self, step, answer, said):
+        """An answer to a station's message."""
+        event, heard = step.event, content(step.event.octets)
+        if answer.owner[0] == "e":
+            return self.fits_station(step, heard, answer, said)
+        if said.message.code == s1ap.ERROR:
+            return (heard.mme_id, heard.enb_id) == (said.mme_id, said.enb_id)
+        if said.message.code == s1ap.PATH_SWITCH:
+            return heard.outcome == (s1ap.PATH_SWITCH, s1ap.INITIATING) and heard.enb_id == said.enb_id
+        before = [content(other.octets) for _, other in step.answers if other.owner == answer.owner]
+        if before and not may_follow(before[-1], said) or not self.concerns(event, heard, answer, said):
+            return False
+        kind = heard.nas.type if heard.nas else None
+        first = heard.message.code == s1ap.INITIAL_UE
+        if said.message.code == s1ap.CONTEXT_SETUP:
+            return kind in SETS_UP_CONTEXT
+        if said.message.code == s1ap.RELEASE:
+            asked = heard.message.code == s1ap.RELEASE_REQUEST or heard.outcome == (s1ap.CONTEXT_SETUP, s1ap.UNSUCCESSFUL)
+            updated = kind == s1ap.TAU_COMPLETE and answer.owner in self.from_idle
+            return first or asked or updated or bool(before) or kind in ENDS_CONNECTION
+        if said.message.code == s1ap.DOWNLINK_NAS and heard.nas and said.nas:
+            return said.nas.type in ANSWERS_TO.get(kind, ()) or said.nas.type in STATUSES and kind not in UNANSWERED
+        return False
+
+    def fits(self, step, answer, said):
+        """Whether this event can have caused this answer."""
+        event = step.event
+        if event.word == "in":
+            return self.fits_message(step, answer, said)
+        if event.word == "tick":
+            return self.second_of(step, answer, said) is not None
+        named = answer.owner == "s%s" % self.slots.get(event.imsi)
+        if event.word == "data":
+            paged = any(other.station == answer.station for _, other in step.answers)
+            return named and not paged and said.message.code == s1ap.PAGING
+        return event.word == "cancel" and named and said.message.code in (s1ap.RELEASE, s1ap.DOWNLINK_NAS)
+
+    @staticmethod
+    def kind_of(said):
+        """What is the same of a message and of its repeat."""
+        return said.nas.name if said.nas else said.outcome
+
+    def second_of(self, step, answer, said):
+        """The second of a tick at which a timer of the owner ends and this answer can be sent, or nothing."""
+        for second, other in step.answers:
+            if other.owner == answer.owner and other.octets == answer.octets and other.station > answer.station:
+                return None
+            if other.owner == answer.owner and other.octets == answer.octets and other.station < answer.station:
+                return second
+        timed_out = said.message.code == s1ap.RELEASE and said.cause == TIMED_OUT
+        due = self.due.get(answer.owner, step.second)
+        if timed_out or self.kind_of(said) in self.sent.get(answer.owner, ()):
+            return due if step.second < due <= step.second + step.event.ticks else None
+        return None
+
+    def note(self, step, second, answer, said):
+        """Keeps what was sent, on what, and when it is due again."""
+        self.sent.setdefault(answer.owner, set()).add(self.kind_of(said))
+        if said.outcome == (s1ap.SETUP, s1ap.SUCCESSFUL):
+            self.ready.add(answer.station)
+        timer = PAGING_TIMER if said.message.code == s1ap.PAGING else TIMERS.get(said.nas.type if said.nas else None)
+        if timer:
+            self.due[answer.owner] = second + timer
+        if said.nas and said.nas.type == TAU_ACCEPT and step.event.word == "in":
+            first = content(step.event.octets).message.code == s1ap.INITIAL_UE
+            (self.from_idle.add if first else self.from_idle.discard)(answer.owner)
+
+    def give(self, steps, answers):
+        """Gives each answer to the first step, not before that of the answer before, which fits it; else to the one before."""
+        at = 0
+        for answer in answers:
+            said = content(answer.octets)
+            fitting = (place for place in range(at, len(steps)) if self.fits(steps[place], answer, said))
+            at = next(fitting, at)
+            step = steps[at]
+            second = step.second
+            if step.event.word == "tick":
+                second = self.second_of(step, answer, said) or step.second + step.event.ticks
+            step.answers.append((second, answer))
+            self.note(step, second, answer, said)
+
+
+def matched(trace, answers):
+    """The steps of a trace with answers that were printed before."""
+    steps, causes, waiting, at = started(trace), Causes(trace.imsis), [], 0
+
+    def give_until(place):
+        sent = answers[at:place]
+        able = [step for step in waiting if step.event.word not in ("up", "lost")]
+        if sent and not able:
+            raise Fault("the answers aren't those to this trace: message %d is owed to no event" % (at + 1))
+        causes.give(able, sent)
+
+    for step, certain in zip(steps, certain_answers(trace)):
+        if certain is None:
+            waiting.append(step)
+            continue
+        place = next((place for place in range(at, len(answers)) if answers[place].word != "out"), None)
+        if place is None or answers[place][:-2] != certain[:-2] or answers[place].fault != certain.fault:
+            raise Fault("the answers aren't those to this trace: line %d of it, %s, isn't answered where it must be"
+                        % (step.event.line, event_text(step.event)[:60]))
+        give_until(place)
+        step.answers.append((step.second, answers[place]))
+        waiting, at = [], place + 1
+    if any(answer.word != "out" for answer in answers[at:]):
+        raise Fault("the answers aren't those to this trace: it ends before they do")
+    give_until(len(answers))
+    for step in steps:
+        step.answers.sort(key=lambda pair: pair[0])
+    return steps
+
+
+# --- Running the program ---
+
+
+def marked(trace, mark):
+    """The trace with a mark behind each event and each second; and for each mark the step's place and its seconds."""
+    lines, marks = list(trace.head), []
+    for place, event in enumerate(trace.events):
+        singles = min(event.ticks or 0, TICKS_WITH_ANSWERS)
+        for second in range(1, singles + 1):
+            lines += [b"tick 1", mark]
+            marks.append((place, second))
+        if event.ticks is None:
+            lines += [event_text(event).encode(), mark]
+            marks.append((place, 0))
+        elif event.ticks > singles:
+            lines += [b"tick %d" % (event.ticks - singles), mark]
+            marks.append((place, event.ticks))
+    return b"\n".join(lines) + b"\n", marks
+
+
+def unknown_imsi(imsis):
+    """An IMSI that nobody has."""
+    return next(imsi for imsi in ("%015d" % (10**15 - 1 - back) for back in range(len(imsis) + 1)) if imsi not in imsis)
+
+
+def output_of(program, text):
+    """What the program prints for a trace."""
+    with tempfile.NamedTemporaryFile(suffix=".trace") as file:
+        file.write(text)
+        file.flush()
+        try:
+            done = subprocess.run([program, "play", file.name], stdout=subprocess.PIPE, stdin=subprocess.DEVNULL, check=False)
+        except OSError as fault:
+            raise Fault("%s: %s" % (program, fault.strerror)) from None
+    if done.returncode:
+        raise Fault("%s ended with status %d" % (program, done.returncode))
+    return done.stdout
+
+
+def played(trace, program=SYSTEM):
+    """The steps of a trace as the program answers them: behind each event stands data for nobody, which is always refused."""
+    text, marks = marked(trace, b"data " + unknown_imsi(trace.imsis).encode())
+    answers = iter(read_answers(output_of(program, text), "the program's answers"))
+    steps, known = started(trace), certain_answers(trace)
+    for place, seconds in marks:
+        step = steps[place]
+        own_refusal = known[place] is not None and known[place].fault == UNKNOWN_IMSI
+        for answer in answers:
+            if answer.word == "refused" and answer.fault == UNKNOWN_IMSI and not own_refusal:
+                break
+            own_refusal = own_refusal and not (answer.word == "refused" and answer.fault == UNKNOWN_IMSI)
+            step.answers.append((step.second + seconds, answer))
+        else:
+            raise Fault("the program's answers end before the trace does")
+    return steps
+
+
+def run_of(trace_path, answers_path, program=SYSTEM):
+    """A trace by its path and its steps; where no answers are given, the program plays it."""
+    if "-" == trace_path == answers_path:
+        raise Fault("standard input is one file: the trace or the answers")
+    trace = read_trace(read_file(trace_path), trace_path)
+    if answers_path is None:
+        return trace, played(trace, program)
+    return trace, matched(trace, read_answers(read_file(answers_path), answers_path))
