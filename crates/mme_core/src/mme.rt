@@ -1,6 +1,6 @@
 //! The MME.
 
-ghost use Rattle.std.specs.Prelude.{◌≡◌, ◌≢◌, ◌⊎◌, ◌<◌, ℕ, List, length, slice_get, IfOk, IfErr, IfSome, OnOk, OnErr, Ok, Err, Some, None};
+ghost use Rattle.std.specs.Prelude.{◌≡◌, ◌≢◌, ◌⊎◌, ◌<◌, ◌++◌, ℕ, length, slice_get, IfOk, IfErr, IfSome, OnOk, OnErr, Ok, Err, Some, None};
 ghost use Rattle.identity_slots.specs.Provisioned.{slot_of_imsi};
 ghost use Rattle.mme_vocabulary.specs.Stations.{station_at};
 ghost use Rattle.emm_machine.specs.SubscriberView.{SubscriberView};
@@ -9,13 +9,12 @@ ghost use Rattle.stranger_machine.specs.Table.{known_id, stranger_at};
 ghost use Rattle.mme_core.specs.declared.event.StepFault.TheVariants.{NoMemory};
 ghost use Rattle.mme_core.specs.Projection.{AllInOrder, AreInOrder, alone_after, is_slot, is_station, is_stranger, projection, silence, station_run, station_told, states_at, stranger_run, stranger_told, subscriber_told, told};
 ghost use Rattle.mme_vocabulary.specs.declared.stations.StationState.{StationState};
-ghost use Rattle.mme_vocabulary.specs.Events.{item_of};
-ghost use Rattle.mme_routing.specs.Outcomes.{goes_to};
-ghost use Rattle.mme_routing.specs.Seen.{seen_outcome};
-ghost use Rattle.mme_core.specs.Settled.{IsFor, settled_strangers};
+ghost use Rattle.mme_routing.specs.Destinations.{item_at, strangers_behind};
+ghost use Rattle.mme_routing.specs.Seen.{destination_of, seen_outcome};
+ghost use Rattle.mme_core.specs.Settled.{IsFor, settled_strangers, settled_subscribers};
 ghost use Rattle.mme_core.specs.Ready.{ready_world};
 ghost use Rattle.mme_core.specs.Short.{AreShort};
-ghost use Rattle.mme_core.specs.World.{clock_after, event_fault, events_taken, fresh_world, happens, replies, replies_given, reply, strangers_in, to_slot, world_after, world_run};
+ghost use Rattle.mme_core.specs.World.{clock_after, each_after, each_sent, event_fault, events_taken, fresh_world, happens, replies, replies_given, reply, strangers_in, strangers_sent, world_after, world_run};
 
 use crate::config::Config;
 use crate::event::{Event, StepFault};
@@ -190,37 +189,23 @@ impl Mme {
         }
     }
 
-    // What goes to the subscriber with an IMSI alone.
-    fn to_imsi<'a>(&self, imsi: Imsi, event: SoloEvent<'a>) -> Outcome<'a>
-        ensures { (stations : List StationState) → seen_outcome stations result ≡ goes_to (to_slot (slot_of_imsi imsi self.now.sight.profiles) (item_of event.entry stations)) }
-    {
-        let destination = match self.slot_of_imsi(imsi) {
-            Some(slot) => Destination::Subscriber(slot, event),
-            None => Destination::Nobody,
-        };
-        Outcome {
-            state: None,
-            sent: Answers::new(self.alloc),
-            destination,
-        }
-    }
-
     // What comes of an event that isn't refused.
-    fn outcome<'a>(&self, event: &Event<'a>) -> Result<Outcome<'a>, AllocError>
-        ensures { IfOk result (λ h. seen_outcome self.now.sight.stations h ≡ happens self.now.sight event.now) }
+    fn outcome<'a>(&'a self, event: &'a Event<'_>) -> Result<Outcome<'a>, AllocError>
+        ensures { IfOk result (λ h. seen_outcome self.entry.now.sight.stations h ≡ happens self.entry.now.sight event.entry.now) }
     {
-        let sent = Answers::new(self.alloc);
         match event {
             Event::Up(_) => Ok(Outcome {
                 state: Some(StationState::Up),
-                sent,
+                sent: Answers::new(self.alloc),
                 destination: Destination::Nobody,
             }),
             Event::Lost(station) => {
-                Ok(Outcome::begins_anew(*station, Some(StationState::Down), sent))
+                let down = Some(StationState::Down);
+                Ok(Outcome::begins_anew(*station, down, Answers::new(self.alloc)))
             }
             Event::In(station, octets) => {
-                let (network, state) = (&self.config.network, self.stations.get(*station));
+                let state = self.stations.get(*station);
+                let network = &self.config.network;
                 outcome_of(
                     self.alloc,
                     network,
@@ -232,11 +217,25 @@ impl Mme {
             }
             Event::Tick => Ok(Outcome {
                 state: None,
-                sent,
+                sent: Answers::new(self.alloc),
                 destination: Destination::Everyone(Notice::Tick),
             }),
-            Event::Data(imsi) => Ok(self.to_imsi(*imsi, SoloEvent::Data)),
-            Event::Cancel(imsi) => Ok(self.to_imsi(*imsi, SoloEvent::Cancel)),
+            Event::Data(imsi) => match self.slot_of_imsi(*imsi) {
+                Some(slot) => Ok(Outcome {
+                    state: None,
+                    sent: Answers::new(self.alloc),
+                    destination: Destination::Subscriber(slot, SoloEvent::Data),
+                }),
+                None => Ok(Outcome::answered(Answers::new(self.alloc))),
+            },
+            Event::Cancel(imsi) => match self.slot_of_imsi(*imsi) {
+                Some(slot) => Ok(Outcome {
+                    state: None,
+                    sent: Answers::new(self.alloc),
+                    destination: Destination::Subscriber(slot, SoloEvent::Cancel),
+                }),
+                None => Ok(Outcome::answered(Answers::new(self.alloc))),
+            },
         }
     }
 
@@ -251,37 +250,59 @@ impl Mme {
         }
     }
 
+    // What is to become of those whom an event goes to, on copies; what they send stands behind what is sent so far.
+    fn prepared<'a>(
+        &'a self,
+        destination: &Destination<'a>,
+        outs: &mut Outs,
+    ) -> Result<Prepared, AllocError>
+        ensures sends { OnOk result (outs.new ≡ outs.old ++ (strangers_sent self.entry.now.sight.profiles (destination_of self.entry.now.sight.stations destination.now) self.entry.now.strangers
+            ++ each_sent (item_at (destination_of self.entry.now.sight.stations destination.now) self.entry.now.sight.profiles (strangers_in self.entry.now)) 0 self.entry.now.subscribers)) }
+        ensures strangers { IfOk result (λ p. settled_strangers p self.entry.now.strangers
+            ≡ strangers_behind self.entry.now.sight.profiles (destination_of self.entry.now.sight.stations destination.now) self.entry.now.strangers) }
+        ensures subscribers { IfOk result (λ p. settled_subscribers p self.entry.now.subscribers
+            ≡ each_after (item_at (destination_of self.entry.now.sight.stations destination.now) self.entry.now.sight.profiles (strangers_in self.entry.now)) 0 self.entry.now.subscribers) }
+        ensures fits { IfOk result (λ p. IsFor p self.entry.now.subscribers) }
+    {
+        prepare(
+            self.alloc,
+            &self.provision,
+            &self.strangers,
+            self.subscribers.as_slice(),
+            &self.stations,
+            destination,
+            outs,
+        )
+    }
+
     // What an event leads to, on copies.
-    fn ready(&self, event: &Event<'_>) -> Result<Ready, StepFault>
-        ensures reply { IfOk result (λ r. reply self.now event.now ≡ Ok r.outs) }
-        ensures after { IfOk result (λ r. ready_world r self.now ≡ world_after self.now event.now) }
-        ensures fits { IfOk result (λ r. IsFor r.prepared self.now.subscribers) }
-        ensures rising { IfOk result (λ r. Rising known_id (settled_strangers r.prepared self.now.strangers)) }
+    fn ready<'a>(&'a self, event: &'a Event<'_>) -> Result<Ready, StepFault>
+        ensures reply { IfOk result (λ r. reply self.entry.now event.entry.now ≡ Ok r.outs) }
+        ensures after { IfOk result (λ r. ready_world r self.entry.now ≡ world_after self.entry.now event.entry.now) }
+        ensures fits { IfOk result (λ r. IsFor r.prepared self.entry.now.subscribers) }
+        ensures rising { IfOk result (λ r. Rising known_id (settled_strangers r.prepared self.entry.now.strangers)) }
         ensures order { IfOk result (λ r. AreInOrder r.outs) }
-        ensures accepted { OnOk result (event_fault self.now.sight event.now ≡ None) }
-        ensures refused { IfErr result (λ fault. (event_fault self.now.sight event.now ≡ Some fault) ⊎ ((fault ≡ NoMemory) × (event_fault self.now.sight event.now ≡ None))) }
+        ensures accepted { OnOk result (event_fault self.entry.now.sight event.entry.now ≡ None) }
+        ensures refused { IfErr result (λ fault. (event_fault self.entry.now.sight event.entry.now ≡ Some fault)
+            ⊎ ((fault ≡ NoMemory) × (event_fault self.entry.now.sight event.entry.now ≡ None))) }
     {
         if let Some(fault) = self.fault_of(event) {
             return Err(fault);
         }
         let clock = self.clock_after(event);
         let station = event.station();
-        let outcome = self.outcome(event)?;
-        let mut outs = station_outs(self.alloc, station, &outcome.sent)?;
-        let prepared = prepare(
-            self.alloc,
-            &self.provision,
-            &self.strangers,
-            self.subscribers.as_slice(),
-            &self.stations,
-            &outcome.destination,
-            &mut outs,
-        )?;
+        let Outcome {
+            state,
+            sent,
+            destination,
+        } = self.outcome(event)?;
         let moves = Moves {
             station,
-            state: outcome.state,
+            state,
             clock,
         };
+        let mut outs = station_outs(self.alloc, station, &sent)?;
+        let prepared = self.prepared(&destination, &mut outs)?;
         Ok(Ready {
             moves,
             prepared,

@@ -8,4 +8,4 @@ use Rattle.mme_core.proofs.mme.Mme.new.Goals as goal
 
 pub invariant_of-result : goal.invariant_of-result
 unfolding no_stations
-invariant_of-result c = (c.in_ok-subscribers.ensures.few, ap length c.in_ok-stations.ensures ∙ length-replicate 128 Down, subst (Rising known_id) (sym c.new-2.ensures) tt)
+invariant_of-result c = (c.in_ok-subscribers.ensures.few, ap length c.in_ok-stations.ensures ∙ length-replicate 128 Down, subst (Rising known_id) (sym c.new-3.ensures) tt)
