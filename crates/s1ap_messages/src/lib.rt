@@ -26,7 +26,7 @@ mod setup;
 mod transport;
 
 pub use codec::{decode, encode};
-pub use laws::{decoded_exactly, one_message, what_is_encoded};
+pub use laws::{decoded_exactly, encoded_exactly, one_message, what_is_encoded};
 pub use message_type::MessageType;
 pub use pdu::{
     CapabilityInfo, ContextSetupFailure, ContextSetupRequest, ContextSetupResponse,
