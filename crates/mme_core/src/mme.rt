@@ -290,18 +290,17 @@ impl Mme {
             return Err(fault);
         }
         let clock = self.clock_after(event);
-        let station = event.station();
         let Outcome {
             state,
             sent,
             destination,
         } = self.outcome(event)?;
         let moves = Moves {
-            station,
+            station: event.station(),
             state,
             clock,
         };
-        let mut outs = station_outs(self.alloc, station, &sent)?;
+        let mut outs = station_outs(self.alloc, moves.station, &sent)?;
         let prepared = self.prepared(&destination, &mut outs)?;
         Ok(Ready {
             moves,

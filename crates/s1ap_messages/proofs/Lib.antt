@@ -3,3 +3,4 @@ pub mod SpelledLaws
 pub mod WrittenLaws
 pub mod NamedLaws
 pub mod LengthLaws
+pub mod WritableLaws

@@ -1,5 +1,5 @@
 -- Messages by their names, and as their rows have them.
-use Rattle.std.specs.Prelude.{ℕ, List, Option, Some, None, option_map, Result, Ok, Err}
+use Rattle.std.specs.Prelude.{◌≡◌, true, ℕ, List, Option, Some, None, option_map, Result, Ok, Err}
 use Rattle.std.specs.Borrow.{Bor}
 use Rattle.bit_streams.specs.declared.fault.PerFault.{PerFault}
 use Rattle.s1ap_elements.specs.Causes.{typed_cause, named_cause}
@@ -34,6 +34,7 @@ use Rattle.s1ap_messages.specs.declared.pdu.Pdu.TheVariants as pdu
 use Rattle.s1ap_rows.specs.Rows.{Kept}
 use Rattle.s1ap_messages.specs.Profile.{rows_of, setup_request, setup_response, setup_failure, initial_ue_message, downlink_nas_transport, uplink_nas_transport, nas_non_delivery, capability_info, context_setup_request, context_setup_response, context_setup_failure, release_request, release_command, release_complete, paging, path_switch_request, path_switch_acknowledge, path_switch_failure, reset, error_indication}
 use Rattle.s1ap_rows.specs.Reading.{◌>>>◌}
+use Rattle.s1ap_rows.specs.Writable.{message_fits}
 use Rattle.s1ap_messages.specs.Typed.{Typed, decode_typed, SpellsTyped, encode_typed}
 
 -- ---- a message without where its octets lie in memory
@@ -333,6 +334,11 @@ ok_of (Err f) = None
 -- the octets of a message, or None where it is not writable
 unfoldable pub encoded : Pdu (List ℕ) → Option (List ℕ)
 encoded m = ok_of (encode_typed (typed m))
+
+-- a message that has a written spelling: each value is writable in its open type, there are at most 65535 elements, and the
+-- whole is writable in the frame's open type
+abbrev pub IsWritableMessage : Pdu (List ℕ) → Type 0
+IsWritableMessage m = message_fits (rows_of (typed m).0) (typed m).1 ≡ true
 
 -- no message has more octets: an open type of at most 16383 (X.691 clause 11.9), and before it the choice, the code, the
 -- criticality and a length of two octets

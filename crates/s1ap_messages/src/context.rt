@@ -18,25 +18,35 @@ use s1ap_elements::{
     Ambr, Cause, EnbUeId, ErabsSetup, ErabsToBeSetup, MmeUeId, SecurityCapabilities, SecurityKey,
     UeS1apIds,
 };
+use s1ap_rows::{IGNORE, Needed, REJECT, SixRows, ThreeRows, TwoRows, read_message, write_message};
 use std::alloc::Global;
 
-macro_rules! context_setup_request {
-    ($rows:ident, $($given:tt)*) => {
-        $rows!($($given)*,
-            needed 0 Reject mme_id: MmeUeId,
-            needed 8 Reject enb_id: EnbUeId,
-            needed 66 Reject ambr: Ambr,
-            needed 24 Reject erabs: ErabsToBeSetup<'a, &'a [u8]>,
-            needed 107 Reject capabilities: SecurityCapabilities,
-            needed 73 Reject key: SecurityKey)
-    };
-}
+type ContextSetupRequestRows<'a> = SixRows<
+    Needed<0, REJECT, MmeUeId>,
+    Needed<8, REJECT, EnbUeId>,
+    Needed<66, REJECT, Ambr>,
+    Needed<24, REJECT, ErabsToBeSetup<'a, &'a [u8]>>,
+    Needed<107, REJECT, SecurityCapabilities>,
+    Needed<73, REJECT, SecurityKey>,
+>;
 
 #[tactic(auto, using(s1ap_elements::specs::BearerLaws::erabs_seen), unfolding(crate::specs::Typed::read_typed))]
 pub fn read_context_setup_request<'a>(alloc: Global, octets: &'a [u8]) -> Decoded<'a>
     ensures { Answers (λ m. typed (lists m)) result (read_typed message.ContextSetupRequest octets.now) }
 {
-    context_setup_request!(read_rows, alloc, octets, ContextSetupRequest)
+    match read_message::<ContextSetupRequestRows>(alloc, octets) {
+        Ok(elements!(mme_id, enb_id, ambr, erabs, capabilities, key)) => Ok(
+            Pdu::ContextSetupRequest(ContextSetupRequest {
+                mme_id,
+                enb_id,
+                ambr,
+                erabs,
+                capabilities,
+                key,
+            }),
+        ),
+        Err(fault) => Err(fault),
+    }
 }
 
 #[tactic(auto, using(s1ap_elements::specs::BearerLaws::erabs_seen))]
@@ -44,113 +54,134 @@ pub fn write_context_setup_request(alloc: Global, m: &ContextSetupRequest<&[u8]>
     ensures { GivesWhole (λ v. v.items) result
         (write_whole (write_message context_setup_request) (typed_context_setup_request (context_setup_request_lists m.now))) }
 {
-    context_setup_request!(write_rows, alloc, m)
+    write_message::<ContextSetupRequestRows>(
+        alloc,
+        &lent!(
+            &m.mme_id,
+            &m.enb_id,
+            &m.ambr,
+            &m.erabs,
+            &m.capabilities,
+            &m.key
+        ),
+    )
 }
 
-macro_rules! context_setup_response {
-    ($rows:ident, $($given:tt)*) => {
-        $rows!($($given)*,
-            needed 0 Ignore mme_id: MmeUeId,
-            needed 8 Ignore enb_id: EnbUeId,
-            needed 51 Ignore erabs: ErabsSetup<'a>)
-    };
-}
+type ContextSetupResponseRows<'a> = ThreeRows<
+    Needed<0, IGNORE, MmeUeId>,
+    Needed<8, IGNORE, EnbUeId>,
+    Needed<51, IGNORE, ErabsSetup<'a>>,
+>;
 
 #[tactic(auto, unfolding(crate::specs::Typed::read_typed))]
 pub fn read_context_setup_response<'a>(alloc: Global, octets: &'a [u8]) -> Decoded<'a>
     ensures { Answers (λ m. typed (lists m)) result (read_typed message.ContextSetupResponse octets.now) }
 {
-    context_setup_response!(read_rows, alloc, octets, ContextSetupResponse)
+    match read_message::<ContextSetupResponseRows>(alloc, octets) {
+        Ok(elements!(mme_id, enb_id, erabs)) => Ok(Pdu::ContextSetupResponse(
+            ContextSetupResponse {
+                mme_id,
+                enb_id,
+                erabs,
+            },
+        )),
+        Err(fault) => Err(fault),
+    }
 }
 
 pub fn write_context_setup_response(alloc: Global, m: &ContextSetupResponse) -> Written
     ensures { GivesWhole (λ v. v.items) result (write_whole (write_message context_setup_response) (typed_context_setup_response m.now)) }
 {
-    context_setup_response!(write_rows, alloc, m)
+    write_message::<ContextSetupResponseRows>(alloc, &lent!(&m.mme_id, &m.enb_id, &m.erabs))
 }
 
-macro_rules! context_setup_failure {
-    ($rows:ident, $($given:tt)*) => {
-        $rows!($($given)*,
-            needed 0 Ignore mme_id: MmeUeId,
-            needed 8 Ignore enb_id: EnbUeId,
-            needed 2 Ignore cause: Cause)
-    };
-}
+type ContextSetupFailureRows = ThreeRows<
+    Needed<0, IGNORE, MmeUeId>,
+    Needed<8, IGNORE, EnbUeId>,
+    Needed<2, IGNORE, Cause>,
+>;
 
 #[tactic(auto, unfolding(crate::specs::Typed::read_typed))]
 pub fn read_context_setup_failure<'a>(alloc: Global, octets: &'a [u8]) -> Decoded<'a>
     ensures { Answers (λ m. typed (lists m)) result (read_typed message.ContextSetupFailure octets.now) }
 {
-    context_setup_failure!(read_rows, alloc, octets, ContextSetupFailure)
+    match read_message::<ContextSetupFailureRows>(alloc, octets) {
+        Ok(elements!(mme_id, enb_id, cause)) => Ok(Pdu::ContextSetupFailure(ContextSetupFailure {
+            mme_id,
+            enb_id,
+            cause,
+        })),
+        Err(fault) => Err(fault),
+    }
 }
 
 pub fn write_context_setup_failure(alloc: Global, m: &ContextSetupFailure) -> Written
     ensures { GivesWhole (λ v. v.items) result (write_whole (write_message context_setup_failure) (typed_context_setup_failure m.now)) }
 {
-    context_setup_failure!(write_rows, alloc, m)
+    write_message::<ContextSetupFailureRows>(alloc, &lent!(&m.mme_id, &m.enb_id, &m.cause))
 }
 
-macro_rules! release_request {
-    ($rows:ident, $($given:tt)*) => {
-        $rows!($($given)*,
-            needed 0 Reject mme_id: MmeUeId,
-            needed 8 Reject enb_id: EnbUeId,
-            needed 2 Ignore cause: Cause)
-    };
-}
+type ReleaseRequestRows = ThreeRows<
+    Needed<0, REJECT, MmeUeId>,
+    Needed<8, REJECT, EnbUeId>,
+    Needed<2, IGNORE, Cause>,
+>;
 
 #[tactic(auto, unfolding(crate::specs::Typed::read_typed))]
 pub fn read_release_request<'a>(alloc: Global, octets: &'a [u8]) -> Decoded<'a>
     ensures { Answers (λ m. typed (lists m)) result (read_typed message.ReleaseRequest octets.now) }
 {
-    release_request!(read_rows, alloc, octets, ReleaseRequest)
+    match read_message::<ReleaseRequestRows>(alloc, octets) {
+        Ok(elements!(mme_id, enb_id, cause)) => Ok(Pdu::ReleaseRequest(ReleaseRequest {
+            mme_id,
+            enb_id,
+            cause,
+        })),
+        Err(fault) => Err(fault),
+    }
 }
 
 pub fn write_release_request(alloc: Global, m: &ReleaseRequest) -> Written
     ensures { GivesWhole (λ v. v.items) result (write_whole (write_message release_request) (typed_release_request m.now)) }
 {
-    release_request!(write_rows, alloc, m)
+    write_message::<ReleaseRequestRows>(alloc, &lent!(&m.mme_id, &m.enb_id, &m.cause))
 }
 
-macro_rules! release_command {
-    ($rows:ident, $($given:tt)*) => {
-        $rows!($($given)*,
-            needed 99 Reject ids: UeS1apIds,
-            needed 2 Ignore cause: Cause)
-    };
-}
+type ReleaseCommandRows = TwoRows<Needed<99, REJECT, UeS1apIds>, Needed<2, IGNORE, Cause>>;
 
 #[tactic(auto, unfolding(crate::specs::Typed::read_typed))]
 pub fn read_release_command<'a>(alloc: Global, octets: &'a [u8]) -> Decoded<'a>
     ensures { Answers (λ m. typed (lists m)) result (read_typed message.ReleaseCommand octets.now) }
 {
-    release_command!(read_rows, alloc, octets, ReleaseCommand)
+    match read_message::<ReleaseCommandRows>(alloc, octets) {
+        Ok(elements!(ids, cause)) => Ok(Pdu::ReleaseCommand(ReleaseCommand { ids, cause })),
+        Err(fault) => Err(fault),
+    }
 }
 
 pub fn write_release_command(alloc: Global, m: &ReleaseCommand) -> Written
     ensures { GivesWhole (λ v. v.items) result (write_whole (write_message release_command) (typed_release_command m.now)) }
 {
-    release_command!(write_rows, alloc, m)
+    write_message::<ReleaseCommandRows>(alloc, &lent!(&m.ids, &m.cause))
 }
 
-macro_rules! release_complete {
-    ($rows:ident, $($given:tt)*) => {
-        $rows!($($given)*,
-            needed 0 Ignore mme_id: MmeUeId,
-            needed 8 Ignore enb_id: EnbUeId)
-    };
-}
+type ReleaseCompleteRows = TwoRows<Needed<0, IGNORE, MmeUeId>, Needed<8, IGNORE, EnbUeId>>;
 
 #[tactic(auto, unfolding(crate::specs::Typed::read_typed))]
 pub fn read_release_complete<'a>(alloc: Global, octets: &'a [u8]) -> Decoded<'a>
     ensures { Answers (λ m. typed (lists m)) result (read_typed message.ReleaseComplete octets.now) }
 {
-    release_complete!(read_rows, alloc, octets, ReleaseComplete)
+    match read_message::<ReleaseCompleteRows>(alloc, octets) {
+        Ok(elements!(mme_id, enb_id)) => Ok(Pdu::ReleaseComplete(ReleaseComplete {
+            mme_id,
+            enb_id,
+        })),
+        Err(fault) => Err(fault),
+    }
 }
 
 pub fn write_release_complete(alloc: Global, m: &ReleaseComplete) -> Written
     ensures { GivesWhole (λ v. v.items) result (write_whole (write_message release_complete) (typed_release_complete m.now)) }
 {
-    release_complete!(write_rows, alloc, m)
+    write_message::<ReleaseCompleteRows>(alloc, &lent!(&m.mme_id, &m.enb_id))
 }

@@ -12,62 +12,67 @@ ghost use Rattle.s1ap_messages.specs.Typed.{read_typed};
 
 use crate::pdu::{Decoded, ErrorIndication, Pdu, Reset, Written};
 use s1ap_elements::{Cause, EnbUeId, MmeUeId, ResetType};
-use s1ap_rows::{End, fill_message};
+use s1ap_rows::{
+    End, IGNORE, Needed, Optional, REJECT, ThreeRows, TwoRows, read_message, write_message,
+};
 use std::alloc::Global;
 
-macro_rules! reset {
-    ($rows:ident, $($given:tt)*) => {
-        $rows!($($given)*,
-            needed 2 Ignore cause: Cause,
-            needed 92 Reject reset_type: ResetType)
-    };
-}
+type ResetRows = TwoRows<Needed<2, IGNORE, Cause>, Needed<92, REJECT, ResetType>>;
 
 #[tactic(auto, unfolding(crate::specs::Typed::read_typed))]
 pub fn read_reset<'a>(alloc: Global, octets: &'a [u8]) -> Decoded<'a>
     ensures { Answers (λ m. typed (lists m)) result (read_typed message.Reset octets.now) }
 {
-    reset!(read_rows, alloc, octets, Reset)
+    match read_message::<ResetRows>(alloc, octets) {
+        Ok(elements!(cause, reset_type)) => Ok(Pdu::Reset(Reset { cause, reset_type })),
+        Err(fault) => Err(fault),
+    }
 }
 
 pub fn write_reset(alloc: Global, m: &Reset) -> Written
     ensures { GivesWhole (λ v. v.items) result (write_whole (write_message reset) (typed_reset m.now)) }
 {
-    reset!(write_rows, alloc, m)
+    write_message::<ResetRows>(alloc, &lent!(&m.cause, &m.reset_type))
 }
 
 #[tactic(auto, unfolding(crate::specs::Typed::read_typed))]
 pub fn read_reset_acknowledge<'a>(alloc: Global, octets: &'a [u8]) -> Decoded<'a>
     ensures { Answers (λ m. typed (lists m)) result (read_typed message.ResetAcknowledge octets.now) }
 {
-    fill_message(alloc, octets, &mut End)?;
-    Ok(Pdu::ResetAcknowledge)
+    match read_message::<End>(alloc, octets) {
+        Ok(elements!()) => Ok(Pdu::ResetAcknowledge),
+        Err(fault) => Err(fault),
+    }
 }
 
 pub fn write_reset_acknowledge(alloc: Global) -> Written
     ensures { GivesWhole (λ v. v.items) result (write_whole (write_message reset_acknowledge) tt) }
 {
-    write_rows!(alloc, ())
+    write_message::<End>(alloc, &lent!())
 }
 
-macro_rules! error_indication {
-    ($rows:ident, $($given:tt)*) => {
-        $rows!($($given)*,
-            optional 0 Ignore mme_id: MmeUeId,
-            optional 8 Ignore enb_id: EnbUeId,
-            optional 2 Ignore cause: Cause)
-    };
-}
+type ErrorIndicationRows = ThreeRows<
+    Optional<0, IGNORE, MmeUeId>,
+    Optional<8, IGNORE, EnbUeId>,
+    Optional<2, IGNORE, Cause>,
+>;
 
 #[tactic(auto, unfolding(crate::specs::Typed::read_typed))]
 pub fn read_error_indication<'a>(alloc: Global, octets: &'a [u8]) -> Decoded<'a>
     ensures { Answers (λ m. typed (lists m)) result (read_typed message.ErrorIndication octets.now) }
 {
-    error_indication!(read_rows, alloc, octets, ErrorIndication)
+    match read_message::<ErrorIndicationRows>(alloc, octets) {
+        Ok(elements!(mme_id, enb_id, cause)) => Ok(Pdu::ErrorIndication(ErrorIndication {
+            mme_id,
+            enb_id,
+            cause,
+        })),
+        Err(fault) => Err(fault),
+    }
 }
 
 pub fn write_error_indication(alloc: Global, m: &ErrorIndication) -> Written
     ensures { GivesWhole (λ v. v.items) result (write_whole (write_message error_indication) (typed_error_indication m.now)) }
 {
-    error_indication!(write_rows, alloc, m)
+    write_message::<ErrorIndicationRows>(alloc, &lent!(&m.mme_id, &m.enb_id, &m.cause))
 }

@@ -1,8 +1,8 @@
 //! Laws of messages.
 
-ghost use Rattle.std.specs.Prelude.{◌≡◌, ℕ, List, Ok, Some};
+ghost use Rattle.std.specs.Prelude.{◌≡◌, ℕ, List, Ok, Some, None};
 ghost use Rattle.s1ap_messages.specs.declared.pdu.Pdu.{Pdu};
-ghost use Rattle.s1ap_messages.specs.Pdus.{SpellsMessage, decoded, encoded};
+ghost use Rattle.s1ap_messages.specs.Pdus.{IsWritableMessage, SpellsMessage, decoded, encoded};
 
 /// Octets are decoded exactly where they spell a message.
 pub fn decoded_exactly()
@@ -19,4 +19,10 @@ pub fn one_message()
 pub fn what_is_encoded()
     ensures spelled { (m : Pdu (List ℕ)) (os : List ℕ) → encoded m ≡ Some os → SpellsMessage m os }
     ensures decoded { (m : Pdu (List ℕ)) (os : List ℕ) → encoded m ≡ Some os → decoded os ≡ Ok m }
+{}
+
+/// A message is written where it is writable, and nowhere else.
+pub fn encoded_exactly()
+    ensures written { (m : Pdu (List ℕ)) → IsWritableMessage m → (os : List ℕ) × (encoded m ≡ Some os) }
+    ensures refused { (m : Pdu (List ℕ)) → (IsWritableMessage m → ⊥) → encoded m ≡ None }
 {}

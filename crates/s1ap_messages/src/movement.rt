@@ -17,96 +17,136 @@ use s1ap_elements::{
     Cause, CnDomain, EnbUeId, ErabsToBeSwitched, EutranCgi, MmeUeId, SecurityCapabilities,
     SecurityContext, Tai, TaiList, UeIndex, UePagingId,
 };
+use s1ap_rows::{
+    FourRows, IGNORE, Needed, REJECT, SixRows, ThreeRows, read_message, write_message,
+};
 use std::alloc::Global;
 
-macro_rules! paging {
-    ($rows:ident, $($given:tt)*) => {
-        $rows!($($given)*,
-            needed 80 Ignore ue_index: UeIndex,
-            needed 43 Ignore paging_id: UePagingId<&'a [u8]>,
-            needed 109 Ignore domain: CnDomain,
-            needed 46 Ignore tai_list: TaiList)
-    };
-}
+type PagingRows<'a> = FourRows<
+    Needed<80, IGNORE, UeIndex>,
+    Needed<43, IGNORE, UePagingId<&'a [u8]>>,
+    Needed<109, IGNORE, CnDomain>,
+    Needed<46, IGNORE, TaiList>,
+>;
 
 #[tactic(auto, unfolding(crate::specs::Typed::read_typed))]
 pub fn read_paging<'a>(alloc: Global, octets: &'a [u8]) -> Decoded<'a>
     ensures { Answers (λ m. typed (lists m)) result (read_typed message.Paging octets.now) }
 {
-    paging!(read_rows, alloc, octets, Paging)
+    match read_message::<PagingRows>(alloc, octets) {
+        Ok(elements!(ue_index, paging_id, domain, tai_list)) => Ok(Pdu::Paging(Paging {
+            ue_index,
+            paging_id,
+            domain,
+            tai_list,
+        })),
+        Err(fault) => Err(fault),
+    }
 }
 
 pub fn write_paging(alloc: Global, m: &Paging<&[u8]>) -> Written
     ensures { GivesWhole (λ v. v.items) result (write_whole (write_message paging) (typed_paging (paging_lists m.now))) }
 {
-    paging!(write_rows, alloc, m)
+    write_message::<PagingRows>(
+        alloc,
+        &lent!(&m.ue_index, &m.paging_id, &m.domain, &m.tai_list),
+    )
 }
 
-macro_rules! path_switch_request {
-    ($rows:ident, $($given:tt)*) => {
-        $rows!($($given)*,
-            needed 8 Reject enb_id: EnbUeId,
-            needed 22 Reject erabs: ErabsToBeSwitched<'a>,
-            needed 88 Reject source_mme_id: MmeUeId,
-            needed 100 Ignore cell: EutranCgi,
-            needed 67 Ignore tai: Tai,
-            needed 107 Ignore capabilities: SecurityCapabilities)
-    };
-}
+type PathSwitchRequestRows<'a> = SixRows<
+    Needed<8, REJECT, EnbUeId>,
+    Needed<22, REJECT, ErabsToBeSwitched<'a>>,
+    Needed<88, REJECT, MmeUeId>,
+    Needed<100, IGNORE, EutranCgi>,
+    Needed<67, IGNORE, Tai>,
+    Needed<107, IGNORE, SecurityCapabilities>,
+>;
 
 #[tactic(auto, unfolding(crate::specs::Typed::read_typed))]
 pub fn read_path_switch_request<'a>(alloc: Global, octets: &'a [u8]) -> Decoded<'a>
     ensures { Answers (λ m. typed (lists m)) result (read_typed message.PathSwitchRequest octets.now) }
 {
-    path_switch_request!(read_rows, alloc, octets, PathSwitchRequest)
+    match read_message::<PathSwitchRequestRows>(alloc, octets) {
+        Ok(elements!(enb_id, erabs, source_mme_id, cell, tai, capabilities)) => Ok(
+            Pdu::PathSwitchRequest(PathSwitchRequest {
+                enb_id,
+                erabs,
+                source_mme_id,
+                cell,
+                tai,
+                capabilities,
+            }),
+        ),
+        Err(fault) => Err(fault),
+    }
 }
 
 pub fn write_path_switch_request(alloc: Global, m: &PathSwitchRequest) -> Written
     ensures { GivesWhole (λ v. v.items) result (write_whole (write_message path_switch_request) (typed_path_switch_request m.now)) }
 {
-    path_switch_request!(write_rows, alloc, m)
+    write_message::<PathSwitchRequestRows>(
+        alloc,
+        &lent!(
+            &m.enb_id,
+            &m.erabs,
+            &m.source_mme_id,
+            &m.cell,
+            &m.tai,
+            &m.capabilities
+        ),
+    )
 }
 
-macro_rules! path_switch_acknowledge {
-    ($rows:ident, $($given:tt)*) => {
-        $rows!($($given)*,
-            needed 0 Ignore mme_id: MmeUeId,
-            needed 8 Ignore enb_id: EnbUeId,
-            needed 40 Reject context: SecurityContext)
-    };
-}
+type PathSwitchAcknowledgeRows = ThreeRows<
+    Needed<0, IGNORE, MmeUeId>,
+    Needed<8, IGNORE, EnbUeId>,
+    Needed<40, REJECT, SecurityContext>,
+>;
 
 #[tactic(auto, unfolding(crate::specs::Typed::read_typed))]
 pub fn read_path_switch_acknowledge<'a>(alloc: Global, octets: &'a [u8]) -> Decoded<'a>
     ensures { Answers (λ m. typed (lists m)) result (read_typed message.PathSwitchAcknowledge octets.now) }
 {
-    path_switch_acknowledge!(read_rows, alloc, octets, PathSwitchAcknowledge)
+    match read_message::<PathSwitchAcknowledgeRows>(alloc, octets) {
+        Ok(elements!(mme_id, enb_id, context)) => Ok(Pdu::PathSwitchAcknowledge(
+            PathSwitchAcknowledge {
+                mme_id,
+                enb_id,
+                context,
+            },
+        )),
+        Err(fault) => Err(fault),
+    }
 }
 
 pub fn write_path_switch_acknowledge(alloc: Global, m: &PathSwitchAcknowledge) -> Written
     ensures { GivesWhole (λ v. v.items) result (write_whole (write_message path_switch_acknowledge) (typed_path_switch_acknowledge m.now)) }
 {
-    path_switch_acknowledge!(write_rows, alloc, m)
+    write_message::<PathSwitchAcknowledgeRows>(alloc, &lent!(&m.mme_id, &m.enb_id, &m.context))
 }
 
-macro_rules! path_switch_failure {
-    ($rows:ident, $($given:tt)*) => {
-        $rows!($($given)*,
-            needed 0 Ignore mme_id: MmeUeId,
-            needed 8 Ignore enb_id: EnbUeId,
-            needed 2 Ignore cause: Cause)
-    };
-}
+type PathSwitchFailureRows = ThreeRows<
+    Needed<0, IGNORE, MmeUeId>,
+    Needed<8, IGNORE, EnbUeId>,
+    Needed<2, IGNORE, Cause>,
+>;
 
 #[tactic(auto, unfolding(crate::specs::Typed::read_typed))]
 pub fn read_path_switch_failure<'a>(alloc: Global, octets: &'a [u8]) -> Decoded<'a>
     ensures { Answers (λ m. typed (lists m)) result (read_typed message.PathSwitchFailure octets.now) }
 {
-    path_switch_failure!(read_rows, alloc, octets, PathSwitchFailure)
+    match read_message::<PathSwitchFailureRows>(alloc, octets) {
+        Ok(elements!(mme_id, enb_id, cause)) => Ok(Pdu::PathSwitchFailure(PathSwitchFailure {
+            mme_id,
+            enb_id,
+            cause,
+        })),
+        Err(fault) => Err(fault),
+    }
 }
 
 pub fn write_path_switch_failure(alloc: Global, m: &PathSwitchFailure) -> Written
     ensures { GivesWhole (λ v. v.items) result (write_whole (write_message path_switch_failure) (typed_path_switch_failure m.now)) }
 {
-    path_switch_failure!(write_rows, alloc, m)
+    write_message::<PathSwitchFailureRows>(alloc, &lent!(&m.mme_id, &m.enb_id, &m.cause))
 }

@@ -15,70 +15,90 @@ use s1ap_elements::{
     Cause, GlobalEnbId, Name, PagingDrx, RelativeCapacity, ServedGummeis, SupportedTas,
     name_of_octets, octets_of_name,
 };
+use s1ap_rows::{
+    FourRows, IGNORE, Needed, OneRow, Optional, REJECT, ThreeRows, Unkept, read_message,
+    write_message,
+};
 use std::alloc::Global;
 
-macro_rules! setup_request {
-    ($rows:ident, $($given:tt)*) => {
-        $rows!($($given)*,
-            needed 59 Reject station: GlobalEnbId,
-            optional 60 Ignore name: Name as name,
-            needed 64 Reject supported_tas: SupportedTas,
-            needed 137 Ignore paging_drx: PagingDrx)
-    };
-}
+type SetupRequestRows<'a> = FourRows<
+    Needed<59, REJECT, GlobalEnbId>,
+    Optional<60, IGNORE, Name<'a>>,
+    Needed<64, REJECT, SupportedTas>,
+    Needed<137, IGNORE, PagingDrx>,
+>;
 
 #[tactic(auto, unfolding(crate::specs::Typed::read_typed))]
 pub fn read_setup_request<'a>(alloc: Global, octets: &'a [u8]) -> Decoded<'a>
     ensures { Answers (λ m. typed (lists m)) result (read_typed message.SetupRequest octets.now) }
 {
-    setup_request!(read_rows, alloc, octets, SetupRequest)
+    match read_message::<SetupRequestRows>(alloc, octets) {
+        Ok(elements!(station, name, supported_tas, paging_drx)) => Ok(Pdu::SetupRequest(
+            SetupRequest {
+                station,
+                name: octets_of_name(name),
+                supported_tas,
+                paging_drx,
+            },
+        )),
+        Err(fault) => Err(fault),
+    }
 }
 
 pub fn write_setup_request(alloc: Global, m: &SetupRequest<&[u8]>) -> Written
     ensures { GivesWhole (λ v. v.items) result
         (write_whole (write_message setup_request) (typed_setup_request (setup_request_lists m.now))) }
 {
-    setup_request!(write_rows, alloc, m)
+    write_message::<SetupRequestRows>(
+        alloc,
+        &lent!(
+            &m.station,
+            &name_of_octets(m.name),
+            &m.supported_tas,
+            &m.paging_drx
+        ),
+    )
 }
 
-macro_rules! setup_response {
-    ($rows:ident, $($given:tt)*) => {
-        $rows!($($given)*,
-            unkept 61 Ignore name: Name,
-            needed 105 Reject served_gummeis: ServedGummeis,
-            needed 87 Ignore capacity: RelativeCapacity)
-    };
-}
+type SetupResponseRows<'a> = ThreeRows<
+    Unkept<61, IGNORE, Name<'a>>,
+    Needed<105, REJECT, ServedGummeis>,
+    Needed<87, IGNORE, RelativeCapacity>,
+>;
 
 #[tactic(auto, unfolding(crate::specs::Typed::read_typed))]
 pub fn read_setup_response<'a>(alloc: Global, octets: &'a [u8]) -> Decoded<'a>
     ensures { Answers (λ m. typed (lists m)) result (read_typed message.SetupResponse octets.now) }
 {
-    setup_response!(read_rows, alloc, octets, SetupResponse)
+    match read_message::<SetupResponseRows>(alloc, octets) {
+        Ok(elements!(served_gummeis, capacity)) => Ok(Pdu::SetupResponse(SetupResponse {
+            served_gummeis,
+            capacity,
+        })),
+        Err(fault) => Err(fault),
+    }
 }
 
 pub fn write_setup_response(alloc: Global, m: &SetupResponse) -> Written
     ensures { GivesWhole (λ v. v.items) result (write_whole (write_message setup_response) (typed_setup_response m.now)) }
 {
-    setup_response!(write_rows, alloc, m)
+    write_message::<SetupResponseRows>(alloc, &lent!(&m.served_gummeis, &m.capacity))
 }
 
-macro_rules! setup_failure {
-    ($rows:ident, $($given:tt)*) => {
-        $rows!($($given)*,
-            needed 2 Ignore cause: Cause)
-    };
-}
+type SetupFailureRows = OneRow<Needed<2, IGNORE, Cause>>;
 
 #[tactic(auto, unfolding(crate::specs::Typed::read_typed))]
 pub fn read_setup_failure<'a>(alloc: Global, octets: &'a [u8]) -> Decoded<'a>
     ensures { Answers (λ m. typed (lists m)) result (read_typed message.SetupFailure octets.now) }
 {
-    setup_failure!(read_rows, alloc, octets, SetupFailure)
+    match read_message::<SetupFailureRows>(alloc, octets) {
+        Ok(elements!(cause)) => Ok(Pdu::SetupFailure(SetupFailure { cause })),
+        Err(fault) => Err(fault),
+    }
 }
 
 pub fn write_setup_failure(alloc: Global, m: &SetupFailure) -> Written
     ensures { GivesWhole (λ v. v.items) result (write_whole (write_message setup_failure) (typed_setup_failure m.now)) }
 {
-    setup_failure!(write_rows, alloc, m)
+    write_message::<SetupFailureRows>(alloc, &lent!(&m.cause))
 }

@@ -16,125 +16,200 @@ use crate::pdu::{
 };
 use per_bits::OctetString;
 use s1ap_elements::{Cause, EnbUeId, EutranCgi, MmeUeId, RrcCause, STmsi, Tai};
+use s1ap_rows::{
+    FiveRows, FourRows, IGNORE, Needed, Optional, REJECT, SixRows, ThreeRows, read_message,
+    write_message,
+};
 use std::alloc::Global;
 
-macro_rules! initial_ue_message {
-    ($rows:ident, $($given:tt)*) => {
-        $rows!($($given)*,
-            needed 8 Reject enb_id: EnbUeId,
-            needed 26 Reject nas: OctetString as octets,
-            needed 67 Reject tai: Tai,
-            needed 100 Ignore cell: EutranCgi,
-            needed 134 Ignore rrc_cause: RrcCause,
-            optional 96 Reject s_tmsi: STmsi)
-    };
-}
+type InitialUeMessageRows<'a> = SixRows<
+    Needed<8, REJECT, EnbUeId>,
+    Needed<26, REJECT, OctetString<'a>>,
+    Needed<67, REJECT, Tai>,
+    Needed<100, IGNORE, EutranCgi>,
+    Needed<134, IGNORE, RrcCause>,
+    Optional<96, REJECT, STmsi>,
+>;
 
 #[tactic(auto, unfolding(crate::specs::Typed::read_typed))]
 pub fn read_initial_ue_message<'a>(alloc: Global, octets: &'a [u8]) -> Decoded<'a>
     ensures { Answers (λ m. typed (lists m)) result (read_typed message.InitialUeMessage octets.now) }
 {
-    initial_ue_message!(read_rows, alloc, octets, InitialUeMessage)
+    match read_message::<InitialUeMessageRows>(alloc, octets) {
+        Ok(elements!(enb_id, nas, tai, cell, rrc_cause, s_tmsi)) => Ok(Pdu::InitialUeMessage(
+            InitialUeMessage {
+                enb_id,
+                nas: nas.octets,
+                tai,
+                cell,
+                rrc_cause,
+                s_tmsi,
+            },
+        )),
+        Err(fault) => Err(fault),
+    }
 }
 
 pub fn write_initial_ue_message(alloc: Global, m: &InitialUeMessage<&[u8]>) -> Written
     ensures { GivesWhole (λ v. v.items) result
         (write_whole (write_message initial_ue_message) (typed_initial_ue_message (initial_ue_message_lists m.now))) }
 {
-    initial_ue_message!(write_rows, alloc, m)
+    write_message::<InitialUeMessageRows>(
+        alloc,
+        &lent!(
+            &m.enb_id,
+            &OctetString { octets: m.nas },
+            &m.tai,
+            &m.cell,
+            &m.rrc_cause,
+            &m.s_tmsi
+        ),
+    )
 }
 
-macro_rules! downlink_nas_transport {
-    ($rows:ident, $($given:tt)*) => {
-        $rows!($($given)*,
-            needed 0 Reject mme_id: MmeUeId,
-            needed 8 Reject enb_id: EnbUeId,
-            needed 26 Reject nas: OctetString as octets)
-    };
-}
+type DownlinkNasTransportRows<'a> = ThreeRows<
+    Needed<0, REJECT, MmeUeId>,
+    Needed<8, REJECT, EnbUeId>,
+    Needed<26, REJECT, OctetString<'a>>,
+>;
 
 #[tactic(auto, unfolding(crate::specs::Typed::read_typed))]
 pub fn read_downlink_nas_transport<'a>(alloc: Global, octets: &'a [u8]) -> Decoded<'a>
     ensures { Answers (λ m. typed (lists m)) result (read_typed message.DownlinkNasTransport octets.now) }
 {
-    downlink_nas_transport!(read_rows, alloc, octets, DownlinkNasTransport)
+    match read_message::<DownlinkNasTransportRows>(alloc, octets) {
+        Ok(elements!(mme_id, enb_id, nas)) => Ok(Pdu::DownlinkNasTransport(DownlinkNasTransport {
+            mme_id,
+            enb_id,
+            nas: nas.octets,
+        })),
+        Err(fault) => Err(fault),
+    }
 }
 
 pub fn write_downlink_nas_transport(alloc: Global, m: &DownlinkNasTransport<&[u8]>) -> Written
     ensures { GivesWhole (λ v. v.items) result
         (write_whole (write_message downlink_nas_transport) (typed_downlink_nas_transport (downlink_nas_transport_lists m.now))) }
 {
-    downlink_nas_transport!(write_rows, alloc, m)
+    write_message::<DownlinkNasTransportRows>(
+        alloc,
+        &lent!(&m.mme_id, &m.enb_id, &OctetString { octets: m.nas }),
+    )
 }
 
-macro_rules! uplink_nas_transport {
-    ($rows:ident, $($given:tt)*) => {
-        $rows!($($given)*,
-            needed 0 Reject mme_id: MmeUeId,
-            needed 8 Reject enb_id: EnbUeId,
-            needed 26 Reject nas: OctetString as octets,
-            needed 100 Ignore cell: EutranCgi,
-            needed 67 Ignore tai: Tai)
-    };
-}
+type UplinkNasTransportRows<'a> = FiveRows<
+    Needed<0, REJECT, MmeUeId>,
+    Needed<8, REJECT, EnbUeId>,
+    Needed<26, REJECT, OctetString<'a>>,
+    Needed<100, IGNORE, EutranCgi>,
+    Needed<67, IGNORE, Tai>,
+>;
 
 #[tactic(auto, unfolding(crate::specs::Typed::read_typed))]
 pub fn read_uplink_nas_transport<'a>(alloc: Global, octets: &'a [u8]) -> Decoded<'a>
     ensures { Answers (λ m. typed (lists m)) result (read_typed message.UplinkNasTransport octets.now) }
 {
-    uplink_nas_transport!(read_rows, alloc, octets, UplinkNasTransport)
+    match read_message::<UplinkNasTransportRows>(alloc, octets) {
+        Ok(elements!(mme_id, enb_id, nas, cell, tai)) => Ok(Pdu::UplinkNasTransport(
+            UplinkNasTransport {
+                mme_id,
+                enb_id,
+                nas: nas.octets,
+                cell,
+                tai,
+            },
+        )),
+        Err(fault) => Err(fault),
+    }
 }
 
 pub fn write_uplink_nas_transport(alloc: Global, m: &UplinkNasTransport<&[u8]>) -> Written
     ensures { GivesWhole (λ v. v.items) result
         (write_whole (write_message uplink_nas_transport) (typed_uplink_nas_transport (uplink_nas_transport_lists m.now))) }
 {
-    uplink_nas_transport!(write_rows, alloc, m)
+    write_message::<UplinkNasTransportRows>(
+        alloc,
+        &lent!(
+            &m.mme_id,
+            &m.enb_id,
+            &OctetString { octets: m.nas },
+            &m.cell,
+            &m.tai
+        ),
+    )
 }
 
-macro_rules! nas_non_delivery {
-    ($rows:ident, $($given:tt)*) => {
-        $rows!($($given)*,
-            needed 0 Reject mme_id: MmeUeId,
-            needed 8 Reject enb_id: EnbUeId,
-            needed 26 Ignore nas: OctetString as octets,
-            needed 2 Ignore cause: Cause)
-    };
-}
+type NasNonDeliveryRows<'a> = FourRows<
+    Needed<0, REJECT, MmeUeId>,
+    Needed<8, REJECT, EnbUeId>,
+    Needed<26, IGNORE, OctetString<'a>>,
+    Needed<2, IGNORE, Cause>,
+>;
 
 #[tactic(auto, unfolding(crate::specs::Typed::read_typed))]
 pub fn read_nas_non_delivery<'a>(alloc: Global, octets: &'a [u8]) -> Decoded<'a>
     ensures { Answers (λ m. typed (lists m)) result (read_typed message.NasNonDelivery octets.now) }
 {
-    nas_non_delivery!(read_rows, alloc, octets, NasNonDelivery)
+    match read_message::<NasNonDeliveryRows>(alloc, octets) {
+        Ok(elements!(mme_id, enb_id, nas, cause)) => Ok(Pdu::NasNonDelivery(NasNonDelivery {
+            mme_id,
+            enb_id,
+            nas: nas.octets,
+            cause,
+        })),
+        Err(fault) => Err(fault),
+    }
 }
 
 pub fn write_nas_non_delivery(alloc: Global, m: &NasNonDelivery<&[u8]>) -> Written
     ensures { GivesWhole (λ v. v.items) result
         (write_whole (write_message nas_non_delivery) (typed_nas_non_delivery (nas_non_delivery_lists m.now))) }
 {
-    nas_non_delivery!(write_rows, alloc, m)
+    write_message::<NasNonDeliveryRows>(
+        alloc,
+        &lent!(
+            &m.mme_id,
+            &m.enb_id,
+            &OctetString { octets: m.nas },
+            &m.cause
+        ),
+    )
 }
 
-macro_rules! capability_info {
-    ($rows:ident, $($given:tt)*) => {
-        $rows!($($given)*,
-            needed 0 Reject mme_id: MmeUeId,
-            needed 8 Reject enb_id: EnbUeId,
-            needed 74 Ignore radio_capability: OctetString as octets)
-    };
-}
+type CapabilityInfoRows<'a> = ThreeRows<
+    Needed<0, REJECT, MmeUeId>,
+    Needed<8, REJECT, EnbUeId>,
+    Needed<74, IGNORE, OctetString<'a>>,
+>;
 
 #[tactic(auto, unfolding(crate::specs::Typed::read_typed))]
 pub fn read_capability_info<'a>(alloc: Global, octets: &'a [u8]) -> Decoded<'a>
     ensures { Answers (λ m. typed (lists m)) result (read_typed message.CapabilityInfo octets.now) }
 {
-    capability_info!(read_rows, alloc, octets, CapabilityInfo)
+    match read_message::<CapabilityInfoRows>(alloc, octets) {
+        Ok(elements!(mme_id, enb_id, radio_capability)) => Ok(Pdu::CapabilityInfo(
+            CapabilityInfo {
+                mme_id,
+                enb_id,
+                radio_capability: radio_capability.octets,
+            },
+        )),
+        Err(fault) => Err(fault),
+    }
 }
 
 pub fn write_capability_info(alloc: Global, m: &CapabilityInfo<&[u8]>) -> Written
     ensures { GivesWhole (λ v. v.items) result
         (write_whole (write_message capability_info) (typed_capability_info (capability_info_lists m.now))) }
 {
-    capability_info!(write_rows, alloc, m)
+    write_message::<CapabilityInfoRows>(
+        alloc,
+        &lent!(
+            &m.mme_id,
+            &m.enb_id,
+            &OctetString {
+                octets: m.radio_capability
+            }
+        ),
+    )
 }

@@ -3,6 +3,7 @@ pub mod Rows
 pub mod Spelling
 pub mod Reading
 pub mod Writing
+pub mod Writable
 pub mod Answers
 pub mod MessageLaws
 pub mod FrameLaws

@@ -1,5 +1,5 @@
 -- Rows of messages, and the values that they have.
-use Rattle.std.specs.Prelude.{ℕ, Bool, true, false, eqb, not, ◌==◌, ◌&&◌, ◌||◌, if◌then◌else◌, Option, None}
+use Rattle.std.specs.Prelude.{ℕ, ◌+◌, Bool, true, false, eqb, not, ◌&&◌, ◌||◌, Option, None}
 use Rattle.per_bits.specs.Formats.{Format, Value}
 use Rattle.s1ap_rows.specs.declared.criticality.Criticality.{Criticality}
 
@@ -10,10 +10,6 @@ pub data Presence : Type 0 where
   needed : Presence
   optional : Presence
   unkept : Presence
-
--- the presence of a number
-abbrev pub presence_named : ℕ → Presence
-presence_named n = if n == 0 then needed else if n == 1 then optional else unkept
 
 -- the rows of a message: id, criticality, presence, and what it holds
 pub data Rows : Type 0 where
@@ -31,6 +27,11 @@ Kept end = Unit {0}
 Kept (ie id c needed f rs) = Value f × Kept rs
 Kept (ie id c optional f rs) = Option (Value f) × Kept rs
 Kept (ie id c unkept f rs) = Kept rs
+
+-- how many rows there are
+abbrev pub row_count : Rows → ℕ
+row_count end = 0
+row_count (ie id c p f rs) = row_count rs + 1
 
 abbrev pub no_slots : (rs : Rows) → Slots rs
 no_slots end = tt

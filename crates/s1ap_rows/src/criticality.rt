@@ -3,12 +3,18 @@
 ghost use Rattle.std.specs.Prelude.{◌≡◌};
 ghost use Rattle.bit_streams.specs.Bits.{Answers};
 ghost use Rattle.per_bits.specs.Reading.{number_at};
-ghost use Rattle.s1ap_rows.specs.Criticalities.{criticality_number};
+ghost use Rattle.s1ap_rows.specs.Criticalities.{criticality_number, criticality_named};
 
 use per_bits::{BitReader, PerFault, offset_of};
 
 /// The greatest number of a criticality.
 pub const LAST_CRITICALITY: u64 = 2;
+
+/// The number of `Criticality::Reject`, for tables of rows.
+pub const REJECT: u8 = 0;
+
+/// The number of `Criticality::Ignore`, for tables of rows.
+pub const IGNORE: u8 = 1;
 
 /// What is to be done with a procedure or an element that isn't understood (TS 36.413 clause 9.3.5).
 #[derive(Clone, Copy, Debug, PartialEq, Eq)]
@@ -32,6 +38,17 @@ impl Criticality {
             Criticality::Notify => 2,
         }
     }
+
+    /// The criticality of a number, 0 to 2.
+    pub fn named(number: u8) -> Criticality
+        ensures { result ≡ criticality_named number }
+    {
+        match number {
+            0 => Criticality::Reject,
+            1 => Criticality::Ignore,
+            _ => Criticality::Notify,
+        }
+    }
 }
 
 #[tactic(auto, unfolding(per_bits::specs::Reading::number_at))]
@@ -39,9 +56,5 @@ pub fn take_criticality(reader: &mut BitReader) -> Result<Criticality, PerFault>
     ensures { Answers criticality_number result reader.new (number_at 0 2 reader.old) }
 {
     let number = offset_of(LAST_CRITICALITY, reader)?;
-    Ok(match number {
-        0 => Criticality::Reject,
-        1 => Criticality::Ignore,
-        _ => Criticality::Notify,
-    })
+    Ok(Criticality::named(number as u8))
 }

@@ -5,14 +5,14 @@ ghost use Rattle.bit_streams.specs.Bits.{Place, Answers};
 ghost use Rattle.per_bits.specs.Reading.{number_at};
 ghost use Rattle.per_bits.specs.Writing.{Wrote};
 ghost use Rattle.s1ap_rows.specs.Criticalities.{criticality_number};
-ghost use Rattle.s1ap_rows.specs.Rows.{Rows, Slots};
 ghost use Rattle.s1ap_rows.specs.Spelling.{may_skip};
-ghost use Rattle.s1ap_rows.specs.Reading.{put_at, pass_at, fill_slot, elements_at, fill_at};
+ghost use Rattle.s1ap_rows.specs.Reading.{pass_at, fill_slot, elements_at, fill_at};
 ghost use Rattle.s1ap_rows.specs.Writing.{write_element, write_some, one_if};
 ghost use Rattle.s1ap_rows.specs.Answers.{Reads};
 
 use crate::criticality::{Criticality, LAST_CRITICALITY, take_criticality};
 use crate::fault::S1apFault;
+use crate::message::Message;
 use per_bits::{
     BitReader, BitWriter, Element, PerError, PerFault, offset_of, put_number, read_complete,
     skip_additions, take_open, write_open,
@@ -31,17 +31,6 @@ const GUMMEI_ID: u16 = 75;
 const CSG_ID: u16 = 127;
 
 const CSG_ID_LIST: u16 = 128;
-
-/// The rows of a message, as far as they were read.
-pub trait Message<'a>: Drop {
-    ghost rows: { Rows };
-
-    ghost slots: { Self → Slots rows };
-
-    /// Takes one more element, behind its id.
-    fn put(&mut self, alloc: Global, id: u16, reader: &mut BitReader<'a>) -> Result<(), S1apFault>
-        ensures { Reads result (slots self.new, reader.new) (put_at rows id (slots self.old) reader.old) };
-}
 
 /// An element of a row.
 pub fn fill<'a, T: Element<'a>>(

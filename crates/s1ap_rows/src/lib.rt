@@ -6,12 +6,13 @@ mod criticality;
 mod engine;
 mod fault;
 mod frame;
+mod message;
 mod row;
 
-pub use criticality::Criticality;
-pub use engine::{
-    MOST_ELEMENTS, Message, count_some, fill, fill_message, pass, put_element, put_some,
-};
+pub use criticality::{Criticality, IGNORE, REJECT};
 pub use fault::{EncodeFault, S1apFault};
 pub use frame::{Frame, frame_octets, read_frame};
-pub use row::{End, Row};
+pub use message::{Message, Written, read_message, write_message};
+pub use row::{
+    End, FiveRows, FourRows, Needed, OneRow, Optional, Row, SixRows, ThreeRows, TwoRows, Unkept,
+};
