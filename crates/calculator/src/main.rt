@@ -4,7 +4,7 @@
 
 mod usage;
 
-use call_text::Fault;
+use call_text::{Call, Fault};
 use std::alloc::Global;
 use std::io::{BufRead, BufReader, ErrorKind};
 use std::{env, io};
@@ -43,18 +43,17 @@ fn answered(rt: &(impl Print + AllocGlobal), desk: &mut Desk, line: &str) -> io:
 /// What a line is answered with. `line` has the rest of the line as its one field; the words of each other call stand behind
 /// one blank each.
 fn answer(alloc: Global, desk: &mut Desk, line: &str) -> Result<String, Fault> {
-    if let Some(text) = line.strip_prefix("line ") {
-        return value_calls::line_answer(alloc, text.as_bytes());
-    }
     let words: Vec<&str> = line.split(" ").collect(alloc)?;
-    if let Some(text) = desk.answer(alloc, words.as_slice())? {
-        return Ok(text);
+    let call = Call::new(alloc, &words);
+    if let Some(text) = line.strip_prefix("line ") {
+        return Ok(value_calls::line_answer(call, text.as_bytes())?.done()?);
     }
-    if let Some(text) = s1ap_calls::answer(alloc, words.as_slice())? {
-        return Ok(text);
+    let mut answer = desk.answer(call);
+    if matches!(answer, Err(Fault::NoCall)) {
+        answer = s1ap_calls::answer(call);
     }
-    match value_calls::answer(alloc, words.as_slice())? {
-        Some(text) => Ok(text),
-        None => Err(Fault::NoCall),
+    if matches!(answer, Err(Fault::NoCall)) {
+        answer = value_calls::answer(call);
     }
+    Ok(answer?.done()?)
 }
