@@ -4,7 +4,7 @@
 
 mod usage;
 
-use call_text::{Call, Fault};
+use call_text::{Answer, Call, Fault};
 use std::alloc::Global;
 use std::io::{BufRead, BufReader, ErrorKind};
 use std::{env, io};
@@ -45,15 +45,24 @@ fn answered(rt: &(impl Print + AllocGlobal), desk: &mut Desk, line: &str) -> io:
 fn answer(alloc: Global, desk: &mut Desk, line: &str) -> Result<String, Fault> {
     let words: Vec<&str> = line.split(" ").collect(alloc)?;
     let call = Call::new(alloc, &words);
-    if let Some(text) = line.strip_prefix("line ") {
-        return Ok(value_calls::line_answer(call, text.as_bytes())?.done()?);
+    let text = match line.strip_prefix("line ") {
+        Some(text) => value_calls::line_answer(call, text.as_bytes())?,
+        None => object_answer(desk, call)?,
+    };
+    Ok(text.done()?)
+}
+
+/// The answer of a call on an object, or of a call that needs none.
+fn object_answer(desk: &mut Desk, call: Call) -> Answer {
+    match desk.answer(call) {
+        Err(Fault::NoCall) => plain_answer(call),
+        answer => answer,
     }
-    let mut answer = desk.answer(call);
-    if matches!(answer, Err(Fault::NoCall)) {
-        answer = s1ap_calls::answer(call);
+}
+
+fn plain_answer(call: Call) -> Answer {
+    match s1ap_calls::answer(call) {
+        Err(Fault::NoCall) => value_calls::answer(call),
+        answer => answer,
     }
-    if matches!(answer, Err(Fault::NoCall)) {
-        answer = value_calls::answer(call);
-    }
-    Ok(answer?.done()?)
 }
