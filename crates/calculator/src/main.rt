@@ -4,7 +4,7 @@
 
 mod usage;
 
-use call_text::Fault;
+use call_text::{Answer, Call, Fault};
 use std::alloc::Global;
 use std::io::{BufRead, BufReader, ErrorKind};
 use std::{env, io};
@@ -43,18 +43,26 @@ fn answered(rt: &(impl Print + AllocGlobal), desk: &mut Desk, line: &str) -> io:
 /// What a line is answered with. `line` has the rest of the line as its one field; the words of each other call stand behind
 /// one blank each.
 fn answer(alloc: Global, desk: &mut Desk, line: &str) -> Result<String, Fault> {
-    if let Some(text) = line.strip_prefix("line ") {
-        return value_calls::line_answer(alloc, text.as_bytes());
-    }
     let words: Vec<&str> = line.split(" ").collect(alloc)?;
-    if let Some(text) = desk.answer(alloc, words.as_slice())? {
-        return Ok(text);
+    let call = Call::new(alloc, &words);
+    let text = match line.strip_prefix("line ") {
+        Some(text) => value_calls::line_answer(call, text.as_bytes())?,
+        None => object_answer(desk, call)?,
+    };
+    Ok(text.done()?)
+}
+
+/// The answer of a call on an object, or of a call that needs none.
+fn object_answer(desk: &mut Desk, call: Call) -> Answer {
+    match desk.answer(call) {
+        Err(Fault::NoCall) => plain_answer(call),
+        answer => answer,
     }
-    if let Some(text) = s1ap_calls::answer(alloc, words.as_slice())? {
-        return Ok(text);
-    }
-    match value_calls::answer(alloc, words.as_slice())? {
-        Some(text) => Ok(text),
-        None => Err(Fault::NoCall),
+}
+
+fn plain_answer(call: Call) -> Answer {
+    match s1ap_calls::answer(call) {
+        Err(Fault::NoCall) => value_calls::answer(call),
+        answer => answer,
     }
 }

@@ -4,7 +4,7 @@ use std::alloc::AllocError;
 use thiserror::Error;
 
 /// What is wrong with a line.
-#[derive(Debug, Drop, PartialEq, Error)]
+#[derive(Debug, Drop, Error)]
 pub enum Fault {
     /// No call has this word and so many fields.
     #[error("no such call")]

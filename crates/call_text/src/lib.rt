@@ -1,11 +1,15 @@
-//! What the calls of the calculator share: fields of a line as values, values as text, and why a line has no answer.
+//! What the calls of the calculator share: a line as a call, fields as values, values as text, why a line has no answer, and
+//! messages with one bit turned.
 #![tactic(auto)]
 
+mod call;
 mod fault;
+mod field;
 mod text;
+mod turned;
 
+pub use call::Call;
 pub use fault::Fault;
-pub use text::{
-    Answer, Hex, Maybe, number, number_8, number_32, octets_answer, octets_of, sized, word_answer,
-    written_answer, yes_answer,
-};
+pub use field::Field;
+pub use text::{Answer, Text};
+pub use turned::{Codec, turned_answer};

@@ -1,23 +1,26 @@
-//! Fields of a line as values, and values as text.
-
-ghost use Rattle.std.specs.Prelude.{◌<◌, ◌^◌};
+//! The text of an answer, which grows value by value.
 
 use crate::fault::Fault;
-use hex::FromHexError;
 use std::alloc::{AllocError, Global};
 use std::fmt;
 
-/// What a call answers, or why it was not made; `None` where it is another module's call.
-pub type Answer = Result<Option<String>, Fault>;
+/// A text, or the first refusal of memory for it.
+#[derive(Drop)]
+pub struct Text {
+    grown: Result<String, AllocError>,
+}
+
+/// What a call answers, or why it was not made.
+pub type Answer = Result<Text, Fault>;
 
 /// Octets as hex, or `-` where there is none.
 #[derive(Clone, Copy)]
-pub struct Hex<'a>(pub &'a [u8]);
+struct Hex<'a>(&'a [u8]);
 
 impl fmt::Display for Hex<'_> {
     fn fmt<W: fmt::Write>(&self, f: &mut fmt::Formatter<W>) -> fmt::Result {
         if self.0.is_empty() {
-            return write!(f, "-");
+            return f.write_str("-");
         }
         for octet in self.0 {
             write!(f, "{octet:02x}")?;
@@ -26,85 +29,81 @@ impl fmt::Display for Hex<'_> {
     }
 }
 
-/// Octets that may lack, which is `none`.
-#[derive(Clone, Copy)]
-pub struct Maybe<'a>(pub Option<&'a [u8]>);
-
-impl fmt::Display for Maybe<'_> {
-    fn fmt<W: fmt::Write>(&self, f: &mut fmt::Formatter<W>) -> fmt::Result {
-        match self.0 {
-            Some(octets) => write!(f, "{}", Hex(octets)),
-            None => write!(f, "none"),
+impl Text {
+    /// The text that begins with a word.
+    pub fn new(alloc: Global, word: &str) -> Text {
+        Text {
+            grown: String::from_str(alloc, word),
         }
     }
-}
 
-/// An answer of octets.
-pub fn octets_answer(alloc: Global, octets: &[u8]) -> Answer {
-    Ok(Some(format!(in alloc; "{}", Hex(octets))?))
-}
-
-/// An answer that is one word.
-pub fn word_answer(alloc: Global, word: &str) -> Answer {
-    Ok(Some(String::from_str(alloc, word)?))
-}
-
-/// `yes` or `no`.
-pub fn yes_answer(alloc: Global, yes: bool) -> Answer {
-    word_answer(alloc, if yes { "yes" } else { "no" })
-}
-
-/// A text, and how the value is written again: `same` where as it was read.
-pub fn written_answer(alloc: Global, text: String, octets: &[u8], written: &[u8]) -> Answer {
-    if written == octets {
-        return Ok(Some(format!(in alloc; "{text}; written same")?));
+    /// The text with more behind it: what stands before a value, and the value.
+    pub fn with(self, before: &str, value: &impl fmt::Display) -> Text {
+        match self.grown {
+            Ok(text) => Text {
+                grown: grown(text, before, value),
+            },
+            Err(error) => Text { grown: Err(error) },
+        }
     }
-    Ok(Some(format!(in alloc; "{text}; written {}", Hex(written))?))
-}
 
-/// The octets of a field in hex, `-` for none.
-pub fn octets_of(alloc: Global, text: &str) -> Result<Vec<u8>, Fault> {
-    if text == "-" {
-        return Ok(Vec::new(alloc));
+    /// The text and a word.
+    pub fn word(self, word: &str) -> Text {
+        self.with(word, &"")
     }
-    match hex::decode(alloc, text) {
-        Ok(octets) => Ok(octets),
-        Err(FromHexError::OutOfMemory) => Err(Fault::NoMemory(AllocError)),
-        Err(_) => Err(Fault::Octets),
-    }
-}
 
-/// So many octets of a field in hex.
-pub fn sized<const N: usize>(text: &str) -> Result<[u8; N], Fault>
-    requires { N < 2 ^ 32 }
-{
-    let mut octets = [0u8; N];
-    match hex::decode_to_slice(text, &mut octets) {
-        Ok(()) => Ok(octets),
-        Err(_) => Err(Fault::Octets),
+    /// The text and octets in hex, `-` for none.
+    pub fn octets(self, before: &str, octets: &[u8]) -> Text {
+        self.with(before, &Hex(octets))
     }
-}
 
-/// A number of 64 bits in decimal digits.
-pub fn number(text: &str) -> Result<u64, Fault> {
-    match text.parse::<u64>() {
-        Ok(number) => Ok(number),
-        Err(_) => Err(Fault::Number),
+    /// The text and octets that may lack, which is `none`.
+    pub fn maybe(self, before: &str, octets: Option<&[u8]>) -> Text {
+        match octets {
+            Some(octets) => self.octets(before, octets),
+            None => self.with(before, &"none"),
+        }
     }
-}
 
-/// A number of 32 bits.
-pub fn number_32(text: &str) -> Result<u32, Fault> {
-    match u32::try_from(number(text)?) {
-        Ok(number) => Ok(number),
-        Err(_) => Err(Fault::Number),
+    /// The text and bits, the first of them the highest.
+    pub fn bits(self, before: &str, bits: &[bool]) -> Text {
+        let mut text = self.word(before);
+        for bit in bits {
+            text = text.word(if *bit { "1" } else { "0" });
+        }
+        text
+    }
+
+    /// The text and the name of a value.
+    pub fn named(self, before: &str, value: &impl fmt::Debug) -> Text {
+        match self.grown {
+            Ok(text) => Text {
+                grown: named(text, before, value),
+            },
+            Err(error) => Text { grown: Err(error) },
+        }
+    }
+
+    /// The text and what is written of a value that was read: `same` where it is what was read.
+    pub fn again(self, before: &str, read: &[u8], written: &[u8]) -> Text {
+        if written == read {
+            return self.with(before, &"same");
+        }
+        self.octets(before, written)
+    }
+
+    /// The whole text.
+    pub fn done(self) -> Result<String, AllocError> {
+        self.grown
     }
 }
 
-/// A number of 8 bits.
-pub fn number_8(text: &str) -> Result<u8, Fault> {
-    match u8::try_from(number(text)?) {
-        Ok(number) => Ok(number),
-        Err(_) => Err(Fault::Number),
-    }
+fn grown(mut text: String, before: &str, value: &impl fmt::Display) -> Result<String, AllocError> {
+    write!(text, "{before}{value}")?;
+    Ok(text)
+}
+
+fn named(mut text: String, before: &str, value: &impl fmt::Debug) -> Result<String, AllocError> {
+    write!(text, "{before}{value:?}")?;
+    Ok(text)
 }

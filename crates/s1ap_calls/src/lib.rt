@@ -8,18 +8,17 @@ mod s1ap;
 mod stop;
 mod values;
 
-use call_text::Answer;
-use std::alloc::Global;
+use call_text::{Answer, Call};
 
-/// The answer of a call of PER or of S1AP, which is a word and its fields.
-pub fn answer(alloc: Global, words: &[&str]) -> Answer {
-    match words {
-        ["decode", name, octets] => values::decoded(alloc, name, octets),
-        ["encode", name, number] => values::encoded(alloc, name, number),
-        ["ambr", down, up] => values::ambr(alloc, down, up),
-        ["can_be", name, octets] => values::can_be(alloc, name, octets),
-        ["take", octets, steps @ ..] => bits::taken(alloc, octets, steps),
-        ["put", steps @ ..] => bits::put(alloc, steps),
-        _ => s1ap::answer(alloc, words),
+/// The answer of a call of PER or of S1AP.
+pub fn answer(call: Call) -> Answer {
+    match call.word {
+        "decode" => values::decoded(call),
+        "encode" => values::encoded(call),
+        "ambr" => values::ambr(call),
+        "can_be" => values::can_be(call),
+        "take" => bits::taken(call),
+        "put" => bits::put(call),
+        _ => s1ap::answer(call),
     }
 }

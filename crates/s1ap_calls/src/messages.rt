@@ -1,230 +1,186 @@
 //! S1AP messages as text: the name of their type, and the fields of TS 36.413 clause 9.1.
 
-use crate::bits::Bits;
-use crate::parts::{Algorithms, Bearer, Ids, Place, Station, Tunnel};
-use call_text::{Hex, Maybe};
+use crate::parts::{
+    with_algorithms, with_area, with_bearer, with_each, with_ids, with_place, with_station,
+    with_tunnels,
+};
+use call_text::{Call, Text};
 use s1ap_elements::{UePagingId, UeS1apIds};
 use s1ap_messages::{
-    ContextSetupRequest, ContextSetupResponse, ErrorIndication, InitialUeMessage, Paging,
-    PathSwitchRequest, Pdu, ReleaseCommand, S1apPdu, SetupRequest, SetupResponse,
+    ContextSetupRequest, ErrorIndication, InitialUeMessage, Paging, PathSwitchRequest, Pdu,
+    ReleaseCommand, S1apPdu, SetupRequest, SetupResponse,
 };
-use std::alloc::{AllocError, Global};
 
 /// A message.
-pub fn message_text(alloc: Global, message: &S1apPdu) -> Result<String, AllocError> {
+pub fn message_text(call: Call, message: &S1apPdu) -> Text {
     match message {
-        Pdu::SetupRequest(m) => setup_request(alloc, m),
-        Pdu::SetupResponse(m) => setup_response(alloc, m),
-        Pdu::SetupFailure(m) => format!(in alloc; "SetupFailure cause {:?}", m.cause),
-        Pdu::Reset(m) => { format!(in alloc; "Reset cause {:?} type {:?}", m.cause, m.reset_type) }
-        Pdu::ResetAcknowledge => String::from_str(alloc, "ResetAcknowledge"),
-        Pdu::ErrorIndication(m) => error_indication(alloc, m),
-        Pdu::Paging(m) => paging(alloc, m),
-        Pdu::InitialUeMessage(m) => initial_ue_message(alloc, m),
-        Pdu::PathSwitchRequest(m) => path_switch_request(alloc, m),
-        Pdu::ReleaseCommand(m) => release_command(alloc, m),
-        _ => associated_text(alloc, message),
+        Pdu::SetupRequest(m) => setup_request(call, m),
+        Pdu::SetupResponse(m) => setup_response(call, m),
+        Pdu::SetupFailure(m) => call.text("SetupFailure").named(" cause ", &m.cause),
+        Pdu::Reset(m) => call
+            .text("Reset")
+            .named(" cause ", &m.cause)
+            .named(" type ", &m.reset_type),
+        Pdu::ResetAcknowledge => call.text("ResetAcknowledge"),
+        Pdu::ErrorIndication(m) => error_indication(call, m),
+        Pdu::Paging(m) => paging(call, m),
+        Pdu::InitialUeMessage(m) => initial_ue_message(call, m),
+        Pdu::ReleaseCommand(m) => release_command(call, m),
+        _ => context_text(call, message),
     }
 }
 
-/// A message of an association, which has both its numbers.
-fn associated_text(alloc: Global, message: &S1apPdu) -> Result<String, AllocError> {
+/// A message by which the context of a phone is set up or moves.
+fn context_text(call: Call, message: &S1apPdu) -> Text {
+    match message {
+        Pdu::ContextSetupRequest(m) => context_setup_request(call, m),
+        Pdu::ContextSetupResponse(m) => {
+            let text = with_ids(call.text("ContextSetupResponse"), m.mme_id, m.enb_id);
+            with_tunnels(text, m.erabs.as_slice())
+        }
+        Pdu::PathSwitchRequest(m) => path_switch_request(call, m),
+        Pdu::PathSwitchAcknowledge(m) => {
+            with_ids(call.text("PathSwitchAcknowledge"), m.mme_id, m.enb_id)
+                .with(" count ", &m.context.chaining_count.get())
+                .octets(" next hop ", m.context.next_hop.as_slice())
+        }
+        Pdu::CapabilityInfo(m) => with_ids(call.text("CapabilityInfo"), m.mme_id, m.enb_id).octets(
+            " radio ",
+            m.radio_capability,
+        ),
+        _ => transport_text(call, message),
+    }
+}
+
+/// A message that carries one of NAS.
+fn transport_text(call: Call, message: &S1apPdu) -> Text {
     match message {
         Pdu::DownlinkNasTransport(m) => {
-            let ids = Ids(m.mme_id, m.enb_id);
-            format!(in alloc; "DownlinkNasTransport {ids} nas {}", Hex(m.nas))
+            with_ids(call.text("DownlinkNasTransport"), m.mme_id, m.enb_id).octets(" nas ", m.nas)
         }
         Pdu::UplinkNasTransport(m) => {
-            let (ids, place) = (Ids(m.mme_id, m.enb_id), Place(m.tai, m.cell));
-            format!(in alloc; "UplinkNasTransport {ids} nas {} {place}", Hex(m.nas))
+            let text = with_ids(call.text("UplinkNasTransport"), m.mme_id, m.enb_id);
+            with_place(text.octets(" nas ", m.nas), &m.tai, &m.cell)
         }
-        Pdu::NasNonDelivery(m) => {
-            let ids = Ids(m.mme_id, m.enb_id);
-            format!(in alloc;
-                "NasNonDelivery {ids} nas {} cause {:?}",
-                Hex(m.nas),
-                m.cause
-            )
-        }
-        Pdu::CapabilityInfo(m) => {
-            let ids = Ids(m.mme_id, m.enb_id);
-            format!(in alloc; "CapabilityInfo {ids} radio {}", Hex(m.radio_capability))
-        }
-        Pdu::ContextSetupRequest(m) => context_setup_request(alloc, m),
-        Pdu::ContextSetupResponse(m) => context_setup_response(alloc, m),
-        _ => ended_text(alloc, message),
+        Pdu::NasNonDelivery(m) => with_ids(call.text("NasNonDelivery"), m.mme_id, m.enb_id)
+            .octets(" nas ", m.nas)
+            .named(" cause ", &m.cause),
+        _ => ended_text(call, message),
     }
 }
 
-/// A message by which something ends, fails or moves.
-fn ended_text(alloc: Global, message: &S1apPdu) -> Result<String, AllocError> {
+/// A message by which something ends or fails.
+fn ended_text(call: Call, message: &S1apPdu) -> Text {
     match message {
         Pdu::ContextSetupFailure(m) => {
-            format!(in alloc;
-                "ContextSetupFailure {} cause {:?}",
-                Ids(m.mme_id, m.enb_id),
-                m.cause
+            with_ids(call.text("ContextSetupFailure"), m.mme_id, m.enb_id).named(
+                " cause ", &m.cause,
             )
         }
         Pdu::ReleaseRequest(m) => {
-            format!(in alloc;
-                "ReleaseRequest {} cause {:?}",
-                Ids(m.mme_id, m.enb_id),
-                m.cause
-            )
+            with_ids(call.text("ReleaseRequest"), m.mme_id, m.enb_id).named(" cause ", &m.cause)
         }
-        Pdu::ReleaseComplete(m) => {
-            format!(in alloc; "ReleaseComplete {}", Ids(m.mme_id, m.enb_id))
-        }
+        Pdu::ReleaseComplete(m) => with_ids(call.text("ReleaseComplete"), m.mme_id, m.enb_id),
         Pdu::PathSwitchFailure(m) => {
-            format!(in alloc;
-                "PathSwitchFailure {} cause {:?}",
-                Ids(m.mme_id, m.enb_id),
-                m.cause
-            )
+            with_ids(call.text("PathSwitchFailure"), m.mme_id, m.enb_id).named(" cause ", &m.cause)
         }
-        Pdu::PathSwitchAcknowledge(m) => format!(in alloc;
-            "PathSwitchAcknowledge {} count {} next hop {}",
-            Ids(m.mme_id, m.enb_id),
-            m.context.chaining_count.get(),
-            Hex(m.context.next_hop.as_slice())
-        ),
-        _ => String::from_str(alloc, "another message"),
+        _ => call.text("another message"),
     }
 }
 
-fn setup_request(alloc: Global, m: &SetupRequest<&[u8]>) -> Result<String, AllocError> {
-    let mut text = format!(in alloc;
-        "SetupRequest station {} {} name {} drx {:?}",
-        Hex(m.station.plmn.as_slice()),
-        Station(m.station.id),
-        Maybe(m.name),
-        m.paging_drx
-    )?;
+fn setup_request(call: Call, m: &SetupRequest<&[u8]>) -> Text {
+    let text = call
+        .text("SetupRequest station ")
+        .octets("", m.station.plmn.as_slice());
+    let mut text = with_station(text, &m.station.id)
+        .maybe(" name ", m.name)
+        .named(" drx ", &m.paging_drx);
     for area in m.supported_tas.as_slice() {
-        text.push_str(format!(in alloc; " area {}", Hex(area.tac.as_slice()))?.as_str())?;
-        for plmn in area.plmns.as_slice() {
-            text.push_str(format!(in alloc; " {}", Hex(plmn.as_slice()))?.as_str())?;
-        }
+        text = text.octets(" area ", area.tac.as_slice());
+        text = with_each(text, " ", area.plmns.as_slice());
     }
-    Ok(text)
+    text
 }
 
-fn setup_response(alloc: Global, m: &SetupResponse) -> Result<String, AllocError> {
-    let mut text = format!(in alloc; "SetupResponse capacity {}", m.capacity.get())?;
+fn setup_response(call: Call, m: &SetupResponse) -> Text {
+    let mut text = call
+        .text("SetupResponse capacity ")
+        .with("", &m.capacity.get());
     for gummei in m.served_gummeis.as_slice() {
-        for plmn in gummei.plmns.as_slice() {
-            text.push_str(format!(in alloc; " plmn {}", Hex(plmn.as_slice()))?.as_str())?;
-        }
-        for group in gummei.groups.as_slice() {
-            text.push_str(format!(in alloc; " group {}", Hex(group.as_slice()))?.as_str())?;
-        }
-        for code in gummei.codes.as_slice() {
-            text.push_str(format!(in alloc; " code {}", Hex(code.as_slice()))?.as_str())?;
-        }
+        text = with_each(text, " plmn ", gummei.plmns.as_slice());
+        text = with_each(text, " group ", gummei.groups.as_slice());
+        text = with_each(text, " code ", gummei.codes.as_slice());
     }
-    Ok(text)
+    text
 }
 
-fn error_indication(alloc: Global, m: &ErrorIndication) -> Result<String, AllocError> {
-    let mut text = String::from_str(alloc, "ErrorIndication")?;
+fn error_indication(call: Call, m: &ErrorIndication) -> Text {
+    let mut text = call.text("ErrorIndication");
     if let Some(id) = m.mme_id {
-        text.push_str(format!(in alloc; " mme {}", id.get())?.as_str())?;
+        text = text.with(" mme ", &id.get());
     }
     if let Some(id) = m.enb_id {
-        text.push_str(format!(in alloc; " enb {}", id.get())?.as_str())?;
+        text = text.with(" enb ", &id.get());
     }
-    if let Some(cause) = m.cause {
-        text.push_str(format!(in alloc; " cause {cause:?}")?.as_str())?;
+    match m.cause {
+        Some(cause) => text.named(" cause ", &cause),
+        None => text,
     }
-    Ok(text)
 }
 
-fn paging(alloc: Global, m: &Paging<&[u8]>) -> Result<String, AllocError> {
-    let mut text = format!(in alloc;
-        "Paging index {} domain {:?}",
-        Bits(m.ue_index.as_slice()),
-        m.domain
-    )?;
-    let called = match m.paging_id {
-        UePagingId::STmsi(id) => format!(in alloc;
-            " s-tmsi {} {}",
-            Hex(id.code.as_slice()),
-            Hex(id.m_tmsi.as_slice())
-        )?,
-        UePagingId::Imsi(digits) => format!(in alloc; " imsi {}", Hex(digits))?,
+fn paging(call: Call, m: &Paging<&[u8]>) -> Text {
+    let text = call
+        .text("Paging")
+        .bits(" index ", m.ue_index.as_slice())
+        .named(" domain ", &m.domain);
+    let mut text = match m.paging_id {
+        UePagingId::STmsi(id) => text
+            .octets(" s-tmsi ", id.code.as_slice())
+            .octets(" ", id.m_tmsi.as_slice()),
+        UePagingId::Imsi(digits) => text.octets(" imsi ", digits),
     };
-    text.push_str(called.as_str())?;
     for listed in m.tai_list.as_slice() {
-        let tai = listed.value.tai;
-        let (plmn, tac) = (Hex(tai.plmn.as_slice()), Hex(tai.tac.as_slice()));
-        text.push_str(format!(in alloc; " area {plmn} {tac}")?.as_str())?;
+        text = with_area(text, &listed.value.tai);
     }
-    Ok(text)
+    text
 }
 
-fn initial_ue_message(alloc: Global, m: &InitialUeMessage<&[u8]>) -> Result<String, AllocError> {
-    let mut text = format!(in alloc;
-        "InitialUeMessage enb {} nas {} {} cause {:?}",
-        m.enb_id.get(),
-        Hex(m.nas),
-        Place(m.tai, m.cell),
-        m.rrc_cause
-    )?;
-    if let Some(id) = m.s_tmsi {
-        let (code, m_tmsi) = (Hex(id.code.as_slice()), Hex(id.m_tmsi.as_slice()));
-        text.push_str(format!(in alloc; " s-tmsi {code} {m_tmsi}")?.as_str())?;
+fn initial_ue_message(call: Call, m: &InitialUeMessage<&[u8]>) -> Text {
+    let text = call
+        .text("InitialUeMessage")
+        .with(" enb ", &m.enb_id.get())
+        .octets(" nas ", m.nas);
+    let text = with_place(text, &m.tai, &m.cell).named(" cause ", &m.rrc_cause);
+    match m.s_tmsi {
+        Some(id) => text
+            .octets(" s-tmsi ", id.code.as_slice())
+            .octets(" ", id.m_tmsi.as_slice()),
+        None => text,
     }
-    Ok(text)
 }
 
-fn path_switch_request(alloc: Global, m: &PathSwitchRequest) -> Result<String, AllocError> {
-    let mut text = format!(in alloc;
-        "PathSwitchRequest {} {} {}",
-        Ids(m.source_mme_id, m.enb_id),
-        Place(m.tai, m.cell),
-        Algorithms(m.capabilities)
-    )?;
+fn path_switch_request(call: Call, m: &PathSwitchRequest) -> Text {
+    let text = with_ids(call.text("PathSwitchRequest"), m.source_mme_id, m.enb_id);
+    let text = with_place(text, &m.tai, &m.cell);
+    with_tunnels(with_algorithms(text, &m.capabilities), m.erabs.as_slice())
+}
+
+fn release_command(call: Call, m: &ReleaseCommand) -> Text {
+    let text = call.text("ReleaseCommand");
+    let text = match m.ids {
+        UeS1apIds::Pair(pair) => with_ids(text, pair.mme_id, pair.enb_id),
+        UeS1apIds::MmeUeId(id) => text.with(" mme ", &id.get()),
+    };
+    text.named(" cause ", &m.cause)
+}
+
+fn context_setup_request(call: Call, m: &ContextSetupRequest<&[u8]>) -> Text {
+    let text = with_ids(call.text("ContextSetupRequest"), m.mme_id, m.enb_id)
+        .with(" down ", &m.ambr.down.get())
+        .with(" up ", &m.ambr.up.get());
+    let mut text = with_algorithms(text, &m.capabilities).octets(" key ", m.key.as_slice());
     for listed in m.erabs.as_slice() {
-        text.push_str(format!(in alloc; " {}", Tunnel(&listed.value))?.as_str())?;
+        text = with_bearer(text, &listed.value);
     }
-    Ok(text)
-}
-
-fn release_command(alloc: Global, m: &ReleaseCommand) -> Result<String, AllocError> {
-    match m.ids {
-        UeS1apIds::Pair(pair) => {
-            let ids = Ids(pair.mme_id, pair.enb_id);
-            format!(in alloc; "ReleaseCommand {ids} cause {:?}", m.cause)
-        }
-        UeS1apIds::MmeUeId(id) => {
-            format!(in alloc; "ReleaseCommand mme {} cause {:?}", id.get(), m.cause)
-        }
-    }
-}
-
-fn context_setup_request(
-    alloc: Global,
-    m: &ContextSetupRequest<&[u8]>,
-) -> Result<String, AllocError> {
-    let mut text = format!(in alloc;
-        "ContextSetupRequest {} down {} up {} {} key {}",
-        Ids(m.mme_id, m.enb_id),
-        m.ambr.down.get(),
-        m.ambr.up.get(),
-        Algorithms(m.capabilities),
-        Hex(m.key.as_slice())
-    )?;
-    for listed in m.erabs.as_slice() {
-        text.push_str(format!(in alloc; " {}", Bearer(&listed.value))?.as_str())?;
-    }
-    Ok(text)
-}
-
-fn context_setup_response(alloc: Global, m: &ContextSetupResponse) -> Result<String, AllocError> {
-    let mut text = format!(in alloc; "ContextSetupResponse {}", Ids(m.mme_id, m.enb_id))?;
-    for listed in m.erabs.as_slice() {
-        text.push_str(format!(in alloc; " {}", Tunnel(&listed.value))?.as_str())?;
-    }
-    Ok(text)
+    text
 }

@@ -1,110 +1,76 @@
 //! Parts of S1AP messages as text.
 
-use crate::bits::Bits;
-use call_text::{Hex, Maybe};
+use call_text::Text;
+use per_bits::{Listed, Octets};
 use s1ap_elements::{
-    Address, EnbId, EnbUeId, ErabToBeSetup, ErabTunnel, EutranCgi, MmeUeId, SecurityCapabilities,
-    Tai,
+    EnbId, EnbUeId, ErabToBeSetup, ErabTunnel, EutranCgi, MmeUeId, SecurityCapabilities, Tai,
 };
-use std::fmt;
 
-/// Both numbers of an association.
-#[derive(Clone, Copy)]
-pub struct Ids(pub MmeUeId, pub EnbUeId);
+/// A text and both numbers of an association.
+pub fn with_ids(text: Text, mme_id: MmeUeId, enb_id: EnbUeId) -> Text {
+    text.with(" mme ", &mme_id.get())
+        .with(" enb ", &enb_id.get())
+}
 
-impl fmt::Display for Ids {
-    fn fmt<W: fmt::Write>(&self, f: &mut fmt::Formatter<W>) -> fmt::Result {
-        write!(f, "mme {} enb {}", self.0.get(), self.1.get())
+/// A text, a tracking area and a cell.
+pub fn with_place(text: Text, tai: &Tai, cell: &EutranCgi) -> Text {
+    with_area(text, tai)
+        .octets(" cell ", cell.plmn.as_slice())
+        .bits(" ", cell.cell.as_slice())
+}
+
+/// A text and a tracking area.
+pub fn with_area(text: Text, tai: &Tai) -> Text {
+    text.octets(" area ", tai.plmn.as_slice())
+        .octets(" ", tai.tac.as_slice())
+}
+
+/// A text and the algorithms of a phone.
+pub fn with_algorithms(text: Text, capabilities: &SecurityCapabilities) -> Text {
+    text.bits(" encryption ", capabilities.encryption.as_slice())
+        .bits(" integrity ", capabilities.integrity.as_slice())
+}
+
+/// A text and the number of a station.
+pub fn with_station(text: Text, id: &EnbId) -> Text {
+    match id {
+        EnbId::Macro(number) => text.bits(" macro ", number.as_slice()),
+        EnbId::Home(number) => text.bits(" home ", number.as_slice()),
     }
 }
 
-/// A tracking area and a cell.
-#[derive(Clone, Copy)]
-pub struct Place(pub Tai, pub EutranCgi);
-
-impl fmt::Display for Place {
-    fn fmt<W: fmt::Write>(&self, f: &mut fmt::Formatter<W>) -> fmt::Result {
-        write!(
-            f,
-            "area {} {} cell {} {}",
-            Hex(self.0.plmn.as_slice()),
-            Hex(self.0.tac.as_slice()),
-            Hex(self.1.plmn.as_slice()),
-            Bits(self.1.cell.as_slice())
-        )
+/// A text and each of some octets, such as networks.
+pub fn with_each<const N: usize>(text: Text, before: &str, all: &[Octets<N>]) -> Text {
+    let mut text = text;
+    for octets in all {
+        text = text.octets(before, octets.as_slice());
     }
+    text
 }
 
-/// The algorithms of a phone.
-#[derive(Clone, Copy)]
-pub struct Algorithms(pub SecurityCapabilities);
-
-impl fmt::Display for Algorithms {
-    fn fmt<W: fmt::Write>(&self, f: &mut fmt::Formatter<W>) -> fmt::Result {
-        write!(
-            f,
-            "encryption {} integrity {}",
-            Bits(self.0.encryption.as_slice()),
-            Bits(self.0.integrity.as_slice())
-        )
-    }
+/// A text and a bearer that is to be set up. An address is shown where its bits are whole octets.
+pub fn with_bearer(text: Text, bearer: &ErabToBeSetup<&[u8]>) -> Text {
+    text.with(" bearer ", &bearer.id.get())
+        .with(" qci ", &bearer.qos.qci.get())
+        .maybe(" address ", bearer.address.whole_octets())
+        .octets(" teid ", bearer.teid.as_slice())
+        .maybe(" nas ", bearer.nas)
 }
 
-/// The number of a station.
-#[derive(Clone, Copy)]
-pub struct Station(pub EnbId);
-
-impl fmt::Display for Station {
-    fn fmt<W: fmt::Write>(&self, f: &mut fmt::Formatter<W>) -> fmt::Result {
-        match self.0 {
-            EnbId::Macro(number) => write!(f, "macro {}", Bits(number.as_slice())),
-            EnbId::Home(number) => write!(f, "home {}", Bits(number.as_slice())),
-        }
+/// A text, and for each bearer where its tunnel ends.
+pub fn with_tunnels<const ID: u64, const CRITICALITY: u64>(
+    text: Text,
+    bearers: &[Listed<ErabTunnel, ID, CRITICALITY>],
+) -> Text {
+    let mut text = text;
+    for listed in bearers {
+        text = with_tunnel(text, &listed.value);
     }
+    text
 }
 
-/// An address, where its bits are whole octets.
-#[derive(Clone, Copy)]
-pub struct AddressText<'a, 'b>(pub &'b Address<'a>);
-
-impl fmt::Display for AddressText<'_, '_> {
-    fn fmt<W: fmt::Write>(&self, f: &mut fmt::Formatter<W>) -> fmt::Result {
-        write!(f, "{}", Maybe(self.0.whole_octets()))
-    }
-}
-
-/// A bearer that is to be set up.
-#[derive(Clone, Copy)]
-pub struct Bearer<'a, 'b>(pub &'b ErabToBeSetup<'a, &'a [u8]>);
-
-impl fmt::Display for Bearer<'_, '_> {
-    fn fmt<W: fmt::Write>(&self, f: &mut fmt::Formatter<W>) -> fmt::Result {
-        let erab = self.0;
-        write!(
-            f,
-            "bearer {} qci {} address {} teid {} nas {}",
-            erab.id.get(),
-            erab.qos.qci.get(),
-            AddressText(&erab.address),
-            Hex(erab.teid.as_slice()),
-            Maybe(erab.nas)
-        )
-    }
-}
-
-/// Where a bearer's tunnel ends.
-#[derive(Clone, Copy)]
-pub struct Tunnel<'a, 'b>(pub &'b ErabTunnel<'a>);
-
-impl fmt::Display for Tunnel<'_, '_> {
-    fn fmt<W: fmt::Write>(&self, f: &mut fmt::Formatter<W>) -> fmt::Result {
-        let erab = self.0;
-        write!(
-            f,
-            "bearer {} address {} teid {}",
-            erab.id.get(),
-            AddressText(&erab.address),
-            Hex(erab.teid.as_slice())
-        )
-    }
+fn with_tunnel(text: Text, bearer: &ErabTunnel) -> Text {
+    text.with(" bearer ", &bearer.id.get())
+        .maybe(" address ", bearer.address.whole_octets())
+        .octets(" teid ", bearer.teid.as_slice())
 }

@@ -1,88 +1,72 @@
-//! Calls of `s1ap_messages`: a message read, shown and written again, and messages with one bit turned.
+//! Calls of `s1ap_messages`: a message read, shown and written again, also with one bit turned.
 
 use crate::messages::message_text;
-use call_text::{Answer, Fault, Hex, octets_of, word_answer, written_answer};
-use s1ap_messages::{EncodeFault, decode, encode};
+use call_text::{Answer, Call, Codec, Fault, Text, turned_answer};
+use s1ap_messages::{EncodeFault, S1apFault, S1apPdu, decode, encode};
 use std::alloc::{AllocError, Global};
 
-/// The answer of a call of this module.
-pub fn answer(alloc: Global, words: &[&str]) -> Answer {
-    match words {
-        ["s1ap", octets] => shown(alloc, &octets_of(alloc, octets)?),
-        ["s1ap_again", octets] => again_answer(alloc, &octets_of(alloc, octets)?),
-        ["s1ap_turned", octets] => turned(alloc, &octets_of(alloc, octets)?),
-        _ => Ok(None),
+/// How messages of S1AP are read and written.
+#[derive(Clone, Copy)]
+struct S1apCodec;
+
+impl Codec for S1apCodec {
+    fn again(&self, alloc: Global, octets: &[u8]) -> Result<Option<Vec<u8>>, AllocError> {
+        match rewritten(alloc, octets) {
+            Ok(Ok(written)) => Ok(Some(written)),
+            Ok(Err(EncodeFault::NoMemory)) => Err(AllocError),
+            Ok(Err(EncodeFault::NotWritable)) | Err(_) => Ok(None),
+        }
     }
 }
 
-/// What is written of a message, or nothing where it has a part that isn't written.
-fn written(alloc: Global, octets: &[u8]) -> Result<Result<Option<Vec<u8>>, String>, Fault> {
-    let message = match decode(alloc, octets) {
-        Ok(message) => message,
-        Err(fault) => return Ok(Err(format!(in alloc; "fault {fault:?}")?)),
-    };
-    match encode(alloc, &message) {
-        Ok(octets) => Ok(Ok(Some(octets))),
-        Err(EncodeFault::NotWritable) => Ok(Ok(None)),
-        Err(EncodeFault::NoMemory) => Err(Fault::NoMemory(AllocError)),
+/// What is written of the message that the octets are read as.
+fn rewritten(alloc: Global, octets: &[u8]) -> Result<Result<Vec<u8>, EncodeFault>, S1apFault> {
+    let message = decode(alloc, octets)?;
+    Ok(encode(alloc, &message))
+}
+
+/// The answer of a call of this module.
+pub fn answer(call: Call) -> Answer {
+    match call.word {
+        "s1ap" => shown_answer(call, call.one()?),
+        "s1ap_again" => again_answer(call, call.one()?),
+        "s1ap_turned" => {
+            let octets: Vec<u8> = call.one()?;
+            turned_answer(call, &S1apCodec, &octets)
+        }
+        _ => Err(Fault::NoCall),
     }
 }
 
 /// `s1ap OCTETS`: a message with its fields, and how it is written again.
-fn shown(alloc: Global, octets: &[u8]) -> Answer {
-    let message = match decode(alloc, octets) {
-        Ok(message) => message,
-        Err(fault) => return Ok(Some(format!(in alloc; "fault {fault:?}")?)),
-    };
-    let text = message_text(alloc, &message)?;
-    match encode(alloc, &message) {
-        Ok(written) => written_answer(alloc, text, octets, &written),
-        Err(EncodeFault::NotWritable) => Ok(Some(format!(in alloc; "{text}; not writable")?)),
-        Err(EncodeFault::NoMemory) => Err(Fault::NoMemory(AllocError)),
+fn shown_answer(call: Call, octets: Vec<u8>) -> Answer {
+    match decode(call.alloc, &octets) {
+        Ok(message) => message_answer(call, &octets, &message),
+        Err(fault) => call.fault_answer(&fault),
+    }
+}
+
+fn message_answer(call: Call, octets: &[u8], message: &S1apPdu) -> Answer {
+    let text = message_text(call, message).word("; ");
+    match encode(call.alloc, message) {
+        Ok(written) => Ok(text.again("written ", octets, &written)),
+        Err(fault) => not_written(text, fault),
     }
 }
 
 /// `s1ap_again OCTETS`: what is written of a message: `same` where as it was read.
-fn again_answer(alloc: Global, octets: &[u8]) -> Answer {
-    match written(alloc, octets)? {
-        Ok(Some(again)) if again.as_slice() == octets => word_answer(alloc, "same"),
-        Ok(Some(again)) => Ok(Some(format!(in alloc; "{}", Hex(&again))?)),
-        Ok(None) => word_answer(alloc, "not writable"),
-        Err(fault) => Ok(Some(fault)),
+fn again_answer(call: Call, octets: Vec<u8>) -> Answer {
+    match rewritten(call.alloc, &octets) {
+        Ok(Ok(written)) => Ok(call.text("").again("", &octets, &written)),
+        Ok(Err(fault)) => not_written(call.text(""), fault),
+        Err(fault) => call.fault_answer(&fault),
     }
 }
 
-/// `s1ap_turned OCTETS`: how many there are with one bit turned, and how many of these are neither refused, nor not writable,
-/// nor written so that what is written is read, and written the same.
-fn turned(alloc: Global, octets: &[u8]) -> Answer {
-    let mut turned = 0u64;
-    let mut unstable = 0u64;
-    for place in 0..octets.len() {
-        for bit in [1u8, 2, 4, 8, 16, 32, 64, 128] {
-            turned = turned.saturating_add(1);
-            if !is_stable(alloc, &with_turned(alloc, octets, place, bit)?)? {
-                unstable = unstable.saturating_add(1);
-            }
-        }
-    }
-    Ok(Some(format!(in alloc; "{turned} turned, {unstable} unstable")?))
-}
-
-/// The octets with a bit turned in the one at this place.
-fn with_turned(alloc: Global, octets: &[u8], place: usize, bit: u8) -> Result<Vec<u8>, AllocError> {
-    let mut others = octets.to_vec(alloc)?;
-    if let Some(octet) = others.get_mut(place) {
-        *octet ^= bit;
-    }
-    Ok(others)
-}
-
-fn is_stable(alloc: Global, octets: &[u8]) -> Result<bool, Fault> {
-    let Ok(Some(once)) = written(alloc, octets)? else {
-        return Ok(true);
-    };
-    match written(alloc, &once)? {
-        Ok(Some(twice)) => Ok(twice.as_slice() == once.as_slice()),
-        _ => Ok(false),
+/// A text of a message that has a part that isn't written.
+fn not_written(text: Text, fault: EncodeFault) -> Answer {
+    match fault {
+        EncodeFault::NotWritable => Ok(text.word("not writable")),
+        EncodeFault::NoMemory => Err(Fault::NoMemory(AllocError)),
     }
 }

@@ -1,36 +1,50 @@
-//! Why a sequence of calls ends before its end.
+//! Why a call of PER ends before its end.
 
-use call_text::{Answer, Fault};
+use call_text::{Answer, Call, Fault, Text};
 use per_bits::{PerError, PerFault};
-use std::alloc::{AllocError, Global};
-use thiserror::Error;
+use std::alloc::AllocError;
 
 /// A fault of the line, or one that a call answered.
-#[derive(Debug, Drop, Error)]
+#[derive(Drop)]
 pub enum Stop {
-    #[error(transparent)]
-    Line(#[from] Fault),
-    #[error("fault {0:?}")]
-    Per(#[from] PerFault),
-    #[error("out of memory")]
-    NoMemory(#[from(alloc)] AllocError),
+    /// The line is wrong.
+    Line(Fault),
+    /// A call of PER answered this.
+    Per(PerFault),
+}
+
+impl From<Fault> for Stop {
+    fn from(fault: Fault) -> Stop {
+        Stop::Line(fault)
+    }
+}
+
+impl From<AllocError> for Stop {
+    fn from(error: AllocError) -> Stop {
+        Stop::Line(Fault::NoMemory(error))
+    }
+}
+
+impl From<PerFault> for Stop {
+    fn from(fault: PerFault) -> Stop {
+        Stop::Per(fault)
+    }
 }
 
 impl From<PerError> for Stop {
     fn from(error: PerError) -> Stop {
         match error {
             PerError::Fault(fault) => Stop::Per(fault),
-            PerError::NoMemory => Stop::NoMemory(AllocError),
+            PerError::NoMemory => Stop::from(AllocError),
         }
     }
 }
 
 /// A text, or the fault that a call answered in its place.
-pub fn answered(alloc: Global, outcome: Result<String, Stop>) -> Answer {
+pub fn answered(call: Call, outcome: Result<Text, Stop>) -> Answer {
     match outcome {
-        Ok(text) => Ok(Some(text)),
-        Err(Stop::Per(fault)) => Ok(Some(format!(in alloc; "fault {fault:?}")?)),
+        Ok(text) => Ok(text),
+        Err(Stop::Per(fault)) => call.fault_answer(&fault),
         Err(Stop::Line(fault)) => Err(fault),
-        Err(Stop::NoMemory(error)) => Err(Fault::NoMemory(error)),
     }
 }

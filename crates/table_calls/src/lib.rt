@@ -3,16 +3,18 @@
 #![tactic(auto)]
 
 mod associations;
-mod sessions;
+mod bearers;
+mod contexts;
 mod subscribers;
 mod timers;
 
 use associations::AssociationDesk;
-use call_text::Answer;
+use bearers::bearer_answer;
+use call_text::{Answer, Call};
+use contexts::{context_answer, context_of};
 use esm_machine::Bearer;
 use identity_slots::Provision;
 use nas_security::{Eia2, EpsSecurityContext};
-use sessions::{bearer_answer, context_answer, context_of};
 use std::alloc::Global;
 use timers::TimerDesk;
 
@@ -39,14 +41,14 @@ impl Desk {
     }
 
     /// The answer of a call on an object, which is its word, the call's word and the fields, or of a call of ids.
-    pub fn answer(&mut self, alloc: Global, words: &[&str]) -> Answer {
-        match words {
-            ["timers", call @ ..] => self.timers.answer(alloc, call),
-            ["associations", call @ ..] => self.associations.answer(alloc, call),
-            ["provision", call @ ..] => subscribers::answer(&mut self.provision, alloc, call),
-            ["bearer", call @ ..] => bearer_answer(&mut self.bearer, alloc, call),
-            ["context", call @ ..] => context_answer(&mut self.context, alloc, call),
-            _ => subscribers::id_answer(alloc, words),
+    pub fn answer(&mut self, call: Call) -> Answer {
+        match call.word {
+            "timers" => self.timers.answer(call.inner()),
+            "associations" => self.associations.answer(call.inner()),
+            "provision" => subscribers::answer(&mut self.provision, call.inner()),
+            "bearer" => bearer_answer(&mut self.bearer, call.inner()),
+            "context" => context_answer(&mut self.context, call.inner()),
+            _ => subscribers::id_answer(call),
         }
     }
 }

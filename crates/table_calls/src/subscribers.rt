@@ -1,172 +1,190 @@
 //! Calls of `identity_slots`: ids, and the subscribers that a desk has provisioned.
 
-ghost use Rattle.std.specs.Prelude.{◌<◌, ◌^◌, IfOk};
+ghost use Rattle.std.specs.Prelude.{◌<◌, ◌^◌};
 
-use call_text::{
-    Answer, Fault, Hex, number_8, number_32, octets_of, sized, word_answer, yes_answer,
-};
+use call_text::{Answer, Call, Fault, Field};
 use identity_slots::{AssociationId, Profile, Provision, Slot, Tmsi, Vector, Xres};
 use nas_elements::Imsi;
 use std::alloc::Global;
 
+/// A slot by its number.
+#[derive(Clone, Copy)]
+struct SlotWord(Slot);
+
+impl<'a> Field<'a> for SlotWord {
+    fn read(alloc: Global, text: &'a str) -> Result<SlotWord, Fault> {
+        match Slot::try_new(u32::read(alloc, text)?) {
+            Some(slot) => Ok(SlotWord(slot)),
+            None => Err(Fault::Number),
+        }
+    }
+}
+
+/// An IMSI by its digits.
+#[derive(Clone, Copy)]
+struct Digits(Imsi);
+
+impl<'a> Field<'a> for Digits {
+    fn read(_alloc: Global, text: &'a str) -> Result<Digits, Fault> {
+        match Imsi::try_from_digits(text) {
+            Some(imsi) => Ok(Digits(imsi)),
+            None => Err(Fault::Number),
+        }
+    }
+}
+
 /// The answer of a call of ids.
-pub fn id_answer(alloc: Global, words: &[&str]) -> Answer {
-    match words {
-        ["slot", number] => yes_answer(alloc, Slot::try_new(number_32(number)?).is_some()),
-        ["association_id", slot, counter] => {
-            let (id, next) = AssociationId::after(slot_of(slot)?, counter_of(counter)?);
-            Ok(Some(format!(in alloc; "{} counter {next}", id.get())?))
+pub fn id_answer(call: Call) -> Answer {
+    match call.word {
+        "slot" => call.yes_answer(Slot::try_new(call.one()?).is_some()),
+        "association_id" | "tmsi" => counted_answer(call),
+        "stranger_id" => stranger_answer(call),
+        "xres" => {
+            let octets: Vec<u8> = call.one()?;
+            call.yes_answer(Xres::try_new(&octets).is_some())
         }
-        ["tmsi", slot, counter] => {
-            let (tmsi, next) = Tmsi::after(slot_of(slot)?, counter_of(counter)?);
-            Ok(Some(format!(in alloc; "{:08x} counter {next}", tmsi.get())?))
-        }
-        ["stranger_id", station, enb_id] => {
-            stranger_answer(alloc, number_8(station)?, number_32(enb_id)?)
-        }
-        ["xres", octets] => {
-            yes_answer(alloc, Xres::try_new(&octets_of(alloc, octets)?).is_some())
-        }
-        _ => Ok(None),
+        _ => Err(Fault::NoCall),
     }
 }
 
-fn stranger_answer(alloc: Global, station: u8, enb_id: u32) -> Answer {
-    if station > 127 || enb_id > 0xff_ffff {
-        return Err(Fault::Number);
-    }
-    let id = AssociationId::of_stranger(station, enb_id);
-    Ok(Some(format!(in alloc; "{}", id.get())?))
-}
-
-fn slot_of(text: &str) -> Result<Slot, Fault> {
-    match Slot::try_new(number_32(text)?) {
-        Some(slot) => Ok(slot),
-        None => Err(Fault::Number),
-    }
-}
-
-/// A counter of 20 bits.
-fn counter_of(text: &str) -> Result<u32, Fault>
-    ensures { IfOk result (λ n. n < 2 ^ 20) }
-{
-    let counter = number_32(text)?;
+/// The next association id or TMSI of a slot, behind a counter of 20 bits.
+fn counted_answer(call: Call) -> Answer {
+    let (SlotWord(slot), counter) = call.two()?;
     if counter > 0xf_ffff {
         return Err(Fault::Number);
     }
-    Ok(counter)
+    if call.word == "tmsi" {
+        let (tmsi, next) = Tmsi::after(slot, counter);
+        let text = call.text("").octets("", &tmsi.get().to_be_bytes());
+        return Ok(text.with(" counter ", &next));
+    }
+    let (id, next) = AssociationId::after(slot, counter);
+    Ok(call.text("").with("", &id.get()).with(" counter ", &next))
 }
 
-fn imsi_of(text: &str) -> Result<Imsi, Fault> {
-    match Imsi::try_from_digits(text) {
-        Some(imsi) => Ok(imsi),
-        None => Err(Fault::Number),
+fn stranger_answer(call: Call) -> Answer {
+    let (station, enb_id) = call.two()?;
+    if station > 127 || enb_id > 0xff_ffff {
+        return Err(Fault::Number);
     }
+    call.value_answer("", &AssociationId::of_stranger(station, enb_id).get())
 }
 
 /// The answer of a call behind the word `provision`.
-pub fn answer(provision: &mut Provision, alloc: Global, words: &[&str]) -> Answer {
-    match words {
-        ["new"] => {
-            *provision = Provision::new(alloc);
-            word_answer(alloc, "nobody")
+pub fn answer(provision: &mut Provision, call: Call) -> Answer {
+    match call.word {
+        "add" => added(provision, call),
+        "give" => given(provision, call),
+        "slot_of_imsi" => {
+            let Digits(imsi) = call.one()?;
+            slot_answer(call, provision.slot_of_imsi(imsi))
         }
-        ["add", imsi, address, gateway, teid] => {
-            let profile = Profile {
-                imsi: imsi_of(imsi)?,
-                address: sized::<4>(address)?,
-                gateway: sized::<4>(gateway)?,
-                teid: sized::<4>(teid)?,
-            };
-            match provision.add(profile) {
-                Ok(slot) => Ok(Some(format!(in alloc; "slot {}", slot.get())?)),
-                Err(fault) => Ok(Some(format!(in alloc; "fault {fault:?}")?)),
-            }
+        "slot_of_tmsi" => {
+            let tmsi = Tmsi::new(u32::from_be_bytes(call.one()?));
+            slot_answer(call, provision.slot_of_tmsi(tmsi))
         }
-        ["len"] => Ok(Some(format!(in alloc; "{}", provision.len())?)),
-        ["slot_of_imsi", imsi] => { slot_answer(alloc, provision.slot_of_imsi(imsi_of(imsi)?)) }
-        ["slot_of_tmsi", tmsi] => {
-            let tmsi = Tmsi::new(u32::from_be_bytes(sized::<4>(tmsi)?));
-            slot_answer(alloc, provision.slot_of_tmsi(tmsi))
+        "slot_of_association" => {
+            let id = AssociationId::new(call.one()?);
+            slot_answer(call, provision.slot_of_association(id))
         }
-        ["slot_of_association", id] => {
-            let id = AssociationId::new(number_32(id)?);
-            slot_answer(alloc, provision.slot_of_association(id))
-        }
-        _ => vector_answer(provision, alloc, words),
+        "profile" => profile_answer(provision, call),
+        "vector" => vector_answer(provision, call),
+        _ => plain_answer(provision, call),
     }
 }
 
-fn slot_answer(alloc: Global, slot: Option<Slot>) -> Answer {
+/// The answer of a call that has no field.
+fn plain_answer(provision: &mut Provision, call: Call) -> Answer {
+    call.none()?;
+    match call.word {
+        "new" => {
+            *provision = Provision::new(call.alloc);
+            call.word_answer("nobody")
+        }
+        "len" => call.value_answer("", &provision.len()),
+        _ => Err(Fault::NoCall),
+    }
+}
+
+fn added(provision: &mut Provision, call: Call) -> Answer {
+    let (Digits(imsi), address, gateway, teid) = call.four()?;
+    let profile = Profile {
+        imsi,
+        address,
+        gateway,
+        teid,
+    };
+    match provision.add(profile) {
+        Ok(slot) => call.value_answer("slot ", &slot.get()),
+        Err(fault) => call.fault_answer(&fault),
+    }
+}
+
+fn slot_answer(call: Call, slot: Option<Slot>) -> Answer {
     match slot {
-        Some(slot) => Ok(Some(format!(in alloc; "slot {}", slot.get())?)),
-        None => word_answer(alloc, "none"),
+        Some(slot) => call.value_answer("slot ", &slot.get()),
+        None => call.word_answer("none"),
     }
 }
 
-/// The answer of a call of a slot that is provisioned.
-fn vector_answer(provision: &mut Provision, alloc: Global, words: &[&str]) -> Answer {
-    match words {
-        ["give", slot, rand, autn, xres, kasme] => {
-            let vector = Vector {
-                rand: sized::<16>(rand)?,
-                autn: sized::<16>(autn)?,
-                xres: xres_of(alloc, xres)?,
-                kasme: sized::<32>(kasme)?,
-            };
-            give(provision, alloc, slot_of(slot)?, vector)
-        }
-        ["profile", slot] => profile_answer(provision, alloc, slot_of(slot)?),
-        ["vector", slot, place] => {
-            one_vector(provision, alloc, slot_of(slot)?, number_8(place)?)
-        }
-        _ => Ok(None),
-    }
-}
-
-fn xres_of(alloc: Global, text: &str) -> Result<Xres, Fault> {
-    match Xres::try_new(&octets_of(alloc, text)?) {
-        Some(xres) => Ok(xres),
-        None => Err(Fault::Octets),
-    }
-}
-
-fn give(provision: &mut Provision, alloc: Global, slot: Slot, vector: Vector) -> Answer {
+fn given(provision: &mut Provision, call: Call) -> Answer {
+    let (slot, vector) = slot_and_vector(call)?;
     if slot.get() as usize >= provision.len() {
         return Err(Fault::Order);
     }
     match provision.give(slot, vector) {
-        Ok(()) => word_answer(alloc, "given"),
-        Err(fault) => Ok(Some(format!(in alloc; "fault {fault:?}")?)),
+        Ok(()) => call.word_answer("given"),
+        Err(fault) => call.fault_answer(&fault),
     }
 }
 
-fn profile_answer(provision: &Provision, alloc: Global, slot: Slot) -> Answer {
+/// A slot, and the vector of RAND, AUTN, XRES and KASME.
+fn slot_and_vector(call: Call) -> Result<(Slot, Vector), Fault> {
+    let (number, vector): (u32, Call) = call.first()?;
+    let Some(slot) = Slot::try_new(number) else {
+        return Err(Fault::Number);
+    };
+    let (rand, autn, octets, kasme): (_, _, Vec<u8>, _) = vector.four()?;
+    let Some(xres) = Xres::try_new(&octets) else {
+        return Err(Fault::Octets);
+    };
+    let vector = Vector {
+        rand,
+        autn,
+        xres,
+        kasme,
+    };
+    Ok((slot, vector))
+}
+
+fn profile_answer(provision: &Provision, call: Call) -> Answer {
+    let SlotWord(slot) = call.one()?;
     if slot.get() as usize >= provision.len() {
         return Err(Fault::Order);
     }
     let profile = provision.profile(slot);
-    let imsi = profile.imsi.digits();
-    Ok(Some(format!(in alloc;
-        "{} address {} gateway {} teid {}; {} vectors",
-        imsi.as_str(),
-        Hex(&profile.address),
-        Hex(&profile.gateway),
-        Hex(&profile.teid),
-        provision.vectors(slot).len()
-    )?))
+    Ok(
+        call.text("")
+            .with("", &profile.imsi.digits().as_str())
+            .octets(" address ", &profile.address)
+            .octets(" gateway ", &profile.gateway)
+            .octets(" teid ", &profile.teid)
+            .with("; ", &provision.vectors(slot).len())
+            .word(" vectors"),
+    )
 }
 
-fn one_vector(provision: &Provision, alloc: Global, slot: Slot, place: u8) -> Answer {
+fn vector_answer(provision: &Provision, call: Call) -> Answer {
+    let (SlotWord(slot), place): (_, u8) = call.two()?;
     if slot.get() as usize >= provision.len() {
         return Err(Fault::Order);
     }
     match provision.vectors(slot).get(place as usize) {
-        Some(vector) => Ok(Some(format!(in alloc;
-            "rand {} xres {}",
-            Hex(&vector.rand),
-            Hex(vector.xres.as_slice())
-        )?)),
-        None => word_answer(alloc, "none"),
+        Some(vector) => Ok(
+            call.text("rand ")
+                .octets("", &vector.rand)
+                .octets(" xres ", vector.xres.as_slice()),
+        ),
+        None => call.word_answer("none"),
     }
 }

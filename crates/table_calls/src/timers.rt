@@ -2,10 +2,9 @@
 
 ghost use Rattle.std.specs.Prelude.{◌<◌, ◌≤◌, ◌^◌};
 
-use call_text::{Answer, Fault, number, number_8, number_32, word_answer};
-use std::alloc::{AllocError, Global};
-use std::fmt;
-use timer_queue::{Kind, Timer, TimerOwner, Timers};
+use call_text::{Answer, Call, Fault, Field, Text};
+use std::alloc::Global;
+use timer_queue::{Kind, TimerOwner, Timer, Timers};
 
 /// The greatest clock (2^62).
 const LAST_CLOCK: u64 = 0x4000_0000_0000_0000;
@@ -15,23 +14,6 @@ const LAST_CLOCK: u64 = 0x4000_0000_0000_0000;
 pub struct TimerDesk {
     timers: Timers,
     kept: Timers,
-}
-
-/// A timer, as `s3 procedure` or `x0.2 reachable`.
-#[derive(Clone, Copy)]
-struct TimerText(Timer);
-
-impl fmt::Display for TimerText {
-    fn fmt<W: fmt::Write>(&self, f: &mut fmt::Formatter<W>) -> fmt::Result {
-        let kind = match self.0.kind {
-            Kind::Procedure => "procedure",
-            Kind::Reachable => "reachable",
-        };
-        match self.0.owner {
-            TimerOwner::Stranger { station, enb_id } => write!(f, "x{station}.{enb_id} {kind}"),
-            TimerOwner::Subscriber(slot) => write!(f, "s{slot} {kind}"),
-        }
-    }
 }
 
 impl TimerDesk {
@@ -44,127 +26,153 @@ impl TimerDesk {
     }
 
     /// The answer of a call behind the word `timers`.
-    pub fn answer(&mut self, alloc: Global, words: &[&str]) -> Answer {
-        match words {
-            ["new", clock] => self.renew(alloc, number(clock)?),
-            ["start", owner, kind, ticks] => {
-                self.start(alloc, timer_of(owner, kind)?, number(ticks)?)
+    pub fn answer(&mut self, call: Call) -> Answer {
+        match call.word {
+            "new" => self.renew(call),
+            "start" | "start_reserved" => self.start(call),
+            "stop" => {
+                let (OwnerWord(owner), KindWord(kind)) = call.two()?;
+                self.timers.stop(owner, kind);
+                call.word_answer("stopped")
             }
-            ["start_reserved", owner, kind, ticks] => {
-                self.start_reserved(alloc, timer_of(owner, kind)?, number(ticks)?)
+            "left" => {
+                let (OwnerWord(owner), KindWord(kind)) = call.two()?;
+                self.left(call, owner, kind)
             }
-            ["stop", owner, kind] => {
-                let timer = timer_of(owner, kind)?;
-                self.timers.stop(timer.owner, timer.kind);
-                word_answer(alloc, "stopped")
-            }
-            ["left", owner, kind] => left_answer(alloc, &self.timers, timer_of(owner, kind)?),
-            ["clock"] => Ok(Some(format!(in alloc; "{}", self.timers.clock())?)),
-            ["tick"] => self.tick(alloc),
-            ["due"] => {
-                let due = self.timers.due()?;
-                Ok(Some(timers_text(alloc, due.as_slice())?))
-            }
-            ["pass"] => self.pass(alloc),
-            ["copy"] => {
-                let copy = self.timers.copy()?;
-                self.kept = std::mem::replace(&mut self.timers, copy);
-                word_answer(alloc, "copied")
-            }
-            ["back"] => {
-                std::mem::swap(&mut self.timers, &mut self.kept);
-                word_answer(alloc, "back")
-            }
-            _ => Ok(None),
+            _ => self.plain_answer(call),
         }
     }
 
-    fn renew(&mut self, alloc: Global, clock: u64) -> Answer {
+    /// The answer of a call that has no field.
+    fn plain_answer(&mut self, call: Call) -> Answer {
+        call.none()?;
+        match call.word {
+            "clock" => call.value_answer("", &self.timers.clock()),
+            "tick" => match self.timers.tick() {
+                Ok(due) => timers_answer(call, &due),
+                Err(fault) => call.fault_answer(&fault),
+            },
+            "due" => timers_answer(call, &self.timers.due()?),
+            "pass" => self.pass(call),
+            "copy" => self.copy(call),
+            "back" => {
+                std::mem::swap(&mut self.timers, &mut self.kept);
+                call.word_answer("back")
+            }
+            _ => Err(Fault::NoCall),
+        }
+    }
+
+    fn renew(&mut self, call: Call) -> Answer {
+        let clock = call.one()?;
         if clock > LAST_CLOCK {
             return Err(Fault::Number);
         }
-        self.timers = Timers::new(alloc, clock);
-        word_answer(alloc, "none runs")
+        self.timers = Timers::new(call.alloc, clock);
+        call.word_answer("none runs")
     }
 
-    fn start(&mut self, alloc: Global, timer: Timer, ticks: u64) -> Answer {
+    /// Starts a timer, also in room that was reserved for it.
+    fn start(&mut self, call: Call) -> Answer {
+        let (OwnerWord(owner), KindWord(kind), ticks) = call.three()?;
         if ticks < 1 || ticks > 3480 {
             return Err(Fault::Number);
         }
-        self.timers.start(timer.owner, timer.kind, ticks)?;
-        left_answer(alloc, &self.timers, timer)
-    }
-
-    fn start_reserved(&mut self, alloc: Global, timer: Timer, ticks: u64) -> Answer {
-        if ticks < 1 || ticks > 3480 {
-            return Err(Fault::Number);
+        if call.word == "start" {
+            self.timers.start(owner, kind, ticks)?;
+        } else {
+            self.timers.reserve(1)?;
+            self.timers.start_reserved(owner, kind, ticks);
         }
-        self.timers.reserve(1)?;
-        self.timers.start_reserved(timer.owner, timer.kind, ticks);
-        left_answer(alloc, &self.timers, timer)
+        self.left(call, owner, kind)
     }
 
-    fn tick(&mut self, alloc: Global) -> Answer {
-        match self.timers.tick() {
-            Ok(due) => Ok(Some(timers_text(alloc, due.as_slice())?)),
-            Err(fault) => Ok(Some(format!(in alloc; "fault {fault:?}")?)),
+    fn left(&self, call: Call, owner: TimerOwner, kind: Kind) -> Answer {
+        match self.timers.left(owner, kind) {
+            Some(ticks) => call.value_answer("", &ticks),
+            None => call.word_answer("none"),
         }
     }
 
-    fn pass(&mut self, alloc: Global) -> Answer {
+    fn pass(&mut self, call: Call) -> Answer {
         if self.timers.clock() >= LAST_CLOCK {
             return Err(Fault::Order);
         }
         self.timers.pass();
-        Ok(Some(format!(in alloc; "{}", self.timers.clock())?))
+        call.value_answer("", &self.timers.clock())
     }
-}
 
-fn left_answer(alloc: Global, timers: &Timers, timer: Timer) -> Answer {
-    match timers.left(timer.owner, timer.kind) {
-        Some(ticks) => Ok(Some(format!(in alloc; "{ticks}")?)),
-        None => word_answer(alloc, "none"),
+    fn copy(&mut self, call: Call) -> Answer {
+        let copy = self.timers.copy()?;
+        self.kept = std::mem::replace(&mut self.timers, copy);
+        call.word_answer("copied")
     }
 }
 
 /// Timers in their order, `none` where there is none.
-fn timers_text(alloc: Global, timers: &[Timer]) -> Result<String, AllocError> {
-    let mut text = String::new(alloc);
-    for timer in timers {
-        if !text.is_empty() {
-            text.push_str(", ")?;
-        }
-        text.push_str(format!(in alloc; "{}", TimerText(*timer))?.as_str())?;
+fn timers_answer(call: Call, timers: &[Timer]) -> Answer {
+    if timers.is_empty() {
+        return call.word_answer("none");
     }
-    if text.is_empty() {
-        text.push_str("none")?;
+    let mut text = call.text("");
+    let mut between = "";
+    for timer in timers {
+        text = with_timer(text.word(between), timer);
+        between = ", ";
     }
     Ok(text)
 }
 
-fn timer_of(owner: &str, kind: &str) -> Result<Timer, Fault> {
-    let kind = match kind {
-        "procedure" => Kind::Procedure,
-        "reachable" => Kind::Reachable,
-        _ => return Err(Fault::Name),
+/// A text and a timer, as `s3 procedure` or `x0.2 reachable`.
+fn with_timer(text: Text, timer: &Timer) -> Text {
+    let kind = match timer.kind {
+        Kind::Procedure => " procedure",
+        Kind::Reachable => " reachable",
     };
-    let owner = owner_of(owner)?;
-    Ok(Timer { owner, kind })
+    match timer.owner {
+        TimerOwner::Stranger { station, enb_id } => {
+            text.with("x", &station).with(".", &enb_id).word(kind)
+        }
+        TimerOwner::Subscriber(slot) => text.with("s", &slot).word(kind),
+    }
+}
+
+/// `procedure` or `reachable`.
+#[derive(Clone, Copy)]
+struct KindWord(Kind);
+
+impl<'a> Field<'a> for KindWord {
+    fn read(_alloc: Global, text: &'a str) -> Result<KindWord, Fault> {
+        match text {
+            "procedure" => Ok(KindWord(Kind::Procedure)),
+            "reachable" => Ok(KindWord(Kind::Reachable)),
+            _ => Err(Fault::Name),
+        }
+    }
 }
 
 /// `s` and a slot, or `x`, a station, `.` and a phone's number there.
-fn owner_of(text: &str) -> Result<TimerOwner, Fault> {
-    if let Some(slot) = text.strip_prefix("s") {
-        return Ok(TimerOwner::Subscriber(number_32(slot)?));
+#[derive(Clone, Copy)]
+struct OwnerWord(TimerOwner);
+
+impl<'a> Field<'a> for OwnerWord {
+    fn read(alloc: Global, text: &'a str) -> Result<OwnerWord, Fault> {
+        if let Some(slot) = text.strip_prefix("s") {
+            return Ok(OwnerWord(TimerOwner::Subscriber(u32::read(alloc, slot)?)));
+        }
+        match text.strip_prefix("x") {
+            Some(stranger) => stranger_of(alloc, stranger),
+            None => Err(Fault::Name),
+        }
     }
-    let Some((station, enb_id)) = text.split_once(".") else {
+}
+
+fn stranger_of(alloc: Global, text: &str) -> Result<OwnerWord, Fault> {
+    let Some((station, phone)) = text.split_once(".") else {
         return Err(Fault::Name);
     };
-    match station.strip_prefix("x") {
-        Some(station) => Ok(TimerOwner::Stranger {
-            station: number_8(station)?,
-            enb_id: number_32(enb_id)?,
-        }),
-        None => Err(Fault::Name),
-    }
+    Ok(OwnerWord(TimerOwner::Stranger {
+        station: u8::read(alloc, station)?,
+        enb_id: u32::read(alloc, phone)?,
+    }))
 }

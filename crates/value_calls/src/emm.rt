@@ -1,125 +1,121 @@
 //! EMM messages as text: the name in TS 24.301 clause 8.2, and the fields.
 
-use crate::identities::{GutiText, IdentityText, TaiListText};
-use call_text::{Hex, Maybe};
+use crate::identities::{with_guti, with_identity, with_tai_list};
+use call_text::{Call, Text};
 use nas_messages::{
     AreaUpdateAccept, AreaUpdateRequest, AttachAccept, AttachRequest, AuthenticationRequest,
     DetachRequest, Emm, EmmMessage,
 };
-use std::alloc::{AllocError, Global};
 
 /// A message.
-pub fn emm_text(alloc: Global, message: &EmmMessage) -> Result<String, AllocError> {
+pub fn emm_text(call: Call, message: &EmmMessage) -> Text {
     match message {
-        Emm::AttachRequest(m) => attach_request(alloc, m),
-        Emm::AttachAccept(m) => attach_accept(alloc, m),
-        Emm::AttachComplete { esm } => format!(in alloc; "ATTACH COMPLETE esm {}", Hex(esm)),
-        Emm::AttachReject(m) => {
-            format!(in alloc; "ATTACH REJECT cause {} esm {}", m.cause, Maybe(m.esm))
-        }
-        Emm::DetachRequest(m) => detach_request(alloc, m),
-        Emm::NetworkDetach => String::from_str(alloc, "DETACH REQUEST of the network"),
-        Emm::DetachAccept => String::from_str(alloc, "DETACH ACCEPT"),
-        Emm::AreaUpdateRequest(m) => area_update_request(alloc, m),
-        Emm::AreaUpdateAccept(m) => area_update_accept(alloc, m),
-        Emm::AreaUpdateComplete => String::from_str(alloc, "TRACKING AREA UPDATE COMPLETE"),
+        Emm::AttachRequest(m) => attach_request(call, m),
+        Emm::AttachAccept(m) => attach_accept(call, m),
+        Emm::AttachComplete { esm } => call.text("ATTACH COMPLETE esm ").octets("", esm),
+        Emm::AttachReject(m) => call
+            .text("ATTACH REJECT cause ")
+            .with("", &m.cause)
+            .maybe(" esm ", m.esm),
+        Emm::DetachRequest(m) => detach_request(call, m),
+        Emm::NetworkDetach => call.text("DETACH REQUEST of the network"),
+        Emm::DetachAccept => call.text("DETACH ACCEPT"),
+        _ => area_text(call, message),
+    }
+}
+
+/// A message of a tracking area update, of a service request or of status.
+fn area_text(call: Call, message: &EmmMessage) -> Text {
+    match message {
+        Emm::AreaUpdateRequest(m) => area_update_request(call, m),
+        Emm::AreaUpdateAccept(m) => area_update_accept(call, m),
+        Emm::AreaUpdateComplete => call.text("TRACKING AREA UPDATE COMPLETE"),
         Emm::AreaUpdateReject { cause } => {
-            format!(in alloc; "TRACKING AREA UPDATE REJECT cause {cause}")
+            call.text("TRACKING AREA UPDATE REJECT cause ")
+                .with("", cause)
         }
-        Emm::ServiceReject { cause } => format!(in alloc; "SERVICE REJECT cause {cause}"),
-        Emm::ServiceRequest { octets } => format!(in alloc; "SERVICE REQUEST {}", Hex(octets)),
-        Emm::EmmStatus { cause } => format!(in alloc; "EMM STATUS cause {cause}"),
-        _ => security_text(alloc, message),
+        Emm::ServiceReject { cause } => call.text("SERVICE REJECT cause ").with("", cause),
+        Emm::ServiceRequest { octets } => call.text("SERVICE REQUEST ").octets("", octets),
+        Emm::EmmStatus { cause } => call.text("EMM STATUS cause ").with("", cause),
+        _ => security_text(call, message),
     }
 }
 
 /// A message of authentication, identification or security mode control.
-fn security_text(alloc: Global, message: &EmmMessage) -> Result<String, AllocError> {
+fn security_text(call: Call, message: &EmmMessage) -> Text {
     match message {
-        Emm::AuthenticationRequest(m) => authentication_request(alloc, m),
+        Emm::AuthenticationRequest(m) => authentication_request(call, m),
         Emm::AuthenticationResponse { res } => {
-            format!(in alloc; "AUTHENTICATION RESPONSE res {}", Hex(res))
+            call.text("AUTHENTICATION RESPONSE res ").octets("", res)
         }
-        Emm::AuthenticationReject => String::from_str(alloc, "AUTHENTICATION REJECT"),
+        Emm::AuthenticationReject => call.text("AUTHENTICATION REJECT"),
         Emm::AuthenticationFailure { cause } => {
-            format!(in alloc; "AUTHENTICATION FAILURE cause {cause}")
+            call.text("AUTHENTICATION FAILURE cause ").with("", cause)
         }
-        Emm::IdentityRequest => String::from_str(alloc, "IDENTITY REQUEST"),
+        Emm::IdentityRequest => call.text("IDENTITY REQUEST"),
         Emm::IdentityResponse { identity } => {
-            format!(in alloc; "IDENTITY RESPONSE {}", IdentityText(*identity))
+            with_identity(call.text("IDENTITY RESPONSE "), identity)
         }
-        Emm::SecurityModeCommand(m) => format!(in alloc;
-            "SECURITY MODE COMMAND ksi {} capability {}",
-            m.ksi,
-            Hex(m.capability)
-        ),
-        Emm::SecurityModeComplete => String::from_str(alloc, "SECURITY MODE COMPLETE"),
+        Emm::SecurityModeCommand(m) => call
+            .text("SECURITY MODE COMMAND ksi ")
+            .with("", &m.ksi)
+            .octets(" capability ", m.capability),
+        Emm::SecurityModeComplete => call.text("SECURITY MODE COMPLETE"),
         Emm::SecurityModeReject { cause } => {
-            format!(in alloc; "SECURITY MODE REJECT cause {cause}")
+            call.text("SECURITY MODE REJECT cause ").with("", cause)
         }
-        _ => String::from_str(alloc, "another message"),
+        _ => call.text("another message"),
     }
 }
 
-fn attach_request(alloc: Global, m: &AttachRequest<&[u8]>) -> Result<String, AllocError> {
-    format!(in alloc;
-        "ATTACH REQUEST type {} ksi {} {} capability {} esm {}",
-        m.attach_type,
-        m.ksi,
-        IdentityText(m.identity),
-        Hex(m.capability),
-        Hex(m.esm)
-    )
+fn attach_request(call: Call, m: &AttachRequest<&[u8]>) -> Text {
+    let text = call
+        .text("ATTACH REQUEST")
+        .with(" type ", &m.attach_type)
+        .with(" ksi ", &m.ksi)
+        .word(" ");
+    with_identity(text, &m.identity)
+        .octets(" capability ", m.capability)
+        .octets(" esm ", m.esm)
 }
 
-fn attach_accept(alloc: Global, m: &AttachAccept<&[u8]>) -> Result<String, AllocError> {
-    format!(in alloc;
-        "ATTACH ACCEPT {} esm {} guti {} cause {}",
-        TaiListText(m.tai_list),
-        Hex(m.esm),
-        Maybe(m.guti),
-        Maybe(m.cause)
-    )
+fn attach_accept(call: Call, m: &AttachAccept<&[u8]>) -> Text {
+    with_tai_list(call.text("ATTACH ACCEPT "), &m.tai_list)
+        .octets(" esm ", m.esm)
+        .maybe(" guti ", m.guti)
+        .maybe(" cause ", m.cause)
 }
 
-fn detach_request(alloc: Global, m: &DetachRequest) -> Result<String, AllocError> {
-    format!(in alloc;
-        "DETACH REQUEST type {} switch off {} ksi {} {}",
-        m.detach_type,
-        m.switch_off,
-        m.ksi,
-        IdentityText(m.identity)
-    )
+fn detach_request(call: Call, m: &DetachRequest) -> Text {
+    let text = call
+        .text("DETACH REQUEST")
+        .with(" type ", &m.detach_type)
+        .with(" switch off ", &m.switch_off)
+        .with(" ksi ", &m.ksi)
+        .word(" ");
+    with_identity(text, &m.identity)
 }
 
-fn area_update_request(alloc: Global, m: &AreaUpdateRequest) -> Result<String, AllocError> {
-    format!(in alloc;
-        "TRACKING AREA UPDATE REQUEST type {} active {} ksi {} {}",
-        m.update_type,
-        m.active,
-        m.ksi,
-        GutiText(m.guti)
-    )
+fn area_update_request(call: Call, m: &AreaUpdateRequest) -> Text {
+    let text = call
+        .text("TRACKING AREA UPDATE REQUEST")
+        .with(" type ", &m.update_type)
+        .with(" active ", &m.active)
+        .with(" ksi ", &m.ksi);
+    with_guti(text, " GUTI ", &m.guti)
 }
 
-fn area_update_accept(alloc: Global, m: &AreaUpdateAccept<&[u8]>) -> Result<String, AllocError> {
-    format!(in alloc;
-        "TRACKING AREA UPDATE ACCEPT timer {} guti {} areas {} cause {}",
-        Maybe(m.timer),
-        Maybe(m.guti),
-        Maybe(m.tai_list),
-        Maybe(m.cause)
-    )
+fn area_update_accept(call: Call, m: &AreaUpdateAccept<&[u8]>) -> Text {
+    call.text("TRACKING AREA UPDATE ACCEPT")
+        .maybe(" timer ", m.timer)
+        .maybe(" guti ", m.guti)
+        .maybe(" areas ", m.tai_list)
+        .maybe(" cause ", m.cause)
 }
 
-fn authentication_request(
-    alloc: Global,
-    m: &AuthenticationRequest<&[u8]>,
-) -> Result<String, AllocError> {
-    format!(in alloc;
-        "AUTHENTICATION REQUEST ksi {} rand {} autn {}",
-        m.ksi,
-        Hex(m.rand),
-        Hex(m.autn)
-    )
+fn authentication_request(call: Call, m: &AuthenticationRequest<&[u8]>) -> Text {
+    call.text("AUTHENTICATION REQUEST")
+        .with(" ksi ", &m.ksi)
+        .octets(" rand ", m.rand)
+        .octets(" autn ", m.autn)
 }

@@ -1,50 +1,45 @@
 //! ESM messages as text: the name in TS 24.301 clause 8.3, and the fields.
 
-use call_text::{Hex, Maybe};
+use call_text::{Call, Text};
 use nas_messages::{EsmBody, EsmMessage};
-use std::alloc::{AllocError, Global};
 
 /// A message behind its bearer and its transaction.
-pub fn esm_text(alloc: Global, message: &EsmMessage) -> Result<String, AllocError> {
-    let body = body_text(alloc, &message.body)?;
-    format!(in alloc;
-        "bearer {} transaction {} {body}",
-        message.bearer, message.transaction
-    )
+pub fn esm_text(call: Call, message: &EsmMessage) -> Text {
+    let text = call
+        .text("bearer ")
+        .with("", &message.bearer)
+        .with(" transaction ", &message.transaction);
+    with_body(text, &message.body)
 }
 
-fn body_text(alloc: Global, body: &EsmBody<&[u8]>) -> Result<String, AllocError> {
+fn with_body(text: Text, body: &EsmBody<&[u8]>) -> Text {
     match body {
-        EsmBody::ActivateRequest(m) => format!(in alloc;
-            "ACTIVATE DEFAULT EPS BEARER CONTEXT REQUEST apn {} address {} cause {}",
-            Hex(m.apn),
-            Hex(m.address),
-            Maybe(m.cause)
-        ),
-        EsmBody::ActivateAccept => {
-            String::from_str(alloc, "ACTIVATE DEFAULT EPS BEARER CONTEXT ACCEPT")
-        }
+        EsmBody::ActivateRequest(m) => text
+            .word(" ACTIVATE DEFAULT EPS BEARER CONTEXT REQUEST")
+            .octets(" apn ", m.apn)
+            .octets(" address ", m.address)
+            .maybe(" cause ", m.cause),
+        EsmBody::ActivateAccept => text.word(" ACTIVATE DEFAULT EPS BEARER CONTEXT ACCEPT"),
         EsmBody::ActivateReject { cause } => {
-            format!(in alloc; "ACTIVATE DEFAULT EPS BEARER CONTEXT REJECT cause {cause}")
+            text.with(" ACTIVATE DEFAULT EPS BEARER CONTEXT REJECT cause ", cause)
         }
         EsmBody::ConnectivityRequest {
             request_type,
             pdn_type,
             information,
-        } => format!(in alloc;
-            "PDN CONNECTIVITY REQUEST type {request_type} pdn type {pdn_type} information {information}"
-        ),
+        } => text
+            .with(" PDN CONNECTIVITY REQUEST type ", request_type)
+            .with(" pdn type ", pdn_type)
+            .with(" information ", information),
         EsmBody::ConnectivityReject { cause } => {
-            format!(in alloc; "PDN CONNECTIVITY REJECT cause {cause}")
+            text.with(" PDN CONNECTIVITY REJECT cause ", cause)
         }
         EsmBody::DisconnectRequest { linked } => {
-            format!(in alloc; "PDN DISCONNECT REQUEST bearer {linked}")
+            text.with(" PDN DISCONNECT REQUEST bearer ", linked)
         }
-        EsmBody::DisconnectReject { cause } => {
-            format!(in alloc; "PDN DISCONNECT REJECT cause {cause}")
-        }
-        EsmBody::InformationRequest => String::from_str(alloc, "ESM INFORMATION REQUEST"),
-        EsmBody::InformationResponse => String::from_str(alloc, "ESM INFORMATION RESPONSE"),
-        EsmBody::EsmStatus { cause } => format!(in alloc; "ESM STATUS cause {cause}"),
+        EsmBody::DisconnectReject { cause } => text.with(" PDN DISCONNECT REJECT cause ", cause),
+        EsmBody::InformationRequest => text.word(" ESM INFORMATION REQUEST"),
+        EsmBody::InformationResponse => text.word(" ESM INFORMATION RESPONSE"),
+        EsmBody::EsmStatus { cause } => text.with(" ESM STATUS cause ", cause),
     }
 }

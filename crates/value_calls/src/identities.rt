@@ -1,50 +1,26 @@
 //! Identities of phones and places as text.
 
-use call_text::Hex;
+use call_text::Text;
 use nas_elements::{Guti, MobileIdentity, TaiList};
-use std::fmt;
 
-/// A GUTI.
-#[derive(Clone, Copy)]
-pub struct GutiText(pub Guti);
+/// A text and a GUTI.
+pub fn with_guti(text: Text, before: &str, guti: &Guti) -> Text {
+    text.octets(before, &guti.plmn.octets)
+        .octets(" ", &guti.group)
+        .octets(" ", &[guti.code])
+        .octets(" ", &guti.tmsi.to_be_bytes())
+}
 
-impl fmt::Display for GutiText {
-    fn fmt<W: fmt::Write>(&self, f: &mut fmt::Formatter<W>) -> fmt::Result {
-        let guti = self.0;
-        write!(
-            f,
-            "GUTI {} {} {:02x} {:08x}",
-            Hex(&guti.plmn.octets),
-            Hex(&guti.group),
-            guti.code,
-            guti.tmsi
-        )
+/// A text and an IMSI or a GUTI.
+pub fn with_identity(text: Text, identity: &MobileIdentity) -> Text {
+    match identity {
+        MobileIdentity::Imsi(imsi) => text.with("IMSI ", &imsi.digits().as_str()),
+        MobileIdentity::Temporary(guti) => with_guti(text, "GUTI ", guti),
     }
 }
 
-/// An IMSI or a GUTI.
-#[derive(Clone, Copy)]
-pub struct IdentityText(pub MobileIdentity);
-
-impl fmt::Display for IdentityText {
-    fn fmt<W: fmt::Write>(&self, f: &mut fmt::Formatter<W>) -> fmt::Result {
-        match self.0 {
-            MobileIdentity::Imsi(imsi) => {
-                let digits = imsi.digits();
-                write!(f, "IMSI {}", digits.as_str())
-            }
-            MobileIdentity::Temporary(guti) => write!(f, "{}", GutiText(guti)),
-        }
-    }
-}
-
-/// A list of one tracking area.
-#[derive(Clone, Copy)]
-pub struct TaiListText(pub TaiList);
-
-impl fmt::Display for TaiListText {
-    fn fmt<W: fmt::Write>(&self, f: &mut fmt::Formatter<W>) -> fmt::Result {
-        let list = self.0;
-        write!(f, "area {} {}", Hex(&list.plmn.octets), Hex(&list.tac))
-    }
+/// A text and a list of one tracking area.
+pub fn with_tai_list(text: Text, list: &TaiList) -> Text {
+    text.octets("area ", &list.plmn.octets)
+        .octets(" ", &list.tac)
 }

@@ -1,67 +1,72 @@
 //! Calls of `eps_keys`: AES-128, CMAC, 128-EIA2, HMAC-SHA-256 and the key derivations.
 
-use call_text::{Answer, Fault, number_32, octets_answer, octets_of, sized, yes_answer};
+use call_text::{Answer, Call, Fault, Field};
 use eps_keys::{
     DirectionBit, MacKey, aes_encrypt, cmac, eia2, hmac_sha256, kenb, nas_integrity_key, next_hop,
     same_octets,
 };
 use std::alloc::Global;
 
-/// The answer of a call of this module.
-pub fn answer(alloc: Global, words: &[&str]) -> Answer {
-    match words {
-        ["aes", key, block] => octets_answer(alloc, &aes_encrypt(&sized(key)?, &sized(block)?)),
-        ["nas_integrity_key", kasme] => octets_answer(alloc, &nas_integrity_key(&sized(kasme)?)),
-        ["kenb", kasme, count] => octets_answer(alloc, &kenb(&sized(kasme)?, number_32(count)?)),
-        ["next_hop", kasme, previous] => {
-            octets_answer(alloc, &next_hop(&sized(kasme)?, &sized(previous)?))
-        }
-        _ => mac_answer(alloc, words),
-    }
-}
-
-/// The answer of a call that has a message.
-fn mac_answer(alloc: Global, words: &[&str]) -> Answer {
-    match words {
-        ["cmac", key, message] => {
-            octets_answer(alloc, &cmac(&sized(key)?, &octets_of(alloc, message)?))
-        }
-        ["kept_cmac", key, message] => {
-            let key = MacKey::new(&sized(key)?);
-            octets_answer(alloc, &key.cmac(&octets_of(alloc, message)?))
-        }
-        ["eia2", key, count, way, message] => {
-            let message = octets_of(alloc, message)?;
-            octets_answer(
-                alloc,
-                &eia2(&sized(key)?, number_32(count)?, direction(way)?, &message),
-            )
-        }
-        ["kept_eia2", key, count, way, message] => {
-            let key = MacKey::new(&sized(key)?);
-            let message = octets_of(alloc, message)?;
-            octets_answer(
-                alloc,
-                &key.eia2(number_32(count)?, direction(way)?, &message),
-            )
-        }
-        ["hmac", key, message] => octets_answer(
-            alloc,
-            &hmac_sha256(&octets_of(alloc, key)?, &octets_of(alloc, message)?),
-        ),
-        ["same", left, right] => yes_answer(
-            alloc,
-            same_octets(&octets_of(alloc, left)?, &octets_of(alloc, right)?),
-        ),
-        _ => Ok(None),
-    }
-}
-
 /// `up` or `down`.
-fn direction(word: &str) -> Result<DirectionBit, Fault> {
-    match word {
-        "up" => Ok(DirectionBit::Uplink),
-        "down" => Ok(DirectionBit::Downlink),
-        _ => Err(Fault::Name),
+#[derive(Clone, Copy)]
+struct Way(DirectionBit);
+
+impl<'a> Field<'a> for Way {
+    fn read(_alloc: Global, text: &'a str) -> Result<Way, Fault> {
+        match text {
+            "up" => Ok(Way(DirectionBit::Uplink)),
+            "down" => Ok(Way(DirectionBit::Downlink)),
+            _ => Err(Fault::Name),
+        }
     }
+}
+
+/// The answer of a call of this module.
+pub fn answer(call: Call) -> Answer {
+    match call.word {
+        "aes" => {
+            let (key, block) = call.two()?;
+            call.octets_answer(&aes_encrypt(&key, &block))
+        }
+        "nas_integrity_key" => call.octets_answer(&nas_integrity_key(&call.one()?)),
+        "kenb" => {
+            let (kasme, count) = call.two()?;
+            call.octets_answer(&kenb(&kasme, count))
+        }
+        "next_hop" => {
+            let (kasme, previous) = call.two()?;
+            call.octets_answer(&next_hop(&kasme, &previous))
+        }
+        "hmac" => {
+            let (key, message): (Vec<u8>, Vec<u8>) = call.two()?;
+            call.octets_answer(&hmac_sha256(&key, &message))
+        }
+        "same" => {
+            let (left, right): (Vec<u8>, Vec<u8>) = call.two()?;
+            call.yes_answer(same_octets(&left, &right))
+        }
+        "cmac" | "kept_cmac" => cmac_answer(call),
+        "eia2" | "kept_eia2" => eia2_answer(call),
+        _ => Err(Fault::NoCall),
+    }
+}
+
+/// A CMAC, by the key or by what is kept of it.
+fn cmac_answer(call: Call) -> Answer {
+    let (key, message): (_, Vec<u8>) = call.two()?;
+    let mac = match call.word {
+        "cmac" => cmac(&key, &message),
+        _ => MacKey::new(&key).cmac(&message),
+    };
+    call.octets_answer(&mac)
+}
+
+/// The MAC of a message of NAS, by the key or by what is kept of it.
+fn eia2_answer(call: Call) -> Answer {
+    let (key, count, Way(direction), message): (_, _, _, Vec<u8>) = call.four()?;
+    let mac = match call.word {
+        "eia2" => eia2(&key, count, direction, &message),
+        _ => MacKey::new(&key).eia2(count, direction, &message),
+    };
+    call.octets_answer(&mac)
 }

@@ -1,28 +1,28 @@
 //! Calls of the calculator that need no object: keys and MACs, elements and messages of NAS, and lines of traces.
 #![tactic(auto)]
 
+mod elements;
 mod emm;
 mod esm;
 mod identities;
 mod keys;
 mod lines;
-mod nas;
-mod turned;
+mod messages;
 
-use call_text::Answer;
+use call_text::{Answer, Call, Fault};
 pub use lines::line_answer;
-use std::alloc::Global;
 
-/// The answer of a call of values alone, which is a word and its fields.
-pub fn answer(alloc: Global, words: &[&str]) -> Answer {
-    if let Some(text) = keys::answer(alloc, words)? {
-        return Ok(Some(text));
+/// The answer of a call of values alone.
+pub fn answer(call: Call) -> Answer {
+    let mut answer = keys::answer(call);
+    if matches!(answer, Err(Fault::NoCall)) {
+        answer = elements::answer(call);
     }
-    if let Some(text) = nas::answer(alloc, words)? {
-        return Ok(Some(text));
+    if matches!(answer, Err(Fault::NoCall)) {
+        answer = messages::answer(call);
     }
-    if let Some(text) = turned::answer(alloc, words)? {
-        return Ok(Some(text));
+    if matches!(answer, Err(Fault::NoCall)) {
+        answer = lines::answer(call);
     }
-    lines::answer(alloc, words)
+    answer
 }

@@ -1,85 +1,73 @@
 //! Calls of `trace_text`: lines of a trace, the lines of its answers, and what stands in them.
 
-ghost use Rattle.std.specs.Prelude.{◌<◌};
-
-use call_text::{
-    Answer, Fault, Hex, number, number_8, number_32, octets_of, word_answer, yes_answer,
-};
+use call_text::{Answer, Call, Fault, Field};
 use identity_slots::StationNumber;
 use nas_elements::Imsi;
 use std::alloc::Global;
 use trace_text::{
-    AnswerLine, AnswerOwner, ApnLabel, BitRate, EcmWord, EmmWord, EsmWord, Line, TraceFault,
-    TraceTicks, parse_line, write_answer, write_line,
+    AnswerLine, AnswerOwner, ApnLabel, BitRate, EcmWord, EmmWord, EsmWord, Line,
+    TraceFault, TraceTicks, parse_line, write_answer, write_line,
 };
 
 /// What a line of a trace says, written again, with the octets of its network, or its fault. A comment says nothing.
-pub fn line_answer(alloc: Global, text: &[u8]) -> Result<String, Fault> {
-    let line = match parse_line(alloc, text) {
+pub fn line_answer(call: Call, text: &[u8]) -> Answer {
+    let line = match parse_line(call.alloc, text) {
         Ok(line) => line,
-        Err(fault) => return Ok(format!(in alloc; "fault {} {fault}", fault.number())?),
-    };
-    let written = write_line(alloc, &line)?;
-    match network_of(&line) {
-        Some(network) => {
-            Ok(format!(in alloc; "is {}; network {}", written.as_str(), Hex(&network))?)
+        Err(fault) => {
+            let text = call.text("fault ").with("", &fault.number());
+            return Ok(text.with(" ", &fault));
         }
-        None => Ok(format!(in alloc; "is {}", written.as_str())?),
-    }
-}
-
-/// The network of an `mme` line.
-fn network_of(line: &Line) -> Option<[u8; 3]> {
-    match line {
-        Line::Mme(fields) => Some(fields.plmn),
-        _ => None,
+    };
+    let written = write_line(call.alloc, &line)?;
+    let text = call.text("is ").word(written.as_str());
+    match &line {
+        Line::Mme(fields) => Ok(text.octets("; network ", &fields.plmn)),
+        _ => Ok(text),
     }
 }
 
 /// The answer of a call of this module.
-pub fn answer(alloc: Global, words: &[&str]) -> Answer {
-    match words {
-        ["line_octets", octets] => Ok(Some(line_answer(alloc, &octets_of(alloc, octets)?)?)),
-        ["trace_faults"] => faults_answer(alloc),
-        ["trace_station", number] => {
-            yes_answer(alloc, StationNumber::try_new(number_8(number)?).is_some())
+pub fn answer(call: Call) -> Answer {
+    match call.word {
+        "line_octets" => {
+            let octets: Vec<u8> = call.one()?;
+            line_answer(call, &octets)
         }
-        ["bit_rate", rate] => yes_answer(alloc, BitRate::try_new(number(rate)?).is_some()),
-        ["trace_ticks", ticks] => {
-            yes_answer(alloc, TraceTicks::try_new(number_32(ticks)?).is_some())
+        "trace_faults" => faults_answer(call),
+        "out" => out_answer(call),
+        "refused" => shown(call, &AnswerLine::Refused(call.one()?)),
+        "state" => state_answer(call),
+        _ => range_answer(call),
+    }
+}
+
+/// Whether a value is in the range of its kind.
+fn range_answer(call: Call) -> Answer {
+    match call.word {
+        "trace_station" => call.yes_answer(StationNumber::try_new(call.one()?).is_some()),
+        "bit_rate" => call.yes_answer(BitRate::try_new(call.one()?).is_some()),
+        "trace_ticks" => call.yes_answer(TraceTicks::try_new(call.one()?).is_some()),
+        "apn_label" => {
+            let label: &str = call.one()?;
+            call.yes_answer(ApnLabel::try_new(call.alloc, label.as_bytes())?.is_some())
         }
-        ["apn_label", label] => {
-            yes_answer(alloc, ApnLabel::try_new(alloc, label.as_bytes())?.is_some())
-        }
-        ["out", owner, station, octets] => {
-            let octets = octets_of(alloc, octets)?;
-            let sent = AnswerLine::Sent(owner_of(owner)?, number_8(station)?, &octets);
-            shown(alloc, &sent)
-        }
-        ["refused", fault] => shown(alloc, &AnswerLine::Refused(number_8(fault)?)),
-        ["state", imsi, emm, ecm, esm] => {
-            let Some(imsi) = Imsi::try_from_digits(imsi) else {
-                return Err(Fault::Number);
-            };
-            let state = AnswerLine::State(imsi, emm_of(emm)?, ecm_of(ecm)?, esm_of(esm)?);
-            shown(alloc, &state)
-        }
-        _ => Ok(None),
+        _ => Err(Fault::NoCall),
     }
 }
 
 /// The line of an answer, whose LF is shown as `\n`.
-fn shown(alloc: Global, answer: &AnswerLine) -> Answer {
-    let line = write_answer(alloc, answer)?;
+fn shown(call: Call, answer: &AnswerLine) -> Answer {
+    let line = write_answer(call.alloc, answer)?;
     match line.as_str().strip_suffix("\n") {
-        Some(text) => Ok(Some(format!(in alloc; "{text}\\n")?)),
-        None => word_answer(alloc, "no LF"),
+        Some(text) => Ok(call.text(text).word("\\n")),
+        None => call.word_answer("no LF"),
     }
 }
 
 /// All faults by their numbers.
-fn faults_answer(alloc: Global) -> Answer {
-    let mut text = String::from_str(alloc, "faults")?;
+fn faults_answer(call: Call) -> Answer {
+    call.none()?;
+    let mut text = call.text("faults");
     for fault in [
         TraceFault::UnknownWord,
         TraceFault::FieldCount,
@@ -90,51 +78,92 @@ fn faults_answer(alloc: Global) -> Answer {
         TraceFault::Provision,
         TraceFault::NoMemory,
     ] {
-        text.push_str(format!(in alloc; "; {} {fault}", fault.number())?.as_str())?;
+        text = text.with("; ", &fault.number()).with(" ", &fault);
     }
-    Ok(Some(text))
+    Ok(text)
+}
+
+fn out_answer(call: Call) -> Answer {
+    let (OwnerWord(owner), station, octets): (_, _, Vec<u8>) = call.three()?;
+    shown(call, &AnswerLine::Sent(owner, station, &octets))
+}
+
+fn state_answer(call: Call) -> Answer {
+    let (digits, EmmField(emm), EcmField(ecm), EsmField(esm)) = call.four()?;
+    match Imsi::try_from_digits(digits) {
+        Some(imsi) => shown(call, &AnswerLine::State(imsi, emm, ecm, esm)),
+        None => Err(Fault::Number),
+    }
 }
 
 /// `e` and a station, `s` and a slot, or `x`, a station, `.` and a phone's number there.
-fn owner_of(text: &str) -> Result<AnswerOwner, Fault> {
-    if let Some(station) = text.strip_prefix("e") {
-        return Ok(AnswerOwner::Station(number_8(station)?));
+#[derive(Clone, Copy)]
+struct OwnerWord(AnswerOwner);
+
+impl<'a> Field<'a> for OwnerWord {
+    fn read(alloc: Global, text: &'a str) -> Result<OwnerWord, Fault> {
+        if let Some(station) = text.strip_prefix("e") {
+            return Ok(OwnerWord(AnswerOwner::Station(u8::read(alloc, station)?)));
+        }
+        if let Some(slot) = text.strip_prefix("s") {
+            return Ok(OwnerWord(AnswerOwner::Subscriber(u32::read(alloc, slot)?)));
+        }
+        match text.strip_prefix("x") {
+            Some(stranger) => stranger_of(alloc, stranger),
+            None => Err(Fault::Name),
+        }
     }
-    if let Some(slot) = text.strip_prefix("s") {
-        return Ok(AnswerOwner::Subscriber(number_32(slot)?));
-    }
+}
+
+fn stranger_of(alloc: Global, text: &str) -> Result<OwnerWord, Fault> {
     let Some((station, phone)) = text.split_once(".") else {
         return Err(Fault::Name);
     };
-    match station.strip_prefix("x") {
-        Some(station) => Ok(AnswerOwner::Stranger(number_8(station)?, number_32(phone)?)),
-        None => Err(Fault::Name),
+    let owner = AnswerOwner::Stranger(u8::read(alloc, station)?, u32::read(alloc, phone)?);
+    Ok(OwnerWord(owner))
+}
+
+/// The word of how a subscriber is registered.
+#[derive(Clone, Copy)]
+struct EmmField(EmmWord);
+
+impl<'a> Field<'a> for EmmField {
+    fn read(_alloc: Global, text: &'a str) -> Result<EmmField, Fault> {
+        match text {
+            "DEREGISTERED" => Ok(EmmField(EmmWord::Deregistered)),
+            "COMMON-PROCEDURE-INITIATED" => Ok(EmmField(EmmWord::CommonProcedureInitiated)),
+            "REGISTERED" => Ok(EmmField(EmmWord::Registered)),
+            "DEREGISTERED-INITIATED" => Ok(EmmField(EmmWord::DeregisteredInitiated)),
+            _ => Err(Fault::Name),
+        }
     }
 }
 
-fn emm_of(word: &str) -> Result<EmmWord, Fault> {
-    match word {
-        "DEREGISTERED" => Ok(EmmWord::Deregistered),
-        "COMMON-PROCEDURE-INITIATED" => Ok(EmmWord::CommonProcedureInitiated),
-        "REGISTERED" => Ok(EmmWord::Registered),
-        "DEREGISTERED-INITIATED" => Ok(EmmWord::DeregisteredInitiated),
-        _ => Err(Fault::Name),
+/// The word of whether a subscriber has a connection.
+#[derive(Clone, Copy)]
+struct EcmField(EcmWord);
+
+impl<'a> Field<'a> for EcmField {
+    fn read(_alloc: Global, text: &'a str) -> Result<EcmField, Fault> {
+        match text {
+            "IDLE" => Ok(EcmField(EcmWord::Idle)),
+            "CONNECTED" => Ok(EcmField(EcmWord::Connected)),
+            _ => Err(Fault::Name),
+        }
     }
 }
 
-fn ecm_of(word: &str) -> Result<EcmWord, Fault> {
-    match word {
-        "IDLE" => Ok(EcmWord::Idle),
-        "CONNECTED" => Ok(EcmWord::Connected),
-        _ => Err(Fault::Name),
-    }
-}
+/// The word of how far a subscriber's bearer is.
+#[derive(Clone, Copy)]
+struct EsmField(EsmWord);
 
-fn esm_of(word: &str) -> Result<EsmWord, Fault> {
-    match word {
-        "INACTIVE" => Ok(EsmWord::Inactive),
-        "ACTIVE-PENDING" => Ok(EsmWord::ActivePending),
-        "ACTIVE" => Ok(EsmWord::Active),
-        _ => Err(Fault::Name),
+impl<'a> Field<'a> for EsmField {
+    fn read(_alloc: Global, text: &'a str) -> Result<EsmField, Fault> {
+        match text {
+            "INACTIVE" => Ok(EsmField(EsmWord::Inactive)),
+            "ACTIVE-PENDING" => Ok(EsmField(EsmWord::ActivePending)),
+            "ACTIVE" => Ok(EsmField(EsmWord::Active)),
+            _ => Err(Fault::Name),
+        }
     }
 }
