@@ -12,7 +12,6 @@ use Rattle.identity_slots.specs.Provisioned.{slot_of_id, slot_of_imsi}
 use Rattle.mme_vocabulary.specs.declared.event.UeBody.{UeBody}
 use Rattle.mme_vocabulary.specs.declared.event.UeBody.TheVariants.{Uplink, ReleaseRequest, ReleaseComplete, ContextSetupFailure, PathSwitch, Notice}
 use Rattle.mme_vocabulary.specs.declared.event.UeMessage.{UeMessage}
-use Rattle.mme_vocabulary.specs.declared.stations.StationState.{StationState}
 use Rattle.mme_vocabulary.specs.declared.stations.StationState.TheVariants.{Ready}
 use Rattle.mme_vocabulary.specs.Events.{Cancel, Data, Item}
 use Rattle.mme_vocabulary.specs.declared.network.Network.{Network}

@@ -1,8 +1,6 @@
 -- One event that is not refused: what it makes, from what comes of it.
-use Rattle.std.proofs.Common.{◌≡◌, ℕ, List, ◌++◌, length, Option, Some, None, Result, Ok, Err, refl, sym, ◌∙◌, ap, subst}
-use Rattle.std.specs.Prelude.{IfOk, IfErr}
+use Rattle.std.proofs.Common.{◌≡◌, List, ◌++◌, length, Option, Some, None, Ok, refl, sym, ◌∙◌, ap}
 use Rattle.emm_machine.specs.SubscriberView.{SubscriberView}
-use Rattle.stranger_machine.specs.declared.table.Known.{Known}
 use Rattle.mme_routing.specs.Destinations.{item_at, strangers_behind}
 use Rattle.mme_routing.specs.Outcomes.{Outcome}
 use Rattle.mme_core.specs.declared.prepared.Prepared.{Prepared}
@@ -11,7 +9,7 @@ use Rattle.mme_core.specs.declared.prepared.Stepped.{Stepped}
 use Rattle.mme_core.specs.declared.event.Event.{Event}
 use Rattle.mme_core.specs.declared.out.Out.{Out}
 use Rattle.mme_core.specs.Settled.{settled_subscribers, with_one}
-use Rattle.mme_core.specs.World.{World, clock_after, each_after, each_sent, event_fault, happens, outputs, placed, reply, reply_of, sight_moved, station_of, station_sent, strangers_in, strangers_sent, unless, world_after, world_moved}
+use Rattle.mme_core.specs.World.{World, clock_after, each_after, each_sent, event_fault, happens, outputs, placed, reply, reply_of, station_of, station_sent, strangers_in, strangers_sent, unless, world_after, world_moved}
 use Rattle.mme_core.proofs.Stepping.{solo_many, stepped_many}
 
 -- what is sent, by what comes of it

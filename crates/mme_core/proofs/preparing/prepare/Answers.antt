@@ -1,11 +1,11 @@
-use Rattle.std.proofs.Common.{◌≡◌, ◌++◌, [], map, sym, ◌∙◌, ap, refl}
+use Rattle.std.proofs.Common.{◌++◌, [], map, sym, ◌∙◌, ap, refl}
 use Rattle.std.proofs.lemmas.List.{append-nil, append_assoc}
 use Rattle.mme_vocabulary.specs.Events.{entry_lists, message_lists}
 use Rattle.stranger_machine.specs.Machine.{begins, stranger_step, receives}
 use Rattle.stranger_machine.specs.Table.{with_stranger}
 use Rattle.stranger_machine.specs.Turns.{Turn, call_of, turn_of}
-use Rattle.mme_routing.specs.Destinations.{for_all, if_called, item_of_notice}
-use Rattle.mme_core.specs.World.{each_after, each_known, each_sent, stranger_out}
+use Rattle.mme_routing.specs.Destinations.{for_all, if_called}
+use Rattle.mme_core.specs.World.{each_after, each_sent, stranger_out}
 use Rattle.mme_core.proofs.Calling.{after_nothing, sends_nothing}
 use Rattle.mme_core.proofs.Stepping.{everyone_fits, everyone_settled}
 use Rattle.mme_core.proofs.preparing.prepare.Goals as goal

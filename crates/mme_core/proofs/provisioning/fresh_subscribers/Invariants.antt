@@ -1,4 +1,4 @@
-use Rattle.std.proofs.Common.{◌≡◌, ◌≤◌, ◌++◌, ℕ, [], drop, length}
+use Rattle.std.proofs.Common.{◌≡◌, ◌≤◌, ◌++◌, ℕ, drop, length}
 use Rattle.identity_slots.specs.Provisioned.{vectors_at}
 use Rattle.mme_core.specs.World.{fresh_subscribers}
 use Rattle.mme_core.proofs.provisioning.fresh_subscribers.Given as goal

@@ -1,11 +1,9 @@
-use Rattle.std.proofs.Common.{◌≡◌, [], None, Some, Option, Ok, Err, Result, ℕ, List, sym, subst, ◌∙◌, ap}
-use Rattle.identity_slots.specs.Provisioned.{slot_of_imsi}
+use Rattle.std.proofs.Common.{◌≡◌, None, Some, Option, Ok, Err, Result, ℕ, List, sym, subst, ◌∙◌, ap}
 use Rattle.mme_vocabulary.specs.declared.octets.Answer.{Answer}
 use Rattle.std.specs.Prelude.{IfOk}
 use Rattle.mme_vocabulary.specs.declared.stations.StationState.{StationState}
 use Rattle.mme_vocabulary.specs.declared.stations.StationState.TheVariants.{Up, Down}
 use Rattle.mme_vocabulary.specs.Events as items
-use Rattle.mme_vocabulary.specs.Stations.{station_at}
 use Rattle.s1ap_messages.specs.Pdus.{decoded}
 use Rattle.stranger_machine.specs.declared.turn.Notice.TheVariants as notices
 use Rattle.mme_routing.specs.Destinations.{Destination}

@@ -1,0 +1,25 @@
+use Rattle.std.proofs.Common.{◌≡◌, ◌++◌, sym, subst, ◌∙◌, ap}
+use Rattle.ordered_lists.specs.Ordered.{Rising}
+use Rattle.stranger_machine.specs.Table.{known_id}
+use Rattle.mme_routing.specs.Destinations.{item_at}
+use Rattle.mme_routing.specs.Seen.{destination_of}
+use Rattle.mme_core.specs.Projection.{AreInOrder}
+use Rattle.mme_core.specs.World.{World, each_sent, station_sent, strangers_in, strangers_sent}
+use Rattle.mme_core.proofs.Order.{parts_order}
+use Rattle.mme_core.proofs.Turns.{rising_behind}
+use Rattle.mme_core.proofs.mme.Mme.ready.Goals as goal
+
+pub returns-clause-rising : goal.returns-clause-rising
+returns-clause-rising c =
+    let w = c.args.self.now in
+    let rising : Rising known_id w.strangers = subst (λ (v : World). Rising known_id v.strangers) c.self.view_is c.self.invariant.2 in
+    subst (Rising known_id) (sym c.in_ok-prepared.ensures.strangers) (rising_behind w.sight.profiles (destination_of w.sight.stations c.in_ok-state.field-0.destination) w.strangers rising)
+
+pub returns-clause-order : goal.returns-clause-order
+returns-clause-order c =
+    let w = c.args.self.now in
+    let d = destination_of w.sight.stations c.in_ok-state.field-0.destination in
+    let rising : Rising known_id w.strangers = subst (λ (v : World). Rising known_id v.strangers) c.self.view_is c.self.invariant.2 in
+    let rest = strangers_sent w.sight.profiles d w.strangers ++ each_sent (item_at d w.sight.profiles (strangers_in w)) 0 w.subscribers in
+    let sent : c.prepared.new.outs ≡ station_sent c.station.result c.in_ok-state.field-0.sent ++ rest = c.in_ok-prepared.ensures.sends ∙ ap (λ os. os ++ rest) c.in_ok-outs.ensures in
+    subst AreInOrder (sym sent) (parts_order c.station.result c.in_ok-state.field-0.sent w.sight.profiles d w.strangers (item_at d w.sight.profiles (strangers_in w)) w.subscribers rising)
