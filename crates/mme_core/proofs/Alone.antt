@@ -1,13 +1,14 @@
 -- Each owner is alone over a list of events: what the MME sends it and its state are those of its own machine.
 use Rattle.std.proofs.Common.{◌≡◌, ℕ, List, [], ◌∷◌, map, Option, Some, None, refl, ◌∙◌, ap}
-use Rattle.std.specs.Prelude.{slice_get}
+use Rattle.std.specs.Prelude.{option_map, slice_get}
+use Rattle.emm_machine.specs.Words.{states_of}
 use Rattle.ordered_lists.specs.Ordered.{Rising}
 use Rattle.emm_machine.specs.SubscriberView.{SubscriberView}
 use Rattle.stranger_machine.specs.declared.state.Stranger.{Stranger}
 use Rattle.stranger_machine.specs.Machine.{stranger_step}
 use Rattle.stranger_machine.specs.Table.{known_id, stranger_at}
 use Rattle.mme_core.specs.declared.event.Event.{Event}
-use Rattle.mme_core.specs.Projection.{alone_after, answer_told, is_slot, is_station, is_stranger, item_for, own_told, projection, silence, station_told, stranger_input, stranger_run, stranger_told, strangers_after, subscriber_told, told}
+use Rattle.mme_core.specs.Projection.{alone_after, answer_told, is_slot, is_station, is_stranger, item_for, own_told, projection, silence, states_along, states_at, states_run, station_told, stranger_input, stranger_run, stranger_told, strangers_after, subscriber_told, told}
 use Rattle.mme_core.specs.Sight.{Sight}
 use Rattle.mme_core.specs.World.{World, event_fault, happens, replies, sight_after, station_of, strangers_in, unless, subscriber_after, subscriber_step, world_after, world_run}
 use Rattle.mme_core.proofs.Turns.{absent_after, absent_told, item_same, rising_once, sight_once, slot_after, slot_told, station_told_once, stranger_once, stranger_told_once}
@@ -45,6 +46,19 @@ slots_end w (e ∷ es) slot x r h =
     let i = item_for slot w.sight (strangers_in w) e in
     slots_end (world_after w e) es slot (subscriber_after x i) (rising_once w e r) (slot_after w e slot x h)
     ∙ ap (λ is. Some (alone_after (subscriber_after x i) is)) (items_on w e es slot r)
+
+-- and its states behind each event
+states_seen : (slot : ℕ) (w : World) (x : SubscriberView) → slice_get w.subscribers slot ≡ Some x → states_at slot w ≡ Some (states_of x.solo)
+states_seen slot w x h = ap (option_map (λ (s : SubscriberView). states_of s.solo)) h
+
+pub slots_along : (w : World) (es : List Event) (slot : ℕ) (x : SubscriberView) → Rising known_id w.strangers → slice_get w.subscribers slot ≡ Some x
+    → states_along slot w es ≡ states_run x (projection slot w.sight (strangers_in w) es)
+slots_along w [] slot x r h = refl
+slots_along w (e ∷ es) slot x r h =
+    let i = item_for slot w.sight (strangers_in w) e in
+    ap (λ s. s ∷ states_along slot (world_after w e) es) (states_seen slot (world_after w e) (subscriber_after x i) (slot_after w e slot x h))
+    ∙ ap (λ ss. Some (states_of (subscriber_after x i).solo) ∷ ss) (slots_along (world_after w e) es slot (subscriber_after x i) (rising_once w e r) (slot_after w e slot x h)
+    ∙ ap (states_run (subscriber_after x i)) (items_on w e es slot r))
 
 -- who isn't provisioned is sent nothing
 pub absent_each : (w : World) (es : List Event) (slot : ℕ) → slice_get w.subscribers slot ≡ None → told (is_slot slot) (replies w es) ≡ silence es

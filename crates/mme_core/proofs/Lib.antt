@@ -11,5 +11,6 @@ pub mod Steps
 pub mod SameToSlot
 pub mod Named
 pub mod Exchange
+pub mod InUse
 pub mod OneOutput
 pub mod Short

@@ -17,7 +17,7 @@ use Rattle.mme_core.specs.declared.out.Out.{Out}
 use Rattle.mme_core.specs.declared.out.Owner.{Owner}
 use Rattle.mme_core.specs.declared.out.Owner.TheVariants.{Station, Stranger, Subscriber}
 use Rattle.mme_core.specs.Sight.{Sight}
-use Rattle.mme_core.specs.World.{World, event_fault, happens, items_of, sight_after, station_of, unless}
+use Rattle.mme_core.specs.World.{World, event_fault, happens, items_of, sight_after, station_of, subscriber_after, unless, world_after}
 
 -- ---- one stranger
 
@@ -155,6 +155,16 @@ station_run s e state [] = state
 station_run s e state (event ∷ events) =
     station_run (sight_after s event) e (unless (event_fault s event) state (own_state (station_of event) e state (happens s event).state)) events
 
+-- the states of a subscriber behind each of a list of items
+abbrev pub states_run : SubscriberView → List Item → List (Option States)
+states_run w [] = []
+states_run w (item ∷ items) = Some (states_of (subscriber_after w item).solo) ∷ states_run (subscriber_after w item) items
+
 -- the states of a slot that is provisioned
 abbrev pub states_at : ℕ → World → Option States
 states_at slot w = option_map (λ s. states_of s.solo) (slice_get w.subscribers slot)
+
+-- and behind each of a list of events
+abbrev pub states_along : ℕ → World → List Event → List (Option States)
+states_along slot w [] = []
+states_along slot w (event ∷ events) = states_at slot (world_after w event) ∷ states_along slot (world_after w event) events

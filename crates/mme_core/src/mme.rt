@@ -1,17 +1,18 @@
 //! The MME.
 
-ghost use Rattle.std.specs.Prelude.{◌≡◌, ◌≢◌, ◌⊎◌, ◌<◌, ◌++◌, ℕ, length, slice_get, IfOk, IfErr, IfSome, OnOk, OnErr, Ok, Err, Some, None};
+ghost use Rattle.std.specs.Prelude.{◌≡◌, ◌≢◌, ◌⊎◌, ◌<◌, ◌++◌, ◌≤◌, ◌↔◌, ℕ, length, slice_get, IfOk, IfErr, IfSome, IsNone, OnOk, OnErr, Ok, Err, Some, None};
 ghost use Rattle.identity_slots.specs.Provisioned.{slot_of_imsi};
 ghost use Rattle.mme_vocabulary.specs.Stations.{station_at};
 ghost use Rattle.emm_machine.specs.SubscriberView.{SubscriberView};
 ghost use Rattle.ordered_lists.specs.Ordered.{Rising};
 ghost use Rattle.stranger_machine.specs.Table.{known_id, stranger_at};
 ghost use Rattle.mme_core.specs.declared.event.StepFault.TheVariants.{NoMemory};
-ghost use Rattle.mme_core.specs.Projection.{AllInOrder, AreInOrder, alone_after, is_slot, is_station, is_stranger, projection, silence, station_run, station_told, states_at, stranger_run, stranger_told, subscriber_told, told};
+ghost use Rattle.mme_core.specs.Projection.{AllInOrder, AreInOrder, alone_after, is_slot, is_station, is_stranger, projection, silence, station_run, station_told, states_along, states_at, states_run, stranger_run, stranger_told, subscriber_told, told};
 ghost use Rattle.mme_vocabulary.specs.declared.stations.StationState.{StationState};
 ghost use Rattle.mme_routing.specs.Destinations.{item_at, strangers_behind};
 ghost use Rattle.mme_routing.specs.Seen.{destination_of, seen_outcome};
 ghost use Rattle.mme_core.specs.Settled.{IsFor, settled_strangers, settled_subscribers};
+ghost use Rattle.mme_core.specs.FreshRuns.{AreInUse, IsFreshRun};
 ghost use Rattle.mme_core.specs.Ready.{ready_world};
 ghost use Rattle.mme_core.specs.Short.{AreShort};
 ghost use Rattle.mme_core.specs.World.{clock_after, each_after, each_sent, event_fault, events_taken, fresh_world, happens, replies, replies_given, reply, strangers_in, strangers_sent, world_after, world_run};
@@ -24,7 +25,10 @@ use crate::preparing::prepare;
 use crate::provisioning::fresh_subscribers;
 use crate::sending::station_outs;
 use crate::settling::{settle, settle_station};
-use emm_machine::{States, Subscriber};
+use emm_machine::{
+    States, Subscriber, accepted_counts_are_fresh, in_use_is_kept, sent_counts_are_fresh,
+    vector_makes_one_context,
+};
 use identity_slots::{Provision, Slot};
 use mme_routing::{Destination, Outcome, outcome_of};
 use mme_vocabulary::{Answers, EnbWorld, SharedNetwork, SoloEvent, StationNumber, StationState};
@@ -53,6 +57,7 @@ impl Model for Mme {
     ghost use Rattle.std.specs.Prelude.{◌≡◌, ◌≤◌, length};
     ghost use Rattle.ordered_lists.specs.Ordered.{Rising};
     ghost use Rattle.stranger_machine.specs.Table.{known_id};
+    ghost use Rattle.mme_core.specs.FreshRuns.{AreInUse};
     ghost use Rattle.mme_core.specs.World.{World};
 
     ghost Value = { World };
@@ -63,7 +68,8 @@ impl Model for Mme {
       subscribers = m.subscribers.items;
     } };
 
-    ghost invariant = { λ m. (length m.subscribers.items ≤ 2048) × (length m.stations ≡ 128) × Rising known_id m.strangers };
+    ghost invariant = { λ m. (length m.subscribers.items ≤ 2048) × (length m.stations ≡ 128) × Rising known_id m.strangers
+        × AreInUse m.subscribers.items × (length m.subscribers.items ≡ length m.provision.profiles) };
 }
 
 /// What an event makes of the station that it is of, if it is of one, and of the clock.
@@ -88,6 +94,7 @@ impl Mme {
     pub fn new(alloc: Global, config: Config, provision: Provision) -> Result<Mme, AllocError>
         ensures { IfOk result (λ m. m ≡ fresh_world config provision) }
     {
+        in_use_is_kept();
         let mut provision = provision;
         let network = SharedNetwork::new(alloc, config.network.clone()?)?;
         let subscribers = fresh_subscribers(alloc, &network, &mut provision)?;
@@ -113,12 +120,25 @@ impl Mme {
 
     /// The states of a slot, if it is provisioned. Takes no memory.
     pub fn states(&self, slot: Slot) -> Option<States>
-        ensures { result ≡ states_at slot self.now }
+        ensures value { result ≡ states_at slot self.now }
+        ensures none { IsNone result ↔ (length self.now.sight.profiles ≤ slot) }
     {
         match self.subscribers.as_slice().get(slot.get() as usize) {
             Some(subscriber) => Some(subscriber.states()),
             None => None,
         }
+    }
+
+    /// What always holds: the strangers' ids rise, there are 128 stations and as many subscribers as are provisioned, and no vector
+    /// of a context that stands can become one again.
+    pub fn well_kept(&self)
+        ensures strangers { Rising known_id self.now.strangers }
+        ensures stations { length self.now.sight.stations ≡ 128 }
+        ensures subscribers { length self.now.subscribers ≡ length self.now.sight.profiles }
+        ensures in_use { AreInUse self.now.subscribers }
+    {
+        // (a contract has the invariant where a field is used)
+        let _ = &self.config;
     }
 
     /// One event: what is sent, or why it is refused. A refused event leaves the MME as it was. No message is longer than 16,388
@@ -145,6 +165,10 @@ impl Mme {
         ensures after { IfOk result (λ rs. self.new ≡ world_run self.old (events_taken events.now rs.items)) }
         ensures told { IfOk result (λ rs. (slot : ℕ) (w : SubscriberView) → slice_get self.old.subscribers slot ≡ Some w →
             told (is_slot slot) (replies_given rs.items) ≡ subscriber_told w (projection slot self.old.sight (strangers_in self.old) (events_taken events.now rs.items))) }
+        ensures fresh { IfOk result (λ rs. (slot : ℕ) (w : SubscriberView) → slice_get self.old.subscribers slot ≡ Some w →
+            IsFreshRun w (projection slot self.old.sight (strangers_in self.old) (events_taken events.now rs.items))) }
+        ensures each_states { IfOk result (λ rs. (slot : ℕ) (w : SubscriberView) → slice_get self.old.subscribers slot ≡ Some w →
+            states_along slot self.old (events_taken events.now rs.items) ≡ states_run w (projection slot self.old.sight (strangers_in self.old) (events_taken events.now rs.items))) }
         ensures states { IfOk result (λ rs. (slot : ℕ) (w : SubscriberView) → slice_get self.old.subscribers slot ≡ Some w →
             slice_get self.new.subscribers slot ≡ Some (alone_after w (projection slot self.old.sight (strangers_in self.old) (events_taken events.now rs.items)))) }
         ensures absent { IfOk result (λ rs. (slot : ℕ) → slice_get self.old.subscribers slot ≡ None →
@@ -159,6 +183,9 @@ impl Mme {
         ensures order { IfOk result (λ rs. AllInOrder rs.items) }
         ensures err { OnErr result (self.new ≡ self.old) }
     {
+        sent_counts_are_fresh();
+        accepted_counts_are_fresh();
+        vector_makes_one_context();
         let mut replies = Vec::with_capacity(self.alloc, events.len())?;
         for event in events {
             let reply = self.step(event);
@@ -281,11 +308,13 @@ impl Mme {
         ensures after { IfOk result (λ r. ready_world r self.entry.now ≡ world_after self.entry.now event.entry.now) }
         ensures fits { IfOk result (λ r. IsFor r.prepared self.entry.now.subscribers) }
         ensures rising { IfOk result (λ r. Rising known_id (settled_strangers r.prepared self.entry.now.strangers)) }
+        ensures in_use { IfOk result (λ r. AreInUse (settled_subscribers r.prepared self.entry.now.subscribers)) }
         ensures order { IfOk result (λ r. AreInOrder r.outs) }
         ensures accepted { OnOk result (event_fault self.entry.now.sight event.entry.now ≡ None) }
         ensures refused { IfErr result (λ fault. (event_fault self.entry.now.sight event.entry.now ≡ Some fault)
             ⊎ ((fault ≡ NoMemory) × (event_fault self.entry.now.sight event.entry.now ≡ None))) }
     {
+        in_use_is_kept();
         if let Some(fault) = self.fault_of(event) {
             return Err(fault);
         }
@@ -313,6 +342,7 @@ impl Mme {
     fn take(&mut self, ready: Ready) -> Result<Outs, StepFault>
         requires fits { IsFor ready.prepared self.old.subscribers }
         requires rising { Rising known_id (settled_strangers ready.prepared self.old.strangers) }
+        requires in_use { AreInUse (settled_subscribers ready.prepared self.old.subscribers) }
         ensures after { OnOk result (self.new ≡ ready_world ready self.old) }
         ensures outs { IfOk result (λ outs. outs ≡ ready.outs) }
         ensures short { IfOk result (λ outs. AreShort outs) }

@@ -27,6 +27,7 @@ pub(crate) fn fresh_subscribers(
 ) -> Result<Vec<Subscriber>, AllocError>
     ensures value { IfOk result (λ v. v.items ≡ fresh_subscribers network.now 0 provision.old.profiles provision.old.vectors) }
     ensures few { IfOk result (λ v. length v.items ≤ 2048) }
+    ensures count { IfOk result (λ v. length v.items ≡ length provision.old.profiles) }
     ensures profiles { OnOk result (provision.new.profiles ≡ provision.old.profiles) }
 {
     let count = provision.len();

@@ -5,6 +5,8 @@ use Rattle.mme_routing.specs.Destinations.{item_at}
 use Rattle.mme_routing.specs.Seen.{destination_of}
 use Rattle.mme_core.specs.Projection.{AreInOrder}
 use Rattle.mme_core.specs.World.{World, each_sent, station_sent, strangers_in, strangers_sent}
+use Rattle.mme_core.specs.FreshRuns.{AreInUse}
+use Rattle.mme_core.proofs.InUse.{each_in_use}
 use Rattle.mme_core.proofs.Order.{parts_order}
 use Rattle.mme_core.proofs.Turns.{rising_behind}
 use Rattle.mme_core.proofs.mme.Mme.ready.Goals as goal
@@ -23,3 +25,10 @@ returns-clause-order c =
     let rest = strangers_sent w.sight.profiles d w.strangers ++ each_sent (item_at d w.sight.profiles (strangers_in w)) 0 w.subscribers in
     let sent : c.prepared.new.outs ≡ station_sent c.station.result c.in_ok-state.field-0.sent ++ rest = c.in_ok-prepared.ensures.sends ∙ ap (λ os. os ++ rest) c.in_ok-outs.ensures in
     subst AreInOrder (sym sent) (parts_order c.station.result c.in_ok-state.field-0.sent w.sight.profiles d w.strangers (item_at d w.sight.profiles (strangers_in w)) w.subscribers rising)
+
+pub returns-clause-in_use : goal.returns-clause-in_use
+returns-clause-in_use c =
+    let w = c.args.self.now in
+    let d = destination_of w.sight.stations c.in_ok-state.field-0.destination in
+    let before : AreInUse w.subscribers = subst (λ (v : World). AreInUse v.subscribers) c.self.view_is c.self.invariant.3 in
+    subst AreInUse (sym c.in_ok-prepared.ensures.subscribers) (each_in_use c.in_use_is_kept.ensures.run (item_at d w.sight.profiles (strangers_in w)) 0 w.subscribers before)

@@ -3,9 +3,12 @@ use Rattle.std.specs.Prelude.{slice_get}
 use Rattle.std.proofs.lemmas.List.{take_all, take_more, length_push}
 use Rattle.ordered_lists.specs.Ordered.{Rising}
 use Rattle.stranger_machine.specs.Table.{known_id, stranger_at}
-use Rattle.mme_core.specs.Projection.{is_slot, is_station, is_stranger, told}
-use Rattle.mme_core.specs.World.{World, replies, world_run, events_taken}
-use Rattle.mme_core.proofs.Alone.{absent_each, slots_end, slots_told, stations_told, strangers_end, strangers_told}
+use Rattle.mme_core.specs.Projection.{is_slot, is_station, is_stranger, projection, told}
+use Rattle.mme_core.specs.World.{World, events_taken, replies, strangers_in, world_run}
+use Rattle.emm_machine.specs.Freshness.{IsInUse}
+use Rattle.mme_core.specs.FreshRuns.{AreInUse}
+use Rattle.mme_core.proofs.InUse.{in_use_at}
+use Rattle.mme_core.proofs.Alone.{absent_each, slots_along, slots_end, slots_told, stations_told, strangers_end, strangers_told}
 use Rattle.mme_core.proofs.Order.{run_order}
 use Rattle.mme_core.proofs.Runs.{ran_more}
 use Rattle.mme_core.proofs.Stations.{station_ends}
@@ -96,3 +99,27 @@ returns-clause-order c =
     let l = c.loop-event in
     let rising : Rising known_id w.strangers = subst (λ (v : World). Rising known_id v.strangers) c.self.view_is c.self.invariant.2 in
     run_order w (events_taken (take l.event-index c.args.events.now) l.replies.items) l.replies.items rising l.invariant.ran.replies
+
+pub returns-clause-fresh : goal.returns-clause-fresh
+returns-clause-fresh c =
+    let w = c.args.self.now in
+    let es = c.args.events.now in
+    let rs = c.loop-event.replies.items in
+    let in_use : AreInUse w.subscribers = subst (λ (v : World). AreInUse v.subscribers) c.self.view_is c.self.invariant.3 in
+    λ slot x at.
+    let items = projection slot w.sight (strangers_in w) (events_taken es rs) in
+    let own : IsInUse x.solo = in_use_at w.subscribers slot x in_use at in
+    record {
+      sent_ahead = c.sent_counts_are_fresh.ensures.ahead x.setting x.solo items own;
+      sent_once = c.sent_counts_are_fresh.ensures.once x.setting x.solo items own;
+      accepted_ahead = c.accepted_counts_are_fresh.ensures.ahead x.setting x.solo items own;
+      accepted_once = c.accepted_counts_are_fresh.ensures.once x.setting x.solo items own;
+      made_ahead = c.vector_makes_one_context.ensures.ahead x.setting x.solo items own;
+      made_once = c.vector_makes_one_context.ensures.once x.setting x.solo items own;
+    }
+
+pub returns-clause-each_states : goal.returns-clause-each_states
+returns-clause-each_states c =
+    let w = c.args.self.now in
+    let rising : Rising known_id w.strangers = subst (λ (v : World). Rising known_id v.strangers) c.self.view_is c.self.invariant.2 in
+    λ slot x at. slots_along w (events_taken c.args.events.now c.loop-event.replies.items) slot x rising at

@@ -1,0 +1,27 @@
+-- Subscribers in use stay so.
+use Rattle.std.proofs.Common.{◌≡◌, ℕ, zero, suc, ◌+◌, List, [], ◌∷◌, Some, subst}
+use Rattle.std.specs.Prelude.{slice_get}
+use Rattle.identity_slots.specs.declared.profile.Profile.{Profile}
+use Rattle.identity_slots.specs.declared.profile.Vector.{Vector}
+use Rattle.mme_vocabulary.specs.declared.network.Network.{Network}
+use Rattle.mme_vocabulary.specs.Events.{Item}
+use Rattle.emm_machine.specs.Freshness.{IsInUse, StaysInUse}
+use Rattle.emm_machine.specs.SubscriberView.{SubscriberView}
+use Rattle.emm_machine.specs.Words.{fresh_solo}
+use Rattle.mme_core.specs.FreshRuns.{AreInUse}
+use Rattle.mme_core.specs.World.{each_after, fresh_subscribers}
+
+pub each_in_use : StaysInUse → (items : ℕ → Item) (n : ℕ) (ws : List SubscriberView) → AreInUse ws → AreInUse (each_after items n ws)
+each_in_use law items n [] h = tt
+each_in_use law items n (w ∷ ws) h = (law w.setting w.solo (items n ∷ []) h.0, each_in_use law items (n + 1) ws h.1)
+
+pub fresh_in_use : IsInUse fresh_solo → (n : Network) (slot : ℕ) (ps : List Profile) (vs : List (List Vector)) → AreInUse (fresh_subscribers n slot ps vs)
+fresh_in_use h n slot [] vs = tt
+fresh_in_use h n slot (p ∷ ps) vs = (h, fresh_in_use h n (slot + 1) ps vs)
+
+pub in_use_at : (ws : List SubscriberView) (k : ℕ) (w : SubscriberView) → AreInUse ws → slice_get ws k ≡ Some w → IsInUse w.solo
+in_use_at [] k w h at = cc
+in_use_at (x ∷ ws) zero w h at =
+    let here : x ≡ w = cc in
+    subst (λ (y : SubscriberView). IsInUse y.solo) here h.0
+in_use_at (x ∷ ws) (suc k) w h at = in_use_at ws k w h.1 at
