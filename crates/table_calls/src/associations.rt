@@ -2,7 +2,7 @@
 
 ghost use Rattle.std.specs.Prelude.{◌<◌, ◌≤◌};
 
-use association_table::{Association, Associations, AssociationOwner};
+use association_table::{Association, AssociationOwner, Associations};
 use call_text::{Answer, Call, Fault, Field, Text};
 use std::alloc::Global;
 

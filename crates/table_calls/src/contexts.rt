@@ -5,7 +5,7 @@ ghost use Rattle.std.specs.Prelude.{◌<◌, ◌≤◌};
 use call_text::{Answer, Call, Fault, Field};
 use eps_keys::{DirectionBit, nas_integrity_key};
 use nas_messages::SecurityHeader;
-use nas_security::{Eia2, Integrity, EpsSecurityContext};
+use nas_security::{Eia2, EpsSecurityContext, Integrity};
 use std::alloc::Global;
 
 /// A security context under the NAS integrity key of a KASME.
@@ -85,8 +85,14 @@ fn counts_answer(context: &EpsSecurityContext<Eia2>, call: Call) -> Answer {
 }
 
 /// The MAC of an uplink message through the bound alone.
-fn mac_through<I: Integrity>(context: &EpsSecurityContext<I>, count: u32, message: &[u8]) -> [u8; 4] {
-    context.integrity().mac(count, DirectionBit::Uplink, message)
+fn mac_through<I: Integrity>(
+    context: &EpsSecurityContext<I>,
+    count: u32,
+    message: &[u8],
+) -> [u8; 4] {
+    context
+        .integrity()
+        .mac(count, DirectionBit::Uplink, message)
 }
 
 /// A count, or `none`.

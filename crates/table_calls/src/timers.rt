@@ -4,7 +4,7 @@ ghost use Rattle.std.specs.Prelude.{◌<◌, ◌≤◌, ◌^◌};
 
 use call_text::{Answer, Call, Fault, Field, Text};
 use std::alloc::Global;
-use timer_queue::{Kind, TimerOwner, Timer, Timers};
+use timer_queue::{Kind, Timer, TimerOwner, Timers};
 
 /// The greatest clock (2^62).
 const LAST_CLOCK: u64 = 0x4000_0000_0000_0000;

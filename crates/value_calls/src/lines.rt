@@ -5,8 +5,8 @@ use identity_slots::StationNumber;
 use nas_elements::Imsi;
 use std::alloc::Global;
 use trace_text::{
-    AnswerLine, AnswerOwner, ApnLabel, BitRate, EcmWord, EmmWord, EsmWord, Line,
-    TraceFault, TraceTicks, parse_line, write_answer, write_line,
+    AnswerLine, AnswerOwner, ApnLabel, BitRate, EcmWord, EmmWord, EsmWord, Line, TraceFault,
+    TraceTicks, parse_line, write_answer, write_line,
 };
 
 /// What a line of a trace says, written again, with the octets of its network, or its fault. A comment says nothing.
