@@ -2,6 +2,7 @@ pub mod Faults
 pub mod Digits
 pub mod Capability
 pub mod Identities
+pub mod Identifiers
 pub mod Parts
 pub mod Optionals
 pub mod Rows

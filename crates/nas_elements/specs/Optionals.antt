@@ -5,6 +5,7 @@ use Rattle.nas_elements.specs.declared.rule.Domain.TheVariants.{Emm, Esm}
 use Rattle.nas_elements.specs.declared.rule.Element.{Element}
 use Rattle.nas_elements.specs.declared.rule.Rule.{Rule}
 use Rattle.nas_elements.specs.declared.rule.Rule.TheVariants.{Itself, SoMany, ByOctet, ByTwo}
+use Rattle.nas_elements.specs.Identifiers.{drx_parameter_iei, emm_cause_iei, esm_cause_iei, esm_message_container_iei, last_visited_tai_iei, nonce_iei, old_location_area_iei, old_p_tmsi_signature_iei, t3412_value_iei}
 use Rattle.nas_elements.specs.Parts.{◌>>=◌, octet_at, fixed_at, short_at, long_at, short, wide}
 
 abbrev pub cause_rule : Domain → Rule
@@ -14,15 +15,15 @@ cause_rule Esm = SoMany 1
 unfoldable pub rule_of : Domain → ℕ → Rule
 rule_of domain i =
     if nat_le 0x80 i then Itself
-    else if nat_le 0x78 i then ByTwo
-    else if i == 0x13 then SoMany 5
-    else if i == 0x19 then SoMany 3
-    else if i == 0x52 then SoMany 5
-    else if i == 0x5c then SoMany 2
-    else if i == 0x55 then SoMany 4
-    else if i == 0x53 then SoMany 1
-    else if i == 0x5a then SoMany 1
-    else if i == 0x58 then cause_rule domain
+    else if nat_le esm_message_container_iei i then ByTwo
+    else if i == old_location_area_iei then SoMany 5
+    else if i == old_p_tmsi_signature_iei then SoMany 3
+    else if i == last_visited_tai_iei then SoMany 5
+    else if i == drx_parameter_iei then SoMany 2
+    else if i == nonce_iei then SoMany 4
+    else if i == emm_cause_iei then SoMany 1
+    else if i == t3412_value_iei then SoMany 1
+    else if i == esm_cause_iei then cause_rule domain
     else ByOctet
 
 -- ---- spelling

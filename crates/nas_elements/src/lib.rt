@@ -4,6 +4,7 @@
 
 mod capability;
 mod fault;
+pub mod identifier;
 mod identity;
 mod imsi;
 mod laws;

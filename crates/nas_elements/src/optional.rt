@@ -6,6 +6,7 @@ ghost use Rattle.nas_elements.specs.Rows.{OptionalFits, is_set, write_optional};
 ghost use Rattle.nas_elements.specs.Seen.{at, element_of, octets_of};
 
 use crate::fault::NasFault;
+use crate::identifier;
 use crate::reading::{fixed_at, long_at, octet_at, short_at};
 use crate::rule::{Domain, Element, Rule};
 use crate::writing::{put_fixed, put_long, put_octet, put_short};
@@ -28,31 +29,31 @@ fn rule_of(domain: Domain, iei: u8) -> Rule
     if 0x80 <= iei {
         return Rule::Itself;
     }
-    if 0x78 <= iei {
+    if identifier::ESM_MESSAGE_CONTAINER <= iei {
         return Rule::ByTwo;
     }
-    if iei == 0x13 {
+    if iei == identifier::OLD_LOCATION_AREA {
         return Rule::SoMany(5);
     }
-    if iei == 0x19 {
+    if iei == identifier::OLD_P_TMSI_SIGNATURE {
         return Rule::SoMany(3);
     }
-    if iei == 0x52 {
+    if iei == identifier::LAST_VISITED_TAI {
         return Rule::SoMany(5);
     }
-    if iei == 0x5c {
+    if iei == identifier::DRX_PARAMETER {
         return Rule::SoMany(2);
     }
-    if iei == 0x55 {
+    if iei == identifier::NONCE {
         return Rule::SoMany(4);
     }
-    if iei == 0x53 {
+    if iei == identifier::EMM_CAUSE {
         return Rule::SoMany(1);
     }
-    if iei == 0x5a {
+    if iei == identifier::T3412_VALUE {
         return Rule::SoMany(1);
     }
-    if iei == 0x58 {
+    if iei == identifier::ESM_CAUSE {
         return cause_rule(domain);
     }
     Rule::ByOctet

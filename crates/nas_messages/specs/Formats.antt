@@ -1,6 +1,7 @@
 -- The messages, one row each: the parts of the mandatory part, and which elements of the optional part are kept.
 use Rattle.std.specs.Prelude.{List, [], ◌∷◌}
 use Rattle.nas_elements.specs.declared.rule.Domain.TheVariants.{Emm, Esm}
+use Rattle.nas_elements.specs.Identifiers.{emm_cause_iei, esm_cause_iei, esm_information_flag_iei, esm_message_container_iei, guti_iei, t3412_value_iei, tai_list_iei}
 use Rattle.nas_elements.specs.Parts.{Part, constant, octet, halves, fixed, lv, long, spare, three, flagged, four, exactly, between, identity, guti, tai_list, label}
 use Rattle.nas_elements.specs.Rows.{Row, Keep, element, flag}
 use Rattle.nas_messages.specs.declared.emm_types.EmmType.{EmmType}
@@ -36,14 +37,14 @@ parts_of EmmStatus = octet ∷ []
 
 abbrev pub kept_of : EmmType → List Keep
 kept_of AttachRequest = []
-kept_of AttachAccept = element 0x50 ∷ element 0x53 ∷ []
+kept_of AttachAccept = element guti_iei ∷ element emm_cause_iei ∷ []
 kept_of AttachComplete = []
-kept_of AttachReject = element 0x78 ∷ []
+kept_of AttachReject = element esm_message_container_iei ∷ []
 kept_of DetachRequest = []
 kept_of NetworkDetach = []
 kept_of DetachAccept = []
 kept_of AreaUpdateRequest = []
-kept_of AreaUpdateAccept = element 0x5a ∷ element 0x50 ∷ element 0x54 ∷ element 0x53 ∷ []
+kept_of AreaUpdateAccept = element t3412_value_iei ∷ element guti_iei ∷ element tai_list_iei ∷ element emm_cause_iei ∷ []
 kept_of AreaUpdateComplete = []
 kept_of AreaUpdateReject = []
 kept_of ServiceReject = []
@@ -76,10 +77,10 @@ esm_parts_of InformationResponse = []
 esm_parts_of EsmStatus = octet ∷ []
 
 abbrev pub esm_kept_of : EsmType → List Keep
-esm_kept_of ActivateRequest = element 0x58 ∷ []
+esm_kept_of ActivateRequest = element esm_cause_iei ∷ []
 esm_kept_of ActivateAccept = []
 esm_kept_of ActivateReject = []
-esm_kept_of ConnectivityRequest = flag 0xd0 ∷ []
+esm_kept_of ConnectivityRequest = flag esm_information_flag_iei ∷ []
 esm_kept_of ConnectivityReject = []
 esm_kept_of DisconnectRequest = []
 esm_kept_of DisconnectReject = []

@@ -13,8 +13,8 @@ use crate::emm_types::{
     AuthenticationRequest, DetachRequest, Direction, EmmMessage, EmmType, SecurityModeCommand,
 };
 use nas_elements::{
-    Domain, NasFault, Optional, TaiList, bounded_at, constant_at, fixed_at, guti_at, identity_at,
-    long_at, octet_at, tai_list_at,
+    Domain, NasFault, Optional, TaiList, bounded_at, constant_at, fixed_at, guti_at, identifier,
+    identity_at, long_at, octet_at, tai_list_at,
 };
 
 #[tactic(auto, unfolding(crate::specs::Messages::read_typed, nas_elements::specs::Rows::read_row))]
@@ -59,8 +59,8 @@ fn attach_accept<'a>(octets: &'a [u8]) -> Result<EmmMessage<'a>, NasFault>
     let message = AttachAccept {
         tai_list,
         esm,
-        guti: optional.find(0x50),
-        cause: optional.find(0x53),
+        guti: optional.find(identifier::GUTI),
+        cause: optional.find(identifier::EMM_CAUSE),
     };
     Ok(EmmMessage::AttachAccept(message))
 }
@@ -100,7 +100,7 @@ fn attach_reject<'a>(octets: &'a [u8]) -> Result<EmmMessage<'a>, NasFault>
     let optional = Optional::read(Domain::Emm, rest)?;
     Ok(EmmMessage::AttachReject(AttachReject {
         cause,
-        esm: optional.find(0x78),
+        esm: optional.find(identifier::ESM_MESSAGE_CONTAINER),
     }))
 }
 
@@ -190,10 +190,10 @@ fn area_update_accept<'a>(octets: &'a [u8]) -> Result<EmmMessage<'a>, NasFault>
     };
     let optional = Optional::read(Domain::Emm, rest)?;
     let message = AreaUpdateAccept {
-        timer: optional.find(0x5a),
-        guti: optional.find(0x50),
-        tai_list: optional.find(0x54),
-        cause: optional.find(0x53),
+        timer: optional.find(identifier::T3412_VALUE),
+        guti: optional.find(identifier::GUTI),
+        tai_list: optional.find(identifier::TAI_LIST),
+        cause: optional.find(identifier::EMM_CAUSE),
     };
     Ok(EmmMessage::AreaUpdateAccept(message))
 }

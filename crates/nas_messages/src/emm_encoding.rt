@@ -13,8 +13,8 @@ use crate::emm_types::{
     AuthenticationRequest, DetachRequest, EmmMessage, SecurityModeCommand,
 };
 use nas_elements::{
-    Domain, put_element, put_fixed, put_guti, put_identity, put_long, put_octet, put_short,
-    put_tai_list,
+    Domain, identifier, put_element, put_fixed, put_guti, put_identity, put_long, put_octet,
+    put_short, put_tai_list,
 };
 use std::alloc::{AllocError, Global};
 
@@ -40,8 +40,8 @@ fn put_attach_accept(out: &mut Vec<u8>, m: &AttachAccept<&[u8]>) -> Result<(), A
     put_octet(out, 0x49)?;
     put_tai_list(out, &m.tai_list)?;
     put_long(out, m.esm)?;
-    put_element(out, Domain::Emm, 0x50, m.guti)?;
-    put_element(out, Domain::Emm, 0x53, m.cause)
+    put_element(out, Domain::Emm, identifier::GUTI, m.guti)?;
+    put_element(out, Domain::Emm, identifier::EMM_CAUSE, m.cause)
 }
 
 fn put_attach_reject(out: &mut Vec<u8>, m: &AttachReject<&[u8]>) -> Result<(), AllocError>
@@ -51,7 +51,7 @@ fn put_attach_reject(out: &mut Vec<u8>, m: &AttachReject<&[u8]>) -> Result<(), A
     put_octet(out, 7)?;
     put_octet(out, 0x44)?;
     put_octet(out, m.cause)?;
-    put_element(out, Domain::Emm, 0x78, m.esm)
+    put_element(out, Domain::Emm, identifier::ESM_MESSAGE_CONTAINER, m.esm)
 }
 
 fn put_detach_request(out: &mut Vec<u8>, m: &DetachRequest) -> Result<(), AllocError>
@@ -90,10 +90,10 @@ fn put_area_update_accept(out: &mut Vec<u8>, m: &AreaUpdateAccept<&[u8]>) -> Res
     put_octet(out, 7)?;
     put_octet(out, 0x49)?;
     put_octet(out, 0)?;
-    put_element(out, Domain::Emm, 0x5a, m.timer)?;
-    put_element(out, Domain::Emm, 0x50, m.guti)?;
-    put_element(out, Domain::Emm, 0x54, m.tai_list)?;
-    put_element(out, Domain::Emm, 0x53, m.cause)
+    put_element(out, Domain::Emm, identifier::T3412_VALUE, m.timer)?;
+    put_element(out, Domain::Emm, identifier::GUTI, m.guti)?;
+    put_element(out, Domain::Emm, identifier::TAI_LIST, m.tai_list)?;
+    put_element(out, Domain::Emm, identifier::EMM_CAUSE, m.cause)
 }
 
 fn put_authentication_request(

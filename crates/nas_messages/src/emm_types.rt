@@ -14,7 +14,7 @@ pub struct AttachRequest<B> {
     /// The NAS key set identifier, three bits.
     pub ksi: u8,
     pub identity: MobileIdentity,
-    /// The UE security capability, 2 to 13 octets.
+    /// The UE network capability, 2 to 13 octets (clause 9.9.3.34).
     pub capability: B,
     /// The ESM message, any octets.
     pub esm: B,

@@ -8,7 +8,9 @@ ghost use Rattle.nas_messages.specs.EsmMessages.{IsWritableEsm, decoded_esm, esm
 ghost use Rattle.nas_messages.specs.declared.esm_types.EsmType.TheVariants as types;
 
 use crate::esm_types::{ActivateRequest, Esm, EsmBody, EsmMessage, EsmType};
-use nas_elements::{Domain, NasFault, Optional, constant_at, fixed_at, is_set, label_at, octet_at};
+use nas_elements::{
+    Domain, NasFault, Optional, constant_at, fixed_at, identifier, is_set, label_at, octet_at,
+};
 
 #[tactic(auto, unfolding(crate::specs::EsmMessages::read_body, nas_elements::specs::Rows::read_row))]
 fn activate_request<'a>(octets: &'a [u8]) -> Result<EsmBody<&'a [u8]>, NasFault>
@@ -21,7 +23,7 @@ fn activate_request<'a>(octets: &'a [u8]) -> Result<EsmBody<&'a [u8]>, NasFault>
     Ok(EsmBody::ActivateRequest(ActivateRequest {
         apn,
         address,
-        cause: optional.find(0x58),
+        cause: optional.find(identifier::ESM_CAUSE),
     }))
 }
 
@@ -49,7 +51,7 @@ fn connectivity_request<'a>(octets: &'a [u8]) -> Result<EsmBody<&'a [u8]>, NasFa
     Ok(EsmBody::ConnectivityRequest {
         request_type: first % 16 % 8,
         pdn_type: first / 16 % 8,
-        information: is_set(optional.find(0xd0)),
+        information: is_set(optional.find(identifier::ESM_INFORMATION_FLAG)),
     })
 }
 

@@ -5,7 +5,7 @@ ghost use Rattle.nas_messages.specs.EsmMessages.{BodyFits, IsWritableEsm, body_l
 ghost use Rattle.nas_messages.specs.declared.esm_types.EsmBody.TheVariants as bodies;
 
 use crate::esm_types::{ActivateRequest, EsmBody, EsmMessage};
-use nas_elements::{Domain, put_element, put_fixed, put_label, put_octet};
+use nas_elements::{Domain, identifier, put_element, put_fixed, put_label, put_octet};
 use std::alloc::{AllocError, Global};
 
 fn put_activate_request(out: &mut Vec<u8>, m: &ActivateRequest<&[u8]>) -> Result<(), AllocError>
@@ -16,7 +16,7 @@ fn put_activate_request(out: &mut Vec<u8>, m: &ActivateRequest<&[u8]>) -> Result
     put_label(out, m.apn)?;
     put_fixed(out, &[5, 1])?;
     put_fixed(out, m.address)?;
-    put_element(out, Domain::Esm, 0x58, m.cause)
+    put_element(out, Domain::Esm, identifier::ESM_CAUSE, m.cause)
 }
 
 #[tactic(auto, unfolding(nas_elements::specs::Optionals::rule_of))]
