@@ -4,5 +4,6 @@ pub mod Settled
 pub mod Ready
 pub mod Projection
 pub mod FreshRuns
+pub mod GuardedRuns
 pub mod Laws
 pub mod Short

@@ -13,6 +13,7 @@ ghost use Rattle.mme_routing.specs.Destinations.{item_at, strangers_behind};
 ghost use Rattle.mme_routing.specs.Seen.{destination_of, seen_outcome};
 ghost use Rattle.mme_core.specs.Settled.{IsFor, settled_strangers, settled_subscribers};
 ghost use Rattle.mme_core.specs.FreshRuns.{AreInUse, IsFreshRun};
+ghost use Rattle.mme_core.specs.GuardedRuns.{IsGuardedRun};
 ghost use Rattle.mme_core.specs.Ready.{ready_world};
 ghost use Rattle.mme_core.specs.Short.{AreShort};
 ghost use Rattle.mme_core.specs.World.{clock_after, each_after, each_sent, event_fault, events_taken, fresh_world, happens, replies, replies_given, reply, strangers_in, strangers_sent, world_after, world_run};
@@ -28,6 +29,10 @@ use crate::settling::{settle, settle_station};
 use emm_machine::{
     States, Subscriber, accepted_counts_are_fresh, in_use_is_kept, sent_counts_are_fresh,
     vector_makes_one_context,
+};
+use emm_promises::{
+    keys_go_to_the_proved, protected_forms_are_marked, registered_by_proof, soundness_is_kept,
+    unproved_leaves,
 };
 use identity_slots::{Provision, Slot};
 use mme_routing::{Destination, Outcome, outcome_of};
@@ -95,6 +100,7 @@ impl Mme {
         ensures { IfOk result (λ m. m ≡ fresh_world config provision) }
     {
         in_use_is_kept();
+        soundness_is_kept();
         let mut provision = provision;
         let network = SharedNetwork::new(alloc, config.network.clone()?)?;
         let subscribers = fresh_subscribers(alloc, &network, &mut provision)?;
@@ -129,8 +135,8 @@ impl Mme {
         }
     }
 
-    /// What always holds: the strangers' ids rise, there are 128 stations and as many subscribers as are provisioned, and no vector
-    /// of a context that stands can become one again.
+    /// What always holds: the strangers' ids rise, there are 128 stations and as many subscribers as are provisioned, no vector of a
+    /// context that stands can become one again, and each subscriber's context is the vector at its place.
     pub fn well_kept(&self)
         ensures strangers { Rising known_id self.now.strangers }
         ensures stations { length self.now.sight.stations ≡ 128 }
@@ -167,6 +173,8 @@ impl Mme {
             told (is_slot slot) (replies_given rs.items) ≡ subscriber_told w (projection slot self.old.sight (strangers_in self.old) (events_taken events.now rs.items))) }
         ensures fresh { IfOk result (λ rs. (slot : ℕ) (w : SubscriberView) → slice_get self.old.subscribers slot ≡ Some w →
             IsFreshRun w (projection slot self.old.sight (strangers_in self.old) (events_taken events.now rs.items))) }
+        ensures guarded { IfOk result (λ rs. (slot : ℕ) (w : SubscriberView) → slice_get self.old.subscribers slot ≡ Some w →
+            IsGuardedRun w (projection slot self.old.sight (strangers_in self.old) (events_taken events.now rs.items))) }
         ensures each_states { IfOk result (λ rs. (slot : ℕ) (w : SubscriberView) → slice_get self.old.subscribers slot ≡ Some w →
             states_along slot self.old (events_taken events.now rs.items) ≡ states_run w (projection slot self.old.sight (strangers_in self.old) (events_taken events.now rs.items))) }
         ensures states { IfOk result (λ rs. (slot : ℕ) (w : SubscriberView) → slice_get self.old.subscribers slot ≡ Some w →
@@ -186,6 +194,11 @@ impl Mme {
         sent_counts_are_fresh();
         accepted_counts_are_fresh();
         vector_makes_one_context();
+        soundness_is_kept();
+        protected_forms_are_marked();
+        registered_by_proof();
+        keys_go_to_the_proved();
+        unproved_leaves();
         let mut replies = Vec::with_capacity(self.alloc, events.len())?;
         for event in events {
             let reply = self.step(event);
@@ -315,6 +328,7 @@ impl Mme {
             ⊎ ((fault ≡ NoMemory) × (event_fault self.entry.now.sight event.entry.now ≡ None))) }
     {
         in_use_is_kept();
+        soundness_is_kept();
         if let Some(fault) = self.fault_of(event) {
             return Err(fault);
         }

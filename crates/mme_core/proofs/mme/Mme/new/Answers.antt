@@ -14,6 +14,6 @@ invariant_of-result c = (
   c.in_ok-subscribers.ensures.few,
   ap length c.in_ok-stations.ensures ∙ length-replicate 128 Down,
   subst (Rising known_id) (sym c.new-3.ensures) tt,
-  subst AreInUse (sym c.in_ok-subscribers.ensures.value) (fresh_in_use c.in_use_is_kept.ensures.fresh _ 0 _ _),
+  subst AreInUse (sym c.in_ok-subscribers.ensures.value) (fresh_in_use c.in_use_is_kept.ensures.fresh c.soundness_is_kept.ensures.fresh _ 0 _ _),
   c.in_ok-subscribers.ensures.count ∙ ap length (sym c.in_ok-subscribers.ensures.profiles),
 )

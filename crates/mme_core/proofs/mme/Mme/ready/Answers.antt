@@ -31,4 +31,4 @@ returns-clause-in_use c =
     let w = c.args.self.now in
     let d = destination_of w.sight.stations c.in_ok-state.field-0.destination in
     let before : AreInUse w.subscribers = subst (λ (v : World). AreInUse v.subscribers) c.self.view_is c.self.invariant.3 in
-    subst AreInUse (sym c.in_ok-prepared.ensures.subscribers) (each_in_use c.in_use_is_kept.ensures.run (item_at d w.sight.profiles (strangers_in w)) 0 w.subscribers before)
+    subst AreInUse (sym c.in_ok-prepared.ensures.subscribers) (each_in_use c.in_use_is_kept.ensures.run c.soundness_is_kept.ensures.run (item_at d w.sight.profiles (strangers_in w)) 0 w.subscribers before)

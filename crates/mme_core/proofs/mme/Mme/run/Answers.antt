@@ -6,6 +6,8 @@ use Rattle.stranger_machine.specs.Table.{known_id, stranger_at}
 use Rattle.mme_core.specs.Projection.{is_slot, is_station, is_stranger, projection, told}
 use Rattle.mme_core.specs.World.{World, events_taken, replies, strangers_in, world_run}
 use Rattle.emm_machine.specs.Freshness.{IsInUse}
+use Rattle.emm_machine.specs.Steps.{solo_after}
+use Rattle.emm_promises.specs.Sound.{IsSound}
 use Rattle.mme_core.specs.FreshRuns.{AreInUse}
 use Rattle.mme_core.proofs.InUse.{in_use_at}
 use Rattle.mme_core.proofs.Alone.{absent_each, slots_along, slots_end, slots_told, stations_told, strangers_end, strangers_told}
@@ -108,7 +110,7 @@ returns-clause-fresh c =
     let in_use : AreInUse w.subscribers = subst (λ (v : World). AreInUse v.subscribers) c.self.view_is c.self.invariant.3 in
     λ slot x at.
     let items = projection slot w.sight (strangers_in w) (events_taken es rs) in
-    let own : IsInUse x.solo = in_use_at w.subscribers slot x in_use at in
+    let own : IsInUse x.solo = (in_use_at w.subscribers slot x in_use at).0 in
     record {
       sent_ahead = c.sent_counts_are_fresh.ensures.ahead x.setting x.solo items own;
       sent_once = c.sent_counts_are_fresh.ensures.once x.setting x.solo items own;
@@ -123,3 +125,21 @@ returns-clause-each_states c =
     let w = c.args.self.now in
     let rising : Rising known_id w.strangers = subst (λ (v : World). Rising known_id v.strangers) c.self.view_is c.self.invariant.2 in
     λ slot x at. slots_along w (events_taken c.args.events.now c.loop-event.replies.items) slot x rising at
+
+pub returns-clause-guarded : goal.returns-clause-guarded
+returns-clause-guarded c =
+    let w = c.args.self.now in
+    let es = c.args.events.now in
+    let rs = c.loop-event.replies.items in
+    let in_use : AreInUse w.subscribers = subst (λ (v : World). AreInUse v.subscribers) c.self.view_is c.self.invariant.3 in
+    λ slot x at.
+    let items = projection slot w.sight (strangers_in w) (events_taken es rs) in
+    let own : IsSound x.setting x.solo = (in_use_at w.subscribers slot x in_use at).1 in
+    record {
+      marked = c.protected_forms_are_marked.ensures.each x.setting x.solo items own;
+      in_order = c.protected_forms_are_marked.ensures.order x.setting x.solo items own;
+      proved = λ seen unseen whole away past. c.registered_by_proof.ensures x.setting x.solo seen own away past;
+      keys = λ seen unseen item whole. c.keys_go_to_the_proved.ensures.each x.setting (solo_after x.setting x.solo seen) item (c.soundness_is_kept.ensures.run x.setting x.solo seen own);
+      keys_by_proof = λ seen unseen item whole away. c.keys_go_to_the_proved.ensures.run x.setting x.solo seen item own away;
+      unproved = λ seen unseen item whole k. c.unproved_leaves.ensures x.setting (solo_after x.setting x.solo seen) k item;
+    }

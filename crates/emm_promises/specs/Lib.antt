@@ -1,0 +1,5 @@
+pub mod Sound
+pub mod Marked
+pub mod Proof
+pub mod Keys
+pub mod Unproved
