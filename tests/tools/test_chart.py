@@ -87,12 +87,12 @@ class Text(unittest.TestCase):
                 self.assertEqual(done.stdout.decode(), wanted)
 
     def test_rows(self):
-        """Each line fits, each message has its arrows, whole names, and its line."""
+        """Each line fits, each message has its arrows, and its line; at this width the longest name is whole."""
         for name in tools.playable():
             with self.subTest(row=name):
                 trace, steps = run_of(name)
-                text = CHART.text_of(CHART.rows_of(trace, steps), RUNS.end_of(steps), 120)
-                self.assertLessEqual(max(map(len, text.split("\n"))), 120)
+                text = CHART.text_of(CHART.rows_of(trace, steps), RUNS.end_of(steps), 132)
+                self.assertLessEqual(max(map(len, text.split("\n"))), 132)
                 self.assertTrue(text.isascii())
                 sent = list(messages(steps))
                 links = sum(step.event.word in ("up", "lost") for step in steps)
