@@ -1,0 +1,176 @@
+"""Looks up what documents name and quote: docs/TOUR.md, docs/PROOFS.md, docs/PROMISES.md, docs/DEFINITIONS.md, CONTRIBUTING.md and
+CHANGELOG.md.
+
+- A quotation, a fence whose first line has a file behind its language, stands in that file, line by line and in order; a line `..`
+  is what was left out, and layout isn't compared. Behind a tool's command line stands what it prints.
+- A path is there; NAME in it stands for anything.
+- A word of code, also one with `::` or with another in brackets, is in the crates' code, definitions and edits, or names a crate or
+  a file.
+- Any other piece of code stands in some file of the repository as it is, unless it is a command; `..` in it was left out.
+- Each row of PROOFS.md under "From promise to clause" has a function whose contract has its clauses, definitions that are public in
+  some crate's specs/, and edits that are there.
+"""
+import functools
+import os
+import pathlib
+import re
+import subprocess
+
+import tables
+
+DOCUMENTS = ("docs/TOUR.md", "docs/PROOFS.md", "docs/PROMISES.md", "docs/DEFINITIONS.md", "CONTRIBUTING.md", "CHANGELOG.md")
+PROMISES = "From promise to clause"
+COMMANDS = ("rt ", "git ")
+CODE = {".rt", ".antt", ".edit"}
+TEXTS = CODE | {".md", ".py", ".txt", ".trace", ".answers", ".sh", ""}
+# Words that code spans show of the language or of a command, and that no file needs to have.
+KNOWN = {"rt", "main"}
+KNOWN_TEXT = {"logic=proved"}
+NOT_SOURCES = {"out", ".git", "__pycache__"}
+
+
+def plain(text):
+    """A text without layout."""
+    return " ".join(text.split())
+
+
+def paths():
+    """Every folder and file of the sources."""
+    for folder, folders, files in os.walk(tables.TOP):
+        folders[:] = sorted(set(folders) - NOT_SOURCES)
+        yield from (pathlib.Path(folder, name) for name in folders + sorted(files))
+
+
+class Tree:
+    """What there is to name: files, words of the code, and texts."""
+
+    def __init__(self):
+        self.files, self.texts, self.code = set(), {}, {}
+        for path in paths():
+            inside = str(path.relative_to(tables.TOP))
+            self.files.add(inside)
+            if path.is_file() and path.suffix in TEXTS and inside not in DOCUMENTS:
+                text = path.read_text(encoding="utf-8", errors="replace")
+                self.texts[inside] = plain(text)
+                if path.suffix in CODE:
+                    self.code[inside] = text
+        self.all = "\n".join(self.texts.values())
+        self.names = {pathlib.PurePath(file).name for file in self.files}
+        self.names |= {pathlib.PurePath(file).stem for file in self.files}
+        self.words = set()
+        for text in self.code.values():
+            self.words.update(re.findall(r"\w+", re.sub(r"(?m)^\s*(//|--).*$", "", text)))
+        specs = "\n".join(text for path, text in self.code.items() if "/specs/" in path)
+        self.definitions = set(re.findall(r"\b(?:pub|record|data) (?!record|data)(\w+)", specs))
+        self.edits = {pathlib.PurePath(path).stem for path in self.code if path.endswith(".edit")}
+
+    def has_path(self, path):
+        """Whether it is there, from the top or from crates/; specs/ alone, and a module as specs/Bits, may be any crate's."""
+        bare = path.rstrip("/")
+        if bare in self.files or "crates/" + bare in self.files or (path.endswith("/") and bare in self.names):
+            return True
+        if re.fullmatch(r"specs/\w+", bare):
+            return any(file.endswith("/" + bare + ".antt") for file in self.files)
+        pattern = re.escape(bare).replace("NAME", "[^/]+")
+        return "NAME" in bare and any(re.fullmatch("(crates/)?" + pattern, file) for file in self.files)
+
+    def has_word(self, word):
+        return all(part in self.words or part in self.names or part in KNOWN for part in word.split("::"))
+
+    @functools.lru_cache(maxsize=None)
+    def has_text(self, piece):
+        """Whether some file has it, or each of its pieces where `..` is left out; octets of a trace may be parted by spaces."""
+        if re.fullmatch(r"[0-9a-f ]+", piece):
+            piece = piece.replace(" ", "")
+        pieces = list(filter(None, map(plain, piece.split(".."))))
+        return all(one in self.all for one in pieces) and any(all(one in text for one in pieces) for text in self.texts.values())
+
+
+def quoted_fault(tree, head, lines):
+    """What is wrong with a quotation: its file, or the first line that isn't there behind those before it."""
+    words = head.split()
+    if len(words) < 2:
+        return None
+    if words[1].startswith("tools/"):
+        told = subprocess.run(words[1:], cwd=tables.TOP, capture_output=True, text=True, check=False).stdout
+        return None if told.rstrip("\n") == "\n".join(lines) else "%s prints something else" % " ".join(words[1:])
+    if words[1] not in tree.texts:
+        return "there is no %s" % words[1]
+    there = [plain(line) for line in tables.text(words[1]).split("\n")]
+    at = 0
+    for line in filter(None, map(plain, lines)):
+        if line == "..":
+            continue
+        while at < len(there) and there[at] != line:
+            at += 1
+        if at == len(there):
+            return "%s doesn't have, or not behind the lines before it: %s" % (words[1], line)
+        at += 1
+    return None
+
+
+def span_fault(tree, span):
+    """What is wrong with a piece of code in a sentence."""
+    span = plain(span)
+    if span.startswith(COMMANDS):
+        return None
+    first = span.split(" ")[0].removeprefix("./")
+    if "/" in first and re.fullmatch(r"[\w./-]+", first):
+        return None if tree.has_path(first) else "there is no %s" % first
+    if re.fullmatch(r"\w+(::\w+)*|\w+\(\w+\)", span):
+        words = "::".join(re.findall(r"\w+", span))
+        return None if tree.has_word(words) or tree.has_text(span) else "nothing is named %s" % span
+    return None if span in tree.names | KNOWN_TEXT or tree.has_text(span) else "no file has %s" % span
+
+
+def faults_of(tree, path):
+    """What was looked up in a document: for each its line and what is wrong, if anything."""
+    fence, head, quoted = False, "", []
+    for number, line in enumerate(tables.text(path).split("\n"), 1):
+        if line.startswith("```"):
+            if fence:
+                yield number, quoted_fault(tree, head, quoted)
+            fence, head, quoted = not fence, line[3:], []
+        elif fence:
+            quoted.append(line)
+        elif not line.startswith("    "):
+            for span in re.findall(r"`([^`]+)`", line):
+                yield number, span_fault(tree, span)
+
+
+def contract_of(tree, crate, function):
+    """The contracts of the functions of a crate that have this name: from the name to the body."""
+    name = function.split("::")[-1]
+    for path, text in tree.code.items():
+        if path.startswith("crates/%s/src/" % crate):
+            yield from re.findall(r"\bfn %s\b.*?^ *\{(?:\}|$)" % re.escape(name), text, re.S | re.M)
+
+
+def row_faults(tree, row):
+    """What is wrong with a row: promise, crate, function, clauses, definitions, edits."""
+    _, crate, function, clauses, definitions, edits = row
+    contracts = list(contract_of(tree, crate, function))
+    if not contracts:
+        yield "%s has no function %s" % (crate, function)
+        return
+    for clause in [] if clauses == "the one" else clauses.split(", "):
+        if not any(re.search(r"ensures %s \{" % re.escape(clause), contract) for contract in contracts):
+            yield "%s has no clause %s" % (function, clause)
+    yield from ("no definition %s" % name for name in definitions.split(", ") if name not in tree.definitions)
+    yield from ("no edit %s" % edit for edit in edits.split(", ") if edit not in tree.edits | {"-"})
+
+
+def checked(_words=()):
+    """How much was looked up and found, and how much not; prints each that wasn't."""
+    tree, passed, faults = Tree(), 0, []
+    for path in DOCUMENTS:
+        for number, fault in faults_of(tree, path):
+            passed += not fault
+            faults += ["%s:%d: %s" % (path, number, fault)] if fault else []
+    for row in tables.read("docs/PROOFS.md").get(PROMISES, []) or [[""] * 6]:
+        wrong = list(row_faults(tree, row)) if len(row) == 6 else ["%d cells" % len(row)]
+        passed += not wrong
+        faults += ["docs/PROOFS.md, %s: %s" % (row[0], fault) for fault in wrong]
+    for fault in faults:
+        print("FAILED " + fault)
+    return passed, len(faults)
