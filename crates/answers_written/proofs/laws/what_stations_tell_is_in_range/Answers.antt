@@ -1,0 +1,8 @@
+use Rattle.answers_written.proofs.Ranged.{entries_are_in_range, messages_are_in_range}
+use Rattle.answers_written.proofs.laws.what_stations_tell_is_in_range.Goals as goal
+
+pub returns-clause-entries : goal.returns-clause-entries
+returns-clause-entries c = entries_are_in_range c.decoded_exactly.ensures.spelled
+
+pub returns-clause-messages : goal.returns-clause-messages
+returns-clause-messages c = messages_are_in_range c.decoded_exactly.ensures.spelled

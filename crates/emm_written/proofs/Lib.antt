@@ -1,0 +1,5 @@
+pub mod Heard
+pub mod FitActions
+pub mod FitRows
+pub mod Whole
+pub mod RowsWhole

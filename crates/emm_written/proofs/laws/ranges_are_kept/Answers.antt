@@ -1,0 +1,9 @@
+use Rattle.std.proofs.Common.{refl, arith}
+use Rattle.emm_written.proofs.FitRows.{stays_in_range}
+use Rattle.emm_written.proofs.laws.ranges_are_kept.Goals as goal
+
+pub returns-clause-fresh : goal.returns-clause-fresh
+returns-clause-fresh c = record { connection = tt; context = tt; tai = record { plmn = refl; tac = refl }; capability = refl; transaction = omega arith; repeat = tt }
+
+pub returns-clause-run : goal.returns-clause-run
+returns-clause-run c = stays_in_range c.decoded_is_spelled.ensures c.decoded_esm_is_spelled.ensures

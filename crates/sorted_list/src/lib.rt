@@ -1,0 +1,19 @@
+//! Lists in the order of a key, kept in chunks, so that a look-up, an insertion and a removal cost about the same in a short
+//! list and in a long one, at any key.
+//!
+//! A caller that must not fail halfway makes room by `reserve` first, and then inserts by `insert_reserved`, which takes no
+//! memory. Apart from `reserve`, `insert`, `items` and `copy` no call takes any. Neighbours that fit into one chunk are joined
+//! where something is taken out, so a list that shrinks in any order gives its memory back.
+#![tactic(auto)]
+
+mod adding;
+mod chunk;
+mod copying;
+mod finding;
+mod keyed;
+mod list;
+mod search;
+mod taking;
+
+pub use keyed::Keyed;
+pub use list::SortedList;

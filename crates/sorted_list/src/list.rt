@@ -1,0 +1,198 @@
+//! The list.
+
+ghost use Rattle.std.specs.Prelude.{◌≡◌, ℕ, ◌+◌, ◌<◌, ◌≤◌, List, [], IfOk, OnOk, OnErr, Option, Some, None, if◌then◌else◌, is_some, length, drop, ◌==◌};
+ghost use Rattle.ordered_lists.specs.Ordered.{at, add, put, without, Rising};
+ghost use Rattle.sorted_list.specs.Sorted.{lowest, lowest_from};
+
+use crate::adding::{add_to, make_spares, wanted};
+use crate::chunk::Chunk;
+use crate::copying::{copied, listed};
+use crate::finding::{find_in, first_in};
+use crate::keyed::Keyed;
+use crate::taking::{replace_in, take_from};
+use std::alloc::{AllocError, Global};
+use std::marker::Model;
+
+/// Elements with keys of their own. Contracts see them by rising key, and for how many more there is room: so many can be
+/// inserted with no allocation, whatever is taken out or replaced between. A call that is refused keeps the elements.
+#[derive(Drop)]
+pub struct SortedList<T: Keyed> {
+    // No chunk is empty.
+    chunks: Vec<Chunk<T>>,
+    // Empty chunks, for those that are divided.
+    spares: Vec<Chunk<T>>,
+    len: usize,
+    // The room that was promised.
+    room: usize,
+    alloc: Global,
+}
+
+impl<T: Keyed> Model for SortedList<T> {
+    ghost use Rattle.std.specs.Prelude.{◌+◌, vec_len};
+    ghost use Rattle.std.specs.Vec.{vec_capacity};
+    ghost use Rattle.sorted_list.specs.Sorted.{Sorted, sorted_code};
+
+    ghost Value = { Sorted T };
+
+    ghost coded = { sorted_code T.code };
+
+    ghost use Rattle.sorted_list.specs.Chunks.{flat, weight, IsChunked, IsRoom};
+
+    ghost view = { λ l. record { items = flat l.chunks.items; room = l.room } };
+
+    ghost invariant = { λ l. IsChunked T.rank l.chunks.items l.spares.items l.len × IsRoom (weight l.chunks.items) (vec_len l.chunks) (vec_len l.chunks + vec_len l.spares) (vec_capacity l.chunks) (vec_capacity l.spares) l.len l.room };
+}
+
+impl<T: Keyed> SortedList<T> {
+    /// No elements.
+    pub fn new(alloc: Global) -> Self
+        ensures items { result.items ≡ [] }
+        ensures room { result.room ≡ 0 }
+    {
+        SortedList {
+            chunks: Vec::new(alloc),
+            spares: Vec::new(alloc),
+            len: 0,
+            room: 0,
+            alloc,
+        }
+    }
+
+    /// How many elements there are.
+    pub fn len(&self) -> usize
+        ensures { result ≡ length self.now.items }
+    {
+        self.len
+    }
+
+    /// Whether there is no element.
+    pub fn is_empty(&self) -> bool
+        ensures { result ≡ (length self.now.items == 0) }
+    {
+        self.len == 0
+    }
+
+    /// The element with a key. The elements stand by rising key, each key once.
+    pub fn find(&self, key: u128) -> Option<T>
+        ensures value { result ≡ at T.rank key self.now.items }
+        ensures order { Rising T.rank self.now.items }
+    {
+        find_in(&self.chunks, key)
+    }
+
+    /// The element with the least key.
+    pub fn first(&self) -> Option<T>
+        ensures { result ≡ lowest self.now.items }
+    {
+        if self.chunks.is_empty() {
+            return None;
+        }
+        let chunk = &self.chunks[0];
+        chunk.first()
+    }
+
+    /// The element with the least key that is at least this.
+    pub fn first_from(&self, key: u128) -> Option<T>
+        ensures { result ≡ lowest_from T.rank key self.now.items }
+    {
+        first_in(&self.chunks, key)
+    }
+
+    /// Makes room for so many more. It takes a free chunk for each at most, and no more than the number of elements that
+    /// there will be, divided by 128, and one. Where that is refused the elements are as they were.
+    pub fn reserve(&mut self, more: usize) -> Result<(), AllocError>
+        ensures items { self.new.items ≡ self.old.items }
+        ensures room { OnOk result (more ≤ self.new.room) }
+        ensures kept { self.old.room ≤ self.new.room }
+    {
+        if more <= self.room {
+            return Ok(());
+        }
+        if usize::MAX - self.len < more {
+            return Err(AllocError);
+        }
+        let enough = wanted(self.len, more);
+        self.chunks.reserve(enough)?;
+        make_spares(self.alloc, &mut self.spares, enough)?;
+        self.room = more;
+        Ok(())
+    }
+
+    /// Inserts an element whose key is free. Where room is refused the elements are as they were.
+    pub fn insert(&mut self, item: T) -> Result<(), AllocError>
+        requires { at T.rank (T.rank item) self.old.items ≡ None }
+        ensures items { OnOk result (self.new.items ≡ add T.rank item self.old.items) }
+        ensures err { OnErr result (self.new.items ≡ self.old.items) }
+        ensures room { self.old.room ≤ self.new.room + 1 }
+    {
+        self.reserve(1)?;
+        self.insert_reserved(item);
+        Ok(())
+    }
+
+    /// Inserts an element whose key is free, where there is room. Takes no memory.
+    pub fn insert_reserved(&mut self, item: T)
+        requires free { at T.rank (T.rank item) self.old.items ≡ None }
+        requires room { 0 < self.old.room }
+        ensures items { self.new.items ≡ add T.rank item self.old.items }
+        ensures room { self.old.room ≤ self.new.room + 1 }
+    {
+        add_to(&mut self.chunks, &mut self.spares, item);
+        self.len += 1;
+        self.room -= 1;
+    }
+
+    /// Puts an element in the place of the one with its key, and answers that one. Where there is none nothing changes.
+    /// Takes no memory.
+    pub fn replace(&mut self, item: T) -> Option<T>
+        ensures was { result ≡ at T.rank (T.rank item) self.old.items }
+        ensures items { self.new.items ≡ (if is_some result then put T.rank item self.old.items else self.old.items) }
+        ensures room { self.new.room ≡ self.old.room }
+    {
+        replace_in(&mut self.chunks, item)
+    }
+
+    /// Takes the element with a key out, if there is one. Takes no memory.
+    pub fn take(&mut self, key: u128) -> Option<T>
+        ensures item { result ≡ at T.rank key self.old.items }
+        ensures items { self.new.items ≡ without T.rank key self.old.items }
+        ensures gone { at T.rank key self.new.items ≡ None }
+        ensures room { self.old.room ≤ self.new.room }
+    {
+        let enough = wanted(self.len, self.room);
+        let item = take_from(&mut self.chunks, &mut self.spares, key, enough)?;
+        self.len -= 1;
+        Some(item)
+    }
+
+    /// Takes the element with the least key out, if there is one. Takes no memory.
+    pub fn take_first(&mut self) -> Option<T>
+        ensures item { result ≡ lowest self.old.items }
+        ensures items { self.new.items ≡ drop 1 self.old.items }
+        ensures room { self.old.room ≤ self.new.room }
+    {
+        let item = self.first()?;
+        self.take(item.key());
+        Some(item)
+    }
+
+    /// The elements by rising key.
+    pub fn items(&self, alloc: Global) -> Result<Vec<T>, AllocError>
+        ensures { IfOk result (λ listed. listed.items ≡ self.now.items) }
+    {
+        listed(alloc, &self.chunks, self.len)
+    }
+
+    /// A list of the same elements, with no room for more.
+    pub fn copy(&self) -> Result<Self, AllocError>
+        ensures { IfOk result (λ copied. copied.items ≡ self.now.items) }
+    {
+        Ok(SortedList {
+            chunks: copied(self.alloc, &self.chunks)?,
+            spares: Vec::new(self.alloc),
+            len: self.len,
+            room: 0,
+            alloc: self.alloc,
+        })
+    }
+}

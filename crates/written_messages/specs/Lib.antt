@@ -1,0 +1,4 @@
+pub mod Ranges
+pub mod BuilderLaws
+pub mod NasLaws
+pub mod KeyLaws
