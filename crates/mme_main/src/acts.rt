@@ -173,7 +173,8 @@ fn show_states<W: Write>(
     }
 }
 
-fn states_of_imsi(mme: &Mme, imsi: Imsi) -> Option<States>
+/// The states of the subscriber of that IMSI, if one is provisioned with it.
+pub fn states_of_imsi(mme: &Mme, imsi: Imsi) -> Option<States>
     ensures { result ≡ states_of_imsi imsi mme.now }
 {
     match mme.slot_of_imsi(imsi) {

@@ -18,7 +18,7 @@ use std::io::Write;
 use trace_text::{AnswerLine, AnswerOwner, EcmWord, EmmWord, EsmWord, write_answer};
 
 /// Writes these octets; at `false` the writer failed, and has the first of them.
-fn write_whole<W: Write>(writer: &mut Watched<W>, octets: &[u8]) -> bool
+pub fn write_whole<W: Write>(writer: &mut Watched<W>, octets: &[u8]) -> bool
     ensures some { (n : ℕ) × Appends (W.contents writer.old.inner) (W.contents writer.new.inner) (take n octets.now) }
     ensures all { IsTrue result → Appends (W.contents writer.old.inner) (W.contents writer.new.inner) octets.now }
     ensures failed { (result ≡ false) → writer.new.failed ≡ true }
@@ -82,7 +82,8 @@ fn write_out<W: Write>(alloc: Global, out: &Out, writer: &mut Watched<W>) -> Res
     write_one(alloc, &answer, writer)
 }
 
-fn answer_owner(owner: Owner) -> AnswerOwner
+/// For whom a message is, as an answer line says it.
+pub fn answer_owner(owner: Owner) -> AnswerOwner
     ensures { result ≡ answer_owner owner }
 {
     match owner {
@@ -124,7 +125,8 @@ pub(crate) fn write_states<W: Write>(
     write_one(alloc, &answer, writer)
 }
 
-fn emm_shown(state: EmmState) -> EmmWord
+/// The word for how a subscriber is registered.
+pub fn emm_shown(state: EmmState) -> EmmWord
     ensures { result ≡ emm_shown state }
 {
     match state {
@@ -135,7 +137,8 @@ fn emm_shown(state: EmmState) -> EmmWord
     }
 }
 
-fn ecm_shown(state: EcmState) -> EcmWord
+/// The word for whether a subscriber has a connection.
+pub fn ecm_shown(state: EcmState) -> EcmWord
     ensures { result ≡ ecm_shown state }
 {
     match state {
@@ -144,7 +147,8 @@ fn ecm_shown(state: EcmState) -> EcmWord
     }
 }
 
-fn esm_shown(state: BearerState) -> EsmWord
+/// The word for how far a subscriber's default bearer is.
+pub fn esm_shown(state: BearerState) -> EsmWord
     ensures { result ≡ esm_shown state }
 {
     match state {

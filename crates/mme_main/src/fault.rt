@@ -38,7 +38,7 @@ impl PlayFault {
 }
 
 /// The fault of the line of that number.
-pub(crate) fn fault_in_line(line: u64, fault: TraceFault) -> PlayFault
+pub fn fault_in_line(line: u64, fault: TraceFault) -> PlayFault
     ensures { result ≡ in_line line fault }
 {
     match fault {

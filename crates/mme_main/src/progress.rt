@@ -26,7 +26,7 @@ pub enum Progress {
 }
 
 /// Begins the provisioning, where nothing has begun.
-pub(crate) fn start(
+pub fn start(
     alloc: Global,
     progress: &mut Progress,
     number: u64,
@@ -47,7 +47,7 @@ pub(crate) fn start(
 }
 
 /// Provisions a subscriber.
-pub(crate) fn add(progress: &mut Progress, number: u64, profile: Profile) -> Result<(), PlayFault>
+pub fn add(progress: &mut Progress, number: u64, profile: Profile) -> Result<(), PlayFault>
     ensures acts { Acts number (subscriber_added progress.old profile) result progress.new [] }
     ensures write { IfErr result (λ fault. fault ≢ PlayFault.Write) }
 {
@@ -63,7 +63,7 @@ pub(crate) fn add(progress: &mut Progress, number: u64, profile: Profile) -> Res
 }
 
 /// Gives a subscriber a vector.
-pub(crate) fn give(
+pub fn give(
     progress: &mut Progress,
     number: u64,
     imsi: Imsi,
@@ -99,7 +99,7 @@ fn fault_in_provision(line: u64, fault: ProvisionFault) -> PlayFault
 }
 
 /// Makes the MME of what is provisioned, where it doesn't run yet.
-pub(crate) fn run(alloc: Global, progress: &mut Progress, number: u64) -> Result<(), PlayFault>
+pub fn run(alloc: Global, progress: &mut Progress, number: u64) -> Result<(), PlayFault>
     ensures { Runs number (running progress.old) result progress.new }
 {
     match progress {

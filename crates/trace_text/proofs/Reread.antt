@@ -12,21 +12,22 @@ use Rattle.trace_text.specs.declared.line.Line.TheVariants.{Skip, Mme, Sub, Vec,
 use Rattle.trace_text.specs.declared.fault.TraceFault.{TraceFault}
 use Rattle.trace_text.specs.declared.fault.TraceFault.TheVariants.{UnknownWord, TooLong}
 use Rattle.trace_text.specs.Trace.{◌>>=◌, ◌␣◌, plmn_field, sized_of, label_field, station_field, rate_field, ticks_field, octets_field, xres_field, subscriber_field, octets_text, country_text, network_text, line_of, line_text, is_skipped, read_words, read_event, read_mme, read_sub, read_vec, read_up, read_lost, read_in, read_tick, read_data, read_cancel, read_show}
+use Rattle.trace_text.specs.Lines.{IsRewritten, WrittenIsRead}
 use Rattle.trace_text.proofs.Words.{is_word, spaced, spaced-split, Spelled, Spelled-word, Spelled-field}
 use Rattle.trace_text.proofs.Rewritten.{TextIsImsi, ok_with, number_again, sized_again, xres_again, octets_again, label_again, subscriber_again}
 use Rattle.trace_text.proofs.Networks.{plmn_same}
 
-record Reread (line : Line) (most : ℕ) : Type 0 where
-  words : List (List ℕ)
-  spelled : Spelled (line_text line) words most
-  again : read_words words ≡ Ok line
-  said : is_skipped (line_text line) ≡ false
+pub record Reread (line : Line) (most : ℕ) : Type 0 where
+  pub words : List (List ℕ)
+  pub spelled : Spelled (line_text line) words most
+  pub again : read_words words ≡ Ok line
+  pub said : is_skipped (line_text line) ≡ false
 
 same_reread : (same line : Line) (most : ℕ) → (let r : Result Line TraceFault = Ok same in r) ≡ Ok line → Reread same most → Reread line most
 same_reread same line most e h = let s : same ≡ line = cc e in subst (λ (l : Line). Reread l most) s h
 
 no_longer : (text : List ℕ) (words : List (List ℕ)) (some most : ℕ) → some ≤ most → Spelled text words some → Spelled text words most
-no_longer text words some most h s = record { split = s.split; short = omega (arith, s.short) }
+no_longer text words some most h s = record { split = s.split; short = omega (arith, s.short); unbroken = s.unbroken }
 
 -- ---- each word
 sub_reread : TextIsImsi → (fields : List (List ℕ)) (line : Line) → read_sub fields ≡ Ok line → Reread line (4 + spaced fields)
@@ -82,7 +83,7 @@ vec_reread law (a ∷ b ∷ c ∷ d ∷ f ∷ []) line e =
     }))))))
 vec_reread law (a ∷ b ∷ c ∷ d ∷ f ∷ g ∷ rest) line e = absurd (cc e)
 
-up_reread : (fields : List (List ℕ)) (line : Line) → read_up fields ≡ Ok line → Reread line (3 + spaced fields)
+pub up_reread : (fields : List (List ℕ)) (line : Line) → read_up fields ≡ Ok line → Reread line (3 + spaced fields)
 unfolding line_text
 up_reread [] line e = absurd (cc e)
 up_reread (a ∷ []) line e =
@@ -98,7 +99,7 @@ up_reread (a ∷ []) line e =
     }))
 up_reread (a ∷ b ∷ rest) line e = absurd (cc e)
 
-lost_reread : (fields : List (List ℕ)) (line : Line) → read_lost fields ≡ Ok line → Reread line (5 + spaced fields)
+pub lost_reread : (fields : List (List ℕ)) (line : Line) → read_lost fields ≡ Ok line → Reread line (5 + spaced fields)
 unfolding line_text
 lost_reread [] line e = absurd (cc e)
 lost_reread (a ∷ []) line e =
@@ -114,7 +115,7 @@ lost_reread (a ∷ []) line e =
     }))
 lost_reread (a ∷ b ∷ rest) line e = absurd (cc e)
 
-in_reread : (fields : List (List ℕ)) (line : Line) → read_in fields ≡ Ok line → Reread line (3 + spaced fields)
+pub in_reread : (fields : List (List ℕ)) (line : Line) → read_in fields ≡ Ok line → Reread line (3 + spaced fields)
 unfolding line_text
 in_reread [] line e = absurd (cc e)
 in_reread (a ∷ []) line e = absurd (cc e)
@@ -312,24 +313,24 @@ words_reread law (w ∷ f) line e =
     (λ b h. worded line w (codes "vec") (spaced f) b (vec_reread law f line h))
     (λ _ e3. event_reread law w f line e3)))
 
-line_of-reread : (line : Line) (most : ℕ) → most ≤ 40001 → Reread line most → line_of (line_text line) ≡ Ok line
+pub rewritten : (line : Line) (most : ℕ) → most ≤ 40001 → Reread line most → IsRewritten line
 unfolding line_of
-line_of-reread line most h r =
+rewritten line most h r =
     let fits : nat_lt 40000 (length (line_text line)) ≡ false = let s = r.spelled.short in grind (arith, nat_tests) in
-    rw (fits, r.said, r.spelled.split) r.again
+    record { again = rw (fits, r.said, r.spelled.split) r.again; unbroken = r.spelled.unbroken }
 
-line_of-nothing : (line : Line) → (let r : Result Line TraceFault = Ok Skip in r) ≡ Ok line → line_of (line_text line) ≡ Ok line
+nothing_rewritten : (line : Line) → (let r : Result Line TraceFault = Ok Skip in r) ≡ Ok line → IsRewritten line
 unfolding line_of line_text
-line_of-nothing line e = let same : Skip ≡ line = cc e in subst (λ (l : Line). line_of (line_text l) ≡ Ok l) same refl
+nothing_rewritten line e = let same : Skip ≡ line = cc e in subst (λ (l : Line). IsRewritten l) same (record { again = refl; unbroken = refl })
 
 -- what is written of a line that is read from some text is read as that line
-pub line_of-text_read : TextIsImsi → (text : List ℕ) (line : Line) → line_of text ≡ Ok line → line_of (line_text line) ≡ Ok line
+pub written_is_read : TextIsImsi → WrittenIsRead
 unfolding line_of
-line_of-text_read law text line e =
-    let P : Type 0 = line_of (line_text line) ≡ Ok line in
+written_is_read law text line e =
+    let P : Type 0 = IsRewritten line in
     let long : nat_lt 40000 (length text) ≡ false → length text ≤ 40000 = λ h. grind (arith, nat_tests, h) in
     tested P (nat_lt 40000 (length text)) (Err TooLong) (cond (is_skipped text) (Ok Skip) (read_words (slice_split (λ c. c == 32) text))) line e
     (λ _ e1. absurd (cc e1))
     (λ short e1. tested P (is_skipped text) (Ok Skip) (read_words (slice_split (λ c. c == 32) text)) line e1
-    (λ b h. line_of-nothing line h)
-    (λ _ h. line_of-reread line (spaced (slice_split (λ c. c == 32) text)) (let k = spaced-split text in let s = long short in omega (arith, k, s)) (words_reread law (slice_split (λ c. c == 32) text) line h)))
+    (λ b h. nothing_rewritten line h)
+    (λ _ h. rewritten line (spaced (slice_split (λ c. c == 32) text)) (let k = spaced-split text in let s = long short in omega (arith, k, s)) (words_reread law (slice_split (λ c. c == 32) text) line h)))

@@ -45,6 +45,10 @@ decimal_of-decimal n h = decimal_of-some (decimal n) (decimal_nonempty n h) ∙ 
 number_of-some : (least most n : ℕ) → least ≤ n → n ≤ most → at_least least (capped most (Some n)) ≡ Ok n
 number_of-some least most n h k = rw (le-leb n most k, le-leb least n h) refl
 
+-- a number that is written is read
+pub number_written : (least most n : ℕ) → most < 2 ^ 60 → least ≤ n → n ≤ most → number_field least most (decimal n) ≡ Ok n
+number_written least most n h low high = ap (λ o. at_least least (capped most o)) (decimal_of-decimal n (omega arith)) ∙ number_of-some least most n low high
+
 record InRange (least most n : ℕ) (o : Option ℕ) : Type 0 where
   low : least ≤ n
   high : n ≤ most
@@ -66,7 +70,7 @@ number_again least most n text h e =
     let r = in_range least most n (decimal_of text) e in
     let small : n < 2 ^ 64 = omega (arith, r.high, h) in
     record {
-      again = ap (λ o. at_least least (capped most o)) (decimal_of-decimal n small) ∙ number_of-some least most n r.low r.high;
+      again = number_written least most n h r.low r.high;
       word = decimal_word n small;
       short = length-decimal-read n text r.read small;
     }
@@ -115,7 +119,7 @@ not_one false = refl
 not_dash : (x y : ℕ) (r : List ℕ) → bytes_eq (x ∷ y ∷ r) (codes "-") ≡ false
 not_dash x y r = not_one (x == 45)
 
-octets_of-shown : (xs : List ℕ) → IsBytes xs → octets_field (octets_text xs) ≡ Ok xs
+pub octets_of-shown : (xs : List ℕ) → IsBytes xs → octets_field (octets_text xs) ≡ Ok xs
 unfolding encode_with
 octets_of-shown [] h = refl
 octets_of-shown (b ∷ bs) h =

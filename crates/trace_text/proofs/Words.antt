@@ -10,6 +10,7 @@ use Rattle.hex.specs.Hex.{encode_with, encode_lower, lower_digits}
 use Rattle.nas_elements.specs.Digits.{is_digit}
 use Rattle.trace_text.specs.Fields.{is_label_octet}
 use Rattle.trace_text.specs.Trace.{◌␣◌, octets_text}
+use Rattle.trace_text.specs.Lines.{is_unbroken}
 
 -- neither a space nor an LF
 abbrev pub is_word : List ℕ → Bool
@@ -81,6 +82,26 @@ pub shown_word : (xs : List ℕ) → is_word (octets_text xs) ≡ true
 shown_word [] = refl
 shown_word (b ∷ bs) = hex_word (b ∷ bs)
 
+-- ---- a line has no LF
+
+one_test : (a w : Bool) → cond a false w ≡ true → (a ≡ false) × (w ≡ true)
+one_test true w h = absurd (cc h)
+one_test false w h = (refl, h)
+
+unbroken_cons : (c : ℕ) (cs : List ℕ) → (c == 10) ≡ false → is_unbroken cs ≡ true → is_unbroken (c ∷ cs) ≡ true
+unbroken_cons c cs a h = rw a h
+
+pub word_unbroken : (w : List ℕ) → is_word w ≡ true → is_unbroken w ≡ true
+word_unbroken [] h = refl
+word_unbroken (c ∷ cs) h = let p = word_parts c cs h in unbroken_cons c cs p.1 (word_unbroken cs p.2)
+
+pub unbroken_append : (xs ys : List ℕ) → is_unbroken xs ≡ true → is_unbroken ys ≡ true → is_unbroken (xs ++ ys) ≡ true
+unbroken_append [] ys h k = k
+unbroken_append (x ∷ xs) ys h k = let p = one_test (x == 10) (is_unbroken xs) h in unbroken_cons x (xs ++ ys) p.0 (unbroken_append xs ys p.1 k)
+
+pub unbroken_field : (t f : List ℕ) → is_unbroken t ≡ true → is_word f ≡ true → is_unbroken (t ␣ f) ≡ true
+unbroken_field t f h k = unbroken_append t (32 ∷ f) h (word_unbroken f k)
+
 -- ---- a line into its words
 
 split_word : (w : List ℕ) → is_word w ≡ true → slice_split (λ c. c == 32) w ≡ w ∷ []
@@ -134,17 +155,19 @@ spaced-split (c ∷ cs) =
     let ih = spaced-split cs in
     let e = spaced_by (c == 32) c (slice_split (λ c. c == 32) cs) (omega (arith, ih)) in omega (arith, e, ih)
 
--- a text by its words, and no longer than `most` with its LF
+-- a text of one line by its words, and no longer than `most` with its LF
 pub record Spelled (text : List ℕ) (words : List (List ℕ)) (most : ℕ) : Type 0 where
   pub split : slice_split (λ c. c == 32) text ≡ words
   pub short : length text + 1 ≤ most
+  pub unbroken : is_unbroken text ≡ true
 
 pub Spelled-word : (w : List ℕ) → is_word w ≡ true → Spelled w (w ∷ []) (length w + 1)
-Spelled-word w h = record { split = split_word w h; short = omega arith }
+Spelled-word w h = record { split = split_word w h; short = omega arith; unbroken = word_unbroken w h }
 
 pub Spelled-field : (text : List ℕ) (words : List (List ℕ)) (most : ℕ) (field from : List ℕ) → Spelled text words most → is_word field ≡ true → length field ≤ length from
     → Spelled (text ␣ field) (words ++ field ∷ []) (most + (length from + 1))
 Spelled-field text words most field from s h k = record {
   split = split-field text field h ∙ ap (λ v. v ++ field ∷ []) s.split;
   short = omega (arith, length-append text (32 ∷ field), s.short, k);
+  unbroken = unbroken_field text field s.unbroken h;
 }

@@ -1,8 +1,8 @@
 //! The lines of a trace's answers.
 
-ghost use Rattle.std.specs.Prelude.{◌≡◌, ◌++◌, IfOk, codes, string_bytes};
-ghost use Rattle.std.specs.Fmt.{decimal};
-ghost use Rattle.trace_text.specs.Trace.{answer_text, sent_text, state_text, owner_text, octets_text, emm_word, ecm_word, esm_word};
+ghost use Rattle.std.specs.Prelude.{◌≡◌, ◌+◌, ◌*◌, length, IfOk, string_bytes};
+ghost use Rattle.trace_text.specs.Lines.{IsLineWithin, IsPartWithin, octets_said};
+ghost use Rattle.trace_text.specs.Trace.{answer_text, sent_text, refused_text, state_text, owner_text, octets_text, emm_word, ecm_word, esm_word};
 
 use crate::written::push_field;
 use nas_elements::Imsi;
@@ -99,16 +99,26 @@ pub enum AnswerLine<'a> {
     State(Imsi, EmmWord, EcmWord, EsmWord),
 }
 
-/// The line of an answer, with its LF.
-#[tactic(auto, unfolding(crate::specs::Trace::sent_text, crate::specs::Trace::refused_text))]
+/// The line of an answer, with the LF that ends it. It has no other LF, and is longer than its octets in hex by at most 80
+/// octets.
 pub fn write_answer(alloc: Global, answer: &AnswerLine<'_>) -> Result<String, AllocError>
-    ensures { IfOk result (λ text. string_bytes text ≡ answer_text answer.now) }
+    ensures text { IfOk result (λ text. string_bytes text ≡ answer_text answer.now) }
+    ensures line { IfOk result (λ text. IsLineWithin (80 + 2 * octets_said answer.now) (string_bytes text)) }
 {
     match answer {
         AnswerLine::Sent(owner, station, octets) => write_sent(alloc, *owner, *station, octets),
-        AnswerLine::Refused(fault) => format!(in alloc; "refused {fault}\n"),
+        AnswerLine::Refused(fault) => write_refused(alloc, *fault),
         AnswerLine::State(imsi, emm, ecm, esm) => write_state(alloc, imsi, *emm, *ecm, *esm),
     }
+}
+
+#[tactic(auto, unfolding(crate::specs::Trace::refused_text))]
+fn write_refused(alloc: Global, fault: u8) -> Result<String, AllocError>
+    ensures text { IfOk result (λ text. string_bytes text ≡ refused_text fault) }
+    ensures line { IfOk result (λ text. IsLineWithin 80 (string_bytes text)) }
+{
+    let text = format!(in alloc; "refused {fault}\n")?;
+    Ok(text)
 }
 
 #[tactic(auto, unfolding(crate::specs::Trace::sent_text))]
@@ -118,7 +128,8 @@ fn write_sent(
     station: u8,
     octets: &[u8],
 ) -> Result<String, AllocError>
-    ensures { IfOk result (λ text. string_bytes text ≡ sent_text owner station octets.now) }
+    ensures text { IfOk result (λ text. string_bytes text ≡ sent_text owner station octets.now) }
+    ensures line { IfOk result (λ text. IsLineWithin (80 + 2 * length octets.now) (string_bytes text)) }
 {
     let number = format!(in alloc; "{station} ")?;
     let hex = write_octets(alloc, octets)?;
@@ -130,17 +141,35 @@ fn write_sent(
 }
 
 fn write_owner(alloc: Global, owner: AnswerOwner) -> Result<String, AllocError>
-    ensures { IfOk result (λ text. string_bytes text ≡ owner_text owner) }
+    ensures text { IfOk result (λ text. string_bytes text ≡ owner_text owner) }
+    ensures part { IfOk result (λ text. IsPartWithin 20 (string_bytes text)) }
 {
     match owner {
-        AnswerOwner::Station(e) => format!(in alloc; "out e{e} "),
+        AnswerOwner::Station(e) => write_station(alloc, e),
         AnswerOwner::Stranger(e, b) => write_stranger(alloc, e, b),
-        AnswerOwner::Subscriber(slot) => format!(in alloc; "out s{slot} "),
+        AnswerOwner::Subscriber(slot) => write_slot(alloc, slot),
     }
 }
 
+fn write_station(alloc: Global, station: u8) -> Result<String, AllocError>
+    ensures text { IfOk result (λ text. string_bytes text ≡ owner_text (AnswerOwner.Station station)) }
+    ensures part { IfOk result (λ text. IsPartWithin 20 (string_bytes text)) }
+{
+    let text = format!(in alloc; "out e{station} ")?;
+    Ok(text)
+}
+
+fn write_slot(alloc: Global, slot: u32) -> Result<String, AllocError>
+    ensures text { IfOk result (λ text. string_bytes text ≡ owner_text (AnswerOwner.Subscriber slot)) }
+    ensures part { IfOk result (λ text. IsPartWithin 20 (string_bytes text)) }
+{
+    let text = format!(in alloc; "out s{slot} ")?;
+    Ok(text)
+}
+
 fn write_stranger(alloc: Global, station: u8, phone: u32) -> Result<String, AllocError>
-    ensures { IfOk result (λ text. string_bytes text ≡ codes "out x" ++ decimal station ++ codes "." ++ decimal phone ++ codes " ") }
+    ensures text { IfOk result (λ text. string_bytes text ≡ owner_text (AnswerOwner.Stranger station phone)) }
+    ensures part { IfOk result (λ text. IsPartWithin 20 (string_bytes text)) }
 {
     let number = format!(in alloc; "{phone} ")?;
     let mut text = format!(in alloc; "out x{station}.")?;
@@ -156,7 +185,8 @@ fn write_state(
     ecm: EcmWord,
     esm: EsmWord,
 ) -> Result<String, AllocError>
-    ensures { IfOk result (λ text. string_bytes text ≡ state_text imsi.now emm ecm esm) }
+    ensures text { IfOk result (λ text. string_bytes text ≡ state_text imsi.now emm ecm esm) }
+    ensures line { IfOk result (λ text. IsLineWithin 80 (string_bytes text)) }
 {
     let mut text = String::from_str(alloc, "state")?;
     push_field(&mut text, imsi.digits().as_str())?;

@@ -31,8 +31,8 @@ pub(crate) fn decimal(text: &[u8], most: u64) -> Option<u64>
     Some(value)
 }
 
-/// A number in decimal digits from `least` to `most`.
-fn number(text: &[u8], least: u64, most: u64) -> Result<u64, TraceFault>
+/// A number in decimal digits from `least` to `most`, else BadNumber.
+pub fn number(text: &[u8], least: u64, most: u64) -> Result<u64, TraceFault>
     requires { most < 2 ^ 60 }
     ensures value { result ≡ number_field least most text.now }
     ensures range { IfOk result (λ n. (least ≤ n) × (n ≤ most)) }
@@ -43,7 +43,8 @@ fn number(text: &[u8], least: u64, most: u64) -> Result<u64, TraceFault>
     }
 }
 
-pub(crate) fn station(text: &[u8]) -> Result<StationNumber, TraceFault>
+/// The number of a station, 0 to 127, else BadNumber.
+pub fn station(text: &[u8]) -> Result<StationNumber, TraceFault>
     ensures { result ≡ station_field text.now }
 {
     match StationNumber::try_new(number(text, 0, 127)? as u8) {
@@ -117,7 +118,8 @@ pub(crate) fn plmn(country_text: &[u8], network_text: &[u8]) -> Result<[u8; 3], 
     ])
 }
 
-pub(crate) fn octets(alloc: Global, text: &[u8]) -> Result<TraceOctets, TraceFault>
+/// Octets: `-` for none, or hex digits of either case, else BadHex.
+pub fn octets(alloc: Global, text: &[u8]) -> Result<TraceOctets, TraceFault>
     ensures { (result ≡ Err TraceFault.NoMemory) ⊎ (result ≡ octets_field text.now) }
 {
     if text.is_empty() {
@@ -133,8 +135,8 @@ pub(crate) fn octets(alloc: Global, text: &[u8]) -> Result<TraceOctets, TraceFau
     }
 }
 
-/// So many octets, no more and no fewer.
-pub(crate) fn sized_octets<const N: usize>(text: &[u8]) -> Result<[u8; N], TraceFault>
+/// So many octets in hex, no more and no fewer, else BadHex.
+pub fn sized_octets<const N: usize>(text: &[u8]) -> Result<[u8; N], TraceFault>
     requires { N < 2 ^ 32 }
     ensures { result ≡ sized_of N text.now }
 {
@@ -155,7 +157,8 @@ pub(crate) fn label(alloc: Global, text: &[u8]) -> Result<ApnLabel, TraceFault>
     }
 }
 
-pub(crate) fn imsi(text: &[u8]) -> Result<Imsi, TraceFault>
+/// An IMSI in its fourteen or fifteen digits, else BadNumber.
+pub fn imsi(text: &[u8]) -> Result<Imsi, TraceFault>
     ensures { result ≡ subscriber_field text.now }
 {
     match str::from_utf8(text) {

@@ -3,13 +3,15 @@
 
 mod answer;
 mod fault;
-mod fields;
+pub mod fields;
+mod laws;
 mod line;
 mod values;
 mod written;
 
 pub use answer::{AnswerLine, AnswerOwner, EcmWord, EmmWord, EsmWord, write_answer};
 pub use fault::TraceFault;
-pub use line::{LONGEST_LINE, Line, MmeLine, parse_line};
+pub use laws::{answers_are_lines, written_is_read};
+pub use line::{LONGEST_LINE, Line, MmeLine, parse_line, parse_words, split_words};
 pub use values::{ApnLabel, BitRate, TraceOctets, TraceTicks};
-pub use written::write_line;
+pub use written::{write_in, write_line, write_lost, write_up};

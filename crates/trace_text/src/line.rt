@@ -76,13 +76,15 @@ pub fn parse_line(alloc: Global, line: &[u8]) -> Result<Line, TraceFault>
     }
 }
 
-fn split_words(alloc: Global, line: &[u8]) -> Result<Vec<&[u8]>, AllocError>
+/// The words of a line: its parts between single spaces, at least one.
+pub fn split_words(alloc: Global, line: &[u8]) -> Result<Vec<&[u8]>, AllocError>
     ensures { IfOk result (λ v. map (λ w. w.now) v.items ≡ slice_split (λ c. c == 32) line.now) }
 {
     line.split(|c| *c == b' ').collect(alloc)
 }
 
-fn parse_words(alloc: Global, words: &[&[u8]]) -> Result<Line, TraceFault>
+/// What a line says by its words, where it is neither empty nor a comment; faults as in `parse_line`.
+pub fn parse_words(alloc: Global, words: &[&[u8]]) -> Result<Line, TraceFault>
     ensures { (result ≡ Err TraceFault.NoMemory) ⊎ (result ≡ read_words (map (λ w. w.now) words.now)) }
 {
     let Some((word, fields)) = words.split_first() else {

@@ -1,15 +1,16 @@
 //! How a line of a trace is written.
 
-ghost use Rattle.std.specs.Prelude.{◌≡◌, ◌++◌, ℕ, List, IfOk, OnOk, Ok, string_bytes};
+ghost use Rattle.std.specs.Prelude.{◌≡◌, ◌≤◌, ◌++◌, ℕ, List, length, true, IfOk, OnOk, Ok, string_bytes};
 ghost use Rattle.std.specs.Fmt.{decimal};
 ghost use Rattle.hex.specs.Hex.{encode_lower};
 ghost use Rattle.nas_elements.specs.Digits.{imsi_text};
 ghost use Rattle.trace_text.specs.Trace.{◌␣◌, line_of, line_text, country_text, network_text};
-ghost use Rattle.trace_text.specs.declared.line.Line.TheVariants.{Mme, Sub, Vec, In};
+ghost use Rattle.trace_text.specs.Lines.{is_unbroken};
+ghost use Rattle.trace_text.specs.declared.line.Line.TheVariants.{Mme, Sub, Vec, Up, Lost, In};
 
 use crate::answer::write_octets;
 use crate::line::{Line, MmeLine};
-use identity_slots::{Profile, Vector};
+use identity_slots::{Profile, StationNumber, Vector};
 use nas_elements::{Imsi, text_is_imsi};
 use std::alloc::{AllocError, Global};
 
@@ -34,9 +35,9 @@ fn line_as_text(alloc: Global, line: &Line) -> Result<String, AllocError>
         Line::Mme(fields) => write_mme(alloc, fields),
         Line::Sub(profile) => write_sub(alloc, profile),
         Line::Vec(imsi, vector) => write_vec(alloc, imsi, vector),
-        Line::Up(station) => write_number(alloc, "up", u32::from(station.get())),
-        Line::Lost(station) => write_number(alloc, "lost", u32::from(station.get())),
-        Line::In(station, octets) => write_in(alloc, station.get(), octets.as_slice()),
+        Line::Up(station) => write_up(alloc, *station),
+        Line::Lost(station) => write_lost(alloc, *station),
+        Line::In(station, octets) => write_in(alloc, *station, octets.as_slice()),
         Line::Tick(ticks) => write_number(alloc, "tick", ticks.get()),
         Line::Data(imsi) => write_imsi(alloc, "data", imsi),
         Line::Cancel(imsi) => write_imsi(alloc, "cancel", imsi),
@@ -109,12 +110,39 @@ fn write_vec(alloc: Global, imsi: &Imsi, vector: &Vector) -> Result<String, Allo
     Ok(text)
 }
 
+/// The line `up E` without its LF: a station connects.
 #[tactic(auto, unfolding(crate::specs::Trace::line_text))]
-fn write_in(alloc: Global, station: u8, octets: &[u8]) -> Result<String, AllocError>
-    ensures { IfOk result (λ text. string_bytes text ≡ line_text (In station octets.now)) }
+pub fn write_up(alloc: Global, station: StationNumber) -> Result<String, AllocError>
+    ensures text { IfOk result (λ text. string_bytes text ≡ line_text (Up station)) }
+    ensures read { IfOk result (λ text. line_of (string_bytes text) ≡ Ok (Up station)) }
+    ensures unbroken { IfOk result (λ text. is_unbroken (string_bytes text) ≡ true) }
+{
+    let text = write_number(alloc, "up", u32::from(station.get()))?;
+    Ok(text)
+}
+
+/// The line `lost E` without its LF: a station's connection is lost.
+#[tactic(auto, unfolding(crate::specs::Trace::line_text))]
+pub fn write_lost(alloc: Global, station: StationNumber) -> Result<String, AllocError>
+    ensures text { IfOk result (λ text. string_bytes text ≡ line_text (Lost station)) }
+    ensures read { IfOk result (λ text. line_of (string_bytes text) ≡ Ok (Lost station)) }
+    ensures unbroken { IfOk result (λ text. is_unbroken (string_bytes text) ≡ true) }
+{
+    let text = write_number(alloc, "lost", u32::from(station.get()))?;
+    Ok(text)
+}
+
+/// The line `in E OCTETS` without its LF: a station sends these octets. It is read as that line where it isn't longer than
+/// the longest.
+#[tactic(auto, unfolding(crate::specs::Trace::line_text))]
+pub fn write_in(alloc: Global, station: StationNumber, octets: &[u8]) -> Result<String, AllocError>
+    ensures text { IfOk result (λ text. string_bytes text ≡ line_text (In station octets.now)) }
+    ensures read { IfOk result
+        (λ text. length (string_bytes text) ≤ 40000 → line_of (string_bytes text) ≡ Ok (In station octets.now)) }
+    ensures unbroken { IfOk result (λ text. is_unbroken (string_bytes text) ≡ true) }
 {
     let hex = write_octets(alloc, octets)?;
-    let mut text = write_number(alloc, "in", u32::from(station))?;
+    let mut text = write_number(alloc, "in", u32::from(station.get()))?;
     push_field(&mut text, hex.as_str())?;
     Ok(text)
 }

@@ -1,0 +1,3 @@
+mod Bearers
+mod Lengths
+pub mod Writable

@@ -1,0 +1,4 @@
+pub mod Profile
+pub mod Sending
+pub mod Delivering
+pub mod View

@@ -1,0 +1,4 @@
+pub mod TextLines
+pub mod Printing
+pub mod Played
+pub mod Sent
