@@ -37,6 +37,7 @@ impl Model for Block {
 }
 
 impl Block {
+    /// The block of zeros.
     #[inline(always)]
     pub fn zero() -> Self
         ensures { result ≡ zeros }
@@ -49,6 +50,7 @@ impl Block {
         }
     }
 
+    /// The block of four words, the first octet the highest of the first.
     #[inline(always)]
     pub fn of_words(a: u32, b: u32, c: u32, d: u32) -> Self
         ensures { result ≡ octets a ++ octets b ++ octets c ++ octets d }
@@ -70,12 +72,14 @@ impl Block {
         }
     }
 
+    /// The block of sixteen octets.
     pub fn from_octets(octets: &[u8; 16]) -> Self
         ensures { result ≡ octets.now }
     {
         Block::at(octets, 0)
     }
 
+    /// Its sixteen octets.
     #[inline(always)]
     pub fn octets(self) -> [u8; 16]
         ensures { result ≡ self }
@@ -87,6 +91,7 @@ impl Block {
         [a, b, c, d, e, f, g, h, i, j, k, l, m, n, o, p]
     }
 
+    /// Its first four octets.
     #[inline(always)]
     pub fn first_octets(self) -> [u8; 4]
         ensures { result ≡ take 4 self }
@@ -94,6 +99,7 @@ impl Block {
         self.a.to_be_bytes()
     }
 
+    /// Both, octet by octet by exclusive or.
     #[inline(always)]
     pub fn xor(self, other: Block) -> Self
         ensures { result ≡ xor_blocks self other }
@@ -165,6 +171,7 @@ impl Block {
 /// A key and the ten round keys after it (FIPS 197, 5.2).
 pub type RoundKeys = [Block; 11];
 
+/// The round keys of a key (FIPS 197 clause 5.2).
 pub fn key_expansion(key: Block) -> RoundKeys
     ensures { result ≡ key_expansion key }
 {
@@ -209,7 +216,7 @@ impl Block {
     }
 }
 
-// The first rounds, and below the others: each half is small enough to be inlined.
+/// The first rounds, and below the others: each half is small enough to be inlined (FIPS 197 clause 5.1).
 #[inline(always)]
 pub fn first_half(keys: &RoundKeys, block: Block) -> Block
     ensures { rounds (drop 6 keys.now) result ≡ cipher keys.now block }
@@ -223,6 +230,7 @@ pub fn first_half(keys: &RoundKeys, block: Block) -> Block
         .round_at(keys, 5)
 }
 
+/// The other rounds, on what the first gave.
 #[inline(always)]
 pub fn second_half(keys: &RoundKeys, state: Block) -> Block
     ensures { result ≡ rounds (drop 6 keys.now) state }
@@ -235,6 +243,7 @@ pub fn second_half(keys: &RoundKeys, state: Block) -> Block
         .last_round_at(keys)
 }
 
+/// The block under the key whose round keys these are (FIPS 197 clause 5.1).
 pub fn cipher(keys: &RoundKeys, block: Block) -> Block
     ensures { result ≡ cipher keys.now block }
 {

@@ -16,6 +16,7 @@ fn substitute(x: usize) -> u8
     SUBSTITUTION[x]
 }
 
+/// Both words, by exclusive or.
 #[inline(always)]
 pub fn xor_words(left: u32, right: u32) -> u32
     ensures { octets result ≡ xor_words (octets left) (octets right) }
@@ -52,7 +53,7 @@ fn row_3(word: u32) -> u32
     MIX_3[word as usize % 256]
 }
 
-// The mixed column of one octet of each of four words, substituted first.
+/// The mixed column of one octet of each of four words, substituted first (FIPS 197 clauses 5.1.1, 5.1.3).
 #[inline(always)]
 pub fn mixed_column(a: u32, b: u32, c: u32, d: u32) -> u32
     ensures { octets result ≡ mixed_column (octet 0 a) (octet 1 b) (octet 2 c) (octet 3 d) }
@@ -60,6 +61,7 @@ pub fn mixed_column(a: u32, b: u32, c: u32, d: u32) -> u32
     (row_0(a) ^ row_1(b)) ^ (row_2(c) ^ row_3(d))
 }
 
+/// The word of four octets, the first the highest.
 #[inline(always)]
 pub fn joined(a: u8, b: u8, c: u8, d: u8) -> u32
     ensures { octets result ≡ a ∷ b ∷ c ∷ d ∷ [] }
@@ -67,7 +69,7 @@ pub fn joined(a: u8, b: u8, c: u8, d: u8) -> u32
     u32::from_be_bytes([a, b, c, d])
 }
 
-// The same column, not mixed.
+/// The same column, not mixed (FIPS 197 clause 5.1.1).
 #[inline(always)]
 pub fn substituted_column(a: u32, b: u32, c: u32, d: u32) -> u32
     ensures { octets result ≡ substituted_column (octet 0 a) (octet 1 b) (octet 2 c) (octet 3 d) }
@@ -80,7 +82,7 @@ pub fn substituted_column(a: u32, b: u32, c: u32, d: u32) -> u32
     )
 }
 
-// A key's word turned by one octet and substituted (FIPS 197, 5.2).
+/// A key's word turned by one octet and substituted (FIPS 197 clause 5.2).
 #[inline(always)]
 pub fn rotated_and_substituted(word: u32) -> u32
     ensures { octets result ≡ rotated_and_substituted (octets word) }
@@ -93,7 +95,7 @@ pub fn rotated_and_substituted(word: u32) -> u32
     )
 }
 
-// The word at a place of a message.
+/// The word at a place of a message.
 #[inline(always)]
 pub fn word_at(message: &[u8], i: usize) -> u32
     requires { i + 4 ≤ length message.now }
@@ -104,7 +106,7 @@ pub fn word_at(message: &[u8], i: usize) -> u32
     joined(message[i], message[i + 1], message[i + 2], message[i + 3])
 }
 
-// A word moved left by one bit, with the first bit of the next.
+/// A word moved left by one bit, with the first bit of the next (RFC 4493 clause 2.3).
 #[inline(always)]
 pub fn moved_left(word: u32, next: u32) -> u32
     ensures { octets result

@@ -13,9 +13,10 @@ use crate::whole::{offset_of, put_number};
 use bit_streams::{BitReader, BitWriter, PerError, PerFault};
 use std::alloc::Global;
 
-// The greatest id of an element, and the greatest number of a criticality (TS 36.413 clause 9.3.7).
+/// The greatest id of an element (TS 36.413 clause 9.3.7).
 pub const GREATEST_ID: u64 = 65535;
 
+/// The greatest number of a criticality (TS 36.413 clause 9.3.7).
 pub const LAST_CRITICALITY: u64 = 2;
 
 /// A value behind an extension bit that must be 0, else Range: a size or a number with an extensible bound.

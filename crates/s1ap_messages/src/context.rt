@@ -30,6 +30,7 @@ type ContextSetupRequestRows<'a> = SixRows<
     Needed<73, REJECT, SecurityKey>,
 >;
 
+/// Reads INITIAL CONTEXT SETUP REQUEST from the octets of its elements (TS 36.413 clause 9.1.4.1).
 #[tactic(auto, using(s1ap_elements::specs::BearerLaws::erabs_seen), unfolding(crate::specs::Typed::read_typed))]
 pub fn read_context_setup_request<'a>(alloc: Global, octets: &'a [u8]) -> Decoded<'a>
     ensures { Answers (λ m. typed (lists m)) result (read_typed message.ContextSetupRequest octets.now) }
@@ -49,6 +50,7 @@ pub fn read_context_setup_request<'a>(alloc: Global, octets: &'a [u8]) -> Decode
     }
 }
 
+/// Writes the elements of INITIAL CONTEXT SETUP REQUEST (TS 36.413 clause 9.1.4.1).
 #[tactic(auto, using(s1ap_elements::specs::BearerLaws::erabs_seen))]
 pub fn write_context_setup_request(alloc: Global, m: &ContextSetupRequest<&[u8]>) -> Written
     ensures { GivesWhole (λ v. v.items) result
@@ -73,6 +75,7 @@ type ContextSetupResponseRows<'a> = ThreeRows<
     Needed<51, IGNORE, ErabsSetup<'a>>,
 >;
 
+/// Reads INITIAL CONTEXT SETUP RESPONSE from the octets of its elements (TS 36.413 clause 9.1.4.3).
 #[tactic(auto, unfolding(crate::specs::Typed::read_typed))]
 pub fn read_context_setup_response<'a>(alloc: Global, octets: &'a [u8]) -> Decoded<'a>
     ensures { Answers (λ m. typed (lists m)) result (read_typed message.ContextSetupResponse octets.now) }
@@ -89,6 +92,7 @@ pub fn read_context_setup_response<'a>(alloc: Global, octets: &'a [u8]) -> Decod
     }
 }
 
+/// Writes the elements of INITIAL CONTEXT SETUP RESPONSE (TS 36.413 clause 9.1.4.3).
 pub fn write_context_setup_response(alloc: Global, m: &ContextSetupResponse) -> Written
     ensures { GivesWhole (λ v. v.items) result (write_whole (write_message context_setup_response) (typed_context_setup_response m.now)) }
 {
@@ -101,6 +105,7 @@ type ContextSetupFailureRows = ThreeRows<
     Needed<2, IGNORE, Cause>,
 >;
 
+/// Reads INITIAL CONTEXT SETUP FAILURE from the octets of its elements (TS 36.413 clause 9.1.4.4).
 #[tactic(auto, unfolding(crate::specs::Typed::read_typed))]
 pub fn read_context_setup_failure<'a>(alloc: Global, octets: &'a [u8]) -> Decoded<'a>
     ensures { Answers (λ m. typed (lists m)) result (read_typed message.ContextSetupFailure octets.now) }
@@ -115,6 +120,7 @@ pub fn read_context_setup_failure<'a>(alloc: Global, octets: &'a [u8]) -> Decode
     }
 }
 
+/// Writes the elements of INITIAL CONTEXT SETUP FAILURE (TS 36.413 clause 9.1.4.4).
 pub fn write_context_setup_failure(alloc: Global, m: &ContextSetupFailure) -> Written
     ensures { GivesWhole (λ v. v.items) result (write_whole (write_message context_setup_failure) (typed_context_setup_failure m.now)) }
 {
@@ -127,6 +133,7 @@ type ReleaseRequestRows = ThreeRows<
     Needed<2, IGNORE, Cause>,
 >;
 
+/// Reads UE CONTEXT RELEASE REQUEST from the octets of its elements (TS 36.413 clause 9.1.4.5).
 #[tactic(auto, unfolding(crate::specs::Typed::read_typed))]
 pub fn read_release_request<'a>(alloc: Global, octets: &'a [u8]) -> Decoded<'a>
     ensures { Answers (λ m. typed (lists m)) result (read_typed message.ReleaseRequest octets.now) }
@@ -141,6 +148,7 @@ pub fn read_release_request<'a>(alloc: Global, octets: &'a [u8]) -> Decoded<'a>
     }
 }
 
+/// Writes the elements of UE CONTEXT RELEASE REQUEST (TS 36.413 clause 9.1.4.5).
 pub fn write_release_request(alloc: Global, m: &ReleaseRequest) -> Written
     ensures { GivesWhole (λ v. v.items) result (write_whole (write_message release_request) (typed_release_request m.now)) }
 {
@@ -149,6 +157,7 @@ pub fn write_release_request(alloc: Global, m: &ReleaseRequest) -> Written
 
 type ReleaseCommandRows = TwoRows<Needed<99, REJECT, UeS1apIds>, Needed<2, IGNORE, Cause>>;
 
+/// Reads UE CONTEXT RELEASE COMMAND from the octets of its elements (TS 36.413 clause 9.1.4.6).
 #[tactic(auto, unfolding(crate::specs::Typed::read_typed))]
 pub fn read_release_command<'a>(alloc: Global, octets: &'a [u8]) -> Decoded<'a>
     ensures { Answers (λ m. typed (lists m)) result (read_typed message.ReleaseCommand octets.now) }
@@ -159,6 +168,7 @@ pub fn read_release_command<'a>(alloc: Global, octets: &'a [u8]) -> Decoded<'a>
     }
 }
 
+/// Writes the elements of UE CONTEXT RELEASE COMMAND (TS 36.413 clause 9.1.4.6).
 pub fn write_release_command(alloc: Global, m: &ReleaseCommand) -> Written
     ensures { GivesWhole (λ v. v.items) result (write_whole (write_message release_command) (typed_release_command m.now)) }
 {
@@ -167,6 +177,7 @@ pub fn write_release_command(alloc: Global, m: &ReleaseCommand) -> Written
 
 type ReleaseCompleteRows = TwoRows<Needed<0, IGNORE, MmeUeId>, Needed<8, IGNORE, EnbUeId>>;
 
+/// Reads UE CONTEXT RELEASE COMPLETE from the octets of its elements (TS 36.413 clause 9.1.4.7).
 #[tactic(auto, unfolding(crate::specs::Typed::read_typed))]
 pub fn read_release_complete<'a>(alloc: Global, octets: &'a [u8]) -> Decoded<'a>
     ensures { Answers (λ m. typed (lists m)) result (read_typed message.ReleaseComplete octets.now) }
@@ -180,6 +191,7 @@ pub fn read_release_complete<'a>(alloc: Global, octets: &'a [u8]) -> Decoded<'a>
     }
 }
 
+/// Writes the elements of UE CONTEXT RELEASE COMPLETE (TS 36.413 clause 9.1.4.7).
 pub fn write_release_complete(alloc: Global, m: &ReleaseComplete) -> Written
     ensures { GivesWhole (λ v. v.items) result (write_whole (write_message release_complete) (typed_release_complete m.now)) }
 {

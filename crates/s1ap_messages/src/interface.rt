@@ -19,6 +19,7 @@ use std::alloc::Global;
 
 type ResetRows = TwoRows<Needed<2, IGNORE, Cause>, Needed<92, REJECT, ResetType>>;
 
+/// Reads RESET from the octets of its elements (TS 36.413 clause 9.1.8.1).
 #[tactic(auto, unfolding(crate::specs::Typed::read_typed))]
 pub fn read_reset<'a>(alloc: Global, octets: &'a [u8]) -> Decoded<'a>
     ensures { Answers (λ m. typed (lists m)) result (read_typed message.Reset octets.now) }
@@ -29,12 +30,14 @@ pub fn read_reset<'a>(alloc: Global, octets: &'a [u8]) -> Decoded<'a>
     }
 }
 
+/// Writes the elements of RESET (TS 36.413 clause 9.1.8.1).
 pub fn write_reset(alloc: Global, m: &Reset) -> Written
     ensures { GivesWhole (λ v. v.items) result (write_whole (write_message reset) (typed_reset m.now)) }
 {
     write_message::<ResetRows>(alloc, &lent!(&m.cause, &m.reset_type))
 }
 
+/// Reads RESET ACKNOWLEDGE from the octets of its elements (TS 36.413 clause 9.1.8.2).
 #[tactic(auto, unfolding(crate::specs::Typed::read_typed))]
 pub fn read_reset_acknowledge<'a>(alloc: Global, octets: &'a [u8]) -> Decoded<'a>
     ensures { Answers (λ m. typed (lists m)) result (read_typed message.ResetAcknowledge octets.now) }
@@ -45,6 +48,7 @@ pub fn read_reset_acknowledge<'a>(alloc: Global, octets: &'a [u8]) -> Decoded<'a
     }
 }
 
+/// Writes the elements of RESET ACKNOWLEDGE (TS 36.413 clause 9.1.8.2).
 pub fn write_reset_acknowledge(alloc: Global) -> Written
     ensures { GivesWhole (λ v. v.items) result (write_whole (write_message reset_acknowledge) tt) }
 {
@@ -57,6 +61,7 @@ type ErrorIndicationRows = ThreeRows<
     Optional<2, IGNORE, Cause>,
 >;
 
+/// Reads ERROR INDICATION from the octets of its elements (TS 36.413 clause 9.1.8.3).
 #[tactic(auto, unfolding(crate::specs::Typed::read_typed))]
 pub fn read_error_indication<'a>(alloc: Global, octets: &'a [u8]) -> Decoded<'a>
     ensures { Answers (λ m. typed (lists m)) result (read_typed message.ErrorIndication octets.now) }
@@ -71,6 +76,7 @@ pub fn read_error_indication<'a>(alloc: Global, octets: &'a [u8]) -> Decoded<'a>
     }
 }
 
+/// Writes the elements of ERROR INDICATION (TS 36.413 clause 9.1.8.3).
 pub fn write_error_indication(alloc: Global, m: &ErrorIndication) -> Written
     ensures { GivesWhole (λ v. v.items) result (write_whole (write_message error_indication) (typed_error_indication m.now)) }
 {

@@ -29,6 +29,7 @@ type PagingRows<'a> = FourRows<
     Needed<46, IGNORE, TaiList>,
 >;
 
+/// Reads PAGING from the octets of its elements (TS 36.413 clause 9.1.6).
 #[tactic(auto, unfolding(crate::specs::Typed::read_typed))]
 pub fn read_paging<'a>(alloc: Global, octets: &'a [u8]) -> Decoded<'a>
     ensures { Answers (λ m. typed (lists m)) result (read_typed message.Paging octets.now) }
@@ -44,6 +45,7 @@ pub fn read_paging<'a>(alloc: Global, octets: &'a [u8]) -> Decoded<'a>
     }
 }
 
+/// Writes the elements of PAGING (TS 36.413 clause 9.1.6).
 pub fn write_paging(alloc: Global, m: &Paging<&[u8]>) -> Written
     ensures { GivesWhole (λ v. v.items) result (write_whole (write_message paging) (typed_paging (paging_lists m.now))) }
 {
@@ -62,6 +64,7 @@ type PathSwitchRequestRows<'a> = SixRows<
     Needed<107, IGNORE, SecurityCapabilities>,
 >;
 
+/// Reads PATH SWITCH REQUEST from the octets of its elements (TS 36.413 clause 9.1.5.8).
 #[tactic(auto, unfolding(crate::specs::Typed::read_typed))]
 pub fn read_path_switch_request<'a>(alloc: Global, octets: &'a [u8]) -> Decoded<'a>
     ensures { Answers (λ m. typed (lists m)) result (read_typed message.PathSwitchRequest octets.now) }
@@ -81,6 +84,7 @@ pub fn read_path_switch_request<'a>(alloc: Global, octets: &'a [u8]) -> Decoded<
     }
 }
 
+/// Writes the elements of PATH SWITCH REQUEST (TS 36.413 clause 9.1.5.8).
 pub fn write_path_switch_request(alloc: Global, m: &PathSwitchRequest) -> Written
     ensures { GivesWhole (λ v. v.items) result (write_whole (write_message path_switch_request) (typed_path_switch_request m.now)) }
 {
@@ -103,6 +107,7 @@ type PathSwitchAcknowledgeRows = ThreeRows<
     Needed<40, REJECT, SecurityContext>,
 >;
 
+/// Reads PATH SWITCH REQUEST ACKNOWLEDGE from the octets of its elements (TS 36.413 clause 9.1.5.9).
 #[tactic(auto, unfolding(crate::specs::Typed::read_typed))]
 pub fn read_path_switch_acknowledge<'a>(alloc: Global, octets: &'a [u8]) -> Decoded<'a>
     ensures { Answers (λ m. typed (lists m)) result (read_typed message.PathSwitchAcknowledge octets.now) }
@@ -119,6 +124,7 @@ pub fn read_path_switch_acknowledge<'a>(alloc: Global, octets: &'a [u8]) -> Deco
     }
 }
 
+/// Writes the elements of PATH SWITCH REQUEST ACKNOWLEDGE (TS 36.413 clause 9.1.5.9).
 pub fn write_path_switch_acknowledge(alloc: Global, m: &PathSwitchAcknowledge) -> Written
     ensures { GivesWhole (λ v. v.items) result (write_whole (write_message path_switch_acknowledge) (typed_path_switch_acknowledge m.now)) }
 {
@@ -131,6 +137,7 @@ type PathSwitchFailureRows = ThreeRows<
     Needed<2, IGNORE, Cause>,
 >;
 
+/// Reads PATH SWITCH REQUEST FAILURE from the octets of its elements (TS 36.413 clause 9.1.5.10).
 #[tactic(auto, unfolding(crate::specs::Typed::read_typed))]
 pub fn read_path_switch_failure<'a>(alloc: Global, octets: &'a [u8]) -> Decoded<'a>
     ensures { Answers (λ m. typed (lists m)) result (read_typed message.PathSwitchFailure octets.now) }
@@ -145,6 +152,7 @@ pub fn read_path_switch_failure<'a>(alloc: Global, octets: &'a [u8]) -> Decoded<
     }
 }
 
+/// Writes the elements of PATH SWITCH REQUEST FAILURE (TS 36.413 clause 9.1.5.10).
 pub fn write_path_switch_failure(alloc: Global, m: &PathSwitchFailure) -> Written
     ensures { GivesWhole (λ v. v.items) result (write_whole (write_message path_switch_failure) (typed_path_switch_failure m.now)) }
 {

@@ -28,6 +28,7 @@ type SetupRequestRows<'a> = FourRows<
     Needed<137, IGNORE, PagingDrx>,
 >;
 
+/// Reads S1 SETUP REQUEST from the octets of its elements (TS 36.413 clause 9.1.8.4).
 #[tactic(auto, unfolding(crate::specs::Typed::read_typed))]
 pub fn read_setup_request<'a>(alloc: Global, octets: &'a [u8]) -> Decoded<'a>
     ensures { Answers (λ m. typed (lists m)) result (read_typed message.SetupRequest octets.now) }
@@ -45,6 +46,7 @@ pub fn read_setup_request<'a>(alloc: Global, octets: &'a [u8]) -> Decoded<'a>
     }
 }
 
+/// Writes the elements of S1 SETUP REQUEST (TS 36.413 clause 9.1.8.4).
 pub fn write_setup_request(alloc: Global, m: &SetupRequest<&[u8]>) -> Written
     ensures { GivesWhole (λ v. v.items) result
         (write_whole (write_message setup_request) (typed_setup_request (setup_request_lists m.now))) }
@@ -66,6 +68,7 @@ type SetupResponseRows<'a> = ThreeRows<
     Needed<87, IGNORE, RelativeCapacity>,
 >;
 
+/// Reads S1 SETUP RESPONSE from the octets of its elements (TS 36.413 clause 9.1.8.5).
 #[tactic(auto, unfolding(crate::specs::Typed::read_typed))]
 pub fn read_setup_response<'a>(alloc: Global, octets: &'a [u8]) -> Decoded<'a>
     ensures { Answers (λ m. typed (lists m)) result (read_typed message.SetupResponse octets.now) }
@@ -79,6 +82,7 @@ pub fn read_setup_response<'a>(alloc: Global, octets: &'a [u8]) -> Decoded<'a>
     }
 }
 
+/// Writes the elements of S1 SETUP RESPONSE (TS 36.413 clause 9.1.8.5).
 pub fn write_setup_response(alloc: Global, m: &SetupResponse) -> Written
     ensures { GivesWhole (λ v. v.items) result (write_whole (write_message setup_response) (typed_setup_response m.now)) }
 {
@@ -87,6 +91,7 @@ pub fn write_setup_response(alloc: Global, m: &SetupResponse) -> Written
 
 type SetupFailureRows = OneRow<Needed<2, IGNORE, Cause>>;
 
+/// Reads S1 SETUP FAILURE from the octets of its elements (TS 36.413 clause 9.1.8.6).
 #[tactic(auto, unfolding(crate::specs::Typed::read_typed))]
 pub fn read_setup_failure<'a>(alloc: Global, octets: &'a [u8]) -> Decoded<'a>
     ensures { Answers (λ m. typed (lists m)) result (read_typed message.SetupFailure octets.now) }
@@ -97,6 +102,7 @@ pub fn read_setup_failure<'a>(alloc: Global, octets: &'a [u8]) -> Decoded<'a>
     }
 }
 
+/// Writes the elements of S1 SETUP FAILURE (TS 36.413 clause 9.1.8.6).
 pub fn write_setup_failure(alloc: Global, m: &SetupFailure) -> Written
     ensures { GivesWhole (λ v. v.items) result (write_whole (write_message setup_failure) (typed_setup_failure m.now)) }
 {

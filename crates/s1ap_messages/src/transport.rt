@@ -31,6 +31,7 @@ type InitialUeMessageRows<'a> = SixRows<
     Optional<96, REJECT, STmsi>,
 >;
 
+/// Reads INITIAL UE MESSAGE from the octets of its elements (TS 36.413 clause 9.1.7.1).
 #[tactic(auto, unfolding(crate::specs::Typed::read_typed))]
 pub fn read_initial_ue_message<'a>(alloc: Global, octets: &'a [u8]) -> Decoded<'a>
     ensures { Answers (λ m. typed (lists m)) result (read_typed message.InitialUeMessage octets.now) }
@@ -50,6 +51,7 @@ pub fn read_initial_ue_message<'a>(alloc: Global, octets: &'a [u8]) -> Decoded<'
     }
 }
 
+/// Writes the elements of INITIAL UE MESSAGE (TS 36.413 clause 9.1.7.1).
 pub fn write_initial_ue_message(alloc: Global, m: &InitialUeMessage<&[u8]>) -> Written
     ensures { GivesWhole (λ v. v.items) result
         (write_whole (write_message initial_ue_message) (typed_initial_ue_message (initial_ue_message_lists m.now))) }
@@ -73,6 +75,7 @@ type DownlinkNasTransportRows<'a> = ThreeRows<
     Needed<26, REJECT, OctetString<'a>>,
 >;
 
+/// Reads DOWNLINK NAS TRANSPORT from the octets of its elements (TS 36.413 clause 9.1.7.2).
 #[tactic(auto, unfolding(crate::specs::Typed::read_typed))]
 pub fn read_downlink_nas_transport<'a>(alloc: Global, octets: &'a [u8]) -> Decoded<'a>
     ensures { Answers (λ m. typed (lists m)) result (read_typed message.DownlinkNasTransport octets.now) }
@@ -87,6 +90,7 @@ pub fn read_downlink_nas_transport<'a>(alloc: Global, octets: &'a [u8]) -> Decod
     }
 }
 
+/// Writes the elements of DOWNLINK NAS TRANSPORT (TS 36.413 clause 9.1.7.2).
 pub fn write_downlink_nas_transport(alloc: Global, m: &DownlinkNasTransport<&[u8]>) -> Written
     ensures { GivesWhole (λ v. v.items) result
         (write_whole (write_message downlink_nas_transport) (typed_downlink_nas_transport (downlink_nas_transport_lists m.now))) }
@@ -105,6 +109,7 @@ type UplinkNasTransportRows<'a> = FiveRows<
     Needed<67, IGNORE, Tai>,
 >;
 
+/// Reads UPLINK NAS TRANSPORT from the octets of its elements (TS 36.413 clause 9.1.7.3).
 #[tactic(auto, unfolding(crate::specs::Typed::read_typed))]
 pub fn read_uplink_nas_transport<'a>(alloc: Global, octets: &'a [u8]) -> Decoded<'a>
     ensures { Answers (λ m. typed (lists m)) result (read_typed message.UplinkNasTransport octets.now) }
@@ -123,6 +128,7 @@ pub fn read_uplink_nas_transport<'a>(alloc: Global, octets: &'a [u8]) -> Decoded
     }
 }
 
+/// Writes the elements of UPLINK NAS TRANSPORT (TS 36.413 clause 9.1.7.3).
 pub fn write_uplink_nas_transport(alloc: Global, m: &UplinkNasTransport<&[u8]>) -> Written
     ensures { GivesWhole (λ v. v.items) result
         (write_whole (write_message uplink_nas_transport) (typed_uplink_nas_transport (uplink_nas_transport_lists m.now))) }
@@ -146,6 +152,7 @@ type NasNonDeliveryRows<'a> = FourRows<
     Needed<2, IGNORE, Cause>,
 >;
 
+/// Reads NAS NON DELIVERY INDICATION from the octets of its elements (TS 36.413 clause 9.1.7.4).
 #[tactic(auto, unfolding(crate::specs::Typed::read_typed))]
 pub fn read_nas_non_delivery<'a>(alloc: Global, octets: &'a [u8]) -> Decoded<'a>
     ensures { Answers (λ m. typed (lists m)) result (read_typed message.NasNonDelivery octets.now) }
@@ -161,6 +168,7 @@ pub fn read_nas_non_delivery<'a>(alloc: Global, octets: &'a [u8]) -> Decoded<'a>
     }
 }
 
+/// Writes the elements of NAS NON DELIVERY INDICATION (TS 36.413 clause 9.1.7.4).
 pub fn write_nas_non_delivery(alloc: Global, m: &NasNonDelivery<&[u8]>) -> Written
     ensures { GivesWhole (λ v. v.items) result
         (write_whole (write_message nas_non_delivery) (typed_nas_non_delivery (nas_non_delivery_lists m.now))) }
@@ -182,6 +190,7 @@ type CapabilityInfoRows<'a> = ThreeRows<
     Needed<74, IGNORE, OctetString<'a>>,
 >;
 
+/// Reads UE CAPABILITY INFO INDICATION from the octets of its elements (TS 36.413 clause 9.1.10).
 #[tactic(auto, unfolding(crate::specs::Typed::read_typed))]
 pub fn read_capability_info<'a>(alloc: Global, octets: &'a [u8]) -> Decoded<'a>
     ensures { Answers (λ m. typed (lists m)) result (read_typed message.CapabilityInfo octets.now) }
@@ -198,6 +207,7 @@ pub fn read_capability_info<'a>(alloc: Global, octets: &'a [u8]) -> Decoded<'a>
     }
 }
 
+/// Writes the elements of UE CAPABILITY INFO INDICATION (TS 36.413 clause 9.1.10).
 pub fn write_capability_info(alloc: Global, m: &CapabilityInfo<&[u8]>) -> Written
     ensures { GivesWhole (λ v. v.items) result
         (write_whole (write_message capability_info) (typed_capability_info (capability_info_lists m.now))) }
