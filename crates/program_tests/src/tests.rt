@@ -1,5 +1,5 @@
-use identity_slots::{Provision, StationNumber};
-use mme_core::{Config, Event, Mme, Outs, StepFault};
+use identity_slots::Provision;
+use mme_core::{Config, Mme};
 use mme_main::{PlayFault, Player, Progress, Watched, run_play};
 use mme_vocabulary::{AggregateBitRate, Apn, Network};
 use per_bits::Octets;
@@ -200,92 +200,5 @@ fn the_clock_ends(rt: HostRuntime) -> Result<(), Fail> {
     let lines = b"up 7\ntick 2\nup 7\nlost 7\ntick 1\n".as_slice();
     assert_eq!(rt; player.feed(rt.alloc(), lines, &mut writer), Ok(()));
     assert!(rt; held.as_slice() == b"refused 3\nrefused 2\nrefused 3\n".as_slice());
-    Ok(())
-}
-
-/// A subscriber with one vector, its MME, and a station that is up.
-const ONE_PHONE: &[u8] = b"mme 001 01 8001 01 internet 1000000000 1000000000
-sub 001010000000001 0a000001 0a000064 00000001
-vec 001010000000001 000102030405060708090a0b0c0d0e0f 101112131415161718191a1b1c1d1e1f 2021222324252627 303132333435363738393a3b3c3d3e3f404142434445464748494a4b4c4d4e4f
-up 0
-";
-
-const SETUP_REQUEST: &str =
-    "0011001f000003003b00080000f11000000010004000070000004000f1100089400140";
-
-const SETUP_RESPONSE: &str = "201100170000020069000b000000f11000008001000100574001ff";
-
-const ATTACH_REQUEST: &str =
-    "000c403e000005000800020001001a00161507417108091010000000001002e06000040201d011004300060000f1100001006440080000f110000010100086400130";
-
-const CHALLENGE: &str =
-    "000b4038000003000000020001000800020001001a002524075200000102030405060708090a0b0c0d0e0f10101112131415161718191a1b1c1d1e1f";
-
-const RELEASE: &str = "0017001000000200630004000100010002400126";
-
-/// The MME of these lines.
-fn mme_of(alloc: Global, lines: &[u8]) -> Result<Mme, Fail> {
-    let mut player = Player::new(alloc);
-    let mut held = Vec::new(alloc);
-    let mut writer = Watched::new(&mut held);
-    let _ = player.feed(alloc, lines, &mut writer);
-    match player.progress {
-        Progress::Running(mme) => Ok(mme),
-        Progress::Nothing | Progress::Provisioning(_, _) => Err(Fail::from("no MME")),
-    }
-}
-
-/// A dot for the event, then its refusal or the octets of each message.
-fn put_reply(
-    alloc: Global,
-    reply: &Result<Outs, StepFault>,
-    text: &mut String,
-) -> Result<(), AllocError> {
-    text.push('.')?;
-    match reply {
-        Ok(outs) => {
-            for out in outs.as_slice() {
-                text.push_str(hex::encode(alloc, out.octets.as_slice())?.as_str())?;
-            }
-        }
-        Err(_) => text.push_str("refused")?,
-    }
-    Ok(())
-}
-
-#[test]
-fn a_run_answers_each_event(rt: HostRuntime) -> Result<(), Fail> {
-    let mut mme = mme_of(rt.alloc(), ONE_PHONE)?;
-    let station = StationNumber::try_new(0).ok_or("station")?;
-    let setup = hex::decode(rt.alloc(), SETUP_REQUEST.as_bytes())?;
-    let attach = hex::decode(rt.alloc(), ATTACH_REQUEST.as_bytes())?;
-    let mut events = Vec::from_slice(
-        rt.alloc(),
-        &[
-            Event::Up(station),
-            Event::In(station, setup.as_slice()),
-            Event::In(station, attach.as_slice()),
-        ],
-    )?;
-    let mut owed = String::new(rt.alloc());
-    owed.push_str(".refused.")?;
-    owed.push_str(SETUP_RESPONSE)?;
-    owed.push('.')?;
-    owed.push_str(CHALLENGE)?;
-    for tick in 1..=31u32 {
-        events.push(Event::Tick)?;
-        owed.push('.')?;
-        if tick == 30 {
-            owed.push_str(RELEASE)?;
-        } else if tick % 6 == 0 {
-            owed.push_str(CHALLENGE)?;
-        }
-    }
-    let replies = mme.run(events.as_slice())?;
-    let mut text = String::new(rt.alloc());
-    for reply in &replies {
-        put_reply(rt.alloc(), reply, &mut text)?;
-    }
-    assert_eq!(rt; text.as_str(), owed.as_str());
     Ok(())
 }
