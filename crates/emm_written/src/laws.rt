@@ -17,8 +17,7 @@ pub fn ranges_are_kept()
     decoded_esm_is_spelled();
 }
 
-/// In a state in range each action sends its message: it has a written form, and is the next that is sent. So no message that a row
-/// builds is dropped.
+/// In a state in range each action whose parts are in range sends its message: it has a written form, and is the next that is sent.
 pub fn actions_send_whole()
     ensures send { SendIsWhole }
     ensures protect { ProtectIsWhole }
