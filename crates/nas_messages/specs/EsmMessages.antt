@@ -33,16 +33,16 @@ esm_lists m = record { bearer = m.bearer; transaction = m.transaction; body = bo
 -- ---- what a message says, by its type and its row's values, and back
 
 abbrev pub named_body : (t : EsmType) → RowValue (esm_row_of t) → EsmBody (List ℕ)
-named_body ActivateRequest v = bodies.ActivateRequest (record { apn = v.0.1.1.0; address = v.0.1.1.1.1.1.0; cause = v.1.0 })
+named_body ActivateRequest ((_, (_, (apn, (_, (_, (address, _)))))), (cause, _)) = bodies.ActivateRequest (record { apn = apn; address = address; cause = cause })
 named_body ActivateAccept v = bodies.ActivateAccept
-named_body ActivateReject v = bodies.ActivateReject v.0.0
-named_body ConnectivityRequest v = bodies.ConnectivityRequest v.0.0.0 v.0.0.1 v.1.0
-named_body ConnectivityReject v = bodies.ConnectivityReject v.0.0
-named_body DisconnectRequest v = bodies.DisconnectRequest v.0.0.0
-named_body DisconnectReject v = bodies.DisconnectReject v.0.0
+named_body ActivateReject ((cause, _), _) = bodies.ActivateReject cause
+named_body ConnectivityRequest (((request_type, pdn_type), _), (information, _)) = bodies.ConnectivityRequest request_type pdn_type information
+named_body ConnectivityReject ((cause, _), _) = bodies.ConnectivityReject cause
+named_body DisconnectRequest (((linked, _), _), _) = bodies.DisconnectRequest linked
+named_body DisconnectReject ((cause, _), _) = bodies.DisconnectReject cause
 named_body InformationRequest v = bodies.InformationRequest
 named_body InformationResponse v = bodies.InformationResponse
-named_body EsmStatus v = bodies.EsmStatus v.0.0
+named_body EsmStatus ((cause, _), _) = bodies.EsmStatus cause
 
 -- a type, and the values of its row
 pub data TypedBody : Type 0 where

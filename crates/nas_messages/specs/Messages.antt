@@ -44,28 +44,28 @@ lists (emm.ServiceRequest octets) = emm.ServiceRequest octets
 -- ---- a message by its type and its row's values, and back
 
 abbrev pub named : (t : EmmType) → RowValue (row_of t) → Emm (List ℕ)
-named AttachRequest v = emm.AttachRequest (record { attach_type = v.0.0.0; ksi = v.0.0.1; identity = v.0.1.0; capability = v.0.1.1.0; esm = v.0.1.1.1.0 })
-named AttachAccept v = emm.AttachAccept (record { tai_list = v.0.1.1.0; esm = v.0.1.1.1.0; guti = v.1.0; cause = v.1.1.0 })
-named AttachComplete v = emm.AttachComplete v.0.0
-named AttachReject v = emm.AttachReject (record { cause = v.0.0; esm = v.1.0 })
-named DetachRequest v = emm.DetachRequest (record { detach_type = v.0.0.0.0; switch_off = v.0.0.0.1; ksi = v.0.0.1; identity = v.0.1.0 })
+named AttachRequest (((attach_type, ksi), (identity, (capability, (esm, _)))), _) = emm.AttachRequest (record { attach_type = attach_type; ksi = ksi; identity = identity; capability = capability; esm = esm })
+named AttachAccept ((_, (_, (tai_list, (esm, _)))), (guti, (cause, _))) = emm.AttachAccept (record { tai_list = tai_list; esm = esm; guti = guti; cause = cause })
+named AttachComplete ((esm, _), _) = emm.AttachComplete esm
+named AttachReject ((cause, _), (esm, _)) = emm.AttachReject (record { cause = cause; esm = esm })
+named DetachRequest ((((detach_type, switch_off), ksi), (identity, _)), _) = emm.DetachRequest (record { detach_type = detach_type; switch_off = switch_off; ksi = ksi; identity = identity })
 named NetworkDetach v = emm.NetworkDetach
 named DetachAccept v = emm.DetachAccept
-named AreaUpdateRequest v = emm.AreaUpdateRequest (record { update_type = v.0.0.0.0; active = v.0.0.0.1; ksi = v.0.0.1; guti = v.0.1.0 })
-named AreaUpdateAccept v = emm.AreaUpdateAccept (record { timer = v.1.0; guti = v.1.1.0; tai_list = v.1.1.1.0; cause = v.1.1.1.1.0 })
+named AreaUpdateRequest ((((update_type, active), ksi), (guti, _)), _) = emm.AreaUpdateRequest (record { update_type = update_type; active = active; ksi = ksi; guti = guti })
+named AreaUpdateAccept (_, (timer, (guti, (tai_list, (cause, _))))) = emm.AreaUpdateAccept (record { timer = timer; guti = guti; tai_list = tai_list; cause = cause })
 named AreaUpdateComplete v = emm.AreaUpdateComplete
-named AreaUpdateReject v = emm.AreaUpdateReject v.0.0
-named ServiceReject v = emm.ServiceReject v.0.0
-named AuthenticationRequest v = emm.AuthenticationRequest (record { ksi = v.0.0.0; rand = v.0.1.0; autn = v.0.1.1.0 })
-named AuthenticationResponse v = emm.AuthenticationResponse v.0.0
+named AreaUpdateReject ((cause, _), _) = emm.AreaUpdateReject cause
+named ServiceReject ((cause, _), _) = emm.ServiceReject cause
+named AuthenticationRequest (((ksi, _), (rand, (autn, _))), _) = emm.AuthenticationRequest (record { ksi = ksi; rand = rand; autn = autn })
+named AuthenticationResponse ((res, _), _) = emm.AuthenticationResponse res
 named AuthenticationReject v = emm.AuthenticationReject
 named IdentityRequest v = emm.IdentityRequest
-named IdentityResponse v = emm.IdentityResponse v.0.0
-named AuthenticationFailure v = emm.AuthenticationFailure v.0.0
-named SecurityModeCommand v = emm.SecurityModeCommand (record { ksi = v.0.1.0.0; capability = v.0.1.1.0 })
+named IdentityResponse ((identity, _), _) = emm.IdentityResponse identity
+named AuthenticationFailure ((cause, _), _) = emm.AuthenticationFailure cause
+named SecurityModeCommand ((_, ((ksi, _), (capability, _))), _) = emm.SecurityModeCommand (record { ksi = ksi; capability = capability })
 named SecurityModeComplete v = emm.SecurityModeComplete
-named SecurityModeReject v = emm.SecurityModeReject v.0.0
-named EmmStatus v = emm.EmmStatus v.0.0
+named SecurityModeReject ((cause, _), _) = emm.SecurityModeReject cause
+named EmmStatus ((cause, _), _) = emm.EmmStatus cause
 
 -- a type, and the values of its row
 abbrev pub Typed : Type 0

@@ -1,8 +1,8 @@
 //! Octets to EMM messages.
 
-ghost use Rattle.std.specs.Prelude.{◌≡◌, ◌∷◌, ◌<◌, [], IfOk, Ok, Option, Result, option_map};
+ghost use Rattle.std.specs.Prelude.{◌≡◌, IfOk, Ok, Option, Result, option_map};
 ghost use Rattle.nas_elements.specs.Faults.{◌>>>◌, mandatory_part};
-ghost use Rattle.nas_elements.specs.Parts.{exactly, halves, read_parts, spare};
+ghost use Rattle.nas_elements.specs.Parts.{read_parts};
 ghost use Rattle.nas_elements.specs.Seen.{at};
 ghost use Rattle.nas_messages.specs.Formats.{parts_of};
 ghost use Rattle.nas_messages.specs.Messages.{IsWritable, decoded_emm, detach_of, lists, read_typed, seen, type_of};
@@ -12,6 +12,7 @@ use crate::emm_types::{
     AreaUpdateAccept, AreaUpdateRequest, AttachAccept, AttachReject, AttachRequest,
     AuthenticationRequest, DetachRequest, Direction, EmmMessage, EmmType, SecurityModeCommand,
 };
+use crate::simple::{cause_in, nothing_in, three_at, three_in};
 use nas_elements::{
     Domain, NasFault, Optional, TaiList, bounded_at, constant_at, fixed_at, guti_at, identifier,
     identity_at, long_at, octet_at, tai_list_at,
@@ -32,12 +33,16 @@ fn attach_request_at<'a>(octets: &'a [u8]) -> Option<(AttachRequest<&'a [u8]>, &
     ensures { at (λ m. ((m.attach_type, m.ksi), (m.identity, (m.capability.now, (m.esm.now, tt)))))
         result ≡ read_parts (parts_of types.AttachRequest) octets.entry.now }
 {
-    let (first, rest) = octet_at(octets)?;
+    let Some((first, rest)) = octet_at(octets) else {
+        return None;
+    };
     let Some((identity, rest)) = identity_at(rest) else {
         return None;
     };
     let (capability, rest) = bounded_at(2, 13, rest)?;
-    let (esm, rest) = long_at(rest)?;
+    let Some((esm, rest)) = long_at(rest) else {
+        return None;
+    };
     let message = AttachRequest {
         attach_type: first % 16 % 8,
         ksi: first / 16 % 8,
@@ -69,13 +74,21 @@ fn attach_accept_at<'a>(octets: &'a [u8]) -> Option<((TaiList, &'a [u8]), &'a [u
     ensures { at (λ m. ((tt, tt), (tt, (m.0, (m.1.now, tt)))))
         result ≡ read_parts (parts_of types.AttachAccept) octets.entry.now }
 {
-    let (first, rest) = octet_at(octets)?;
+    let Some((first, rest)) = octet_at(octets) else {
+        return None;
+    };
     if first % 16 % 8 != 1 {
         return None;
     }
-    let (_, rest) = constant_at(0x49, rest)?;
-    let (tai_list, rest) = tai_list_at(rest)?;
-    let (esm, rest) = long_at(rest)?;
+    let Some((_, rest)) = constant_at(0x49, rest) else {
+        return None;
+    };
+    let Some((tai_list, rest)) = tai_list_at(rest) else {
+        return None;
+    };
+    let Some((esm, rest)) = long_at(rest) else {
+        return None;
+    };
     Some(((tai_list, esm), rest))
 }
 
@@ -119,7 +132,9 @@ fn detach_request_at(octets: &[u8]) -> Option<(DetachRequest, &[u8])>
     ensures { at (λ m. (((m.detach_type, m.switch_off), m.ksi), (m.identity, tt)))
         result ≡ read_parts (parts_of types.DetachRequest) octets.now }
 {
-    let (first, rest) = octet_at(octets)?;
+    let Some((first, rest)) = octet_at(octets) else {
+        return None;
+    };
     let Some((identity, rest)) = identity_at(rest) else {
         return None;
     };
@@ -132,26 +147,11 @@ fn detach_request_at(octets: &[u8]) -> Option<(DetachRequest, &[u8])>
     Some((message, rest))
 }
 
-/// An octet whose low three bits are these.
-fn three_at(expected: u8, octets: &[u8]) -> Option<((), &[u8])>
-    requires { expected < 8 }
-    ensures { at (λ _. ((tt, tt), tt)) result ≡ read_parts (halves (exactly expected) spare ∷ []) octets.now }
-{
-    let (first, rest) = octet_at(octets)?;
-    if first % 16 % 8 != expected {
-        return None;
-    }
-    Some(((), rest))
-}
-
-#[tactic(auto, unfolding(crate::specs::Messages::read_typed, nas_elements::specs::Rows::read_row))]
+#[tactic(auto, unfolding(crate::specs::Messages::read_typed))]
 fn network_detach<'a>(octets: &'a [u8]) -> Result<EmmMessage<'a>, NasFault>
     ensures { seen result ≡ read_typed types.NetworkDetach octets.entry.now }
 {
-    let Some((_, rest)) = three_at(2, octets) else {
-        return Err(NasFault::Mandatory);
-    };
-    let _ = Optional::read(Domain::Emm, rest)?;
+    three_in(2, octets)?;
     Ok(EmmMessage::NetworkDetach)
 }
 
@@ -170,8 +170,12 @@ fn area_update_request_at(octets: &[u8]) -> Option<(AreaUpdateRequest, &[u8])>
     ensures { at (λ m. (((m.update_type, m.active), m.ksi), (m.guti, tt)))
         result ≡ read_parts (parts_of types.AreaUpdateRequest) octets.now }
 {
-    let (first, rest) = octet_at(octets)?;
-    let (guti, rest) = guti_at(rest)?;
+    let Some((first, rest)) = octet_at(octets) else {
+        return None;
+    };
+    let Some((guti, rest)) = guti_at(rest) else {
+        return None;
+    };
     let message = AreaUpdateRequest {
         update_type: first % 16 % 8,
         active: 8 <= first % 16,
@@ -215,9 +219,15 @@ fn authentication_request_at<'a>(
     ensures { at (λ m. ((m.ksi, tt), (m.rand.now, (m.autn.now, tt))))
         result ≡ read_parts (parts_of types.AuthenticationRequest) octets.entry.now }
 {
-    let (first, rest) = octet_at(octets)?;
-    let (rand, rest) = fixed_at(16, rest)?;
-    let (autn, rest) = bounded_at(16, 16, rest)?;
+    let Some((first, rest)) = octet_at(octets) else {
+        return None;
+    };
+    let Some((rand, rest)) = fixed_at(16, rest) else {
+        return None;
+    };
+    let Some((autn, rest)) = bounded_at(16, 16, rest) else {
+        return None;
+    };
     let message = AuthenticationRequest {
         ksi: first % 16 % 8,
         rand,
@@ -237,14 +247,11 @@ fn authentication_response<'a>(octets: &'a [u8]) -> Result<EmmMessage<'a>, NasFa
     Ok(EmmMessage::AuthenticationResponse { res })
 }
 
-#[tactic(auto, unfolding(crate::specs::Messages::read_typed, nas_elements::specs::Rows::read_row))]
+#[tactic(auto, unfolding(crate::specs::Messages::read_typed))]
 fn identity_request<'a>(octets: &'a [u8]) -> Result<EmmMessage<'a>, NasFault>
     ensures { seen result ≡ read_typed types.IdentityRequest octets.entry.now }
 {
-    let Some((_, rest)) = three_at(1, octets) else {
-        return Err(NasFault::Mandatory);
-    };
-    let _ = Optional::read(Domain::Emm, rest)?;
+    three_in(1, octets)?;
     Ok(EmmMessage::IdentityRequest)
 }
 
@@ -276,9 +283,15 @@ fn security_mode_command_at<'a>(
     ensures { at (λ m. (tt, ((m.ksi, tt), (m.capability.now, tt))))
         result ≡ read_parts (parts_of types.SecurityModeCommand) octets.entry.now }
 {
-    let (_, rest) = constant_at(2, octets)?;
-    let (first, rest) = octet_at(rest)?;
-    let (replayed, rest) = bounded_at(2, 13, rest)?;
+    let Some((_, rest)) = constant_at(2, octets) else {
+        return None;
+    };
+    let Some((first, rest)) = octet_at(rest) else {
+        return None;
+    };
+    let Some((replayed, rest)) = bounded_at(2, 13, rest) else {
+        return None;
+    };
     let message = SecurityModeCommand {
         ksi: first % 16 % 8,
         capability: replayed,
@@ -286,90 +299,75 @@ fn security_mode_command_at<'a>(
     Some((message, rest))
 }
 
-#[tactic(auto, unfolding(crate::specs::Messages::read_typed, nas_elements::specs::Rows::read_row))]
+#[tactic(auto, unfolding(crate::specs::Messages::read_typed))]
 fn detach_accept<'a>(octets: &'a [u8]) -> Result<EmmMessage<'a>, NasFault>
     ensures { seen result ≡ read_typed types.DetachAccept octets.entry.now }
 {
-    let _ = Optional::read(Domain::Emm, octets)?;
+    nothing_in(Domain::Emm, octets)?;
     Ok(EmmMessage::DetachAccept)
 }
 
-#[tactic(auto, unfolding(crate::specs::Messages::read_typed, nas_elements::specs::Rows::read_row))]
+#[tactic(auto, unfolding(crate::specs::Messages::read_typed))]
 fn area_update_complete<'a>(octets: &'a [u8]) -> Result<EmmMessage<'a>, NasFault>
     ensures { seen result ≡ read_typed types.AreaUpdateComplete octets.entry.now }
 {
-    let _ = Optional::read(Domain::Emm, octets)?;
+    nothing_in(Domain::Emm, octets)?;
     Ok(EmmMessage::AreaUpdateComplete)
 }
 
-#[tactic(auto, unfolding(crate::specs::Messages::read_typed, nas_elements::specs::Rows::read_row))]
+#[tactic(auto, unfolding(crate::specs::Messages::read_typed))]
 fn area_update_reject<'a>(octets: &'a [u8]) -> Result<EmmMessage<'a>, NasFault>
     ensures { seen result ≡ read_typed types.AreaUpdateReject octets.entry.now }
 {
-    let Some((cause, rest)) = octet_at(octets) else {
-        return Err(NasFault::Mandatory);
-    };
-    let _ = Optional::read(Domain::Emm, rest)?;
+    let cause = cause_in(Domain::Emm, octets)?;
     Ok(EmmMessage::AreaUpdateReject { cause })
 }
 
-#[tactic(auto, unfolding(crate::specs::Messages::read_typed, nas_elements::specs::Rows::read_row))]
+#[tactic(auto, unfolding(crate::specs::Messages::read_typed))]
 fn service_reject<'a>(octets: &'a [u8]) -> Result<EmmMessage<'a>, NasFault>
     ensures { seen result ≡ read_typed types.ServiceReject octets.entry.now }
 {
-    let Some((cause, rest)) = octet_at(octets) else {
-        return Err(NasFault::Mandatory);
-    };
-    let _ = Optional::read(Domain::Emm, rest)?;
+    let cause = cause_in(Domain::Emm, octets)?;
     Ok(EmmMessage::ServiceReject { cause })
 }
 
-#[tactic(auto, unfolding(crate::specs::Messages::read_typed, nas_elements::specs::Rows::read_row))]
+#[tactic(auto, unfolding(crate::specs::Messages::read_typed))]
 fn authentication_reject<'a>(octets: &'a [u8]) -> Result<EmmMessage<'a>, NasFault>
     ensures { seen result ≡ read_typed types.AuthenticationReject octets.entry.now }
 {
-    let _ = Optional::read(Domain::Emm, octets)?;
+    nothing_in(Domain::Emm, octets)?;
     Ok(EmmMessage::AuthenticationReject)
 }
 
-#[tactic(auto, unfolding(crate::specs::Messages::read_typed, nas_elements::specs::Rows::read_row))]
+#[tactic(auto, unfolding(crate::specs::Messages::read_typed))]
 fn authentication_failure<'a>(octets: &'a [u8]) -> Result<EmmMessage<'a>, NasFault>
     ensures { seen result ≡ read_typed types.AuthenticationFailure octets.entry.now }
 {
-    let Some((cause, rest)) = octet_at(octets) else {
-        return Err(NasFault::Mandatory);
-    };
-    let _ = Optional::read(Domain::Emm, rest)?;
+    let cause = cause_in(Domain::Emm, octets)?;
     Ok(EmmMessage::AuthenticationFailure { cause })
 }
 
-#[tactic(auto, unfolding(crate::specs::Messages::read_typed, nas_elements::specs::Rows::read_row))]
+#[tactic(auto, unfolding(crate::specs::Messages::read_typed))]
 fn security_mode_complete<'a>(octets: &'a [u8]) -> Result<EmmMessage<'a>, NasFault>
     ensures { seen result ≡ read_typed types.SecurityModeComplete octets.entry.now }
 {
-    let _ = Optional::read(Domain::Emm, octets)?;
+    nothing_in(Domain::Emm, octets)?;
     Ok(EmmMessage::SecurityModeComplete)
 }
 
-#[tactic(auto, unfolding(crate::specs::Messages::read_typed, nas_elements::specs::Rows::read_row))]
+#[tactic(auto, unfolding(crate::specs::Messages::read_typed))]
 fn security_mode_reject<'a>(octets: &'a [u8]) -> Result<EmmMessage<'a>, NasFault>
     ensures { seen result ≡ read_typed types.SecurityModeReject octets.entry.now }
 {
-    let Some((cause, rest)) = octet_at(octets) else {
-        return Err(NasFault::Mandatory);
-    };
-    let _ = Optional::read(Domain::Emm, rest)?;
+    let cause = cause_in(Domain::Emm, octets)?;
     Ok(EmmMessage::SecurityModeReject { cause })
 }
 
-#[tactic(auto, unfolding(crate::specs::Messages::read_typed, nas_elements::specs::Rows::read_row))]
+#[tactic(auto, unfolding(crate::specs::Messages::read_typed))]
 fn emm_status<'a>(octets: &'a [u8]) -> Result<EmmMessage<'a>, NasFault>
     ensures { seen result ≡ read_typed types.EmmStatus octets.entry.now }
 {
-    let Some((cause, rest)) = octet_at(octets) else {
-        return Err(NasFault::Mandatory);
-    };
-    let _ = Optional::read(Domain::Emm, rest)?;
+    let cause = cause_in(Domain::Emm, octets)?;
     Ok(EmmMessage::EmmStatus { cause })
 }
 

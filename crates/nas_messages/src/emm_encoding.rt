@@ -13,8 +13,8 @@ use crate::emm_types::{
     AuthenticationRequest, DetachRequest, EmmMessage, SecurityModeCommand,
 };
 use nas_elements::{
-    Domain, identifier, put_element, put_fixed, put_guti, put_identity, put_long, put_octet,
-    put_short, put_tai_list,
+    Domain, identifier, put_element, put_fixed, put_guti, put_identity, put_long, put_short,
+    put_tai_list,
 };
 use std::alloc::{AllocError, Global};
 
@@ -22,9 +22,7 @@ fn put_attach_request(out: &mut Vec<u8>, m: &AttachRequest<&[u8]>) -> Result<(),
     requires { IsWritable (lists (messages.AttachRequest m.now)) }
     ensures { OnOk result (out.new.items ≡ out.old.items ++ encoded_emm (lists (messages.AttachRequest m.now))) }
 {
-    put_octet(out, 7)?;
-    put_octet(out, 0x41)?;
-    put_octet(out, m.ksi * 16 + m.attach_type)?;
+    put_fixed(out, &[7, 0x41, m.ksi * 16 + m.attach_type])?;
     put_identity(out, &m.identity)?;
     put_short(out, m.capability)?;
     put_long(out, m.esm)
@@ -34,10 +32,7 @@ fn put_attach_accept(out: &mut Vec<u8>, m: &AttachAccept<&[u8]>) -> Result<(), A
     requires { IsWritable (lists (messages.AttachAccept m.now)) }
     ensures { OnOk result (out.new.items ≡ out.old.items ++ encoded_emm (lists (messages.AttachAccept m.now))) }
 {
-    put_octet(out, 7)?;
-    put_octet(out, 0x42)?;
-    put_octet(out, 1)?;
-    put_octet(out, 0x49)?;
+    put_fixed(out, &[7, 0x42, 1, 0x49])?;
     put_tai_list(out, &m.tai_list)?;
     put_long(out, m.esm)?;
     put_element(out, Domain::Emm, identifier::GUTI, m.guti)?;
@@ -48,9 +43,7 @@ fn put_attach_reject(out: &mut Vec<u8>, m: &AttachReject<&[u8]>) -> Result<(), A
     requires { IsWritable (lists (messages.AttachReject m.now)) }
     ensures { OnOk result (out.new.items ≡ out.old.items ++ encoded_emm (lists (messages.AttachReject m.now))) }
 {
-    put_octet(out, 7)?;
-    put_octet(out, 0x44)?;
-    put_octet(out, m.cause)?;
+    put_fixed(out, &[7, 0x44, m.cause])?;
     put_element(out, Domain::Emm, identifier::ESM_MESSAGE_CONTAINER, m.esm)
 }
 
@@ -58,9 +51,8 @@ fn put_detach_request(out: &mut Vec<u8>, m: &DetachRequest) -> Result<(), AllocE
     requires { IsWritable (lists (messages.DetachRequest m.now)) }
     ensures { OnOk result (out.new.items ≡ out.old.items ++ encoded_emm (lists (messages.DetachRequest m.now))) }
 {
-    put_octet(out, 7)?;
-    put_octet(out, 0x45)?;
-    put_octet(out, m.ksi * 16 + flagged(m.switch_off, m.detach_type))?;
+    let first = m.ksi * 16 + flagged(m.switch_off, m.detach_type);
+    put_fixed(out, &[7, 0x45, first])?;
     put_identity(out, &m.identity)
 }
 
@@ -68,9 +60,8 @@ fn put_area_update_request(out: &mut Vec<u8>, m: &AreaUpdateRequest) -> Result<(
     requires { IsWritable (lists (messages.AreaUpdateRequest m.now)) }
     ensures { OnOk result (out.new.items ≡ out.old.items ++ encoded_emm (lists (messages.AreaUpdateRequest m.now))) }
 {
-    put_octet(out, 7)?;
-    put_octet(out, 0x48)?;
-    put_octet(out, m.ksi * 16 + flagged(m.active, m.update_type))?;
+    let first = m.ksi * 16 + flagged(m.active, m.update_type);
+    put_fixed(out, &[7, 0x48, first])?;
     put_guti(out, &m.guti)
 }
 
@@ -87,9 +78,7 @@ fn put_area_update_accept(out: &mut Vec<u8>, m: &AreaUpdateAccept<&[u8]>) -> Res
     requires { IsWritable (lists (messages.AreaUpdateAccept m.now)) }
     ensures { OnOk result (out.new.items ≡ out.old.items ++ encoded_emm (lists (messages.AreaUpdateAccept m.now))) }
 {
-    put_octet(out, 7)?;
-    put_octet(out, 0x49)?;
-    put_octet(out, 0)?;
+    put_fixed(out, &[7, 0x49, 0])?;
     put_element(out, Domain::Emm, identifier::T3412_VALUE, m.timer)?;
     put_element(out, Domain::Emm, identifier::GUTI, m.guti)?;
     put_element(out, Domain::Emm, identifier::TAI_LIST, m.tai_list)?;
@@ -103,9 +92,7 @@ fn put_authentication_request(
     requires { IsWritable (lists (messages.AuthenticationRequest m.now)) }
     ensures { OnOk result (out.new.items ≡ out.old.items ++ encoded_emm (lists (messages.AuthenticationRequest m.now))) }
 {
-    put_octet(out, 7)?;
-    put_octet(out, 0x52)?;
-    put_octet(out, m.ksi)?;
+    put_fixed(out, &[7, 0x52, m.ksi])?;
     put_fixed(out, m.rand)?;
     put_short(out, m.autn)
 }
@@ -117,10 +104,7 @@ fn put_security_mode_command(
     requires { IsWritable (lists (messages.SecurityModeCommand m.now)) }
     ensures { OnOk result (out.new.items ≡ out.old.items ++ encoded_emm (lists (messages.SecurityModeCommand m.now))) }
 {
-    put_octet(out, 7)?;
-    put_octet(out, 0x5d)?;
-    put_octet(out, 2)?;
-    put_octet(out, m.ksi)?;
+    put_fixed(out, &[7, 0x5d, 2, m.ksi])?;
     put_short(out, m.capability)
 }
 

@@ -8,6 +8,7 @@ ghost use Rattle.nas_messages.specs.EsmMessages.{IsWritableEsm, decoded_esm, esm
 ghost use Rattle.nas_messages.specs.declared.esm_types.EsmType.TheVariants as types;
 
 use crate::esm_types::{ActivateRequest, Esm, EsmBody, EsmMessage, EsmType};
+use crate::simple::{cause_in, nothing_in};
 use nas_elements::{
     Domain, NasFault, Optional, constant_at, fixed_at, identifier, is_set, label_at, octet_at,
 };
@@ -31,12 +32,24 @@ fn activate_request_at<'a>(octets: &'a [u8]) -> Option<((&'a [u8], &'a [u8]), &'
     ensures { at (λ m. (tt, (tt, (m.0.now, (tt, (tt, (m.1.now, tt)))))))
         result ≡ read_parts (esm_parts_of types.ActivateRequest) octets.entry.now }
 {
-    let (_, rest) = constant_at(1, octets)?;
-    let (_, rest) = constant_at(9, rest)?;
-    let (apn, rest) = label_at(rest)?;
-    let (_, rest) = constant_at(5, rest)?;
-    let (_, rest) = constant_at(1, rest)?;
-    let (address, rest) = fixed_at(4, rest)?;
+    let Some((_, rest)) = constant_at(1, octets) else {
+        return None;
+    };
+    let Some((_, rest)) = constant_at(9, rest) else {
+        return None;
+    };
+    let Some((apn, rest)) = label_at(rest) else {
+        return None;
+    };
+    let Some((_, rest)) = constant_at(5, rest) else {
+        return None;
+    };
+    let Some((_, rest)) = constant_at(1, rest) else {
+        return None;
+    };
+    let Some((address, rest)) = fixed_at(4, rest) else {
+        return None;
+    };
     Some(((apn, address), rest))
 }
 
@@ -66,71 +79,59 @@ fn disconnect_request<'a>(octets: &'a [u8]) -> Result<EsmBody<&'a [u8]>, NasFaul
     Ok(EsmBody::DisconnectRequest { linked: first % 16 })
 }
 
-#[tactic(auto, unfolding(crate::specs::EsmMessages::read_body, nas_elements::specs::Rows::read_row))]
+#[tactic(auto, unfolding(crate::specs::EsmMessages::read_body))]
 fn activate_accept<'a>(octets: &'a [u8]) -> Result<EsmBody<&'a [u8]>, NasFault>
     ensures { seen_body result ≡ read_body types.ActivateAccept octets.entry.now }
 {
-    let _ = Optional::read(Domain::Esm, octets)?;
+    nothing_in(Domain::Esm, octets)?;
     Ok(EsmBody::ActivateAccept)
 }
 
-#[tactic(auto, unfolding(crate::specs::EsmMessages::read_body, nas_elements::specs::Rows::read_row))]
+#[tactic(auto, unfolding(crate::specs::EsmMessages::read_body))]
 fn activate_reject<'a>(octets: &'a [u8]) -> Result<EsmBody<&'a [u8]>, NasFault>
     ensures { seen_body result ≡ read_body types.ActivateReject octets.entry.now }
 {
-    let Some((cause, rest)) = octet_at(octets) else {
-        return Err(NasFault::Mandatory);
-    };
-    let _ = Optional::read(Domain::Esm, rest)?;
+    let cause = cause_in(Domain::Esm, octets)?;
     Ok(EsmBody::ActivateReject { cause })
 }
 
-#[tactic(auto, unfolding(crate::specs::EsmMessages::read_body, nas_elements::specs::Rows::read_row))]
+#[tactic(auto, unfolding(crate::specs::EsmMessages::read_body))]
 fn connectivity_reject<'a>(octets: &'a [u8]) -> Result<EsmBody<&'a [u8]>, NasFault>
     ensures { seen_body result ≡ read_body types.ConnectivityReject octets.entry.now }
 {
-    let Some((cause, rest)) = octet_at(octets) else {
-        return Err(NasFault::Mandatory);
-    };
-    let _ = Optional::read(Domain::Esm, rest)?;
+    let cause = cause_in(Domain::Esm, octets)?;
     Ok(EsmBody::ConnectivityReject { cause })
 }
 
-#[tactic(auto, unfolding(crate::specs::EsmMessages::read_body, nas_elements::specs::Rows::read_row))]
+#[tactic(auto, unfolding(crate::specs::EsmMessages::read_body))]
 fn disconnect_reject<'a>(octets: &'a [u8]) -> Result<EsmBody<&'a [u8]>, NasFault>
     ensures { seen_body result ≡ read_body types.DisconnectReject octets.entry.now }
 {
-    let Some((cause, rest)) = octet_at(octets) else {
-        return Err(NasFault::Mandatory);
-    };
-    let _ = Optional::read(Domain::Esm, rest)?;
+    let cause = cause_in(Domain::Esm, octets)?;
     Ok(EsmBody::DisconnectReject { cause })
 }
 
-#[tactic(auto, unfolding(crate::specs::EsmMessages::read_body, nas_elements::specs::Rows::read_row))]
+#[tactic(auto, unfolding(crate::specs::EsmMessages::read_body))]
 fn information_request<'a>(octets: &'a [u8]) -> Result<EsmBody<&'a [u8]>, NasFault>
     ensures { seen_body result ≡ read_body types.InformationRequest octets.entry.now }
 {
-    let _ = Optional::read(Domain::Esm, octets)?;
+    nothing_in(Domain::Esm, octets)?;
     Ok(EsmBody::InformationRequest)
 }
 
-#[tactic(auto, unfolding(crate::specs::EsmMessages::read_body, nas_elements::specs::Rows::read_row))]
+#[tactic(auto, unfolding(crate::specs::EsmMessages::read_body))]
 fn information_response<'a>(octets: &'a [u8]) -> Result<EsmBody<&'a [u8]>, NasFault>
     ensures { seen_body result ≡ read_body types.InformationResponse octets.entry.now }
 {
-    let _ = Optional::read(Domain::Esm, octets)?;
+    nothing_in(Domain::Esm, octets)?;
     Ok(EsmBody::InformationResponse)
 }
 
-#[tactic(auto, unfolding(crate::specs::EsmMessages::read_body, nas_elements::specs::Rows::read_row))]
+#[tactic(auto, unfolding(crate::specs::EsmMessages::read_body))]
 fn esm_status<'a>(octets: &'a [u8]) -> Result<EsmBody<&'a [u8]>, NasFault>
     ensures { seen_body result ≡ read_body types.EsmStatus octets.entry.now }
 {
-    let Some((cause, rest)) = octet_at(octets) else {
-        return Err(NasFault::Mandatory);
-    };
-    let _ = Optional::read(Domain::Esm, rest)?;
+    let cause = cause_in(Domain::Esm, octets)?;
     Ok(EsmBody::EsmStatus { cause })
 }
 

@@ -10,6 +10,7 @@ mod esm_encoding;
 mod esm_types;
 mod laws;
 mod protection;
+mod simple;
 
 pub use emm_decoding::decode_emm;
 pub use emm_encoding::encode_emm;
