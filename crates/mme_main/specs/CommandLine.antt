@@ -2,15 +2,16 @@
 use Rattle.std.specs.Prelude.{ℕ, List, codes, Option, option_map}
 use Rattle.clap.specs.Words.{App, Text, Row, first_of, new_app, new_rule, subcommand_of, with_rule, with_subcommand}
 use Rattle.mme_main.specs.declared.command_line.Choice.{Choice}
-use Rattle.mme_main.specs.declared.command_line.Choice.TheVariants.{Play}
+use Rattle.mme_main.specs.declared.command_line.Choice.TheVariants.{Play, Sim}
 use Rattle.mme_main.specs.declared.fault.PlayFault.{PlayFault}
 use Rattle.mme_main.specs.declared.fault.PlayFault.TheVariants.{Trace, Read, Write, NoMemory}
 
-abbrev pub play_app : App
-play_app = with_rule (new_app (codes "play")) (new_rule (codes "FILE"))
+-- a subcommand of that name, which takes a FILE
+abbrev pub file_app : Text → App
+file_app name = with_rule (new_app name) (new_rule (codes "FILE"))
 
 abbrev pub mme_app : App
-mme_app = with_subcommand (new_app (codes "mme")) play_app.top
+mme_app = with_subcommand (with_subcommand (new_app (codes "mme")) (file_app (codes "play")).top) (file_app (codes "sim")).top
 
 -- a subcommand with its FILE, where there is one
 abbrev pub with_file : Text × List Row → Text × Option Text
@@ -22,6 +23,7 @@ asked_of words = option_map with_file (subcommand_of mme_app words)
 
 abbrev pub choice_of : Choice → Text × Option Text
 choice_of (Play file) = (codes "play", option_map (λ s. s.now) file)
+choice_of (Sim file) = (codes "sim", option_map (λ s. s.now) file)
 
 -- the exit status of a run that ends with a fault
 abbrev pub status_of : PlayFault → ℕ
