@@ -1,4 +1,2 @@
-pub mod TextLines
-pub mod Printing
 pub mod Played
 pub mod Sent

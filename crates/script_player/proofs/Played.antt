@@ -23,7 +23,7 @@ use Rattle.mme_main.specs.declared.progress.Progress.TheVariants.{Running}
 use Rattle.mme_main.specs.Effects.{Effect, configured, effect_of, event_played, in_event, left, left_by, running, states_of_imsi, states_shown, subscriber_added, tick_then, ticked, vector_given}
 use Rattle.mme_main.specs.Words.{answers_of, refusal_number, reply_text, states_text}
 use Rattle.script_player.specs.Printed.{AddsComments, IfSent, Prints, PrintsFrom, PrintsLine, ReadsAs, event_line}
-use Rattle.script_player.proofs.Printing.{AddsComments-none, Prints-line}
+use Rattle.script_player.specs.PrintLaws.{AddsComments-none, Prints-line}
 
 -- one tick is an event
 one_then : (world : World) (r : Result (List Out) StepFault) → tick_then world r (λ after. (after, [])) ≡ (left_by world event.Tick r, reply_text r)

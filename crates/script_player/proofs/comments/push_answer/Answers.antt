@@ -1,7 +1,7 @@
 use Rattle.std.proofs.Common.{ℕ, ◌+◌, ◌*◌, List, ◌∷◌, ◌++◌, ap, ◌∙◌, subst, arith}
 use Rattle.trace_text.specs.Lines.{IsLineWithin, octets_said}
 use Rattle.trace_text.specs.Trace.{answer_text}
-use Rattle.script_player.proofs.Printing.{AreComments-answer}
+use Rattle.script_player.specs.PrintLaws.{AreComments-answer}
 use Rattle.script_player.proofs.comments.push_answer.Goals as goal
 
 pub returns : goal.returns

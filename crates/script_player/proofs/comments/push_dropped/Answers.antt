@@ -1,8 +1,8 @@
 use Rattle.std.proofs.Common.{◌++◌, ◌^◌, ◌<◌, ◌≤◌, length, codes, refl, arith, length-append}
 use Rattle.std.specs.Fmt.{decimal}
 use Rattle.std.proofs.lemmas.Fmt.{length-decimal-le}
-use Rattle.script_player.proofs.TextLines.{decimal_breaks, unbroken_then}
-use Rattle.script_player.proofs.Printing.{AreComments-remark}
+use Rattle.script_player.specs.TextLaws.{decimal_breaks, unbroken_then}
+use Rattle.script_player.specs.PrintLaws.{AreComments-remark}
 use Rattle.script_player.proofs.comments.push_dropped.Goals as goal
 
 pub returns : goal.returns

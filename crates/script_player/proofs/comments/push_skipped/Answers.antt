@@ -1,5 +1,5 @@
 use Rattle.std.proofs.Common.{codes, refl, arith}
-use Rattle.script_player.proofs.Printing.{AreComments-remark}
+use Rattle.script_player.specs.PrintLaws.{AreComments-remark}
 use Rattle.script_player.proofs.comments.push_skipped.Goals as goal
 
 pub returns : goal.returns

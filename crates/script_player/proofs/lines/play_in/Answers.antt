@@ -1,6 +1,6 @@
 use Rattle.std.proofs.Common.{◌≤◌, length, string_bytes, arith}
 use Rattle.trace_text.specs.declared.line.Line.TheVariants.{In}
-use Rattle.script_player.proofs.Printing.{ReadsAs-text}
+use Rattle.script_player.specs.PrintLaws.{ReadsAs-text}
 use Rattle.script_player.proofs.Played.{IfSent-octets}
 use Rattle.script_player.proofs.lines.play_in.Goals as goal
 

@@ -1,6 +1,6 @@
 use Rattle.std.proofs.Common.{string_bytes}
 use Rattle.trace_text.specs.declared.line.Line.TheVariants.{Lost}
-use Rattle.script_player.proofs.Printing.{ReadsAs-text}
+use Rattle.script_player.specs.PrintLaws.{ReadsAs-text}
 use Rattle.script_player.proofs.lines.play_lost.Goals as goal
 
 pub play_event-requires-clause-says : goal.play_event-requires-clause-says

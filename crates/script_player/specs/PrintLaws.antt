@@ -12,7 +12,7 @@ use Rattle.mme_main.specs.Effects.{effect_of}
 use Rattle.mme_main.specs.Text.{prepended, play, then_play, line_effect, lines_of}
 use Rattle.mme_main.specs.Play.{breaks}
 use Rattle.script_player.specs.Printed.{answer_in, answers_in, AreComments, AddsComments, Speaks, Prints, ReadsAs}
-use Rattle.script_player.proofs.TextLines.{breaks-append, first_line, one_line, one_break, lines_of-nil, play-cons, prepended-then, skip_effect, hash_skip, not_skipped}
+use Rattle.script_player.specs.TextLaws.{breaks-append, first_line, one_line, one_break, lines_of-nil, play-cons, prepended-then, skip_effect, hash_skip, not_skipped}
 
 pub kept_nil : (xs : List (Result Line TraceFault)) → xs ++ [] ≡ xs
 kept_nil xs = append-nil xs
