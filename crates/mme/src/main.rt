@@ -1,7 +1,8 @@
-//! The program `mme`: plays a trace from a file or standard input to standard output.
+//! The program `mme`: plays a trace, or simulates a script, from a file or standard input to standard output.
 #![tactic(auto)]
 
 use mme_main::{Choice, CommandFault, PlayFault, Watched, command, run_play};
+use mme_sim::run_sim;
 use std::alloc::{AllocError, Global};
 use std::env;
 use std::fs::File;
@@ -25,11 +26,7 @@ fn main(rt: HostRuntime) -> ExitCode {
         return out_of_memory(&rt);
     };
     match command(alloc, words.as_slice()) {
-        Ok(Choice::Play(None)) => played(&rt, rt.stdin()),
-        Ok(Choice::Play(Some(path))) => match File::open(&rt, path) {
-            Ok(file) => played(&rt, file),
-            Err(_) => ended(&rt, Err(PlayFault::Read)),
-        },
+        Ok(choice) => done(&rt, choice),
         Err(CommandFault::Usage(error)) => {
             let _ = rt.eprint(&error);
             ExitCode::from(2)
@@ -58,14 +55,32 @@ fn out_of_memory(rt: &impl Eprint) -> ExitCode {
     ended(rt, Err(PlayFault::NoMemory))
 }
 
-/// Plays the trace that the reader gives to standard output, in large pieces.
-fn played<R: Read + Drop>(rt: &HostRuntime, reader: R) -> ExitCode {
+/// Does what is asked, with the file that is named or with standard input.
+fn done(rt: &HostRuntime, choice: Choice<'_>) -> ExitCode {
+    let path = match choice {
+        Choice::Play(path) => path,
+        Choice::Sim(path) => path,
+    };
+    match path {
+        Some(path) => match File::open(rt, path) {
+            Ok(file) => run(rt, choice, file),
+            Err(_) => ended(rt, Err(PlayFault::Read)),
+        },
+        None => run(rt, choice, rt.stdin()),
+    }
+}
+
+/// Plays or simulates what the reader gives to standard output, in large pieces.
+fn run<R: Read + Drop>(rt: &HostRuntime, choice: Choice<'_>, reader: R) -> ExitCode {
     let Ok(writer) = BufWriter::new(rt.alloc(), rt.stdout()) else {
         return out_of_memory(rt);
     };
     let mut reader = Watched::new(reader);
     let mut writer = Watched::new(writer);
-    let result = run_play(rt.alloc(), &mut reader, &mut writer);
+    let result = match choice {
+        Choice::Play(_) => run_play(rt.alloc(), &mut reader, &mut writer),
+        Choice::Sim(_) => run_sim(rt.alloc(), &mut reader, &mut writer),
+    };
     ended(rt, result)
 }
 

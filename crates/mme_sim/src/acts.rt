@@ -1,0 +1,131 @@
+//! What stations and phones do.
+
+ghost use Rattle.std.specs.Prelude.{◌≡◌, [], OnOk};
+ghost use Rattle.script_player.specs.Printed.{IsBegun, PrintsOn, PrintsScriptLine};
+
+use crate::script::Script;
+use crate::turns::{deliver, play_message, play_queue};
+use crowd::Acted;
+use identity_slots::StationNumber;
+use mme_core::Outs;
+use mme_main::PlayFault;
+use script_player::{is_begun, play_in, play_up, push_skipped, remarks_print_nothing};
+use script_text::ScriptAct;
+use std::alloc::{AllocError, Global};
+use trace_text::TraceFault;
+
+/// What an act does, where there is an MME; else that is the fault of the line of that number.
+pub(crate) fn play_act_line(
+    alloc: Global,
+    script: &mut Script,
+    number: u64,
+    act: ScriptAct,
+    out: &mut Vec<u8>,
+) -> Result<(), PlayFault>
+    ensures { PrintsScriptLine number [] script.old.progress out.old.items result script.new.progress out.new.items }
+{
+    if !is_begun(&script.progress) {
+        return Err(PlayFault::Trace(number, TraceFault::Order));
+    }
+    script.acted = true;
+    match play_act(alloc, script, act, out) {
+        Ok(()) => Ok(()),
+        Err(_) => Err(PlayFault::NoMemory),
+    }
+}
+
+/// What an act does.
+pub(crate) fn play_act(
+    alloc: Global,
+    script: &mut Script,
+    act: ScriptAct,
+    out: &mut Vec<u8>,
+) -> Result<(), AllocError>
+    requires { IsBegun script.old.progress }
+    ensures { OnOk result (PrintsOn script.old.progress out.old.items script.new.progress out.new.items []) }
+{
+    match act {
+        ScriptAct::Station(line) => {
+            let acted = script.crowd.add_station(line)?;
+            play_acted(alloc, script, acted, out)
+        }
+        ScriptAct::Up(station) => play_connection(alloc, script, station, out),
+        ScriptAct::Raw(station, octets) => {
+            play_message(alloc, script, station, octets.as_slice(), out)
+        }
+        ScriptAct::Radio(word, imsi, place) => {
+            let acted = script.crowd.act_there(word, imsi, place)?;
+            play_acted(alloc, script, acted, out)
+        }
+        ScriptAct::Phone(word, imsi) => {
+            let acted = script.crowd.act(word, imsi)?;
+            play_acted(alloc, script, acted, out)
+        }
+    }
+}
+
+/// What comes of an act: its message is played, and an act that can't be done is told.
+fn play_acted(
+    alloc: Global,
+    script: &mut Script,
+    acted: Acted,
+    out: &mut Vec<u8>,
+) -> Result<(), AllocError>
+    requires { IsBegun script.old.progress }
+    ensures { OnOk result (PrintsOn script.old.progress out.old.items script.new.progress out.new.items []) }
+{
+    remarks_print_nothing();
+    match acted {
+        Acted::Skipped => {
+            push_skipped(out)?;
+            Ok(())
+        }
+        Acted::Silent => Ok(()),
+        Acted::Sends(uplink) => {
+            let octets = uplink.octets.as_slice();
+            play_message(alloc, script, uplink.station, octets, out)
+        }
+    }
+}
+
+/// A station connects, and is set up, also where its connection is refused.
+fn play_connection(
+    alloc: Global,
+    script: &mut Script,
+    station: StationNumber,
+    out: &mut Vec<u8>,
+) -> Result<(), AllocError>
+    requires { IsBegun script.old.progress }
+    ensures { OnOk result (PrintsOn script.old.progress out.old.items script.new.progress out.new.items []) }
+{
+    if !script.crowd.has_station(station) {
+        return play_acted(alloc, script, Acted::Skipped, out);
+    }
+    let mut queue = Vec::new(alloc);
+    let sent = play_up(alloc, &mut script.progress, station, out)?;
+    deliver(&mut script.crowd, sent, &mut queue)?;
+    let answered = play_set_up(alloc, script, station, out)?;
+    deliver(&mut script.crowd, answered, &mut queue)?;
+    play_queue(alloc, script, queue, out)?;
+    Ok(())
+}
+
+/// A station asks to be set up: what is sent at that.
+fn play_set_up(
+    alloc: Global,
+    script: &mut Script,
+    station: StationNumber,
+    out: &mut Vec<u8>,
+) -> Result<Option<Outs>, AllocError>
+    requires { IsBegun script.old.progress }
+    ensures { OnOk result (PrintsOn script.old.progress out.old.items script.new.progress out.new.items []) }
+{
+    match script.crowd.set_up(station)? {
+        Acted::Sends(uplink) => {
+            let octets = uplink.octets.as_slice();
+            let sent = play_in(alloc, &mut script.progress, uplink.station, octets, out)?;
+            Ok(sent)
+        }
+        Acted::Skipped | Acted::Silent => Ok(None),
+    }
+}

@@ -1,0 +1,146 @@
+//! The lines of a script, as their octets come.
+
+ghost use Rattle.std.specs.Prelude.{◌≡◌, ◌<◌, ◌+◌, ◌∷◌, [], ◌^◌, length, OnOk, IsErrOf, true};
+ghost use Rattle.script_text.specs.Kept.{kept_in};
+ghost use Rattle.mme_main.specs.declared.progress.Progress.TheVariants.{Nothing};
+ghost use Rattle.mme_main.specs.Play.{GrowsBy, breaks};
+ghost use Rattle.mme_sim.specs.Simulated.{IsWaiting, WritesLine, Feeds, Closes};
+
+use crate::script::{Script, play_script_line};
+use mme_main::{PlayFault, Watched, write_whole};
+use std::alloc::Global;
+use std::io::Write;
+use trace_text::{LONGEST_LINE, TraceFault};
+
+/// How far a script has been played.
+#[derive(Drop)]
+pub struct ScriptPlayer {
+    /// What the lines before have left.
+    pub script: Script,
+    /// The number of the line that comes, counted from 1.
+    pub line: u64,
+    /// The octets of that line that have come.
+    pub pending: Vec<u8>,
+}
+
+impl ScriptPlayer {
+    /// Nothing has been played.
+    pub fn new(alloc: Global) -> ScriptPlayer
+        ensures progress { result.script.progress ≡ Nothing }
+        ensures line { result.line ≡ 1 }
+        ensures pending { result.pending.items ≡ [] }
+    {
+        ScriptPlayer {
+            script: Script::new(alloc),
+            line: 1,
+            pending: Vec::new(alloc),
+        }
+    }
+
+    /// Plays a piece of the script: each line that ends in it, whose output is written before the next one is played.
+    pub fn feed<W: Write>(
+        &mut self,
+        alloc: Global,
+        piece: &[u8],
+        writer: &mut Watched<W>,
+    ) -> Result<(), PlayFault>
+        requires ready { IsWaiting self.old }
+        requires counted { self.old.line + length piece.now < 2 ^ 64 }
+        ensures feeds { GrowsBy (W.contents writer.old.inner) (W.contents writer.new.inner) (Feeds self.old piece.now result self.new) }
+        ensures write { IsErrOf result PlayFault.Write → writer.new.failed ≡ true }
+    {
+        for octet in piece {
+            match self.take_octet(alloc, *octet, writer) {
+                Ok(()) => {}
+                Err(fault) => return Err(fault),
+            }
+        }
+        Ok(())
+    }
+
+    fn take_octet<W: Write>(
+        &mut self,
+        alloc: Global,
+        octet: u8,
+        writer: &mut Watched<W>,
+    ) -> Result<(), PlayFault>
+        requires ready { IsWaiting self.old }
+        requires counted { self.old.line + 1 < 2 ^ 64 }
+        ensures feeds { GrowsBy (W.contents writer.old.inner) (W.contents writer.new.inner) (Feeds self.old (octet ∷ []) result self.new) }
+        ensures write { IsErrOf result PlayFault.Write → writer.new.failed ≡ true }
+    {
+        if octet == b'\n' {
+            return self.end_line(alloc, writer);
+        }
+        if self.pending.len() >= LONGEST_LINE {
+            return Err(PlayFault::Trace(self.line, TraceFault::TooLong));
+        }
+        match self.pending.push(octet) {
+            Ok(()) => Ok(()),
+            Err(_) => Err(PlayFault::NoMemory),
+        }
+    }
+
+    /// Plays the last line, if it lacks its LF.
+    pub fn finish<W: Write>(
+        &mut self,
+        alloc: Global,
+        writer: &mut Watched<W>,
+    ) -> Result<(), PlayFault>
+        requires ready { IsWaiting self.old }
+        requires counted { self.old.line + 1 < 2 ^ 64 }
+        ensures closes { GrowsBy (W.contents writer.old.inner) (W.contents writer.new.inner) (Closes self.old result) }
+        ensures write { IsErrOf result PlayFault.Write → writer.new.failed ≡ true }
+    {
+        if self.pending.is_empty() {
+            return Ok(());
+        }
+        self.end_line(alloc, writer)
+    }
+
+    fn end_line<W: Write>(
+        &mut self,
+        alloc: Global,
+        writer: &mut Watched<W>,
+    ) -> Result<(), PlayFault>
+        requires ready { IsWaiting self.old }
+        requires counted { self.old.line + 1 < 2 ^ 64 }
+        ensures feeds { GrowsBy (W.contents writer.old.inner) (W.contents writer.new.inner) (Feeds self.old (10 ∷ []) result self.new) }
+        ensures cleared { OnOk result (self.new.pending.items ≡ []) }
+        ensures write { IsErrOf result PlayFault.Write → writer.new.failed ≡ true }
+    {
+        let number = self.line;
+        let text = self.pending.as_slice();
+        match play_and_write(alloc, &mut self.script, number, text, writer) {
+            Ok(()) => {
+                self.line += 1;
+                self.pending.clear();
+                Ok(())
+            }
+            Err(fault) => Err(fault),
+        }
+    }
+}
+
+/// Plays one line, given without its LF, and writes what came of it.
+fn play_and_write<W: Write>(
+    alloc: Global,
+    script: &mut Script,
+    number: u64,
+    text: &[u8],
+    writer: &mut Watched<W>,
+) -> Result<(), PlayFault>
+    requires { breaks text.now ≡ 0 }
+    ensures writes { GrowsBy (W.contents writer.old.inner) (W.contents writer.new.inner) (WritesLine number (kept_in (text.now ∷ [])) script.old.progress result script.new.progress) }
+    ensures write { IsErrOf result PlayFault.Write → writer.new.failed ≡ true }
+{
+    let mut out = Vec::new(alloc);
+    match play_script_line(alloc, script, number, text, &mut out) {
+        Ok(()) => {}
+        Err(fault) => return Err(fault),
+    }
+    if !write_whole(writer, out.as_slice()) {
+        return Err(PlayFault::Write);
+    }
+    Ok(())
+}

@@ -1,0 +1,62 @@
+//! A script, line by line.
+
+ghost use Rattle.std.specs.Prelude.{◌≡◌, ◌∷◌, []};
+ghost use Rattle.script_text.specs.Kept.{kept_in};
+ghost use Rattle.mme_main.specs.Play.{breaks};
+ghost use Rattle.mme_main.specs.declared.progress.Progress.TheVariants.{Nothing};
+ghost use Rattle.script_player.specs.Printed.{PrintsScriptLine};
+
+use crate::acts::play_act_line;
+use crate::lines::play_trace_line;
+use crowd::Crowd;
+use mme_main::{PlayFault, Progress, fault_in_line};
+use script_text::{ScriptLine, first_word_tells, parse_script_line};
+use std::alloc::Global;
+
+/// A script that is being played: the trace that it makes, and its stations and phones.
+#[derive(Drop)]
+pub struct Script {
+    /// How far the trace has got.
+    pub progress: Progress,
+    /// The stations and phones.
+    pub crowd: Crowd,
+    /// Whether an act, an event or a question has come. Nothing is provisioned from then on.
+    pub acted: bool,
+}
+
+impl Script {
+    /// A script of which no line has come.
+    pub fn new(alloc: Global) -> Script
+        ensures { result.progress ≡ Nothing }
+    {
+        Script {
+            progress: Progress::Nothing,
+            crowd: Crowd::new(alloc),
+            acted: false,
+        }
+    }
+}
+
+/// What the script line of that number does: it is given without its LF, and what it stands for is printed and played, with
+/// what stations and phones send at that. At most 64 such messages are played for a line, and for each of its ticks; of the
+/// others only their number is printed. A line that can't be read has its fault. `Order` is the fault of a line that
+/// provisions after an act, an event or a question, and of any other line that says something before `mme`; `Provision` that
+/// of a line that provisions or asks for a subscriber as it may not. At each of these faults nothing is printed. Where memory
+/// is refused the output may end within a line.
+pub fn play_script_line(
+    alloc: Global,
+    script: &mut Script,
+    number: u64,
+    text: &[u8],
+    out: &mut Vec<u8>,
+) -> Result<(), PlayFault>
+    requires { breaks text.now ≡ 0 }
+    ensures { PrintsScriptLine number (kept_in (text.now ∷ [])) script.old.progress out.old.items result script.new.progress out.new.items }
+{
+    first_word_tells();
+    match parse_script_line(alloc, text) {
+        Ok(ScriptLine::Trace(line)) => play_trace_line(alloc, script, number, line, text, out),
+        Ok(ScriptLine::Act(act)) => play_act_line(alloc, script, number, act, out),
+        Err(fault) => Err(fault_in_line(number, fault)),
+    }
+}

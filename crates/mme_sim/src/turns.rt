@@ -1,0 +1,88 @@
+//! What stations and phones send, and what they answer when the MME's messages reach them.
+
+ghost use Rattle.std.specs.Prelude.{◌≡◌, [], OnOk};
+ghost use Rattle.script_player.specs.Printed.{IsBegun, PrintsOn};
+
+use crate::script::Script;
+use crowd::{Crowd, Uplink};
+use identity_slots::StationNumber;
+use mme_core::Outs;
+use script_player::{play_in, push_dropped, remarks_print_nothing};
+use std::alloc::{AllocError, Global};
+
+/// The most messages of stations and phones that are played behind a line, or behind a tick.
+const MOST_TURNS: usize = 64;
+
+/// A station sends a message: it is played, and what is answered to it.
+pub(crate) fn play_message(
+    alloc: Global,
+    script: &mut Script,
+    station: StationNumber,
+    octets: &[u8],
+    out: &mut Vec<u8>,
+) -> Result<(), AllocError>
+    requires { IsBegun script.old.progress }
+    ensures { OnOk result (PrintsOn script.old.progress out.old.items script.new.progress out.new.items []) }
+{
+    let sent = play_in(alloc, &mut script.progress, station, octets, out)?;
+    play_answers(alloc, script, sent, out)?;
+    Ok(())
+}
+
+/// Delivers what the MME sent, if it sent something, and plays what is answered to it.
+pub(crate) fn play_answers(
+    alloc: Global,
+    script: &mut Script,
+    sent: Option<Outs>,
+    out: &mut Vec<u8>,
+) -> Result<(), AllocError>
+    requires { IsBegun script.old.progress }
+    ensures { OnOk result (PrintsOn script.old.progress out.old.items script.new.progress out.new.items []) }
+{
+    let mut queue = Vec::new(alloc);
+    deliver(&mut script.crowd, sent, &mut queue)?;
+    play_queue(alloc, script, queue, out)?;
+    Ok(())
+}
+
+/// Delivers what the MME sent, in order; what is answered comes to the end of the queue.
+pub(crate) fn deliver(
+    crowd: &mut Crowd,
+    sent: Option<Outs>,
+    queue: &mut Vec<Uplink>,
+) -> Result<(), AllocError> {
+    let Some(outs) = sent else {
+        return Ok(());
+    };
+    for message in outs.as_slice() {
+        crowd.deliver(message.station, message.octets.as_slice(), queue)?;
+    }
+    Ok(())
+}
+
+/// Plays the messages of the queue in order, and what is answered to them behind it, up to the most that are played; the
+/// number of the others is printed.
+pub(crate) fn play_queue(
+    alloc: Global,
+    script: &mut Script,
+    mut queue: Vec<Uplink>,
+    out: &mut Vec<u8>,
+) -> Result<(), AllocError>
+    requires { IsBegun script.old.progress }
+    ensures { OnOk result (PrintsOn script.old.progress out.old.items script.new.progress out.new.items []) }
+{
+    remarks_print_nothing();
+    for turn in 0..MOST_TURNS {
+        let Some(uplink) = queue.get(turn) else {
+            return Ok(());
+        };
+        let octets = uplink.octets.as_slice();
+        let sent = play_in(alloc, &mut script.progress, uplink.station, octets, out)?;
+        deliver(&mut script.crowd, sent, &mut queue)?;
+    }
+    if queue.len() <= MOST_TURNS {
+        return Ok(());
+    }
+    push_dropped(alloc, queue.len() - MOST_TURNS, out)?;
+    Ok(())
+}
