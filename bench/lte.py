@@ -208,8 +208,9 @@ def rrc_cause(number):
 
 
 RADIO, NAS = (0, 6), (2, 2)
-USER_INACTIVITY = (RADIO, 20)
-NORMAL_RELEASE = (NAS, 0)
+USER_INACTIVITY, UNKNOWN_MME_ID, UNKNOWN_PAIR = (RADIO, 20), (RADIO, 13), (RADIO, 15)
+NORMAL_RELEASE, DETACHED, NAS_UNSPECIFIED = (NAS, 0), (NAS, 2), (NAS, 3)
+SYNTAX, NOT_COMPATIBLE = ((3, 3), 0), ((3, 3), 3)
 
 
 def cause(group_and_number):
@@ -262,6 +263,10 @@ def capabilities(algorithms):
     return 107, bits((0, 2), (0, 1), (eea << 8, 16), (0, 1), (eia << 8, 16))
 
 
+def s_tmsi(network, tmsi):
+    return 96, Bits().put(0, 2).put(network.code[0], 8).octets(tmsi.to_bytes(4, "big")).done()
+
+
 def paging_index(imsi):
     return 80, bits((int(imsi) % 1024, 10))
 
@@ -302,7 +307,7 @@ def served_gummeis(network):
 
 # --- Messages of S1AP (TS 36.413 clause 9.1) ---
 
-INITIATING, SUCCESSFUL = 0, 1
+INITIATING, SUCCESSFUL, UNSUCCESSFUL = 0, 1, 2
 
 
 def s1ap(kind, code, criticality, *elements):
@@ -323,9 +328,11 @@ def s1_setup_response(network):
     return s1ap(SUCCESSFUL, 17, REJECT, (REJECT, served_gummeis(network)), (IGNORE, (87, b"\xff")))
 
 
-def initial_ue_message(network, station, b, nas):
+def initial_ue_message(network, station, b, nas, tmsi=None):
+    """With an S-TMSI where there is one."""
+    named = [] if tmsi is None else [(REJECT, s_tmsi(network, tmsi))]
     return s1ap(INITIATING, 12, IGNORE, (REJECT, enb_id(b)), (REJECT, nas_pdu(nas)), (REJECT, tai(network, station.tac)),
-                (IGNORE, cell(network, station.cell)), (IGNORE, rrc_cause(3)))
+                (IGNORE, cell(network, station.cell)), (IGNORE, rrc_cause(3)), *named)
 
 
 def uplink_nas(network, station, m, b, nas):
@@ -360,6 +367,12 @@ def release_complete(m, b):
     return s1ap(SUCCESSFUL, 23, REJECT, (IGNORE, mme_id(m)), (IGNORE, enb_id(b)))
 
 
+def error_indication(why, ids=()):
+    """With both ids, or without them."""
+    named = [(IGNORE, mme_id(ids[0])), (IGNORE, enb_id(ids[1]))] if ids else []
+    return s1ap(INITIATING, 15, IGNORE, *named, (IGNORE, cause(why)))
+
+
 def paging(network, imsi, tmsi, tac):
     return s1ap(INITIATING, 10, IGNORE, (IGNORE, paging_index(imsi)), (IGNORE, paging_identity(network, tmsi)),
                 (IGNORE, (109, b"\0")), (IGNORE, paging_areas(network, tac)))
@@ -369,6 +382,10 @@ def path_switch_request(network, station, m, b, capability):
     listed = 22, rab_at(23, REJECT, station.address, b.to_bytes(4, "big"))
     return s1ap(INITIATING, 3, REJECT, (REJECT, enb_id(b)), (REJECT, listed), (REJECT, (88, mme_id(m)[1])),
                 (IGNORE, cell(network, station.cell)), (IGNORE, tai(network, station.tac)), (IGNORE, capabilities(capability)))
+
+
+def path_switch_failure(m, b, why):
+    return s1ap(UNSUCCESSFUL, 3, REJECT, (IGNORE, mme_id(m)), (IGNORE, enb_id(b)), (IGNORE, cause(why)))
 
 
 def path_switch_acknowledge(m, b, chaining, key):
@@ -448,6 +465,22 @@ def tau_accept(network, tac, tmsi, update_type):
     return (b"\x07\x49\x00\x5a\x49\x50" + sized(guti(network, tmsi)) + b"\x54" + sized(tai_list(network, tac)) + only_eps)
 
 
+def service_request(cmac, ksi, count):
+    """The key set and the count's low 5 bits, and the last two octets of the MAC (clause 8.2.25)."""
+    head = bytes([0xC7, ksi << 5 | count % 32])
+    return head + eia2(cmac, count, UP, head)[2:]
+
+
+def detach_request(identity, ksi, switch_off):
+    return bytes([0x07, 0x45, ksi << 4 | switch_off << 3 | 1]) + sized(identity)
+
+
+def identity_response(identity):
+    return b"\x07\x56" + sized(identity)
+
+
+DETACH_ACCEPT, NETWORK_DETACH = b"\x07\x46", b"\x07\x45\x02"
+IDENTITY_REQUEST = b"\x07\x55\x01"
 SECURITY_MODE_COMPLETE = b"\x07\x5e"
 ATTACH_COMPLETE = b"\x07\x43" + long_sized(b"\x52\x00\xc2")
 TAU_COMPLETE = b"\x07\x4a"

@@ -1,9 +1,9 @@
 #!/usr/bin/env python3
-"""Measures `mme play` over traces of phones that attach, and checks each answer.
+"""Measures `mme play` over traces of phones that attach, and `mme sim` over scripts, and checks each answer.
 
     measure.py PROGRAM [--only WORD ..] [--rounds N] [--ticks N]
 
-The words: attaches, growth, events, ticks, setups, instructions. Times are those of the processor, of one thread; the best of
+The words: attaches, growth, events, ticks, setups, instructions, scripts. Times are those of the processor, of one thread; the best of
 the rounds counts, and a run's start and provisioning, measured in the same rounds, are taken off. `instructions` counts them
 by valgrind, which no other work on the machine can change. Ends with 1 where an answer is wrong.
 """
@@ -17,6 +17,7 @@ import tempfile
 import attaches
 import lte
 import phones
+import scripts
 
 COUNTS = (20, 200, 2000)
 MOST = 2048
@@ -41,14 +42,19 @@ class Bench:
         self.wrong += not right
         print("%s: %d answers %s" % (what, len(trace.answers), "as owed" if right else "WRONG"))
 
-    def seconds(self, path):
-        """The processor's time of one run, its output dropped."""
+    def usage(self, path, word="play"):
+        """What one run used, its output dropped."""
         with open(os.devnull, "w") as none:
-            child = subprocess.Popen([self.program, "play", path], stdout=none)
+            child = subprocess.Popen([self.program, word, path], stdout=none)
             _, status, usage = os.wait4(child.pid, 0)
         child.returncode = os.waitstatus_to_exitcode(status)
         if child.returncode:
             raise SystemExit("%s ended with %d" % (path, child.returncode))
+        return usage
+
+    def seconds(self, path, word="play"):
+        """The processor's time of one run."""
+        usage = self.usage(path, word)
         return usage.ru_utime + usage.ru_stime
 
     def instructions(self, text):
@@ -57,10 +63,10 @@ class Bench:
         said = subprocess.run(words + [self.kept("counted", text)], capture_output=True, text=True).stderr
         return int(re.search(r"Collected : (\d+)", said).group(1))
 
-    def best(self, traces, rounds=None):
-        """For each trace the least time of the rounds; they are run in turn, so that they meet the same machine."""
+    def best(self, traces, rounds=None, word="play"):
+        """For each trace or script the least time of the rounds; they are run in turn, so that they meet the same machine."""
         paths = [self.kept("timed%d" % at, text) for at, text in enumerate(traces)]
-        times = [[self.seconds(path) for path in paths] for _ in range(rounds or self.rounds)]
+        times = [[self.seconds(path, word) for path in paths] for _ in range(rounds or self.rounds)]
         return [min(column) for column in zip(*times)]
 
 
@@ -193,6 +199,34 @@ def set_ups(bench):
         print("set-ups with %d subscribers: %.0f lines a second" % (count, lines / (most - least)))
 
 
+def provided(count):
+    """The lines of a script that provide so many phones, each with one vector, and a station that is set up."""
+    trace, station, made = attaches.provisioned(count)
+    lines = [line for line in trace.lines if line.split(" ")[0] in ("mme", "sub", "vec")]
+    return lines + ["station %d %05x %04x" % (station.number, station.identity, station.tac), "up %d" % station.number], made
+
+
+def simulated(bench):
+    """Attaches of a second by a script, and the memory of long scripts."""
+    for count in COUNTS:
+        lines, made = provided(count)
+        acts = ["attach %s 0 %d" % (phone.imsi, phone.slot) for phone in made]
+        text, whole = "\n".join(lines) + "\n", "\n".join(lines + acts) + "\n"
+        said = subprocess.run([bench.program, "sim", bench.kept("script", whole)], capture_output=True, text=True)
+        right = said.returncode == 0 and said.stdout == scripts.owed(whole)
+        bench.wrong += not right
+        least, most = bench.best([text, whole], max(bench.rounds, 2000 // count), word="sim")
+        print("%d attaches by a script, the output %s: %.0f a second" % (
+            count, "as owed" if right else "WRONG", count / (most - least)))
+        sys.stdout.flush()
+    for turns in (1, 25):
+        more = ["%s %s%s" % (word, phone.imsi, place) for _ in range(turns)
+                for phone in made for word, place in (("idle", ""), ("service", " 0 %d" % phone.slot))]
+        usage = bench.usage(bench.kept("long", whole + "\n".join(more) + "\n"), word="sim")
+        print("%d lines of idle and service: %.2f s in all, %.1f MB at most" % (
+            len(more), usage.ru_utime + usage.ru_stime, usage.ru_maxrss / 1000))
+
+
 def main():
     parser = argparse.ArgumentParser(description=__doc__, formatter_class=argparse.RawDescriptionHelpFormatter)
     parser.add_argument("program")
@@ -203,6 +237,7 @@ def main():
     bench = Bench(given.program, given.rounds)
     for word in given.only:
         {"attaches": attaches_per_second, "growth": growth, "events": events, "setups": set_ups, "instructions": instructions,
+         "scripts": simulated,
          "ticks": lambda bench: ticks(bench, given.ticks)}[word](bench)
         sys.stdout.flush()
     sys.exit(1 if bench.wrong else 0)
