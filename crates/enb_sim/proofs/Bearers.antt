@@ -1,5 +1,5 @@
 -- The first of the bearers to be set up.
-use Rattle.std.proofs.Common.{◌≡◌, ℕ, List, [], ◌∷◌, Option, Some, None, slice_get, ap, refl}
+use Rattle.std.proofs.Common.{◌≡◌, ℕ, List, [], ◌∷◌, Some, None, slice_get, ap, refl}
 use Rattle.std.specs.Borrow.{Bor}
 use Rattle.per_bits.specs.declared.wrapped.Listed.{Listed}
 use Rattle.s1ap_elements.specs.declared.bearer.ErabToBeSetup.{ErabToBeSetup}

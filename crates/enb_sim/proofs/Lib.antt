@@ -1,3 +1,4 @@
 mod Bearers
 mod Lengths
 pub mod Writable
+mod Backward

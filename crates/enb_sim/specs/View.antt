@@ -1,5 +1,5 @@
 -- A station's acts.
-use Rattle.std.specs.Prelude.{ℕ, ◌&&◌, Bool, true, false, if◌then◌else◌, List, [], Option, Some, None}
+use Rattle.std.specs.Prelude.{ℕ, ◌&&◌, Bool, false, if◌then◌else◌, List, [], Option, None}
 use Rattle.s1ap_messages.specs.Pdus.{encoded}
 use Rattle.enb_sim.specs.declared.profile.StationProfile.{StationProfile}
 use Rattle.enb_sim.specs.declared.station.StationAct.{StationAct}

@@ -19,11 +19,11 @@ fn is_pair(one: &UeIdPair, other: &UeIdPair) -> bool
     one.mme_id.get() == other.mme_id.get() && one.enb_id.get() == other.enb_id.get()
 }
 
-/// Whether an association is among them.
+/// Whether an association is among them: it's mostly one of the newest, so they are looked at from the last.
 pub(crate) fn holds_pair(pairs: &[UeIdPair], pair: &UeIdPair) -> bool
     ensures { result ≡ holds_pair pair.now pairs.now }
 {
-    pairs.iter().any(|one| is_pair(one, pair))
+    pairs.iter().rev().any(|one| is_pair(one, pair))
 }
 
 /// Adds an association that isn't among them yet, or leaves them as they are.
