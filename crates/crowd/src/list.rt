@@ -1,51 +1,50 @@
-//! Phones by a number of each.
+//! Phones by a key of each.
 
 ghost use Rattle.std.specs.Prelude.{vec_len};
 ghost use Rattle.std.specs.List.Sorted.{IsSearchInRange};
 
 use std::alloc::{AllocError, Global};
 
-/// A phone in a list: its place among the phones, under a number.
+/// A phone in a list: its place among the phones, under a key.
 #[derive(Clone, Copy)]
-struct Entry {
-    number: u64,
+struct Entry<K> {
+    key: K,
     phone: usize,
 }
 
-/// Phones by numbers, in the order of the numbers, so that each is found by halving.
+/// Phones by keys, in the order of the keys, so that each is found by halving.
 #[derive(Drop)]
-pub(crate) struct PhoneList {
-    entries: Vec<Entry>,
+pub(crate) struct PhoneList<K> {
+    entries: Vec<Entry<K>>,
 }
 
-impl PhoneList {
+impl<K: Copy + Ord> PhoneList<K> {
     /// Nobody.
-    pub(crate) fn new(alloc: Global) -> PhoneList {
+    pub(crate) fn new(alloc: Global) -> PhoneList<K> {
         PhoneList {
             entries: Vec::new(alloc),
         }
     }
 
-    // Where the number is, or where it would go.
-    fn search(&self, number: u64) -> Result<usize, usize>
+    // Where the key is, or where it would go.
+    fn search(&self, key: K) -> Result<usize, usize>
         ensures { IsSearchInRange result (vec_len self.now.entries) }
     {
-        self.entries
-            .binary_search_by_key(&number, |entry| entry.number)
+        self.entries.binary_search_by_key(&key, |entry| entry.key)
     }
 
-    /// The phone with this number.
-    pub(crate) fn get(&self, number: u64) -> Option<usize> {
-        match self.search(number) {
+    /// The phone with this key.
+    pub(crate) fn get(&self, key: K) -> Option<usize> {
+        match self.search(key) {
             Ok(at) => Some(self.entries[at].phone),
             Err(_) => None,
         }
     }
 
-    /// The number is this phone's from now on.
-    pub(crate) fn put(&mut self, number: u64, phone: usize) -> Result<(), AllocError> {
-        let entry = Entry { number, phone };
-        match self.search(number) {
+    /// The key is this phone's from now on.
+    pub(crate) fn put(&mut self, key: K, phone: usize) -> Result<(), AllocError> {
+        let entry = Entry { key, phone };
+        match self.search(key) {
             Ok(at) => {
                 self.entries[at] = entry;
                 Ok(())
@@ -54,23 +53,23 @@ impl PhoneList {
         }
     }
 
-    /// The number is nobody's, if it was this phone's.
-    pub(crate) fn take(&mut self, number: u64, phone: usize) {
-        if let Ok(at) = self.search(number) {
+    /// The key is nobody's, if it was this phone's.
+    pub(crate) fn take(&mut self, key: K, phone: usize) {
+        if let Ok(at) = self.search(key) {
             if self.entries[at].phone == phone {
                 self.entries.remove(at);
             }
         }
     }
 
-    /// The number is nobody's.
-    pub(crate) fn free(&mut self, number: u64) {
-        if let Ok(at) = self.search(number) {
+    /// The key is nobody's.
+    pub(crate) fn free(&mut self, key: K) {
+        if let Ok(at) = self.search(key) {
             self.entries.remove(at);
         }
     }
 
-    /// No number is anybody's.
+    /// No key is anybody's.
     pub(crate) fn clear(&mut self) {
         self.entries.clear();
     }

@@ -59,7 +59,7 @@ fn imsi_number(imsi: Imsi) -> u64 {
 pub(crate) struct Phones {
     alloc: Global,
     items: Vec<Handset>,
-    by_imsi: PhoneList,
+    by_imsi: PhoneList<u64>,
 }
 
 impl Phones {

@@ -45,9 +45,18 @@ pub(crate) fn enb_id(phone: PhoneNumber) -> EnbUeId {
     }
 }
 
-// Both numbers of an association as one.
-fn pair_number(pair: &UeIdPair) -> u64 {
-    pair.mme_id.get() * 0x100_0000 + pair.enb_id.get()
+/// Both numbers of an association, in the order of the MME's.
+#[derive(Clone, Copy, PartialEq, Eq, PartialOrd, Ord)]
+struct PairKey {
+    mme_id: u64,
+    enb_id: u64,
+}
+
+fn key_of(pair: &UeIdPair) -> PairKey {
+    PairKey {
+        mme_id: pair.mme_id.get(),
+        enb_id: pair.enb_id.get(),
+    }
 }
 
 // The association of a phone that the MME doesn't know: it has but one for each number at a station.
@@ -79,9 +88,9 @@ pub(crate) struct Site {
     number: StationNumber,
     pub(crate) station: Station,
     // By eNB UE id, the phone that was last in an INITIAL UE MESSAGE with it.
-    comers: PhoneList,
+    comers: PhoneList<u64>,
     // By both numbers of an association, its phone. An association may have ended since.
-    connected: PhoneList,
+    connected: PhoneList<PairKey>,
 }
 
 impl Site {
@@ -103,7 +112,7 @@ impl Site {
 
     /// The phone with this association: a new one is that of the phone that came last with its number.
     pub(crate) fn phone_with(&self, pair: &UeIdPair) -> Option<usize> {
-        match self.connected.get(pair_number(pair)) {
+        match self.connected.get(key_of(pair)) {
             Some(phone) => Some(phone),
             None => self.comers.get(pair.enb_id.get()),
         }
@@ -111,7 +120,7 @@ impl Site {
 
     /// Whether a phone has this association.
     pub(crate) fn serves(&self, phone: usize, pair: &UeIdPair) -> bool {
-        self.connected.get(pair_number(pair)) == Some(phone)
+        self.connected.get(key_of(pair)) == Some(phone)
             && self.station.is_ready()
             && self.station.holds(pair)
     }
@@ -125,7 +134,7 @@ impl Site {
     ) -> Result<(), AllocError> {
         if let PhoneAct::Foreign = act {
             let pair = pair_of_stranger(place);
-            self.connected.free(pair_number(&pair));
+            self.connected.free(key_of(&pair));
         }
         self.comers.put(u64::from(place.phone.get()), phone)
     }
@@ -137,12 +146,12 @@ impl Site {
 
     /// A phone has this association, or will have it.
     pub(crate) fn connect(&mut self, phone: usize, pair: &UeIdPair) -> Result<(), AllocError> {
-        self.connected.put(pair_number(pair), phone)
+        self.connected.put(key_of(pair), phone)
     }
 
     /// A phone hasn't this association.
     pub(crate) fn disconnect(&mut self, phone: usize, pair: &UeIdPair) {
-        self.connected.take(pair_number(pair), phone);
+        self.connected.take(key_of(pair), phone);
     }
 
     /// Nobody is there.

@@ -57,10 +57,7 @@ fn out_of_memory(rt: &impl Eprint) -> ExitCode {
 
 /// Does what is asked, with the file that is named or with standard input.
 fn done(rt: &HostRuntime, choice: Choice<'_>) -> ExitCode {
-    let path = match choice {
-        Choice::Play(path) => path,
-        Choice::Sim(path) => path,
-    };
+    let (Choice::Play(path) | Choice::Sim(path)) = choice;
     match path {
         Some(path) => match File::open(rt, path) {
             Ok(file) => run(rt, choice, file),

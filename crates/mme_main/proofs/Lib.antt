@@ -1,9 +1,7 @@
-pub mod Known
 pub mod Fronts
 pub mod Answered
 pub mod Ticks
 pub mod Places
 pub mod Heard
-pub mod Lines
 pub mod Taken
 pub mod Playing

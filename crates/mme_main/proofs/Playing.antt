@@ -7,8 +7,8 @@ use Rattle.mme_main.specs.declared.player.Player.{Player}
 use Rattle.mme_main.specs.declared.progress.Progress.TheVariants.{Nothing}
 use Rattle.mme_main.specs.Text.{prepended, play, lines_of, played_of}
 use Rattle.mme_main.specs.Play.{breaks, played_from, IsReady, IsPrefix, TakesPiece, Finishes, WritesFor, ReadsFarEnough, Plays}
-use Rattle.mme_main.proofs.Known.{Appends-nil, Appends-then, Consumes-nil, Consumes-then, Consumes-keeps, Consumes-same}
-use Rattle.mme_main.proofs.Taken.{breaks-append, prepended-then}
+use Rattle.mme_main.specs.OctetLaws.{Appends-nil, Appends-then, Consumes-nil, Consumes-then, Consumes-keeps, Consumes-same}
+use Rattle.mme_main.specs.TextLaws.{breaks-append, prepended-then}
 
 -- after some turns: what was read and written, and what the player makes of the rest
 pub record Playing (left_old left_new held_old held_new : Option (List ℕ)) (player : Player) : Type 0 where

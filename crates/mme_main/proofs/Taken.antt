@@ -14,58 +14,9 @@ use Rattle.mme_main.specs.Effects.{Effect}
 use Rattle.mme_main.specs.Text.{Played, prepended, played_text, play, then_play, line_effect, lines_of}
 use Rattle.mme_main.specs.Play.{breaks, played_from, IsReady, IsPrefix, Acts, effect_text, TakesPiece, Finishes}
 use Rattle.mme_main.proofs.Fronts.{IsPrefix-of, IsPrefix-after, IsPrefix-more}
-use Rattle.mme_main.proofs.Lines.{lines_of-at, lines_of-front, lines_of-last, lines_of-nil, line_of-long}
-
--- ---- lists
-
-counts : (b : Bool) (m n : ℕ) → cond b (1 + (m + n)) (m + n) ≡ cond b (1 + m) m + n
-counts true m n = omega arith
-counts false m n = refl
-
-pub breaks-append : (xs ys : List ℕ) → breaks (xs ++ ys) ≡ breaks xs + breaks ys
-breaks-append [] ys = omega arith
-breaks-append (x ∷ xs) ys = ap (λ n. cond (x == 10) (1 + n) n) (breaks-append xs ys) ∙ counts (x == 10) (breaks xs) (breaks ys)
-
-counts-le : (b : Bool) (m n : ℕ) → m ≤ n → cond b (1 + m) m ≤ 1 + n
-counts-le true m n h = omega arith
-counts-le false m n h = omega arith
-
-pub breaks-le : (xs : List ℕ) → breaks xs ≤ length xs
-breaks-le [] = omega arith
-breaks-le (x ∷ xs) = let h = counts-le (x == 10) (breaks xs) (length xs) (breaks-le xs) in omega (arith, h)
-
-other_than : (c : ℕ) → c ≢ 10 → (c == 10) ≡ false
-other_than c h = grind (arith, nat_tests)
-
-pub breaks-other : (c : ℕ) → c ≢ 10 → breaks (c ∷ []) ≡ 0
-breaks-other c h = rw (other_than c h) refl
-
-pub unbroken_more : (xs : List ℕ) (c : ℕ) → breaks xs ≡ 0 → c ≢ 10 → breaks (xs ++ c ∷ []) ≡ 0
-unbroken_more xs c h o = omega (arith, breaks-append xs (c ∷ []), breaks-other c o)
-
-pub split_at : (xs : List ℕ) (i x : ℕ) → i < length xs → x ≡ get_or xs i 0 → xs ≡ (take i xs ++ x ∷ []) ++ drop (i + 1) xs
-split_at xs i x h e =
-    sym (ap (λ y. (take i xs ++ y ∷ []) ++ drop (i + 1) xs) e ∙ ap (λ v. v ++ drop (i + 1) xs) (sym (take_more xs i 0 h)) ∙ take-append-drop (i + 1) xs)
-
-pub nil-from_length : (xs : List ℕ) → length xs ≡ 0 → xs ≡ []
-nil-from_length [] h = refl
-nil-from_length (x ∷ xs) h = absurd (omega arith)
+use Rattle.mme_main.specs.TextLaws.{breaks-append, breaks-other, unbroken_more, lines_of-at, lines_of-front, lines_of-last, lines_of-nil, line_of-long, play-cons, play-nil, prepended-then, prepended-ends}
 
 -- ---- lines that are played
-
-pub play-cons : (progress : Progress) (line : ℕ) (text : List ℕ) (texts : List (List ℕ)) → play progress line (text ∷ texts) ≡ then_play line (line_effect progress text) (λ new. play new (line + 1) texts)
-unfolding play
-play-cons progress line text texts = refl
-
-pub play-nil : (progress : Progress) (line : ℕ) → play progress line [] ≡ played_text [] None
-unfolding play
-play-nil progress line = refl
-
-pub prepended-then : (a b : List ℕ) (p : Played) → prepended a (prepended b p) ≡ prepended (a ++ b) p
-prepended-then a b p = ap (λ (v : List ℕ). let r : Played = record { text = v; fault = p.fault } in r) (sym (append_assoc a b p.text))
-
-pub prepended-ends : (a : List ℕ) (fault : Option (ℕ × TraceFault)) → prepended a (played_text [] fault) ≡ played_text a fault
-prepended-ends a fault = ap (λ (v : List ℕ). let r : Played = record { text = v; fault = fault } in r) (append-nil a)
 
 effect_then : (line : ℕ) (effect same : Effect) (rest : Progress → Played) → effect ≡ same → then_play line effect rest ≡ then_play line same rest
 effect_then line effect same rest e = ap (λ v. then_play line v rest) e

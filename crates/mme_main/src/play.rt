@@ -10,7 +10,7 @@ use std::alloc::Global;
 use std::io::{Read, Write};
 
 /// How many reads a run makes at most.
-const MOST_TURNS: u64 = 4_294_967_296;
+pub const MOST_TURNS: u64 = 4_294_967_296;
 
 /// Plays the trace that the reader gives, and writes the answers of each event before the next one.
 /// What has been answered is flushed before each read after the first.

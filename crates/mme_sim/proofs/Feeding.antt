@@ -10,7 +10,7 @@ use Rattle.mme_main.specs.declared.progress.Progress.{Progress}
 use Rattle.mme_main.specs.Text.{lines_of}
 use Rattle.mme_main.specs.Play.{breaks}
 use Rattle.script_player.specs.Printed.{Speaks, Prints, PrintsScriptLine}
-use Rattle.script_player.specs.TextLaws.{breaks-append, breaks-other, unbroken_more, lines_of-at, lines_of-last, lines_of-nil}
+use Rattle.mme_main.specs.TextLaws.{breaks-append, breaks-other, unbroken_more, lines_of-at, lines_of-last, lines_of-nil}
 use Rattle.script_player.specs.PrintLaws.{kept_nil, kept_assoc, kept_in-append, Speaks-nil, Speaks-then}
 use Rattle.mme_sim.specs.declared.player.ScriptPlayer.{ScriptPlayer}
 use Rattle.mme_sim.specs.Simulated.{WritesLine, IsWaiting, kept_before, GoesOn, Feeds, Closes}

@@ -1,4 +1,3 @@
-pub mod Known
 pub mod Printing
 pub mod Feeding
 pub mod Simulating

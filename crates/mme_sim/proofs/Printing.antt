@@ -1,27 +1,18 @@
 -- What calls print, one after another.
-use Rattle.std.proofs.Common.{◌≡◌, ℕ, List, [], ◌++◌, Result, OnOk, sym, subst, ◌∙◌, append-nil}
+use Rattle.std.proofs.Common.{◌≡◌, ℕ, List, [], Result, OnOk, sym, subst}
 use Rattle.trace_text.specs.declared.line.Line.{Line}
 use Rattle.trace_text.specs.declared.fault.TraceFault.{TraceFault}
-use Rattle.script_text.specs.Kept.{kept_in, kept_line}
+use Rattle.script_text.specs.Kept.{kept_line}
 use Rattle.mme_main.specs.declared.progress.Progress.{Progress}
-use Rattle.mme_main.specs.Text.{lines_of}
-use Rattle.script_player.specs.Printed.{AddsComments, IsBegun, Prints, PrintsOn, RemarksPrintNothing}
-
-kept_nil : (xs : List (Result Line TraceFault)) → xs ++ [] ≡ xs
-kept_nil xs = append-nil xs
-
-Prints-then : (a b c : Progress) (s t u : List ℕ) (kept : List (Result Line TraceFault)) → Prints a s b t kept → Prints b t c u [] → Prints a s c u kept
-Prints-then a b c s t u kept p q first h =
-    let one = p first h in
-    let two = q first one.0 in
-    (two.0, two.1 ∙ kept_nil (kept_in (lines_of t)) ∙ one.1)
+use Rattle.script_player.specs.Printed.{AddsComments, IsBegun, PrintsOn}
+use Rattle.script_player.specs.PrintLaws.{Prints-then, Prints-comments}
 
 pub PrintsOn-then : (a b c : Progress) (s t u : List ℕ) (kept : List (Result Line TraceFault)) → PrintsOn a s b t kept → PrintsOn b t c u [] → PrintsOn a s c u kept
 PrintsOn-then a b c s t u kept p q = (q.0, Prints-then a b c s t u kept p.1 q.1)
 
 -- a comment that answers nothing
-pub PrintsOn-remark : RemarksPrintNothing → (progress : Progress) (before after : List ℕ) → IsBegun progress → AddsComments before after [] → PrintsOn progress before progress after []
-PrintsOn-remark law progress before after h adds = (h, law progress before after adds)
+pub PrintsOn-remark : (progress : Progress) (before after : List ℕ) → IsBegun progress → AddsComments before after [] → PrintsOn progress before progress after []
+PrintsOn-remark progress before after h adds = (h, Prints-comments progress before after adds)
 
 -- the line that was played
 pub PrintsOn-line : {E : Type 0} (result : Result (Unit {0}) E) (line same : Line) (old new : Progress) (before after : List ℕ) → line ≡ same

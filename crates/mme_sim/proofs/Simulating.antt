@@ -9,9 +9,9 @@ use Rattle.mme_main.specs.declared.progress.Progress.{Progress}
 use Rattle.mme_main.specs.declared.progress.Progress.TheVariants.{Nothing}
 use Rattle.mme_main.specs.Text.{prepended, play, played_text, lines_of, played_of}
 use Rattle.mme_main.specs.Play.{breaks}
-use Rattle.mme_sim.proofs.Known.{Appends-nil, Appends-then, Consumes-nil, Consumes-then, Consumes-keeps, Consumes-same}
+use Rattle.mme_main.specs.OctetLaws.{Appends-nil, Appends-then, Consumes-nil, Consumes-then, Consumes-keeps, Consumes-same}
 use Rattle.script_player.specs.Printed.{answers_in, Speaks}
-use Rattle.script_player.specs.TextLaws.{breaks-append, lines_of-nil, play-nil, prepended-ends}
+use Rattle.mme_main.specs.TextLaws.{breaks-append, lines_of-nil, play-nil, prepended-ends}
 use Rattle.script_player.specs.PrintLaws.{kept_assoc, Speaks-nil, Speaks-then}
 use Rattle.mme_sim.specs.declared.player.ScriptPlayer.{ScriptPlayer}
 use Rattle.mme_sim.specs.Simulated.{IsWaiting, kept_before, GoesOn, Feeds, Closes, SimTells, OnlyAtEnd, Simulates}

@@ -9,7 +9,7 @@ use crowd::Acted;
 use identity_slots::StationNumber;
 use mme_core::Outs;
 use mme_main::PlayFault;
-use script_player::{is_begun, play_in, play_up, push_skipped, remarks_print_nothing};
+use script_player::{is_begun, play_in, play_up, push_skipped};
 use script_text::ScriptAct;
 use std::alloc::{AllocError, Global};
 use trace_text::TraceFault;
@@ -74,7 +74,6 @@ fn play_acted(
     requires { IsBegun script.old.progress }
     ensures { OnOk result (PrintsOn script.old.progress out.old.items script.new.progress out.new.items []) }
 {
-    remarks_print_nothing();
     match acted {
         Acted::Skipped => {
             push_skipped(out)?;

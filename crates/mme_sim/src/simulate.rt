@@ -5,12 +5,9 @@ ghost use Rattle.mme_main.specs.Play.{GrowsBy};
 ghost use Rattle.mme_sim.specs.Simulated.{Simulates, IsWaiting, Feeds, Closes};
 
 use crate::player::ScriptPlayer;
-use mme_main::{PlayFault, Watched};
+use mme_main::{MOST_TURNS, PlayFault, Watched};
 use std::alloc::Global;
 use std::io::{Read, Write};
-
-/// How many reads a run makes at most.
-const MOST_TURNS: u64 = 4_294_967_296;
 
 /// Simulates the script that the reader gives: what comes of each line is written, as a trace with its answers, before the next
 /// line is played. What has been written is flushed before each read after the first.

@@ -7,11 +7,11 @@ use crate::script::Script;
 use crowd::{Crowd, Uplink};
 use identity_slots::StationNumber;
 use mme_core::Outs;
-use script_player::{play_in, push_dropped, remarks_print_nothing};
+use script_player::{play_in, push_dropped};
 use std::alloc::{AllocError, Global};
 
 /// The most messages of stations and phones that are played behind a line, or behind a tick.
-const MOST_TURNS: usize = 64;
+const MOST_ANSWERS: usize = 64;
 
 /// A station sends a message: it is played, and what is answered to it.
 pub(crate) fn play_message(
@@ -71,8 +71,7 @@ pub(crate) fn play_queue(
     requires { IsBegun script.old.progress }
     ensures { OnOk result (PrintsOn script.old.progress out.old.items script.new.progress out.new.items []) }
 {
-    remarks_print_nothing();
-    for turn in 0..MOST_TURNS {
+    for turn in 0..MOST_ANSWERS {
         let Some(uplink) = queue.get(turn) else {
             return Ok(());
         };
@@ -80,9 +79,9 @@ pub(crate) fn play_queue(
         let sent = play_in(alloc, &mut script.progress, uplink.station, octets, out)?;
         deliver(&mut script.crowd, sent, &mut queue)?;
     }
-    if queue.len() <= MOST_TURNS {
+    if queue.len() <= MOST_ANSWERS {
         return Ok(());
     }
-    push_dropped(alloc, queue.len() - MOST_TURNS, out)?;
+    push_dropped(alloc, queue.len() - MOST_ANSWERS, out)?;
     Ok(())
 }

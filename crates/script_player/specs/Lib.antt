@@ -1,3 +1,3 @@
 pub mod Printed
-pub mod TextLaws
+pub mod LineLaws
 pub mod PrintLaws

@@ -12,7 +12,8 @@ use Rattle.mme_main.specs.Effects.{effect_of}
 use Rattle.mme_main.specs.Text.{prepended, play, then_play, line_effect, lines_of}
 use Rattle.mme_main.specs.Play.{breaks}
 use Rattle.script_player.specs.Printed.{answer_in, answers_in, AreComments, AddsComments, Speaks, Prints, ReadsAs}
-use Rattle.script_player.specs.TextLaws.{breaks-append, first_line, one_line, one_break, lines_of-nil, play-cons, prepended-then, skip_effect, hash_skip, not_skipped}
+use Rattle.mme_main.specs.TextLaws.{breaks-append, lines_of-nil, play-cons, prepended-then}
+use Rattle.script_player.specs.LineLaws.{first_line, one_line, one_break, skip_effect, hash_skip, not_skipped}
 
 pub kept_nil : (xs : List (Result Line TraceFault)) → xs ++ [] ≡ xs
 kept_nil xs = append-nil xs
@@ -184,6 +185,7 @@ Prints-add old new before text after kept e speaks k first h =
       ap (λ v. kept_in (lines_of v)) e ∙ ap kept_in (h.whole text) ∙ kept_in-append (lines_of before) (lines_of text) ∙ ap (λ v. kept_in (lines_of before) ++ v) k,
     )
 
+-- comments that answer nothing leave the trace where it is
 pub Prints-comments : (progress : Progress) (before after : List ℕ) → AddsComments before after [] → Prints progress before progress after []
 Prints-comments progress before after h = Prints-add progress progress before h.0 after [] h.1 (Speaks-comments progress h.0 h.2) h.2.none_kept
 

@@ -52,10 +52,6 @@ abbrev pub Prints : Progress → List ℕ → Progress → List ℕ → List (Re
 Prints old before new after kept =
     (first : Progress) → Speaks first before old → Speaks first after new × (kept_in (lines_of after) ≡ kept_in (lines_of before) ++ kept)
 
--- comments that answer nothing leave the trace where it is
-abbrev pub RemarksPrintNothing : Type 0
-RemarksPrintNothing = (progress : Progress) (before after : List ℕ) → AddsComments before after [] → Prints progress before progress after []
-
 -- the same of a call that an MME takes part in, which ran already or is made of what is provisioned
 abbrev pub PrintsFrom : World → List ℕ → World → List ℕ → List (Result Line TraceFault) → Type 0
 PrintsFrom old before new after kept = (progress : Progress) → running progress ≡ Ok old → Prints progress before (Running new) after kept

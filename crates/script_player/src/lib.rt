@@ -6,12 +6,10 @@
 
 mod comments;
 mod events;
-mod laws;
 mod lines;
 
 pub use comments::{push_dropped, push_skipped};
 pub use events::{print_event, print_show};
-pub use laws::remarks_print_nothing;
 pub use lines::{
     is_begun, play_cancel, play_data, play_in, play_lost, play_mme, play_show, play_sub, play_tick,
     play_up, play_vec,

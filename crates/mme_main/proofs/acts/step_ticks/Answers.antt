@@ -3,7 +3,7 @@ use Rattle.mme_core.specs.World.{World, reply}
 use Rattle.mme_core.specs.declared.event.Event.TheVariants as event
 use Rattle.mme_main.specs.Words.{reply_text}
 use Rattle.mme_main.specs.Effects.{ticked}
-use Rattle.mme_main.proofs.Known.{Appends-then}
+use Rattle.mme_main.specs.OctetLaws.{Appends-then}
 use Rattle.mme_main.proofs.Answered.{Puts-after}
 use Rattle.mme_main.proofs.Ticks.{Ticking-tick, Ticking-refused, Ticking-end, Ticking-front}
 use Rattle.mme_main.proofs.acts.step_ticks.Goals as goal

@@ -1,6 +1,6 @@
 use Rattle.std.proofs.Common.{◌+◌, ◌++◌, sym, take, arith}
 use Rattle.mme_main.specs.Words.{answers_of, out_text}
-use Rattle.mme_main.proofs.Known.{Appends-then, Appends-same}
+use Rattle.mme_main.specs.OctetLaws.{Appends-then, Appends-same}
 use Rattle.mme_main.proofs.Answered.{answers_of-more, answers_of-front, Puts-after}
 use Rattle.mme_main.proofs.answers.write_all.Goals as goal
 

@@ -1,7 +1,7 @@
 use Rattle.std.proofs.Common.{◌-◌, length, take, drop, ap, arith}
 use Rattle.std.proofs.lemmas.List.{length-drop}
 use Rattle.std.specs.Io.KnownBytes.{Appends}
-use Rattle.mme_main.proofs.Known.{Appends-then, Appends-same, take_then_take, take_rest}
+use Rattle.mme_main.specs.OctetLaws.{Appends-then, Appends-same, take_then_take, take_rest}
 use Rattle.mme_main.proofs.answers.write_whole.Goals as goal
 
 pub loop-turn-preserved : goal.loop-turn-preserved

@@ -1,7 +1,7 @@
 use Rattle.std.proofs.Common.{[], take, ap, arith, rules}
 use Rattle.std.proofs.lemmas.List.{length-take}
-use Rattle.mme_main.proofs.Known.{Consumes-same, Keeps-same}
-use Rattle.mme_main.proofs.Taken.{breaks-le}
+use Rattle.mme_main.specs.OctetLaws.{Consumes-same, Keeps-same}
+use Rattle.mme_main.specs.TextLaws.{breaks-le}
 use Rattle.mme_main.proofs.Playing.{Playing-turn, Playing-idle, Plays-fault, Plays-last, Plays-read}
 use Rattle.mme_main.proofs.play.run_play.Goals as goal
 

@@ -1,7 +1,7 @@
 use Rattle.std.proofs.Common.{[], take, ap, arith, rules}
 use Rattle.std.proofs.lemmas.List.{length-take}
-use Rattle.mme_sim.proofs.Known.{Consumes-same, Keeps-same}
-use Rattle.script_player.specs.TextLaws.{breaks-le}
+use Rattle.mme_main.specs.OctetLaws.{Consumes-same, Keeps-same}
+use Rattle.mme_main.specs.TextLaws.{breaks-le}
 use Rattle.mme_sim.proofs.Simulating.{Simulating-start, Simulating-turn, Simulating-idle, Simulates-fault, Simulates-last, Simulates-read}
 use Rattle.mme_sim.proofs.simulate.run_sim.Goals as goal
 

@@ -1,7 +1,7 @@
 use Rattle.std.proofs.Common.{◌++◌, ◌^◌, ◌<◌, ◌≤◌, length, codes, refl, arith, length-append}
 use Rattle.std.specs.Fmt.{decimal}
 use Rattle.std.proofs.lemmas.Fmt.{length-decimal-le}
-use Rattle.script_player.specs.TextLaws.{decimal_breaks, unbroken_then}
+use Rattle.script_player.specs.LineLaws.{decimal_breaks, unbroken_then}
 use Rattle.script_player.specs.PrintLaws.{AreComments-remark}
 use Rattle.script_player.proofs.comments.push_dropped.Goals as goal
 

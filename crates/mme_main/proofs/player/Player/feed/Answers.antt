@@ -1,7 +1,8 @@
 use Rattle.std.proofs.Common.{◌+◌, [], ◌∷◌, ◌++◌, take, drop, get_or, Ok, Err, refl, sym, arith, length-take}
 use Rattle.std.proofs.lemmas.List.{take_more}
-use Rattle.mme_main.proofs.Known.{Appends-then}
-use Rattle.mme_main.proofs.Taken.{breaks-le, split_at, Takes-then, Takes-stop, Takes-piece}
+use Rattle.mme_main.specs.OctetLaws.{Appends-then}
+use Rattle.mme_main.specs.TextLaws.{breaks-le, split_at}
+use Rattle.mme_main.proofs.Taken.{Takes-then, Takes-stop, Takes-piece}
 use Rattle.mme_main.proofs.player.Player.feed.Goals as goal
 
 pub take_octet-requires-clause-counted : goal.take_octet-requires-clause-counted

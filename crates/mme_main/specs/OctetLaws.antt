@@ -1,7 +1,8 @@
--- Bytes that a writer got and a reader gave, one call after another: laws of the bytes that std tells.
-use Rattle.std.proofs.Common.{◌≡◌, ℕ, List, [], ◌++◌, Option, Some, None, refl, sym, ap, ◌∙◌, append_assoc, arith}
+-- Octets that a writer got and a reader gave, one call after another: laws of the octets that std tells.
+use Rattle.std.proofs.Common.{◌≡◌, ℕ, ◌+◌, ◌-◌, ◌≤◌, List, [], ◌++◌, take, drop, length, Option, Some, None, refl, sym, ap, ◌∙◌, append_assoc, arith}
 use Rattle.std.specs.Io.KnownBytes.{Appends, Consumes, Keeps}
 use Rattle.std.proofs.lemmas.Grind.{common_steps}
+use Rattle.std.proofs.lemmas.List.{drop-take, take-append-drop}
 
 pub Appends-nil : (a : Option (List ℕ)) → Appends a a []
 Appends-nil None = tt
@@ -35,6 +36,14 @@ Consumes-then None b c x y p q = tt
 Consumes-then (Some us) None c x y p q = absurd p
 Consumes-then (Some us) (Some vs) None x y p q = absurd q
 Consumes-then (Some us) (Some vs) (Some ws) x y p q = p ∙ ap (λ v. x ++ v) q ∙ sym (append_assoc x y ws)
+
+pub take_then_take : (n m : ℕ) (xs : List ℕ) → n ≤ length xs → take n xs ++ take m (drop n xs) ≡ take (n + m) xs
+take_then_take n m xs h =
+    let front : take n (take (n + m) xs) ≡ take n xs = grind (arith, common_steps) in
+    ap (λ v. v ++ take m (drop n xs)) (sym front) ∙ ap (λ v. take n (take (n + m) xs) ++ v) (sym (drop-take n m xs)) ∙ take-append-drop n (take (n + m) xs)
+
+pub take_rest : (at : ℕ) (xs : List ℕ) → take (length xs - at) (drop at xs) ≡ drop at xs
+take_rest at xs = grind (arith, common_steps)
 
 pub Consumes-same : (a b : Option (List ℕ)) (x y : List ℕ) → x ≡ y → Consumes a b x → Consumes a b y
 Consumes-same a b x y e p = rw (← e) p
