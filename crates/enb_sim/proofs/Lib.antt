@@ -1,4 +1,3 @@
 mod Bearers
 mod Lengths
 pub mod Writable
-mod Backward
