@@ -13,7 +13,7 @@ use std::alloc::Global;
 use std::marker::Model;
 
 /// `N` bits, N below 65536; a contract sees their list.
-#[derive(Clone, Copy, Debug, PartialEq, Eq)]
+#[derive(Clone, Copy)]
 pub struct BitField<const N: usize> {
     bits: [bool; N],
 }

@@ -13,7 +13,7 @@ use std::alloc::Global;
 use std::marker::Model;
 
 /// `N` octets, N below 65536; a contract sees their list.
-#[derive(Clone, Copy, Debug, PartialEq, Eq)]
+#[derive(Clone, Copy, PartialEq, Eq)]
 pub struct Octets<const N: usize> {
     octets: [u8; N],
 }

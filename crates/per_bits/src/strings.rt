@@ -13,7 +13,7 @@ use bit_streams::{BitReader, BitWriter, PerError, PerFault};
 use std::alloc::Global;
 
 /// Up to 16383 octets behind their length, lent by the encoding (X.691 clause 17.8).
-#[derive(Clone, Copy, Debug, PartialEq, Eq)]
+#[derive(Clone, Copy)]
 pub struct OctetString<'a> {
     pub octets: &'a [u8],
 }
@@ -53,7 +53,7 @@ pub fn put_open(octets: &[u8], writer: &mut BitWriter) -> Result<(), PerError>
 }
 
 /// From `MIN` to `MAX` octets or characters, MAX below 65536, lent by the encoding (X.691 clauses 17 and 30).
-#[derive(Clone, Copy, Debug, PartialEq, Eq)]
+#[derive(Clone, Copy)]
 pub struct SizedString<'a, const MIN: u64, const MAX: u64> {
     pub octets: &'a [u8],
 }

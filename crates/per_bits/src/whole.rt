@@ -13,7 +13,7 @@ use std::alloc::Global;
 use std::marker::Model;
 
 /// A whole number from `LO` to `HI` (X.691 clauses 11.5 and 13); a contract sees the number.
-#[derive(Clone, Copy, Debug, PartialEq, Eq)]
+#[derive(Clone, Copy, PartialEq, Eq)]
 pub struct Whole<const LO: u64, const HI: u64> {
     value: u64,
 }

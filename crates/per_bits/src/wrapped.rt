@@ -20,7 +20,7 @@ pub const GREATEST_ID: u64 = 65535;
 pub const LAST_CRITICALITY: u64 = 2;
 
 /// A value behind an extension bit that must be 0, else Range: a size or a number with an extensible bound.
-#[derive(Clone, Copy, Debug, PartialEq, Eq, Drop)]
+#[derive(Clone, Copy, Drop)]
 pub struct Closed<T: Drop> {
     pub value: T,
 }
@@ -46,7 +46,7 @@ impl<'a, T: Element<'a>> Element<'a> for Closed<T> {
 }
 
 /// An element of a list of elements of one id (TS 36.413 clause 9.3.7): any other id is Range at the id, the criticality is not compared.
-#[derive(Clone, Copy, Debug, PartialEq, Eq, Drop)]
+#[derive(Clone, Copy, Drop)]
 pub struct Listed<T: Drop, const ID: u64, const CRITICALITY: u64> {
     pub value: T,
 }
