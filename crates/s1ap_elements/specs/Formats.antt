@@ -1,5 +1,5 @@
 -- Formats of elements (TS 36.413 clause 9.3.4).
-use Rattle.per_bits.specs.Formats.{Format, number, octets, octets_between, octet_string, bit_string, bits_between, enumerated, closed, items, sequence, choice, done, must, may, skip, last, either, item, extensions}
+use Rattle.per_bits.specs.Formats.{Format, Fields, number, octets, octets_between, octet_string, bit_string, bits_between, enumerated, closed, items, sequence, choice, done, must, may, skip, last, either, item, extensions}
 
 -- ---- numbers
 
@@ -119,6 +119,10 @@ qos = sequence (must (number 0 255) (must arp (skip gbr (skip extensions done)))
 
 abbrev pub erab_to_be_setup : Format
 erab_to_be_setup = sequence (must erab_id (must qos (must address (must (octets 4) (may octet_string (skip extensions done))))))
+
+-- what stands behind the quality of service of a bearer that is to be set up
+abbrev pub erab_ends : Fields
+erab_ends = must address (must (octets 4) (may octet_string (skip extensions done)))
 
 abbrev pub erab_tunnel : Format
 erab_tunnel = sequence (must erab_id (must address (must (octets 4) (skip extensions done))))

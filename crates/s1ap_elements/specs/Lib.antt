@@ -1,4 +1,5 @@
 pub mod Formats
+pub mod Sequences
 pub mod Names
 pub mod Causes
 pub mod Stations

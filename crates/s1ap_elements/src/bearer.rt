@@ -4,14 +4,14 @@ use crate::identity::{Address, BitRate, ErabId, Teid};
 use per_bits::{Items, Listed, Whole};
 
 /// The bit rates of a phone, all bearers together (TS 36.413 clause 9.2.1.20).
-#[derive(Clone, Copy, Debug, PartialEq, Eq)]
+#[derive(Clone, Copy)]
 pub struct Ambr {
     pub down: BitRate,
     pub up: BitRate,
 }
 
 /// Who keeps a bearer where there is too little for all (TS 36.413 clause 9.2.1.60).
-#[derive(Clone, Copy, Debug, PartialEq, Eq)]
+#[derive(Clone, Copy)]
 pub struct Arp {
     /// 1 to 14, 1 being the highest; 15 is no priority.
     pub priority: Whole<0, 15>,
@@ -22,7 +22,7 @@ pub struct Arp {
 }
 
 /// Bit rates that a bearer is assured of (TS 36.413 clause 9.2.1.18): read and not kept.
-#[derive(Clone, Copy, Debug, PartialEq, Eq)]
+#[derive(Clone, Copy)]
 pub struct Gbr {
     pub maximum_down: BitRate,
     pub maximum_up: BitRate,
@@ -31,7 +31,7 @@ pub struct Gbr {
 }
 
 /// How a bearer is served (TS 36.413 clause 9.2.1.15).
-#[derive(Clone, Copy, Debug, PartialEq, Eq)]
+#[derive(Clone, Copy)]
 pub struct Qos {
     pub qci: Whole<0, 255>,
     pub arp: Arp,

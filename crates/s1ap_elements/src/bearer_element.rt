@@ -1,16 +1,19 @@
 //! What is told of radio access bearers, read and written.
 
-ghost use Rattle.std.specs.Prelude.{◌≡◌, option_map};
-ghost use Rattle.bit_streams.specs.Bits.{Gives, bits};
+ghost use Rattle.std.specs.Prelude.{◌≡◌, ◌∷◌, [], option_map};
+ghost use Rattle.bit_streams.specs.Bits.{Gives};
 ghost use Rattle.per_bits.specs.Formats.{octet_string};
-ghost use Rattle.per_bits.specs.Reading.{read_at, skipped_at, optional_at};
-ghost use Rattle.bit_streams.specs.Each.{times};
-ghost use Rattle.per_bits.specs.Writing.{write_at, write_optional, Wrote};
-ghost use Rattle.s1ap_elements.specs.Formats.{ambr, arp, gbr, qos, erab_to_be_setup, erab_tunnel};
+ghost use Rattle.per_bits.specs.Reading.{read_at, fields_at, skipped_at, optional_at};
+ghost use Rattle.per_bits.specs.Writing.{write_at, write_fields, write_optional, Wrote};
+ghost use Rattle.s1ap_elements.specs.Formats.{ambr, arp, gbr, qos, erab_ends, erab_to_be_setup, erab_tunnel};
 ghost use Rattle.s1ap_elements.specs.Bearers.{typed_ambr, typed_arp, typed_gbr, typed_qos, erab_to_be_setup_lists, typed_erab_to_be_setup, typed_erab_tunnel};
 
 use crate::bearer::{Ambr, Arp, ErabToBeSetup, ErabTunnel, Gbr, Qos};
 use crate::identity::{Address, BitRate, ErabId, Teid};
+use crate::sequence::{
+    put_flags, put_three_flags, read_pair, read_three, read_two, skip_later, take_flags,
+    take_three_flags,
+};
 use per_bits::{
     BitReader, BitWriter, Closed, Element, OctetString, PerError, Whole, put_open, skip_additions,
     skip_extensions,
@@ -22,14 +25,15 @@ impl<'a> Element<'a> for Ambr {
 
     ghost view = { typed_ambr };
 
-    #[tactic(auto, unfolding(bit_streams::specs::Each::times))]
-    fn read(_alloc: Global, reader: &mut BitReader<'a>) -> Result<Self, PerError> {
-        read_sequence!(reader => Ambr { down: BitRate::read(reader)?, up: BitRate::read(reader)? })
+    fn read(alloc: Global, reader: &mut BitReader<'a>) -> Result<Self, PerError> {
+        match read_two::<BitRate, BitRate>(alloc, reader) {
+            Ok((down, up)) => Ok(Ambr { down, up }),
+            Err(error) => Err(error),
+        }
     }
 
-    #[tactic(auto, unfolding(bit_streams::specs::Bits::bits))]
     fn write(&self, alloc: Global, writer: &mut BitWriter) -> Result<(), PerError> {
-        writer.put_bits(2, 0)?;
+        put_flags(writer)?;
         self.down.write(alloc, writer)?;
         self.up.write(alloc, writer)
     }
@@ -40,18 +44,19 @@ impl<'a> Element<'a> for Arp {
 
     ghost view = { typed_arp };
 
-    #[tactic(auto, unfolding(bit_streams::specs::Each::times))]
-    fn read(_alloc: Global, reader: &mut BitReader<'a>) -> Result<Self, PerError> {
-        read_sequence!(reader => Arp {
-            priority: Whole::<0, 15>::read(reader)?,
-            capability: Whole::<0, 1>::read(reader)?,
-            vulnerability: Whole::<0, 1>::read(reader)?,
-        })
+    fn read(alloc: Global, reader: &mut BitReader<'a>) -> Result<Self, PerError> {
+        match read_three::<Whole<0, 15>, Whole<0, 1>, Whole<0, 1>>(alloc, reader) {
+            Ok((priority, capability, vulnerability)) => Ok(Arp {
+                priority,
+                capability,
+                vulnerability,
+            }),
+            Err(error) => Err(error),
+        }
     }
 
-    #[tactic(auto, unfolding(bit_streams::specs::Bits::bits))]
     fn write(&self, alloc: Global, writer: &mut BitWriter) -> Result<(), PerError> {
-        writer.put_bits(2, 0)?;
+        put_flags(writer)?;
         self.priority.write(alloc, writer)?;
         self.capability.write(alloc, writer)?;
         self.vulnerability.write(alloc, writer)
@@ -63,19 +68,21 @@ impl<'a> Element<'a> for Gbr {
 
     ghost view = { typed_gbr };
 
-    #[tactic(auto, unfolding(bit_streams::specs::Each::times))]
-    fn read(_alloc: Global, reader: &mut BitReader<'a>) -> Result<Self, PerError> {
-        read_sequence!(reader => Gbr {
-            maximum_down: BitRate::read(reader)?,
-            maximum_up: BitRate::read(reader)?,
-            down: BitRate::read(reader)?,
-            up: BitRate::read(reader)?,
+    fn read(alloc: Global, reader: &mut BitReader<'a>) -> Result<Self, PerError> {
+        let (extended, more) = take_flags(reader)?;
+        let (maximum_down, maximum_up) = read_pair::<BitRate, BitRate>(alloc, reader)?;
+        let (down, up) = read_pair::<BitRate, BitRate>(alloc, reader)?;
+        skip_later(extended, more, reader)?;
+        Ok(Gbr {
+            maximum_down,
+            maximum_up,
+            down,
+            up,
         })
     }
 
-    #[tactic(auto, unfolding(bit_streams::specs::Bits::bits))]
     fn write(&self, alloc: Global, writer: &mut BitWriter) -> Result<(), PerError> {
-        writer.put_bits(2, 0)?;
+        put_flags(writer)?;
         self.maximum_down.write(alloc, writer)?;
         self.maximum_up.write(alloc, writer)?;
         self.down.write(alloc, writer)?;
@@ -100,22 +107,17 @@ impl<'a> Element<'a> for Qos {
 
     ghost view = { typed_qos };
 
-    #[tactic(auto, unfolding(bit_streams::specs::Each::times))]
     fn read(alloc: Global, reader: &mut BitReader<'a>) -> Result<Self, PerError> {
-        let extended = reader.take_bit()?;
-        let assured = reader.take_bit()?;
-        let more = reader.take_bit()?;
+        let (extended, assured, more) = take_three_flags(reader)?;
         let qci = Whole::<0, 255>::read(reader)?;
         let arp = Arp::read(alloc, reader)?;
         skip_gbr(assured, alloc, reader)?;
-        skip_extensions(more, reader)?;
-        skip_additions(extended, reader)?;
+        skip_later(extended, more, reader)?;
         Ok(Qos { qci, arp })
     }
 
-    #[tactic(auto, unfolding(bit_streams::specs::Bits::bits))]
     fn write(&self, alloc: Global, writer: &mut BitWriter) -> Result<(), PerError> {
-        writer.put_bits(3, 0)?;
+        put_three_flags(false, writer)?;
         self.qci.write(alloc, writer)?;
         self.arp.write(alloc, writer)
     }
@@ -130,10 +132,46 @@ fn read_octets<'a>(
     ensures { Gives (λ o. option_map (λ s. s.now) o) result reader.new (optional_at present (read_at octet_string) reader.old) }
 {
     if present {
-        let string = OctetString::read(alloc, reader)?;
-        Ok(Some(string.octets))
+        match OctetString::read(alloc, reader) {
+            Ok(string) => Ok(Some(string.octets)),
+            Err(error) => Err(error),
+        }
     } else {
         Ok(None)
+    }
+}
+
+/// What stands behind the quality of service: where the tunnel ends, and octets that may lack.
+fn read_erab_ends<'a>(
+    nas: bool,
+    more: bool,
+    alloc: Global,
+    reader: &mut BitReader<'a>,
+) -> Result<(Address<'a>, Teid, Option<&'a [u8]>), PerError>
+    ensures { Gives (λ e. (e.0, (e.1, (option_map (λ s. s.now) e.2, tt)))) result reader.new (fields_at erab_ends (nas ∷ more ∷ []) reader.old) }
+{
+    let (address, teid) = read_pair::<Closed<Address>, Teid>(alloc, reader)?;
+    let nas = read_octets(nas, alloc, reader)?;
+    skip_extensions(more, reader)?;
+    Ok((address.value, teid, nas))
+}
+
+/// Writes what stands behind the quality of service.
+fn put_erab_ends(
+    address: &Address,
+    teid: Teid,
+    nas: Option<&[u8]>,
+    alloc: Global,
+    writer: &mut BitWriter,
+) -> Result<(), PerError>
+    ensures { Wrote result writer.new (write_fields erab_ends (address.now, (teid, (option_map (λ s. s.now) nas.entry, tt))) writer.old) }
+{
+    writer.put_bit(false)?;
+    address.write(alloc, writer)?;
+    teid.write(alloc, writer)?;
+    match nas {
+        Some(nas) => put_open(nas, writer),
+        None => Ok(()),
     }
 }
 
@@ -142,17 +180,11 @@ impl<'a> Element<'a> for ErabToBeSetup<'a, &'a [u8]> {
 
     ghost view = { λ e. typed_erab_to_be_setup (erab_to_be_setup_lists e) };
 
-    #[tactic(auto, unfolding(bit_streams::specs::Each::times))]
     fn read(alloc: Global, reader: &mut BitReader<'a>) -> Result<Self, PerError> {
-        let extended = reader.take_bit()?;
-        let nas = reader.take_bit()?;
-        let more = reader.take_bit()?;
+        let (extended, nas, more) = take_three_flags(reader)?;
         let id = Closed::<ErabId>::read(alloc, reader)?.value;
         let qos = Qos::read(alloc, reader)?;
-        let address = Closed::<Address>::read(alloc, reader)?.value;
-        let teid = Teid::read(alloc, reader)?;
-        let nas = read_octets(nas, alloc, reader)?;
-        skip_extensions(more, reader)?;
+        let (address, teid, nas) = read_erab_ends(nas, more, alloc, reader)?;
         skip_additions(extended, reader)?;
         Ok(ErabToBeSetup {
             id,
@@ -163,21 +195,12 @@ impl<'a> Element<'a> for ErabToBeSetup<'a, &'a [u8]> {
         })
     }
 
-    #[tactic(auto, unfolding(bit_streams::specs::Bits::bits))]
     fn write(&self, alloc: Global, writer: &mut BitWriter) -> Result<(), PerError> {
-        writer.put_bit(false)?;
-        writer.put_bit(self.nas.is_some())?;
-        writer.put_bit(false)?;
+        put_three_flags(self.nas.is_some(), writer)?;
         writer.put_bit(false)?;
         self.id.write(alloc, writer)?;
         self.qos.write(alloc, writer)?;
-        writer.put_bit(false)?;
-        self.address.write(alloc, writer)?;
-        self.teid.write(alloc, writer)?;
-        match self.nas {
-            Some(nas) => put_open(nas, writer),
-            None => Ok(()),
-        }
+        put_erab_ends(&self.address, self.teid, self.nas, alloc, writer)
     }
 }
 
@@ -186,18 +209,19 @@ impl<'a> Element<'a> for ErabTunnel<'a> {
 
     ghost view = { typed_erab_tunnel };
 
-    #[tactic(auto, unfolding(bit_streams::specs::Each::times))]
     fn read(alloc: Global, reader: &mut BitReader<'a>) -> Result<Self, PerError> {
-        read_sequence!(reader => ErabTunnel {
-            id: Closed::<ErabId>::read(alloc, reader)?.value,
-            address: Closed::<Address>::read(alloc, reader)?.value,
-            teid: Teid::read(alloc, reader)?,
-        })
+        match read_three::<Closed<ErabId>, Closed<Address>, Teid>(alloc, reader) {
+            Ok((id, address, teid)) => Ok(ErabTunnel {
+                id: id.value,
+                address: address.value,
+                teid,
+            }),
+            Err(error) => Err(error),
+        }
     }
 
-    #[tactic(auto, unfolding(bit_streams::specs::Bits::bits))]
     fn write(&self, alloc: Global, writer: &mut BitWriter) -> Result<(), PerError> {
-        writer.put_bits(2, 0)?;
+        put_flags(writer)?;
         writer.put_bit(false)?;
         self.id.write(alloc, writer)?;
         writer.put_bit(false)?;

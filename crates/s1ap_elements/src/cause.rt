@@ -4,7 +4,7 @@
 //! `Extended` is a cause that a later release added, by its number among those.
 
 /// Why a procedure of the radio network layer ended or failed (TS 36.413 clause 9.2.1.3).
-#[derive(Clone, Copy, Debug, PartialEq, Eq)]
+#[derive(Clone, Copy, Debug)]
 pub enum RadioNetworkCause {
     Unspecified,
     Tx2RelocOverallExpiry,
@@ -47,7 +47,7 @@ pub enum RadioNetworkCause {
 }
 
 /// Why the transport layer could not serve (TS 36.413 clause 9.2.1.3).
-#[derive(Clone, Copy, Debug, PartialEq, Eq)]
+#[derive(Clone, Copy, Debug)]
 pub enum TransportCause {
     TransportResourceUnavailable,
     Unspecified,
@@ -56,7 +56,7 @@ pub enum TransportCause {
 }
 
 /// Why a procedure of the NAS ended (TS 36.413 clause 9.2.1.3).
-#[derive(Clone, Copy, Debug, PartialEq, Eq)]
+#[derive(Clone, Copy, Debug)]
 pub enum NasCause {
     NormalRelease,
     AuthenticationFailure,
@@ -67,7 +67,7 @@ pub enum NasCause {
 }
 
 /// What is wrong with a message (TS 36.413 clause 9.2.1.3).
-#[derive(Clone, Copy, Debug, PartialEq, Eq)]
+#[derive(Clone, Copy, Debug)]
 pub enum ProtocolCause {
     TransferSyntaxError,
     AbstractSyntaxErrorReject,
@@ -81,7 +81,7 @@ pub enum ProtocolCause {
 }
 
 /// Why a procedure failed, of no other group (TS 36.413 clause 9.2.1.3).
-#[derive(Clone, Copy, Debug, PartialEq, Eq)]
+#[derive(Clone, Copy, Debug)]
 pub enum MiscCause {
     ControlProcessingOverload,
     NotEnoughUserPlaneResources,
@@ -94,7 +94,7 @@ pub enum MiscCause {
 }
 
 /// Why something ended or failed (TS 36.413 clause 9.2.1.3).
-#[derive(Clone, Copy, Debug, PartialEq, Eq)]
+#[derive(Clone, Copy, Debug)]
 pub enum Cause {
     RadioNetwork(RadioNetworkCause),
     Transport(TransportCause),

@@ -11,10 +11,9 @@ ghost use Rattle.s1ap_elements.specs.Formats.{cause};
 ghost use Rattle.s1ap_elements.specs.Causes.{typed_radio_network, typed_transport, typed_nas, typed_protocol, typed_misc, typed_cause};
 
 use crate::cause::{Cause, MiscCause, NasCause, ProtocolCause, RadioNetworkCause, TransportCause};
+use crate::choice::write_choice;
 use crate::name::take_name;
-use per_bits::{
-    BitReader, BitWriter, Element, Enumerated, PerError, PerFault, put_choice, take_choice,
-};
+use per_bits::{BitReader, BitWriter, Element, Enumerated, PerError, PerFault, take_choice};
 use std::alloc::Global;
 
 // A cause by its name; the last number of a group is what no other is.
@@ -111,8 +110,10 @@ impl<'a> Element<'a> for RadioNetworkCause {
     ghost view = { typed_radio_network };
 
     fn read(_alloc: Global, reader: &mut BitReader<'a>) -> Result<Self, PerError> {
-        let name = take_name::<35>(reader)?;
-        Ok(radio_network_of(name))
+        match take_name::<35>(reader) {
+            Ok(name) => Ok(radio_network_of(name)),
+            Err(fault) => Err(PerError::Fault(fault)),
+        }
     }
 
     fn write(&self, alloc: Global, writer: &mut BitWriter) -> Result<(), PerError> {
@@ -140,8 +141,10 @@ impl<'a> Element<'a> for TransportCause {
     ghost view = { typed_transport };
 
     fn read(_alloc: Global, reader: &mut BitReader<'a>) -> Result<Self, PerError> {
-        let name = take_name::<1>(reader)?;
-        Ok(transport_of(name))
+        match take_name::<1>(reader) {
+            Ok(name) => Ok(transport_of(name)),
+            Err(fault) => Err(PerError::Fault(fault)),
+        }
     }
 
     fn write(&self, alloc: Global, writer: &mut BitWriter) -> Result<(), PerError> {
@@ -169,8 +172,10 @@ impl<'a> Element<'a> for NasCause {
     ghost view = { typed_nas };
 
     fn read(_alloc: Global, reader: &mut BitReader<'a>) -> Result<Self, PerError> {
-        let name = take_name::<3>(reader)?;
-        Ok(nas_of(name))
+        match take_name::<3>(reader) {
+            Ok(name) => Ok(nas_of(name)),
+            Err(fault) => Err(PerError::Fault(fault)),
+        }
     }
 
     fn write(&self, alloc: Global, writer: &mut BitWriter) -> Result<(), PerError> {
@@ -198,8 +203,10 @@ impl<'a> Element<'a> for ProtocolCause {
     ghost view = { typed_protocol };
 
     fn read(_alloc: Global, reader: &mut BitReader<'a>) -> Result<Self, PerError> {
-        let name = take_name::<6>(reader)?;
-        Ok(protocol_of(name))
+        match take_name::<6>(reader) {
+            Ok(name) => Ok(protocol_of(name)),
+            Err(fault) => Err(PerError::Fault(fault)),
+        }
     }
 
     fn write(&self, alloc: Global, writer: &mut BitWriter) -> Result<(), PerError> {
@@ -227,8 +234,10 @@ impl<'a> Element<'a> for MiscCause {
     ghost view = { typed_misc };
 
     fn read(_alloc: Global, reader: &mut BitReader<'a>) -> Result<Self, PerError> {
-        let name = take_name::<5>(reader)?;
-        Ok(misc_of(name))
+        match take_name::<5>(reader) {
+            Ok(name) => Ok(misc_of(name)),
+            Err(fault) => Err(PerError::Fault(fault)),
+        }
     }
 
     fn write(&self, alloc: Global, writer: &mut BitWriter) -> Result<(), PerError> {
@@ -243,22 +252,22 @@ impl<'a> Element<'a> for Cause {
 
     fn read(alloc: Global, reader: &mut BitReader<'a>) -> Result<Self, PerError> {
         match take_choice(4, reader)? {
-            0 => Ok(Cause::RadioNetwork(RadioNetworkCause::read(alloc, reader)?)),
-            1 => Ok(Cause::Transport(TransportCause::read(alloc, reader)?)),
-            2 => Ok(Cause::Nas(NasCause::read(alloc, reader)?)),
-            3 => Ok(Cause::Protocol(ProtocolCause::read(alloc, reader)?)),
-            4 => Ok(Cause::Misc(MiscCause::read(alloc, reader)?)),
+            0 => read_choice!(Cause::RadioNetwork, RadioNetworkCause::read(alloc, reader)),
+            1 => read_choice!(Cause::Transport, TransportCause::read(alloc, reader)),
+            2 => read_choice!(Cause::Nas, NasCause::read(alloc, reader)),
+            3 => read_choice!(Cause::Protocol, ProtocolCause::read(alloc, reader)),
+            4 => read_choice!(Cause::Misc, MiscCause::read(alloc, reader)),
             _ => Err(PerError::Fault(PerFault::Range)),
         }
     }
 
     fn write(&self, alloc: Global, writer: &mut BitWriter) -> Result<(), PerError> {
         match self {
-            Cause::RadioNetwork(cause) => write_choice!(4, 0, cause, alloc, writer),
-            Cause::Transport(cause) => write_choice!(4, 1, cause, alloc, writer),
-            Cause::Nas(cause) => write_choice!(4, 2, cause, alloc, writer),
-            Cause::Protocol(cause) => write_choice!(4, 3, cause, alloc, writer),
-            Cause::Misc(cause) => write_choice!(4, 4, cause, alloc, writer),
+            Cause::RadioNetwork(cause) => write_choice(4, 0, cause, alloc, writer),
+            Cause::Transport(cause) => write_choice(4, 1, cause, alloc, writer),
+            Cause::Nas(cause) => write_choice(4, 2, cause, alloc, writer),
+            Cause::Protocol(cause) => write_choice(4, 3, cause, alloc, writer),
+            Cause::Misc(cause) => write_choice(4, 4, cause, alloc, writer),
         }
     }
 }

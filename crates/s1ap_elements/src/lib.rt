@@ -1,34 +1,26 @@
 //! The elements of S1AP messages (TS 36.413 clause 9.2): values, and their spellings in aligned PER.
 #![tactic(auto)]
 
-// A SEQUENCE: its two presence bits, its parts in their order, then what later releases added, which is not kept.
-macro_rules! read_sequence {
-    ($reader:ident => $name:ident { $($part:ident: $value:expr),* $(,)? }) => {{
-        let extended = $reader.take_bit()?;
-        let more = $reader.take_bit()?;
-        $(let $part = $value;)*
-        skip_extensions(more, $reader)?;
-        skip_additions(extended, $reader)?;
-        Ok($name { $($part),* })
-    }};
-}
-
-// An alternative of a CHOICE: its index, and its value.
-macro_rules! write_choice {
-    ($last:literal, $index:literal, $value:expr, $alloc:ident, $writer:ident) => {{
-        put_choice($last, $index, $writer)?;
-        $value.write($alloc, $writer)
-    }};
+// A value of an alternative of a CHOICE, where it could be read.
+macro_rules! read_choice {
+    ($choice:ident::$alternative:ident, $value:expr) => {
+        match $value {
+            Ok(value) => Ok($choice::$alternative(value)),
+            Err(error) => Err(error),
+        }
+    };
 }
 
 mod bearer;
 mod bearer_element;
 mod cause;
 mod cause_element;
+mod choice;
 mod identity;
 mod name;
 mod phone;
 mod phone_element;
+mod sequence;
 mod station;
 mod station_element;
 mod text;

@@ -4,14 +4,14 @@ use crate::identity::{CellId, EnbUeId, MTmsi, MmeCode, MmeUeId, Plmn, SecurityKe
 use per_bits::{BitField, Items, Listed, Whole};
 
 /// A tracking area of all networks (TS 36.413 clause 9.2.3.16).
-#[derive(Clone, Copy, Debug, PartialEq, Eq)]
+#[derive(Clone, Copy)]
 pub struct Tai {
     pub plmn: Plmn,
     pub tac: Tac,
 }
 
 /// An element of a list of tracking areas (TS 36.413 clause 9.1.6).
-#[derive(Clone, Copy, Debug, PartialEq, Eq)]
+#[derive(Clone, Copy)]
 pub struct TaiItem {
     pub tai: Tai,
 }
@@ -20,21 +20,21 @@ pub struct TaiItem {
 pub type TaiList = Items<Listed<TaiItem, 47, 1>, 1, 256>;
 
 /// A cell of all networks (TS 36.413 clause 9.2.1.38).
-#[derive(Clone, Copy, Debug, PartialEq, Eq)]
+#[derive(Clone, Copy)]
 pub struct EutranCgi {
     pub plmn: Plmn,
     pub cell: CellId,
 }
 
 /// A phone in its network, for a time (TS 36.413 clause 9.2.3.6).
-#[derive(Clone, Copy, Debug, PartialEq, Eq)]
+#[derive(Clone, Copy)]
 pub struct STmsi {
     pub code: MmeCode,
     pub m_tmsi: MTmsi,
 }
 
 /// By what a phone is paged (TS 36.413 clause 9.2.3.13). `B` holds octets.
-#[derive(Clone, Copy, Debug, PartialEq, Eq)]
+#[derive(Clone, Copy)]
 pub enum UePagingId<B> {
     STmsi(STmsi),
     /// Digits of the IMSI, 3 to 8 octets.
@@ -42,7 +42,7 @@ pub enum UePagingId<B> {
 }
 
 /// Why a phone asked for a connection (TS 36.413 clause 9.2.1.3a).
-#[derive(Clone, Copy, Debug, PartialEq, Eq)]
+#[derive(Clone, Copy, Debug)]
 pub enum RrcCause {
     Emergency,
     HighPriorityAccess,
@@ -54,42 +54,42 @@ pub enum RrcCause {
 }
 
 /// For which domain a phone is paged (TS 36.413 clause 9.2.3.22).
-#[derive(Clone, Copy, Debug, PartialEq, Eq)]
+#[derive(Clone, Copy, Debug)]
 pub enum CnDomain {
     Ps,
     Cs,
 }
 
 /// Both numbers of an association (TS 36.413 clause 9.2.3.18).
-#[derive(Clone, Copy, Debug, PartialEq, Eq)]
+#[derive(Clone, Copy, PartialEq, Eq)]
 pub struct UeIdPair {
     pub mme_id: MmeUeId,
     pub enb_id: EnbUeId,
 }
 
 /// The numbers of an association that are known (TS 36.413 clause 9.2.3.18).
-#[derive(Clone, Copy, Debug, PartialEq, Eq)]
+#[derive(Clone, Copy)]
 pub enum UeS1apIds {
     Pair(UeIdPair),
     MmeUeId(MmeUeId),
 }
 
 /// The algorithms of a phone, the first bit for algorithm 1 (TS 36.413 clause 9.2.1.40).
-#[derive(Clone, Copy, Debug, PartialEq, Eq)]
+#[derive(Clone, Copy)]
 pub struct SecurityCapabilities {
     pub encryption: BitField<16>,
     pub integrity: BitField<16>,
 }
 
 /// The next hop of a chain of keys, and its place (TS 36.413 clause 9.2.1.26).
-#[derive(Clone, Copy, Debug, PartialEq, Eq)]
+#[derive(Clone, Copy)]
 pub struct SecurityContext {
     pub chaining_count: Whole<0, 7>,
     pub next_hop: SecurityKey,
 }
 
 /// The whole interface is set back (TS 36.413 clause 9.1.8.1).
-#[derive(Clone, Copy, Debug, PartialEq, Eq)]
+#[derive(Clone, Copy, Debug)]
 pub enum ResetAll {
     ResetAll,
     /// A value of a later release.
@@ -97,7 +97,7 @@ pub enum ResetAll {
 }
 
 /// What is set back (TS 36.413 clause 9.1.8.1).
-#[derive(Clone, Copy, Debug, PartialEq, Eq)]
+#[derive(Clone, Copy, Debug)]
 pub enum ResetType {
     All(ResetAll),
 }

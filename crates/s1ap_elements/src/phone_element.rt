@@ -1,24 +1,25 @@
 //! What tells phones apart, and what is told of them, read and written.
 
 ghost use Rattle.std.specs.Prelude.{◌≡◌};
-ghost use Rattle.bit_streams.specs.Bits.{Gives, bits};
+ghost use Rattle.bit_streams.specs.Bits.{Gives};
 ghost use Rattle.per_bits.specs.Reading.{read_at};
-ghost use Rattle.bit_streams.specs.Each.{times};
 ghost use Rattle.per_bits.specs.Writing.{write_at, Wrote};
 ghost use Rattle.per_bits.specs.Names.{view_of_name};
 ghost use Rattle.s1ap_elements.specs.Names.{IsName};
 ghost use Rattle.s1ap_elements.specs.Formats.{tai, tai_item, eutran_cgi, s_tmsi, ue_paging_id, rrc_cause, cn_domain, ue_id_pair, ue_s1ap_ids, security_capabilities, security_context, reset_type};
 ghost use Rattle.s1ap_elements.specs.Phones.{typed_tai, typed_tai_item, typed_eutran_cgi, typed_s_tmsi, ue_paging_id_lists, typed_ue_paging_id, typed_rrc_cause, typed_cn_domain, typed_ue_id_pair, typed_ue_s1ap_ids, typed_security_capabilities, typed_security_context, typed_reset_all, typed_reset_type};
 
+use crate::choice::write_choice;
 use crate::identity::{CellId, EnbUeId, MTmsi, MmeCode, MmeUeId, Plmn, SecurityKey, Tac};
 use crate::name::take_name;
 use crate::phone::{
     CnDomain, EutranCgi, ResetAll, ResetType, RrcCause, STmsi, SecurityCapabilities,
     SecurityContext, Tai, TaiItem, UeIdPair, UePagingId, UeS1apIds,
 };
+use crate::sequence::{put_flags, read_two, skip_later, take_flags};
 use per_bits::{
     BitField, BitReader, BitWriter, Closed, Element, Enumerated, PerError, PerFault, SizedString,
-    Whole, offset_of, put_choice, put_number, skip_additions, skip_extensions, take_choice,
+    Whole, offset_of, put_choice, put_number, take_choice,
 };
 use std::alloc::Global;
 
@@ -27,17 +28,15 @@ impl<'a> Element<'a> for Tai {
 
     ghost view = { typed_tai };
 
-    #[tactic(auto, unfolding(bit_streams::specs::Each::times))]
     fn read(alloc: Global, reader: &mut BitReader<'a>) -> Result<Self, PerError> {
-        read_sequence!(reader => Tai {
-            plmn: Plmn::read(alloc, reader)?,
-            tac: Tac::read(alloc, reader)?,
-        })
+        match read_two::<Plmn, Tac>(alloc, reader) {
+            Ok((plmn, tac)) => Ok(Tai { plmn, tac }),
+            Err(error) => Err(error),
+        }
     }
 
-    #[tactic(auto, unfolding(bit_streams::specs::Bits::bits))]
     fn write(&self, alloc: Global, writer: &mut BitWriter) -> Result<(), PerError> {
-        writer.put_bits(2, 0)?;
+        put_flags(writer)?;
         self.plmn.write(alloc, writer)?;
         self.tac.write(alloc, writer)
     }
@@ -48,14 +47,15 @@ impl<'a> Element<'a> for TaiItem {
 
     ghost view = { typed_tai_item };
 
-    #[tactic(auto, unfolding(bit_streams::specs::Each::times))]
     fn read(alloc: Global, reader: &mut BitReader<'a>) -> Result<Self, PerError> {
-        read_sequence!(reader => TaiItem { tai: Tai::read(alloc, reader)? })
+        let (extended, more) = take_flags(reader)?;
+        let tai = Tai::read(alloc, reader)?;
+        skip_later(extended, more, reader)?;
+        Ok(TaiItem { tai })
     }
 
-    #[tactic(auto, unfolding(bit_streams::specs::Bits::bits))]
     fn write(&self, alloc: Global, writer: &mut BitWriter) -> Result<(), PerError> {
-        writer.put_bits(2, 0)?;
+        put_flags(writer)?;
         self.tai.write(alloc, writer)
     }
 }
@@ -65,17 +65,15 @@ impl<'a> Element<'a> for EutranCgi {
 
     ghost view = { typed_eutran_cgi };
 
-    #[tactic(auto, unfolding(bit_streams::specs::Each::times))]
     fn read(alloc: Global, reader: &mut BitReader<'a>) -> Result<Self, PerError> {
-        read_sequence!(reader => EutranCgi {
-            plmn: Plmn::read(alloc, reader)?,
-            cell: CellId::read(alloc, reader)?,
-        })
+        match read_two::<Plmn, CellId>(alloc, reader) {
+            Ok((plmn, cell)) => Ok(EutranCgi { plmn, cell }),
+            Err(error) => Err(error),
+        }
     }
 
-    #[tactic(auto, unfolding(bit_streams::specs::Bits::bits))]
     fn write(&self, alloc: Global, writer: &mut BitWriter) -> Result<(), PerError> {
-        writer.put_bits(2, 0)?;
+        put_flags(writer)?;
         self.plmn.write(alloc, writer)?;
         self.cell.write(alloc, writer)
     }
@@ -86,17 +84,15 @@ impl<'a> Element<'a> for STmsi {
 
     ghost view = { typed_s_tmsi };
 
-    #[tactic(auto, unfolding(bit_streams::specs::Each::times))]
     fn read(alloc: Global, reader: &mut BitReader<'a>) -> Result<Self, PerError> {
-        read_sequence!(reader => STmsi {
-            code: MmeCode::read(alloc, reader)?,
-            m_tmsi: MTmsi::read(alloc, reader)?,
-        })
+        match read_two::<MmeCode, MTmsi>(alloc, reader) {
+            Ok((code, m_tmsi)) => Ok(STmsi { code, m_tmsi }),
+            Err(error) => Err(error),
+        }
     }
 
-    #[tactic(auto, unfolding(bit_streams::specs::Bits::bits))]
     fn write(&self, alloc: Global, writer: &mut BitWriter) -> Result<(), PerError> {
-        writer.put_bits(2, 0)?;
+        put_flags(writer)?;
         self.code.write(alloc, writer)?;
         self.m_tmsi.write(alloc, writer)
     }
@@ -107,17 +103,15 @@ impl<'a> Element<'a> for UeIdPair {
 
     ghost view = { typed_ue_id_pair };
 
-    #[tactic(auto, unfolding(bit_streams::specs::Each::times))]
     fn read(alloc: Global, reader: &mut BitReader<'a>) -> Result<Self, PerError> {
-        read_sequence!(reader => UeIdPair {
-            mme_id: MmeUeId::read(reader)?,
-            enb_id: EnbUeId::read(reader)?,
-        })
+        match read_two::<MmeUeId, EnbUeId>(alloc, reader) {
+            Ok((mme_id, enb_id)) => Ok(UeIdPair { mme_id, enb_id }),
+            Err(error) => Err(error),
+        }
     }
 
-    #[tactic(auto, unfolding(bit_streams::specs::Bits::bits))]
     fn write(&self, alloc: Global, writer: &mut BitWriter) -> Result<(), PerError> {
-        writer.put_bits(2, 0)?;
+        put_flags(writer)?;
         self.mme_id.write(alloc, writer)?;
         self.enb_id.write(alloc, writer)
     }
@@ -128,17 +122,18 @@ impl<'a> Element<'a> for SecurityCapabilities {
 
     ghost view = { typed_security_capabilities };
 
-    #[tactic(auto, unfolding(bit_streams::specs::Each::times))]
     fn read(alloc: Global, reader: &mut BitReader<'a>) -> Result<Self, PerError> {
-        read_sequence!(reader => SecurityCapabilities {
-            encryption: Closed::<BitField<16>>::read(alloc, reader)?.value,
-            integrity: Closed::<BitField<16>>::read(alloc, reader)?.value,
-        })
+        match read_two::<Closed<BitField<16>>, Closed<BitField<16>>>(alloc, reader) {
+            Ok((encryption, integrity)) => Ok(SecurityCapabilities {
+                encryption: encryption.value,
+                integrity: integrity.value,
+            }),
+            Err(error) => Err(error),
+        }
     }
 
-    #[tactic(auto, unfolding(bit_streams::specs::Bits::bits))]
     fn write(&self, alloc: Global, writer: &mut BitWriter) -> Result<(), PerError> {
-        writer.put_bits(2, 0)?;
+        put_flags(writer)?;
         writer.put_bit(false)?;
         self.encryption.write(alloc, writer)?;
         writer.put_bit(false)?;
@@ -151,17 +146,18 @@ impl<'a> Element<'a> for SecurityContext {
 
     ghost view = { typed_security_context };
 
-    #[tactic(auto, unfolding(bit_streams::specs::Each::times))]
     fn read(alloc: Global, reader: &mut BitReader<'a>) -> Result<Self, PerError> {
-        read_sequence!(reader => SecurityContext {
-            chaining_count: Whole::<0, 7>::read(reader)?,
-            next_hop: SecurityKey::read(alloc, reader)?,
-        })
+        match read_two::<Whole<0, 7>, SecurityKey>(alloc, reader) {
+            Ok((chaining_count, next_hop)) => Ok(SecurityContext {
+                chaining_count,
+                next_hop,
+            }),
+            Err(error) => Err(error),
+        }
     }
 
-    #[tactic(auto, unfolding(bit_streams::specs::Bits::bits))]
     fn write(&self, alloc: Global, writer: &mut BitWriter) -> Result<(), PerError> {
-        writer.put_bits(2, 0)?;
+        put_flags(writer)?;
         self.chaining_count.write(alloc, writer)?;
         self.next_hop.write(alloc, writer)
     }
@@ -174,21 +170,21 @@ impl<'a> Element<'a> for UePagingId<&'a [u8]> {
 
     fn read(alloc: Global, reader: &mut BitReader<'a>) -> Result<Self, PerError> {
         match take_choice(1, reader)? {
-            0 => Ok(UePagingId::STmsi(STmsi::read(alloc, reader)?)),
-            1 => {
-                let digits = SizedString::<3, 8>::read(alloc, reader)?;
-                Ok(UePagingId::Imsi(digits.octets))
-            }
+            0 => read_choice!(UePagingId::STmsi, STmsi::read(alloc, reader)),
+            1 => match SizedString::<3, 8>::read(alloc, reader) {
+                Ok(digits) => Ok(UePagingId::Imsi(digits.octets)),
+                Err(error) => Err(error),
+            },
             _ => Err(PerError::Fault(PerFault::Range)),
         }
     }
 
     fn write(&self, alloc: Global, writer: &mut BitWriter) -> Result<(), PerError> {
         match self {
-            UePagingId::STmsi(s_tmsi) => write_choice!(1, 0, s_tmsi, alloc, writer),
+            UePagingId::STmsi(s_tmsi) => write_choice(1, 0, s_tmsi, alloc, writer),
             UePagingId::Imsi(digits) => {
                 let digits = SizedString::<3, 8> { octets: digits };
-                write_choice!(1, 1, digits, alloc, writer)
+                write_choice(1, 1, &digits, alloc, writer)
             },
         }
     }
@@ -201,7 +197,7 @@ impl<'a> Element<'a> for UeS1apIds {
 
     fn read(alloc: Global, reader: &mut BitReader<'a>) -> Result<Self, PerError> {
         match take_choice(1, reader)? {
-            0 => Ok(UeS1apIds::Pair(UeIdPair::read(alloc, reader)?)),
+            0 => read_choice!(UeS1apIds::Pair, UeIdPair::read(alloc, reader)),
             1 => Ok(UeS1apIds::MmeUeId(MmeUeId::read(reader)?)),
             _ => Err(PerError::Fault(PerFault::Range)),
         }
@@ -209,8 +205,8 @@ impl<'a> Element<'a> for UeS1apIds {
 
     fn write(&self, alloc: Global, writer: &mut BitWriter) -> Result<(), PerError> {
         match self {
-            UeS1apIds::Pair(pair) => write_choice!(1, 0, pair, alloc, writer),
-            UeS1apIds::MmeUeId(mme_id) => write_choice!(1, 1, mme_id, alloc, writer),
+            UeS1apIds::Pair(pair) => write_choice(1, 0, pair, alloc, writer),
+            UeS1apIds::MmeUeId(mme_id) => write_choice(1, 1, mme_id, alloc, writer),
         }
     }
 }
@@ -248,8 +244,10 @@ impl<'a> Element<'a> for RrcCause {
     ghost view = { typed_rrc_cause };
 
     fn read(_alloc: Global, reader: &mut BitReader<'a>) -> Result<Self, PerError> {
-        let name = take_name::<4>(reader)?;
-        Ok(rrc_cause_of(name))
+        match take_name::<4>(reader) {
+            Ok(name) => Ok(rrc_cause_of(name)),
+            Err(fault) => Err(PerError::Fault(fault)),
+        }
     }
 
     fn write(&self, alloc: Global, writer: &mut BitWriter) -> Result<(), PerError> {

@@ -4,7 +4,7 @@ use crate::identity::{MmeCode, MmeGroup, Plmn, Tac};
 use per_bits::{BitField, Items};
 
 /// The number of a station in its network (TS 36.413 clause 9.2.1.37).
-#[derive(Clone, Copy, Debug, PartialEq, Eq)]
+#[derive(Clone, Copy)]
 pub enum EnbId {
     /// Of a station of large cells.
     Macro(BitField<20>),
@@ -13,7 +13,7 @@ pub enum EnbId {
 }
 
 /// A station of all networks (TS 36.413 clause 9.2.1.37).
-#[derive(Clone, Copy, Debug, PartialEq, Eq)]
+#[derive(Clone, Copy)]
 pub struct GlobalEnbId {
     pub plmn: Plmn,
     pub id: EnbId,
@@ -41,7 +41,7 @@ pub struct ServedGummei {
 pub type ServedGummeis = Items<ServedGummei, 1, 8>;
 
 /// The default paging cycle in radio frames (TS 36.413 clause 9.2.1.16).
-#[derive(Clone, Copy, Debug, PartialEq, Eq)]
+#[derive(Clone, Copy, Debug)]
 pub enum PagingDrx {
     Frames32,
     Frames64,

@@ -1,21 +1,21 @@
 //! What stations and MMEs tell of themselves, read and written.
 
 ghost use Rattle.std.specs.Prelude.{◌≡◌};
-ghost use Rattle.bit_streams.specs.Bits.{Gives, bits};
+ghost use Rattle.bit_streams.specs.Bits.{Gives};
 ghost use Rattle.per_bits.specs.Reading.{read_at};
-ghost use Rattle.bit_streams.specs.Each.{times};
 ghost use Rattle.per_bits.specs.Writing.{write_at, Wrote};
 ghost use Rattle.per_bits.specs.Names.{view_of_name};
 ghost use Rattle.s1ap_elements.specs.Names.{IsName};
 ghost use Rattle.s1ap_elements.specs.Formats.{enb_id, global_enb_id, supported_ta, served_gummei, paging_drx};
 ghost use Rattle.s1ap_elements.specs.Stations.{typed_enb_id, typed_global_enb_id, typed_supported_ta, typed_served_gummei, typed_paging_drx};
 
+use crate::choice::write_choice;
 use crate::identity::{MmeCode, MmeGroup, Plmn, Tac};
 use crate::name::take_name;
+use crate::sequence::{put_flags, read_three, read_two};
 use crate::station::{EnbId, GlobalEnbId, PagingDrx, ServedGummei, SupportedTa};
 use per_bits::{
-    BitField, BitReader, BitWriter, Element, Enumerated, Items, PerError, PerFault, put_choice,
-    skip_additions, skip_extensions, take_choice,
+    BitField, BitReader, BitWriter, Element, Enumerated, Items, PerError, PerFault, take_choice,
 };
 use std::alloc::Global;
 
@@ -26,16 +26,16 @@ impl<'a> Element<'a> for EnbId {
 
     fn read(alloc: Global, reader: &mut BitReader<'a>) -> Result<Self, PerError> {
         match take_choice(1, reader)? {
-            0 => Ok(EnbId::Macro(BitField::read(alloc, reader)?)),
-            1 => Ok(EnbId::Home(BitField::read(alloc, reader)?)),
+            0 => read_choice!(EnbId::Macro, BitField::read(alloc, reader)),
+            1 => read_choice!(EnbId::Home, BitField::read(alloc, reader)),
             _ => Err(PerError::Fault(PerFault::Range)),
         }
     }
 
     fn write(&self, alloc: Global, writer: &mut BitWriter) -> Result<(), PerError> {
         match self {
-            EnbId::Macro(number) => write_choice!(1, 0, number, alloc, writer),
-            EnbId::Home(number) => write_choice!(1, 1, number, alloc, writer),
+            EnbId::Macro(number) => write_choice(1, 0, number, alloc, writer),
+            EnbId::Home(number) => write_choice(1, 1, number, alloc, writer),
         }
     }
 }
@@ -45,17 +45,15 @@ impl<'a> Element<'a> for GlobalEnbId {
 
     ghost view = { typed_global_enb_id };
 
-    #[tactic(auto, unfolding(bit_streams::specs::Each::times))]
     fn read(alloc: Global, reader: &mut BitReader<'a>) -> Result<Self, PerError> {
-        read_sequence!(reader => GlobalEnbId {
-            plmn: Plmn::read(alloc, reader)?,
-            id: EnbId::read(alloc, reader)?,
-        })
+        match read_two::<Plmn, EnbId>(alloc, reader) {
+            Ok((plmn, id)) => Ok(GlobalEnbId { plmn, id }),
+            Err(error) => Err(error),
+        }
     }
 
-    #[tactic(auto, unfolding(bit_streams::specs::Bits::bits))]
     fn write(&self, alloc: Global, writer: &mut BitWriter) -> Result<(), PerError> {
-        writer.put_bits(2, 0)?;
+        put_flags(writer)?;
         self.plmn.write(alloc, writer)?;
         self.id.write(alloc, writer)
     }
@@ -66,17 +64,15 @@ impl<'a> Element<'a> for SupportedTa {
 
     ghost view = { typed_supported_ta };
 
-    #[tactic(auto, unfolding(bit_streams::specs::Each::times))]
     fn read(alloc: Global, reader: &mut BitReader<'a>) -> Result<Self, PerError> {
-        read_sequence!(reader => SupportedTa {
-            tac: Tac::read(alloc, reader)?,
-            plmns: Items::<Plmn, 1, 6>::read(alloc, reader)?,
-        })
+        match read_two::<Tac, Items<Plmn, 1, 6>>(alloc, reader) {
+            Ok((tac, plmns)) => Ok(SupportedTa { tac, plmns }),
+            Err(error) => Err(error),
+        }
     }
 
-    #[tactic(auto, unfolding(bit_streams::specs::Bits::bits))]
     fn write(&self, alloc: Global, writer: &mut BitWriter) -> Result<(), PerError> {
-        writer.put_bits(2, 0)?;
+        put_flags(writer)?;
         self.tac.write(alloc, writer)?;
         self.plmns.write(alloc, writer)
     }
@@ -87,18 +83,21 @@ impl<'a> Element<'a> for ServedGummei {
 
     ghost view = { typed_served_gummei };
 
-    #[tactic(auto, unfolding(bit_streams::specs::Each::times))]
     fn read(alloc: Global, reader: &mut BitReader<'a>) -> Result<Self, PerError> {
-        read_sequence!(reader => ServedGummei {
-            plmns: Items::<Plmn, 1, 32>::read(alloc, reader)?,
-            groups: Items::<MmeGroup, 1, 65535>::read(alloc, reader)?,
-            codes: Items::<MmeCode, 1, 256>::read(alloc, reader)?,
-        })
+        match read_three::<Items<Plmn, 1, 32>, Items<MmeGroup, 1, 65535>, Items<MmeCode, 1, 256>>(
+            alloc, reader,
+        ) {
+            Ok((plmns, groups, codes)) => Ok(ServedGummei {
+                plmns,
+                groups,
+                codes,
+            }),
+            Err(error) => Err(error),
+        }
     }
 
-    #[tactic(auto, unfolding(bit_streams::specs::Bits::bits))]
     fn write(&self, alloc: Global, writer: &mut BitWriter) -> Result<(), PerError> {
-        writer.put_bits(2, 0)?;
+        put_flags(writer)?;
         self.plmns.write(alloc, writer)?;
         self.groups.write(alloc, writer)?;
         self.codes.write(alloc, writer)
@@ -136,8 +135,10 @@ impl<'a> Element<'a> for PagingDrx {
     ghost view = { typed_paging_drx };
 
     fn read(_alloc: Global, reader: &mut BitReader<'a>) -> Result<Self, PerError> {
-        let name = take_name::<3>(reader)?;
-        Ok(paging_drx_of(name))
+        match take_name::<3>(reader) {
+            Ok(name) => Ok(paging_drx_of(name)),
+            Err(fault) => Err(PerError::Fault(fault)),
+        }
     }
 
     fn write(&self, alloc: Global, writer: &mut BitWriter) -> Result<(), PerError> {
