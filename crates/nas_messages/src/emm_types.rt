@@ -4,7 +4,10 @@
 //! Numbers of three bits, as key set identifiers and types of attach, detach and update, are below 8 in what is decoded and
 //! have to be in what is encoded.
 
+ghost use Rattle.std.specs.Prelude.{◌≡◌, ⊤};
+
 use nas_elements::{Guti, MobileIdentity, TaiList};
+use std::alloc::AllocError;
 
 /// ATTACH REQUEST (TS 24.301 clause 8.2.4).
 #[derive(Clone, Copy)]
@@ -99,7 +102,7 @@ pub struct SecurityModeCommand<B> {
 }
 
 /// The type of a message, and for the type that two messages have, who sends it. SERVICE REQUEST has none.
-#[derive(Clone, Copy, PartialEq, Eq)]
+#[derive(Clone, Copy)]
 pub enum EmmType {
     AttachRequest,
     AttachAccept,
@@ -126,14 +129,14 @@ pub enum EmmType {
 }
 
 /// Who sends a message: the phone, or the network.
-#[derive(Clone, Copy, PartialEq, Eq, Debug)]
+#[derive(Clone, Copy)]
 pub enum Direction {
     Uplink,
     Downlink,
 }
 
 /// An EMM message.
-#[derive(Clone, Copy)]
+#[derive(Copy, Drop)]
 pub enum Emm<B> {
     /// 41.
     AttachRequest(AttachRequest<B>),
@@ -182,6 +185,17 @@ pub enum Emm<B> {
     /// SERVICE REQUEST: c7, the KSI in three bits and the sequence in five, the last two octets of the MAC
     /// (TS 24.301 clause 8.2.25).
     ServiceRequest { octets: [u8; 4] },
+}
+
+// (by hand: the message itself, where a derived one would go through each field of each variant)
+impl<B: Copy> Clone for Emm<B> {
+    ghost is_clone = { λ message copied. copied ≡ message };
+
+    ghost is_infallible = { λ _. ⊤ };
+
+    fn clone(&self) -> Result<Emm<B>, AllocError> {
+        Ok(*self)
+    }
 }
 
 /// An EMM message that lends its octets from those it was decoded from.

@@ -1,8 +1,12 @@
 //! The messages of EPS session management (TS 24.301 clause 8.3). `B` is what holds octets: a slice of the octets that were
 //! decoded in the code, a list in contracts.
 
+ghost use Rattle.std.specs.Prelude.{◌≡◌, ⊤};
+
+use std::alloc::AllocError;
+
 /// The type of a message.
-#[derive(Clone, Copy, PartialEq, Eq)]
+#[derive(Clone, Copy)]
 pub enum EsmType {
     ActivateRequest,
     ActivateAccept,
@@ -28,7 +32,7 @@ pub struct ActivateRequest<B> {
 }
 
 /// What an ESM message says.
-#[derive(Clone, Copy)]
+#[derive(Copy, Drop)]
 pub enum EsmBody<B> {
     /// c1.
     ActivateRequest(ActivateRequest<B>),
@@ -66,14 +70,35 @@ pub enum EsmBody<B> {
     },
 }
 
+// (by hand: the message itself, where a derived one would go through each field of each variant)
+impl<B: Copy> Clone for EsmBody<B> {
+    ghost is_clone = { λ message copied. copied ≡ message };
+
+    ghost is_infallible = { λ _. ⊤ };
+
+    fn clone(&self) -> Result<EsmBody<B>, AllocError> {
+        Ok(*self)
+    }
+}
+
 /// An ESM message.
-#[derive(Clone, Copy)]
+#[derive(Copy, Drop)]
 pub struct Esm<B> {
     /// The EPS bearer identity, four bits.
     pub bearer: u8,
     /// The procedure transaction identity.
     pub transaction: u8,
     pub body: EsmBody<B>,
+}
+
+impl<B: Copy> Clone for Esm<B> {
+    ghost is_clone = { λ message copied. copied ≡ message };
+
+    ghost is_infallible = { λ _. ⊤ };
+
+    fn clone(&self) -> Result<Esm<B>, AllocError> {
+        Ok(*self)
+    }
 }
 
 /// An ESM message that lends its octets from those it was decoded from.

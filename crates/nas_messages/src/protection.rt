@@ -6,7 +6,7 @@ ghost use Rattle.nas_messages.specs.Protection.{header_code, header_of, protecte
 use std::alloc::{AllocError, Global};
 
 /// The security header type of a protected message (TS 24.301 clause 9.3.1).
-#[derive(Clone, Copy, PartialEq, Eq, Debug)]
+#[derive(Clone, Copy)]
 pub enum SecurityHeader {
     /// 1: integrity protected.
     IntegrityProtected,
