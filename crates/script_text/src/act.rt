@@ -1,9 +1,9 @@
 //! What simulated stations and phones do.
 
-ghost use Rattle.std.specs.Prelude.{◌≡◌, ◌⊎◌, map, Ok, Err};
+ghost use Rattle.std.specs.Prelude.{◌≡◌, ◌⊎◌, [], ◌∷◌, map, Ok, Err};
 ghost use Rattle.script_text.specs.Script.{radio_word, phone_word, read_act, read_station, station_of, read_up_act, read_raw, read_radio, read_phone};
 
-use crate::fields::{macro_id, phone, tracking_area};
+use crate::fields::{is_word, macro_id, phone, tracking_area};
 use crate::values::{MacroId, PhoneNumber};
 use identity_slots::StationNumber;
 use nas_elements::Imsi;
@@ -27,7 +27,7 @@ pub enum ScriptAct {
 }
 
 /// The fields of `station E ID TAC`.
-#[derive(Clone, Copy, Debug, PartialEq, Eq)]
+#[derive(Clone, Copy)]
 pub struct StationLine {
     /// Which station.
     pub station: StationNumber,
@@ -38,7 +38,7 @@ pub struct StationLine {
 }
 
 /// Where a phone is: at a station, by a number there.
-#[derive(Clone, Copy, Debug, PartialEq, Eq)]
+#[derive(Clone, Copy, PartialEq, Eq)]
 pub struct RadioPlace {
     /// The station.
     pub station: StationNumber,
@@ -47,7 +47,7 @@ pub struct RadioPlace {
 }
 
 /// What a phone does at a station.
-#[derive(Clone, Copy, Debug, PartialEq, Eq)]
+#[derive(Clone, Copy)]
 pub enum RadioWord {
     /// `attach`: it attaches.
     Attach,
@@ -64,7 +64,7 @@ pub enum RadioWord {
 }
 
 /// What a phone does where it is.
-#[derive(Clone, Copy, Debug, PartialEq, Eq)]
+#[derive(Clone, Copy)]
 pub enum PhoneWord {
     /// `detach`: it detaches.
     Detach,
@@ -84,22 +84,22 @@ impl RadioWord {
     fn of_text(word: &[u8]) -> Option<RadioWord>
         ensures { result ≡ radio_word word.now }
     {
-        if word == b"attach".as_slice() {
+        if is_word(word, "attach") {
             return Some(RadioWord::Attach);
         }
-        if word == b"info".as_slice() {
+        if is_word(word, "info") {
             return Some(RadioWord::Info);
         }
-        if word == b"foreign".as_slice() {
+        if is_word(word, "foreign") {
             return Some(RadioWord::Foreign);
         }
-        if word == b"service".as_slice() {
+        if is_word(word, "service") {
             return Some(RadioWord::Service);
         }
-        if word == b"tau".as_slice() {
+        if is_word(word, "tau") {
             return Some(RadioWord::Tau);
         }
-        if word == b"switch".as_slice() {
+        if is_word(word, "switch") {
             return Some(RadioWord::Switch);
         }
         None
@@ -110,22 +110,22 @@ impl PhoneWord {
     fn of_text(word: &[u8]) -> Option<PhoneWord>
         ensures { result ≡ phone_word word.now }
     {
-        if word == b"detach".as_slice() {
+        if is_word(word, "detach") {
             return Some(PhoneWord::Detach);
         }
-        if word == b"off".as_slice() {
+        if is_word(word, "off") {
             return Some(PhoneWord::Off);
         }
-        if word == b"idle".as_slice() {
+        if is_word(word, "idle") {
             return Some(PhoneWord::Idle);
         }
-        if word == b"deaf".as_slice() {
+        if is_word(word, "deaf") {
             return Some(PhoneWord::Deaf);
         }
-        if word == b"replay".as_slice() {
+        if is_word(word, "replay") {
             return Some(PhoneWord::Replay);
         }
-        if word == b"forge".as_slice() {
+        if is_word(word, "forge") {
             return Some(PhoneWord::Forge);
         }
         None
@@ -140,13 +140,13 @@ pub(crate) fn parse_act(
 ) -> Result<ScriptAct, TraceFault>
     ensures { (result ≡ Err TraceFault.NoMemory) ⊎ (result ≡ read_act word.now (map (λ f. f.now) fields.now)) }
 {
-    if word == b"station".as_slice() {
+    if is_word(word, "station") {
         return parse_station(fields);
     }
-    if word == b"up".as_slice() {
+    if is_word(word, "up") {
         return parse_up(fields);
     }
-    if word == b"raw".as_slice() {
+    if is_word(word, "raw") {
         return parse_raw(alloc, fields);
     }
     if let Some(radio) = RadioWord::of_text(word) {
@@ -190,28 +190,41 @@ fn parse_raw(alloc: Global, fields: &[&[u8]]) -> Result<ScriptAct, TraceFault>
     ensures { (result ≡ Err TraceFault.NoMemory) ⊎ (result ≡ read_raw (map (λ f. f.now) fields.now)) }
 {
     match fields {
-        [number, hex] => {
-            let from = station(number)?;
-            Ok(ScriptAct::Raw(from, octets(alloc, hex)?))
-        }
+        [number, hex] => raw_line(alloc, number, hex),
         _ => Err(TraceFault::FieldCount),
     }
+}
+
+fn raw_line(alloc: Global, number: &[u8], hex: &[u8]) -> Result<ScriptAct, TraceFault>
+    ensures { (result ≡ Err TraceFault.NoMemory) ⊎ (result ≡ read_raw (number.now ∷ hex.now ∷ [])) }
+{
+    let from = station(number)?;
+    Ok(ScriptAct::Raw(from, octets(alloc, hex)?))
 }
 
 fn parse_radio(word: RadioWord, fields: &[&[u8]]) -> Result<ScriptAct, TraceFault>
     ensures { result ≡ read_radio word (map (λ f. f.now) fields.now) }
 {
     match fields {
-        [subscriber, number, there] => {
-            let of = imsi(subscriber)?;
-            let place = RadioPlace {
-                station: station(number)?,
-                phone: phone(there)?,
-            };
-            Ok(ScriptAct::Radio(word, of, place))
-        }
+        [subscriber, number, there] => radio_line(word, subscriber, number, there),
         _ => Err(TraceFault::FieldCount),
     }
+}
+
+fn radio_line(
+    word: RadioWord,
+    subscriber: &[u8],
+    number: &[u8],
+    there: &[u8],
+) -> Result<ScriptAct, TraceFault>
+    ensures { result ≡ read_radio word (subscriber.now ∷ number.now ∷ there.now ∷ []) }
+{
+    let of = imsi(subscriber)?;
+    let place = RadioPlace {
+        station: station(number)?,
+        phone: phone(there)?,
+    };
+    Ok(ScriptAct::Radio(word, of, place))
 }
 
 fn parse_phone(word: PhoneWord, fields: &[&[u8]]) -> Result<ScriptAct, TraceFault>

@@ -5,6 +5,7 @@ ghost use Rattle.script_text.specs.Kept.{is_kept_word};
 ghost use Rattle.script_text.specs.Script.{Says, script_line_of, script_words, is_trace_word};
 
 use crate::act::{ScriptAct, parse_act};
+use crate::fields::is_word;
 use crate::laws::acts_are_not_kept;
 use std::alloc::Global;
 use trace_text::{LONGEST_LINE, Line, TraceFault, parse_words, split_words};
@@ -61,16 +62,16 @@ fn parse_script_words(alloc: Global, words: &[&[u8]]) -> Result<ScriptLine, Trac
 fn is_trace_word(word: &[u8]) -> bool
     ensures { result ≡ is_trace_word word.now }
 {
-    is_kept_word(word) || word == b"lost".as_slice() || word == b"tick".as_slice()
+    is_kept_word(word) || is_word(word, "lost") || is_word(word, "tick")
 }
 
 fn is_kept_word(word: &[u8]) -> bool
     ensures { result ≡ is_kept_word word.now }
 {
-    word == b"mme".as_slice()
-        || word == b"sub".as_slice()
-        || word == b"vec".as_slice()
-        || word == b"data".as_slice()
-        || word == b"cancel".as_slice()
-        || word == b"show".as_slice()
+    is_word(word, "mme")
+        || is_word(word, "sub")
+        || is_word(word, "vec")
+        || is_word(word, "data")
+        || is_word(word, "cancel")
+        || is_word(word, "show")
 }

@@ -5,7 +5,7 @@ ghost use Rattle.std.specs.Prelude.{◌≡◌, ◌<◌, ◌^◌, ◌↔◌, IsSo
 use std::marker::Model;
 
 /// The id of a macro eNodeB in its network, in 20 bits (TS 36.413 clause 9.2.1.37); a contract sees the number.
-#[derive(Clone, Copy, Debug, PartialEq, Eq)]
+#[derive(Clone, Copy)]
 pub struct MacroId {
     id: u32,
 }
@@ -45,7 +45,7 @@ impl MacroId {
 
 /// The number of a phone at its station, in 24 bits: its eNB UE S1AP ID (TS 36.413 clause 9.2.3.4); a contract sees the
 /// number.
-#[derive(Clone, Copy, Debug, PartialEq, Eq)]
+#[derive(Clone, Copy, PartialEq, Eq)]
 pub struct PhoneNumber {
     number: u32,
 }

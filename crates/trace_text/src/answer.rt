@@ -4,12 +4,11 @@ ghost use Rattle.std.specs.Prelude.{◌≡◌, ◌+◌, ◌*◌, length, IfOk, s
 ghost use Rattle.trace_text.specs.Lines.{IsLineWithin, IsPartWithin, octets_said};
 ghost use Rattle.trace_text.specs.Trace.{answer_text, sent_text, refused_text, state_text, owner_text, octets_text, emm_word, ecm_word, esm_word};
 
-use crate::written::push_field;
 use nas_elements::Imsi;
 use std::alloc::{AllocError, Global};
 
 /// For whom a message is sent.
-#[derive(Clone, Copy, Debug, PartialEq, Eq)]
+#[derive(Clone, Copy)]
 pub enum AnswerOwner {
     /// A station, by its number.
     Station(u8),
@@ -20,7 +19,7 @@ pub enum AnswerOwner {
 }
 
 /// How a subscriber is registered (TS 24.301 clause 5.1.3).
-#[derive(Clone, Copy, Debug, PartialEq, Eq)]
+#[derive(Clone, Copy)]
 pub enum EmmWord {
     /// It isn't.
     Deregistered,
@@ -33,7 +32,7 @@ pub enum EmmWord {
 }
 
 /// Whether a subscriber has a connection (TS 23.401 clause 4.6.3).
-#[derive(Clone, Copy, Debug, PartialEq, Eq)]
+#[derive(Clone, Copy)]
 pub enum EcmWord {
     /// It has none.
     Idle,
@@ -42,7 +41,7 @@ pub enum EcmWord {
 }
 
 /// How far a subscriber's default bearer is (TS 24.301 clause 6.1.3).
-#[derive(Clone, Copy, Debug, PartialEq, Eq)]
+#[derive(Clone, Copy)]
 pub enum EsmWord {
     /// There is none.
     Inactive,
@@ -117,8 +116,7 @@ fn write_refused(alloc: Global, fault: u8) -> Result<String, AllocError>
     ensures text { IfOk result (λ text. string_bytes text ≡ refused_text fault) }
     ensures line { IfOk result (λ text. IsLineWithin 80 (string_bytes text)) }
 {
-    let text = format!(in alloc; "refused {fault}\n")?;
-    Ok(text)
+    format!(in alloc; "refused {fault}\n")
 }
 
 #[tactic(auto, unfolding(crate::specs::Trace::sent_text))]
@@ -131,13 +129,9 @@ fn write_sent(
     ensures text { IfOk result (λ text. string_bytes text ≡ sent_text owner station octets.now) }
     ensures line { IfOk result (λ text. IsLineWithin (80 + 2 * length octets.now) (string_bytes text)) }
 {
-    let number = format!(in alloc; "{station} ")?;
+    let owner_part = write_owner(alloc, owner)?;
     let hex = write_octets(alloc, octets)?;
-    let mut text = write_owner(alloc, owner)?;
-    text.push_str(number.as_str())?;
-    text.push_str(hex.as_str())?;
-    text.push_str("\n")?;
-    Ok(text)
+    format!(in alloc; "{owner_part}{station} {hex}\n")
 }
 
 fn write_owner(alloc: Global, owner: AnswerOwner) -> Result<String, AllocError>
@@ -145,36 +139,10 @@ fn write_owner(alloc: Global, owner: AnswerOwner) -> Result<String, AllocError>
     ensures part { IfOk result (λ text. IsPartWithin 20 (string_bytes text)) }
 {
     match owner {
-        AnswerOwner::Station(e) => write_station(alloc, e),
-        AnswerOwner::Stranger(e, b) => write_stranger(alloc, e, b),
-        AnswerOwner::Subscriber(slot) => write_slot(alloc, slot),
+        AnswerOwner::Station(station) => format!(in alloc; "out e{station} "),
+        AnswerOwner::Stranger(station, phone) => format!(in alloc; "out x{station}.{phone} "),
+        AnswerOwner::Subscriber(slot) => format!(in alloc; "out s{slot} "),
     }
-}
-
-fn write_station(alloc: Global, station: u8) -> Result<String, AllocError>
-    ensures text { IfOk result (λ text. string_bytes text ≡ owner_text (AnswerOwner.Station station)) }
-    ensures part { IfOk result (λ text. IsPartWithin 20 (string_bytes text)) }
-{
-    let text = format!(in alloc; "out e{station} ")?;
-    Ok(text)
-}
-
-fn write_slot(alloc: Global, slot: u32) -> Result<String, AllocError>
-    ensures text { IfOk result (λ text. string_bytes text ≡ owner_text (AnswerOwner.Subscriber slot)) }
-    ensures part { IfOk result (λ text. IsPartWithin 20 (string_bytes text)) }
-{
-    let text = format!(in alloc; "out s{slot} ")?;
-    Ok(text)
-}
-
-fn write_stranger(alloc: Global, station: u8, phone: u32) -> Result<String, AllocError>
-    ensures text { IfOk result (λ text. string_bytes text ≡ owner_text (AnswerOwner.Stranger station phone)) }
-    ensures part { IfOk result (λ text. IsPartWithin 20 (string_bytes text)) }
-{
-    let number = format!(in alloc; "{phone} ")?;
-    let mut text = format!(in alloc; "out x{station}.")?;
-    text.push_str(number.as_str())?;
-    Ok(text)
 }
 
 #[tactic(auto, unfolding(crate::specs::Trace::state_text))]
@@ -188,13 +156,10 @@ fn write_state(
     ensures text { IfOk result (λ text. string_bytes text ≡ state_text imsi.now emm ecm esm) }
     ensures line { IfOk result (λ text. IsLineWithin 80 (string_bytes text)) }
 {
-    let mut text = String::from_str(alloc, "state")?;
-    push_field(&mut text, imsi.digits().as_str())?;
-    push_field(&mut text, emm.word())?;
-    push_field(&mut text, ecm.word())?;
-    push_field(&mut text, esm.word())?;
-    text.push_str("\n")?;
-    Ok(text)
+    let digits = imsi.digits();
+    let imsi = digits.as_str();
+    let (emm, ecm, esm) = (emm.word(), ecm.word(), esm.word());
+    format!(in alloc; "state {imsi} {emm} {ecm} {esm}\n")
 }
 
 pub(crate) fn write_octets(alloc: Global, octets: &[u8]) -> Result<String, AllocError>

@@ -82,8 +82,8 @@ fn digit(octet: u8) -> Result<u8, TraceFault>
     }
 }
 
-/// The three digits of a country.
-fn country(text: &[u8]) -> Result<(u8, u8, u8), TraceFault>
+/// Three digits, as those of a country.
+fn three_digits(text: &[u8]) -> Result<(u8, u8, u8), TraceFault>
     ensures value { result ≡ country_of text.now }
     ensures small { IfOk result (λ d. (d.0 ≤ 15) × (d.1 ≤ 15) × (d.2 ≤ 15)) }
 {
@@ -100,8 +100,7 @@ fn network(text: &[u8]) -> Result<(u8, u8, u8), TraceFault>
 {
     match text {
         [a, b] => Ok((15, digit(*a)?, digit(*b)?)),
-        [a, b, c] => Ok((digit(*a)?, digit(*b)?, digit(*c)?)),
-        _ => Err(TraceFault::BadNumber),
+        _ => three_digits(text),
     }
 }
 
@@ -109,7 +108,7 @@ fn network(text: &[u8]) -> Result<(u8, u8, u8), TraceFault>
 pub(crate) fn plmn(country_text: &[u8], network_text: &[u8]) -> Result<[u8; 3], TraceFault>
     ensures { result ≡ plmn_field country_text.now network_text.now }
 {
-    let of_country = country(country_text)?;
+    let of_country = three_digits(country_text)?;
     let of_network = network(network_text)?;
     Ok([
         16 * of_country.1 + of_country.0,

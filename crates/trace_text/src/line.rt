@@ -2,7 +2,10 @@
 
 ghost use Rattle.std.specs.Prelude.{◌≡◌, ◌⊎◌, ◌==◌, map, IfOk, Ok, Err};
 ghost use Rattle.std.specs.List.{slice_split};
+ghost use Rattle.std.specs.Result.{result_map_both};
+ghost use Rattle.std.specs.Str.{bytes_eq};
 ghost use Rattle.trace_text.specs.Trace.{line_of, mme_of, sub_of, vec_of, read_mme, read_sub, read_vec, read_up, read_lost, read_in, read_tick, read_data, read_cancel, read_show, read_event, read_words};
+ghost use Rattle.trace_text.specs.declared.line.Line.TheVariants.{Up, Lost, Data, Cancel, Show};
 
 use crate::fault::TraceFault;
 use crate::fields::{bit_rate, imsi, label, octets, plmn, sized_octets, station, ticks, xres};
@@ -90,41 +93,47 @@ pub fn parse_words(alloc: Global, words: &[&[u8]]) -> Result<Line, TraceFault>
     let Some((word, fields)) = words.split_first() else {
         return Err(TraceFault::UnknownWord);
     };
-    if *word == b"mme".as_slice() {
+    if is_word(word, "mme") {
         return parse_mme(alloc, fields);
     }
-    if *word == b"sub".as_slice() {
+    if is_word(word, "sub") {
         return parse_sub(fields);
     }
-    if *word == b"vec".as_slice() {
+    if is_word(word, "vec") {
         return parse_vec(alloc, fields);
     }
     parse_event(alloc, word, fields)
 }
 
+fn is_word(word: &[u8], name: &str) -> bool
+    ensures { result ≡ bytes_eq word.now name.now }
+{
+    word == name.as_bytes()
+}
+
 fn parse_event(alloc: Global, word: &[u8], fields: &[&[u8]]) -> Result<Line, TraceFault>
     ensures { (result ≡ Err TraceFault.NoMemory) ⊎ (result ≡ read_event word.now (map (λ f. f.now) fields.now)) }
 {
-    if word == b"up".as_slice() {
-        return parse_up(fields);
+    if is_word(word, "up") {
+        return lone_station(fields).map(Line::Up);
     }
-    if word == b"lost".as_slice() {
-        return parse_lost(fields);
+    if is_word(word, "lost") {
+        return lone_station(fields).map(Line::Lost);
     }
-    if word == b"in".as_slice() {
+    if is_word(word, "in") {
         return parse_in(alloc, fields);
     }
-    if word == b"tick".as_slice() {
+    if is_word(word, "tick") {
         return parse_tick(fields);
     }
-    if word == b"data".as_slice() {
-        return parse_data(fields);
+    if is_word(word, "data") {
+        return lone_subscriber(fields).map(Line::Data);
     }
-    if word == b"cancel".as_slice() {
-        return parse_cancel(fields);
+    if is_word(word, "cancel") {
+        return lone_subscriber(fields).map(Line::Cancel);
     }
-    if word == b"show".as_slice() {
-        return parse_show(fields);
+    if is_word(word, "show") {
+        return lone_subscriber(fields).map(Line::Show);
     }
     Err(TraceFault::UnknownWord)
 }
@@ -220,20 +229,13 @@ fn vec_line(
     Ok(Line::Vec(of, vector))
 }
 
-fn parse_up(fields: &[&[u8]]) -> Result<Line, TraceFault>
-    ensures { result ≡ read_up (map (λ f. f.now) fields.now) }
+/// The station of a line that names nothing else.
+fn lone_station(fields: &[&[u8]]) -> Result<StationNumber, TraceFault>
+    ensures up { result_map_both Up (λ e. e) result ≡ read_up (map (λ f. f.now) fields.now) }
+    ensures lost { result_map_both Lost (λ e. e) result ≡ read_lost (map (λ f. f.now) fields.now) }
 {
     match fields {
-        [number] => Ok(Line::Up(station(number)?)),
-        _ => Err(TraceFault::FieldCount),
-    }
-}
-
-fn parse_lost(fields: &[&[u8]]) -> Result<Line, TraceFault>
-    ensures { result ≡ read_lost (map (λ f. f.now) fields.now) }
-{
-    match fields {
-        [number] => Ok(Line::Lost(station(number)?)),
+        [number] => station(number),
         _ => Err(TraceFault::FieldCount),
     }
 }
@@ -259,29 +261,14 @@ fn parse_tick(fields: &[&[u8]]) -> Result<Line, TraceFault>
     }
 }
 
-fn parse_data(fields: &[&[u8]]) -> Result<Line, TraceFault>
-    ensures { result ≡ read_data (map (λ f. f.now) fields.now) }
+/// The subscriber of a line that names nothing else.
+fn lone_subscriber(fields: &[&[u8]]) -> Result<Imsi, TraceFault>
+    ensures data { result_map_both Data (λ e. e) result ≡ read_data (map (λ f. f.now) fields.now) }
+    ensures cancel { result_map_both Cancel (λ e. e) result ≡ read_cancel (map (λ f. f.now) fields.now) }
+    ensures show { result_map_both Show (λ e. e) result ≡ read_show (map (λ f. f.now) fields.now) }
 {
     match fields {
-        [subscriber] => Ok(Line::Data(imsi(subscriber)?)),
-        _ => Err(TraceFault::FieldCount),
-    }
-}
-
-fn parse_cancel(fields: &[&[u8]]) -> Result<Line, TraceFault>
-    ensures { result ≡ read_cancel (map (λ f. f.now) fields.now) }
-{
-    match fields {
-        [subscriber] => Ok(Line::Cancel(imsi(subscriber)?)),
-        _ => Err(TraceFault::FieldCount),
-    }
-}
-
-fn parse_show(fields: &[&[u8]]) -> Result<Line, TraceFault>
-    ensures { result ≡ read_show (map (λ f. f.now) fields.now) }
-{
-    match fields {
-        [subscriber] => Ok(Line::Show(imsi(subscriber)?)),
+        [subscriber] => imsi(subscriber),
         _ => Err(TraceFault::FieldCount),
     }
 }

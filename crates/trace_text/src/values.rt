@@ -8,7 +8,7 @@ use std::alloc::{AllocError, Global};
 use std::marker::Model;
 
 /// A bit rate, 1 to 10^10 bits a second (TS 36.413 clause 9.2.1.20); a contract sees the number.
-#[derive(Clone, Copy, Debug, PartialEq, Eq)]
+#[derive(Clone, Copy)]
 pub struct BitRate {
     rate: u64,
 }
@@ -48,7 +48,7 @@ impl BitRate {
 }
 
 /// A number of ticks, 1 to 1000000; a contract sees the number.
-#[derive(Clone, Copy, Debug, PartialEq, Eq)]
+#[derive(Clone, Copy)]
 pub struct TraceTicks {
     ticks: u32,
 }

@@ -1,6 +1,6 @@
 //! How a line of a trace is written.
 
-ghost use Rattle.std.specs.Prelude.{◌≡◌, ◌≤◌, ◌++◌, ℕ, List, length, true, IfOk, OnOk, Ok, string_bytes};
+ghost use Rattle.std.specs.Prelude.{◌≡◌, ◌≤◌, ◌++◌, ℕ, List, codes, length, true, IfOk, OnOk, Ok, string_bytes};
 ghost use Rattle.std.specs.Fmt.{decimal};
 ghost use Rattle.hex.specs.Hex.{encode_lower};
 ghost use Rattle.nas_elements.specs.Digits.{imsi_text};
@@ -49,15 +49,22 @@ fn line_as_text(alloc: Global, line: &Line) -> Result<String, AllocError>
 fn write_mme(alloc: Global, fields: &MmeLine) -> Result<String, AllocError>
     ensures { IfOk result (λ text. string_bytes text ≡ line_text (Mme fields.now)) }
 {
-    let mut text = String::from_str(alloc, "mme")?;
-    push_field(&mut text, write_country(alloc, &fields.plmn)?.as_str())?;
-    push_field(&mut text, write_network(alloc, &fields.plmn)?.as_str())?;
+    let mut text = write_plmn(alloc, &fields.plmn)?;
     push_octets(alloc, &mut text, &fields.group)?;
     push_octets(alloc, &mut text, &fields.code)?;
     push_field(&mut text, fields.apn.as_str())?;
-    push_number(alloc, &mut text, fields.down.get())?;
-    push_number(alloc, &mut text, fields.up.get())?;
+    push_number(&mut text, fields.down.get())?;
+    push_number(&mut text, fields.up.get())?;
     Ok(text)
+}
+
+/// The line of an MME as far as its network.
+fn write_plmn(alloc: Global, plmn: &[u8; 3]) -> Result<String, AllocError>
+    ensures { IfOk result (λ text. string_bytes text ≡ codes "mme" ␣ country_text plmn.now ␣ network_text plmn.now) }
+{
+    let country = write_country(alloc, plmn)?;
+    let network = write_network(alloc, plmn)?;
+    format!(in alloc; "mme {country} {network}")
 }
 
 fn write_country(alloc: Global, plmn: &[u8; 3]) -> Result<String, AllocError>
@@ -117,8 +124,7 @@ pub fn write_up(alloc: Global, station: StationNumber) -> Result<String, AllocEr
     ensures read { IfOk result (λ text. line_of (string_bytes text) ≡ Ok (Up station)) }
     ensures unbroken { IfOk result (λ text. is_unbroken (string_bytes text) ≡ true) }
 {
-    let text = write_number(alloc, "up", u32::from(station.get()))?;
-    Ok(text)
+    write_number(alloc, "up", u32::from(station.get()))
 }
 
 /// The line `lost E` without its LF: a station's connection is lost.
@@ -128,8 +134,7 @@ pub fn write_lost(alloc: Global, station: StationNumber) -> Result<String, Alloc
     ensures read { IfOk result (λ text. line_of (string_bytes text) ≡ Ok (Lost station)) }
     ensures unbroken { IfOk result (λ text. is_unbroken (string_bytes text) ≡ true) }
 {
-    let text = write_number(alloc, "lost", u32::from(station.get()))?;
-    Ok(text)
+    write_number(alloc, "lost", u32::from(station.get()))
 }
 
 /// The line `in E OCTETS` without its LF: a station sends these octets. It is read as that line where it isn't longer than
@@ -142,9 +147,8 @@ pub fn write_in(alloc: Global, station: StationNumber, octets: &[u8]) -> Result<
     ensures unbroken { IfOk result (λ text. is_unbroken (string_bytes text) ≡ true) }
 {
     let hex = write_octets(alloc, octets)?;
-    let mut text = write_number(alloc, "in", u32::from(station.get()))?;
-    push_field(&mut text, hex.as_str())?;
-    Ok(text)
+    let number = station.get();
+    format!(in alloc; "in {number} {hex}")
 }
 
 fn write_number(alloc: Global, word: &str, number: u32) -> Result<String, AllocError>
@@ -156,16 +160,15 @@ fn write_number(alloc: Global, word: &str, number: u32) -> Result<String, AllocE
 fn write_imsi(alloc: Global, word: &str, imsi: &Imsi) -> Result<String, AllocError>
     ensures { IfOk result (λ text. string_bytes text ≡ word.now ␣ imsi_text imsi.now) }
 {
-    let mut text = String::from_str(alloc, word)?;
-    push_field(&mut text, imsi.digits().as_str())?;
-    Ok(text)
+    let digits = imsi.digits();
+    let imsi = digits.as_str();
+    format!(in alloc; "{word} {imsi}")
 }
 
-fn push_number(alloc: Global, text: &mut String, number: u64) -> Result<(), AllocError>
+fn push_number(text: &mut String, number: u64) -> Result<(), AllocError>
     ensures { OnOk result (string_bytes text.new ≡ string_bytes text.old ␣ decimal number) }
 {
-    let digits = format!(in alloc; "{number}")?;
-    push_field(text, digits.as_str())
+    write!(text, " {number}")
 }
 
 fn push_octets(alloc: Global, text: &mut String, octets: &[u8]) -> Result<(), AllocError>

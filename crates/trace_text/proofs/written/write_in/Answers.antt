@@ -1,20 +1,22 @@
-use Rattle.std.proofs.Common.{◌≡◌, ◌<◌, ◌≤◌, length, ap, subst, ◌∙◌, arith, rules, ℕ, List, string_bytes}
+use Rattle.std.proofs.Common.{◌≡◌, ◌<◌, ◌≤◌, true, length, ap, sym, subst, ◌∙◌, arith, rules, ℕ, List, string_bytes}
+use Rattle.std.specs.Prelude.{IfOk, Ok}
+use Rattle.std.proofs.lemmas.Result.{IfOk-weaker}
 use Rattle.trace_text.specs.Trace.{line_of, line_text}
 use Rattle.trace_text.specs.Lines.{is_unbroken}
 use Rattle.trace_text.specs.declared.line.Line.TheVariants.{In}
 use Rattle.trace_text.proofs.Events.{in_written, in_unbroken}
 use Rattle.trace_text.proofs.written.write_in.Goals as goal
 
-pub returns-clause-read : goal.returns-clause-read
+pub returns : goal.returns
 unfolding line_text
-returns-clause-read c = λ short.
-    let small : c.args.station < 128 = omega (arith, c.get.ensures.value, c.get.ensures.bound) in
-    let text : string_bytes c.push_field.new.text ≡ line_text (In c.args.station c.args.octets.now) = search rules in
-    ap line_of text ∙ (in_written c.args.station c.args.octets.now small (λ i. let fits = c.type_inv.octets i in omega (arith, fits)) (subst (λ (t : List ℕ). length t ≤ 40000) text short)).again
-
-pub returns-clause-unbroken : goal.returns-clause-unbroken
-unfolding line_text
-returns-clause-unbroken c =
-    let small : c.args.station < 128 = omega (arith, c.get.ensures.value, c.get.ensures.bound) in
-    let text : string_bytes c.push_field.new.text ≡ line_text (In c.args.station c.args.octets.now) = search rules in
-    ap is_unbroken text ∙ in_unbroken c.args.station c.args.octets.now small
+returns c =
+    let small : c.args.station < 128 = omega (arith, c.get-number.ensures.value, c.get-number.ensures.bound) in
+    let line = In c.args.station c.args.octets.now in
+    let made = c.format.result in
+    let text : IfOk made (λ text. string_bytes text ≡ line_text (In c.args.station c.args.octets.now)) = rw (sym c.in_ok-hex.ensures, sym c.get-number.ensures.value) (search rules) in
+    let reads = λ (short : length (line_text line) ≤ 40000). (in_written c.args.station c.args.octets.now small (λ i. let fits = c.type_inv.octets i in omega (arith, fits)) short).again in
+    record {
+      text = text;
+      read = IfOk-weaker made (λ text. string_bytes text ≡ line_text line) (λ text. length (string_bytes text) ≤ 40000 → line_of (string_bytes text) ≡ Ok line) (λ text e short. ap line_of e ∙ reads (subst (λ (t : List ℕ). length t ≤ 40000) e short)) text;
+      unbroken = IfOk-weaker made (λ text. string_bytes text ≡ line_text line) (λ text. is_unbroken (string_bytes text) ≡ true) (λ text e. ap is_unbroken e ∙ in_unbroken c.args.station c.args.octets.now small) text;
+    }

@@ -1,20 +1,21 @@
-use Rattle.std.proofs.Common.{◌≡◌, ◌<◌, ap, ◌∙◌, arith, rules, string_bytes}
+use Rattle.std.proofs.Common.{◌≡◌, ◌<◌, true, ap, ◌∙◌, arith, rules, string_bytes}
+use Rattle.std.specs.Prelude.{IfOk, Ok}
+use Rattle.std.proofs.lemmas.Result.{IfOk-weaker}
 use Rattle.trace_text.specs.Trace.{line_of, line_text}
 use Rattle.trace_text.specs.Lines.{is_unbroken}
 use Rattle.trace_text.specs.declared.line.Line.TheVariants.{Up}
 use Rattle.trace_text.proofs.Events.{up_written}
 use Rattle.trace_text.proofs.written.write_up.Goals as goal
 
-pub returns-clause-read : goal.returns-clause-read
+pub returns : goal.returns
 unfolding line_text
-returns-clause-read c =
+returns c =
     let small : c.args.station < 128 = omega (arith, c.get.ensures.value, c.get.ensures.bound) in
-    let text : string_bytes c.in_ok-text.text ≡ line_text (Up c.args.station) = search rules in
-    ap line_of text ∙ (up_written c.args.station small).again
-
-pub returns-clause-unbroken : goal.returns-clause-unbroken
-unfolding line_text
-returns-clause-unbroken c =
-    let small : c.args.station < 128 = omega (arith, c.get.ensures.value, c.get.ensures.bound) in
-    let text : string_bytes c.in_ok-text.text ≡ line_text (Up c.args.station) = search rules in
-    ap is_unbroken text ∙ (up_written c.args.station small).unbroken
+    let line = up_written c.args.station small in
+    let made = c.write_number.result in
+    let text : IfOk made (λ text. string_bytes text ≡ line_text (Up c.args.station)) = search rules in
+    record {
+      text = text;
+      read = IfOk-weaker made (λ text. string_bytes text ≡ line_text (Up c.args.station)) (λ text. line_of (string_bytes text) ≡ Ok (Up c.args.station)) (λ text e. ap line_of e ∙ line.again) text;
+      unbroken = IfOk-weaker made (λ text. string_bytes text ≡ line_text (Up c.args.station)) (λ text. is_unbroken (string_bytes text) ≡ true) (λ text e. ap is_unbroken e ∙ line.unbroken) text;
+    }
