@@ -1,9 +1,11 @@
 """A run of the MME for the tools of this folder: the events of a trace, and what the MME answered to each.
 
 `mme play` prints answers without saying to which event each is. `played` runs it with a mark behind each event, and so knows;
-`matched` takes answers that were printed before, and finds for each the event that can have caused it, by the standards'
-procedures. Nothing here is part of a proof.
+`told` takes the answers that stand in the trace as comments, each behind its event, as `mme sim` prints them; `matched` takes
+answers that were printed before, and finds for each the event that can have caused it, by the standards' procedures. Nothing here
+is part of a proof.
 """
+import bisect
 import collections
 import pathlib
 import re
@@ -107,14 +109,14 @@ def fields_of(text, counts):
     return word, fields
 
 
-def lines_of(octets, name, read):
-    """Reads each line that isn't empty or a comment; a fault gets the line's number."""
+def lines_of(octets, name, read, comments=False):
+    """Reads each line that isn't empty, of those that are comments or of those that aren't; a fault gets the line's number."""
     for line, text in enumerate(octets.split(b"\n"), 1):
         if text:
             try:
                 if len(text) > LONGEST_LINE:
                     raise Fault("longer than %d octets" % LONGEST_LINE)
-                if not text.startswith(b"#"):
+                if text.startswith(b"#") == comments:
                     read(line, text)
             except Fault as fault:
                 raise Fault("%s: line %d: %s" % (name, line, fault)) from None
@@ -147,22 +149,39 @@ def read_trace(octets, name="trace"):
 ANSWERS = {"out": 3, "refused": 1, "state": 4}
 
 
+# How a comment of a trace begins that is an answer.
+TOLD = re.compile(rb"# (?=out [esx]\d|refused \d|state \d)")
+
+
+def answer_of(text):
+    """An answer by its line."""
+    word, fields = fields_of(text, ANSWERS)
+    if word == "refused":
+        return Answer(word, fault=number(fields[0], 1, 9))
+    if word == "state":
+        return Answer(word, imsi=imsi_of(fields[0]), states=" ".join(fields[1:]))
+    if not re.fullmatch(r"e\d+|x\d+\.\d+|s\d+", fields[0]):
+        raise Fault("%r is nobody a message is sent for" % fields[0][:40])
+    return Answer(word, fields[0], number(fields[1], 0, STATIONS - 1), octets_of(fields[2]))
+
+
 def read_answers(octets, name="answers"):
     """What `mme play` printed."""
     answers = []
+    lines_of(octets, name, lambda _, text: answers.append(answer_of(text)))
+    return answers
 
-    def read(_, text):
-        word, fields = fields_of(text, ANSWERS)
-        if word == "refused":
-            answers.append(Answer(word, fault=number(fields[0], 1, 9)))
-        elif word == "state":
-            answers.append(Answer(word, imsi=imsi_of(fields[0]), states=" ".join(fields[1:])))
-        elif re.fullmatch(r"e\d+|x\d+\.\d+|s\d+", fields[0]):
-            answers.append(Answer(word, fields[0], number(fields[1], 0, STATIONS - 1), octets_of(fields[2])))
-        else:
-            raise Fault("%r is nobody a message is sent for" % fields[0][:40])
 
-    lines_of(octets, name, read)
+def read_told(octets, name="trace"):
+    """The answers that stand in a trace as comments, each with the number of its line."""
+    answers = []
+
+    def read(line, text):
+        mark = TOLD.match(text)
+        if mark:
+            answers.append((line, answer_of(text[mark.end():])))
+
+    lines_of(octets, name, read, comments=True)
     return answers
 
 
@@ -197,6 +216,11 @@ def certain_answers(trace):
             answer = Answer("state", imsi=event.imsi)
         known.append(answer)
     return known
+
+
+def is_certain(answer, certain):
+    """Whether an answer is the one that is known."""
+    return answer._replace(states=None) == certain
 
 
 def started(trace):
@@ -364,12 +388,15 @@ class Causes:
             said = content(answer.octets)
             fitting = (place for place in range(at, len(steps)) if self.fits(steps[place], answer, said))
             at = next(fitting, at)
-            step = steps[at]
-            second = step.second
-            if step.event.word == "tick":
-                second = self.second_of(step, answer, said) or step.second + step.event.ticks
-            step.answers.append((second, answer))
-            self.note(step, second, answer, said)
+            self.take(steps[at], answer, said)
+
+    def take(self, step, answer, said):
+        """Gives the answer to this step; in a tick at the second of its timer, else at the end."""
+        second = step.second
+        if step.event.word == "tick":
+            second = self.second_of(step, answer, said) or step.second + step.event.ticks
+        step.answers.append((second, answer))
+        self.note(step, second, answer, said)
 
 
 def matched(trace, answers):
@@ -388,7 +415,7 @@ def matched(trace, answers):
             waiting.append(step)
             continue
         place = next((place for place in range(at, len(answers)) if answers[place].word != "out"), None)
-        if place is None or answers[place][:-2] != certain[:-2] or answers[place].fault != certain.fault:
+        if place is None or not is_certain(answers[place], certain):
             raise Fault("the answers aren't those to this trace: line %d of it, %s, isn't answered where it must be"
                         % (step.event.line, event_text(step.event)[:60]))
         give_until(place)
@@ -399,6 +426,37 @@ def matched(trace, answers):
     give_until(len(answers))
     for step in steps:
         step.answers.sort(key=lambda pair: pair[0])
+    return steps
+
+
+# --- Answers that stand in the trace ---
+
+
+def is_met(step, certain):
+    """Whether a step has the answer that is known and no other; where none is known, messages alone."""
+    answers = [answer for _, answer in step.answers]
+    if certain is None:
+        return all(answer.word == "out" for answer in answers)
+    return len(answers) == 1 and is_certain(answers[0], certain)
+
+
+def told(trace, answers):
+    """The steps of a trace whose comments are its answers: each, with the number of its line, is to the event above it."""
+    steps, causes = started(trace), Causes(trace.imsis)
+    lines = [event.line for event in trace.events]
+    for line, answer in answers:
+        place = bisect.bisect(lines, line) - 1
+        if place < 0:
+            raise Fault("the comments aren't the answers to this trace: line %d stands before all events" % line)
+        step = steps[place]
+        if answer.word == "out":
+            causes.take(step, answer, content(answer.octets))
+        else:
+            step.answers.append((step.second, answer))
+    for step, certain in zip(steps, certain_answers(trace)):
+        if not is_met(step, certain):
+            raise Fault("the comments aren't the answers to this trace: line %d of it, %s, isn't answered as it must be"
+                        % (step.event.line, event_text(step.event)[:60]))
     return steps
 
 
@@ -459,11 +517,14 @@ def played(trace, program=SYSTEM):
     return steps
 
 
-def run_of(trace_path, answers_path, program=SYSTEM):
-    """A trace by its path and its steps; where no answers are given, the program plays it."""
+def run_of(trace_path, answers_path, program=None):
+    """A trace by its path and its steps. Where no answers are given, those count that stand in it as comments; where it has none,
+    or a program is given, the program plays it."""
     if "-" == trace_path == answers_path:
         raise Fault("standard input is one file: the trace or the answers")
-    trace = read_trace(read_file(trace_path), trace_path)
-    if answers_path is None:
-        return trace, played(trace, program)
-    return trace, matched(trace, read_answers(read_file(answers_path), answers_path))
+    octets = read_file(trace_path)
+    trace = read_trace(octets, trace_path)
+    if answers_path is not None:
+        return trace, matched(trace, read_answers(read_file(answers_path), answers_path))
+    comments = [] if program else read_told(octets, trace_path)
+    return trace, told(trace, comments) if comments else played(trace, program or SYSTEM)

@@ -54,6 +54,25 @@ second    P1                            E0                                MME
 """
 
 
+# Data for an idle phone: it is paged in its tracking area, and once more when T3413, which is of 10 seconds here, ends; it answers
+# by a service request (TS 24.301 clause 5.6.2). What then waits for it goes by its connection.
+PAGED = """\
+          |                              |   |   |                                     |  data waits for P1
+          |                              |<------------------ PAGING ------------------|  P1
+          |                              |   |   |<-------------- PAGING --------------|  P1
+          |                              |   |   |                                     |  data waits for P1
+ +10 s    :                              :   :   :                                     :
+    10    |                              |<------------------ PAGING ------------------|  P1
+          |                              |   |   |<-------------- PAGING --------------|  P1
+          |---------- SERVICE REQUEST ---------->|-------- INITIAL UE MESSAGE -------->|
+          |                              |   |   |<-- INITIAL CONTEXT SETUP REQUEST ---|  P1
+          |                              |   |   |-- INITIAL CONTEXT SETUP RESPONSE -->|  P1
+          |                              |   |   |                                     |  P1 REGISTERED CONNECTED ACTIVE
+          |                              |   |   |                                     |  data waits for P1
+ +20 s    :                              :   :   :                                     :
+"""
+
+
 def run_of(name):
     path = tools.ROWS / name
     return RUNS.run_of(str(path.with_suffix(".trace")), str(path.with_suffix(".answers")))
@@ -85,6 +104,24 @@ class Text(unittest.TestCase):
                 done = chart(tools.ROWS / (name + ".trace"), tools.ROWS / (name + ".answers"))
                 self.assertEqual((done.returncode, done.stderr), (0, b""))
                 self.assertEqual(done.stdout.decode(), wanted)
+
+    def test_answers_in_the_trace(self):
+        """The chart of a trace whose comments are its answers, with no program to be run; --mme asks for one."""
+        given = tools.TOP / "examples" / "paging.trace"
+        for done in (chart(given), chart("-", given=given.read_bytes())):
+            self.assertEqual((done.returncode, done.stderr), (0, b""))
+            self.assertEqual(done.stdout.decode()[-len(PAGED):], PAGED)
+        self.assertIn(b"/nowhere: No such file", chart(given, "--mme", "/nowhere").stderr)
+
+    def test_seconds_of_the_trace(self):
+        """T3460 and T3450 have 6 seconds and 4 repeats (TS 24.301 table 10.2.2); what they wait for never comes. At 30 the
+        second phone attaches."""
+        trace, steps = RUNS.run_of(str(tools.TOP / "examples" / "deaf.trace"), None)
+        drawn = [(row.second, arrow.label) for row in CHART.rows_of(trace, steps) for arrow in row.arrows]
+        for label, seconds in (("AUTHENTICATION REQUEST", [0, 6, 12, 18, 24, 30]), ("UE CONTEXT RELEASE COMMAND", [30, 60]),
+                               ("TRACKING AREA UPDATE ACCEPT", [30, 36, 42, 48, 54])):
+            with self.subTest(label=label):
+                self.assertEqual([second for second, its in drawn if its == label], seconds)
 
     def test_rows(self):
         """Each line fits, each message has its arrows, and its line; at this width the longest name is whole."""
@@ -176,7 +213,9 @@ class Svg(unittest.TestCase):
                 self.assertEqual(len(arrows), sum(len(row.arrows) for row in rows))
                 faults = [group for group in root.iter(SVG + "g") if group.get("class") == "fault"]
                 self.assertEqual(len(faults), sum(row.kind == CHART.FAULT for row in rows))
+                self.assertEqual([group.find(SVG + "text[.='!']") is None for group in faults], [False] * len(faults))
                 width, height = float(root.get("width")), float(root.get("height"))
+                self.assertEqual(root.get("viewBox"), "0 0 %.0f %.0f" % (width, height))
                 for text in root.iter(SVG + "text"):
                     self.assertLessEqual(float(text.get("y")), height)
                     if text.get("text-anchor") == "start":

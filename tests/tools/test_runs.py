@@ -39,11 +39,19 @@ def given(steps):
 class Told(PHONES.Trace):
     """A trace that keeps which answers are owed to which line."""
 
+    def answered(self):
+        """Each line with the answers to it."""
+        ends = self.ends[1:] + [len(self.answers)]
+        return [(line, self.answers[start:end]) for line, start, end in zip(self.lines, self.ends, ends)]
+
     def told(self):
         """Each line that is an event, with the answers to it."""
-        ends = self.ends[1:] + [len(self.answers)]
-        pairs = zip(self.lines, self.ends, ends)
-        return [(line, self.answers[start:end]) for line, start, end in pairs if line.split(" ")[0] in RUNS.EVENTS]
+        return [(line, answers) for line, answers in self.answered() if line.split(" ")[0] in RUNS.EVENTS]
+
+    def commented(self):
+        """The trace with the answers as comments, each behind its event."""
+        lines = (text for line, answers in self.answered() for text in [line] + ["# " + answer for answer in answers])
+        return "\n".join(lines).encode()
 
     def say(self, line):
         self.ends = getattr(self, "ends", []) + [len(self.answers)]
@@ -140,6 +148,52 @@ class Matching(unittest.TestCase):
         for other in (answers[:-1], answers + [RUNS.Answer("refused", fault=1)], row("up_twice")[1]):
             with self.assertRaisesRegex(RUNS.Fault, "answers aren't those to this trace"):
                 RUNS.matched(trace, other)
+
+
+def steps_told(octets):
+    """The steps of a trace by the answers that stand in it."""
+    return RUNS.told(RUNS.read_trace(octets), RUNS.read_told(octets))
+
+
+class Telling(unittest.TestCase):
+    HEAD = b"mme 001 01 8001 01 internet 1 1\nsub 001010000000001 0a000001 0a000064 00000001\n"
+
+    def test_phones_by_chance(self):
+        """Each comment is the answer to the event above it."""
+        for seed in range(30):
+            with self.subTest(seed=seed):
+                trace = by_chance(seed)
+                self.assertEqual(given(steps_told(trace.commented())), trace.told())
+
+    def test_seconds(self):
+        """T3460 ends each 6 seconds (TS 24.301 table 10.2.2), whether they pass one by one or at once."""
+        _, answers = row("attach_unanswered")
+        again = ["# " + answer_text(answer) for answer in answers[2:7]]
+        ones = [line for answer in again for line in ["tick 1"] * 6 + [answer]]
+        for ticks in (ones, ["tick 30"] + again):
+            with self.subTest(lines=len(ticks)):
+                lines = ["up 0", "in 0 00", "# out s0 0 " + answers[1].octets.hex(), *ticks]
+                steps = steps_told(self.HEAD + "\n".join(lines).encode())
+                self.assertEqual([second for step in steps for second, _ in step.answers], [0, 6, 12, 18, 24, 30])
+
+    def test_prose(self):
+        """A comment that only begins like an answer is none."""
+        prose = b"# out of the blue\n# refused twice\n# state of the first phone\n#out s0 0 00\n# # out s0 0 00\n## skipped\n"
+        self.assertEqual(RUNS.read_told(self.HEAD + b"up 0\n" + prose), [])
+
+    def test_faults(self):
+        """An answer that isn't of its form, that stands before all events, or that isn't what its event must get."""
+        for lines, told in (
+                ("up 0\n# out s0 0 0g", "line 4: '0g' aren't octets"),
+                ("up 0\n# refused 2 2", "line 4: refused has 1 fields, not 2"),
+                ("# refused 2\nup 0", "line 3 stands before all events"), ("up 0\n# refused 2", "line 3 of it, up 0"),
+                ("up 0\nup 0\n# out e0 0 00", "line 4 of it, up 0"), ("lost 0\n# refused 2", "line 3 of it, lost 0"),
+                ("up 0\nup 0\n# refused 2\n# refused 2", "line 4 of it, up 0"),
+                ("up 0\n# out e0 0 00\nshow 001010000000001", "line 5 of it, show"),
+                ("show 001010000000001\n# state 001010000000002 A B C", "line 3 of it, show")):
+            with self.subTest(told=told):
+                with self.assertRaisesRegex(RUNS.Fault, told):
+                    steps_told(self.HEAD + lines.encode())
 
 
 PROGRAM = """#!%s
