@@ -5,6 +5,7 @@ pub mod Reading
 pub mod Writing
 pub mod Written
 pub mod Names
+pub mod Sequences
 pub mod BaseLaws
 pub mod LargeLaws
 pub mod FormatLaws

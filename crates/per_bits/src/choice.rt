@@ -1,13 +1,16 @@
-//! The index of a CHOICE (X.691 clause 23).
+//! CHOICEs (X.691 clause 23).
 
 ghost use Rattle.std.specs.Prelude.{◌≡◌, ◌++◌, ◌∷◌, ◌≤◌, [], false, IfOk};
 ghost use Rattle.bit_streams.specs.declared.fault.PerFault.TheVariants.{Alternative};
 ghost use Rattle.bit_streams.specs.Bits.{Answers};
 ghost use Rattle.per_bits.specs.Reading.{closed_at, number_at};
 ghost use Rattle.per_bits.specs.Writing.{write_number, Wrote};
+ghost use Rattle.per_bits.specs.Sequences.{write_alternative};
 
+use crate::element::Element;
 use crate::whole::{offset_of, put_number};
 use bit_streams::{BitReader, BitWriter, PerError, PerFault};
+use std::alloc::Global;
 
 /// The index of an alternative, the last of which has index `last`; an extension bit of 1 is Alternative.
 #[tactic(auto, unfolding(crate::specs::Reading::number_at))]
@@ -28,4 +31,18 @@ pub fn put_choice(last: u64, index: u64, writer: &mut BitWriter) -> Result<(), P
 {
     writer.put_bit(false)?;
     put_number(0, last, index, writer)
+}
+
+/// Writes an alternative of a CHOICE, the last of which has index `last`: its index, and its value.
+pub fn write_choice<'a, T: Element<'a>>(
+    last: u64,
+    index: u64,
+    value: &T,
+    alloc: Global,
+    writer: &mut BitWriter,
+) -> Result<(), PerError>
+    ensures { Wrote result writer.new (write_alternative last index T.format (T.view value.now) writer.old) }
+{
+    put_choice(last, index, writer)?;
+    value.write(alloc, writer)
 }

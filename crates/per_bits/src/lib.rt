@@ -11,6 +11,7 @@ mod laws;
 mod name;
 mod octets;
 mod open;
+mod sequence;
 mod skips;
 mod strings;
 mod whole;
@@ -18,8 +19,9 @@ mod wrapped;
 
 pub use bit_streams::{BitReader, BitWriter, PerError, PerFault};
 pub use bit_string::BitString;
-pub use choice::{put_choice, take_choice};
+pub use choice::{put_choice, take_choice, write_choice};
 pub use element::Element;
+pub use enumerated::take_name;
 pub use field::BitField;
 pub use items::Items;
 pub use laws::{one_value, read_exactly, what_is_written, what_is_written_is_read, writes_exactly};
@@ -28,6 +30,10 @@ pub use octets::Octets;
 pub use open::{
     put_length, read_complete, read_open, take_length, take_open, take_small_number,
     write_complete, write_open,
+};
+pub use sequence::{
+    put_flags, put_three_flags, read_pair, read_three, read_two, skip_later, take_flags,
+    take_three_flags,
 };
 pub use skips::{skip_additions, skip_extensions};
 pub use strings::{OctetString, SizedString, put_aligned, put_open};

@@ -1,6 +1,4 @@
 pub mod Formats
-pub mod Sequences
-pub mod Names
 pub mod Causes
 pub mod Stations
 pub mod Phones

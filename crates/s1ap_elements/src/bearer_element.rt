@@ -10,13 +10,10 @@ ghost use Rattle.s1ap_elements.specs.Bearers.{typed_ambr, typed_arp, typed_gbr, 
 
 use crate::bearer::{Ambr, Arp, ErabToBeSetup, ErabTunnel, Gbr, Qos};
 use crate::identity::{Address, BitRate, ErabId, Teid};
-use crate::sequence::{
-    put_flags, put_three_flags, read_pair, read_three, read_two, skip_later, take_flags,
-    take_three_flags,
-};
 use per_bits::{
-    BitReader, BitWriter, Closed, Element, OctetString, PerError, Whole, put_open, skip_additions,
-    skip_extensions,
+    BitReader, BitWriter, Closed, Element, OctetString, PerError, Whole, put_flags, put_open,
+    put_three_flags, read_pair, read_three, read_two, skip_additions, skip_extensions, skip_later,
+    take_flags, take_three_flags,
 };
 use std::alloc::Global;
 

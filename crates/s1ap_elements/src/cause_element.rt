@@ -5,15 +5,15 @@ ghost use Rattle.bit_streams.specs.Bits.{Gives};
 ghost use Rattle.per_bits.specs.Reading.{read_at};
 ghost use Rattle.per_bits.specs.Formats.{enumerated};
 ghost use Rattle.per_bits.specs.Writing.{write_at, Wrote};
-ghost use Rattle.per_bits.specs.Names.{view_of_name};
-ghost use Rattle.s1ap_elements.specs.Names.{IsName};
+ghost use Rattle.per_bits.specs.Names.{view_of_name, IsName};
 ghost use Rattle.s1ap_elements.specs.Formats.{cause};
 ghost use Rattle.s1ap_elements.specs.Causes.{typed_radio_network, typed_transport, typed_nas, typed_protocol, typed_misc, typed_cause};
 
 use crate::cause::{Cause, MiscCause, NasCause, ProtocolCause, RadioNetworkCause, TransportCause};
-use crate::choice::write_choice;
-use crate::name::take_name;
-use per_bits::{BitReader, BitWriter, Element, Enumerated, PerError, PerFault, take_choice};
+use per_bits::{
+    BitReader, BitWriter, Element, Enumerated, PerError, PerFault, take_choice, take_name,
+    write_choice,
+};
 use std::alloc::Global;
 
 // A cause by its name; the last number of a group is what no other is.

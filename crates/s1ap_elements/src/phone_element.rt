@@ -4,22 +4,19 @@ ghost use Rattle.std.specs.Prelude.{◌≡◌};
 ghost use Rattle.bit_streams.specs.Bits.{Gives};
 ghost use Rattle.per_bits.specs.Reading.{read_at};
 ghost use Rattle.per_bits.specs.Writing.{write_at, Wrote};
-ghost use Rattle.per_bits.specs.Names.{view_of_name};
-ghost use Rattle.s1ap_elements.specs.Names.{IsName};
+ghost use Rattle.per_bits.specs.Names.{view_of_name, IsName};
 ghost use Rattle.s1ap_elements.specs.Formats.{tai, tai_item, eutran_cgi, s_tmsi, ue_paging_id, rrc_cause, cn_domain, ue_id_pair, ue_s1ap_ids, security_capabilities, security_context, reset_type};
 ghost use Rattle.s1ap_elements.specs.Phones.{typed_tai, typed_tai_item, typed_eutran_cgi, typed_s_tmsi, ue_paging_id_lists, typed_ue_paging_id, typed_rrc_cause, typed_cn_domain, typed_ue_id_pair, typed_ue_s1ap_ids, typed_security_capabilities, typed_security_context, typed_reset_all, typed_reset_type};
 
-use crate::choice::write_choice;
 use crate::identity::{CellId, EnbUeId, MTmsi, MmeCode, MmeUeId, Plmn, SecurityKey, Tac};
-use crate::name::take_name;
 use crate::phone::{
     CnDomain, EutranCgi, ResetAll, ResetType, RrcCause, STmsi, SecurityCapabilities,
     SecurityContext, Tai, TaiItem, UeIdPair, UePagingId, UeS1apIds,
 };
-use crate::sequence::{put_flags, read_two, skip_later, take_flags};
 use per_bits::{
     BitField, BitReader, BitWriter, Closed, Element, Enumerated, PerError, PerFault, SizedString,
-    Whole, offset_of, put_choice, put_number, take_choice,
+    Whole, offset_of, put_choice, put_flags, put_number, read_two, skip_later, take_choice,
+    take_flags, take_name, write_choice,
 };
 use std::alloc::Global;
 

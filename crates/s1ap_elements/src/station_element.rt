@@ -4,18 +4,15 @@ ghost use Rattle.std.specs.Prelude.{◌≡◌};
 ghost use Rattle.bit_streams.specs.Bits.{Gives};
 ghost use Rattle.per_bits.specs.Reading.{read_at};
 ghost use Rattle.per_bits.specs.Writing.{write_at, Wrote};
-ghost use Rattle.per_bits.specs.Names.{view_of_name};
-ghost use Rattle.s1ap_elements.specs.Names.{IsName};
+ghost use Rattle.per_bits.specs.Names.{view_of_name, IsName};
 ghost use Rattle.s1ap_elements.specs.Formats.{enb_id, global_enb_id, supported_ta, served_gummei, paging_drx};
 ghost use Rattle.s1ap_elements.specs.Stations.{typed_enb_id, typed_global_enb_id, typed_supported_ta, typed_served_gummei, typed_paging_drx};
 
-use crate::choice::write_choice;
 use crate::identity::{MmeCode, MmeGroup, Plmn, Tac};
-use crate::name::take_name;
-use crate::sequence::{put_flags, read_three, read_two};
 use crate::station::{EnbId, GlobalEnbId, PagingDrx, ServedGummei, SupportedTa};
 use per_bits::{
-    BitField, BitReader, BitWriter, Element, Enumerated, Items, PerError, PerFault, take_choice,
+    BitField, BitReader, BitWriter, Element, Enumerated, Items, PerError, PerFault, put_flags,
+    read_three, read_two, take_choice, take_name, write_choice,
 };
 use std::alloc::Global;
 

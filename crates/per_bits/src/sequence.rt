@@ -1,4 +1,5 @@
-//! SEQUENCEs: presence bits, parts in their order, then what later releases added, which is not kept.
+//! SEQUENCEs (X.691 clause 19; TS 36.413 clause 9.3.7): presence bits, parts in their order, then what later releases added,
+//! which is not kept.
 
 ghost use Rattle.std.specs.Prelude.{◌≡◌, ◌++◌, ◌∷◌, [], Err, OnOk, OnErr, false};
 ghost use Rattle.bit_streams.specs.declared.fault.PerError.TheVariants.{NoMemory};
@@ -6,11 +7,11 @@ ghost use Rattle.bit_streams.specs.Bits.{Gives, Answers, bit_at};
 ghost use Rattle.bit_streams.specs.Each.{times};
 ghost use Rattle.per_bits.specs.Reading.{read_at, fields_at};
 ghost use Rattle.per_bits.specs.Formats.{sequence, must, skip, done, extensions};
-ghost use Rattle.s1ap_elements.specs.Sequences.{later_at};
+ghost use Rattle.per_bits.specs.Sequences.{later_at};
 
-use per_bits::{
-    BitReader, BitWriter, Element, PerError, PerFault, skip_additions, skip_extensions,
-};
+use crate::element::Element;
+use crate::skips::{skip_additions, skip_extensions};
+use bit_streams::{BitReader, BitWriter, PerError, PerFault};
 use std::alloc::Global;
 
 /// The extension bit of a SEQUENCE, and the presence bit of its iE-Extensions.
