@@ -3,12 +3,12 @@
 ghost use Rattle.std.specs.Prelude.{◌≡◌, ◌⊎◌, [], ◌∷◌, map, Ok, Err};
 ghost use Rattle.script_text.specs.Script.{radio_word, phone_word, read_act, read_station, station_of, read_up_act, read_raw, read_radio, read_phone};
 
-use crate::fields::{is_word, macro_id, phone, tracking_area};
+use crate::fields::{macro_id, phone, tracking_area};
 use crate::values::{MacroId, PhoneNumber};
 use identity_slots::StationNumber;
 use nas_elements::Imsi;
 use std::alloc::Global;
-use trace_text::fields::{imsi, octets, station};
+use trace_text::fields::{imsi, is_named, octets, station};
 use trace_text::{TraceFault, TraceOctets};
 
 /// What a station or a phone does.
@@ -84,22 +84,22 @@ impl RadioWord {
     fn of_text(word: &[u8]) -> Option<RadioWord>
         ensures { result ≡ radio_word word.now }
     {
-        if is_word(word, "attach") {
+        if is_named(word, "attach") {
             return Some(RadioWord::Attach);
         }
-        if is_word(word, "info") {
+        if is_named(word, "info") {
             return Some(RadioWord::Info);
         }
-        if is_word(word, "foreign") {
+        if is_named(word, "foreign") {
             return Some(RadioWord::Foreign);
         }
-        if is_word(word, "service") {
+        if is_named(word, "service") {
             return Some(RadioWord::Service);
         }
-        if is_word(word, "tau") {
+        if is_named(word, "tau") {
             return Some(RadioWord::Tau);
         }
-        if is_word(word, "switch") {
+        if is_named(word, "switch") {
             return Some(RadioWord::Switch);
         }
         None
@@ -110,22 +110,22 @@ impl PhoneWord {
     fn of_text(word: &[u8]) -> Option<PhoneWord>
         ensures { result ≡ phone_word word.now }
     {
-        if is_word(word, "detach") {
+        if is_named(word, "detach") {
             return Some(PhoneWord::Detach);
         }
-        if is_word(word, "off") {
+        if is_named(word, "off") {
             return Some(PhoneWord::Off);
         }
-        if is_word(word, "idle") {
+        if is_named(word, "idle") {
             return Some(PhoneWord::Idle);
         }
-        if is_word(word, "deaf") {
+        if is_named(word, "deaf") {
             return Some(PhoneWord::Deaf);
         }
-        if is_word(word, "replay") {
+        if is_named(word, "replay") {
             return Some(PhoneWord::Replay);
         }
-        if is_word(word, "forge") {
+        if is_named(word, "forge") {
             return Some(PhoneWord::Forge);
         }
         None
@@ -140,13 +140,13 @@ pub(crate) fn parse_act(
 ) -> Result<ScriptAct, TraceFault>
     ensures { (result ≡ Err TraceFault.NoMemory) ⊎ (result ≡ read_act word.now (map (λ f. f.now) fields.now)) }
 {
-    if is_word(word, "station") {
+    if is_named(word, "station") {
         return parse_station(fields);
     }
-    if is_word(word, "up") {
+    if is_named(word, "up") {
         return parse_up(fields);
     }
-    if is_word(word, "raw") {
+    if is_named(word, "raw") {
         return parse_raw(alloc, fields);
     }
     if let Some(radio) = RadioWord::of_text(word) {

@@ -1,18 +1,11 @@
 //! The fields of acts, each from its text.
 
 ghost use Rattle.std.specs.Prelude.{◌≡◌, ◌<◌, IfOk};
-ghost use Rattle.std.specs.Str.{bytes_eq};
 ghost use Rattle.script_text.specs.Script.{area_field, five_digits, hex_digit, macro_field, phone_field};
 
 use crate::values::{MacroId, PhoneNumber};
 use trace_text::TraceFault;
 use trace_text::fields::{number, sized_octets};
-
-pub(crate) fn is_word(word: &[u8], name: &str) -> bool
-    ensures { result ≡ bytes_eq word.now name.now }
-{
-    word == name.as_bytes()
-}
 
 /// One hex digit, of either case.
 fn hex_digit(octet: u8) -> Result<u32, TraceFault>

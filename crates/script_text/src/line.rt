@@ -5,9 +5,9 @@ ghost use Rattle.script_text.specs.Kept.{is_kept_word};
 ghost use Rattle.script_text.specs.Script.{Says, script_line_of, script_words, is_trace_word};
 
 use crate::act::{ScriptAct, parse_act};
-use crate::fields::is_word;
 use crate::laws::acts_are_not_kept;
 use std::alloc::Global;
+use trace_text::fields::is_named;
 use trace_text::{LONGEST_LINE, Line, TraceFault, parse_words, split_words};
 
 /// What a line of a script says.
@@ -62,16 +62,16 @@ fn parse_script_words(alloc: Global, words: &[&[u8]]) -> Result<ScriptLine, Trac
 fn is_trace_word(word: &[u8]) -> bool
     ensures { result ≡ is_trace_word word.now }
 {
-    is_kept_word(word) || is_word(word, "lost") || is_word(word, "tick")
+    is_kept_word(word) || is_named(word, "lost") || is_named(word, "tick")
 }
 
 fn is_kept_word(word: &[u8]) -> bool
     ensures { result ≡ is_kept_word word.now }
 {
-    is_word(word, "mme")
-        || is_word(word, "sub")
-        || is_word(word, "vec")
-        || is_word(word, "data")
-        || is_word(word, "cancel")
-        || is_word(word, "show")
+    is_named(word, "mme")
+        || is_named(word, "sub")
+        || is_named(word, "vec")
+        || is_named(word, "data")
+        || is_named(word, "cancel")
+        || is_named(word, "show")
 }

@@ -1,6 +1,7 @@
 //! The fields of a line, each from its text.
 
 ghost use Rattle.std.specs.Prelude.{◌≡◌, ◌⊎◌, ◌<◌, ◌≤◌, ◌^◌, ◌*◌, length, IfOk, Ok, Err};
+ghost use Rattle.std.specs.Str.{bytes_eq};
 ghost use Rattle.trace_text.specs.Trace.{capped, decimal_of, number_field, station_field, rate_field, digit_of, country_of, network_of, plmn_field, octets_field, sized_of, label_field, ticks_field, xres_field, subscriber_field};
 
 use crate::fault::TraceFault;
@@ -9,6 +10,13 @@ use hex::FromHexError;
 use identity_slots::{StationNumber, Xres};
 use nas_elements::Imsi;
 use std::alloc::Global;
+
+/// Whether a word of a line is this one.
+pub fn is_named(word: &[u8], name: &str) -> bool
+    ensures { result ≡ bytes_eq word.now name.now }
+{
+    word == name.as_bytes()
+}
 
 /// A number in decimal digits that is at most `most`.
 pub(crate) fn decimal(text: &[u8], most: u64) -> Option<u64>

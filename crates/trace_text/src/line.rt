@@ -3,12 +3,13 @@
 ghost use Rattle.std.specs.Prelude.{◌≡◌, ◌⊎◌, ◌==◌, map, IfOk, Ok, Err};
 ghost use Rattle.std.specs.List.{slice_split};
 ghost use Rattle.std.specs.Result.{result_map_both};
-ghost use Rattle.std.specs.Str.{bytes_eq};
 ghost use Rattle.trace_text.specs.Trace.{line_of, mme_of, sub_of, vec_of, read_mme, read_sub, read_vec, read_up, read_lost, read_in, read_tick, read_data, read_cancel, read_show, read_event, read_words};
 ghost use Rattle.trace_text.specs.declared.line.Line.TheVariants.{Up, Lost, Data, Cancel, Show};
 
 use crate::fault::TraceFault;
-use crate::fields::{bit_rate, imsi, label, octets, plmn, sized_octets, station, ticks, xres};
+use crate::fields::{
+    bit_rate, imsi, is_named, label, octets, plmn, sized_octets, station, ticks, xres,
+};
 use crate::values::{ApnLabel, BitRate, TraceOctets, TraceTicks};
 use identity_slots::{Profile, StationNumber, Vector};
 use nas_elements::Imsi;
@@ -93,46 +94,40 @@ pub fn parse_words(alloc: Global, words: &[&[u8]]) -> Result<Line, TraceFault>
     let Some((word, fields)) = words.split_first() else {
         return Err(TraceFault::UnknownWord);
     };
-    if is_word(word, "mme") {
+    if is_named(word, "mme") {
         return parse_mme(alloc, fields);
     }
-    if is_word(word, "sub") {
+    if is_named(word, "sub") {
         return parse_sub(fields);
     }
-    if is_word(word, "vec") {
+    if is_named(word, "vec") {
         return parse_vec(alloc, fields);
     }
     parse_event(alloc, word, fields)
 }
 
-fn is_word(word: &[u8], name: &str) -> bool
-    ensures { result ≡ bytes_eq word.now name.now }
-{
-    word == name.as_bytes()
-}
-
 fn parse_event(alloc: Global, word: &[u8], fields: &[&[u8]]) -> Result<Line, TraceFault>
     ensures { (result ≡ Err TraceFault.NoMemory) ⊎ (result ≡ read_event word.now (map (λ f. f.now) fields.now)) }
 {
-    if is_word(word, "up") {
+    if is_named(word, "up") {
         return lone_station(fields).map(Line::Up);
     }
-    if is_word(word, "lost") {
+    if is_named(word, "lost") {
         return lone_station(fields).map(Line::Lost);
     }
-    if is_word(word, "in") {
+    if is_named(word, "in") {
         return parse_in(alloc, fields);
     }
-    if is_word(word, "tick") {
+    if is_named(word, "tick") {
         return parse_tick(fields);
     }
-    if is_word(word, "data") {
+    if is_named(word, "data") {
         return lone_subscriber(fields).map(Line::Data);
     }
-    if is_word(word, "cancel") {
+    if is_named(word, "cancel") {
         return lone_subscriber(fields).map(Line::Cancel);
     }
-    if is_word(word, "show") {
+    if is_named(word, "show") {
         return lone_subscriber(fields).map(Line::Show);
     }
     Err(TraceFault::UnknownWord)
