@@ -1,5 +1,5 @@
 -- A list as the chunks that hold it.
-use Rattle.std.specs.Prelude.{◌≡◌, ℕ, zero, suc, ◌+◌, ◌-◌, ◌*◌, ◌/◌, ◌^◌, ◌<◌, ◌≤◌, min, max, List, [], ◌∷◌, ◌++◌, length}
+use Rattle.std.specs.Prelude.{◌≡◌, ℕ, Bool, true, if◌then◌else◌, zero, suc, ◌+◌, ◌-◌, ◌*◌, ◌/◌, ◌%◌, ◌^◌, ◌<◌, ◌≤◌, min, max, List, [], ◌∷◌, ◌++◌, length}
 use Rattle.ordered_lists.specs.Ordered.{place, AllOver, Rising, Every}
 
 module _ {X : Type 0} where
@@ -41,6 +41,26 @@ module _ {X : Type 0} where
   weight (c ∷ []) = length c + 128
   weight (c ∷ (d ∷ cs)) = max 128 (length c) + weight (d ∷ cs)
 
+  -- each chunk and the next one have more than 128 elements together
+  abbrev pub IsPaired : List (List X) → Type 0
+  IsPaired [] = Unit {0}
+  IsPaired (c ∷ []) = Unit {0}
+  IsPaired (c ∷ (d ∷ cs)) = (128 < length c + length d) × IsPaired (d ∷ cs)
+
+  -- the same of the chunks from this index on
+  abbrev pub IsPairedFrom : ℕ → List (List X) → Type 0
+  IsPairedFrom zero cs = IsPaired cs
+  IsPairedFrom (suc i) [] = Unit {0}
+  IsPairedFrom (suc i) (c ∷ cs) = IsPairedFrom i cs
+
+  -- the same of so many chunks at the front
+  abbrev pub IsPairedTo : ℕ → List (List X) → Type 0
+  IsPairedTo zero cs = Unit {0}
+  IsPairedTo (suc i) [] = Unit {0}
+  IsPairedTo (suc zero) (c ∷ cs) = Unit {0}
+  IsPairedTo (suc (suc i)) (c ∷ []) = Unit {0}
+  IsPairedTo (suc (suc i)) (c ∷ (d ∷ cs)) = (128 < length c + length d) × IsPairedTo (suc i) (d ∷ cs)
+
 -- So many more elements, at any keys, need no more chunks than `total`, where `used` chunks of this weight are there: each
 -- element a chunk at most, and no more chunks than the weight then allows.
 abbrev pub IsEnough : ℕ → ℕ → ℕ → ℕ → Type 0
@@ -49,6 +69,22 @@ IsEnough more weight used total = min (128 * (used + more)) (weight + more - 128
 -- so many free chunks are enough for so many more elements beside `len`, however full the chunks are
 abbrev pub wanted : ℕ → ℕ → ℕ
 wanted len more = min more ((len + more) / 128 + 1)
+
+-- so many chunks, of which each two neighbours have more than 128 together, hold so many elements, however they are spread
+abbrev pub spread : ℕ → ℕ
+spread count = count / 64 + min (count % 64) 1
+
+-- so many free chunks are kept beside `len` elements and room for more: in a steady list enough for all of them
+abbrev pub kept_chunks : ℕ → ℕ → Bool → ℕ
+kept_chunks len room steady = if steady then spread (len + room) else wanted len room
+
+-- the places that come back where an element is taken out
+abbrev pub regained : Bool → ℕ
+regained steady = if steady then 1 else 0
+
+-- in a steady list there are chunks, places for them, and places for the free ones, for so many elements
+abbrev pub IsSteady : Bool → ℕ → ℕ → ℕ → ℕ → Type 0
+IsSteady steady count total most held = steady ≡ true → (spread count ≤ total) × (spread count ≤ most) × (spread count ≤ held)
 
 pub record IsChunked {X : Type 0} (key : X → ℕ) (chunks spares : List (List X)) (len : ℕ) : Type 0 where
   pub rising : Rising key (flat chunks)

@@ -3,12 +3,15 @@
 ghost use Rattle.std.specs.Prelude.{◌≡◌, ℕ, ◌+◌, ◌-◌, ◌*◌, ◌<◌, ◌≤◌, ◌++◌, ◌^◌, [], OnOk, false, length, vec_len};
 ghost use Rattle.std.specs.Vec.{vec_capacity};
 ghost use Rattle.ordered_lists.specs.Ordered.{add, Rising, Every};
-ghost use Rattle.sorted_list.specs.Chunks.{flat, IsHome, IsFilled, IsEmpty, IsEnough, wanted, weight};
+ghost use Rattle.sorted_list.specs.Chunks.{flat, IsHome, IsFilled, IsEmpty, IsPaired, IsEnough, IsSteady, wanted, spread, kept_chunks, regained, weight};
 
 use crate::chunk::{Chunk, HALF};
 use crate::finding::home;
 use crate::keyed::Keyed;
 use std::alloc::{AllocError, Global};
+
+/// Two chunks that stand side by side have more than twice this together.
+const SPREAD: usize = 64;
 
 /// How many free chunks are enough for so many more elements, however full the chunks are.
 pub(crate) fn wanted(len: usize, more: usize) -> usize
@@ -16,6 +19,33 @@ pub(crate) fn wanted(len: usize, more: usize) -> usize
     ensures { result ≡ wanted len more }
 {
     more.min((len + more) / HALF + 1)
+}
+
+/// How many chunks hold so many elements, however they are spread.
+pub(crate) fn spread(count: usize) -> usize
+    ensures { result ≡ spread count }
+{
+    count / SPREAD + (count % SPREAD).min(1)
+}
+
+/// How many free chunks are kept: in a steady list enough for all elements that it has and has room for, else as many as are
+/// wanted for those that it has room for.
+pub(crate) fn kept_chunks(len: usize, room: usize, steady: bool) -> usize
+    requires { len + room < 2 ^ 64 }
+    ensures { result ≡ kept_chunks len room steady }
+{
+    if steady {
+        spread(len + room)
+    } else {
+        wanted(len, room)
+    }
+}
+
+/// How many places come back where an element is taken out.
+pub(crate) fn regained(steady: bool) -> usize
+    ensures { result ≡ regained steady }
+{
+    if steady { 1 } else { 0 }
 }
 
 /// Makes so many empty chunks.
@@ -34,6 +64,31 @@ pub(crate) fn make_spares<T: Keyed>(
         spares.push(Chunk::new(alloc)?)?;
     }
     Ok(())
+}
+
+/// Makes chunks for so many elements, however they are spread, with places for all of them, where the list is steady.
+pub(crate) fn hold<T: Keyed>(
+    alloc: Global,
+    chunks: &mut Vec<Chunk<T>>,
+    spares: &mut Vec<Chunk<T>>,
+    count: usize,
+    steady: bool,
+) -> Result<(), AllocError>
+    requires { Every IsEmpty spares.old.items }
+    ensures items { chunks.new.items ≡ chunks.old.items }
+    ensures empty { Every IsEmpty spares.new.items }
+    ensures ok { OnOk result (IsSteady steady count (vec_len chunks.new + vec_len spares.new) (vec_capacity chunks.new) (vec_capacity spares.new)) }
+    ensures kept { vec_len spares.old ≤ vec_len spares.new }
+    ensures places { vec_capacity chunks.old ≤ vec_capacity chunks.new }
+    ensures held { vec_capacity spares.old ≤ vec_capacity spares.new }
+{
+    if !steady {
+        return Ok(());
+    }
+    let enough = spread(count);
+    chunks.reserve(enough.saturating_sub(chunks.len()))?;
+    spares.reserve(enough.saturating_sub(spares.len()))?;
+    make_spares(alloc, spares, enough.saturating_sub(chunks.len()))
 }
 
 /// Adds an element to a full chunk, whose upper half goes to an empty one. Where the chunk is the last one and the
@@ -70,6 +125,7 @@ fn add_first<T: Keyed>(chunks: &mut Vec<Chunk<T>>, spares: &mut Vec<Chunk<T>>, i
     ensures items { flat chunks.new.items ≡ add T.rank item [] }
     ensures filled { Every IsFilled chunks.new.items }
     ensures empty { Every IsEmpty spares.new.items }
+    ensures paired { IsPaired chunks.new.items }
     ensures weight { weight chunks.new.items ≤ weight chunks.old.items + 1 }
     ensures used { vec_len chunks.new ≤ vec_len chunks.old + 1 }
     ensures total { vec_len chunks.new + vec_len spares.new ≡ vec_len chunks.old + vec_len spares.old }
@@ -86,12 +142,14 @@ fn add_at<T: Keyed>(chunks: &mut Vec<Chunk<T>>, spares: &mut Vec<Chunk<T>>, at: 
     requires home { IsHome T.rank (T.rank item) at chunks.old.items }
     requires rising { Rising T.rank (flat chunks.old.items) }
     requires filled { Every IsFilled chunks.old.items }
+    requires paired { IsPaired chunks.old.items }
     requires empty { Every IsEmpty spares.old.items }
     requires spare { IsEnough 1 (weight chunks.old.items) (vec_len chunks.old) (vec_len chunks.old + vec_len spares.old) }
     requires place { IsEnough 1 (weight chunks.old.items) (vec_len chunks.old) (vec_capacity chunks.old) }
     ensures items { flat chunks.new.items ≡ add T.rank item (flat chunks.old.items) }
     ensures filled { Every IsFilled chunks.new.items }
     ensures empty { Every IsEmpty spares.new.items }
+    ensures paired { IsPaired chunks.new.items }
     ensures weight { weight chunks.new.items ≤ weight chunks.old.items + 1 }
     ensures used { vec_len chunks.new ≤ vec_len chunks.old + 1 }
     ensures total { vec_len chunks.new + vec_len spares.new ≡ vec_len chunks.old + vec_len spares.old }
@@ -113,12 +171,14 @@ fn add_at<T: Keyed>(chunks: &mut Vec<Chunk<T>>, spares: &mut Vec<Chunk<T>>, at: 
 pub(crate) fn add_to<T: Keyed>(chunks: &mut Vec<Chunk<T>>, spares: &mut Vec<Chunk<T>>, item: T)
     requires rising { Rising T.rank (flat chunks.old.items) }
     requires filled { Every IsFilled chunks.old.items }
+    requires paired { IsPaired chunks.old.items }
     requires empty { Every IsEmpty spares.old.items }
     requires spare { IsEnough 1 (weight chunks.old.items) (vec_len chunks.old) (vec_len chunks.old + vec_len spares.old) }
     requires place { IsEnough 1 (weight chunks.old.items) (vec_len chunks.old) (vec_capacity chunks.old) }
     ensures items { flat chunks.new.items ≡ add T.rank item (flat chunks.old.items) }
     ensures filled { Every IsFilled chunks.new.items }
     ensures empty { Every IsEmpty spares.new.items }
+    ensures paired { IsPaired chunks.new.items }
     ensures weight { weight chunks.new.items ≤ weight chunks.old.items + 1 }
     ensures used { vec_len chunks.new ≤ vec_len chunks.old + 1 }
     ensures total { vec_len chunks.new + vec_len spares.new ≡ vec_len chunks.old + vec_len spares.old }

@@ -4,6 +4,9 @@
 //! A caller that must not fail halfway makes room by `reserve` first, and then inserts by `insert_reserved`, which takes no
 //! memory. Apart from `reserve`, `insert`, `items` and `copy` no call takes any. Neighbours that fit into one chunk are joined
 //! where something is taken out, so a list that shrinks in any order gives its memory back.
+//!
+//! A list made by `SortedList::steady` holds chunks enough for all that it has and has room for, however they are spread: there
+//! is room for another where an element is taken out, so what is moved from one key to another needs no reserve.
 #![tactic(auto)]
 
 mod adding;

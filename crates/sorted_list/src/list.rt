@@ -1,10 +1,10 @@
 //! The list.
 
-ghost use Rattle.std.specs.Prelude.{◌≡◌, ℕ, ◌+◌, ◌<◌, ◌≤◌, List, [], IfOk, OnOk, OnErr, Option, Some, None, if◌then◌else◌, is_some, length, drop, ◌==◌};
+ghost use Rattle.std.specs.Prelude.{◌≡◌, ℕ, ◌+◌, ◌<◌, ◌≤◌, List, [], IfOk, OnOk, OnErr, Option, Some, None, if◌then◌else◌, is_some, length, drop, ◌==◌, true, false};
 ghost use Rattle.ordered_lists.specs.Ordered.{at, add, put, without, Rising};
 ghost use Rattle.sorted_list.specs.Sorted.{lowest, lowest_from};
 
-use crate::adding::{add_to, make_spares, wanted};
+use crate::adding::{add_to, hold, kept_chunks, make_spares, regained, wanted};
 use crate::chunk::Chunk;
 use crate::copying::{copied, listed};
 use crate::finding::{find_in, first_in};
@@ -24,6 +24,8 @@ pub struct SortedList<T: Keyed> {
     len: usize,
     // The room that was promised.
     room: usize,
+    // Whether there is room for another where an element is taken out.
+    steady: bool,
     alloc: Global,
 }
 
@@ -36,24 +38,44 @@ impl<T: Keyed> Model for SortedList<T> {
 
     ghost coded = { sorted_code T.code };
 
-    ghost use Rattle.sorted_list.specs.Chunks.{flat, weight, IsChunked, IsRoom};
+    ghost use Rattle.sorted_list.specs.Chunks.{flat, weight, IsChunked, IsRoom, IsPaired, IsSteady};
 
-    ghost view = { λ l. record { items = flat l.chunks.items; room = l.room } };
+    ghost view = { λ l. record { items = flat l.chunks.items; room = l.room; steady = l.steady } };
 
-    ghost invariant = { λ l. IsChunked T.rank l.chunks.items l.spares.items l.len × IsRoom (weight l.chunks.items) (vec_len l.chunks) (vec_len l.chunks + vec_len l.spares) (vec_capacity l.chunks) (vec_capacity l.spares) l.len l.room };
+    ghost invariant = { λ l. IsChunked T.rank l.chunks.items l.spares.items l.len × IsRoom (weight l.chunks.items) (vec_len l.chunks) (vec_len l.chunks + vec_len l.spares) (vec_capacity l.chunks) (vec_capacity l.spares) l.len l.room × IsPaired l.chunks.items × IsSteady l.steady (l.len + l.room) (vec_len l.chunks + vec_len l.spares) (vec_capacity l.chunks) (vec_capacity l.spares) };
 }
 
 impl<T: Keyed> SortedList<T> {
-    /// No elements.
+    /// No elements. The list keeps no more free chunks than it needs for the room that it has.
     pub fn new(alloc: Global) -> Self
         ensures items { result.items ≡ [] }
         ensures room { result.room ≡ 0 }
+        ensures steady { result.steady ≡ false }
+    {
+        SortedList::empty(alloc, false)
+    }
+
+    /// No elements, in a steady list: where an element is taken out there is room for another, at any key. It holds a chunk for
+    /// each 64 elements that it has and has room for.
+    pub fn steady(alloc: Global) -> Self
+        ensures items { result.items ≡ [] }
+        ensures room { result.room ≡ 0 }
+        ensures steady { result.steady ≡ true }
+    {
+        SortedList::empty(alloc, true)
+    }
+
+    fn empty(alloc: Global, steady: bool) -> Self
+        ensures items { result.items ≡ [] }
+        ensures room { result.room ≡ 0 }
+        ensures steady { result.steady ≡ steady }
     {
         SortedList {
             chunks: Vec::new(alloc),
             spares: Vec::new(alloc),
             len: 0,
             room: 0,
+            steady,
             alloc,
         }
     }
@@ -104,6 +126,7 @@ impl<T: Keyed> SortedList<T> {
         ensures items { self.new.items ≡ self.old.items }
         ensures room { OnOk result (more ≤ self.new.room) }
         ensures kept { self.old.room ≤ self.new.room }
+        ensures steady { self.new.steady ≡ self.old.steady }
     {
         if more <= self.room {
             return Ok(());
@@ -114,6 +137,14 @@ impl<T: Keyed> SortedList<T> {
         let enough = wanted(self.len, more);
         self.chunks.reserve(enough)?;
         make_spares(self.alloc, &mut self.spares, enough)?;
+        let count = self.len + more;
+        hold(
+            self.alloc,
+            &mut self.chunks,
+            &mut self.spares,
+            count,
+            self.steady,
+        )?;
         self.room = more;
         Ok(())
     }
@@ -124,6 +155,7 @@ impl<T: Keyed> SortedList<T> {
         ensures items { OnOk result (self.new.items ≡ add T.rank item self.old.items) }
         ensures err { OnErr result (self.new.items ≡ self.old.items) }
         ensures room { self.old.room ≤ self.new.room + 1 }
+        ensures steady { self.new.steady ≡ self.old.steady }
     {
         self.reserve(1)?;
         self.insert_reserved(item);
@@ -136,6 +168,7 @@ impl<T: Keyed> SortedList<T> {
         requires room { 0 < self.old.room }
         ensures items { self.new.items ≡ add T.rank item self.old.items }
         ensures room { self.old.room ≤ self.new.room + 1 }
+        ensures steady { self.new.steady ≡ self.old.steady }
     {
         add_to(&mut self.chunks, &mut self.spares, item);
         self.len += 1;
@@ -148,20 +181,25 @@ impl<T: Keyed> SortedList<T> {
         ensures was { result ≡ at T.rank (T.rank item) self.old.items }
         ensures items { self.new.items ≡ (if is_some result then put T.rank item self.old.items else self.old.items) }
         ensures room { self.new.room ≡ self.old.room }
+        ensures steady { self.new.steady ≡ self.old.steady }
     {
         replace_in(&mut self.chunks, item)
     }
 
-    /// Takes the element with a key out, if there is one. Takes no memory.
+    /// Takes the element with a key out, if there is one. Takes no memory. In a steady list there is room for
+    /// another then.
     pub fn take(&mut self, key: u128) -> Option<T>
         ensures item { result ≡ at T.rank key self.old.items }
         ensures items { self.new.items ≡ without T.rank key self.old.items }
         ensures gone { at T.rank key self.new.items ≡ None }
         ensures room { self.old.room ≤ self.new.room }
+        ensures regained { self.old.steady ≡ true → is_some result ≡ true → self.old.room + 1 ≤ self.new.room }
+        ensures steady { self.new.steady ≡ self.old.steady }
     {
-        let enough = wanted(self.len, self.room);
+        let enough = kept_chunks(self.len, self.room, self.steady);
         let item = take_from(&mut self.chunks, &mut self.spares, key, enough)?;
         self.len -= 1;
+        self.room += regained(self.steady);
         Some(item)
     }
 
@@ -170,6 +208,7 @@ impl<T: Keyed> SortedList<T> {
         ensures item { result ≡ lowest self.old.items }
         ensures items { self.new.items ≡ drop 1 self.old.items }
         ensures room { self.old.room ≤ self.new.room }
+        ensures steady { self.new.steady ≡ self.old.steady }
     {
         let item = self.first()?;
         self.take(item.key());
@@ -185,13 +224,18 @@ impl<T: Keyed> SortedList<T> {
 
     /// A list of the same elements, with no room for more.
     pub fn copy(&self) -> Result<Self, AllocError>
-        ensures { IfOk result (λ copied. copied.items ≡ self.now.items) }
+        ensures items { IfOk result (λ copied. copied.items ≡ self.now.items) }
+        ensures steady { IfOk result (λ copied. copied.steady ≡ self.now.steady) }
     {
+        let mut chunks = copied(self.alloc, &self.chunks)?;
+        let mut spares = Vec::new(self.alloc);
+        hold(self.alloc, &mut chunks, &mut spares, self.len, self.steady)?;
         Ok(SortedList {
-            chunks: copied(self.alloc, &self.chunks)?,
-            spares: Vec::new(self.alloc),
+            chunks,
+            spares,
             len: self.len,
             room: 0,
+            steady: self.steady,
             alloc: self.alloc,
         })
     }

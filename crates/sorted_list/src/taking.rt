@@ -3,7 +3,7 @@
 ghost use Rattle.std.specs.Prelude.{◌≡◌, ◌+◌, ◌<◌, ◌≤◌, min, if◌then◌else◌, is_some, vec_len};
 ghost use Rattle.std.specs.Vec.{vec_capacity};
 ghost use Rattle.ordered_lists.specs.Ordered.{at, put, without, Rising, Every};
-ghost use Rattle.sorted_list.specs.Chunks.{flat, IsFilled, IsEmpty, weight};
+ghost use Rattle.sorted_list.specs.Chunks.{flat, IsFilled, IsEmpty, IsPaired, IsPairedFrom, IsPairedTo, weight};
 
 use crate::chunk::Chunk;
 use crate::finding::home;
@@ -42,6 +42,9 @@ fn join_next<T: Keyed>(
     ensures filled { Every IsFilled chunks.new.items }
     ensures empty { Every IsEmpty spares.new.items }
     ensures at { at < vec_len chunks.new }
+    ensures lower { IsPairedTo at chunks.old.items → IsPairedTo at chunks.new.items }
+    ensures over { IsPairedTo (at + 1) chunks.old.items → IsPairedTo (at + 1) chunks.new.items }
+    ensures upper { IsPairedFrom (at + 1) chunks.old.items → IsPairedFrom at chunks.new.items }
     ensures weight { weight chunks.new.items ≤ weight chunks.old.items }
     ensures used { vec_len chunks.new ≤ vec_len chunks.old }
     ensures spares { min (vec_len chunks.old + vec_len spares.old) (vec_len chunks.new + enough) ≤ vec_len chunks.new + vec_len spares.new }
@@ -70,12 +73,15 @@ fn join_around<T: Keyed>(
     enough: usize,
 )
     requires at { at < vec_len chunks.old }
+    requires lower { IsPairedTo at chunks.old.items }
+    requires upper { IsPairedFrom (at + 1) chunks.old.items }
     requires filled { Every IsFilled chunks.old.items }
     requires empty { Every IsEmpty spares.old.items }
     requires held { enough ≤ vec_capacity spares.old }
     ensures items { flat chunks.new.items ≡ flat chunks.old.items }
     ensures filled { Every IsFilled chunks.new.items }
     ensures empty { Every IsEmpty spares.new.items }
+    ensures paired { IsPaired chunks.new.items }
     ensures weight { weight chunks.new.items ≤ weight chunks.old.items }
     ensures used { vec_len chunks.new ≤ vec_len chunks.old }
     ensures spares { min (vec_len chunks.old + vec_len spares.old) (vec_len chunks.new + enough) ≤ vec_len chunks.new + vec_len spares.new }
@@ -97,6 +103,7 @@ pub(crate) fn take_from<T: Keyed>(
     enough: usize,
 ) -> Option<T>
     requires rising { Rising T.rank (flat chunks.old.items) }
+    requires paired { IsPaired chunks.old.items }
     requires filled { Every IsFilled chunks.old.items }
     requires empty { Every IsEmpty spares.old.items }
     requires held { enough ≤ vec_capacity spares.old }
@@ -104,6 +111,7 @@ pub(crate) fn take_from<T: Keyed>(
     ensures rest { flat chunks.new.items ≡ without T.rank key (flat chunks.old.items) }
     ensures filled { Every IsFilled chunks.new.items }
     ensures empty { Every IsEmpty spares.new.items }
+    ensures paired { IsPaired chunks.new.items }
     ensures weight { weight chunks.new.items ≤ weight chunks.old.items }
     ensures used { vec_len chunks.new ≤ vec_len chunks.old }
     ensures spares { min (vec_len chunks.old + vec_len spares.old) (vec_len chunks.new + enough) ≤ vec_len chunks.new + vec_len spares.new }
@@ -127,10 +135,12 @@ pub(crate) fn take_from<T: Keyed>(
 /// Puts an element in the place of the one with its key, and answers that one. Where there is none nothing changes.
 pub(crate) fn replace_in<T: Keyed>(chunks: &mut Vec<Chunk<T>>, item: T) -> Option<T>
     requires rising { Rising T.rank (flat chunks.old.items) }
+    requires paired { IsPaired chunks.old.items }
     requires filled { Every IsFilled chunks.old.items }
     ensures was { result ≡ at T.rank (T.rank item) (flat chunks.old.items) }
     ensures after { flat chunks.new.items ≡ (if is_some result then put T.rank item (flat chunks.old.items) else flat chunks.old.items) }
     ensures filled { Every IsFilled chunks.new.items }
+    ensures paired { IsPaired chunks.new.items }
     ensures weight { weight chunks.new.items ≤ weight chunks.old.items }
     ensures used { vec_len chunks.new ≡ vec_len chunks.old }
     ensures places { vec_capacity chunks.new ≡ vec_capacity chunks.old }

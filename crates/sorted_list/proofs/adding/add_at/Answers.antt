@@ -3,9 +3,10 @@ use Rattle.std.specs.Vec.{vec_capacity}
 use Rattle.std.specs.Option.{option_to_list}
 use Rattle.std.specs.List.{insert}
 use Rattle.ordered_lists.specs.Ordered.{Every}
-use Rattle.sorted_list.specs.Chunks.{flat, weight, IsFilled, IsEmpty}
+use Rattle.sorted_list.specs.Chunks.{flat, weight, IsFilled, IsEmpty, IsPaired}
 use Rattle.sorted_list.proofs.Flat.{when_ok, home_within, rising_chunk, add_home, divided_home, every-set, every-last, length-add, not_last}
 use Rattle.sorted_list.proofs.Weight.{weight_full, weight_set, weight_divided}
+use Rattle.sorted_list.proofs.Pairs.{paired_set, paired_divided}
 use Rattle.sorted_list.proofs.adding.add_at.Goals as goal
 
 pub index_mut-chunk-requires : goal.index_mut-chunk-requires
@@ -122,3 +123,25 @@ returns-else-is_full-clause-weight g c =
     let l = ap length c.add.ensures ∙ length-add g.T.Keyed.rank c.args.item c.index_mut-chunk.result.now in
     weight_set c.args.at 1 c.index_mut-chunk.result.now c.add.new.self c.args.chunks.now.items lt c.index_mut-chunk.ensures.value
     (omega arith)
+
+pub returns-then-is_full-clause-paired : goal.returns-then-is_full-clause-paired
+returns-then-is_full-clause-paired g c =
+    let ok = c.args.chunks.now.ok in
+    let lt = home_within g.T.Keyed.rank (g.T.Keyed.rank c.args.item) c.args.at c.args.chunks.now.items c.requires.home in
+    let full = weight_full c.args.at c.index_mut-chunk.result.now c.args.chunks.now.items lt c.index_mut-chunk.ensures.value
+    (c.if-is_full.ensures.0 refl) in
+    let place : vec_len c.args.chunks.now < vec_capacity c.args.chunks.now = omega (arith, c.requires.place) in
+    let e = c.insert.ensures.items ∙ when_ok c.insert.result _ _ (c.insert.ensures.succeeds place)
+    ∙ ap (λ i. insert (set c.args.chunks.now.items c.args.at c.add_divided.new.lower) i c.add_divided.new.upper)
+    (add-one c.args.at) in
+    let n = c.len.ensures in
+    subst IsPaired (sym e) (paired_divided c.args.at c.add_divided.new.lower c.add_divided.new.upper c.args.chunks.now.items lt
+    c.add_divided.ensures.lower c.add_divided.ensures.upper
+    (λ more. c.add_divided.ensures.half (not_last c.len.result c.args.at (omega arith))) c.requires.filled c.requires.paired)
+
+pub returns-else-is_full-clause-paired : goal.returns-else-is_full-clause-paired
+returns-else-is_full-clause-paired g c =
+    let lt = home_within g.T.Keyed.rank (g.T.Keyed.rank c.args.item) c.args.at c.args.chunks.now.items c.requires.home in
+    let l = ap length c.add.ensures ∙ length-add g.T.Keyed.rank c.args.item c.index_mut-chunk.result.now in
+    paired_set c.args.at c.index_mut-chunk.result.now c.add.new.self c.args.chunks.now.items lt c.index_mut-chunk.ensures.value
+    (omega arith) c.requires.paired

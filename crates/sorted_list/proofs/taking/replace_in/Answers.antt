@@ -2,6 +2,7 @@ use Rattle.std.proofs.Common.{arith, sym, ◌∙◌, ap, vec_len}
 use Rattle.sorted_list.specs.Chunks.{home}
 use Rattle.sorted_list.proofs.Flat.{home_found, home_within, rising_chunk, at_home, replaced_home}
 use Rattle.sorted_list.proofs.Weight.{weight_set}
+use Rattle.sorted_list.proofs.Pairs.{paired_set}
 use Rattle.sorted_list.proofs.taking.replace_in.Goals as goal
 
 pub index_mut-chunk-requires : goal.index_mut-chunk-requires
@@ -48,3 +49,12 @@ returns-clause-weight g c =
     let le = weight_set c.home-at.result 0 c.index_mut-chunk.result.now c.replace.new.self c.args.chunks.now.items lt
     c.index_mut-chunk.ensures.value (omega (arith, c.replace.ensures.len)) in
     omega arith
+
+pub returns-clause-paired : goal.returns-clause-paired
+returns-clause-paired g c =
+    let ok = c.args.chunks.now.ok in
+    let h = home_found g.T.Keyed.rank c.key.result c.home-at.result (vec_len c.args.chunks.now) c.args.chunks.now.items _
+    c.requires.rising c.requires.filled c.if-is_empty.ensures (omega arith) c.as_slice.ensures.value c.home-at.ensures in
+    let lt = home_within g.T.Keyed.rank c.key.result c.home-at.result c.args.chunks.now.items h in
+    paired_set c.home-at.result c.index_mut-chunk.result.now c.replace.new.self c.args.chunks.now.items lt
+    c.index_mut-chunk.ensures.value (omega (arith, c.replace.ensures.len)) c.requires.paired

@@ -1,8 +1,10 @@
-use Rattle.std.proofs.Common.{length, set, arith, sym, ◌∙◌, ap, refl, vec_len}
+use Rattle.std.proofs.Common.{length, set, arith, sym, subst, add-one, ◌∙◌, ap, refl, vec_len}
 use Rattle.std.proofs.Math.ListN.{length-set}
-use Rattle.sorted_list.specs.Chunks.{flat, weight}
-use Rattle.sorted_list.proofs.Flat.{none_there, home_found, home_within, rising_chunk, at_home, without_home, flat_emptied, get_set, length_without}
+use Rattle.sorted_list.specs.Chunks.{flat, weight, IsPaired, IsPairedFrom}
+use Rattle.sorted_list.proofs.Flat.{none_there, home_found, home_within, rising_chunk, at_home, without_home, flat_emptied, get_set, length_without, length-without}
 use Rattle.sorted_list.proofs.Weight.{weight_set, weight_removed}
+use Rattle.sorted_list.proofs.Pairs.{paired_set, paired_removed, to_shrunk, from_shrunk}
+use Rattle.ordered_lists.specs.Laws.{without_absent}
 use Rattle.sorted_list.proofs.taking.take_from.Goals as goal
 use Rattle.sorted_list.proofs.taking.take_from.Goals.{then-is_empty-2, else-is_empty-2}
 
@@ -119,4 +121,41 @@ returns-clause-weight g c =
     elim c.if-is_empty-2.branch [
       | then-is_empty-2 w ↦ rw w.chunks-is (let e = ap weight w.remove.ensures.items in omega (arith, e))
       | else-is_empty-2 w ↦ rw w.chunks-is (let le = w.join_around.ensures.weight in omega arith)
+    ]
+
+pub returns-in_err-item-clause-paired : goal.returns-in_err-item-clause-paired
+returns-in_err-item-clause-paired g c =
+    let ok = c.args.chunks.now.ok in
+    let h = home_found g.T.Keyed.rank c.args.key c.home-at.result (vec_len c.args.chunks.now) c.args.chunks.now.items _
+    c.requires.rising c.requires.filled c.if-is_empty.ensures (omega arith) c.as_slice.ensures.value c.home-at.ensures in
+    let lt = home_within g.T.Keyed.rank c.args.key c.home-at.result c.args.chunks.now.items h in
+    let same = ap length (c.take.ensures.rest ∙ without_absent g.T.Keyed.rank c.args.key c.index_mut-chunk.result.now
+    (sym c.take.ensures.item ∙ c.in_err-item.was)) in
+    paired_set c.home-at.result c.index_mut-chunk.result.now c.take.new.self c.args.chunks.now.items lt
+    c.index_mut-chunk.ensures.value (omega (arith, same)) c.requires.paired
+
+pub join_around-requires-clause-lower : goal.join_around-requires-clause-lower
+join_around-requires-clause-lower g c = to_shrunk c.home-at.result c.take.new.self c.args.chunks.now.items c.requires.paired
+
+pub join_around-requires-clause-upper : goal.join_around-requires-clause-upper
+join_around-requires-clause-upper g c =
+    subst (λ i. IsPairedFrom i (set c.args.chunks.now.items c.home-at.result c.take.new.self)) (sym (add-one c.home-at.result))
+    (from_shrunk c.home-at.result c.take.new.self c.args.chunks.now.items c.requires.paired)
+
+pub returns-clause-paired : goal.returns-clause-paired
+returns-clause-paired g c =
+    let ok = c.args.chunks.now.ok in
+    let h = home_found g.T.Keyed.rank c.args.key c.home-at.result (vec_len c.args.chunks.now) c.args.chunks.now.items _
+    c.requires.rising c.requires.filled c.if-is_empty.ensures (omega arith) c.as_slice.ensures.value c.home-at.ensures in
+    let lt = home_within g.T.Keyed.rank c.args.key c.home-at.result c.args.chunks.now.items h in
+    let chunk = c.index_mut-chunk.result.now in
+    let l = ap length c.take.ensures.rest in
+    let one = length-without g.T.Keyed.rank c.args.key c.in_ok-item.item chunk (sym c.take.ensures.item ∙ c.in_ok-item.was) in
+    elim c.if-is_empty-2.branch [
+      | then-is_empty-2 w ↦ rw w.chunks-is (
+          let none = ap length (none_there (length c.take.new.self) c.take.new.self (sym w.if-is_empty-2.true ∙ c.is_empty-2.ensures) refl) in
+          subst IsPaired (sym w.remove.ensures.items)
+          (paired_removed c.home-at.result chunk c.take.new.self c.args.chunks.now.items lt c.index_mut-chunk.ensures.value
+          (omega (arith, l, one, none)) c.requires.filled c.requires.paired))
+      | else-is_empty-2 w ↦ rw w.chunks-is w.join_around.ensures.paired
     ]

@@ -1,9 +1,10 @@
-use Rattle.std.proofs.Common.{◌<◌, arith, ◌∙◌, ap, vec_len}
+use Rattle.std.proofs.Common.{◌<◌, ◌+◌, arith, ◌∙◌, ap, vec_len}
 use Rattle.ordered_lists.specs.Ordered.{at}
 use Rattle.sorted_list.specs.Sorted.{Sorted}
 use Rattle.sorted_list.specs.Chunks.{weight}
 use Rattle.sorted_list.proofs.Flat.{kept_add}
 use Rattle.sorted_list.proofs.Weight.{room_added}
+use Rattle.sorted_list.proofs.Pairs.{steady_still}
 use Rattle.sorted_list.proofs.list.SortedList.insert_reserved.Goals as goal
 
 pub invariant_of-self : goal.invariant_of-self
@@ -19,4 +20,7 @@ invariant_of-self g c =
       room_added (weight c.self.inside.chunks.items) (weight c.add_to.new.chunks.items) (vec_len c.self.inside.chunks)
           (vec_len c.add_to.new.chunks) _ _ _ _ _ _ c.self.inside.len c.self.inside.room c.self.invariant.1 some
           a.weight a.used (omega arith) a.places a.held,
+      a.paired,
+      steady_still c.self.inside.steady (c.self.inside.len + c.self.inside.room) _ _ _ _ _ _ _ c.self.invariant.3 (omega (arith, some))
+          (omega (arith, a.total)) a.places a.held,
     )
