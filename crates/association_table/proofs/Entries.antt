@@ -8,7 +8,7 @@ use Rattle.std.specs.Prelude.{IsSomeAnd, slice_index_or, OnSome}
 use Rattle.slab.specs.Slab.{Slab, get, Updates, IsSlotClone}
 use Rattle.ordered_lists.specs.Ordered.{add, without, at, ordered, Rising, Every, Distinct}
 use Rattle.ordered_lists.specs.Laws.{rising-without, at-without}
-use Rattle.ordered_lists.specs.Indexed.{every-add, every-without, rising-add, rising-ordered, rising_distinct, at_added, without-add, distinct_add, distinct_other, gone_other, map-add, map-without, at-map, rising-map, apart_none, apart_distinct, ordered_left, ordered-add}
+use Rattle.ordered_lists.specs.Indexed.{every-add, every-without, rising-add, rising-ordered, rising_distinct, at_added, without-add, distinct_add, distinct_other, gone_other, map-add, map-without, at-map, at-ordered, rising-map, apart_none, apart_distinct, ordered_left, ordered-add}
 use Rattle.association_table.specs.declared.association.Association.{Association}
 use Rattle.association_table.specs.declared.places.Held.{Held}
 use Rattle.association_table.specs.declared.places.SlabPlace.{SlabPlace}
@@ -44,6 +44,13 @@ mapped_some s a (Some p) h = (p, refl, (cc))
 
 pub taken_place : (s : Slab Held) (id : ℕ) (a : Association) (ps : List SlabPlace) → found id (entries_of s ps) ≡ Some a → (p : SlabPlace) × (at place_id id ps ≡ Some p) × (entry_at s p ≡ a)
 taken_place s id a ps h = mapped_some s a (at place_id id ps) (sym (found_place s id ps) ∙ h)
+
+pub free_seat : (s : Slab Held) (a : Association) (ps : List SlabPlace) (seats : List Seat) → IsTable s ps seats → IsId a → found a.id (entries_of s ps) ≡ None → at seat_rank (seat_rank (seat_of a)) seats ≡ None
+free_seat s a ps seats k i f =
+    let es = entries_of s ps in
+    let distinct = apart_distinct association_id seating IsId apart es k.ids (rising_distinct association_id es (rising_entries s ps k.rising)) in
+    ap (at seat_rank (seat_rank (seat_of a))) k.seats ∙ at-map seat_of seat_rank (seat_rank (seat_of a)) (ordered seating es)
+    ∙ ap (option_map seat_of) (at-ordered seating (seating a) es distinct ∙ apart_none association_id seating IsId apart a es i k.ids f)
 
 -- another key of the slab
 pub none_some : {X : Type 0} (o : Option X) → IsSome o → o ≡ None → ⊥

@@ -1,8 +1,9 @@
 -- The entries of a station, and how they are found by the seats.
-use Rattle.std.proofs.Common.{◌≡◌, ℕ, zero, suc, ◌+◌, ◌*◌, ◌^◌, ◌<◌, ◌≤◌, List, [], ◌∷◌, length, get_or, map, refl, sym, ◌∙◌, ap, subst, arith}
+use Rattle.std.proofs.Common.{◌≡◌, ℕ, ◌+◌, ◌*◌, ◌^◌, ◌<◌, ◌≤◌, List, [], ◌∷◌, length, map, refl, sym, ◌∙◌, ap, subst, arith}
 use Rattle.std.specs.Prelude.{nat_lt, nat_le, ◌==◌, Option, Some, None, Bool, true, false, cond, if◌then◌else◌, option_map}
 use Rattle.std.proofs.lemmas.Bool.Decides.{nat_tests}
-use Rattle.ordered_lists.specs.Ordered.{place, add, ordered, AllOver, Rising, Every}
+use Rattle.sorted_list.specs.Sorted.{lowest_from}
+use Rattle.ordered_lists.specs.Ordered.{add, ordered, AllOver, Rising, Every}
 use Rattle.ordered_lists.specs.Indexed.{every-ordered}
 use Rattle.association_table.specs.declared.association.Association.{Association}
 use Rattle.association_table.specs.declared.places.Seat.{Seat}
@@ -27,7 +28,7 @@ seat_over e n j (y ∷ ys) le h s =
 passed : (e n : ℕ) (y : Seat) → seat_rank y < e * 2 ^ 32 + n → y.station ≡ e → y.id < n
 passed e n y lt q = omega arith
 
-pub seat_end : (e n : ℕ) (ss : List Seat) → place seat_rank (e * 2 ^ 32 + n) ss ≡ length ss → first_seat e n ss ≡ None
+pub seat_end : (e n : ℕ) (ss : List Seat) → lowest_from seat_rank (e * 2 ^ 32 + n) ss ≡ None → first_seat e n ss ≡ None
 seat_end e n [] p = refl
 seat_end e n (y ∷ ys) p =
     let ih = seat_end e n ys in
@@ -37,33 +38,44 @@ seat_end e n (y ∷ ys) p =
 next_station : (e n : ℕ) (y : Seat) → e * 2 ^ 32 + n ≤ seat_rank y → y.id < 2 ^ 32 → (y.station ≡ e → ⊥) → e * 2 ^ 32 + 2 ^ 32 ≤ seat_rank y
 next_station e n y le small other = omega arith
 
-pub seat_absent : (e n i : ℕ) (s : Seat) (ss : List Seat) → Rising seat_rank ss → Every IsSeat ss → i ≡ place seat_rank (e * 2 ^ 32 + n) ss → i < length ss → s ≡ get_or ss i s → (s.station ≡ e → ⊥)
-    → first_seat e n ss ≡ None
-seat_absent e n i s [] h small p lt q other = refl
-seat_absent e n zero s (y ∷ ys) h small p lt q other =
-    let at_front : s ≡ y = q in
-    let apart : y.station ≡ e → ⊥ = subst (λ (z : Seat). z.station ≡ e → ⊥) at_front other in
+seat_absent_by : (e n : ℕ) (s y : Seat) (ys : List Seat) (b : Bool) → nat_lt (seat_rank y) (e * 2 ^ 32 + n) ≡ b → Rising seat_rank (y ∷ ys) → Every IsSeat (y ∷ ys)
+    → cond b (lowest_from seat_rank (e * 2 ^ 32 + n) ys) (Some y) ≡ Some s → (s.station ≡ e → ⊥) → (lowest_from seat_rank (e * 2 ^ 32 + n) ys ≡ Some s → first_seat e n ys ≡ None)
+    → first_seat e n (y ∷ ys) ≡ None
+seat_absent_by e n s y ys true t h small q other ih =
+    let rest = ih q in
+    let past = passed e n y in
+    grind (arith, nat_tests)
+seat_absent_by e n s y ys false t h small q other ih =
+    let same : y ≡ s = cc in
+    let apart : y.station ≡ e → ⊥ = subst (λ (z : Seat). z.station ≡ e → ⊥) (sym same) other in
     let le : e * 2 ^ 32 + n ≤ seat_rank y = grind (arith, nat_tests) in
     let rest = seat_over e n (seat_rank y) ys (next_station e n y le small.0 apart) h.0 small.1 in
     grind (arith, nat_tests)
-seat_absent e n (suc i) s (y ∷ ys) h small p lt q other =
-    let ih = seat_absent e n i s ys h.1 small.1 in
+
+pub seat_absent : (e n : ℕ) (s : Seat) (ss : List Seat) → Rising seat_rank ss → Every IsSeat ss → lowest_from seat_rank (e * 2 ^ 32 + n) ss ≡ Some s → (s.station ≡ e → ⊥)
+    → first_seat e n ss ≡ None
+seat_absent e n s [] h small q other = refl
+seat_absent e n s (y ∷ ys) h small q other =
+    seat_absent_by e n s y ys (nat_lt (seat_rank y) (e * 2 ^ 32 + n)) refl h small q other (λ r. seat_absent e n s ys h.1 small.1 r other)
+
+seat_found_by : (e n : ℕ) (s y : Seat) (ys : List Seat) (b : Bool) → nat_lt (seat_rank y) (e * 2 ^ 32 + n) ≡ b
+    → cond b (lowest_from seat_rank (e * 2 ^ 32 + n) ys) (Some y) ≡ Some s → s.station ≡ e → (lowest_from seat_rank (e * 2 ^ 32 + n) ys ≡ Some s → first_seat e n ys ≡ Some s.id)
+    → first_seat e n (y ∷ ys) ≡ Some s.id
+seat_found_by e n s y ys true t q there ih =
+    let rest = ih q in
     let past = passed e n y in
     grind (arith, nat_tests)
-
-pub seat_found : (e n i : ℕ) (s : Seat) (ss : List Seat) → i ≡ place seat_rank (e * 2 ^ 32 + n) ss → i < length ss → s ≡ get_or ss i s → s.station ≡ e → first_seat e n ss ≡ Some s.id
-seat_found e n i s [] p lt q same = absurd (omega arith)
-seat_found e n zero s (y ∷ ys) p lt q same =
-    let at_front : s ≡ y = q in
-    let there : y.station ≡ e = subst (λ (z : Seat). z.station ≡ e) at_front same in
+seat_found_by e n s y ys false t q there ih =
+    let same : y ≡ s = cc in
+    let here : y.station ≡ e = subst (λ (z : Seat). z.station ≡ e) (sym same) there in
     let le : e * 2 ^ 32 + n ≤ seat_rank y = grind (arith, nat_tests) in
     let high : n ≤ y.id = omega arith in
-    let id : s.id ≡ y.id = ap (λ (z : Seat). z.id) at_front in
+    let id : s.id ≡ y.id = ap (λ (z : Seat). z.id) (sym same) in
     grind (arith, nat_tests)
-seat_found e n (suc i) s (y ∷ ys) p lt q same =
-    let ih = seat_found e n i s ys in
-    let past = passed e n y in
-    grind (arith, nat_tests)
+
+pub seat_found : (e n : ℕ) (s : Seat) (ss : List Seat) → lowest_from seat_rank (e * 2 ^ 32 + n) ss ≡ Some s → s.station ≡ e → first_seat e n ss ≡ Some s.id
+seat_found e n s [] q there = absurd (cc)
+seat_found e n s (y ∷ ys) q there = seat_found_by e n s y ys (nat_lt (seat_rank y) (e * 2 ^ 32 + n)) refl q there (λ r. seat_found e n s ys r there)
 
 -- ---- the seats are those of the entries
 

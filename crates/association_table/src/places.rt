@@ -1,11 +1,11 @@
 //! The two lists in order that lead to the slab's entries: by id, and by station and id.
 
-ghost use Rattle.std.specs.Prelude.{◌≡◌, ℕ, ◌+◌, ◌-◌, ◌*◌, ◌<◌, ◌≤◌, ◌^◌, Option, IsSome, vec_len};
-ghost use Rattle.std.specs.Vec.{vec_capacity};
-ghost use Rattle.ordered_lists.specs.Ordered.{place, at, add, without, Rising, Every};
+ghost use Rattle.std.specs.Prelude.{◌≡◌, ℕ, ◌+◌, ◌*◌, ◌<◌, ◌≤◌, ◌^◌, Option, None, IsSome, true, is_some};
+ghost use Rattle.ordered_lists.specs.Ordered.{at, add, without, Rising, Every};
 ghost use Rattle.association_table.specs.Kept.{place_id, seat_rank, IsSeat, first_seat};
 
 use crate::association::AssociationOwner;
+use sorted_list::{Keyed, SortedList};
 
 /// What the slab holds of an association.
 #[derive(Clone, Copy)]
@@ -22,6 +22,14 @@ pub(crate) struct SlabPlace {
     pub(crate) key: usize,
 }
 
+impl Keyed for SlabPlace {
+    ghost rank = { place_id };
+
+    fn key(&self) -> u128 {
+        u128::from(self.id)
+    }
+}
+
 /// An association of a station.
 #[derive(Clone, Copy)]
 pub(crate) struct Seat {
@@ -29,122 +37,56 @@ pub(crate) struct Seat {
     pub(crate) id: u32,
 }
 
+/// The number by which seats are kept in order: the station above the 32 bits of the id.
 fn seat_rank(seat: Seat) -> u64
     ensures { result ≡ seat_rank seat }
 {
     u64::from(seat.station) * 0x1_0000_0000 + u64::from(seat.id)
 }
 
-/// How many places stand before an id.
-fn place_of(places: &[SlabPlace], id: u32) -> usize
-    requires { Rising place_id places.now }
-    ensures { result ≡ place place_id id places.now }
-{
-    let mut low = 0;
-    let mut high = places.len();
-    while low < high {
-        let middle = low + (high - low) / 2;
-        if places[middle].id < id {
-            low = middle + 1;
-        } else {
-            high = middle;
-        }
-    }
-    low
-}
+impl Keyed for Seat {
+    ghost rank = { seat_rank };
 
-/// How many seats stand before a seat.
-fn seat_place(seats: &[Seat], rank: u64) -> usize
-    requires { Rising seat_rank seats.now }
-    ensures { result ≡ place seat_rank rank seats.now }
-{
-    let mut low = 0;
-    let mut high = seats.len();
-    while low < high {
-        let middle = low + (high - low) / 2;
-        if seat_rank(seats[middle]) < rank {
-            low = middle + 1;
-        } else {
-            high = middle;
-        }
+    fn key(&self) -> u128 {
+        u128::from(seat_rank(*self))
     }
-    low
 }
 
 /// The place of an id.
-pub(crate) fn find_place(places: &Vec<SlabPlace>, id: u32) -> Option<SlabPlace>
-    requires { Rising place_id places.now.items }
+pub(crate) fn find_place(places: &SortedList<SlabPlace>, id: u32) -> Option<SlabPlace>
     ensures { result ≡ at place_id id places.now.items }
 {
-    let at = place_of(places.as_slice(), id);
-    if at == places.len() {
-        return None;
-    }
-    let place = places[at];
-    if place.id != id {
-        return None;
-    }
-    Some(place)
+    places.find(u128::from(id))
 }
 
 /// Takes the place of an id out.
-pub(crate) fn take_place(places: &mut Vec<SlabPlace>, id: u32) -> Option<SlabPlace>
-    requires { Rising place_id places.old.items }
+pub(crate) fn take_place(places: &mut SortedList<SlabPlace>, id: u32) -> Option<SlabPlace>
     ensures place { result ≡ at place_id id places.old.items }
     ensures items { places.new.items ≡ without place_id id places.old.items }
-    ensures room { IsSome result → vec_capacity places.old - vec_len places.old + 1 ≤ vec_capacity places.new - vec_len places.new }
+    ensures room { places.old.steady ≡ true → is_some result ≡ true → places.old.room + 1 ≤ places.new.room }
+    ensures steady { places.new.steady ≡ places.old.steady }
 {
-    let place = find_place(places, id)?;
-    let at = place_of(places.as_slice(), id);
-    places.remove(at);
-    Some(place)
+    places.take(u128::from(id))
 }
 
-/// Adds a place, for which there is room.
-pub(crate) fn add_place(places: &mut Vec<SlabPlace>, place: SlabPlace)
-    requires rising { Rising place_id places.old.items }
-    requires room { vec_len places.old < vec_capacity places.old }
-    ensures items { places.new.items ≡ add place_id place places.old.items }
-    ensures room { vec_capacity places.old - vec_len places.old ≤ vec_capacity places.new - vec_len places.new + 1 }
-{
-    let at = place_of(places.as_slice(), place.id);
-    let _ = places.insert(at, place);
-}
-
-/// Takes a seat out, which is there.
-pub(crate) fn take_seat(seats: &mut Vec<Seat>, seat: Seat)
-    requires rising { Rising seat_rank seats.old.items }
-    requires there { IsSome (at seat_rank (seat_rank seat) seats.old.items) }
+/// Takes a seat out.
+pub(crate) fn take_seat(seats: &mut SortedList<Seat>, seat: Seat)
+    requires { IsSome (at seat_rank (seat_rank seat) seats.old.items) }
     ensures items { seats.new.items ≡ without seat_rank (seat_rank seat) seats.old.items }
-    ensures room { vec_capacity seats.old - vec_len seats.old + 1 ≤ vec_capacity seats.new - vec_len seats.new }
+    ensures room { seats.old.steady ≡ true → seats.old.room + 1 ≤ seats.new.room }
+    ensures steady { seats.new.steady ≡ seats.old.steady }
 {
-    let at = seat_place(seats.as_slice(), seat_rank(seat));
-    seats.remove(at);
-}
-
-/// Adds a seat, for which there is room.
-pub(crate) fn add_seat(seats: &mut Vec<Seat>, seat: Seat)
-    requires rising { Rising seat_rank seats.old.items }
-    requires room { vec_len seats.old < vec_capacity seats.old }
-    ensures items { seats.new.items ≡ add seat_rank seat seats.old.items }
-    ensures room { vec_capacity seats.old - vec_len seats.old ≤ vec_capacity seats.new - vec_len seats.new + 1 }
-{
-    let at = seat_place(seats.as_slice(), seat_rank(seat));
-    let _ = seats.insert(at, seat);
+    seats.take(u128::from(seat_rank(seat)));
 }
 
 /// The station's seat with the lowest id of at least `least`: that id.
-pub(crate) fn first_seat(seats: &Vec<Seat>, station: u8, least: u64) -> Option<u32>
+pub(crate) fn first_seat(seats: &SortedList<Seat>, station: u8, least: u64) -> Option<u32>
     requires rising { Rising seat_rank seats.now.items }
     requires small { Every IsSeat seats.now.items }
     requires least { least ≤ 2 ^ 32 }
     ensures { result ≡ first_seat station least seats.now.items }
 {
-    let at = seat_place(seats.as_slice(), u64::from(station) * 0x1_0000_0000 + least);
-    if at == seats.len() {
-        return None;
-    }
-    let seat = seats[at];
+    let seat = seats.first_from(u128::from(u64::from(station) * 0x1_0000_0000 + least))?;
     if seat.station != station {
         return None;
     }

@@ -7,10 +7,9 @@ ghost use Rattle.ordered_lists.specs.Ordered.{Rising};
 ghost use Rattle.association_table.specs.Table.{association_id, found, opened, closed, moved, at_station, elsewhere, first_from};
 
 use crate::association::{Association, MoveFault, OpenFault};
-use crate::places::{
-    Held, Seat, SlabPlace, add_place, add_seat, find_place, first_seat, take_place, take_seat,
-};
+use crate::places::{Held, Seat, SlabPlace, find_place, first_seat, take_place, take_seat};
 use slab::Slab;
+use sorted_list::SortedList;
 use std::alloc::{AllocError, Global};
 use std::marker::Model;
 
@@ -24,14 +23,13 @@ fn association_id(association: Association) -> u32
 #[derive(Drop)]
 pub struct Associations {
     slab: Slab<Held>,
-    by_id: Vec<SlabPlace>,
-    by_station: Vec<Seat>,
+    by_id: SortedList<SlabPlace>,
+    by_station: SortedList<Seat>,
     alloc: Global,
 }
 
 impl Model for Associations {
-    ghost use Rattle.std.specs.Prelude.{◌-◌, min, vec_len};
-    ghost use Rattle.std.specs.Vec.{vec_capacity};
+    ghost use Rattle.std.specs.Prelude.{◌≡◌, ◌-◌, min, true};
     ghost use Rattle.slab.specs.Slab.{slab_len};
     ghost use Rattle.association_table.specs.Table.{Table};
 
@@ -39,9 +37,9 @@ impl Model for Associations {
 
     ghost use Rattle.association_table.specs.Kept.{entries_of, IsTable};
 
-    ghost view = { λ t. record { entries = entries_of t.slab t.by_id.items; room = min (t.slab.capacity - slab_len t.slab) (min (vec_capacity t.by_id - vec_len t.by_id) (vec_capacity t.by_station - vec_len t.by_station)) } };
+    ghost view = { λ t. record { entries = entries_of t.slab t.by_id.items; room = min (t.slab.capacity - slab_len t.slab) (min t.by_id.room t.by_station.room) } };
 
-    ghost invariant = { λ t. IsTable t.slab t.by_id.items t.by_station.items };
+    ghost invariant = { λ t. IsTable t.slab t.by_id.items t.by_station.items × (t.by_id.steady ≡ true) × (t.by_station.steady ≡ true) };
 }
 
 impl Associations {
@@ -51,8 +49,8 @@ impl Associations {
     {
         Associations {
             slab: Slab::new(alloc),
-            by_id: Vec::new(alloc),
-            by_station: Vec::new(alloc),
+            by_id: SortedList::steady(alloc),
+            by_station: SortedList::steady(alloc),
             alloc,
         }
     }
@@ -121,8 +119,8 @@ impl Associations {
             station: association.station,
             enb_id: association.enb_id,
         });
-        add_place(&mut self.by_id, SlabPlace { id, key });
-        add_seat(&mut self.by_station, seat);
+        self.by_id.insert_reserved(SlabPlace { id, key });
+        self.by_station.insert_reserved(seat);
     }
 
     /// Moves an association to another station and eNB UE id; Unknown where there is none. Takes no memory.
@@ -229,8 +227,8 @@ impl Associations {
     {
         Ok(Associations {
             slab: self.slab.clone()?,
-            by_id: self.by_id.clone()?,
-            by_station: self.by_station.clone()?,
+            by_id: self.by_id.copy()?,
+            by_station: self.by_station.copy()?,
             alloc: self.alloc,
         })
     }

@@ -1,10 +1,12 @@
 -- What a tick makes of the queue.
-use Rattle.std.proofs.Common.{◌≡◌, ℕ, ◌+◌, ◌-◌, ◌*◌, ◌^◌, ◌<◌, ◌≤◌, List, [], ◌∷◌, map, refl, sym, ◌∙◌, ap, arith}
-use Rattle.std.specs.Prelude.{nat_lt, nat_le, Bool, true, false, cond}
+use Rattle.std.proofs.Common.{◌≡◌, ℕ, ◌+◌, ◌-◌, ◌*◌, ◌^◌, ◌<◌, ◌≤◌, List, [], ◌∷◌, ◌++◌, length, map, refl, sym, ◌∙◌, ap, subst, arith, append_assoc, append-nil}
+use Rattle.std.specs.Prelude.{nat_lt, nat_le, Bool, true, false, cond, Some, None, if◌then◌else◌}
 use Rattle.std.proofs.lemmas.Bool.Decides.{nat_tests}
 use Rattle.ordered_lists.specs.Ordered.{add, ordered, AllOver, Rising, Every}
 use Rattle.ordered_lists.specs.Indexed.{every-ordered}
+use Rattle.sorted_list.specs.Sorted.{lowest_from}
 use Rattle.timer_queue.specs.Countdowns.{Countdown}
+use Rattle.timer_queue.specs.declared.timer.Timer.{Timer}
 use Rattle.timer_queue.specs.declared.queue.Deadline.{Deadline}
 use Rattle.timer_queue.specs.Rank.{rank}
 use Rattle.timer_queue.specs.Countdowns.{due_of, aged}
@@ -105,3 +107,75 @@ counting_by c (z ∷ zs) h = let lt : c < z.deadline = h.0 in ((omega arith), co
 
 pub counting : (c : ℕ) (queue : List Deadline) → AreLate c queue → Every (λ (x : Countdown). 1 ≤ x.ticks) (running_at c queue)
 counting c queue l = counting_by c (ordered name queue) (every-ordered (λ z. c < z.deadline) name queue l)
+
+-- the queue from a moment on
+abbrev pub rest_from : ℕ → List Deadline → List Deadline
+rest_from k [] = []
+rest_from k (y ∷ ys) = if nat_lt (moment y) k then rest_from k ys else y ∷ ys
+
+pub rest_all : (queue : List Deadline) → rest_from 0 queue ≡ queue
+rest_all [] = refl
+rest_all (y ∷ ys) = grind (arith, nat_tests)
+
+rest_over : (k : ℕ) (ys : List Deadline) → AllOver moment k ys → rest_from (k + 1) ys ≡ ys
+rest_over k [] h = refl
+rest_over k (y ∷ ys) h = let lt : k < moment y = h.0 in grind (arith, nat_tests)
+
+pub rest_none : (k : ℕ) (queue : List Deadline) → lowest_from moment k queue ≡ None → rest_from k queue ≡ []
+rest_none k [] h = refl
+rest_none k (y ∷ ys) h = let ih = rest_none k ys in grind (arith, nat_tests)
+
+least_from : (k : ℕ) (e : Deadline) (queue : List Deadline) → lowest_from moment k queue ≡ Some e → k ≤ moment e
+least_from k e [] h = absurd (cc)
+least_from k e (y ∷ ys) h = let ih = least_from k e ys in grind (arith, nat_tests)
+
+rest_next_by : (k : ℕ) (e y : Deadline) (ys : List Deadline) (b : Bool) → nat_lt (moment y) k ≡ b → AllOver moment (moment y) ys → cond b (lowest_from moment k ys) (Some y) ≡ Some e
+    → (lowest_from moment k ys ≡ Some e → rest_from k ys ≡ e ∷ rest_from (moment e + 1) ys)
+    → cond b (rest_from k ys) (y ∷ ys) ≡ e ∷ rest_from (moment e + 1) (y ∷ ys)
+rest_next_by k e y ys true t over h ih =
+    let le = least_from k e ys h in
+    let under : nat_lt (moment y) (moment e + 1) ≡ true = grind (arith, nat_tests) in
+    rw under (ih h)
+rest_next_by k e y ys false t over h ih =
+    let same : y ≡ e = cc in
+    let under : nat_lt (moment y) (moment y + 1) ≡ true = grind (arith, nat_tests) in
+    let own : y ∷ ys ≡ y ∷ rest_from (moment y + 1) (y ∷ ys) = rw under (ap (λ zs. y ∷ zs) (sym (rest_over (moment y) ys over))) in
+    subst (λ z. y ∷ ys ≡ z ∷ rest_from (moment z + 1) (y ∷ ys)) same own
+
+pub rest_next : (k : ℕ) (e : Deadline) (queue : List Deadline) → Rising moment queue → lowest_from moment k queue ≡ Some e → rest_from k queue ≡ e ∷ rest_from (moment e + 1) queue
+rest_next k e [] r h = absurd (cc)
+rest_next k e (y ∷ ys) r h = rest_next_by k e y ys (nat_lt (moment y) k) refl r.0 h (rest_next k e ys r.1)
+
+leading_now : (clock : ℕ) (e : Deadline) (es : List Deadline) → e.deadline ≤ clock → leading clock (e ∷ es) ≡ e.timer ∷ leading clock es
+leading_now clock e es le = let now : nat_le e.deadline clock ≡ true = grind (arith, nat_tests) in rw now refl
+
+leading_later : (clock : ℕ) (e : Deadline) (es : List Deadline) → clock < e.deadline → leading clock (e ∷ es) ≡ []
+leading_later clock e es lt = let later : nat_le e.deadline clock ≡ false = grind (arith, nat_tests) in rw later refl
+
+-- the walk along the front of the queue: before it, at an entry that is due, at one that is not, and at the end
+pub walk_begins : (clock : ℕ) (due : List Timer) (queue : List Deadline) → due ≡ [] → leading clock queue ≡ due ++ leading clock (rest_from 0 queue)
+walk_begins clock due queue h = sym (ap (λ ts. ts ++ leading clock (rest_from 0 queue)) h ∙ ap (leading clock) (rest_all queue))
+
+pub walk_goes : (clock k n : ℕ) (e : Deadline) (due more : List Timer) (queue : List Deadline) → Rising moment queue → lowest_from moment k queue ≡ Some e → e.deadline ≤ clock → n ≡ moment e
+    → more ≡ due ++ e.timer ∷ [] → leading clock queue ≡ due ++ leading clock (rest_from k queue) → leading clock queue ≡ more ++ leading clock (rest_from (n + 1) queue)
+walk_goes clock k n e due more queue r f le s m h =
+    let rest = leading clock (rest_from (moment e + 1) queue) in
+    h ∙ ap (λ es. due ++ leading clock es) (rest_next k e queue r f) ∙ ap (λ ts. due ++ ts) (leading_now clock e (rest_from (moment e + 1) queue) le)
+    ∙ sym (append_assoc due (e.timer ∷ []) rest) ∙ ap (λ ts. ts ++ rest) (sym m) ∙ ap (λ j. more ++ leading clock (rest_from (j + 1) queue)) (sym s)
+
+pub walk_shorter : (k n : ℕ) (e : Deadline) (queue : List Deadline) → Rising moment queue → lowest_from moment k queue ≡ Some e → n ≡ moment e → length (rest_from (n + 1) queue) < length (rest_from k queue)
+walk_shorter k n e queue r f s =
+    let next = ap length (rest_next k e queue r f) in
+    let same = ap (λ j. length (rest_from (j + 1) queue)) s in
+    omega arith
+
+pub walk_stops : (clock k : ℕ) (e : Deadline) (due : List Timer) (queue : List Deadline) → Rising moment queue → lowest_from moment k queue ≡ Some e → clock < e.deadline
+    → leading clock queue ≡ due ++ leading clock (rest_from k queue) → due ≡ leading clock queue
+walk_stops clock k e due queue r f lt h =
+    sym (h ∙ ap (λ es. due ++ leading clock es) (rest_next k e queue r f) ∙ ap (λ ts. due ++ ts) (leading_later clock e (rest_from (moment e + 1) queue) lt) ∙ append-nil due)
+
+pub walk_ends : (clock k : ℕ) (due : List Timer) (queue : List Deadline) → lowest_from moment k queue ≡ None → leading clock queue ≡ due ++ leading clock (rest_from k queue) → due ≡ leading clock queue
+walk_ends clock k due queue f h = sym (h ∙ ap (λ es. due ++ leading clock es) (rest_none k queue f) ∙ append-nil due)
+
+pub moment_fits : (d r clock : ℕ) → d ≤ clock → clock < 2 ^ 63 → r < 2 ^ 64 → d * 2 ^ 64 + r + 1 < 2 ^ 128
+moment_fits d r clock le small h = omega arith

@@ -1,11 +1,11 @@
 -- The queue of deadlines and its index.
-use Rattle.std.specs.Prelude.{◌≡◌, ℕ, ◌+◌, ◌-◌, ◌*◌, ◌^◌, ◌<◌, List, [], ◌∷◌, map, Option, option_map, nat_le, if◌then◌else◌, nat_eq}
-use Rattle.std.specs.HashMap.{HashMap, get}
+use Rattle.std.specs.Prelude.{◌≡◌, ℕ, ◌+◌, ◌-◌, ◌*◌, ◌^◌, ◌<◌, List, [], ◌∷◌, map, nat_le, if◌then◌else◌}
 use Rattle.timer_queue.specs.declared.timer.Timer.{Timer}
 use Rattle.timer_queue.specs.Countdowns.{Countdown}
 use Rattle.timer_queue.specs.declared.queue.Deadline.{Deadline}
+use Rattle.timer_queue.specs.declared.queue.RunningTimer.{RunningTimer}
 use Rattle.timer_queue.specs.Rank.{rank}
-use Rattle.ordered_lists.specs.Ordered.{at, ordered, Rising, Every, Distinct}
+use Rattle.ordered_lists.specs.Ordered.{ordered, Rising, Every, Distinct}
 
 abbrev pub name : Deadline → ℕ
 name e = rank e.timer
@@ -20,9 +20,6 @@ as_left clock e = record { timer = e.timer; ticks = e.deadline - clock }
 
 abbrev pub running_at : ℕ → List Deadline → List Countdown
 running_at clock queue = map (as_left clock) (ordered name queue)
-
-abbrev pub deadline_at : ℕ → List Deadline → Option ℕ
-deadline_at r queue = option_map (λ (e : Deadline). e.deadline) (at name r queue)
 
 -- the part of the queue that is due at the clock, and the rest
 abbrev pub leading : ℕ → List Deadline → List Timer
@@ -40,6 +37,13 @@ pub record IsQueue (queue : List Deadline) : Type 0 where
 abbrev pub AreLate : ℕ → List Deadline → Type 0
 AreLate clock queue = Every (λ e. clock < e.deadline) queue
 
--- the index gives the deadline of each timer
-abbrev pub IsDeadlineIndex : {S : Type 0} → HashMap ℕ ℕ S → List Deadline → Type 0
-IsDeadlineIndex index queue = (r : ℕ) → get nat_eq index r ≡ deadline_at r queue
+-- the order of the index: by timer
+abbrev pub index_rank : RunningTimer → ℕ
+index_rank r = rank r.timer
+
+abbrev pub as_running : Deadline → RunningTimer
+as_running e = record { timer = e.timer; deadline = e.deadline }
+
+-- the index has what the queue has, in the order of the timers
+abbrev pub IsDeadlineIndex : List RunningTimer → List Deadline → Type 0
+IsDeadlineIndex index queue = index ≡ map as_running (ordered name queue)

@@ -1,16 +1,14 @@
-//! Timers as one queue of deadlines in order, and an index from each timer to its deadline.
+//! Timers as two lists of what runs: a queue in the order of the deadlines, and an index in the order of the timers.
 
-ghost use Rattle.std.specs.Prelude.{◌≡◌, ℕ, ◌+◌, ◌-◌, ◌*◌, ◌<◌, ◌≤◌, ◌^◌, ◌↔◌, List, [], IfOk, OnOk, OnErr, Option, Err};
+ghost use Rattle.std.specs.Prelude.{◌≡◌, ℕ, ◌+◌, ◌*◌, ◌<◌, ◌≤◌, ◌^◌, ◌↔◌, List, [], IfOk, OnOk, OnErr, Option, Err};
 ghost use Rattle.timer_queue.specs.declared.queue.TickFault.TheVariants.{ClockSpent, NoMemory};
-ghost use Rattle.ordered_lists.specs.Ordered.{place, Rising, Every};
+ghost use Rattle.ordered_lists.specs.Ordered.{Rising, Every};
 ghost use Rattle.timer_queue.specs.Countdowns.{Countdowns, countdown_rank, ticks_left, started, stopped, due_of, aged};
-ghost use Rattle.timer_queue.specs.Queued.{moment, leading, later_than, IsQueue, IsDeadlineIndex};
-ghost use Rattle.std.specs.VecDeque.{deque_len, deque_capacity};
-ghost use Rattle.std.specs.HashMap.{spare};
+ghost use Rattle.timer_queue.specs.Queued.{moment, index_rank, leading, later_than, IsQueue, IsDeadlineIndex};
 
 use crate::timer::{Expiry, Kind, Timer, TimerOwner, rank};
+use sorted_list::{Keyed, SortedList};
 use std::alloc::{AllocError, Global};
-use std::collections::{HashMap, VecDeque};
 use std::marker::Model;
 
 /// The greatest clock, and the one at which a tick is refused.
@@ -25,69 +23,81 @@ pub enum TickFault {
     NoMemory,
 }
 
-/// When a timer ends.
+/// When a timer ends. In the queue these stand by rising moment.
 #[derive(Clone, Copy)]
 struct Deadline {
     deadline: u64,
     timer: Timer,
 }
 
+/// The number by which the queue is kept in order: the deadline in the upper 64 bits, the timer's own number in the lower.
 fn moment(entry: &Deadline) -> u128
     ensures { result ≡ moment entry.now }
 {
     u128::from(entry.deadline) * 0x1_0000_0000_0000_0000 + u128::from(rank(entry.timer))
 }
 
-/// How many of the queue stand before this moment.
-fn place(queue: &VecDeque<Deadline>, key: u128) -> usize
-    requires { Rising moment queue.now.items }
-    ensures { result ≡ place moment key queue.now.items }
-{
-    let mut low = 0;
-    let mut high = queue.len();
-    while low < high {
-        let middle = low + (high - low) / 2;
-        if moment(&queue[middle]) < key {
-            low = middle + 1;
-        } else {
-            high = middle;
-        }
+impl Keyed for Deadline {
+    ghost rank = { moment };
+
+    fn key(&self) -> u128 {
+        moment(self)
     }
-    low
+}
+
+/// A timer that runs, with its deadline. In the index these stand in the order of their timers.
+#[derive(Clone, Copy)]
+struct RunningTimer {
+    timer: Timer,
+    deadline: u64,
+}
+
+impl Keyed for RunningTimer {
+    ghost rank = { index_rank };
+
+    fn key(&self) -> u128 {
+        u128::from(rank(self.timer))
+    }
 }
 
 /// The timers at the front of the queue that are due.
-fn due_at(alloc: Global, queue: &VecDeque<Deadline>, clock: u64) -> Result<Vec<Expiry>, AllocError>
+fn due_at(
+    alloc: Global,
+    queue: &SortedList<Deadline>,
+    clock: u64,
+) -> Result<Vec<Expiry>, AllocError>
+    requires rising { Rising moment queue.now.items }
+    requires small { clock < 2 ^ 63 }
     ensures { IfOk result (λ due. due.items ≡ leading clock queue.now.items) }
 {
     let mut due = Vec::new(alloc);
-    for at in 0..queue.len() {
-        let entry = queue[at];
+    let mut least = 0;
+    while let Some(entry) = queue.first_from(least) {
         if entry.deadline > clock {
             break;
         }
         due.push(entry.timer)?;
+        least = moment(&entry) + 1;
     }
     Ok(due)
 }
 
 /// Takes what is due out of the queue and its index.
-fn drop_due(queue: &mut VecDeque<Deadline>, index: &mut HashMap<u64, u64>, clock: u64)
+fn drop_due(queue: &mut SortedList<Deadline>, index: &mut SortedList<RunningTimer>, clock: u64)
     requires queued { IsQueue queue.old.items }
-    requires indexed { IsDeadlineIndex index.old queue.old.items }
+    requires indexed { IsDeadlineIndex index.old.items queue.old.items }
     ensures queue { queue.new.items ≡ later_than clock queue.old.items }
     ensures queued { IsQueue queue.new.items }
-    ensures indexed { IsDeadlineIndex index.new queue.new.items }
-    ensures room { deque_capacity queue.old - deque_len queue.old ≤ deque_capacity queue.new - deque_len queue.new }
-    ensures spare { spare index.old ≤ spare index.new }
+    ensures indexed { IsDeadlineIndex index.new.items queue.new.items }
+    ensures room { queue.old.room ≤ queue.new.room }
+    ensures places { index.old.room ≤ index.new.room }
 {
-    while let Some(first) = queue.front() {
+    while let Some(first) = queue.first() {
         if first.deadline > clock {
             break;
         }
-        let name = rank(first.timer);
-        queue.pop_front();
-        index.remove(&name);
+        queue.take_first();
+        index.take(u128::from(rank(first.timer)));
     }
 }
 
@@ -96,24 +106,22 @@ fn drop_due(queue: &mut VecDeque<Deadline>, index: &mut HashMap<u64, u64>, clock
 #[derive(Drop)]
 pub struct Timers {
     clock: u64,
-    queue: VecDeque<Deadline>,
-    index: HashMap<u64, u64>,
+    queue: SortedList<Deadline>,
+    index: SortedList<RunningTimer>,
     alloc: Global,
 }
 
 impl Model for Timers {
-    ghost use Rattle.std.specs.Prelude.{◌-◌, ◌≤◌, ◌^◌, min};
-    ghost use Rattle.std.specs.VecDeque.{deque_len, deque_capacity};
-    ghost use Rattle.std.specs.HashMap.{spare};
+    ghost use Rattle.std.specs.Prelude.{◌≤◌, ◌^◌, min};
     ghost use Rattle.timer_queue.specs.Countdowns.{Countdowns};
 
     ghost Value = { Countdowns };
 
     ghost use Rattle.timer_queue.specs.Queued.{running_at, IsQueue, AreLate, IsDeadlineIndex};
 
-    ghost view = { λ t. record { clock = t.clock; running = running_at t.clock t.queue.items; room = min (deque_capacity t.queue - deque_len t.queue) (spare t.index) } };
+    ghost view = { λ t. record { clock = t.clock; running = running_at t.clock t.queue.items; room = min t.queue.room t.index.room } };
 
-    ghost invariant = { λ t. (t.clock ≤ 2 ^ 62) × IsQueue t.queue.items × AreLate t.clock t.queue.items × IsDeadlineIndex t.index t.queue.items };
+    ghost invariant = { λ t. (t.clock ≤ 2 ^ 62) × IsQueue t.queue.items × AreLate t.clock t.queue.items × IsDeadlineIndex t.index.items t.queue.items };
 }
 
 impl Timers {
@@ -125,8 +133,8 @@ impl Timers {
     {
         Timers {
             clock,
-            queue: VecDeque::new(alloc),
-            index: HashMap::new(alloc),
+            queue: SortedList::new(alloc),
+            index: SortedList::new(alloc),
             alloc,
         }
     }
@@ -146,8 +154,8 @@ impl Timers {
     pub fn left(&self, owner: TimerOwner, kind: Kind) -> Option<u64>
         ensures { result ≡ ticks_left owner kind self.now.running }
     {
-        match self.index.get(&rank(Timer { owner, kind })) {
-            Some(deadline) => Some(*deadline - self.clock),
+        match self.index.find(u128::from(rank(Timer { owner, kind }))) {
+            Some(running) => Some(running.deadline - self.clock),
             None => None,
         }
     }
@@ -188,10 +196,8 @@ impl Timers {
         let deadline = self.clock + ticks;
         self.stop(owner, kind);
         let timer = Timer { owner, kind };
-        let entry = Deadline { deadline, timer };
-        let at = place(&self.queue, moment(&entry));
-        let _ = self.queue.insert(at, entry);
-        let _ = self.index.insert(rank(timer), deadline);
+        self.queue.insert_reserved(Deadline { deadline, timer });
+        self.index.insert_reserved(RunningTimer { timer, deadline });
     }
 
     /// Ends a timer without an expiry, if it runs. Takes no memory.
@@ -201,9 +207,9 @@ impl Timers {
         ensures room { self.old.room ≤ self.new.room }
     {
         let timer = Timer { owner, kind };
-        if let Some(deadline) = self.index.remove(&rank(timer)) {
-            let at = place(&self.queue, moment(&Deadline { deadline, timer }));
-            self.queue.remove(at);
+        if let Some(running) = self.index.take(u128::from(rank(timer))) {
+            let deadline = running.deadline;
+            self.queue.take(moment(&Deadline { deadline, timer }));
         }
     }
 
@@ -254,8 +260,8 @@ impl Timers {
     {
         Ok(Timers {
             clock: self.clock,
-            queue: self.queue.clone()?,
-            index: self.index.clone()?,
+            queue: self.queue.copy()?,
+            index: self.index.copy()?,
             alloc: self.alloc,
         })
     }

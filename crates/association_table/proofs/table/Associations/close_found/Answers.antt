@@ -1,34 +1,34 @@
 use Rattle.std.proofs.Common.{◌≡◌, arith, sym, ◌∙◌, ap, subst, refl}
-use Rattle.std.specs.Prelude.{IsSome, Some}
+use Rattle.std.specs.Prelude.{IsSome, Some, is_some}
 use Rattle.slab.specs.Slab.{get}
 use Rattle.ordered_lists.specs.Ordered.{without}
 use Rattle.ordered_lists.specs.Indexed.{every_at}
 use Rattle.association_table.specs.Table.{Table, found, closed}
 use Rattle.association_table.specs.Kept.{place_id, entries_of, IsTable}
-use Rattle.association_table.proofs.Entries.{on_some, rising_seats, taken_place, close_entries, close_kept, seat_there, closed_gone}
+use Rattle.association_table.proofs.Entries.{on_some, taken_place, close_entries, close_kept, seat_there, closed_gone}
 use Rattle.association_table.proofs.table.Associations.close_found.Goals as goal
 
-pub take_seat-requires-clause-rising : goal.take_seat-requires-clause-rising
-take_seat-requires-clause-rising c = rising_seats c.self.inside.slab c.self.inside.by_id.items c.self.inside.by_station.items c.self.invariant
-
-pub take_seat-requires-clause-there : goal.take_seat-requires-clause-there
-take_seat-requires-clause-there c =
+pub take_seat-requires : goal.take_seat-requires
+take_seat-requires c =
     let f : found c.args.association.id (entries_of c.self.inside.slab c.self.inside.by_id.items) ≡ Some c.args.association = ap (λ (v : Table). found c.args.association.id v.entries) c.self.view_is ∙ c.requires in
-    subst IsSome (sym (seat_there c.self.inside.slab c.args.association.id c.args.association c.self.inside.by_id.items c.self.inside.by_station.items c.self.invariant f)) refl
+    subst IsSome (sym (seat_there c.self.inside.slab c.args.association.id c.args.association c.self.inside.by_id.items c.self.inside.by_station.items c.self.invariant.0 f)) refl
 
 pub invariant_of-self : goal.invariant_of-self
 invariant_of-self c =
     let f : found c.args.association.id (entries_of c.self.inside.slab c.self.inside.by_id.items) ≡ Some c.args.association = ap (λ (v : Table). found c.args.association.id v.entries) c.self.view_is ∙ c.requires in
-    let h = sym c.take_place.ensures.place ∙ c.unwrap-place.ensures in
-    subst (λ qs. IsTable c.try_remove.new.self qs c.take_seat.new.seats.items) (sym c.take_place.ensures.items)
-    (subst (λ ss. IsTable c.try_remove.new.self (without place_id c.args.association.id c.self.inside.by_id.items) ss) (sym c.take_seat.ensures.items)
-    (close_kept c.self.inside.slab c.try_remove.new.self c.args.association.id c.args.association c.unwrap-place.result c.self.inside.by_id.items c.self.inside.by_station.items c.self.invariant f h c.try_remove.ensures.updates))
+    let h = sym c.take_place.ensures.place ∙ c.unwrap-place.ensures in (
+      subst (λ qs. IsTable c.try_remove.new.self qs c.take_seat.new.seats.items) (sym c.take_place.ensures.items)
+          (subst (λ ss. IsTable c.try_remove.new.self (without place_id c.args.association.id c.self.inside.by_id.items) ss) (sym c.take_seat.ensures.items)
+          (close_kept c.self.inside.slab c.try_remove.new.self c.args.association.id c.args.association c.unwrap-place.result c.self.inside.by_id.items c.self.inside.by_station.items c.self.invariant.0 f h c.try_remove.ensures.updates)),
+      c.take_place.ensures.steady ∙ c.self.invariant.1,
+      c.take_seat.ensures.steady ∙ c.self.invariant.2,
+    )
 
 pub returns-clause-entries : goal.returns-clause-entries
 returns-clause-entries c =
     let h = sym c.take_place.ensures.place ∙ c.unwrap-place.ensures in
     ap (entries_of c.try_remove.new.self) c.take_place.ensures.items
-    ∙ close_entries c.self.inside.slab c.try_remove.new.self c.args.association.id c.unwrap-place.result c.self.inside.by_id.items c.self.invariant.keys h c.try_remove.ensures.updates
+    ∙ close_entries c.self.inside.slab c.try_remove.new.self c.args.association.id c.unwrap-place.result c.self.inside.by_id.items c.self.invariant.0.keys h c.try_remove.ensures.updates
     ∙ ap (λ (v : Table). closed c.args.association.id v.entries) c.self.view_is
 
 pub unwrap-place-requires : goal.unwrap-place-requires
@@ -41,19 +41,19 @@ pub returns-clause-gone : goal.returns-clause-gone
 returns-clause-gone c =
     let h = sym c.take_place.ensures.place ∙ c.unwrap-place.ensures in
     let e = ap (entries_of c.try_remove.new.self) c.take_place.ensures.items
-    ∙ close_entries c.self.inside.slab c.try_remove.new.self c.args.association.id c.unwrap-place.result c.self.inside.by_id.items c.self.invariant.keys h c.try_remove.ensures.updates in
-    ap (found c.args.association.id) e ∙ closed_gone c.self.inside.slab c.args.association.id c.self.inside.by_id.items c.self.invariant.rising
+    ∙ close_entries c.self.inside.slab c.try_remove.new.self c.args.association.id c.unwrap-place.result c.self.inside.by_id.items c.self.invariant.0.keys h c.try_remove.ensures.updates in
+    ap (found c.args.association.id) e ∙ closed_gone c.self.inside.slab c.args.association.id c.self.inside.by_id.items c.self.invariant.0.rising
 
 pub returns-clause-room : goal.returns-clause-room
 returns-clause-room c =
     let f : found c.args.association.id (entries_of c.self.inside.slab c.self.inside.by_id.items) ≡ Some c.args.association = ap (λ (v : Table). found c.args.association.id v.entries) c.self.view_is ∙ c.requires in
     let h = sym c.take_place.ensures.place ∙ c.unwrap-place.ensures in
-    let there = every_at (λ p. IsSome (get c.self.inside.slab p.key)) place_id c.args.association.id c.unwrap-place.result c.self.inside.by_id.items h c.self.invariant.held in
+    let there = every_at (λ p. IsSome (get c.self.inside.slab p.key)) place_id c.args.association.id c.unwrap-place.result c.self.inside.by_id.items h c.self.invariant.0.held in
     let some : IsSome c.try_remove.result = subst IsSome (sym c.try_remove.ensures.value) there in
     let len = on_some c.try_remove.result some c.try_remove.ensures.len in
     let room = on_some c.try_remove.result some c.try_remove.ensures.room in
-    let place = c.take_place.ensures.room (subst IsSome (sym c.unwrap-place.ensures) refl) in
-    let seat = c.take_seat.ensures.room in
+    let place = c.take_place.ensures.room c.self.invariant.1 (ap is_some c.unwrap-place.ensures) in
+    let seat = c.take_seat.ensures.room c.self.invariant.2 in
     let capacity = c.try_remove.ensures.capacity in
     let was = ap (λ (v : Table). v.room) c.self.view_is in
     omega (arith, was, place, seat, len, room, capacity)

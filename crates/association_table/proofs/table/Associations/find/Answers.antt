@@ -21,14 +21,14 @@ returns-in-Some-clause-value c = let h = c.in-Some.ensures in let k = at_key pla
 
 pub returns-in-None-clause-value : goal.returns-in-None-clause-value
 returns-in-None-clause-value c =
-    let there = every_at (λ p. IsSome (get c.self.inside.slab p.key)) place_id c.args.id c.in_ok-place.place c.self.inside.by_id.items (sym c.find_place.ensures ∙ c.in_ok-place.was) c.self.invariant.held in
+    let there = every_at (λ p. IsSome (get c.self.inside.slab p.key)) place_id c.args.id c.in_ok-place.place c.self.inside.by_id.items (sym c.find_place.ensures ∙ c.in_ok-place.was) c.self.invariant.0.held in
     absurd (none_some (get c.self.inside.slab c.in_ok-place.place.key) there (sym c.in-None.ensures))
 
 pub returns-in_err-place-clause-order : goal.returns-in_err-place-clause-order
-returns-in_err-place-clause-order c = subst (λ (v : Table). Rising association_id v.entries) c.self.view_is (rising_entries c.self.inside.slab c.self.inside.by_id.items c.self.invariant.rising)
+returns-in_err-place-clause-order c = subst (λ (v : Table). Rising association_id v.entries) c.self.view_is (rising_entries c.self.inside.slab c.self.inside.by_id.items c.self.invariant.0.rising)
 
 pub returns-in-Some-clause-order : goal.returns-in-Some-clause-order
-returns-in-Some-clause-order c = subst (λ (v : Table). Rising association_id v.entries) c.self.view_is (rising_entries c.self.inside.slab c.self.inside.by_id.items c.self.invariant.rising)
+returns-in-Some-clause-order c = subst (λ (v : Table). Rising association_id v.entries) c.self.view_is (rising_entries c.self.inside.slab c.self.inside.by_id.items c.self.invariant.0.rising)
 
 pub returns-in-None-clause-order : goal.returns-in-None-clause-order
-returns-in-None-clause-order c = subst (λ (v : Table). Rising association_id v.entries) c.self.view_is (rising_entries c.self.inside.slab c.self.inside.by_id.items c.self.invariant.rising)
+returns-in-None-clause-order c = subst (λ (v : Table). Rising association_id v.entries) c.self.view_is (rising_entries c.self.inside.slab c.self.inside.by_id.items c.self.invariant.0.rising)

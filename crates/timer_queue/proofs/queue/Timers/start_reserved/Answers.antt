@@ -1,69 +1,52 @@
-use Rattle.std.proofs.Common.{◌≡◌, ◌-◌, ◌+◌, ◌<◌, arith, Some, None, ap, ◌∙◌, sym, subst, cond}
-use Rattle.std.specs.Prelude.{nat_eq, min}
-use Rattle.std.specs.HashMap.{get, spare}
-use Rattle.std.specs.VecDeque.{deque_len, deque_capacity}
-use Rattle.std.specs.List.{insert}
-use Rattle.ordered_lists.specs.Ordered.{place, at, add}
-use Rattle.ordered_lists.specs.Laws.{place_le, add_insert}
+use Rattle.std.proofs.Common.{◌≡◌, ◌+◌, arith, None, ap, ◌∙◌, sym, subst}
+use Rattle.std.specs.Prelude.{option_map}
+use Rattle.ordered_lists.specs.Ordered.{at, add}
 use Rattle.timer_queue.specs.Countdowns.{timer_of, Countdowns, stopped, started}
 use Rattle.timer_queue.specs.declared.queue.Deadline.{Deadline}
-use Rattle.timer_queue.specs.Queued.{name, moment, running_at}
+use Rattle.timer_queue.specs.Queued.{name, moment, index_rank, as_running, running_at}
 use Rattle.timer_queue.specs.Rank.{rank}
-use Rattle.timer_queue.proofs.Changes.{Keeps, keeps_added, gone, rising_running, running_added, on_room, on_ok}
+use Rattle.timer_queue.proofs.Changes.{Keeps, keeps_added, gone_after, indexed, moment_apart, rising_running, running_added}
 use Rattle.timer_queue.proofs.queue.Timers.start_reserved.Goals as goal
 
-pub insert-requires : goal.insert-requires
-insert-requires c =
-    let le = place_le moment c.moment.result c.self-2.inside.queue.items in
-    let p = c.place-at.ensures in
-    let ok = c.self-2.inside.queue.ok in
-    omega (arith, ok.0)
-
-clock : (c : goal.After-insert-2) → c.self-2.inside.clock ≡ c.self.inside.clock
+clock : (c : goal.After-insert_reserved-2) → c.self-2.inside.clock ≡ c.self.inside.clock
 clock c = ap (λ (v : Countdowns). v.clock) c.self-2.view_is ∙ c.stop.ensures.clock ∙ sym (ap (λ (v : Countdowns). v.clock) c.self.view_is)
 
-after : (c : goal.After-insert-2) → running_at c.self-2.inside.clock c.self-2.inside.queue.items ≡ stopped c.args.owner c.args.kind (running_at c.self.inside.clock c.self.inside.queue.items)
+after : (c : goal.After-insert_reserved-2) → running_at c.self-2.inside.clock c.self-2.inside.queue.items ≡ stopped c.args.owner c.args.kind (running_at c.self.inside.clock c.self.inside.queue.items)
 after c = ap (λ (v : Countdowns). v.running) c.self-2.view_is ∙ c.stop.ensures.running ∙ sym (ap (λ (v : Countdowns). stopped c.args.owner c.args.kind v.running) c.self.view_is)
 
-none : (c : goal.After-insert-2) → at name (rank (timer_of c.args.owner c.args.kind)) c.self-2.inside.queue.items ≡ None
-none c = gone c.self-2.inside.clock (timer_of c.args.owner c.args.kind) (running_at c.self.inside.clock c.self.inside.queue.items) c.self-2.inside.queue.items c.self-2.invariant.1
-    (rising_running c.self.inside.clock c.self.inside.queue.items c.self.invariant.1) (after c)
+none : (c : goal.After-insert_reserved-2) → at name (rank (timer_of c.args.owner c.args.kind)) c.self-2.inside.queue.items ≡ None
+none c = gone_after c.self.inside.clock c.self-2.inside.clock (timer_of c.args.owner c.args.kind) _ _ c.self.inside.queue.items c.self-2.inside.queue.items c.self.invariant.1 c.self-2.invariant.1
+    (ap (λ (v : Countdowns). v.running) c.self.view_is) (ap (λ (v : Countdowns). v.running) c.self-2.view_is) c.stop.ensures.running
 
-roomy : (c : goal.After-insert-2) → 0 < min (deque_capacity c.self-2.inside.queue - deque_len c.self-2.inside.queue) (spare c.self-2.inside.index)
-roomy c =
-    let v = ap (λ (v : Countdowns). v.room) c.self-2.view_is in
-    let a = c.requires.room in
-    let b = c.stop.ensures.room in
-    omega (arith, v)
+pub insert_reserved-requires-clause-free : goal.insert_reserved-requires-clause-free
+insert_reserved-requires-clause-free c = moment_apart (record { deadline = c.self.inside.clock + c.args.ticks; timer = timer_of c.args.owner c.args.kind }) c.self-2.inside.queue.items
+    (gone_after c.self.inside.clock c.self-2.inside.clock (timer_of c.args.owner c.args.kind) _ _ c.self.inside.queue.items c.self-2.inside.queue.items c.self.invariant.1 c.self-2.invariant.1
+    (ap (λ (v : Countdowns). v.running) c.self.view_is) (ap (λ (v : Countdowns). v.running) c.self-2.view_is) c.stop.ensures.running)
 
-rest : (c : goal.After-insert-2) → c.insert.new.self.items ≡ add moment (record { deadline = c.self.inside.clock + c.args.ticks; timer = (timer_of c.args.owner c.args.kind) }) c.self-2.inside.queue.items
-rest c =
-    let e : Deadline = record { deadline = c.self.inside.clock + c.args.ticks; timer = (timer_of c.args.owner c.args.kind) } in
-    let ok = c.self-2.inside.queue.ok in
-    let r = roomy c in
-    let spot = c.place-at.ensures ∙ ap (λ k. place moment k c.self-2.inside.queue.items) c.moment.ensures in
-    on_room c.insert.result c.insert.ensures.full (omega arith) c.insert.ensures.items
-    ∙ ap (λ k. insert c.self-2.inside.queue.items k e) spot ∙ add_insert moment e c.self-2.inside.queue.items
+pub insert_reserved-requires-2-clause-free : goal.insert_reserved-requires-2-clause-free
+insert_reserved-requires-2-clause-free c =
+    indexed (rank (timer_of c.args.owner c.args.kind)) c.self-2.inside.index.items c.self-2.inside.queue.items c.self-2.invariant.1 c.self-2.invariant.3 ∙ ap (option_map as_running)
+    (gone_after c.self.inside.clock c.self-2.inside.clock (timer_of c.args.owner c.args.kind) _ _ c.self.inside.queue.items c.self-2.inside.queue.items c.self.invariant.1 c.self-2.invariant.1
+    (ap (λ (v : Countdowns). v.running) c.self.view_is) (ap (λ (v : Countdowns). v.running) c.self-2.view_is) c.stop.ensures.running)
 
-kept : (c : goal.After-insert-2) → Keeps c.self-2.inside.clock c.insert-2.new.self (add moment (record { deadline = c.self.inside.clock + c.args.ticks; timer = (timer_of c.args.owner c.args.kind) }) c.self-2.inside.queue.items)
+kept : (c : goal.After-insert_reserved-2) → Keeps c.self-2.inside.clock (add index_rank (record { timer = timer_of c.args.owner c.args.kind; deadline = c.self.inside.clock + c.args.ticks }) c.self-2.inside.index.items)
+    (add moment (record { deadline = c.self.inside.clock + c.args.ticks; timer = timer_of c.args.owner c.args.kind }) c.self-2.inside.queue.items)
 kept c =
-    let e : Deadline = record { deadline = c.self.inside.clock + c.args.ticks; timer = (timer_of c.args.owner c.args.kind) } in
-    let r = roomy c in
-    let u = on_ok c.insert-2.result (c.insert-2.ensures.succeeds (omega arith)) c.insert-2.ensures.updates in
+    let e : Deadline = record { deadline = c.self.inside.clock + c.args.ticks; timer = timer_of c.args.owner c.args.kind } in
     let same = clock c in
     let t = c.requires.ticks in
-    keeps_added c.self-2.inside.clock e c.self-2.inside.index c.insert-2.new.self c.self-2.inside.queue.items c.self-2.invariant.1 c.self-2.invariant.2 c.self-2.invariant.3 (none c) (omega (arith, same, t.0))
-    (λ j. subst (λ r. get nat_eq c.insert-2.new.self j ≡ cond (nat_eq r j) (Some (c.self.inside.clock + c.args.ticks)) (get nat_eq c.self-2.inside.index j)) c.rank.ensures (u.0 j))
+    keeps_added c.self-2.inside.clock e c.self-2.inside.index.items c.self-2.inside.queue.items c.self-2.invariant.1 c.self-2.invariant.2 c.self-2.invariant.3 (none c) (omega (arith, same, t.0))
 
 pub invariant_of-self : goal.invariant_of-self
 invariant_of-self c =
-    let k = subst (Keeps c.self-2.inside.clock c.insert-2.new.self) (sym (rest c)) (kept c) in
+    let k = subst (λ i. Keeps c.self-2.inside.clock i c.insert_reserved.new.self.items) (sym c.insert_reserved-2.ensures.items)
+    (subst (Keeps c.self-2.inside.clock _) (sym c.insert_reserved.ensures.items) (kept c)) in
     (c.self-2.invariant.0, k.queued, k.late, k.indexed)
 
 pub returns-clause-running : goal.returns-clause-running
 returns-clause-running c =
     let a : running_at c.self.inside.clock c.self-2.inside.queue.items ≡ stopped c.args.owner c.args.kind (running_at c.self.inside.clock c.self.inside.queue.items) = ap (λ n. running_at n c.self-2.inside.queue.items) (sym (clock c)) ∙ after c in
-    ap (λ n. running_at n c.insert.new.self.items) (clock c) ∙ ap (running_at c.self.inside.clock) (rest c)
+    ap (λ n. running_at n c.insert_reserved.new.self.items) (clock c) ∙ ap (running_at c.self.inside.clock) c.insert_reserved.ensures.items
     ∙ running_added c.self.inside.clock c.args.ticks (timer_of c.args.owner c.args.kind) (running_at c.self.inside.clock c.self.inside.queue.items) c.self-2.inside.queue.items c.self-2.invariant.1 (none c)
     (rising_running c.self.inside.clock c.self.inside.queue.items c.self.invariant.1) a
     ∙ ap (λ (v : Countdowns). started c.args.owner c.args.kind c.args.ticks v.running) c.self.view_is
