@@ -26,10 +26,10 @@ use Rattle.emm_state.specs.declared.solo.Phase.TheVariants.{Deregistered, Updati
 use Rattle.emm_state.specs.declared.solo.Repeat.{Repeat}
 use Rattle.emm_state.specs.declared.solo.Solo.{Solo}
 use Rattle.emm_state.specs.Actions.{association_counted, disconnected, emit, ended, fall, fallen, is_registered, lost, mac_of, refuse, release, resting, start, turn_away, untouched}
-use Rattle.emm_serving.specs.Connected as connected
-use Rattle.emm_serving.specs.Idle as idle
-use Rattle.emm_serving.specs.Serving as serving
-use Rattle.emm_serving.specs.Serving.{accepted_by_context}
+use Rattle.emm_machine.specs.Connected as connected
+use Rattle.emm_machine.specs.Idle as idle
+use Rattle.emm_machine.specs.Serving as serving
+use Rattle.emm_machine.specs.Serving.{accepted_by_context}
 use Rattle.emm_machine.specs.Steps as steps
 use Rattle.emm_promises.specs.Unproved.{MayMoveOn, StaysRegistered, UnprovedLeaves, begins_attach, is_attach_request, is_no_message, is_path_switch, is_path_switch_body, is_proved_body, is_proved_entry, is_proved_message}
 use Rattle.emm_promises.proofs.Saying.{at_some, either, either_by}

@@ -41,11 +41,11 @@ use Rattle.emm_state.specs.declared.solo.Repeat.{Repeat}
 use Rattle.emm_state.specs.declared.solo.Repeat.TheVariants as repeats
 use Rattle.emm_state.specs.declared.solo.Solo.{Solo}
 use Rattle.emm_state.specs.Actions.{connect, connect_on, emit, ended, is_registered, mac_of, send, start, untouched, wipe}
-use Rattle.emm_attaching.specs.Attaching as attaching
-use Rattle.emm_attaching.specs.Attaching.{counted_up, keys_of}
-use Rattle.emm_serving.specs.Connected as connected
-use Rattle.emm_serving.specs.Idle as idle
-use Rattle.emm_serving.specs.Serving as serving
+use Rattle.emm_machine.specs.Attaching as attaching
+use Rattle.emm_machine.specs.Attaching.{counted_up, keys_of}
+use Rattle.emm_machine.specs.Connected as connected
+use Rattle.emm_machine.specs.Idle as idle
+use Rattle.emm_machine.specs.Serving as serving
 use Rattle.emm_machine.specs.Steps as steps
 use Rattle.emm_promises.specs.Proof.{Responds, nas_of_body, uplink_nas}
 use Rattle.emm_promises.proofs.Parts.{CompletesUnder, IsHere, Moves, Past, Securing, Challenged, challenged, completed, here_by, here_connect, here_emit, here_protect, here_refuse, here_send, here_set_up, here_set_up_with, here_start, here_took, here_turn_away, moves_fall, moves_lost, moves_wipe, part_of, place_of, registered_part, responded, stays, stays_if}

@@ -23,7 +23,7 @@ use Rattle.emm_state.specs.declared.solo.Repeat.{Repeat}
 use Rattle.emm_state.specs.declared.solo.Solo.{Solo}
 use Rattle.emm_state.specs.Actions.{association_counted, connect, connect_on, disconnected, emit, ended, fall, fallen, is_registered, leave_old, lost, mac_of, protect, refuse, release, resting, seal, sealed_under, send, set_up, set_up_with, start, turn_away, wipe}
 use Rattle.emm_state.specs.Does.{◌>>=◌}
-use Rattle.emm_attaching.specs.Attaching.{took}
+use Rattle.emm_machine.specs.Attaching.{took}
 use Rattle.emm_promises.specs.Proof.{Challenges, Responds, uplink_nas}
 use Rattle.emm_promises.proofs.Saying.{Whenever, at_some, either, either_by, some}
 

@@ -26,7 +26,7 @@ use Rattle.emm_state.specs.declared.solo.Repeat.{Repeat}
 use Rattle.emm_state.specs.declared.solo.Solo.{Solo}
 use Rattle.emm_state.specs.Actions.{association_counted, connect, connect_on, disconnected, emit, ended, fall, fallen, is_registered, leave_old, lost, protect, refuse, release, resting, seal, sealed_under, send, set_up, start, turn_away, wipe}
 use Rattle.emm_state.specs.Does.{◌>>=◌}
-use Rattle.emm_attaching.specs.Attaching.{took}
+use Rattle.emm_machine.specs.Attaching.{took}
 use Rattle.emm_promises.specs.Keys.{GoesToTheProved, has_radio_key}
 use Rattle.emm_promises.specs.Marked.{AreFormsUnder, protected_within}
 use Rattle.emm_promises.specs.Sound.{HasContext, IsCountedIdle, IsDerived, IsOfVector, IsPlainRepeat, IsSound, has_security_header, is_past_proof}

@@ -46,11 +46,11 @@ use Rattle.emm_state.specs.declared.solo.Repeat.{Repeat}
 use Rattle.emm_state.specs.declared.solo.Repeat.TheVariants as repeats
 use Rattle.emm_state.specs.declared.solo.Solo.{Solo}
 use Rattle.emm_state.specs.Actions.{emit, ended, is_registered, set_up_with, untouched}
-use Rattle.emm_attaching.specs.Attaching as attaching
-use Rattle.emm_attaching.specs.Attaching.{counted_up, keys_of}
-use Rattle.emm_serving.specs.Connected as connected
-use Rattle.emm_serving.specs.Idle as idle
-use Rattle.emm_serving.specs.Serving as serving
+use Rattle.emm_machine.specs.Attaching as attaching
+use Rattle.emm_machine.specs.Attaching.{counted_up, keys_of}
+use Rattle.emm_machine.specs.Connected as connected
+use Rattle.emm_machine.specs.Idle as idle
+use Rattle.emm_machine.specs.Serving as serving
 use Rattle.emm_machine.specs.Steps as steps
 use Rattle.emm_promises.specs.Sound.{HasChallenge, HasConnection, HasContext, IsCountedIdle, IsDerived, IsOfVector, IsPlainRepeat, IsSound, is_past_proof, moved_on}
 use Rattle.emm_promises.proofs.Forms.{plain_attach_reject, plain_authentication_reject, plain_authentication_request, plain_detach_accept, plain_emm_status, plain_service_reject, plain_update_reject}

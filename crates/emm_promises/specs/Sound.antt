@@ -15,9 +15,9 @@ use Rattle.emm_state.specs.declared.solo.Protection.TheVariants.{Plain}
 use Rattle.emm_state.specs.declared.solo.Repeat.{Repeat}
 use Rattle.emm_state.specs.declared.solo.Repeat.TheVariants as repeats
 use Rattle.emm_state.specs.declared.solo.Solo.{Solo}
-use Rattle.emm_attaching.specs.Attaching.{keys_of}
+use Rattle.emm_machine.specs.Attaching.{keys_of}
 use Rattle.emm_machine.specs.Steps.{solo_after}
-use Rattle.emm_serving.specs.Connected.{next_chaining_count}
+use Rattle.emm_machine.specs.Connected.{next_chaining_count}
 
 -- ---- the context
 

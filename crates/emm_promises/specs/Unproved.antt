@@ -13,8 +13,8 @@ use Rattle.emm_state.specs.declared.setting.Setting.{Setting}
 use Rattle.emm_state.specs.declared.solo.Context.{Context}
 use Rattle.emm_state.specs.declared.solo.Solo.{Solo}
 use Rattle.emm_state.specs.Actions.{is_registered, mac_of}
-use Rattle.emm_serving.specs.Connected.{hopped}
-use Rattle.emm_serving.specs.Serving.{accepted_by_context}
+use Rattle.emm_machine.specs.Connected.{hopped}
+use Rattle.emm_machine.specs.Serving.{accepted_by_context}
 use Rattle.emm_machine.specs.Steps.{solo_step}
 
 -- ---- messages that carry a right MAC

@@ -17,7 +17,7 @@ use Rattle.emm_state.specs.declared.solo.Repeat.{Repeat}
 use Rattle.emm_state.specs.declared.solo.Solo.{Solo}
 use Rattle.emm_state.specs.Actions.{association_counted, connect, connect_on, disconnected, emit, ended, fall, fallen, is_at, is_registered, leave_old, lost, protect, refuse, release, resting, seal, sealed_under, send, set_up, set_up_with, start, turn_away, wipe}
 use Rattle.emm_state.specs.Does.{◌>>=◌}
-use Rattle.emm_attaching.specs.Attaching.{took}
+use Rattle.emm_machine.specs.Attaching.{took}
 use Rattle.emm_written.specs.InRange.{ConnectionInRangeIf, ContextInRange, ContextInRangeIf, RepeatInRange, SettingInRange, SoloInRange}
 
 -- ---- steps under way

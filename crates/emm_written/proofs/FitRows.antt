@@ -42,11 +42,11 @@ use Rattle.emm_state.specs.declared.solo.Repeat.{Repeat}
 use Rattle.emm_state.specs.declared.solo.Repeat.TheVariants as repeats
 use Rattle.emm_state.specs.declared.solo.Solo.{Solo}
 use Rattle.emm_state.specs.Actions.{emit, ended, is_registered, untouched}
-use Rattle.emm_attaching.specs.Attaching as attaching
-use Rattle.emm_attaching.specs.Attaching.{counted_up, keys_of, no_keys}
-use Rattle.emm_serving.specs.Connected as connected
-use Rattle.emm_serving.specs.Idle as idle
-use Rattle.emm_serving.specs.Serving as serving
+use Rattle.emm_machine.specs.Attaching as attaching
+use Rattle.emm_machine.specs.Attaching.{counted_up, keys_of, no_keys}
+use Rattle.emm_machine.specs.Connected as connected
+use Rattle.emm_machine.specs.Idle as idle
+use Rattle.emm_machine.specs.Serving as serving
 use Rattle.emm_machine.specs.Steps as steps
 use Rattle.written_messages.specs.KeyLaws.{integrity_key_below, kenb_bytes, next_hop_bytes}
 use Rattle.written_messages.specs.NasLaws.{brief_activation, brief_attach_accept, brief_authentication_request, brief_information_request, brief_network_detach, brief_security_mode_command, brief_update_accept, brief_within}

@@ -12,7 +12,7 @@ use Rattle.emm_state.specs.declared.draft.Draft.{Draft}
 use Rattle.emm_state.specs.declared.solo.Phase.TheVariants.{Authenticating}
 use Rattle.emm_state.specs.declared.solo.Solo.{Solo}
 use Rattle.emm_state.specs.Actions.{emit, send, start, wipe}
-use Rattle.emm_attaching.specs.Attaching.{attach_refused, challenged, not_authenticated}
+use Rattle.emm_machine.specs.Attaching.{attach_refused, challenged, not_authenticated}
 use Rattle.written_messages.specs.NasLaws.{brief_attach_reject, brief_authentication_reject, brief_authentication_request}
 use Rattle.emm_written.specs.InRange.{SoloInRange}
 use Rattle.emm_written.specs.Whole.{AttachRefusedIsWhole, ChallengedIsWhole, NotAuthenticatedIsWhole, RequestsAreKnown}

@@ -27,8 +27,8 @@ use Rattle.emm_state.specs.declared.draft.Sealed.{Sealed}
 use Rattle.emm_state.specs.declared.solo.Context.{Context}
 use Rattle.emm_state.specs.Actions.{association_counted, disconnected, emit, is_at, leave_old, mac_of, next_id, protect, refuse, release, seal, sealed_under, send, set_up, turn_away}
 use Rattle.emm_state.specs.Does.{◌>>=◌}
-use Rattle.emm_serving.specs.Connected.{connection_of, hopped, indicate, not_switched, switched}
-use Rattle.emm_serving.specs.Idle.{emit_each, page}
+use Rattle.emm_machine.specs.Connected.{connection_of, hopped, indicate, not_switched, switched}
+use Rattle.emm_machine.specs.Idle.{emit_each, page}
 use Rattle.emm_machine.specs.Steps.{solo_after, solo_step}
 use Rattle.written_messages.specs.KeyLaws.{brief_mac, next_hop_bytes}
 use Rattle.written_messages.specs.NasLaws.{brief_authentication_request, brief_none, brief_protected, brief_within}

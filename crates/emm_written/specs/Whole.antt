@@ -22,9 +22,9 @@ use Rattle.emm_state.specs.declared.setting.Setting.{Setting}
 use Rattle.emm_state.specs.declared.solo.Context.{Context}
 use Rattle.emm_state.specs.declared.solo.Solo.{Solo}
 use Rattle.emm_state.specs.Actions.{is_at, leave_old, next_id, protect, refuse, release, seal, send, set_up, turn_away}
-use Rattle.emm_attaching.specs.Attaching.{attach_refused, challenged, not_authenticated}
-use Rattle.emm_serving.specs.Connected.{connection_of, hopped, indicate, not_switched, switched}
-use Rattle.emm_serving.specs.Idle.{page}
+use Rattle.emm_machine.specs.Attaching.{attach_refused, challenged, not_authenticated}
+use Rattle.emm_machine.specs.Connected.{connection_of, hopped, indicate, not_switched, switched}
+use Rattle.emm_machine.specs.Idle.{page}
 use Rattle.emm_machine.specs.Steps.{solo_after, solo_step}
 use Rattle.emm_promises.specs.Proof.{IsProved}
 use Rattle.written_messages.specs.Ranges.{IsBrief, IsBriefIf, VectorInRange}
