@@ -15,18 +15,25 @@ fn main(rt: HostRuntime) -> io::Result<()> {
     if env::args(&rt)?.skip(1).next().is_some() {
         return rt.println(USAGE);
     }
+    answered_lines(&rt, BufReader::new(rt.alloc(), rt.stdin())?)
+}
+
+/// Prints the answer of each line.
+fn answered_lines(rt: &HostRuntime, reader: impl BufRead + Drop) -> io::Result<()> {
     let mut desk = Desk::new(rt.alloc());
-    let reader = BufReader::new(rt.alloc(), rt.stdin())?;
     for line in reader.lines(rt.alloc()) {
-        match line {
-            Ok(line) => answered(&rt, &mut desk, line.as_str())?,
-            Err(error) if error.kind() == ErrorKind::InvalidData => {
-                rt.println("wrong line: no text")?
-            }
-            Err(error) => return Err(error),
-        }
+        answered_line(rt, &mut desk, line)?;
     }
     Ok(())
+}
+
+/// Prints the answer of a line that was read; one that isn't UTF-8 is wrong.
+fn answered_line(rt: &HostRuntime, desk: &mut Desk, line: io::Result<String>) -> io::Result<()> {
+    match line {
+        Ok(line) => answered(rt, desk, line.as_str()),
+        Err(error) if error.kind() == ErrorKind::InvalidData => rt.println("wrong line: no text"),
+        Err(error) => Err(error),
+    }
 }
 
 /// Prints the answer of a line; a comment and an empty line have none.

@@ -7,40 +7,16 @@
 
 ghost use Rattle.std.specs.Prelude.{◌<◌, ◌≤◌, ◌^◌};
 
+use crate::shown::Shown;
+use crate::step::Step;
 use crate::stop::{Stop, answered};
 use call_text::{Answer, Call, Fault, Text};
 use per_bits::{
-    BitField, BitReader, BitWriter, Element, PerError, Whole, put_choice, put_length, put_optional,
-    read_open, read_optional, skip_additions, skip_extensions, take_choice, take_length, take_open,
-    take_small_number, write_open,
+    BitField, BitReader, BitWriter, Element, PerError, PerFault, put_choice, put_length,
+    put_optional, read_open, read_optional, skip_additions, skip_extensions, take_choice,
+    take_length, take_open, take_small_number, write_open,
 };
 use s1ap_elements::{BitRate, MmeUeId};
-
-/// What a step reads.
-#[derive(Drop)]
-enum Found {
-    Number(u64),
-    Octets(Vec<u8>),
-    Station(BitField<20>),
-    Lacking,
-    Passed,
-}
-
-impl Found {
-    /// The text and what the step read, or the step where nothing is kept.
-    fn shown(self, text: Text, step: &str) -> Text {
-        match self {
-            Found::Number(number) => text.with(" ", &number),
-            Found::Octets(octets) => text.octets(" ", &octets),
-            Found::Station(station) => text
-                .bits(" ", station.as_slice())
-                .with(" last ", &station.bit(19))
-                .with(" before ", &station.bit(18)),
-            Found::Lacking => text.word(" none"),
-            Found::Passed => text.word(" ").word(step),
-        }
-    }
-}
 
 /// `take OCTETS STEP..`: what each step reads, or the first fault.
 pub fn taken(call: Call) -> Answer {
@@ -52,86 +28,74 @@ fn take_each(call: Call, octets: &[u8]) -> Result<Text, Stop> {
     let mut reader = BitReader::new(octets);
     let mut text = call.text("read");
     for step in call.fields {
-        let words: Vec<&str> = step.split(":").collect(call.alloc)?;
-        let found = take(Call::new(call.alloc, &words), &mut reader)?;
-        text = found.shown(text, step);
+        text = take(Step::of(call.alloc, step), &mut reader, text.word(" "))?;
     }
     Ok(text)
 }
 
-fn take(step: Call, reader: &mut BitReader) -> Result<Found, Stop> {
+/// The text and what a step reads.
+fn take(step: Step, reader: &mut BitReader, text: Text) -> Result<Text, Stop> {
     match step.word {
-        "bit" | "bits" | "choice" | "length" | "small" => {
-            Ok(Found::Number(take_number(step, reader)?))
-        }
-        "id" | "open_id" | "rate" => Ok(Found::Number(take_whole(step, reader)?)),
-        "octets" => {
-            let count: u64 = step.one()?;
-            let octets = reader.take_octets(count as usize)?;
-            Ok(Found::Octets(octets.to_vec(step.alloc)?))
-        }
-        "open" => Ok(Found::Octets(take_open(reader)?.to_vec(step.alloc)?)),
-        _ => take_other(step, reader),
+        "bits" | "choice" | "octets" => take_counted(step, reader, text),
+        "bit" => read(text, reader.take_bit()),
+        "length" => read(text, take_length(reader)),
+        "small" => read(text, take_small_number(reader)),
+        "open" => read(text, take_open(reader)),
+        "two" => read(text, take_two(reader)),
+        _ => take_element(step, reader, text),
     }
 }
 
-fn take_number(step: Call, reader: &mut BitReader) -> Result<u64, Stop> {
-    let number = match step.word {
-        "bit" => Ok(reader.take_bit()? as u64),
-        "bits" => {
-            let count: u8 = step.one()?;
-            if count > 64 {
-                return Err(Stop::Line(Fault::Number));
-            }
-            reader.take_bits(count)
-        }
-        "choice" => take_choice(step.one()?, reader),
-        "length" => Ok(take_length(reader)? as u64),
-        _ => take_small_number(reader),
-    };
-    Ok(number?)
-}
-
-fn take_whole(step: Call, reader: &mut BitReader) -> Result<u64, PerError> {
+/// A step that is told how much to read, or how many choices there are.
+fn take_counted(step: Step, reader: &mut BitReader, text: Text) -> Result<Text, Stop> {
+    let count = step.number()?;
     match step.word {
-        "id" => Ok(MmeUeId::read(reader)?.get()),
-        "open_id" => Ok(read_open::<MmeUeId>(step.alloc, reader)?.get()),
-        _ => Ok(BitRate::read(reader)?.get()),
+        "bits" if count <= 64 => read(text, reader.take_bits(count as u8)),
+        "bits" => Err(Stop::Line(Fault::Number)),
+        "choice" => read(text, take_choice(count, reader)),
+        _ => read(text, reader.take_octets(count as usize)),
     }
 }
 
-fn take_other(step: Call, reader: &mut BitReader) -> Result<Found, Stop> {
+fn take_two(reader: &mut BitReader) -> Result<[u8; 2], PerFault> {
+    let mut two = [0; 2];
+    reader.fill(&mut two)?;
+    Ok(two)
+}
+
+fn take_element(step: Step, reader: &mut BitReader, text: Text) -> Result<Text, Stop> {
     match step.word {
-        "two" => {
-            let mut two = [0; 2];
-            reader.fill(&mut two)?;
-            Ok(Found::Octets(two.to_vec(step.alloc)?))
-        }
-        "station" => {
-            let station = <BitField<20> as Element>::read(step.alloc, reader)?;
-            Ok(Found::Station(station))
-        }
-        "no_id" => match read_optional::<MmeUeId>(step.alloc, false, reader)? {
-            Some(id) => Ok(Found::Number(id.get())),
-            None => Ok(Found::Lacking),
-        },
-        _ => pass(step, reader),
+        "id" => read(text, MmeUeId::read(reader)),
+        "open_id" => read(text, read_open::<MmeUeId>(step.alloc, reader)),
+        "no_id" => read(text, read_optional::<MmeUeId>(step.alloc, false, reader)),
+        "rate" => read(text, BitRate::read(reader)),
+        "station" => read(text, <BitField<20> as Element>::read(step.alloc, reader)),
+        _ => pass(step, reader, text.word(step.word)),
     }
 }
 
 /// A step that reads what isn't kept.
-fn pass(step: Call, reader: &mut BitReader) -> Result<Found, Stop> {
-    let passed = match step.word {
-        "align" => reader.align(),
-        "additions" => skip_additions(true, reader),
-        "no_additions" => skip_additions(false, reader),
-        "extensions" => skip_extensions(true, reader),
-        "no_extensions" => skip_extensions(false, reader),
-        "end" => reader.end(),
-        _ => return Err(Stop::Line(Fault::Name)),
-    };
-    passed?;
-    Ok(Found::Passed)
+fn pass(step: Step, reader: &mut BitReader, text: Text) -> Result<Text, Stop> {
+    match step.word {
+        "align" => read(text, reader.align()),
+        "additions" => read(text, skip_additions(true, reader)),
+        "no_additions" => read(text, skip_additions(false, reader)),
+        "extensions" => read(text, skip_extensions(true, reader)),
+        "no_extensions" => read(text, skip_extensions(false, reader)),
+        "end" => read(text, reader.end()),
+        _ => Err(Stop::Line(Fault::Name)),
+    }
+}
+
+/// The text and what was read, or why it was not.
+fn read<T: Shown + Drop, E: Drop>(text: Text, outcome: Result<T, E>) -> Result<Text, Stop>
+where
+    Stop: From<E>,
+{
+    match outcome {
+        Ok(value) => Ok(value.shown(text)),
+        Err(error) => Err(Stop::from(error)),
+    }
 }
 
 /// `put STEP..`: the octets that the steps write, or the first fault.
@@ -142,78 +106,75 @@ pub fn put(call: Call) -> Answer {
 fn written(call: Call) -> Result<Text, Stop> {
     let mut writer = BitWriter::new(call.alloc);
     for step in call.fields {
-        let words: Vec<&str> = step.split(":").collect(call.alloc)?;
-        put_step(Call::new(call.alloc, &words), &mut writer)??;
+        put_step(Step::of(call.alloc, step), &mut writer)?;
     }
     let octets = writer.finish()?;
     Ok(call.text("").octets("", &octets))
 }
 
-/// What a step's call answers, unless the step is wrong.
-type Put = Result<Result<(), PerError>, Fault>;
-
-fn put_step(step: Call, writer: &mut BitWriter) -> Put {
+fn put_step(step: Step, writer: &mut BitWriter) -> Result<(), Stop> {
     match step.word {
-        "bit" => {
-            let bit: u8 = step.one()?;
-            Ok(writer.put_bit(bit == 1))
-        }
-        "bits" => {
-            let (count, value): (u8, u64) = step.two()?;
-            if count > 8 || value >= 1u64 << count {
-                return Err(Fault::Number);
-            }
-            Ok(writer.put_bits(count, value))
-        }
-        "octets" => {
-            let octets: Vec<u8> = step.one()?;
-            Ok(writer.put_octets(&octets))
-        }
-        "align" => Ok(writer.align()),
-        _ => put_value(step, writer),
+        "align" => done(writer.align()),
+        "no_id" => done(put_optional::<MmeUeId>(step.alloc, &None, writer)),
+        "station" => done(station_of(step.value).write(step.alloc, writer)),
+        "octets" => put_octets(step, writer),
+        "bits" | "choice" => put_of_many(step, writer),
+        _ => put_number(step, writer),
     }
 }
 
-fn put_value(step: Call, writer: &mut BitWriter) -> Put {
+fn put_octets(step: Step, writer: &mut BitWriter) -> Result<(), Stop> {
+    let octets: Vec<u8> = step.field()?;
+    done(writer.put_octets(&octets))
+}
+
+/// A step of two numbers: how many bits and their number, or the last choice and the one that is made.
+fn put_of_many(step: Step, writer: &mut BitWriter) -> Result<(), Stop> {
+    let (many, number) = step.two_numbers()?;
     match step.word {
-        "length" => {
-            let length: u64 = step.one()?;
-            Ok(put_length(length as usize, writer))
-        }
-        "choice" => {
-            let (last, index) = step.two()?;
-            Ok(put_choice(last, index, writer))
-        }
-        "id" => put_id(step, writer),
-        "open_id" => {
-            let id = whole::<0, 4294967295>(step)?;
-            Ok(write_open::<MmeUeId>(step.alloc, &id, writer))
-        }
-        "no_id" => Ok(put_optional::<MmeUeId>(step.alloc, &None, writer)),
-        "rate" => Ok(whole::<0, 10000000000>(step)?.write(step.alloc, writer)),
-        "station" => put_station(step, writer),
-        _ => Err(Fault::Name),
+        "choice" => done(put_choice(many, number, writer)),
+        _ if many > 8 || number >= 1u64 << many => Err(Stop::Line(Fault::Number)),
+        _ => done(writer.put_bits(many as u8, number)),
     }
 }
 
-fn put_id(step: Call, writer: &mut BitWriter) -> Put {
-    let id = Some(whole::<0, 4294967295>(step)?);
-    Ok(put_optional::<MmeUeId>(step.alloc, &id, writer))
+fn put_number(step: Step, writer: &mut BitWriter) -> Result<(), Stop> {
+    let number = step.number()?;
+    match step.word {
+        "bit" => done(writer.put_bit(number == 1)),
+        "length" => done(put_length(number as usize, writer)),
+        "id" | "open_id" => match MmeUeId::try_new(number) {
+            Some(id) => done(put_id(step, id, writer)),
+            None => Err(Stop::Line(Fault::Number)),
+        },
+        "rate" => match BitRate::try_new(number) {
+            Some(rate) => done(rate.write(step.alloc, writer)),
+            None => Err(Stop::Line(Fault::Number)),
+        },
+        _ => Err(Stop::Line(Fault::Name)),
+    }
+}
+
+fn put_id(step: Step, id: MmeUeId, writer: &mut BitWriter) -> Result<(), PerError> {
+    if step.word == "open_id" {
+        return write_open::<MmeUeId>(step.alloc, &id, writer);
+    }
+    put_optional::<MmeUeId>(step.alloc, &Some(id), writer)
 }
 
 /// The number of a station in 20 digits, each a bit.
-fn put_station(step: Call, writer: &mut BitWriter) -> Put {
-    let bits: &str = step.one()?;
+fn station_of(digits: &str) -> BitField<20> {
     let mut station = [false; 20];
-    for (to, bit) in station.iter_mut().zip(bits.as_bytes()) {
-        *to = *bit == b'1';
+    for (to, digit) in station.iter_mut().zip(digits.as_bytes()) {
+        *to = *digit == b'1';
     }
-    Ok(BitField::<20>::new(station).write(step.alloc, writer))
+    BitField::new(station)
 }
 
-fn whole<const LO: u64, const HI: u64>(step: Call) -> Result<Whole<LO, HI>, Fault> {
-    match Whole::<LO, HI>::try_new(step.one()?) {
-        Some(number) => Ok(number),
-        None => Err(Fault::Number),
+/// What writing answers.
+fn done(outcome: Result<(), PerError>) -> Result<(), Stop> {
+    match outcome {
+        Ok(()) => Ok(()),
+        Err(error) => Err(Stop::from(error)),
     }
 }

@@ -5,6 +5,8 @@ mod bits;
 mod messages;
 mod parts;
 mod s1ap;
+mod shown;
+mod step;
 mod stop;
 mod values;
 

@@ -2,7 +2,7 @@
 
 use crate::messages::message_text;
 use call_text::{Answer, Call, Codec, Fault, Text, turned_answer};
-use s1ap_messages::{EncodeFault, S1apFault, S1apPdu, decode, encode};
+use s1ap_messages::{EncodeFault, S1apFault, decode, encode};
 use std::alloc::{AllocError, Global};
 
 /// How messages of S1AP are read and written.
@@ -21,52 +21,48 @@ impl Codec for S1apCodec {
 
 /// What is written of the message that the octets are read as.
 fn rewritten(alloc: Global, octets: &[u8]) -> Result<Result<Vec<u8>, EncodeFault>, S1apFault> {
-    let message = decode(alloc, octets)?;
-    Ok(encode(alloc, &message))
+    match decode(alloc, octets) {
+        Ok(message) => Ok(encode(alloc, &message)),
+        Err(fault) => Err(fault),
+    }
 }
 
 /// The answer of a call of this module.
 pub fn answer(call: Call) -> Answer {
     match call.word {
-        "s1ap" => shown_answer(call, call.one()?),
-        "s1ap_again" => again_answer(call, call.one()?),
-        "s1ap_turned" => {
+        "s1ap" | "s1ap_again" | "s1ap_turned" => {
             let octets: Vec<u8> = call.one()?;
-            turned_answer(call, &S1apCodec, &octets)
+            octets_answer(call, &octets)
         }
         _ => Err(Fault::NoCall),
     }
 }
 
+fn octets_answer(call: Call, octets: &[u8]) -> Answer {
+    match call.word {
+        "s1ap" => shown_answer(call, octets),
+        "s1ap_again" => again_answer(call, call.text(""), "", octets),
+        _ => turned_answer(call, &S1apCodec, octets),
+    }
+}
+
 /// `s1ap OCTETS`: a message with its fields, and how it is written again.
-fn shown_answer(call: Call, octets: Vec<u8>) -> Answer {
-    match decode(call.alloc, &octets) {
-        Ok(message) => message_answer(call, &octets, &message),
+fn shown_answer(call: Call, octets: &[u8]) -> Answer {
+    match decode(call.alloc, octets) {
+        Ok(message) => {
+            let text = message_text(call, &message).word("; ");
+            again_answer(call, text, "written ", octets)
+        }
         Err(fault) => call.fault_answer(&fault),
     }
 }
 
-fn message_answer(call: Call, octets: &[u8], message: &S1apPdu) -> Answer {
-    let text = message_text(call, message).word("; ");
-    match encode(call.alloc, message) {
-        Ok(written) => Ok(text.again("written ", octets, &written)),
-        Err(fault) => not_written(text, fault),
-    }
-}
-
-/// `s1ap_again OCTETS`: what is written of a message: `same` where as it was read.
-fn again_answer(call: Call, octets: Vec<u8>) -> Answer {
-    match rewritten(call.alloc, &octets) {
-        Ok(Ok(written)) => Ok(call.text("").again("", &octets, &written)),
-        Ok(Err(fault)) => not_written(call.text(""), fault),
+/// `s1ap_again OCTETS`: a text and what is written of a message: `same` where as it was read.
+fn again_answer(call: Call, text: Text, before: &str, octets: &[u8]) -> Answer {
+    match rewritten(call.alloc, octets) {
+        Ok(Ok(written)) => Ok(text.again(before, octets, &written)),
+        Ok(Err(EncodeFault::NotWritable)) => Ok(text.word("not writable")),
+        Ok(Err(EncodeFault::NoMemory)) => Err(Fault::NoMemory(AllocError)),
         Err(fault) => call.fault_answer(&fault),
-    }
-}
-
-/// A text of a message that has a part that isn't written.
-fn not_written(text: Text, fault: EncodeFault) -> Answer {
-    match fault {
-        EncodeFault::NotWritable => Ok(text.word("not writable")),
-        EncodeFault::NoMemory => Err(Fault::NoMemory(AllocError)),
     }
 }

@@ -1,5 +1,6 @@
 //! Calls on whole values: a complete encoding read and written again, and a number written.
 
+use crate::shown::Shown;
 use crate::stop::{Stop, answered};
 use call_text::{Answer, Call, Fault, Text};
 use per_bits::{
@@ -8,80 +9,6 @@ use per_bits::{
 };
 use s1ap_elements::{Ambr, BitRate};
 use std::alloc::AllocError;
-
-/// A value that has a text.
-trait Shown {
-    /// The text and the value.
-    fn shown(&self, text: Text) -> Text;
-}
-
-impl<const LO: u64, const HI: u64> Shown for Whole<LO, HI> {
-    fn shown(&self, text: Text) -> Text {
-        text.with("", &self.get())
-    }
-}
-
-impl<T: Shown + Drop> Shown for Closed<T> {
-    fn shown(&self, text: Text) -> Text {
-        self.value.shown(text)
-    }
-}
-
-impl<T: Shown + Drop, const ID: u64, const CRITICALITY: u64> Shown for Listed<T, ID, CRITICALITY> {
-    fn shown(&self, text: Text) -> Text {
-        self.value.shown(text)
-    }
-}
-
-impl<const N: usize> Shown for Octets<N> {
-    fn shown(&self, text: Text) -> Text {
-        text.octets("", self.as_slice())
-    }
-}
-
-impl<const MIN: u64, const MAX: u64> Shown for SizedString<'_, MIN, MAX> {
-    fn shown(&self, text: Text) -> Text {
-        text.octets("", self.octets)
-    }
-}
-
-impl Shown for OctetString<'_> {
-    fn shown(&self, text: Text) -> Text {
-        text.octets("", self.octets)
-    }
-}
-
-/// The octets of an address, where its bits are whole octets.
-impl<const MIN: u64, const MAX: u64> Shown for BitString<'_, MIN, MAX> {
-    fn shown(&self, text: Text) -> Text {
-        match self.whole_octets() {
-            Some(octets) => text.octets("octets ", octets),
-            None => text.word("no whole octets"),
-        }
-    }
-}
-
-impl<const LAST: u64> Shown for Enumerated<LAST> {
-    fn shown(&self, text: Text) -> Text {
-        text.named("", self)
-    }
-}
-
-/// How many there are, twice counted, whether there is none, and each.
-impl<const MIN: usize, const MAX: usize> Shown for Items<Octets<1>, MIN, MAX> {
-    fn shown(&self, text: Text) -> Text {
-        let mut text = text
-            .with("", &self.len())
-            .with(" ", &self.as_slice().len())
-            .with(" empty ", &self.is_empty());
-        for place in 0..self.len() {
-            if let Some(code) = self.get(place) {
-                text = text.octets(" ", code.as_slice());
-            }
-        }
-        text
-    }
-}
 
 /// `decode NAME OCTETS`: the value of a complete encoding, and how it is written again.
 pub fn decoded(call: Call) -> Answer {
@@ -160,13 +87,15 @@ pub fn can_be(call: Call) -> Answer {
     let (name, octets): (&str, Vec<u8>) = call.two()?;
     match name {
         "address" => call.yes_answer(BitString::<1, 160>::try_new(&octets).is_some()),
-        "codes" => {
-            let mut codes = Vec::new(call.alloc);
-            for octet in &octets {
-                codes.push(Octets::new([*octet]))?;
-            }
-            call.yes_answer(Items::<Octets<1>, 1, 6>::try_new(codes).is_some())
-        }
+        "codes" => codes_answer(call, &octets),
         _ => Err(Fault::Name),
     }
+}
+
+fn codes_answer(call: Call, octets: &[u8]) -> Answer {
+    let mut codes = Vec::new(call.alloc);
+    for octet in octets {
+        codes.push(Octets::new([*octet]))?;
+    }
+    call.yes_answer(Items::<Octets<1>, 1, 6>::try_new(codes).is_some())
 }

@@ -4,7 +4,7 @@ ghost use Rattle.std.specs.Prelude.{◌<◌, ◌≤◌};
 
 use association_table::{Association, AssociationOwner, Associations};
 use call_text::{Answer, Call, Fault, Field, Text};
-use std::alloc::Global;
+use std::alloc::{AllocError, Global};
 
 /// The associations, and those that `copy` kept: `back` exchanges them.
 #[derive(Drop)]
@@ -27,34 +27,45 @@ impl AssociationDesk {
         match call.word {
             "open" => self.open(call),
             "open_reserved" => self.open_reserved(call),
-            "find" => match self.associations.find(call.one()?) {
-                Some(found) => Ok(with_association(call.text(""), &found)),
-                None => call.word_answer("none"),
-            },
-            "move" => {
-                let (id, station, enb_id) = call.three()?;
-                match self.associations.move_to(id, station, enb_id) {
-                    Ok(()) => call.word_answer("moved"),
-                    Err(fault) => call.fault_answer(&fault),
-                }
-            }
-            "close" => call.yes_answer(self.associations.close(call.one()?)),
-            _ => self.station_answer(call),
+            "find" | "close" => self.id_answer(call),
+            "move" => self.moved(call),
+            "at" | "close_station" | "clear_station" => self.station_answer(call),
+            _ => self.plain_answer(call),
+        }
+    }
+
+    /// The answer of a call of one association.
+    fn id_answer(&mut self, call: Call) -> Answer {
+        let id = call.one()?;
+        if call.word == "close" {
+            return call.yes_answer(self.associations.close(id));
+        }
+        match self.associations.find(id) {
+            Some(found) => Ok(with_association(call.text(""), &found)),
+            None => call.word_answer("none"),
+        }
+    }
+
+    fn moved(&mut self, call: Call) -> Answer {
+        let (id, station, enb_id) = call.three()?;
+        match self.associations.move_to(id, station, enb_id) {
+            Ok(()) => call.word_answer("moved"),
+            Err(fault) => call.fault_answer(&fault),
         }
     }
 
     /// The answer of a call over all associations of a station.
     fn station_answer(&mut self, call: Call) -> Answer {
+        let station = call.one()?;
         match call.word {
-            "at" => associations_answer(call, &self.associations.entries_at(call.one()?)?),
+            "at" => associations_answer(call, self.associations.entries_at(station)),
             "close_station" => {
-                associations_answer(call, &self.associations.close_station(call.one()?)?)
+                associations_answer(call, self.associations.close_station(station))
             }
-            "clear_station" => {
-                self.associations.clear_station(call.one()?);
+            _ => {
+                self.associations.clear_station(station);
                 call.word_answer("cleared")
             }
-            _ => self.plain_answer(call),
         }
     }
 
@@ -66,17 +77,19 @@ impl AssociationDesk {
                 self.associations = Associations::new(call.alloc);
                 call.word_answer("none")
             }
-            "copy" => {
-                let copy = self.associations.copy()?;
-                self.kept = std::mem::replace(&mut self.associations, copy);
-                call.word_answer("copied")
-            }
+            "copy" => self.copy(call),
             "back" => {
                 std::mem::swap(&mut self.associations, &mut self.kept);
                 call.word_answer("back")
             }
             _ => Err(Fault::NoCall),
         }
+    }
+
+    fn copy(&mut self, call: Call) -> Answer {
+        let copy = self.associations.copy()?;
+        self.kept = std::mem::replace(&mut self.associations, copy);
+        call.word_answer("copied")
     }
 
     fn open(&mut self, call: Call) -> Answer {
@@ -98,14 +111,15 @@ impl AssociationDesk {
     }
 }
 
-/// Associations in their order, `none` where there is none.
-fn associations_answer(call: Call, associations: &[Association]) -> Answer {
+/// Associations in their order, `none` where there is none, unless memory for them was refused.
+fn associations_answer(call: Call, found: Result<Vec<Association>, AllocError>) -> Answer {
+    let associations = found?;
     if associations.is_empty() {
         return call.word_answer("none");
     }
     let mut text = call.text("");
     let mut between = "";
-    for association in associations {
+    for association in &associations {
         text = with_association(text.word(between), association);
         between = ", ";
     }

@@ -26,23 +26,26 @@ pub fn context_of(
 /// The answer of a call behind the word `context`.
 pub fn context_answer(context: &mut EpsSecurityContext<Eia2>, call: Call) -> Answer {
     match call.word {
-        "new" => {
-            let (kasme, ksi, down_next, LastCount(up_last)) = call.four()?;
-            *context = context_of(&kasme, ksi, down_next, up_last);
-            call.word_answer("new")
-        }
+        "new" => renewed(context, call),
         "protect" => protected(context, call),
-        "accept" => accepted(context, call, call.one()?),
-        "accept_short" => match context.accept_short(&call.one()?) {
-            Ok(count) => call.value_answer("count ", &count),
-            Err(fault) => call.fault_answer(&fault),
-        },
-        "mac" => {
-            let (count, octets): (_, Vec<u8>) = call.two()?;
-            call.octets_answer(&mac_through(context, count, &octets))
-        }
+        "accept" => accepted(context, call),
+        "accept_short" => accepted_short(context, call),
+        "mac" => mac_answer(context, call),
         "counts" => counts_answer(context, call),
         _ => Err(Fault::NoCall),
+    }
+}
+
+fn renewed(context: &mut EpsSecurityContext<Eia2>, call: Call) -> Answer {
+    let (kasme, ksi, down_next, LastCount(up_last)) = call.four()?;
+    *context = context_of(&kasme, ksi, down_next, up_last);
+    call.word_answer("new")
+}
+
+fn accepted_short(context: &mut EpsSecurityContext<Eia2>, call: Call) -> Answer {
+    match context.accept_short(&call.one()?) {
+        Ok(count) => call.value_answer("count ", &count),
+        Err(fault) => call.fault_answer(&fault),
     }
 }
 
@@ -55,7 +58,8 @@ fn protected(context: &mut EpsSecurityContext<Eia2>, call: Call) -> Answer {
 }
 
 /// A message with header 1 or 2.
-fn accepted(context: &mut EpsSecurityContext<Eia2>, call: Call, octets: Vec<u8>) -> Answer {
+fn accepted(context: &mut EpsSecurityContext<Eia2>, call: Call) -> Answer {
+    let octets: Vec<u8> = call.one()?;
     let either = [
         SecurityHeader::IntegrityProtected,
         SecurityHeader::IntegrityProtectedCiphered,
@@ -85,14 +89,12 @@ fn counts_answer(context: &EpsSecurityContext<Eia2>, call: Call) -> Answer {
 }
 
 /// The MAC of an uplink message through the bound alone.
-fn mac_through<I: Integrity>(
-    context: &EpsSecurityContext<I>,
-    count: u32,
-    message: &[u8],
-) -> [u8; 4] {
-    context
+fn mac_answer<I: Integrity>(context: &EpsSecurityContext<I>, call: Call) -> Answer {
+    let (count, octets): (_, Vec<u8>) = call.two()?;
+    let mac = context
         .integrity()
-        .mac(count, DirectionBit::Uplink, message)
+        .mac(count, DirectionBit::Uplink, &octets);
+    call.octets_answer(&mac)
 }
 
 /// A count, or `none`.

@@ -75,18 +75,7 @@ pub fn answer(provision: &mut Provision, call: Call) -> Answer {
     match call.word {
         "add" => added(provision, call),
         "give" => given(provision, call),
-        "slot_of_imsi" => {
-            let Digits(imsi) = call.one()?;
-            slot_answer(call, provision.slot_of_imsi(imsi))
-        }
-        "slot_of_tmsi" => {
-            let tmsi = Tmsi::new(u32::from_be_bytes(call.one()?));
-            slot_answer(call, provision.slot_of_tmsi(tmsi))
-        }
-        "slot_of_association" => {
-            let id = AssociationId::new(call.one()?);
-            slot_answer(call, provision.slot_of_association(id))
-        }
+        "slot_of_imsi" | "slot_of_tmsi" | "slot_of_association" => slot_of(provision, call),
         "profile" => profile_answer(provision, call),
         "vector" => vector_answer(provision, call),
         _ => plain_answer(provision, call),
@@ -120,7 +109,16 @@ fn added(provision: &mut Provision, call: Call) -> Answer {
     }
 }
 
-fn slot_answer(call: Call, slot: Option<Slot>) -> Answer {
+/// The slot of who has an IMSI, a TMSI or an association.
+fn slot_of(provision: &Provision, call: Call) -> Answer {
+    let slot = match call.word {
+        "slot_of_imsi" => {
+            let Digits(imsi) = call.one()?;
+            provision.slot_of_imsi(imsi)
+        }
+        "slot_of_tmsi" => provision.slot_of_tmsi(Tmsi::new(u32::from_be_bytes(call.one()?))),
+        _ => provision.slot_of_association(AssociationId::new(call.one()?)),
+    };
     match slot {
         Some(slot) => call.value_answer("slot ", &slot.get()),
         None => call.word_answer("none"),

@@ -30,15 +30,7 @@ impl TimerDesk {
         match call.word {
             "new" => self.renew(call),
             "start" | "start_reserved" => self.start(call),
-            "stop" => {
-                let (OwnerWord(owner), KindWord(kind)) = call.two()?;
-                self.timers.stop(owner, kind);
-                call.word_answer("stopped")
-            }
-            "left" => {
-                let (OwnerWord(owner), KindWord(kind)) = call.two()?;
-                self.left(call, owner, kind)
-            }
+            "stop" | "left" => self.timer_answer(call),
             _ => self.plain_answer(call),
         }
     }
@@ -48,10 +40,7 @@ impl TimerDesk {
         call.none()?;
         match call.word {
             "clock" => call.value_answer("", &self.timers.clock()),
-            "tick" => match self.timers.tick() {
-                Ok(due) => timers_answer(call, &due),
-                Err(fault) => call.fault_answer(&fault),
-            },
+            "tick" => self.tick(call),
             "due" => timers_answer(call, &self.timers.due()?),
             "pass" => self.pass(call),
             "copy" => self.copy(call),
@@ -60,6 +49,23 @@ impl TimerDesk {
                 call.word_answer("back")
             }
             _ => Err(Fault::NoCall),
+        }
+    }
+
+    /// The answer of a call of one timer.
+    fn timer_answer(&mut self, call: Call) -> Answer {
+        let (OwnerWord(owner), KindWord(kind)) = call.two()?;
+        if call.word == "left" {
+            return self.left(call, owner, kind);
+        }
+        self.timers.stop(owner, kind);
+        call.word_answer("stopped")
+    }
+
+    fn tick(&mut self, call: Call) -> Answer {
+        match self.timers.tick() {
+            Ok(due) => timers_answer(call, &due),
+            Err(fault) => call.fault_answer(&fault),
         }
     }
 

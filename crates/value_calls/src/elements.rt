@@ -1,6 +1,7 @@
 //! Calls of `nas_elements`: elements of the messages between a phone and an MME (TS 24.301).
 
 use crate::identities::{with_guti, with_identity, with_tai_list};
+use crate::messages;
 use call_text::{Answer, Call, Fault, Field, Text};
 use nas_elements::{
     Domain, Guti, Imsi, MobileIdentity, NasFault, Optional, Plmn, TaiList, UeCapability,
@@ -94,23 +95,27 @@ impl Element for UeCapability {
     }
 }
 
-/// The answer of a call of this module.
+/// The answer of a call of this module, or of one of messages or lines.
 pub fn answer(call: Call) -> Answer {
     match call.word {
-        "imsi" => match Imsi::try_from_digits(call.one()?) {
-            Some(imsi) => written_answer(call, &imsi),
-            None => call.word_answer("none"),
-        },
+        "imsi" => imsi_answer(call),
         "imsi_octets" => element_answer::<Imsi>(call),
         "identity" => element_answer::<MobileIdentity>(call),
         "guti" => element_answer::<Guti>(call),
         "tai_list" => element_answer::<TaiList>(call),
         "capability" => element_answer::<UeCapability>(call),
-        "plmn" => plmn_answer(call, call.one()?),
+        "plmn" => plmn_answer(call),
         "plmn_of_s1ap" => call.octets_answer(&Plmn::from_s1ap(call.one()?).octets),
         "optional" => optional_answer(call),
         "nas_faults" => faults_answer(call),
-        _ => Err(Fault::NoCall),
+        _ => messages::answer(call),
+    }
+}
+
+fn imsi_answer(call: Call) -> Answer {
+    match Imsi::try_from_digits(call.one()?) {
+        Some(imsi) => written_answer(call, &imsi),
+        None => call.word_answer("none"),
     }
 }
 
@@ -118,7 +123,7 @@ fn element_answer<T: Element>(call: Call) -> Answer {
     let octets: Vec<u8> = call.one()?;
     match T::parse(&octets) {
         Ok(element) => written_answer(call, &element),
-        Err(fault) => Ok(with_fault(call.text("fault "), fault)),
+        Err(fault) => fault_answer(call, fault),
     }
 }
 
@@ -128,15 +133,21 @@ fn written_answer<T: Element>(call: Call, element: &T) -> Answer {
     Ok(element.shown(call.text("")).octets("; written ", &written))
 }
 
-fn plmn_answer(call: Call, octets: Vec<u8>) -> Answer {
+fn plmn_answer(call: Call) -> Answer {
+    let octets: Vec<u8> = call.one()?;
     match Plmn::read(&octets) {
         Ok(plmn) => call.octets_answer(&plmn.octets),
-        Err(fault) => Ok(with_fault(call.text("fault "), fault)),
+        Err(fault) => fault_answer(call, fault),
     }
 }
 
+/// The number and the name of a fault that a call answered.
+pub fn fault_answer(call: Call, fault: NasFault) -> Answer {
+    Ok(with_fault(call.text("fault "), fault))
+}
+
 /// A text, and a fault's number and its name.
-pub fn with_fault(text: Text, fault: NasFault) -> Text {
+fn with_fault(text: Text, fault: NasFault) -> Text {
     let number = fault as u8;
     text.with("", &number).named(" ", &fault)
 }
@@ -175,13 +186,16 @@ impl<'a> Field<'a> for DomainWord {
 fn optional_answer(call: Call) -> Answer {
     let (DomainWord(domain), behind) = call.first()?;
     let (octets, asked): (Vec<u8>, Call) = behind.first()?;
-    let optional = match Optional::read(domain, &octets) {
-        Ok(optional) => optional,
-        Err(fault) => return Ok(with_fault(call.text("fault "), fault)),
-    };
-    let mut text = call.text("read");
+    match Optional::read(domain, &octets) {
+        Ok(optional) => found_answer(asked, &optional),
+        Err(fault) => fault_answer(call, fault),
+    }
+}
+
+fn found_answer(asked: Call, optional: &Optional) -> Answer {
+    let mut text = asked.text("read");
     for identifier in asked.fields {
-        let [iei] = <[u8; 1] as Field>::read(call.alloc, identifier)?;
+        let [iei] = <[u8; 1] as Field>::read(asked.alloc, identifier)?;
         text = text.octets("; ", &[iei]).maybe(" ", optional.find(iei));
     }
     Ok(text)

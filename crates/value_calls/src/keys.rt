@@ -1,5 +1,6 @@
 //! Calls of `eps_keys`: AES-128, CMAC, 128-EIA2, HMAC-SHA-256 and the key derivations.
 
+use crate::elements;
 use call_text::{Answer, Call, Fault, Field};
 use eps_keys::{
     DirectionBit, MacKey, aes_encrypt, cmac, eia2, hmac_sha256, kenb, nas_integrity_key, next_hop,
@@ -21,33 +22,40 @@ impl<'a> Field<'a> for Way {
     }
 }
 
-/// The answer of a call of this module.
+/// The answer of a call of this module, or of one of elements, messages or lines.
 pub fn answer(call: Call) -> Answer {
     match call.word {
         "aes" => {
             let (key, block) = call.two()?;
             call.octets_answer(&aes_encrypt(&key, &block))
         }
-        "nas_integrity_key" => call.octets_answer(&nas_integrity_key(&call.one()?)),
-        "kenb" => {
-            let (kasme, count) = call.two()?;
-            call.octets_answer(&kenb(&kasme, count))
-        }
-        "next_hop" => {
-            let (kasme, previous) = call.two()?;
-            call.octets_answer(&next_hop(&kasme, &previous))
-        }
-        "hmac" => {
-            let (key, message): (Vec<u8>, Vec<u8>) = call.two()?;
-            call.octets_answer(&hmac_sha256(&key, &message))
-        }
-        "same" => {
-            let (left, right): (Vec<u8>, Vec<u8>) = call.two()?;
-            call.yes_answer(same_octets(&left, &right))
-        }
         "cmac" | "kept_cmac" => cmac_answer(call),
         "eia2" | "kept_eia2" => eia2_answer(call),
-        _ => Err(Fault::NoCall),
+        "hmac" | "same" => pair_answer(call),
+        "nas_integrity_key" | "kenb" | "next_hop" => derived_answer(call),
+        _ => elements::answer(call),
+    }
+}
+
+/// A key that is derived of KASME.
+fn derived_answer(call: Call) -> Answer {
+    let (kasme, behind): (_, Call) = call.first()?;
+    match call.word {
+        "kenb" => call.octets_answer(&kenb(&kasme, behind.one()?)),
+        "next_hop" => call.octets_answer(&next_hop(&kasme, &behind.one()?)),
+        _ => {
+            behind.none()?;
+            call.octets_answer(&nas_integrity_key(&kasme))
+        }
+    }
+}
+
+/// What is made of two strings of octets.
+fn pair_answer(call: Call) -> Answer {
+    let (left, right): (Vec<u8>, Vec<u8>) = call.two()?;
+    match call.word {
+        "hmac" => call.octets_answer(&hmac_sha256(&left, &right)),
+        _ => call.yes_answer(same_octets(&left, &right)),
     }
 }
 

@@ -9,20 +9,10 @@ mod keys;
 mod lines;
 mod messages;
 
-use call_text::{Answer, Call, Fault};
+use call_text::{Answer, Call};
 pub use lines::line_answer;
 
 /// The answer of a call of values alone.
 pub fn answer(call: Call) -> Answer {
-    let mut answer = keys::answer(call);
-    if matches!(answer, Err(Fault::NoCall)) {
-        answer = elements::answer(call);
-    }
-    if matches!(answer, Err(Fault::NoCall)) {
-        answer = messages::answer(call);
-    }
-    if matches!(answer, Err(Fault::NoCall)) {
-        answer = lines::answer(call);
-    }
-    answer
+    keys::answer(call)
 }

@@ -1,11 +1,13 @@
 //! Calls of `nas_messages`: messages read and written again, also with one bit turned, and the protected form.
 
-use crate::elements::with_fault;
+use crate::elements::fault_answer;
 use crate::emm::emm_text;
 use crate::esm::esm_text;
-use call_text::{Answer, Call, Codec, Fault, Field, turned_answer};
+use crate::lines;
+use call_text::{Answer, Call, Codec, Fault, Field, Text, turned_answer};
 use nas_messages::{
-    Direction, decode_emm, decode_esm, encode_emm, encode_esm, join_protected, split_protected,
+    Direction, Protected, decode_emm, decode_esm, encode_emm, encode_esm, join_protected,
+    split_protected,
 };
 use std::alloc::{AllocError, Global};
 
@@ -42,7 +44,7 @@ impl Codec for NasCodec {
     }
 }
 
-/// The answer of a call of this module.
+/// The answer of a call of this module, or of one of lines.
 pub fn answer(call: Call) -> Answer {
     match call.word {
         "emm" => match call.two()? {
@@ -55,39 +57,52 @@ pub fn answer(call: Call) -> Answer {
             turned_answer(call, &codec, &octets)
         }
         "protected" => protected_answer(call, call.one()?),
-        _ => Err(Fault::NoCall),
+        _ => lines::answer(call),
     }
 }
 
 fn emm_answer(call: Call, direction: Direction, octets: Vec<u8>) -> Answer {
-    let message = match decode_emm(&octets, direction) {
-        Ok(message) => message,
-        Err(fault) => return Ok(with_fault(call.text("fault "), fault)),
-    };
-    let written = encode_emm(call.alloc, &message)?;
-    Ok(emm_text(call, &message).again("; written ", &octets, &written))
+    match decode_emm(&octets, direction) {
+        Ok(message) => {
+            let written = encode_emm(call.alloc, &message);
+            again_answer(emm_text(call, &message), &octets, written)
+        }
+        Err(fault) => fault_answer(call, fault),
+    }
 }
 
 fn esm_answer(call: Call, octets: Vec<u8>) -> Answer {
-    let message = match decode_esm(&octets) {
-        Ok(message) => message,
-        Err(fault) => return Ok(with_fault(call.text("fault "), fault)),
-    };
-    let written = encode_esm(call.alloc, &message)?;
-    Ok(esm_text(call, &message).again("; written ", &octets, &written))
+    match decode_esm(&octets) {
+        Ok(message) => {
+            let written = encode_esm(call.alloc, &message);
+            again_answer(esm_text(call, &message), &octets, written)
+        }
+        Err(fault) => fault_answer(call, fault),
+    }
 }
 
 fn protected_answer(call: Call, octets: Vec<u8>) -> Answer {
-    let Some(protected) = split_protected(&octets) else {
-        return call.word_answer("none");
-    };
-    let written = join_protected(call.alloc, &protected)?;
-    Ok(
-        call.text("header ")
-            .with("", &protected.header.code())
-            .octets(" MAC ", &protected.mac)
-            .with(" sequence ", &protected.sequence)
-            .octets(" message ", protected.message)
-            .again("; written ", &octets, &written),
-    )
+    match split_protected(&octets) {
+        Some(protected) => {
+            let written = join_protected(call.alloc, &protected);
+            again_answer(protected_text(call, &protected), &octets, written)
+        }
+        None => call.word_answer("none"),
+    }
+}
+
+fn protected_text(call: Call, protected: &Protected<&[u8]>) -> Text {
+    call.text("header ")
+        .with("", &protected.header.code())
+        .octets(" MAC ", &protected.mac)
+        .with(" sequence ", &protected.sequence)
+        .octets(" message ", protected.message)
+}
+
+/// The text and what is written of a message that was read, unless memory for it was refused.
+fn again_answer(text: Text, octets: &[u8], written: Result<Vec<u8>, AllocError>) -> Answer {
+    match written {
+        Ok(written) => Ok(text.again("; written ", octets, &written)),
+        Err(error) => Err(Fault::NoMemory(error)),
+    }
 }
