@@ -1,3 +1,5 @@
+mod run;
+
 use identity_slots::Provision;
 use mme_core::{Config, Mme};
 use mme_main::{PlayFault, Player, Progress, Watched, run_play};
@@ -176,17 +178,25 @@ fn nothing_is_kept_back(rt: HostRuntime) -> Result<(), Fail> {
     Ok(())
 }
 
-/// An MME without subscribers, whose clock is there.
-fn at_clock(alloc: Global, clock: u64) -> Result<Progress, Fail> {
-    let network = Network {
+/// The network of the worked rows.
+fn network() -> Result<Network, Fail> {
+    let rate = AggregateBitRate::try_new(1_000_000_000).ok_or("rate")?;
+    Ok(Network {
         plmn: Octets::new([0x00, 0xf1, 0x10]),
         group: Octets::new([0x80, 0x01]),
         code: Octets::new([0x01]),
         apn: Apn::try_new(b"internet").ok_or("label")?,
-        down: AggregateBitRate::try_new(1).ok_or("rate")?,
-        up: AggregateBitRate::try_new(1).ok_or("rate")?,
+        down: rate,
+        up: rate,
+    })
+}
+
+/// An MME without subscribers, whose clock is there.
+fn at_clock(alloc: Global, clock: u64) -> Result<Progress, Fail> {
+    let config = Config {
+        network: network()?,
+        clock,
     };
-    let config = Config { network, clock };
     let mme = Mme::new(alloc, config, Provision::new(alloc))?;
     Ok(Progress::Running(mme))
 }
