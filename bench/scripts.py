@@ -90,6 +90,7 @@ class Phone:
         self.phase, self.known, self.connection, self.timer, self.forgotten_at = AWAY, None, None, None, None
         self.used = self.associations = self.tmsis = 0
         self.paged = self.from_idle = False
+        self.paged_at = []  # the stations to page at again
 
     def states(self):
         words = WORDS.get(self.phase, "COMMON-PROCEDURE-INITIATED CONNECTED INACTIVE")
@@ -222,6 +223,7 @@ class Player:
     def goes(self, station):
         """All connections of a station end."""
         for phone in self.phones.values():
+            phone.paged_at = [each for each in phone.paged_at if each is not station]
             if phone.pair and phone.pair.station is station:
                 phone.pair = None
             if phone.connection and phone.connection.station is station:
@@ -257,8 +259,10 @@ class Player:
         return Out(owner or phone.owner, connection.station, lte.release_command(connection.m, connection.b, why), delivered)
 
     def hears(self, phone, connection, answer):
-        """What a phone answers to what comes on a connection."""
+        """What a phone answers to what comes on a connection: that which it has, or a new one where it is."""
         def delivered():
+            if phone.pair != connection and phone.place and phone.place != (connection.station, connection.b):
+                return []
             phone.pair = connection
             return [] if phone.deaf else answer()
         return delivered
@@ -451,7 +455,7 @@ class Player:
 
     def updates(self, phone, station=None, b=None):
         """TRACKING AREA UPDATE ACCEPT with a new M-TMSI."""
-        if phone.phase not in (REGISTERED, UPDATING) or phone.known is not phone.context:
+        if phone.phase not in (REGISTERED, UPDATING) or phone.known is not phone.context or phone.phase == UPDATING and not station:
             raise Unknown("an update in " + phone.phase)
         sent = self.begins(phone, station, b) if station else []
         phone.phase, phone.tac, from_idle = UPDATING, phone.connection.station.tac, station is not None
@@ -548,9 +552,11 @@ class Player:
             return []
         phone.paged = True
 
+        phone.paged_at = [station for _, station in sorted(self.stations.items()) if station.ready and station.tac == phone.tac]
+
         def pages():
             octets = lte.paging(self.network, phone.imsi, phone.given_tmsi, phone.tac)
-            stations = [station for _, station in sorted(self.stations.items()) if station.ready and station.tac == phone.tac]
+            stations = list(phone.paged_at)  # without those that went since
             return [Out(phone.owner, station, octets, nothing) for station in stations]
 
         def ended():

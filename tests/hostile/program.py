@@ -24,12 +24,13 @@ def play(lines, program=PROGRAM):
 
 class Live:
     """A running program. Each event is followed by a line that shows each subscriber, so that its answers have an end."""
+    WORD, STATE = "play", "state "
 
     def __init__(self, provisioning, imsis, program=PROGRAM):
         self.shows = "".join("show %s\n" % imsi for imsi in imsis)
         self.count = len(imsis)
         pipes = {"stdin": subprocess.PIPE, "stdout": subprocess.PIPE, "stderr": subprocess.PIPE}
-        self.process = subprocess.Popen([program, "play"], bufsize=0, **pipes)
+        self.process = subprocess.Popen([program, self.WORD], bufsize=0, **pipes)
         self.rest = b""
         self.write("".join(line + "\n" for line in provisioning))
 
@@ -47,7 +48,7 @@ class Live:
         replies, answers, states = [], [], []
         while len(replies) < len(events):
             for line in self.lines():
-                if not line.startswith("state "):
+                if not line.startswith(self.STATE):
                     answers.append(line)
                     continue
                 states.append(line)

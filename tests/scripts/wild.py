@@ -1,4 +1,6 @@
-"""Scripts of random acts: three phones, of which one may be deaf, at two stations, by few numbers, so that they meet."""
+"""Scripts of random acts: three phones, of which one may be deaf, at two stations, by few numbers, so that they meet; some lie, and
+some stations send what they shouldn't.
+"""
 import random
 
 import rows
@@ -17,14 +19,25 @@ def provided(seed):
     return lines + ["station 0 00001 0001", "station 1 00002 0002", "up 0", "up 1"]
 
 
-def act(chance):
+def raw(chance, player):
+    """A station sends nothing, or uplink NAS with an id that nobody has, or on another number than the phone's."""
+    station = player.stations[chance.randrange(2)]
+    phone = player.phones[chance.choice(PHONES)]
+    m, b = chance.choice(((2**32 - 1, 1), (phone.slot << 20 | 77, 1), (phone.connection and phone.connection.m, 9), (None, None)))
+    octets = b"" if m is None else rows.lte.uplink_nas(player.network, station, m, b, b"\x07\x60\x61")
+    return "raw %d %s" % (station.number, octets.hex() or "-")
+
+
+def act(chance, player):
     """A line; most are of a phone."""
     imsi, station = chance.choice(PHONES), chance.randrange(2)
     kind = chance.random()
     if kind < 0.55:
         return "%s %s %d %d" % (chance.choice(PLACED), imsi, station, chance.randrange(3))
-    if kind < 0.92:
+    if kind < 0.87:
         return "%s %s" % (chance.choice(ALONE), imsi)
+    if kind < 0.92:
+        return raw(chance, player)
     if kind < 0.96:
         return "tick %d" % chance.choice((1, 5, 6, 10, 31))
     return chance.choice(("up %d" % station, "lost %d" % station, "up %d" % station, "deaf " + PHONES[2]))
@@ -37,7 +50,7 @@ def script(seed, count):
     for line in lines:
         player.play(line)
     while count:
-        line, count = act(chance), count - 1
+        line, count = act(chance, player), count - 1
         try:
             player.play(line)
             lines.append(line)

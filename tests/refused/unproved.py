@@ -1,0 +1,92 @@
+"""Builds the program of calls/, unproved and with every access checked, as `rt try --fail-alloc` builds it, and runs it.
+
+`rt try` builds anew for each number of an allocation that is to be refused. The number stands as a constant in what is built, so
+that it is built once here, and the constant set for each run.
+"""
+import os
+import pathlib
+import re
+import shutil
+import struct
+import subprocess
+import time
+
+from shimmed import HERE, SECONDS, TOP, Ran
+
+# The allocation that is refused where none is to be.
+NONE = 1999999999
+NAME = "refused_calls"
+USES = ("trace_text mme_core mme_main per_bits nas_elements identity_slots esm_machine mme_vocabulary emm_machine timer_queue "
+        "association_table sorted_list s1ap_elements")
+
+
+class NotBuilt(Exception):
+    """`rt try` has built no program that refuses allocations: what it said."""
+
+
+def compared(number):
+    """The comparison with a number of four octets (`cmp imm32, %rax`)."""
+    return b"\x48\x3d" + struct.pack("<i", number)
+
+
+def repository(folder):
+    """A copy of the crates' code and definitions with one crate more, whose folder is returned."""
+    for name in ("HANDLES", "crates.txt"):
+        shutil.copy(TOP / name, folder)
+    with open(folder / "crates.txt", "a", encoding="utf-8") as file:
+        file.write("%s: %s\n" % (NAME, USES))
+    for crate in (TOP / "crates").iterdir():
+        for part in ("src", "specs"):
+            if (crate / part).exists():
+                shutil.copytree(crate / part, folder / "crates" / crate.name / part)
+    sources = folder / "crates" / NAME / "src"
+    sources.mkdir(parents=True)
+    for kept in (HERE / "calls").iterdir():
+        shutil.copy(kept, sources / kept.stem)
+    subprocess.run(["git", "init", "-q", folder], check=True)  # where rt's search for the top ends
+    return sources.parent
+
+
+def taken(folder, best):
+    """The octets of the program below a folder, if there are more of them than before."""
+    for place, _, names in os.walk(folder):
+        if "program" in names:
+            try:
+                octets = pathlib.Path(place, "program").read_bytes()
+            except OSError:
+                continue
+            best = max(best, octets, key=len)
+    return best
+
+
+class Program:
+    """The program, taken from where `rt try` runs it over many ticks."""
+
+    def __init__(self, folder):
+        self.path, room = folder / "calls", folder / "room"
+        room.mkdir()
+        (folder / "repository").mkdir()
+        crate = repository(folder / "repository")
+        (folder / "given").write_bytes((TOP / "tests" / "rows" / "setup.trace").read_bytes() + b"tick 1000000\n")
+        words = ["rt", "try", "--steps", "100", "--seconds", "20", "--fail-alloc", str(NONE)]
+        octets = b""
+        with open(folder / "given", "rb") as trace, open(folder / "told", "wb") as told:
+            run = subprocess.Popen(words, cwd=crate, stdin=trace, stdout=subprocess.DEVNULL, stderr=told,
+                                   env={**os.environ, "TMPDIR": str(room)})
+            while run.poll() is None:
+                octets = taken(room, octets)
+                time.sleep(0.05)
+        self.places = [at.start() for at in re.finditer(re.escape(compared(NONE)), octets)]
+        if not self.places:
+            raise NotBuilt((folder / "told").read_text(errors="replace")[-300:])
+        self.path.write_bytes(octets)
+        self.path.chmod(0o700)
+
+    def ran(self, given, refused):
+        """A run in which this allocation is refused, or none at 0."""
+        with open(self.path, "r+b") as file:
+            for place in self.places:
+                file.seek(place)
+                file.write(compared(refused or NONE))
+        done = subprocess.run([self.path], input=given, capture_output=True, timeout=SECONDS, check=False)
+        return Ran(done.stdout, done.stderr, done.returncode)
