@@ -1,9 +1,11 @@
 #!/usr/bin/env python3
 """Measures `mme play` over traces of phones that attach, and `mme sim` over scripts, and checks each answer.
 
-    measure.py PROGRAM [--only WORD ..] [--rounds N] [--ticks N]
+    measure.py [PROGRAM] [--only WORD ..] [--rounds N] [--ticks N]
+    measure.py [PROGRAM] --table
 
-The words: attaches, growth, events, ticks, setups, instructions, scripts. Times are those of the processor, of one thread; the best of
+PROGRAM is the built one of this repository where none is given. `--table` prints, behind the figures one by one, the table of
+bench/README.md. The words: attaches, growth, events, ticks, setups, instructions, scripts. Times are those of the processor, of one thread; the best of
 the rounds counts, and a run's start and provisioning, measured in the same rounds, are taken off. `instructions` counts them
 by valgrind, which no other work on the machine can change. Ends with 1 where an answer is wrong.
 """
@@ -21,12 +23,29 @@ import scripts
 
 COUNTS = (20, 200, 2000)
 MOST = 2048
+# The columns of the table; what is measured at 2,000 and what at 2,048 subscribers stand in one.
+COLUMNS = ("20", "200", "2,000 or 2,048")
+PROGRAM = os.path.join(os.path.dirname(os.path.abspath(__file__)), "..", "crates", "mme", "out", "mme")
+USUAL, OF_TABLE = ("attaches", "growth", "events", "ticks", "setups"), ("instructions", "growth", "events", "scripts")
 
 
 class Bench:
     def __init__(self, program, rounds):
         self.program, self.rounds, self.wrong = os.path.abspath(program), rounds, 0
         self.folder = tempfile.TemporaryDirectory()
+        self.figures = {}
+
+    def figure(self, row, count, value):
+        """Keeps a figure for the table: its row, for how many subscribers, and its text."""
+        column = COLUMNS[min(2, [20, 200].index(count) if count < 2000 else 2)]
+        self.figures.setdefault(row, {})[column] = value
+
+    def table(self):
+        """The figures as the table of bench/README.md, a row for each."""
+        lines = ["| What | %s |" % " | ".join(COLUMNS), "|---|%s" % ("---|" * len(COLUMNS))]
+        for row, values in self.figures.items():
+            lines.append("| %s | %s |" % (row, " | ".join(values.get(column, "") for column in COLUMNS)))
+        return "\n".join(lines)
 
     def kept(self, name, text):
         path = os.path.join(self.folder.name, name)
@@ -96,6 +115,7 @@ def growth(bench):
         whole = attaches.attached(count, show=False)[0].text()
         least, most = bench.best([base, whole], max(bench.rounds, 6000 // count))
         each[count] = (most - least) / count
+        bench.figure("an attach, µs", count, "%.1f" % (each[count] * 1e6))
         print("attach among %d subscribers: %.2f us" % (count, each[count] * 1e6))
     print("2000 beside 20: %.3f, beside 200: %.3f" % (each[2000] / each[20], each[2000] / each[200]))
 
@@ -130,8 +150,8 @@ def wrong_ways(trace, station, phone, count=EVENTS):
         trace.owe("e0", station, lte.s1ap(lte.INITIATING, 15, lte.IGNORE, (lte.IGNORE, lte.cause(((3, 3), 3)))))
 
 
-KINDS = (("uplink NAS, nothing owed", False, statuses), ("uplink NAS, a reject owed", False, requests),
-         ("data notice", True, notices), ("a station's own answer", False, wrong_ways))
+KINDS = (("uplink NAS with nothing owed", False, statuses), ("uplink NAS with a reject owed", False, requests),
+         ("a data notice while a page is under way", True, notices), ("a station's own answer", False, wrong_ways))
 
 
 def events(bench):
@@ -143,6 +163,7 @@ def events(bench):
             bench.checked("%s among %d" % (what, count), trace)
             least, most = bench.best([before, trace.text()])
             each[count] = (most - least) / EVENTS
+            bench.figure("%s, µs" % what, count, "%.1f" % (each[count] * 1e6))
             print("%s among %d: %.2f us" % (what, count, each[count] * 1e6))
         print("%s: %d beside 20: %.3f" % (what, MOST, each[MOST] / each[20]))
     paged(bench)
@@ -154,25 +175,27 @@ def paged(bench):
         before, trace = before_and_whole(count, lambda t, s, made: [phone.has_data_waiting([s]) for phone in made])
         bench.checked("a page for each of %d" % count, trace)
         least, most = bench.best([before, trace.text()], max(bench.rounds, 2000 // count))
+        bench.figure("a page for each idle phone, µs each", count, "%.1f" % ((most - least) / count * 1e6))
         print("a page for each of %d: %.2f us each" % (count, (most - least) / count * 1e6))
 
 
 def instructions(bench):
     """Instructions of an attach, of an event of one subscriber and of a tick, with so many subscribers."""
     def told(what, count, each):
+        bench.figure("%s, instructions" % what, count, "{:,.0f}".format(each))
         print("%s among %d: %.0f instructions" % (what, count, each))
         sys.stdout.flush()
 
     for count in COUNTS:
         base = bench.instructions(attaches.provisioned(count)[0].text())
-        told("attach", count, (bench.instructions(attaches.attached(count, show=False)[0].text()) - base) / count)
+        told("an attach", count, (bench.instructions(attaches.attached(count, show=False)[0].text()) - base) / count)
     for what, release, add in KINDS:
         for count in (20, 200, MOST):
             before, trace = before_and_whole(count, lambda t, s, made: add(t, s, made[10], COUNTED), release)
             told(what, count, (bench.instructions(trace.text()) - bench.instructions(before)) / COUNTED)
     for count in (20, 200, MOST):
         before, trace = before_and_whole(count, lambda t, s, made: t.say("tick 10"))
-        told("tick", count, (bench.instructions(trace.text()) - bench.instructions(before)) / 10)
+        told("a tick over idle phones", count, (bench.instructions(trace.text()) - bench.instructions(before)) / 10)
 
 
 def ticks(bench, most):
@@ -216,6 +239,7 @@ def simulated(bench):
         right = said.returncode == 0 and said.stdout == scripts.owed(whole)
         bench.wrong += not right
         least, most = bench.best([text, whole], max(bench.rounds, 2000 // count), word="sim")
+        bench.figure("attaches of a second by a script", count, "{:,.0f}".format(count / (most - least)))
         print("%d attaches by a script, the output %s: %.0f a second" % (
             count, "as owed" if right else "WRONG", count / (most - least)))
         sys.stdout.flush()
@@ -229,17 +253,20 @@ def simulated(bench):
 
 def main():
     parser = argparse.ArgumentParser(description=__doc__, formatter_class=argparse.RawDescriptionHelpFormatter)
-    parser.add_argument("program")
-    parser.add_argument("--only", nargs="*", default=["attaches", "growth", "events", "ticks", "setups"])
+    parser.add_argument("program", nargs="?", default=PROGRAM)
+    parser.add_argument("--table", action="store_true", help="at the end print the table of bench/README.md; measures what it has")
+    parser.add_argument("--only", nargs="*")
     parser.add_argument("--rounds", type=int, default=10)
     parser.add_argument("--ticks", type=int, default=3000)
     given = parser.parse_args()
     bench = Bench(given.program, given.rounds)
-    for word in given.only:
+    for word in given.only or (OF_TABLE if given.table else USUAL):
         {"attaches": attaches_per_second, "growth": growth, "events": events, "setups": set_ups, "instructions": instructions,
          "scripts": simulated,
          "ticks": lambda bench: ticks(bench, given.ticks)}[word](bench)
         sys.stdout.flush()
+    if given.table:
+        print("\n" + bench.table())
     sys.exit(1 if bench.wrong else 0)
 
 
