@@ -187,20 +187,21 @@ pub struct Asked {
     pub initial_update: bool,
 }
 
-/// How many ids a slot has given, modulo 2^20; a contract sees the number.
+/// How many ids a slot has given, which goes round; a contract sees the number.
 #[derive(Clone, Copy)]
 pub struct Counter {
     count: u32,
 }
 
 impl Model for Counter {
-    ghost use Rattle.std.specs.Prelude.{ℕ, ◌<◌, ◌^◌};
+    ghost use Rattle.std.specs.Prelude.{ℕ, ◌<◌};
+    ghost use Rattle.identity_slots.specs.Ids.{counters};
 
     ghost Value = { ℕ };
 
     ghost view = { λ c. c.count };
 
-    ghost invariant = { λ c. c.count < 2 ^ 20 };
+    ghost invariant = { λ c. c.count < counters };
 
     ghost inverse = { λ n. record { count = n } };
 }

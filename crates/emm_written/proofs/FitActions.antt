@@ -2,7 +2,7 @@
 use Rattle.std.proofs.Common.{◌≡◌, ℕ, ◌+◌, ◌^◌, ◌<◌, Bool, true, false, cond, List, [], Option, Some, None, refl, subst, arith}
 use Rattle.std.specs.Option.{option_map_or}
 use Rattle.std.proofs.lemmas.Option.{same_Some}
-use Rattle.identity_slots.specs.Ids.{id_of_slot, next_counter}
+use Rattle.identity_slots.specs.Ids.{id_of_slot, next_counter, slots}
 use Rattle.nas_messages.specs.declared.protection.SecurityHeader.{SecurityHeader}
 use Rattle.s1ap_elements.specs.declared.cause.Cause.{Cause}
 use Rattle.s1ap_messages.specs.declared.pdu.Pdu.{Pdu}
@@ -110,7 +110,7 @@ fit_association_counted h = let r = h.solo in
     record { solo = record { connection = r.connection; context = r.context; tai = r.tai; capability = r.capability; transaction = r.transaction; repeat = r.repeat } }
 
 -- ids of slots are below those of strangers
-pub id_in_range : (slot counter : ℕ) → slot < 2048 → id_of_slot slot (next_counter counter) < 2 ^ 32
+pub id_in_range : (slot counter : ℕ) → slot < slots → id_of_slot slot (next_counter counter) < 2 ^ 32
 id_in_range slot counter low = omega (arith, low)
 
 pub fit_connect : {d : Draft} (s : Setting) (station enb_id : ℕ) → SettingInRange s → enb_id < 2 ^ 24 → IsFit d → IsFit (connect s.slot station enb_id d)

@@ -3,6 +3,7 @@
 use Rattle.std.specs.Prelude.{◌≡◌, ℕ, ◌^◌, ◌<◌, true, List, [], ◌∷◌, slice_get, Option, Some, None}
 use Rattle.bit_streams.specs.Octet.{all_below}
 use Rattle.esm_machine.specs.Sessions.{transaction_of}
+use Rattle.identity_slots.specs.Ids.{slots}
 use Rattle.identity_slots.specs.declared.profile.Vector.{Vector}
 use Rattle.mme_vocabulary.specs.declared.connection.Connection.{Connection}
 use Rattle.mme_vocabulary.specs.declared.event.Entry.{Entry}
@@ -20,12 +21,12 @@ use Rattle.written_messages.specs.Ranges.{ConnectionInRange, IsBrief, KeysInRang
 
 -- ---- what never changes
 
--- of 2048 slots (TS 36.413 clause 9.2.3.3: ids have 32 bits)
+-- of one of the slots (TS 36.413 clause 9.2.3.3: ids have 32 bits)
 pub record SettingInRange (s : Setting) : Type 0 where
   pub network : NetworkInRange s.network
   pub profile : ProfileInRange s.profile
   pub vectors : (place : ℕ) (v : Vector) → slice_get s.vectors place ≡ Some v → VectorInRange v
-  pub slot : s.slot < 2048
+  pub slot : s.slot < slots
 
 -- ---- the state
 

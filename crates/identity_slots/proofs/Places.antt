@@ -7,6 +7,7 @@ use Rattle.std.specs.HashMap.{HashMap, get}
 use Rattle.identity_slots.specs.declared.profile.Profile.{Profile}
 use Rattle.identity_slots.specs.declared.provision.ProvisionFault.{ProvisionFault}
 use Rattle.identity_slots.specs.declared.provision.ProvisionFault.TheVariants.{RepeatedImsi, RepeatedAddress, Full}
+use Rattle.identity_slots.specs.Ids.{slots}
 use Rattle.identity_slots.specs.Provisioned.{imsi_number, address_number, imsi_key, address_key, place_from, slot_of_imsi, slot_of_address, AreDistinct, add_fault}
 use Rattle.identity_slots.specs.Kept.{IsSlotIndex}
 use Rattle.std.proofs.lemmas.List.{length-append}
@@ -37,11 +38,11 @@ fault_imsi p ps a = rw a refl
 pub fault_address : (p : Profile) (ps : List Profile) → is_some (slot_of_imsi p.imsi ps) ≡ false → is_some (slot_of_address p.address ps) ≡ true → add_fault p ps ≡ Some RepeatedAddress
 fault_address p ps a b = rw a (rw b refl)
 
-pub fault_full : (p : Profile) (ps : List Profile) → is_some (slot_of_imsi p.imsi ps) ≡ false → is_some (slot_of_address p.address ps) ≡ false → 2048 ≤ length ps → add_fault p ps ≡ Some Full
-fault_full p ps a b le = let c : nat_le 2048 (length ps) ≡ true = grind (arith, nat_tests) in rw a (rw b (rw c refl))
+pub fault_full : (p : Profile) (ps : List Profile) → is_some (slot_of_imsi p.imsi ps) ≡ false → is_some (slot_of_address p.address ps) ≡ false → slots ≤ length ps → add_fault p ps ≡ Some Full
+fault_full p ps a b le = let c : nat_le slots (length ps) ≡ true = grind (arith, nat_tests) in rw a (rw b (rw c refl))
 
-pub fault_none : (p : Profile) (ps : List Profile) → is_some (slot_of_imsi p.imsi ps) ≡ false → is_some (slot_of_address p.address ps) ≡ false → length ps < 2048 → add_fault p ps ≡ None
-fault_none p ps a b lt = let c : nat_le 2048 (length ps) ≡ false = grind (arith, nat_tests) in rw a (rw b (rw c refl))
+pub fault_none : (p : Profile) (ps : List Profile) → is_some (slot_of_imsi p.imsi ps) ≡ false → is_some (slot_of_address p.address ps) ≡ false → length ps < slots → add_fault p ps ≡ None
+fault_none p ps a b lt = let c : nat_le slots (length ps) ≡ false = grind (arith, nat_tests) in rw a (rw b (rw c refl))
 
 pub refused_by : (T : Type 0) (o : Option ProvisionFault) (fault : ProvisionFault) → o ≡ Some fault → IfSome o (λ f. ◌≡◌ {A = Result T ProvisionFault} (Err fault) (Err f))
 refused_by T o fault e = subst (λ x. IfSome x (λ f. ◌≡◌ {A = Result T ProvisionFault} (Err fault) (Err f))) (sym e) refl

@@ -1,9 +1,13 @@
 -- The ids that are made of a slot and a counter, and those of strangers.
 use Rattle.std.specs.Prelude.{ℕ, ◌+◌, ◌-◌, ◌*◌, ◌/◌, ◌%◌, ◌^◌, Bool, nat_lt}
 
--- how many ids a slot has
+-- how many subscribers there is room for
+abbrev pub slots : ℕ
+slots = 2 ^ 15
+
+-- how many ids a slot has: those of all slots are below 2^31
 abbrev pub counters : ℕ
-counters = 2 ^ 20
+counters = 2 ^ 16
 
 -- the first id of a stranger: ids of slots are below it
 abbrev pub strangers : ℕ

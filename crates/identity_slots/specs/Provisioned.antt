@@ -6,7 +6,7 @@ use Rattle.identity_slots.specs.declared.profile.Profile.{Profile}
 use Rattle.identity_slots.specs.declared.profile.Vector.{Vector}
 use Rattle.identity_slots.specs.declared.provision.ProvisionFault.{ProvisionFault}
 use Rattle.identity_slots.specs.declared.provision.ProvisionFault.TheVariants.{RepeatedImsi, RepeatedAddress, Full}
-use Rattle.identity_slots.specs.Ids.{is_of_slot, slot_in}
+use Rattle.identity_slots.specs.Ids.{is_of_slot, slot_in, slots}
 
 pub record Provisioned : Type 0 where
   pub profiles : List Profile
@@ -49,7 +49,7 @@ AreDistinct key (p ∷ ps) = (place_from key (key p) 0 ps ≡ None) × AreDistin
 abbrev pub add_fault : Profile → List Profile → Option ProvisionFault
 add_fault p ps =
     if is_some (slot_of_imsi p.imsi ps) then Some RepeatedImsi
-    else (if is_some (slot_of_address p.address ps) then Some RepeatedAddress else (if nat_le 2048 (length ps) then Some Full else None))
+    else (if is_some (slot_of_address p.address ps) then Some RepeatedAddress else (if nat_le slots (length ps) then Some Full else None))
 
 abbrev pub with_profile : Profile → Provisioned → Provisioned
 with_profile p s = record { profiles = s.profiles ++ p ∷ []; vectors = s.vectors ++ [] ∷ [] }

@@ -1,15 +1,15 @@
 //! Slots, and the ids that are made of them.
 
 ghost use Rattle.std.specs.Prelude.{◌≡◌, ◌+◌, ◌*◌, ◌<◌, ◌≤◌, ◌^◌, SomeIff};
-ghost use Rattle.identity_slots.specs.Ids.{id_of_slot, is_of_slot, next_counter, number_in, station_in, stranger_id};
+ghost use Rattle.identity_slots.specs.Ids.{counters, id_of_slot, is_of_slot, next_counter, number_in, slots, station_in, stranger_id};
 
 use std::marker::Model;
 
 /// How many slots there are.
-pub(crate) const SLOTS: u32 = 2048;
+pub(crate) const SLOTS: u32 = 1 << 15;
 
-/// How many ids each slot has.
-pub(crate) const COUNTERS: u32 = 0x10_0000;
+/// How many ids each slot has: association ids, and M-TMSIs.
+pub const COUNTERS: u32 = 1 << 16;
 
 /// The first id of a stranger: ids of slots are below it.
 pub(crate) const STRANGERS: u32 = 0x8000_0000;
@@ -17,7 +17,7 @@ pub(crate) const STRANGERS: u32 = 0x8000_0000;
 // How many phones a station has numbers for.
 const ENB_IDS: u32 = 0x100_0000;
 
-/// The number of a subscriber, 0 to 2047, in the order of provisioning.
+/// The number of a subscriber, in the order of provisioning: from 0, and below the number of slots.
 #[derive(Clone, Copy, PartialEq, Eq)]
 pub struct Slot {
     number: u32,
@@ -25,20 +25,21 @@ pub struct Slot {
 
 impl Model for Slot {
     ghost use Rattle.std.specs.Prelude.{ℕ, ◌<◌};
+    ghost use Rattle.identity_slots.specs.Ids.{slots};
 
     ghost Value = { ℕ };
 
     ghost view = { λ s. s.number };
 
-    ghost invariant = { λ s. s.number < 2048 };
+    ghost invariant = { λ s. s.number < slots };
 
     ghost inverse = { λ n. record { number = n } };
 }
 
 impl Slot {
-    /// The slot with a number below 2048.
+    /// The slot with a number, where there are more slots.
     pub fn try_new(number: u32) -> Option<Slot>
-        ensures { SomeIff result (number < 2048) number }
+        ensures { SomeIff result (number < slots) number }
     {
         if number < SLOTS {
             Some(Slot { number })
@@ -50,18 +51,18 @@ impl Slot {
     /// Its number.
     pub fn get(self) -> u32
         ensures value { result ≡ self }
-        ensures small { self < 2048 }
+        ensures small { self < slots }
     {
         self.number
     }
 
-    /// The next id, and the counter that it was made with, modulo 2^20: the slot and the counter in one number.
+    /// The next id, and the counter that it was made with, which goes round: the slot and the counter in one number.
     fn id_after(self, counter: u32) -> (u32, u32)
-        requires { counter < 2 ^ 20 }
+        requires { counter < counters }
         ensures id { result.0 ≡ id_of_slot self (next_counter counter) }
         ensures counter { result.1 ≡ next_counter counter }
-        ensures small { next_counter counter < 2 ^ 20 }
-        ensures slot { self < 2048 }
+        ensures small { next_counter counter < counters }
+        ensures slot { self < slots }
     {
         let next = (counter + 1) % COUNTERS;
         (self.get() * COUNTERS + next, next)
@@ -107,12 +108,12 @@ impl AssociationId {
         self.get() < STRANGERS
     }
 
-    /// The slot's next id after this counter below 2^20, and the next counter.
+    /// The slot's next id after this counter below [`COUNTERS`], and the next counter.
     pub fn after(slot: Slot, counter: u32) -> (AssociationId, u32)
-        requires { counter < 2 ^ 20 }
+        requires { counter < counters }
         ensures id { result.0 ≡ id_of_slot slot (next_counter counter) }
         ensures counter { result.1 ≡ next_counter counter }
-        ensures small { next_counter counter < 2 ^ 20 }
+        ensures small { next_counter counter < counters }
         ensures below_strangers { id_of_slot slot (next_counter counter) < 2 ^ 31 }
     {
         let (id, next) = slot.id_after(counter);
@@ -176,12 +177,12 @@ impl Tmsi {
         self.tmsi
     }
 
-    /// The slot's next M-TMSI after this counter below 2^20, and the next counter.
+    /// The slot's next M-TMSI after this counter below [`COUNTERS`], and the next counter.
     pub fn after(slot: Slot, counter: u32) -> (Tmsi, u32)
-        requires { counter < 2 ^ 20 }
+        requires { counter < counters }
         ensures id { result.0 ≡ id_of_slot slot (next_counter counter) }
         ensures counter { result.1 ≡ next_counter counter }
-        ensures small { next_counter counter < 2 ^ 20 }
+        ensures small { next_counter counter < counters }
         ensures below_strangers { id_of_slot slot (next_counter counter) < 2 ^ 31 }
     {
         let (tmsi, next) = slot.id_after(counter);

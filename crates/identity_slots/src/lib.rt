@@ -8,7 +8,7 @@ mod profile;
 mod provision;
 mod station;
 
-pub use ids::{AssociationId, Slot, Tmsi, number_in, station_in};
+pub use ids::{AssociationId, COUNTERS, Slot, Tmsi, number_in, station_in};
 pub use laws::{imsis_apart, octets_apart};
 pub use profile::{Profile, Vector, Vectors, Xres};
 pub use provision::{Provision, ProvisionFault};

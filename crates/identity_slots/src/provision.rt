@@ -5,6 +5,7 @@ ghost use Rattle.std.specs.Vec.{vec_capacity};
 ghost use Rattle.std.specs.HashMap.{get, spare};
 ghost use Rattle.std.specs.Int.{from_be_bytes, w32, w64};
 ghost use Rattle.nas_elements.specs.Digits.{imsi_octets};
+ghost use Rattle.identity_slots.specs.Ids.{slots};
 ghost use Rattle.identity_slots.specs.declared.provision.ProvisionFault.TheVariants.{Full, NoMemory};
 ghost use Rattle.identity_slots.specs.Provisioned.{Provisioned, imsi_number, address_number, slot_of_imsi, slot_of_address, slot_of_id, add_fault, with_profile, with_vector, without_vectors, vectors_at, AreDistinct, imsi_key, address_key};
 
@@ -26,7 +27,7 @@ pub enum ProvisionFault {
     RepeatedImsi,
     /// A slot has the address.
     RepeatedAddress,
-    /// There are 2048 slots, or the subscriber has 64 vectors.
+    /// Every slot is taken, or the subscriber has 64 vectors.
     Full,
     /// A growth was refused.
     NoMemory,
@@ -104,10 +105,10 @@ impl Provision {
         }
     }
 
-    /// How many slots are provisioned, 2048 at most: those from 0 on. No two have one IMSI or one address.
+    /// How many slots are provisioned: those from 0 on. No two have one IMSI or one address.
     pub fn len(&self) -> usize
         ensures len { result ≡ length self.now.profiles }
-        ensures few { length self.now.profiles ≤ 2048 }
+        ensures few { length self.now.profiles ≤ slots }
         ensures vectors { length self.now.vectors ≡ length self.now.profiles }
         ensures imsis { AreDistinct imsi_key self.now.profiles }
         ensures addresses { AreDistinct address_key self.now.profiles }
@@ -162,7 +163,7 @@ impl Provision {
     }
 
     /// Provisions a subscriber without vectors, on the next slot. RepeatedImsi or RepeatedAddress where a slot has its IMSI or
-    /// its address, Full at 2048 slots, NoMemory where room was refused, in this order; then nothing changed.
+    /// its address, Full where every slot is taken, NoMemory where room was refused, in this order; then nothing changed.
     pub fn add(&mut self, profile: Profile) -> Result<Slot, ProvisionFault>
         ensures refused { IfSome (add_fault profile self.old.profiles) (λ fault. result ≡ Err fault) }
         ensures not_refused { IfNone (add_fault profile self.old.profiles) (IfErr result (λ fault. fault ≡ NoMemory)) }

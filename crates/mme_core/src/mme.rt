@@ -60,6 +60,7 @@ pub struct Mme {
 
 impl Model for Mme {
     ghost use Rattle.std.specs.Prelude.{◌≡◌, ◌≤◌, length};
+    ghost use Rattle.identity_slots.specs.Ids.{slots};
     ghost use Rattle.ordered_lists.specs.Ordered.{Rising};
     ghost use Rattle.stranger_machine.specs.Table.{known_id};
     ghost use Rattle.mme_core.specs.FreshRuns.{AreInUse};
@@ -73,7 +74,7 @@ impl Model for Mme {
       subscribers = m.subscribers.items;
     } };
 
-    ghost invariant = { λ m. (length m.subscribers.items ≤ 2048) × (length m.stations ≡ 128) × Rising known_id m.strangers
+    ghost invariant = { λ m. (length m.subscribers.items ≤ slots) × (length m.stations ≡ 128) × Rising known_id m.strangers
         × AreInUse m.subscribers.items × (length m.subscribers.items ≡ length m.provision.profiles) };
 }
 

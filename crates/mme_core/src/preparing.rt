@@ -1,6 +1,7 @@
 //! What strangers and subscribers do at an event, worked out before any of it is taken.
 
 ghost use Rattle.std.specs.Prelude.{◌≡◌, ◌≤◌, ◌++◌, List, map, length, IfOk, OnOk};
+ghost use Rattle.identity_slots.specs.Ids.{slots};
 ghost use Rattle.mme_vocabulary.specs.declared.stations.StationState.{StationState};
 ghost use Rattle.mme_vocabulary.specs.Events.{item_of};
 ghost use Rattle.stranger_machine.specs.Table.{stranger_at};
@@ -51,7 +52,7 @@ fn prepare_everyone(
     stations: &EnbWorld,
     outs: &mut Outs,
 ) -> Result<Vec<Stepped>, AllocError>
-    requires { length subscribers.now ≤ 2048 }
+    requires { length subscribers.now ≤ slots }
     ensures stepped { IfOk result (λ xs. xs.items ≡ stepped_from (item_of event.now stations.now) 0 subscribers.now) }
     ensures sends { OnOk result (outs.new ≡ outs.old ++ each_sent (for_all (item_of event.now stations.now)) 0 subscribers.now) }
 {
@@ -130,7 +131,7 @@ pub(crate) fn prepare<'a>(
     destination: &Destination<'a>,
     outs: &mut Outs,
 ) -> Result<Prepared, AllocError>
-    requires few { length subscribers.now ≤ 2048 }
+    requires few { length subscribers.now ≤ slots }
     ensures sends { OnOk result (outs.new ≡ outs.old ++ (strangers_sent provision.now.profiles (destination_of stations.now destination.now) strangers.entry.now
         ++ each_sent (item_at (destination_of stations.now destination.now) provision.now.profiles (λ id. stranger_at id strangers.entry.now)) 0 subscribers.now)) }
     ensures strangers { IfOk result (λ p. settled_strangers p strangers.entry.now ≡ strangers_behind provision.now.profiles (destination_of stations.now destination.now) strangers.entry.now) }

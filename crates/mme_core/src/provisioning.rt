@@ -1,6 +1,7 @@
 //! The subscribers of a provisioning.
 
 ghost use Rattle.std.specs.Prelude.{◌≡◌, ◌<◌, ◌≤◌, length, IfOk, OnOk};
+ghost use Rattle.identity_slots.specs.Ids.{slots};
 ghost use Rattle.mme_core.specs.World.{fresh_subscribers};
 
 use emm_machine::Subscriber;
@@ -10,7 +11,7 @@ use std::alloc::{AllocError, Global};
 
 /// The slot of a place.
 pub(crate) fn slot_of(place: usize) -> Slot
-    requires { place < 2048 }
+    requires { place < slots }
     ensures { result ≡ place }
 {
     match Slot::try_new(place as u32) {
@@ -26,7 +27,7 @@ pub(crate) fn fresh_subscribers(
     provision: &mut Provision,
 ) -> Result<Vec<Subscriber>, AllocError>
     ensures value { IfOk result (λ v. v.items ≡ fresh_subscribers network.now 0 provision.old.profiles provision.old.vectors) }
-    ensures few { IfOk result (λ v. length v.items ≤ 2048) }
+    ensures few { IfOk result (λ v. length v.items ≤ slots) }
     ensures count { IfOk result (λ v. length v.items ≡ length provision.old.profiles) }
     ensures profiles { OnOk result (provision.new.profiles ≡ provision.old.profiles) }
 {

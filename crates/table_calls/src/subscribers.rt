@@ -3,7 +3,7 @@
 ghost use Rattle.std.specs.Prelude.{◌<◌, ◌^◌};
 
 use call_text::{Answer, Call, Fault, Field};
-use identity_slots::{AssociationId, Profile, Provision, Slot, Tmsi, Vector, Xres};
+use identity_slots::{AssociationId, COUNTERS, Profile, Provision, Slot, Tmsi, Vector, Xres};
 use nas_elements::Imsi;
 use std::alloc::Global;
 
@@ -47,10 +47,10 @@ pub fn id_answer(call: Call) -> Answer {
     }
 }
 
-/// The next association id or TMSI of a slot, behind a counter of 20 bits.
+/// The next association id or TMSI of a slot, behind a counter.
 fn counted_answer(call: Call) -> Answer {
     let (SlotWord(slot), counter) = call.two()?;
-    if counter > 0xf_ffff {
+    if counter >= COUNTERS {
         return Err(Fault::Number);
     }
     if call.word == "tmsi" {

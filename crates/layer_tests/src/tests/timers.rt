@@ -31,7 +31,7 @@ fn refused_start_and_tick(rt: HostRuntime) -> Result<(), Fail> {
 #[test]
 fn refused_room_and_copy(rt: HostRuntime) -> Result<(), Fail> {
     let mut timers = Timers::new(rt.alloc(), 0);
-    let owner = TimerOwner::Subscriber(2047);
+    let owner = TimerOwner::Subscriber(32767);
     timers.start(owner, Kind::Procedure, 1)?;
     let mut copy = match timers.copy() {
         Ok(copy) => copy,
