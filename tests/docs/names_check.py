@@ -1,5 +1,5 @@
-"""Looks up what documents name and quote: docs/TOUR.md, docs/PROOFS.md, docs/PROMISES.md, docs/DEFINITIONS.md, CONTRIBUTING.md and
-CHANGELOG.md.
+"""Looks up what documents name and quote: docs/TOUR.md, docs/PROOFS.md, docs/PROMISES.md, docs/REFUSALS.md, docs/DEFINITIONS.md,
+CONTRIBUTING.md and CHANGELOG.md.
 
 - A quotation, a fence whose first line has a file behind its language, stands in that file, line by line and in order; a line `..`
   is what was left out, and layout isn't compared. Behind a tool's command line stands what it prints.
@@ -18,7 +18,8 @@ import subprocess
 
 import tables
 
-DOCUMENTS = ("docs/TOUR.md", "docs/PROOFS.md", "docs/PROMISES.md", "docs/DEFINITIONS.md", "CONTRIBUTING.md", "CHANGELOG.md")
+DOCUMENTS = ("docs/TOUR.md", "docs/PROOFS.md", "docs/PROMISES.md", "docs/REFUSALS.md", "docs/DEFINITIONS.md", "CONTRIBUTING.md",
+             "CHANGELOG.md")
 PROMISES = "From promise to clause"
 COMMANDS = ("rt ", "git ")
 CODE = {".rt", ".antt", ".edit"}
