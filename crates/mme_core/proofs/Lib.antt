@@ -14,3 +14,4 @@ pub mod Exchange
 pub mod InUse
 pub mod OneOutput
 pub mod Short
+pub mod Faults

@@ -7,3 +7,4 @@ pub mod FreshRuns
 pub mod GuardedRuns
 pub mod Laws
 pub mod Short
+pub mod Faults

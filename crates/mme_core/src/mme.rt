@@ -14,6 +14,7 @@ ghost use Rattle.mme_routing.specs.Seen.{destination_of, seen_outcome};
 ghost use Rattle.mme_core.specs.Settled.{IsFor, settled_strangers, settled_subscribers};
 ghost use Rattle.mme_core.specs.FreshRuns.{AreInUse, IsFreshRun};
 ghost use Rattle.mme_core.specs.GuardedRuns.{IsGuardedRun};
+ghost use Rattle.mme_core.specs.Faults.{HasEachFault};
 ghost use Rattle.mme_core.specs.Ready.{ready_world};
 ghost use Rattle.mme_core.specs.Short.{AreShort};
 ghost use Rattle.mme_core.specs.World.{clock_after, each_after, each_sent, event_fault, events_taken, fresh_world, happens, replies, replies_given, reply, strangers_in, strangers_sent, world_after, world_run};
@@ -164,11 +165,13 @@ impl Mme {
     }
 
     /// Events in order, each by `step`; room for all replies is made first, and a refused run has taken no event.
+    /// Each event that is refused for another cause than memory has that fault for its reply.
     /// In the replies each station, stranger and slot has what its machine alone sends over its own inputs, whatever else the
     /// list holds, and nothing else is sent; and each is in the state of its machine.
     pub fn run(&mut self, events: &[Event]) -> Result<Vec<Result<Outs, StepFault>>, AllocError>
         ensures count { IfOk result (λ rs. length rs.items ≡ length events.now) }
         ensures replies { IfOk result (λ rs. replies_given rs.items ≡ replies self.old (events_taken events.now rs.items)) }
+        ensures faults { IfOk result (λ rs. HasEachFault self.old events.now rs.items) }
         ensures after { IfOk result (λ rs. self.new ≡ world_run self.old (events_taken events.now rs.items)) }
         ensures told { IfOk result (λ rs. (slot : ℕ) (w : SubscriberView) → slice_get self.old.subscribers slot ≡ Some w →
             told (is_slot slot) (replies_given rs.items) ≡ subscriber_told w (projection slot self.old.sight (strangers_in self.old) (events_taken events.now rs.items))) }

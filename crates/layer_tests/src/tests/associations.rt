@@ -2,6 +2,7 @@
 
 ghost use Rattle.std.specs.Prelude.{◌≡◌, ◌≤◌, OnOk};
 
+use super::must;
 use association_table::{Association, AssociationOwner, Associations, OpenFault};
 use std::test::Fail;
 
@@ -16,34 +17,60 @@ fn phone(id: u32, slot: u32, station: u8, enb_id: u32) -> Association
     }
 }
 
-#[test]
-fn refused_open_and_close(rt: HostRuntime) -> Result<(), Fail> {
-    let mut associations = Associations::new(rt.alloc());
-    let first = phone(1, 0, 127, 9);
-    if let Err(fault) = associations.open(first) {
-        assert_eq!(rt; fault, OpenFault::NoMemory);
-        assert_eq!(rt; associations.find(1), None);
-        associations.open(first)?;
+/// The association that the calls are about.
+fn first() -> Association {
+    phone(1, 0, 127, 9)
+}
+
+fn open_first(associations: &mut Associations) -> Result<(), Fail> {
+    if let Err(fault) = associations.open(first()) {
+        must(fault == OpenFault::NoMemory, "another fault")?;
+        must(associations.find(1).is_none(), "opened, and refused")?;
+        associations.open(first())?;
     }
-    let before = match associations.entries_at(127) {
-        Ok(before) => before,
+    Ok(())
+}
+
+fn list_first(associations: &Associations) -> Result<(), Fail> {
+    let entries = match associations.entries_at(127) {
+        Ok(entries) => entries,
         Err(_) => associations.entries_at(127)?,
     };
-    assert_eq!(rt; before.as_slice(), [first].as_slice());
+    must(entries.as_slice() == [first()].as_slice(), "other entries")
+}
+
+fn copy_first(associations: &Associations) -> Result<(), Fail> {
     let copy = match associations.copy() {
         Ok(copy) => copy,
         Err(_) => associations.copy()?,
     };
-    assert_eq!(rt; copy.find(1), Some(first));
+    must(copy.find(1) == Some(first()), "another copy")
+}
+
+fn close_again(associations: &mut Associations) -> Result<Vec<Association>, Fail> {
+    must(associations.find(1) == Some(first()), "closed, and refused")?;
+    Ok(associations.close_station(127)?)
+}
+
+fn close_first(associations: &mut Associations) -> Result<(), Fail> {
     let closed = match associations.close_station(127) {
         Ok(closed) => closed,
-        Err(_) => {
-            assert_eq!(rt; associations.find(1), Some(first));
-            associations.close_station(127)?
-        }
+        Err(_) => close_again(associations)?,
     };
-    assert_eq!(rt; closed.as_slice(), [first].as_slice());
-    Ok(())
+    must(closed.as_slice() == [first()].as_slice(), "others closed")
+}
+
+fn open_and_close(associations: &mut Associations) -> Result<(), Fail> {
+    open_first(associations)?;
+    list_first(associations)?;
+    copy_first(associations)?;
+    close_first(associations)
+}
+
+#[test]
+fn refused_open_and_close(rt: HostRuntime) -> Result<(), Fail> {
+    let mut associations = Associations::new(rt.alloc());
+    open_and_close(&mut associations)
 }
 
 fn reserve_two(associations: &mut Associations) -> Result<(), Fail>
@@ -55,15 +82,21 @@ fn reserve_two(associations: &mut Associations) -> Result<(), Fail>
     }
 }
 
+fn open_in_room(associations: &mut Associations) -> Result<(), Fail> {
+    reserve_two(associations)?;
+    must(associations.find(1).is_none(), "1 is taken")?;
+    associations.open_reserved(phone(1, 0, 0, 1));
+    must(associations.find(2).is_none(), "2 is taken")?;
+    associations.open_reserved(phone(2, 0, 0, 2));
+    must(associations.close(1), "1 isn't there")?;
+    must(
+        associations.find(2) == Some(phone(2, 0, 0, 2)),
+        "2 isn't there",
+    )
+}
+
 #[test]
 fn room_for_two(rt: HostRuntime) -> Result<(), Fail> {
     let mut associations = Associations::new(rt.alloc());
-    reserve_two(&mut associations)?;
-    assert!(rt; associations.find(1).is_none());
-    associations.open_reserved(phone(1, 0, 0, 1));
-    assert!(rt; associations.find(2).is_none());
-    associations.open_reserved(phone(2, 0, 0, 2));
-    assert!(rt; associations.close(1));
-    assert_eq!(rt; associations.find(2), Some(phone(2, 0, 0, 2)));
-    Ok(())
+    open_in_room(&mut associations)
 }

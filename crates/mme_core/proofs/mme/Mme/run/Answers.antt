@@ -8,10 +8,12 @@ use Rattle.mme_core.specs.World.{World, events_taken, replies, strangers_in, wor
 use Rattle.emm_machine.specs.Freshness.{IsInUse}
 use Rattle.emm_machine.specs.Steps.{solo_after}
 use Rattle.emm_promises.specs.Sound.{IsSound}
+use Rattle.mme_core.specs.Faults.{HasEachFault}
 use Rattle.mme_core.specs.FreshRuns.{AreInUse}
 use Rattle.mme_core.proofs.InUse.{in_use_at}
 use Rattle.mme_core.proofs.Alone.{absent_each, slots_along, slots_end, slots_told, stations_told, strangers_end, strangers_told}
 use Rattle.mme_core.proofs.Order.{run_order}
+use Rattle.mme_core.proofs.Faults.{faults_push}
 use Rattle.mme_core.proofs.Runs.{ran_more}
 use Rattle.mme_core.proofs.Stations.{station_ends}
 use Rattle.mme_core.proofs.mme.Mme.run.Goals as goal
@@ -32,7 +34,15 @@ loop-event-preserved c =
       room = omega (arith, h.room, c.push_reserved.ensures.capacity);
       count = omega (arith, ap length push, length_push rs c.step-reply.result);
       ran = rw (more, push) next;
+      faults = rw (more, push) (faults_push c.args.self.now c.loop-event.self (take i es) rs x c.step-reply.result same h.faults h.ran.state c.step-reply.ensures.fault);
     }
+
+pub returns-clause-faults : goal.returns-clause-faults
+returns-clause-faults c =
+    let l = c.loop-event in
+    let es = c.args.events.now in
+    let all : take l.event-index es ≡ es = take_all l.event-index es (let t = c.loop-event-test.false in omega (arith, t)) in
+    subst (λ xs. HasEachFault c.args.self.now xs l.replies.items) all l.invariant.faults
 
 pub returns-clause-told : goal.returns-clause-told
 returns-clause-told c =
