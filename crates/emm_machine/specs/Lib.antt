@@ -2,6 +2,8 @@ pub mod Steps
 pub mod Still
 pub mod SubscriberView
 pub mod Words
+pub mod Ticks
+pub mod TickLaws
 pub mod Freshness
 pub mod Laws
 -- what the rows do, for those who stand on the machine alone

@@ -1,9 +1,9 @@
 -- What is seen of a state.
 use Rattle.std.specs.Prelude.{ℕ, ◌==◌, Bool, true, false, replicate, Option, Some, None, is_some}
 use Rattle.std.specs.List.{list_any}
-use Rattle.std.specs.Option.{option_map_or}
 use Rattle.esm_machine.specs.Requests.{inactive}
 use Rattle.emm_state.specs.declared.solo.Asked.{Asked}
+use Rattle.emm_state.specs.declared.solo.Countdown.{Countdown}
 use Rattle.emm_state.specs.declared.solo.Phase.{Phase}
 use Rattle.emm_state.specs.declared.solo.Phase.TheVariants as phases
 use Rattle.emm_state.specs.declared.solo.Repeat.{Repeat}
@@ -35,8 +35,9 @@ abbrev pub states_of : Solo → States
 states_of s = record { emm = emm_of s.phase; ecm = ecm_of (is_some s.connection); esm = s.bearer.state }
 
 -- the ticks left of a procedure
-abbrev pub procedure_left : Solo → Option ℕ
-procedure_left s = option_map_or (λ c. Some c.left) s.procedure None
+abbrev pub procedure_left : Option Countdown → Option ℕ
+procedure_left None = None
+procedure_left (Some c) = Some c.left
 
 -- whether the paging to repeat goes to a station
 abbrev pub pages_in : Option Repeat → ℕ → Bool

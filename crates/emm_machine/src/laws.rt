@@ -1,6 +1,7 @@
 //! Laws of whole runs: each is the contract of a function that does nothing.
 
 ghost use Rattle.emm_machine.specs.Freshness.{AcceptsAhead, AcceptsOnce, IsInUse, MakesAhead, MakesOnce, SendsAhead, SendsOnce, StaysInUse};
+ghost use Rattle.emm_machine.specs.Ticks.{IsRunning, StaysRunning};
 ghost use Rattle.emm_machine.specs.Words.{fresh_solo};
 
 use nas_security::accepted_is_fresh;
@@ -41,3 +42,10 @@ pub fn vector_makes_one_context()
 {
     accepted_is_fresh();
 }
+
+/// No countdown of a subscriber who was never seen runs, and over every run each that runs has a tick left, and a procedure what
+/// is sent again behind the last.
+pub fn running_is_kept()
+    ensures fresh { IsRunning fresh_solo }
+    ensures run { StaysRunning }
+{}

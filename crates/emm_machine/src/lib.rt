@@ -6,10 +6,12 @@
 #![tactic(auto)]
 
 mod laws;
+mod passing;
 mod still;
 mod subscriber;
 
 pub use laws::{
-    accepted_counts_are_fresh, in_use_is_kept, sent_counts_are_fresh, vector_makes_one_context,
+    accepted_counts_are_fresh, in_use_is_kept, running_is_kept, sent_counts_are_fresh,
+    vector_makes_one_context,
 };
 pub use subscriber::{EcmState, EmmState, States, Subscriber};

@@ -5,9 +5,11 @@ ghost use Rattle.emm_state.specs.Does.{Does};
 ghost use Rattle.mme_vocabulary.specs.Events.{item_of};
 ghost use Rattle.emm_machine.specs.Steps.{row, solo_step};
 ghost use Rattle.emm_machine.specs.Still.{still};
-ghost use Rattle.emm_machine.specs.Words.{ecm_of, emm_of, fresh_solo, pages_in, procedure_left, states_of};
+ghost use Rattle.emm_machine.specs.Ticks.{AreAbove, countdowns, ticks_after};
+ghost use Rattle.emm_machine.specs.Words.{ecm_of, emm_of, fresh_solo, pages_in, states_of};
 ghost use Rattle.mme_vocabulary.specs.declared.stations.StationState.{StationState};
 
+use crate::passing::age;
 use crate::still::is_still;
 use emm_serving::{
     cancelled, claim, data_waits, displaced, initial, message_of, station_gone, tick,
@@ -226,6 +228,15 @@ impl Subscriber {
         Ok(sent)
     }
 
+    /// As many ticks, each of which ends no countdown and so sends nothing; takes no memory.
+    #[tactic(auto, using(crate::specs::TickLaws::ticks_are_aged))]
+    pub fn pass(&mut self, ticks: u64)
+        requires { AreAbove ticks (countdowns self.old.solo) }
+        ensures { self.new ≡ record self.old { solo = ticks_after self.old.setting ticks self.old.solo } }
+    {
+        age(&mut self.solo, ticks);
+    }
+
     /// The connection: its association, station and number there.
     pub fn connection(&self) -> Option<Connection>
         ensures { result ≡ self.now.solo.connection }
@@ -234,9 +245,9 @@ impl Subscriber {
     }
 
     /// The ticks left of a procedure, and until a phone that is idle is taken to be gone.
+    #[tactic(auto, unfolding(crate::specs::Ticks::countdowns))]
     pub fn countdowns(&self) -> (Option<u32>, Option<u32>)
-        ensures procedure { result.0 ≡ procedure_left self.now.solo }
-        ensures reachable { result.1 ≡ self.now.solo.reachable }
+        ensures { result ≡ countdowns self.now.solo }
     {
         let procedure = match self.solo.procedure {
             Some(countdown) => Some(countdown.left),

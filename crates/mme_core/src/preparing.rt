@@ -166,7 +166,7 @@ pub(crate) fn prepare<'a>(
             Ok(Prepared::Stranger(id, after, called))
         }
         Destination::Everyone(notice) => {
-            send_each(alloc, strangers.as_slice(), notice, outs)?;
+            send_each(alloc, strangers, notice, outs)?;
             let event = event_of(*notice);
             let stepped = prepare_everyone(alloc, subscribers, &event, stations, outs)?;
             Ok(Prepared::Everyone(*notice, stepped))

@@ -6,7 +6,7 @@ ghost use Rattle.mme_core.specs.World.{each_known, owner_out, station_sent};
 use crate::out::{Out, Outs, Owner};
 use mme_vocabulary::{Answers, StationNumber};
 use std::alloc::{AllocError, Global};
-use stranger_machine::{Known, Notice};
+use stranger_machine::{Notice, Strangers};
 
 /// What an owner's machine sends, behind what is sent so far.
 pub(crate) fn send_all(
@@ -45,15 +45,18 @@ pub(crate) fn station_outs(
 /// What each stranger sends at a notice, by id, behind what is sent so far.
 pub(crate) fn send_each(
     alloc: Global,
-    known: &[Known],
+    strangers: &Strangers,
     notice: &Notice,
     outs: &mut Outs,
 ) -> Result<(), AllocError>
-    ensures { OnOk result (outs.new ≡ outs.old ++ each_known notice.now known.now) }
+    ensures { OnOk result (outs.new ≡ outs.old ++ each_known notice.now strangers.now) }
 {
-    for stranger in known {
-        let sent = stranger.sends(alloc, notice)?;
-        send_all(alloc, outs, Owner::Stranger(stranger.id), &sent)?;
+    let mut least = 0;
+    while let Some(known) = strangers.first_from(least) {
+        let id = known.id;
+        let sent = known.stranger.sends(alloc, id, notice)?;
+        send_all(alloc, outs, Owner::Stranger(id), &sent)?;
+        least = u64::from(id.get()) + 1;
     }
     Ok(())
 }

@@ -1,1 +1,3 @@
-pub mod Places
+pub mod Unchanged
+pub mod Kept
+pub mod Notices

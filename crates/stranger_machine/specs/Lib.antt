@@ -3,3 +3,5 @@ pub mod Machine
 pub mod Seen
 pub mod Table
 pub mod Laws
+pub mod Kept
+pub mod Walks

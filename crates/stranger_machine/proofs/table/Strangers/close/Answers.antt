@@ -1,42 +1,33 @@
-use Rattle.std.proofs.Common.{◌≡◌, arith, None, sym, subst, ◌∙◌, ap}
-use Rattle.std.proofs.lemmas.Bool.Decides.{nat_tests}
-use Rattle.ordered_lists.specs.Ordered.{Rising, at, place, without}
-use Rattle.ordered_lists.specs.Laws.{place_le, at_end, at_absent, remove_without, rising-without, without_absent}
+use Rattle.std.proofs.Common.{◌≡◌, sym, ◌∙◌, ap, subst}
+use Rattle.std.specs.Prelude.{option_map, None}
+use Rattle.ordered_lists.specs.Ordered.{at, without}
+use Rattle.ordered_lists.specs.Laws.{without_absent}
+use Rattle.stranger_machine.specs.Kept.{IsTable, known_at, strangers_of, place_id}
 use Rattle.stranger_machine.specs.Table.{known_id}
-use Rattle.stranger_machine.proofs.table.Strangers.close.Goals.{else-at-len-via-then-at-len+else-eq, else-at-len-via-else-at-len}
+use Rattle.stranger_machine.proofs.Kept.{at_known, closed_known, closed_table, there_some}
 use Rattle.stranger_machine.proofs.table.Strangers.close.Goals as goal
 
-pub invariant_of-self : goal.invariant_of-self
-invariant_of-self c =
-    let ks = c.self.inside.known.items in
-    let p = c.place_of-at.ensures ∙ ap (place known_id c.args.id) c.as_slice.ensures.value in
-    let ok = c.self.inside.known.ok in
-    let l = c.len.ensures in
-    let t = c.if-at-len.true in
-    let gone = c.remove.ensures.items ∙ remove_without known_id c.args.id c.place_of-at.result c.index.result.now ks p (omega (arith, p)) c.index.ensures (let e = c.if-eq.ensures in grind (arith, nat_tests)) in
-    subst (Rising known_id) (sym gone) (rising-without known_id c.args.id ks c.self.invariant)
+pub remove-requires : goal.remove-requires
+remove-requires c = there_some c.self.inside.slab c.args.id c.in-Some.place c.self.inside.places.items c.self.invariant (sym c.take_place.ensures.place ∙ c.in-Some.is)
 
-pub returns-then-eq : goal.returns-then-eq
-returns-then-eq c =
-    let ks = c.self.inside.known.items in
-    let p = c.place_of-at.ensures ∙ ap (place known_id c.args.id) c.as_slice.ensures.value in
-    let ok = c.self.inside.known.ok in
-    let l = c.len.ensures in
-    let t = c.if-at-len.true in
-    c.remove.ensures.items ∙ remove_without known_id c.args.id c.place_of-at.result c.index.result.now ks p (omega (arith, p)) c.index.ensures (let e = c.if-eq.ensures in grind (arith, nat_tests))
+pub invariant_of-self : goal.invariant_of-self
+invariant_of-self c = subst (IsTable c.remove.new.slab) (sym c.take_place.ensures.items)
+    (closed_table c.self.inside.slab c.remove.new.slab c.args.id c.in-Some.place c.self.inside.places.items c.self.invariant (sym c.take_place.ensures.place ∙ c.in-Some.is) c.remove.ensures.updates c.remove.ensures.len)
+
+pub returns-in-Some : goal.returns-in-Some
+returns-in-Some c =
+    ap (strangers_of c.remove.new.slab) c.take_place.ensures.items
+    ∙ closed_known c.self.inside.slab c.remove.new.slab c.args.id c.in-Some.place c.self.inside.places.items c.self.invariant.keys (sym c.take_place.ensures.place ∙ c.in-Some.is) c.remove.ensures.updates
     ∙ ap (without known_id c.args.id) c.self.view_is
 
-pub returns-else-at-len : goal.returns-else-at-len
-returns-else-at-len c =
-    let ks = c.self.inside.known.items in
-    let p = c.place_of-at.ensures ∙ ap (place known_id c.args.id) c.as_slice.ensures.value in
-    let le = place_le known_id c.args.id ks in
-    let ok = c.self.inside.known.ok in
-    let l = c.len.ensures in
-    let none : at known_id c.args.id ks ≡ None = elim c.else-at-len.branch [
-      | else-at-len-via-then-at-len+else-eq w ↦
-          let t = w.if-at-len.true in
-          at_absent known_id c.args.id c.place_of-at.result w.index.result.now ks c.self.invariant p (omega (arith, p)) w.index.ensures (let e = w.if-eq.ensures in grind (arith, nat_tests))
-      | else-at-len-via-else-at-len w ↦ let t = w.if-at-len.false in at_end known_id c.args.id ks (omega (arith, p))
-    ] in
-    sym c.self.view_is ∙ sym (without_absent known_id c.args.id ks none) ∙ ap (without known_id c.args.id) c.self.view_is
+pub invariant_of-self-in_default : goal.invariant_of-self-in_default
+invariant_of-self-in_default c =
+    let none : at place_id c.args.id c.self.inside.places.items ≡ None = sym c.take_place.ensures.place ∙ c.in_default.is in
+    subst (IsTable c.self.inside.slab) (sym (c.take_place.ensures.items ∙ without_absent place_id c.args.id c.self.inside.places.items none)) c.self.invariant
+
+pub returns-in_default : goal.returns-in_default
+returns-in_default c =
+    let none : at place_id c.args.id c.self.inside.places.items ≡ None = sym c.take_place.ensures.place ∙ c.in_default.is in
+    ap (strangers_of c.self.inside.slab) (c.take_place.ensures.items ∙ without_absent place_id c.args.id c.self.inside.places.items none)
+    ∙ sym (without_absent known_id c.args.id (strangers_of c.self.inside.slab c.self.inside.places.items) (at_known c.self.inside.slab c.args.id c.self.inside.places.items ∙ ap (option_map (known_at c.self.inside.slab)) none))
+    ∙ ap (without known_id c.args.id) c.self.view_is

@@ -1,16 +1,12 @@
--- What stays where nothing changes, and a notice in two steps.
-use Rattle.std.proofs.Common.{◌≡◌, ℕ, ◌<◌, List, [], ◌∷◌, Bool, true, false, Option, Some, None, map, refl, ◌∙◌, ap, arith}
-use Rattle.std.specs.Prelude.{◌==◌, if◌then◌else◌, cond, filter, is_some, nat_lt, option_map, unwrap_or}
+-- What stays where nothing changes: what is there is put where it is.
+use Rattle.std.proofs.Common.{◌≡◌, ℕ, ◌<◌, List, [], ◌∷◌, Bool, true, false, Option, Some, None, refl, ◌∙◌, ap, arith}
+use Rattle.std.specs.Prelude.{◌==◌, cond, nat_lt, option_map}
 use Rattle.std.proofs.lemmas.Bool.Decides.{nat_tests}
 use Rattle.ordered_lists.specs.Ordered.{Rising, at, put}
 use Rattle.ordered_lists.specs.Laws.{at_over, over_more, without_absent}
 use Rattle.stranger_machine.specs.declared.state.Stranger.{Stranger}
 use Rattle.stranger_machine.specs.declared.table.Known.{Known}
-use Rattle.stranger_machine.specs.declared.turn.Notice.{Notice}
-use Rattle.stranger_machine.specs.Machine.{notes}
-use Rattle.stranger_machine.specs.Table.{known_id, known_if, noted, passed, stays_open, stranger_at, with_stranger}
-
--- ---- what is there is put where it is
+use Rattle.stranger_machine.specs.Table.{known_id, stranger_at, with_stranger}
 
 put_past : (id : ℕ) (s : Stranger) (k : Known) (ks : List Known) (b : Bool) → nat_lt k.id id ≡ b → (k.id == id) ≡ false → Rising known_id (k ∷ ks)
     → stranger_at id ks ≡ Some s → put known_id (record { id = id; stranger = s }) ks ≡ ks
@@ -50,15 +46,3 @@ there_by id (Some s) ks h is = put_there id s ks h is
 
 pub with_there : (id : ℕ) (ks : List Known) → Rising known_id ks → with_stranger id (stranger_at id ks) ks ≡ ks
 with_there id ks h = there_by id (stranger_at id ks) ks h refl
-
--- ---- a notice in two steps
-
-noted_if : (notice : Notice) (k : Known) (x : Option Stranger) (fs ns : List Known) → passed notice k ≡ record { id = k.id; stranger = unwrap_or x k.stranger }
-    → map (passed notice) fs ≡ ns → map (passed notice) (if is_some x then k ∷ fs else fs) ≡ known_if k.id x ns
-noted_if notice k None fs ns is h = h
-noted_if notice k (Some s) fs ns is h = ap (λ y. y ∷ map (passed notice) fs) is ∙ ap (λ ys. record { id = k.id; stranger = s } ∷ ys) h
-
-pub noted_is : (notice : Notice) (ks : List Known) → map (passed notice) (filter (stays_open notice) ks) ≡ noted notice ks
-noted_is notice [] = refl
-noted_is notice (k ∷ ks) =
-    noted_if notice k (notes k.id (Some k.stranger) notice).stranger (filter (stays_open notice) ks) (noted notice ks) refl (noted_is notice ks)

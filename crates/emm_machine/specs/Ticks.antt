@@ -1,0 +1,64 @@
+-- Many ticks at once, and the countdowns that run.
+use Rattle.std.specs.Prelude.{ℕ, zero, suc, ◌-◌, ◌<◌, List, Option, Some, None, IsSome}
+use Rattle.mme_vocabulary.specs.Events.{Item, Tick}
+use Rattle.emm_state.specs.declared.setting.Setting.{Setting}
+use Rattle.emm_state.specs.declared.solo.Countdown.{Countdown}
+use Rattle.emm_state.specs.declared.solo.Repeat.{Repeat}
+use Rattle.emm_state.specs.declared.solo.Solo.{Solo}
+use Rattle.emm_machine.specs.Steps.{solo_after, solo_step}
+use Rattle.emm_machine.specs.Words.{procedure_left}
+
+-- the state after so many ticks
+unfoldable pub ticks_after : Setting → ℕ → Solo → Solo
+ticks_after s zero solo = solo
+ticks_after s (suc n) solo = (solo_step s (ticks_after s n solo) Tick).solo
+
+-- ---- the ticks left
+
+-- of a procedure, and until a phone that is idle is taken to be gone
+unfoldable pub countdowns : Solo → Option ℕ × Option ℕ
+countdowns solo = (procedure_left solo.procedure, solo.reachable)
+
+-- a countdown that runs has more than n ticks left
+abbrev pub IsAbove : ℕ → Option ℕ → Type 0
+IsAbove n None = Unit {0}
+IsAbove n (Some left) = n < left
+
+-- and so has each of the two
+abbrev pub AreAbove : ℕ → Option ℕ × Option ℕ → Type 0
+AreAbove n both = IsAbove n both.0 × IsAbove n both.1
+
+-- n ticks less
+abbrev pub less : ℕ → Option ℕ → Option ℕ
+less n None = None
+less n (Some left) = Some (left - n)
+
+-- n ticks less in each of the two
+abbrev pub both_less : ℕ → Option ℕ × Option ℕ → Option ℕ × Option ℕ
+both_less n both = (less n both.0, less n both.1)
+
+-- ---- ticks that end no countdown
+
+-- n ticks less in a procedure's countdown
+abbrev pub procedure_less : ℕ → Option Countdown → Option Countdown
+procedure_less n None = None
+procedure_less n (Some c) = Some (record c { left = c.left - n })
+
+-- each countdown that runs has n ticks less, and all else is the same
+unfoldable pub solo_aged : ℕ → Solo → Solo
+solo_aged n solo = record solo { procedure = procedure_less n solo.procedure; reachable = less n solo.reachable }
+
+-- ---- countdowns end in time
+
+-- a procedure that is counted has a tick left, and what is sent again behind the last
+abbrev pub IsGoing : Option Countdown → Option Repeat → Type 0
+IsGoing None repeat = Unit {0}
+IsGoing (Some c) repeat = (0 < c.left) × IsSome repeat
+
+-- and the other countdown, where it runs, has a tick left too
+abbrev pub IsRunning : Solo → Type 0
+IsRunning solo = IsGoing solo.procedure solo.repeat × IsAbove 0 solo.reachable
+
+-- what runs stays so over every run
+abbrev pub StaysRunning : Type 0
+StaysRunning = (s : Setting) (solo : Solo) (items : List Item) → IsRunning solo → IsRunning (solo_after s solo items)

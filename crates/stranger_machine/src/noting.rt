@@ -1,0 +1,90 @@
+//! What a stranger does at a notice.
+
+ghost use Rattle.std.specs.Prelude.{◌≡◌, ℕ, IfOk, Some};
+ghost use Rattle.stranger_machine.specs.Machine.{notes};
+ghost use Rattle.stranger_machine.specs.Table.{passed, stays_open};
+
+use crate::entering::IDENTITY_TICKS;
+use crate::sending::{identity_asked, released};
+use crate::state::Stranger;
+use crate::turn::Notice;
+use identity_slots::{AssociationId, station_in};
+use mme_vocabulary::Answers;
+use s1ap_elements::{Cause, NasCause};
+use std::alloc::{AllocError, Global};
+
+impl Stranger {
+    /// What the stranger with this id sends at a notice: at a tick that ends T3470 the request once more, at the last one the
+    /// release.
+    #[tactic(auto, unfolding(crate::specs::Machine::notes, crate::specs::Machine::ticks, crate::specs::Machine::waits, crate::specs::Machine::loses))]
+    pub fn sends(
+        &self,
+        alloc: Global,
+        id: AssociationId,
+        notice: &Notice,
+    ) -> Result<Answers, AllocError>
+        ensures { IfOk result (λ sent. sent ≡ (notes id (Some self.now) notice.now).sent) }
+    {
+        match (*notice, self) {
+            (
+                Notice::Tick,
+                Stranger::Waiting {
+                    kept,
+                    left,
+                    repeats,
+                },
+            ) => {
+                if *left > 1 {
+                    Ok(Answers::new(alloc))
+                } else if *repeats > 0 {
+                    identity_asked(alloc, kept.place(id))
+                } else {
+                    released(alloc, kept.place(id), Cause::Nas(NasCause::Unspecified))
+                }
+            }
+            (Notice::Tick, Stranger::Held(_)) | (Notice::Gone(_), _) => Ok(Answers::new(alloc)),
+        }
+    }
+
+    /// Whether a notice leaves it open.
+    #[tactic(auto, unfolding(crate::specs::Machine::notes, crate::specs::Machine::ticks, crate::specs::Machine::waits, crate::specs::Machine::loses))]
+    pub(crate) fn stays_open(&self, id: AssociationId, notice: &Notice) -> bool
+        ensures { result ≡ stays_open notice.now (record { id = id; stranger = self.now }) }
+    {
+        match (*notice, self) {
+            (
+                Notice::Tick,
+                Stranger::Waiting {
+                    kept: _,
+                    left,
+                    repeats,
+                },
+            ) => *left > 1 || *repeats > 0,
+            (Notice::Tick, Stranger::Held(_)) => true,
+            (Notice::Gone(station), _) => station_in(id) != station.get(),
+        }
+    }
+
+    /// What it is behind a notice that leaves it open.
+    #[tactic(auto, unfolding(crate::specs::Machine::notes, crate::specs::Machine::ticks, crate::specs::Machine::waits, crate::specs::Machine::loses))]
+    pub(crate) fn pass(&mut self, notice: &Notice)
+        ensures { (id : ℕ) → self.new ≡ (passed notice.now (record { id = id; stranger = self.old })).stranger }
+    {
+        if let (
+            Notice::Tick,
+            Stranger::Waiting {
+                kept: _,
+                left,
+                repeats,
+            },
+        ) = (*notice, self)
+        {
+            if *left > 1 {
+                *left -= 1;
+            } else if *repeats > 0 {
+                *left = IDENTITY_TICKS;
+                *repeats -= 1;
+            }
+        }
+    }
+}
