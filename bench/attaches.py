@@ -3,7 +3,7 @@
 
     attaches.py N [--release] [--information] [--no-show] [--answers FILE]
 
-Each of the N subscribers (1 to 2048) has one vector of its own and attaches by IMSI: ATTACH REQUEST, AUTHENTICATION RESPONSE,
+Each of the N subscribers (1 to 32768) has one vector of its own and attaches by IMSI: ATTACH REQUEST, AUTHENTICATION RESPONSE,
 SECURITY MODE COMPLETE, ESM INFORMATION RESPONSE where --information has the phone ask for it, INITIAL CONTEXT SETUP RESPONSE,
 ATTACH COMPLETE. With --release the station then asks for the release and completes it. At the end each is shown. FILE gets
 the answers that the MME owes, by the standards' formats (phones.py, lte.py).
@@ -11,7 +11,10 @@ the answers that the MME owes, by the standards' formats (phones.py, lte.py).
 import argparse
 import sys
 
+import lte
 import phones
+
+MOST = lte.SLOTS
 
 
 def provisioned(count, vectors=1):
@@ -42,7 +45,7 @@ def attached(count, release=False, information=False, show=True):
 
 def main():
     parser = argparse.ArgumentParser(description=__doc__, formatter_class=argparse.RawDescriptionHelpFormatter)
-    parser.add_argument("count", type=int, choices=range(1, 2049), metavar="N")
+    parser.add_argument("count", type=int, choices=range(1, MOST + 1), metavar="N")
     parser.add_argument("--release", action="store_true")
     parser.add_argument("--information", action="store_true")
     parser.add_argument("--no-show", action="store_true")

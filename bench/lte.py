@@ -178,6 +178,16 @@ def bits(*puts):
     return out.done()
 
 
+# --- Ids that the MME gives: a subscriber's, its slot in provisioning above a counter that goes round ---
+
+SLOTS = 1 << 15  # room for subscribers
+IDS_OF_A_SLOT = 1 << 16  # MME UE S1AP IDs of a slot, and M-TMSIs
+
+
+def id_of_slot(slot, counter):
+    return slot * IDS_OF_A_SLOT + counter % IDS_OF_A_SLOT
+
+
 # --- Elements of S1AP (TS 36.413 clause 9.2); each SEQUENCE begins with the extension bit and that of iE-Extensions ---
 
 REJECT, IGNORE = 0, 1

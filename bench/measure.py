@@ -7,9 +7,12 @@
 PROGRAM is the built one of this repository where none is given. `--table` prints, behind the figures one by one, the table of
 bench/README.md. The words: attaches, growth, events, ticks, setups, instructions, scripts. Times are those of the processor, of one thread; the best of
 the rounds counts, and a run's start and provisioning, measured in the same rounds, are taken off. `instructions` counts them
-by valgrind, which no other work on the machine can change. Ends with 1 where an answer is wrong.
+by valgrind, which no other work on the machine can change. Most are taken at 20, 2,048 and 32,768 subscribers. Ends with 1 where
+an answer is wrong.
 """
 import argparse
+import functools
+import hashlib
 import os
 import re
 import subprocess
@@ -21,10 +24,8 @@ import lte
 import phones
 import scripts
 
-COUNTS = (20, 200, 2000)
-MOST = 2048
-# The columns of the table; what is measured at 2,000 and what at 2,048 subscribers stand in one.
-COLUMNS = ("20", "200", "2,000 or 2,048")
+FEW, MANY, MOST = COUNTS = (20, 2048, attaches.MOST)
+COLUMNS = ["{:,}".format(count) for count in COUNTS]  # of the table
 PROGRAM = os.path.join(os.path.dirname(os.path.abspath(__file__)), "..", "crates", "mme", "out", "mme")
 USUAL, OF_TABLE = ("attaches", "growth", "events", "ticks", "setups"), ("instructions", "growth", "events", "scripts")
 
@@ -33,12 +34,11 @@ class Bench:
     def __init__(self, program, rounds):
         self.program, self.rounds, self.wrong = os.path.abspath(program), rounds, 0
         self.folder = tempfile.TemporaryDirectory()
-        self.figures = {}
+        self.figures, self.counted = {}, {}
 
     def figure(self, row, count, value):
         """Keeps a figure for the table: its row, for how many subscribers, and its text."""
-        column = COLUMNS[min(2, [20, 200].index(count) if count < 2000 else 2)]
-        self.figures.setdefault(row, {})[column] = value
+        self.figures.setdefault(row, {})["{:,}".format(count)] = value
 
     def table(self):
         """The figures as the table of bench/README.md, a row for each."""
@@ -77,10 +77,13 @@ class Bench:
         return usage.ru_utime + usage.ru_stime
 
     def instructions(self, text):
-        """How many instructions a run takes."""
-        words = ["valgrind", "--tool=callgrind", "--callgrind-out-file=/dev/null", self.program, "play"]
-        said = subprocess.run(words + [self.kept("counted", text)], capture_output=True, text=True).stderr
-        return int(re.search(r"Collected : (\d+)", said).group(1))
+        """How many instructions a run takes; the same text is run once."""
+        digest = hashlib.sha256(text.encode()).digest()
+        if digest not in self.counted:
+            words = ["valgrind", "--tool=callgrind", "--callgrind-out-file=/dev/null", self.program, "play"]
+            said = subprocess.run(words + [self.kept("counted", text)], capture_output=True, text=True).stderr
+            self.counted[digest] = int(re.search(r"Collected : (\d+)", said).group(1))
+        return self.counted[digest]
 
     def best(self, traces, rounds=None, word="play"):
         """For each trace or script the least time of the rounds; they are run in turn, so that they meet the same machine."""
@@ -89,35 +92,46 @@ class Bench:
         return [min(column) for column in zip(*times)]
 
 
+@functools.lru_cache(None)
+def attached(count, release):
+    """The trace of so many attaches, made once: 32,768 take minutes."""
+    return attaches.attached(count, release, show=False)
+
+
 def before_and_whole(count, more, release=True):
-    """The text of a trace in which so many phones are attached, and with the lines that `more` adds."""
-    trace, station, made = attaches.attached(count, release, show=False)
-    before = trace.text()
+    """The text of a trace in which so many phones are attached, and a trace with the lines that `more` adds."""
+    trace, station, made = attached(count, release)
+    lines, answers, states = trace.lines, trace.answers, [dict(vars(phone)) for phone in made]
+    trace.lines, trace.answers = list(lines), list(answers)
     more(trace, station, made)
-    return before, trace
+    whole = phones.Trace(trace.network)
+    whole.lines, whole.answers = trace.lines, trace.answers
+    trace.lines, trace.answers = lines, answers
+    for phone, state in zip(made, states):
+        phone.__dict__ = state
+    return trace.text(), whole
 
 
 def attaches_per_second(bench):
     for choices in ({}, {"release": True}, {"release": True, "information": True}):
-        bench.checked("2000 attaches, %s" % choices, attaches.attached(2000, **choices)[0])
-    base = attaches.provisioned(2000)[0].text()
-    whole = attaches.attached(2000, show=False)[0].text()
-    least, most = bench.best([base, whole])
-    print("start and provisioning of 2000: %.4f s; the whole: %.4f s" % (least, most))
-    print("attaches: %.0f a second, %.1f us each" % (2000 / (most - least), (most - least) / 2000 * 1e6))
+        bench.checked("%d attaches, %s" % (MANY, choices), attaches.attached(MANY, **choices)[0])
+    base = attaches.provisioned(MANY)[0].text()
+    least, most = bench.best([base, attached(MANY, False)[0].text()])
+    print("start and provisioning of %d: %.4f s; the whole: %.4f s" % (MANY, least, most))
+    print("attaches: %.0f a second, %.1f us each" % (MANY / (most - least), (most - least) / MANY * 1e6))
 
 
 def growth(bench):
     """Time of one attach with so many subscribers, each attached once."""
     each = {}
     for count in COUNTS:
-        base = attaches.provisioned(count)[0].text()
-        whole = attaches.attached(count, show=False)[0].text()
-        least, most = bench.best([base, whole], max(bench.rounds, 6000 // count))
+        base, (trace, _, _) = attaches.provisioned(count)[0].text(), attached(count, False)
+        bench.checked("%d attaches" % count, trace)
+        least, most = bench.best([base, trace.text()], max(bench.rounds, 6000 // count))
         each[count] = (most - least) / count
         bench.figure("an attach, µs", count, "%.1f" % (each[count] * 1e6))
         print("attach among %d subscribers: %.2f us" % (count, each[count] * 1e6))
-    print("2000 beside 20: %.3f, beside 200: %.3f" % (each[2000] / each[20], each[2000] / each[200]))
+    print("%d beside %d: %.3f, beside %d: %.3f" % (MOST, FEW, each[MOST] / each[FEW], MANY, each[MOST] / each[MANY]))
 
 
 EVENTS, COUNTED = 20000, 200
@@ -158,20 +172,20 @@ def events(bench):
     """Time of one event of one subscriber among so many that are attached."""
     for what, release, add in KINDS:
         each = {}
-        for count in (20, 200, MOST):
+        for count in COUNTS:
             before, trace = before_and_whole(count, lambda t, s, made: add(t, s, made[10]), release)
             bench.checked("%s among %d" % (what, count), trace)
             least, most = bench.best([before, trace.text()])
             each[count] = (most - least) / EVENTS
             bench.figure("%s, µs" % what, count, "%.1f" % (each[count] * 1e6))
             print("%s among %d: %.2f us" % (what, count, each[count] * 1e6))
-        print("%s: %d beside 20: %.3f" % (what, MOST, each[MOST] / each[20]))
+        print("%s: %d beside %d: %.3f" % (what, MOST, FEW, each[MOST] / each[FEW]))
     paged(bench)
 
 
 def paged(bench):
     """A data notice for each of so many idle phones, each owed PAGING."""
-    for count in (20, 200, MOST):
+    for count in COUNTS:
         before, trace = before_and_whole(count, lambda t, s, made: [phone.has_data_waiting([s]) for phone in made])
         bench.checked("a page for each of %d" % count, trace)
         least, most = bench.best([before, trace.text()], max(bench.rounds, 2000 // count))
@@ -188,31 +202,32 @@ def instructions(bench):
 
     for count in COUNTS:
         base = bench.instructions(attaches.provisioned(count)[0].text())
-        told("an attach", count, (bench.instructions(attaches.attached(count, show=False)[0].text()) - base) / count)
+        told("an attach", count, (bench.instructions(attached(count, False)[0].text()) - base) / count)
     for what, release, add in KINDS:
-        for count in (20, 200, MOST):
+        for count in COUNTS:
             before, trace = before_and_whole(count, lambda t, s, made: add(t, s, made[10], COUNTED), release)
             told(what, count, (bench.instructions(trace.text()) - bench.instructions(before)) / COUNTED)
-    for count in (20, 200, MOST):
+    for count in COUNTS:
         before, trace = before_and_whole(count, lambda t, s, made: t.say("tick 10"))
         told("a tick over idle phones", count, (bench.instructions(trace.text()) - bench.instructions(before)) / 10)
 
 
 def ticks(bench, most):
-    """Time of so many ticks with 2048 idle subscribers, and with 2048 who were never seen."""
-    for what, (trace, _, made) in (("2048 idle", attaches.attached(MOST, release=True, show=False)),
-                                   ("2048 never seen", attaches.provisioned(MOST))):
-        before = trace.text()
-        for count in (100, 1000, 3000, most):
-            if count <= most:
-                least, whole = bench.best([before, before + "tick %d\n" % count], 1 if count > 1000 else 3)
-                print("%s, tick %d: %.3f s, %.2f us a tick" % (what, count, whole - least, (whole - least) / count * 1e6))
-                sys.stdout.flush()
+    """Time of so many ticks with idle subscribers, and with ones who were never seen; fewer ticks where there are most."""
+    for subscribers, longest in ((MANY, most), (MOST, min(most, 1000))):
+        for what, trace in (("idle", attached(subscribers, True)[0]), ("never seen", attaches.provisioned(subscribers)[0])):
+            before = trace.text()
+            for count in sorted({100, 1000, 3000, longest}):
+                if count <= longest:
+                    least, whole = bench.best([before, before + "tick %d\n" % count], 1 if count > 1000 else 3)
+                    print("%d %s, tick %d: %.3f s, %.2f us a tick" % (
+                        subscribers, what, count, whole - least, (whole - least) / count * 1e6))
+                    sys.stdout.flush()
 
 
 def set_ups(bench):
     """Lines of a second where each is an S1 SETUP REQUEST, with so many subscribers."""
-    for count, lines in ((0, 100000), (2, 100000), (MOST, 2000)):
+    for count, lines in ((0, 100000), (2, 100000), (MANY, 2000), (MOST, 2000)):
         trace, station, _ = attaches.provisioned(count)
         before = trace.text()
         for _ in range(lines):
@@ -231,6 +246,7 @@ def provided(count):
 
 def simulated(bench):
     """Attaches of a second by a script, and the memory of long scripts."""
+    scripts_of = {}
     for count in COUNTS:
         lines, made = provided(count)
         acts = ["attach %s 0 %d" % (phone.imsi, phone.slot) for phone in made]
@@ -238,11 +254,13 @@ def simulated(bench):
         said = subprocess.run([bench.program, "sim", bench.kept("script", whole)], capture_output=True, text=True)
         right = said.returncode == 0 and said.stdout == scripts.owed(whole)
         bench.wrong += not right
+        scripts_of[count] = whole, made
         least, most = bench.best([text, whole], max(bench.rounds, 2000 // count), word="sim")
         bench.figure("attaches of a second by a script", count, "{:,.0f}".format(count / (most - least)))
         print("%d attaches by a script, the output %s: %.0f a second" % (
             count, "as owed" if right else "WRONG", count / (most - least)))
         sys.stdout.flush()
+    whole, made = scripts_of[MANY]
     for turns in (1, 25):
         more = ["%s %s%s" % (word, phone.imsi, place) for _ in range(turns)
                 for phone in made for word, place in (("idle", ""), ("service", " 0 %d" % phone.slot))]

@@ -105,11 +105,11 @@ class Phone:
 
     @property
     def m(self):
-        return self.slot << 20 | self.associations
+        return lte.id_of_slot(self.slot, self.associations)
 
     @property
     def tmsi(self):
-        return self.slot << 20 | self.tmsis
+        return lte.id_of_slot(self.slot, self.tmsis)
 
     def secured(self, header, count, direction, message):
         inside = bytes([count & 0xFF]) + message

@@ -16,6 +16,7 @@ from phones import Network, Vector
 MOST_FURTHER = 64  # events of a script's line or a tick beyond its own
 FOREIGN_GUTI = bytes.fromhex("f602f83900010212345678")
 FIRST_STRANGER = 1 << 31
+LATE = 77  # the counter of an id that no phone of a script comes to
 REACHABLE = 3480
 SERVICE_REJECT_10 = b"\x07\x4e\x0a"
 AWAY, AUTHENTICATING, SECURING, INFORMING = "AWAY", "AUTHENTICATING", "SECURING", "INFORMING"
@@ -111,7 +112,7 @@ class Phone:
 
     def next_id(self):
         self.associations += 1
-        return self.slot << 20 | self.associations
+        return lte.id_of_slot(self.slot, self.associations)
 
 
 class Player:
@@ -240,7 +241,8 @@ class Player:
         """What is answered to the few octets that are known here."""
         if not octets:
             return [Out("e%d" % station.number, station, lte.error_indication(lte.SYNTAX), nothing)]
-        for m, owner in [(2**32 - 1, "x127.16777215")] + [(phone.slot << 20 | 77, phone.owner) for phone in self.phones.values()]:
+        late = [(lte.id_of_slot(phone.slot, LATE), phone.owner) for phone in self.phones.values()]
+        for m, owner in [(2**32 - 1, "x127.16777215")] + late:
             if octets == lte.uplink_nas(self.network, station, m, 1, b"\x07\x60\x61"):
                 return [Out(owner, station, lte.error_indication(lte.UNKNOWN_MME_ID, (m, 1)), nothing)]
         for phone in self.phones.values():
@@ -406,7 +408,7 @@ class Player:
         """ATTACH ACCEPT; its repeats come without the context."""
         phone.phase, phone.tac = ACCEPTING, phone.connection.station.tac
         phone.tmsis += 1
-        tmsi = phone.slot << 20 | phone.tmsis
+        tmsi = lte.id_of_slot(phone.slot, phone.tmsis)
         esm = lte.activate_default_bearer(self.network, 1, phone.address, 1)
         accept = lte.attach_accept(self.network, phone.tac, tmsi, 1, esm)
 
@@ -460,7 +462,7 @@ class Player:
         sent = self.begins(phone, station, b) if station else []
         phone.phase, phone.tac, from_idle = UPDATING, phone.connection.station.tac, station is not None
         phone.tmsis += 1
-        tmsi = phone.slot << 20 | phone.tmsis
+        tmsi = lte.id_of_slot(phone.slot, phone.tmsis)
         accept = lte.tau_accept(self.network, phone.tac, tmsi, 0)
 
         def answer():

@@ -22,7 +22,7 @@ LONGEST_TICK = 1000000
 # which can follow on a procedure of under a minute; so nothing is sent after so many ticks without another event.
 TICKS_WITH_ANSWERS = 3480 + 60
 FIRST_STRANGER = 1 << 31  # MME UE S1AP IDs from here on are strangers'
-SLOT_BITS = 20  # an id and an M-TMSI are a slot and so many bits of a counter behind it
+SLOT_BITS = 16  # an id and an M-TMSI are a slot and so many bits of a counter behind it
 
 PROVISIONING = {"mme": 7, "sub": 4, "vec": 5}  # the words of a line, with how many fields follow
 EVENTS = {"up": 1, "lost": 1, "in": 2, "tick": 1, "data": 1, "cancel": 1, "show": 1}

@@ -60,7 +60,7 @@ def arrives(scene, nas, b=ELSEWHERE, tmsi=None):
     """A first message at a station, which would make the slot's next association."""
     phone = scene.phone
     scene.trace.hear(scene.home, initial(scene.trace.network, scene.home, b, nas, tmsi))
-    return Arrival(phone.slot << 20 | phone.associations + 1, b, scene.home)
+    return Arrival(lte.id_of_slot(phone.slot, phone.associations + 1), b, scene.home)
 
 
 def attach_nas(phone, identity=None, capability=b"\xe0\x60", esm=None):

@@ -24,7 +24,7 @@ def setup_with(network, station, *more, without=0):
 UNKNOWN_ELEMENT = 999, b"\0"
 RESET_PART = lte.s1ap(lte.INITIATING, 14, lte.REJECT, (lte.IGNORE, lte.cause((lte.RADIO, 0))),
                       (lte.REJECT, (92, bytes.fromhex("4000005b00022001"))))
-UNKNOWN_SLOT = 9 << 20 | 1
+UNKNOWN_SLOT = lte.id_of_slot(9, 1)
 IDS_IGNORED = both(1, 1, lte.IGNORE)
 WHY = lte.IGNORE, lte.cause((lte.RADIO, 0))
 SUBSCRIBER = phones.Phone(phones.Trace(), 0)

@@ -39,7 +39,7 @@ def event(name, states=STATES):
 # --- INITIAL UE MESSAGEs that name nobody, and one that names a phone ---
 
 
-OWN_TMSI, NOBODYS_TMSI = 1, 5 << 20 | 1  # of the subscriber's slot, and of one that isn't provisioned
+OWN_TMSI, NOBODYS_TMSI = lte.id_of_slot(0, 1), lte.id_of_slot(5, 1)  # of the subscriber's slot, and of one that isn't provisioned
 
 
 def unknown_guti(scene):

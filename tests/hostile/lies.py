@@ -4,7 +4,7 @@ import dataclasses
 import standards
 from handsets import FOREIGN_GUTI, UNSPECIFIED, Said
 from laboratory import LATER_CAUSE, NETWORK, RADIO_IDS, STATIONS, SUBSCRIBERS, Laboratory
-from projection import FIRST_STRANGER, SLOT_IDS, stranger
+from projection import FIRST_STRANGER, stranger
 from standards import IGNORE, INITIATING, REJECT, lte
 
 
@@ -74,8 +74,8 @@ class Liar(Laboratory):
         known = [phone.m for phone in self.phones if phone.m is not None]
         return rng.choice((
             rng.choice(known or [0]), rng.choice(known or [0]), max(0, (rng.choice(known or [1]) + rng.choice((-1, 1)))) % 2**32,
-            slot << SLOT_IDS | rng.randrange(8), stranger(rng.choice(STATIONS).number, rng.choice(RADIO_IDS)),
-            (SUBSCRIBERS + rng.randrange(3)) << SLOT_IDS | rng.randrange(4), FIRST_STRANGER - 1, 2**32 - 1, rng.getrandbits(32)))
+            lte.id_of_slot(slot, rng.randrange(8)), stranger(rng.choice(STATIONS).number, rng.choice(RADIO_IDS)),
+            lte.id_of_slot(SUBSCRIBERS + rng.randrange(3), rng.randrange(4)), FIRST_STRANGER - 1, 2**32 - 1, rng.getrandbits(32)))
 
     def some_nas(self):
         """NAS of some phone, as anybody could send it."""

@@ -5,11 +5,12 @@ nothing is lost but a little of the comparison.
 """
 import collections
 
+from standards import lte
+
 INITIATING = 0
 PATH_SWITCH, INITIAL_UE, RESET, SETUP = 3, 12, 14, 17
 MME_ID, ENB_ID, NAS_PDU, SOURCE_ID, S_TMSI = 0, 8, 26, 88, 96
 FIRST_STRANGER = 1 << 31
-SLOT_IDS = 20  # an id of a slot has the slot above so many bits
 EMM, PLAIN, SERVICE_REQUEST = 7, 0x07, 0xC7
 PROTECTED = 6  # octets before the message in a protected one
 # S1 SETUP RESPONSE and FAILURE, and RESET ACKNOWLEDGE without a list: what a station is sent where its strangers end.
@@ -70,7 +71,7 @@ class Names:
         self.slots = {imsi: slot for slot, imsi in enumerate(imsis)}
 
     def provisioned(self, number_of_slot):
-        slot = number_of_slot >> SLOT_IDS
+        slot = number_of_slot // lte.IDS_OF_A_SLOT
         return slot if slot < len(self.slots) else None
 
     def by_nas(self, nas, elements):

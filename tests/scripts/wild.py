@@ -23,7 +23,8 @@ def raw(chance, player):
     """A station sends nothing, or uplink NAS with an id that nobody has, or on another number than the phone's."""
     station = player.stations[chance.randrange(2)]
     phone = player.phones[chance.choice(PHONES)]
-    m, b = chance.choice(((2**32 - 1, 1), (phone.slot << 20 | 77, 1), (phone.connection and phone.connection.m, 9), (None, None)))
+    late = rows.lte.id_of_slot(phone.slot, rows.scripts.LATE)
+    m, b = chance.choice(((2**32 - 1, 1), (late, 1), (phone.connection and phone.connection.m, 9), (None, None)))
     octets = b"" if m is None else rows.lte.uplink_nas(player.network, station, m, b, b"\x07\x60\x61")
     return "raw %d %s" % (station.number, octets.hex() or "-")
 
