@@ -1,5 +1,5 @@
 -- Each action and each row leaves running what runs, and so does the step.
-use Rattle.std.proofs.Common.{◌≡◌, ℕ, ◌-◌, ◌<◌, ◌==◌, ◌^◌, Bool, true, false, cond, not, List, [], ◌∷◌, Option, Some, None, IsSome, Result, Ok, Err, unwrap_or, slice_get, nat_lt, is_some, if◌then◌else◌, refl, sym, subst, ap, ◌∙◌, true≢false, arith}
+use Rattle.std.proofs.Common.{◌≡◌, ℕ, ◌-◌, ◌<◌, ◌≤◌, ◌==◌, ◌^◌, Bool, true, false, cond, not, List, [], ◌∷◌, Option, Some, None, IsSome, Result, Ok, Err, unwrap_or, slice_get, nat_lt, is_some, if◌then◌else◌, refl, sym, subst, ap, ◌∙◌, true≢false, arith}
 use Rattle.std.specs.Option.{option_map_or}
 use Rattle.std.proofs.lemmas.Bool.Decides.{nat_tests}
 use Rattle.std.proofs.lemmas.Option.{same_Some}
@@ -41,13 +41,13 @@ use Rattle.emm_state.specs.declared.solo.Repeat.TheVariants as repeats
 use Rattle.emm_state.specs.declared.solo.Solo.{Solo}
 use Rattle.emm_state.specs.Actions.{association_counted, emit, ended, fall, fallen, is_registered, lost, protect, refuse, release, resting, seal, sealed_under, send, set_up, set_up_with, start, turn_away, wipe}
 use Rattle.emm_state.specs.Does.{◌>>=◌}
-use Rattle.emm_state.specs.Timers.{ticks_of}
+use Rattle.emm_state.specs.Timers.{reachable_ticks, ticks_of}
 use Rattle.emm_attaching.specs.Attaching as attaching
 use Rattle.emm_serving.specs.Connected as connected
 use Rattle.emm_serving.specs.Idle as idle
 use Rattle.emm_serving.specs.Serving as serving
 use Rattle.emm_machine.specs.Steps as steps
-use Rattle.emm_machine.specs.Ticks.{IsAbove, IsGoing, IsRunning, StaysRunning}
+use Rattle.emm_machine.specs.Ticks.{IsGoing, IsRunning, IsTimed, StaysRunning}
 
 -- of a step under way something is said of its countdowns and of what is sent again
 record Holds (P : Option Countdown → Option Repeat → Option ℕ → Type 0) (d : Draft) : Type 0 where
@@ -57,11 +57,16 @@ record Holds (P : Option Countdown → Option Repeat → Option ℕ → Type 0) 
 record Whenever {A : Type 0} (Q : A → Type 0) (o : Option A) : Type 0 where
   pub at : (x : A) → o ≡ Some x → Q x
 
+-- it has no more ticks left than the longest timer has, and maybe none
+abbrev IsShort : Option ℕ → Type 0
+IsShort None = Unit {0}
+IsShort (Some left) = left ≤ reachable_ticks
+
 abbrev Going : Option Countdown → Option Repeat → Option ℕ → Type 0
-Going procedure repeat reachable = IsGoing procedure repeat
+Going procedure repeat reachable = IsGoing procedure repeat × IsShort reachable
 
 abbrev Running : Option Countdown → Option Repeat → Option ℕ → Type 0
-Running procedure repeat reachable = IsGoing procedure repeat × IsAbove 0 reachable
+Running procedure repeat reachable = IsGoing procedure repeat × IsTimed reachable
 
 abbrev Runs : Draft → Type 0
 Runs = Holds Running
@@ -155,7 +160,7 @@ runs_wipe d = record { holds = (tt, tt) }
 
 runs_fallen : (d : Draft) → Runs (fallen d)
 unfolding resting ended
-runs_fallen d = either Runs (is_registered d.solo.phase) (record { holds = (tt, omega arith) }) (runs_wipe d)
+runs_fallen d = either Runs (is_registered d.solo.phase) (record { holds = (tt, (omega arith, omega arith)) }) (runs_wipe d)
 
 runs_fall : (cause : Cause) (d : Draft) → Runs (fall cause d)
 unfolding fall
@@ -165,12 +170,12 @@ runs_lost : (d : Draft) → Runs (lost d)
 unfolding lost
 runs_lost d = runs_fallen _
 
-has_ticks : (timer : NasTimer) → 0 < ticks_of timer
-has_ticks T3413 = omega arith
-has_ticks T3422 = omega arith
-has_ticks T3450 = omega arith
-has_ticks T3460 = omega arith
-has_ticks T3489 = omega arith
+has_ticks : (timer : NasTimer) → IsTimed (Some (ticks_of timer))
+has_ticks T3413 = (omega arith, omega arith)
+has_ticks T3422 = (omega arith, omega arith)
+has_ticks T3450 = (omega arith, omega arith)
+has_ticks T3460 = (omega arith, omega arith)
+has_ticks T3489 = (omega arith, omega arith)
 
 runs_start : {d : Draft} (timer : NasTimer) (repeat : Repeat) → Runs d → Runs (start timer repeat d)
 unfolding start
@@ -415,50 +420,58 @@ runs_data_waits : {d : Draft} (s : Setting) (stations : List StationState) → R
 unfolding idle.data_waits idle.paged
 runs_data_waits s stations h = either Runs _ (runs_start _ _ (kept_page s _ h)) h
 
-going_of : {d : Draft} → Runs d → Holds Going d
-going_of h = record { holds = h.holds.0 }
+short_timed : (reachable : Option ℕ) → IsTimed reachable → IsShort reachable
+short_timed None h = tt
+short_timed (Some left) h = h.1
 
-going_given_up : (timer : NasTimer) (d : Draft) → Holds Going (idle.given_up timer d)
+going_of : {d : Draft} → Runs d → Holds Going d
+going_of {d} h = record { holds = (h.holds.0, short_timed d.solo.reachable h.holds.1) }
+
+going_given_up : (timer : NasTimer) (d : Draft) → IsShort d.solo.reachable → Holds Going (idle.given_up timer d)
 unfolding idle.given_up ended
-going_given_up T3413 d = record { holds = tt }
-going_given_up T3422 d = going_of (runs_fall _ d)
-going_given_up T3450 d = going_of (runs_fall _ d)
-going_given_up T3460 d = going_of (runs_fall _ d)
-going_given_up T3489 d = going_of (runs_fall _ d)
+going_given_up T3413 d short = record { holds = (tt, short) }
+going_given_up T3422 d short = going_of (runs_fall _ d)
+going_given_up T3450 d short = going_of (runs_fall _ d)
+going_given_up T3460 d short = going_of (runs_fall _ d)
+going_given_up T3489 d short = going_of (runs_fall _ d)
 
 -- a procedure's countdown has ended, and what is sent again is there
-going_expired : (c : Countdown) (s : Setting) (d : Draft) → IsSome d.solo.repeat → Whenever (Holds Going) (idle.expired c s d)
+going_expired : (c : Countdown) (s : Setting) (d : Draft) → IsSome d.solo.repeat → IsShort d.solo.reachable → Whenever (Holds Going) (idle.expired c s d)
 unfolding idle.expired idle.restarted
-going_expired c s d there =
-    either (Whenever (Holds Going)) _ (some (going_given_up c.timer d)) (at_some_is (Whenever (Holds Going)) d.solo.repeat
-    (λ r is. kept_again r s (record { holds = (has_ticks c.timer, there) })) (λ none. absurd (true≢false (sym there ∙ ap (λ (o : Option Repeat). is_some o) none))))
+going_expired c s d there short =
+    either (Whenever (Holds Going)) _ (some (going_given_up c.timer d short)) (at_some_is (Whenever (Holds Going)) d.solo.repeat
+    (λ r is. kept_again r s (record { holds = ((has_ticks c.timer, there), short) })) (λ none. absurd (true≢false (sym there ∙ ap (λ (o : Option Repeat). is_some o) none))))
 
 -- it may have no tick left
 abbrev IsKept : Option Countdown → Option Repeat → Type 0
 IsKept None repeat = Unit {0}
-IsKept (Some c) repeat = IsSome repeat
+IsKept (Some c) repeat = IsShort (Some c.left) × IsSome repeat
 
 kept_lowered : (procedure : Option Countdown) (repeat : Option Repeat) → IsGoing procedure repeat → IsKept (option_map_or (λ c. Some (idle.lower c)) procedure None) repeat
 kept_lowered None repeat h = tt
-kept_lowered (Some c) repeat h = h.1
+kept_lowered (Some c) repeat h = let most = h.0.1 in (omega arith, h.1)
 
 above_zero : (n : ℕ) → (n == 0) ≡ false → 0 < n
 above_zero n e = grind (arith, nat_tests)
 
-going_ticks : (s : Setting) (d : Draft) (procedure : Option Countdown) → d.solo.procedure ≡ procedure → IsKept procedure d.solo.repeat
+short_lowered : (reachable : Option ℕ) → IsTimed reachable → IsShort (option_map_or (λ n. Some (n - 1)) reachable None)
+short_lowered None h = tt
+short_lowered (Some n) h = let most = h.1 in omega arith
+
+going_ticks : (s : Setting) (d : Draft) (procedure : Option Countdown) → d.solo.procedure ≡ procedure → IsKept procedure d.solo.repeat → IsShort d.solo.reachable
     → Whenever (Holds Going) (option_map_or (λ c. if c.left == 0 then idle.expired c s d else Some d) procedure (Some d))
-going_ticks s d None is h = some (record { holds = rw is tt })
-going_ticks s d (Some c) is h =
-    either_by (Whenever (Holds Going)) (c.left == 0) (λ zero. going_expired c s d h) (λ more. some (record { holds = rw is (above_zero c.left more, h) }))
+going_ticks s d None is h short = some (record { holds = (rw is tt, short) })
+going_ticks s d (Some c) is h short =
+    either_by (Whenever (Holds Going)) (c.left == 0) (λ zero. going_expired c s d h.1 short) (λ more. some (record { holds = (rw is ((above_zero c.left more, h.0), h.1), short) }))
 
 runs_ticks_out : (d : Draft) (reachable : Option ℕ) → d.solo.reachable ≡ reachable → Holds Going d → Runs (option_map_or (λ n. if n == 0 then wipe d else d) reachable d)
-runs_ticks_out d None is h = record { holds = (h.holds, rw is tt) }
-runs_ticks_out d (Some n) is h = either_by Runs (n == 0) (λ zero. runs_wipe d) (λ more. record { holds = (h.holds, rw is (above_zero n more)) })
+runs_ticks_out d None is h = record { holds = (h.holds.0, rw is tt) }
+runs_ticks_out d (Some n) is h = either_by Runs (n == 0) (λ zero. runs_wipe d) (λ more. record { holds = (h.holds.0, rw is (above_zero n more, subst IsShort is h.holds.1)) })
 
 runs_tick : {d : Draft} (s : Setting) → Runs d → Whenever Runs (idle.tick s d)
 unfolding idle.tick idle.lowered idle.procedure_ticks idle.reachable_ticks_out
 runs_tick {d} s h =
-    followed (going_ticks s (idle.lowered d) (idle.lowered d).solo.procedure refl (kept_lowered d.solo.procedure d.solo.repeat h.holds.0))
+    followed (going_ticks s (idle.lowered d) (idle.lowered d).solo.procedure refl (kept_lowered d.solo.procedure d.solo.repeat h.holds.0) (short_lowered d.solo.reachable h.holds.1))
     (λ e g. runs_ticks_out e e.solo.reachable refl g)
 
 runs_detach_phone : {d : Draft} → Runs d → Whenever Runs (idle.detach_phone d)

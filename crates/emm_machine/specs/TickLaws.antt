@@ -9,7 +9,7 @@ use Rattle.emm_state.specs.declared.solo.Solo.{Solo}
 use Rattle.emm_state.specs.Actions.{untouched}
 use Rattle.emm_serving.specs.Idle.{lowered, procedure_ticks, reachable_ticks_out, tick}
 use Rattle.emm_machine.specs.Steps.{row, solo_step}
-use Rattle.emm_machine.specs.Ticks.{AreAbove, IsAbove, IsGoing, IsRunning, both_less, countdowns, less, procedure_less, solo_aged, ticks_after}
+use Rattle.emm_machine.specs.Ticks.{AreAbove, AreTimed, IsAbove, IsGoing, IsRunning, IsTimed, both_less, countdowns, less, procedure_less, solo_aged, ticks_after}
 use Rattle.emm_machine.specs.Words.{procedure_left}
 
 abbrev counting : Option Countdown → Option ℕ → Solo → Solo
@@ -110,27 +110,35 @@ above_later s n solo h later =
 
 -- ---- countdowns that run
 
-going_above : (procedure : Option Countdown) (repeat : Option Repeat) → IsGoing procedure repeat → IsAbove 0 (procedure_left procedure)
-going_above None repeat h = tt
-going_above (Some c) repeat h = h.0
+going_timed : (procedure : Option Countdown) (repeat : Option Repeat) → IsGoing procedure repeat → IsTimed (procedure_left procedure)
+going_timed None repeat h = tt
+going_timed (Some c) repeat h = h.0
 
--- what runs has a tick left
-pub running_above : (solo : Solo) → IsRunning solo → AreAbove 0 (countdowns solo)
+-- what runs is timed
+pub running_timed : (solo : Solo) → IsRunning solo → AreTimed (countdowns solo)
 unfolding countdowns
-running_above solo h = (going_above solo.procedure solo.repeat h.0, h.1)
+running_timed solo h = (going_timed solo.procedure solo.repeat h.0, h.1)
+
+timed_above : (o : Option ℕ) → IsTimed o → IsAbove 0 o
+timed_above None h = tt
+timed_above (Some left) h = h.0
+
+-- and has a tick left
+pub running_above : (solo : Solo) → IsRunning solo → AreAbove 0 (countdowns solo)
+running_above solo h = let both = running_timed solo h in (timed_above (countdowns solo).0 both.0, timed_above (countdowns solo).1 both.1)
 
 going_less : (n : ℕ) (procedure : Option Countdown) (repeat : Option Repeat) → IsAbove n (procedure_left procedure) → IsGoing procedure repeat
     → IsGoing (procedure_less n procedure) repeat
 going_less n None repeat above h = tt
-going_less n (Some c) repeat above h = (omega arith, h.1)
+going_less n (Some c) repeat above h = let most = h.0.1 in ((omega arith, omega arith), h.1)
 
-some_left : (n : ℕ) (o : Option ℕ) → IsAbove n o → IsAbove 0 (less n o)
-some_left n None above = tt
-some_left n (Some k) above = omega arith
+timed_less : (n : ℕ) (o : Option ℕ) → IsAbove n o → IsTimed o → IsTimed (less n o)
+timed_less n None above h = tt
+timed_less n (Some left) above h = let most = h.1 in (omega arith, omega arith)
 
 -- where each countdown has more than n ticks left, it runs on behind n ticks
 pub running_later : (s : Setting) (n : ℕ) (solo : Solo) → AreAbove n (countdowns solo) → IsRunning solo → IsRunning (ticks_after s n solo)
 unfolding countdowns solo_aged
 running_later s n solo above h =
-    let aged : IsRunning (solo_aged n solo) = (going_less n solo.procedure solo.repeat above.0 h.0, some_left n solo.reachable above.1) in
+    let aged : IsRunning (solo_aged n solo) = (going_less n solo.procedure solo.repeat above.0 h.0, timed_less n solo.reachable above.1 h.1) in
     subst IsRunning (sym (ticks_are_aged s n solo above)) aged

@@ -1,10 +1,11 @@
 -- Many ticks at once, and the countdowns that run.
-use Rattle.std.specs.Prelude.{ℕ, zero, suc, ◌-◌, ◌<◌, List, Option, Some, None, IsSome}
+use Rattle.std.specs.Prelude.{ℕ, zero, suc, ◌-◌, ◌<◌, ◌≤◌, List, Option, Some, None, IsSome}
 use Rattle.mme_vocabulary.specs.Events.{Item, Tick}
 use Rattle.emm_state.specs.declared.setting.Setting.{Setting}
 use Rattle.emm_state.specs.declared.solo.Countdown.{Countdown}
 use Rattle.emm_state.specs.declared.solo.Repeat.{Repeat}
 use Rattle.emm_state.specs.declared.solo.Solo.{Solo}
+use Rattle.emm_state.specs.Timers.{reachable_ticks}
 use Rattle.emm_machine.specs.Steps.{solo_after, solo_step}
 use Rattle.emm_machine.specs.Words.{procedure_left}
 
@@ -50,14 +51,23 @@ solo_aged n solo = record solo { procedure = procedure_less n solo.procedure; re
 
 -- ---- countdowns end in time
 
--- a procedure that is counted has a tick left, and what is sent again behind the last
+-- a countdown that runs has a tick left, and no more than the longest timer has
+abbrev pub IsTimed : Option ℕ → Type 0
+IsTimed None = Unit {0}
+IsTimed (Some left) = (0 < left) × (left ≤ reachable_ticks)
+
+-- and so has each of two
+abbrev pub AreTimed : Option ℕ × Option ℕ → Type 0
+AreTimed both = IsTimed both.0 × IsTimed both.1
+
+-- a procedure that is counted is timed, and has what is sent again behind its last tick
 abbrev pub IsGoing : Option Countdown → Option Repeat → Type 0
 IsGoing None repeat = Unit {0}
-IsGoing (Some c) repeat = (0 < c.left) × IsSome repeat
+IsGoing (Some c) repeat = IsTimed (Some c.left) × IsSome repeat
 
--- and the other countdown, where it runs, has a tick left too
+-- and the other countdown, where it runs, is timed too
 abbrev pub IsRunning : Solo → Type 0
-IsRunning solo = IsGoing solo.procedure solo.repeat × IsAbove 0 solo.reachable
+IsRunning solo = IsGoing solo.procedure solo.repeat × IsTimed solo.reachable
 
 -- what runs stays so over every run
 abbrev pub StaysRunning : Type 0

@@ -43,8 +43,8 @@ pub fn vector_makes_one_context()
     accepted_is_fresh();
 }
 
-/// No countdown of a subscriber who was never seen runs, and over every run each that runs has a tick left, and a procedure what
-/// is sent again behind the last.
+/// No countdown of a subscriber who was never seen runs, and over every run each that runs has from 1 to 3480 ticks left, and a
+/// procedure what is sent again behind the last.
 pub fn running_is_kept()
     ensures fresh { IsRunning fresh_solo }
     ensures run { StaysRunning }
