@@ -10,20 +10,23 @@ use Rattle.stranger_machine.specs.declared.turn.Notice.{Notice}
 use Rattle.stranger_machine.specs.Machine.{notes}
 use Rattle.stranger_machine.specs.Table.{with_stranger}
 
+-- by which the list stands in order, and where the slab has the stranger
 abbrev pub place_id : StrangerPlace → ℕ
 place_id p = p.id
 
 abbrev pub place_key : StrangerPlace → ℕ
 place_key p = p.key
 
+-- a key that has nobody stands for a blank; no place of a table leads to one
 abbrev pub or_blank : Option Stranger → Stranger
 or_blank None = Held 0
 or_blank (Some s) = s
 
--- the stranger at a place
+-- the stranger that a place leads to, by its id
 abbrev pub known_at : Slab Stranger → StrangerPlace → Known
 known_at s p = record { id = p.id; stranger = or_blank (get s p.key) }
 
+-- the strangers, as the list leads to them
 abbrev pub strangers_of : Slab Stranger → List StrangerPlace → List Known
 strangers_of s ps = map (known_at s) ps
 

@@ -31,7 +31,7 @@ noted notice (k ∷ ks) = known_if k.id (notes k.id (Some k.stranger) notice).st
 abbrev pub with_input : List Profile → ℕ → Input → List Known → List Known
 with_input ps id input ks = with_stranger id (stranger_step ps id (stranger_at id ks) input).stranger ks
 
--- ---- a notice in two steps: who is closed goes, then each that is left takes it
+-- ---- a notice to one: who is closed by it goes, who is left takes it
 
 abbrev pub stays_open : Notice → Known → Bool
 stays_open notice k = is_some (notes k.id (Some k.stranger) notice).stranger
