@@ -27,6 +27,9 @@ def best(kept, new):
 
 
 def main():
+    if len(sys.argv) != 4:
+        print(__doc__.strip())
+        sys.exit(0 if sys.argv[1:] in (["--help"], ["-h"]) else 2)
     runs, program, other = int(sys.argv[1]), sys.argv[2], sys.argv[3]
     ours, theirs = {}, {}
     for _ in range(runs):

@@ -273,10 +273,12 @@ def main():
     parser = argparse.ArgumentParser(description=__doc__, formatter_class=argparse.RawDescriptionHelpFormatter)
     parser.add_argument("program", nargs="?", default=PROGRAM)
     parser.add_argument("--table", action="store_true", help="at the end print the table of bench/README.md; measures what it has")
-    parser.add_argument("--only", nargs="*")
+    parser.add_argument("--only", nargs="*", choices=[*USUAL, "instructions", "scripts"])
     parser.add_argument("--rounds", type=int, default=10)
     parser.add_argument("--ticks", type=int, default=3000)
     given = parser.parse_args()
+    if not os.path.exists(given.program):
+        sys.exit("measure.py: %s isn't built: ./mme --prove" % given.program)
     bench = Bench(given.program, given.rounds)
     for word in given.only or (OF_TABLE if given.table else USUAL):
         {"attaches": attaches_per_second, "growth": growth, "events": events, "setups": set_ups, "instructions": instructions,

@@ -43,8 +43,8 @@ pub fn vector_makes_one_context()
     accepted_is_fresh();
 }
 
-/// No countdown of a subscriber who was never seen runs, and over every run each that runs has from 1 to 3480 ticks left, and a
-/// procedure what is sent again behind the last.
+/// Each countdown that runs has from 1 to 3480 ticks left, and a procedure what is sent again behind the last: so it is of a
+/// subscriber who was never seen, and every run keeps it so.
 pub fn running_is_kept()
     ensures fresh { IsRunning fresh_solo }
     ensures run { StaysRunning }
