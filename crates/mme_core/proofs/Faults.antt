@@ -1,5 +1,5 @@
 -- One event more, and its fault.
-use Rattle.std.proofs.Common.{◌≡◌, List, [], ◌∷◌, ◌++◌, length, Bool, true, false, Result, Err, subst, sym, arith}
+use Rattle.std.proofs.Common.{◌≡◌, List, [], ◌∷◌, ◌++◌, length, Bool, true, false, Result, Err, subst, arith}
 use Rattle.std.specs.Prelude.{if◌then◌else◌, IfSome}
 use Rattle.mme_core.specs.declared.event.Event.{Event}
 use Rattle.mme_core.specs.declared.event.StepFault.{StepFault}

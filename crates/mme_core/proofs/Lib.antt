@@ -15,3 +15,4 @@ pub mod InUse
 pub mod OneOutput
 pub mod Short
 pub mod Faults
+pub mod Taken

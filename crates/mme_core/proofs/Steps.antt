@@ -1,16 +1,18 @@
 -- One event that is not refused: what it makes, from what comes of it.
-use Rattle.std.proofs.Common.{◌≡◌, List, ◌++◌, length, Option, Some, None, Ok, refl, sym, ◌∙◌, ap}
+use Rattle.std.proofs.Common.{◌≡◌, ℕ, suc, ◌^◌, ◌<◌, ◌≤◌, List, [], ◌∷◌, ◌++◌, length, Bool, true, Option, Some, None, Ok, refl, sym, ◌∙◌, ap, arith}
 use Rattle.emm_machine.specs.SubscriberView.{SubscriberView}
+use Rattle.subscriber_table.specs.declared.stepped.Stepped.{Stepped}
+use Rattle.subscriber_table.specs.Laws.{due_few}
+use Rattle.subscriber_table.specs.Table.{slots_stepped}
 use Rattle.mme_routing.specs.Destinations.{item_at, strangers_behind}
 use Rattle.mme_routing.specs.Outcomes.{Outcome}
 use Rattle.mme_core.specs.declared.prepared.Prepared.{Prepared}
 use Rattle.mme_core.specs.declared.prepared.Prepared.TheVariants as prepared
-use Rattle.mme_core.specs.declared.prepared.Stepped.{Stepped}
 use Rattle.mme_core.specs.declared.event.Event.{Event}
 use Rattle.mme_core.specs.declared.out.Out.{Out}
-use Rattle.mme_core.specs.Settled.{settled_subscribers, with_one}
+use Rattle.mme_core.specs.Settled.{IsFor, IsInTime, IsPassing, MayPass, settled_clock, settled_subscribers, steps_of, with_one}
 use Rattle.mme_core.specs.World.{World, clock_after, each_after, each_sent, event_fault, happens, outputs, placed, reply, reply_of, station_of, station_sent, strangers_in, strangers_sent, unless, world_after, world_moved}
-use Rattle.mme_core.proofs.Stepping.{solo_many, stepped_many}
+use Rattle.mme_core.proofs.Stepping.{solo_many, stepped_many, ticked_many}
 
 -- what is sent, by what comes of it
 abbrev pub sent_by : World → Event → Outcome → List Out
@@ -45,3 +47,45 @@ settled_many prepared.Nobody ws = refl
 settled_many (prepared.Subscriber x) ws = solo_many x.slot x.solo ws
 settled_many (prepared.Stranger id after x) ws = one_many x ws
 settled_many (prepared.Everyone notice xs) ws = stepped_many xs.items ws
+settled_many (prepared.Tick xs) ws = ticked_many xs.items ws
+
+slots_many : (xs : List Stepped) → length (slots_stepped xs) ≡ length xs
+slots_many [] = refl
+slots_many (x ∷ xs) = ap suc (slots_many xs)
+
+-- there are no more steps than n, where there are no more subscribers
+pub steps_few : (p : Prepared) (ws : List SubscriberView) (n : ℕ) → IsFor p ws → length ws ≤ n → 1 ≤ n → steps_of p ≤ n
+steps_few prepared.Nobody ws n h le one = omega arith
+steps_few (prepared.Subscriber x) ws n h le one = one
+steps_few (prepared.Stranger id after x) ws n h le one = one
+steps_few (prepared.Everyone notice xs) ws n h le one = let few = h.1 in omega arith
+steps_few (prepared.Tick xs) ws n h le one =
+    let many = slots_many xs.items in
+    let due = ap length h.0 in
+    let few = due_few ws in
+    omega arith
+
+-- ---- the clock
+
+-- where the subscribers' clock is not past the MME's, it isn't behind what was prepared either
+pub passes : (p : Prepared) (t c m : ℕ) → t ≤ c → IsInTime p c m → MayPass p t
+passes prepared.Nobody t c m le h = tt
+passes (prepared.Subscriber x) t c m le h = tt
+passes (prepared.Stranger id after x) t c m le h = tt
+passes (prepared.Everyone notice xs) t c m le h = tt
+passes (prepared.Tick xs) t c m le h = let lt = h.0 in omega arith
+
+pub not_past : (p : Prepared) (t c m : ℕ) → t ≤ c → IsInTime p c m → settled_clock p t ≤ m
+not_past prepared.Nobody t c m le h = let e = h.1 in omega arith
+not_past (prepared.Subscriber x) t c m le h = let e = h.1 in omega arith
+not_past (prepared.Stranger id after x) t c m le h = let e = h.1 in omega arith
+not_past (prepared.Everyone notice xs) t c m le h = let e = h.1 in omega arith
+not_past (prepared.Tick xs) t c m le h = let e = h.1 in omega arith
+
+-- a tick was prepared where the clock moves
+pub in_time : (b : Bool) (p : Prepared) (c m : ℕ) → IsPassing b p → (b ≡ true → c < m) → c ≤ m → (c < m → m ≤ 2 ^ 62) → IsInTime p c m
+in_time b prepared.Nobody c m h moves le most = (tt, le)
+in_time b (prepared.Subscriber x) c m h moves le most = (tt, le)
+in_time b (prepared.Stranger id after x) c m h moves le most = (tt, le)
+in_time b (prepared.Everyone notice xs) c m h moves le most = (tt, le)
+in_time b (prepared.Tick xs) c m h moves le most = let lt = moves h in let end = most lt in (omega arith, omega arith)

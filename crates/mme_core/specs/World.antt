@@ -4,14 +4,12 @@ use Rattle.identity_slots.specs.declared.profile.Profile.{Profile}
 use Rattle.identity_slots.specs.declared.profile.Vector.{Vector}
 use Rattle.identity_slots.specs.Provisioned.{Provisioned, slot_of_imsi, vectors_at}
 use Rattle.s1ap_messages.specs.Pdus.{decoded}
-use Rattle.emm_state.specs.declared.draft.Draft.{Draft}
 use Rattle.mme_vocabulary.specs.declared.octets.Answer.{Answer}
 use Rattle.mme_vocabulary.specs.declared.network.Network.{Network}
 use Rattle.mme_vocabulary.specs.declared.stations.StationState.{StationState}
 use Rattle.mme_vocabulary.specs.declared.stations.StationState.TheVariants.{Down, Up, Ready}
 use Rattle.mme_vocabulary.specs.Stations.{no_stations, station_at}
 use Rattle.mme_vocabulary.specs.Events.{Item, Data, Cancel}
-use Rattle.emm_machine.specs.Steps.{solo_step}
 use Rattle.emm_machine.specs.SubscriberView.{SubscriberView}
 use Rattle.emm_machine.specs.Words.{fresh_solo}
 use Rattle.stranger_machine.specs.declared.state.Stranger.{Stranger}
@@ -33,6 +31,7 @@ use Rattle.mme_core.specs.Sight.{Sight}
 use Rattle.mme_routing.specs.Destinations.{Destination, item_at, strangers_behind}
 use Rattle.mme_routing.specs.Destinations as to
 use Rattle.mme_routing.specs.Outcomes.{Outcome, begins_anew, goes_to, outcome_of}
+pub use Rattle.subscriber_table.specs.Table.{each_after, subscriber_after, subscriber_step}
 
 -- ---- what is refused
 
@@ -112,17 +111,6 @@ sight_run s [] = s
 sight_run s (event ∷ events) = sight_run (sight_after s event) events
 
 -- ---- the subscribers
-
-abbrev pub subscriber_step : SubscriberView → Item → Draft
-subscriber_step w item = solo_step w.setting w.solo item
-
-abbrev pub subscriber_after : SubscriberView → Item → SubscriberView
-subscriber_after w item = record { setting = w.setting; solo = (subscriber_step w item).solo }
-
--- each subscriber after its own item, from slot n on
-abbrev pub each_after : (ℕ → Item) → ℕ → List SubscriberView → List SubscriberView
-each_after items n [] = []
-each_after items n (w ∷ ws) = subscriber_after w (items n) ∷ each_after items (n + 1) ws
 
 abbrev pub owner_out : Owner → Answer → Out
 owner_out owner a = record { owner = owner; station = a.station; octets = a.octets }

@@ -1,6 +1,6 @@
 //! The MME.
 
-ghost use Rattle.std.specs.Prelude.{◌≡◌, ◌≢◌, ◌⊎◌, ◌<◌, ◌++◌, ◌≤◌, ◌↔◌, ℕ, length, slice_get, IfOk, IfErr, IfSome, IsNone, OnOk, OnErr, Ok, Err, Some, None};
+ghost use Rattle.std.specs.Prelude.{◌≡◌, ◌≢◌, ◌⊎◌, ◌<◌, ◌++◌, ◌≤◌, ◌^◌, ◌↔◌, ℕ, length, slice_get, IfOk, IfErr, IfSome, IsNone, OnOk, OnErr, Ok, Err, Some, None};
 ghost use Rattle.identity_slots.specs.Provisioned.{slot_of_imsi};
 ghost use Rattle.mme_vocabulary.specs.Stations.{station_at};
 ghost use Rattle.emm_machine.specs.SubscriberView.{SubscriberView};
@@ -11,11 +11,11 @@ ghost use Rattle.mme_core.specs.Projection.{AllInOrder, AreInOrder, alone_after,
 ghost use Rattle.mme_vocabulary.specs.declared.stations.StationState.{StationState};
 ghost use Rattle.mme_routing.specs.Destinations.{item_at, strangers_behind};
 ghost use Rattle.mme_routing.specs.Seen.{destination_of, seen_outcome};
-ghost use Rattle.mme_core.specs.Settled.{IsFor, settled_strangers, settled_subscribers};
+ghost use Rattle.mme_core.specs.Settled.{IsFor, IsInTime, IsPassing, settled_strangers, settled_subscribers};
 ghost use Rattle.mme_core.specs.FreshRuns.{AreInUse, IsFreshRun};
 ghost use Rattle.mme_core.specs.GuardedRuns.{IsGuardedRun};
 ghost use Rattle.mme_core.specs.Faults.{HasEachFault};
-ghost use Rattle.mme_core.specs.Ready.{ready_world};
+ghost use Rattle.mme_core.specs.Ready.{ready_world, world_of};
 ghost use Rattle.mme_core.specs.Short.{AreShort};
 ghost use Rattle.mme_core.specs.World.{clock_after, each_after, each_sent, event_fault, events_taken, fresh_world, happens, replies, replies_given, reply, strangers_in, strangers_sent, world_after, world_run};
 
@@ -28,7 +28,7 @@ use crate::provisioning::fresh_subscribers;
 use crate::sending::station_outs;
 use crate::settling::{settle, settle_station};
 use emm_machine::{
-    States, Subscriber, accepted_counts_are_fresh, in_use_is_kept, sent_counts_are_fresh,
+    States, accepted_counts_are_fresh, in_use_is_kept, running_is_kept, sent_counts_are_fresh,
     vector_makes_one_context,
 };
 use emm_promises::{
@@ -42,26 +42,48 @@ use nas_elements::Imsi;
 use std::alloc::{AllocError, Global};
 use std::marker::Model;
 use stranger_machine::{Notice, Strangers};
+use subscriber_table::Subscribers;
 
 /// The last tick of the clock.
 const LAST_TICK: u64 = 1 << 62;
 
-/// An MME with its stations, strangers and subscribers; a contract sees what every owner may see, the strangers that aren't
-/// closed, and each subscriber.
+/// What an MME is but for its subscribers; a contract sees what every owner may see, and the strangers that aren't closed.
 #[derive(Drop)]
-pub struct Mme {
+pub(crate) struct Surroundings {
     config: Config,
     clock: u64,
     stations: EnbWorld,
     provision: Provision,
     strangers: Strangers,
-    subscribers: Vec<Subscriber>,
     alloc: Global,
+}
+
+impl Model for Surroundings {
+    ghost use Rattle.std.specs.Prelude.{◌≡◌, length};
+    ghost use Rattle.ordered_lists.specs.Ordered.{Rising};
+    ghost use Rattle.stranger_machine.specs.Table.{known_id};
+    ghost use Rattle.mme_core.specs.Sight.{Around};
+
+    ghost Value = { Around };
+
+    ghost view = { λ s. record {
+      sight = record { config = s.config; clock = s.clock; stations = s.stations; profiles = s.provision.profiles };
+      strangers = s.strangers;
+    } };
+
+    ghost invariant = { λ s. (length s.stations ≡ 128) × Rising known_id s.strangers };
+}
+
+/// An MME with its stations, strangers and subscribers; a contract sees what every owner may see, the strangers that aren't
+/// closed, and each subscriber.
+#[derive(Drop)]
+pub struct Mme {
+    surroundings: Surroundings,
+    subscribers: Subscribers,
 }
 
 impl Model for Mme {
     ghost use Rattle.std.specs.Prelude.{◌≡◌, ◌≤◌, length};
-    ghost use Rattle.identity_slots.specs.Ids.{slots};
     ghost use Rattle.ordered_lists.specs.Ordered.{Rising};
     ghost use Rattle.stranger_machine.specs.Table.{known_id};
     ghost use Rattle.mme_core.specs.FreshRuns.{AreInUse};
@@ -69,14 +91,10 @@ impl Model for Mme {
 
     ghost Value = { World };
 
-    ghost view = { λ m. record {
-      sight = record { config = m.config; clock = m.clock; stations = m.stations; profiles = m.provision.profiles };
-      strangers = m.strangers;
-      subscribers = m.subscribers.items;
-    } };
+    ghost view = { λ m. record { sight = m.surroundings.sight; strangers = m.surroundings.strangers; subscribers = m.subscribers.subscribers } };
 
-    ghost invariant = { λ m. (length m.subscribers.items ≤ slots) × (length m.stations ≡ 128) × Rising known_id m.strangers
-        × AreInUse m.subscribers.items × (length m.subscribers.items ≡ length m.provision.profiles) };
+    ghost invariant = { λ m. (m.subscribers.clock ≤ m.surroundings.sight.clock) × (length m.surroundings.sight.stations ≡ 128) × Rising known_id m.surroundings.strangers
+        × AreInUse m.subscribers.subscribers × (length m.subscribers.subscribers ≡ length m.surroundings.sight.profiles) };
 }
 
 /// What an event makes of the station that it is of, if it is of one, and of the clock.
@@ -103,19 +121,23 @@ impl Mme {
     {
         in_use_is_kept();
         soundness_is_kept();
+        running_is_kept();
         let mut provision = provision;
         let network = SharedNetwork::new(alloc, config.network.clone()?)?;
         let subscribers = fresh_subscribers(alloc, &network, &mut provision)?;
         let stations = EnbWorld::new(alloc)?;
         let clock = config.clock;
-        Ok(Mme {
+        let surroundings = Surroundings {
             config,
             clock,
             stations,
             provision,
             strangers: Strangers::new(alloc),
-            subscribers,
             alloc,
+        };
+        Ok(Mme {
+            surroundings,
+            subscribers,
         })
     }
 
@@ -123,7 +145,7 @@ impl Mme {
     pub fn slot_of_imsi(&self, imsi: Imsi) -> Option<Slot>
         ensures { result ≡ slot_of_imsi imsi self.now.sight.profiles }
     {
-        self.provision.slot_of_imsi(imsi)
+        self.surroundings.slot_of_imsi(imsi)
     }
 
     /// The states of a slot, if it is provisioned. Takes no memory.
@@ -131,10 +153,7 @@ impl Mme {
         ensures value { result ≡ states_at slot self.now }
         ensures none { IsNone result ↔ (length self.now.sight.profiles ≤ slot) }
     {
-        match self.subscribers.as_slice().get(slot.get() as usize) {
-            Some(subscriber) => Some(subscriber.states()),
-            None => None,
-        }
+        self.subscribers.states(slot)
     }
 
     /// What always holds: the strangers' ids rise, there are 128 stations and as many subscribers as are provisioned, no vector of a
@@ -146,7 +165,7 @@ impl Mme {
         ensures in_use { AreInUse self.now.subscribers }
     {
         // (a contract has the invariant where a field is used)
-        let _ = &self.config;
+        let _ = &self.surroundings;
     }
 
     /// One event: what is sent, or why it is refused. A refused event leaves the MME as it was. No message is longer than 16,388
@@ -203,12 +222,53 @@ impl Mme {
         registered_by_proof();
         keys_go_to_the_proved();
         unproved_leaves();
-        let mut replies = Vec::with_capacity(self.alloc, events.len())?;
+        let mut replies = Vec::with_capacity(self.surroundings.alloc, events.len())?;
         for event in events {
             let reply = self.step(event);
             replies.push_reserved(reply);
         }
         Ok(replies)
+    }
+
+    // What an event leads to, on copies.
+    fn ready(&mut self, event: &Event<'_>) -> Result<Ready, StepFault>
+        ensures reply { IfOk result (λ r. reply self.old event.now ≡ Ok r.outs) }
+        ensures after { IfOk result (λ r. ready_world r self.old ≡ world_after self.old event.now) }
+        ensures fits { IfOk result (λ r. IsFor r.prepared self.old.subscribers) }
+        ensures in_time { IfOk result (λ r. IsInTime r.prepared self.old.sight.clock r.moves.clock) }
+        ensures rising { IfOk result (λ r. Rising known_id (settled_strangers r.prepared self.old.strangers)) }
+        ensures in_use { IfOk result (λ r. AreInUse (settled_subscribers r.prepared self.old.subscribers)) }
+        ensures order { IfOk result (λ r. AreInOrder r.outs) }
+        ensures accepted { OnOk result (event_fault self.old.sight event.now ≡ None) }
+        ensures refused { IfErr result (λ fault. (event_fault self.old.sight event.now ≡ Some fault)
+            ⊎ ((fault ≡ NoMemory) × (event_fault self.old.sight event.now ≡ None))) }
+        ensures same { self.new ≡ self.old }
+    {
+        self.surroundings.ready(&mut self.subscribers, event)
+    }
+
+    // What was prepared is so. Room for steps and for a stranger comes first; refused, all is as it was.
+    fn take(&mut self, ready: Ready) -> Result<Outs, StepFault>
+        requires fits { IsFor ready.prepared self.old.subscribers }
+        requires in_time { IsInTime ready.prepared self.old.sight.clock ready.moves.clock }
+        requires rising { Rising known_id (settled_strangers ready.prepared self.old.strangers) }
+        requires in_use { AreInUse (settled_subscribers ready.prepared self.old.subscribers) }
+        ensures after { OnOk result (self.new ≡ ready_world ready self.old) }
+        ensures outs { IfOk result (λ outs. outs ≡ ready.outs) }
+        ensures short { IfOk result (λ outs. AreShort outs) }
+        ensures memory { IfErr result (λ fault. fault ≡ NoMemory) }
+        ensures err { OnErr result (self.new ≡ self.old) }
+    {
+        self.surroundings.take(&mut self.subscribers, ready)
+    }
+}
+
+impl Surroundings {
+    // The slot of an IMSI, if it is provisioned.
+    fn slot_of_imsi(&self, imsi: Imsi) -> Option<Slot>
+        ensures { result ≡ slot_of_imsi imsi self.now.sight.profiles }
+    {
+        self.provision.slot_of_imsi(imsi)
     }
 
     // Why an event is refused, want of memory apart.
@@ -286,7 +346,9 @@ impl Mme {
     // The clock after an event that isn't refused.
     fn clock_after(&self, event: &Event<'_>) -> u64
         requires { event_fault self.now.sight event.now ≡ None }
-        ensures { result ≡ clock_after self.now.sight.clock event.now }
+        ensures value { result ≡ clock_after self.now.sight.clock event.now }
+        ensures least { self.now.sight.clock ≤ result }
+        ensures most { self.now.sight.clock < result → result ≤ 2 ^ 62 }
     {
         match event {
             Event::Tick => self.clock + 1,
@@ -297,42 +359,56 @@ impl Mme {
     // What is to become of those whom an event goes to, on copies; what they send stands behind what is sent so far.
     fn prepared<'a>(
         &'a self,
+        subscribers: &mut Subscribers,
         destination: &Destination<'a>,
+        passes: bool,
         outs: &mut Outs,
     ) -> Result<Prepared, AllocError>
+        requires { AreInUse subscribers.old.subscribers }
         ensures sends { OnOk result (outs.new ≡ outs.old ++ (strangers_sent self.entry.now.sight.profiles (destination_of self.entry.now.sight.stations destination.now) self.entry.now.strangers
-            ++ each_sent (item_at (destination_of self.entry.now.sight.stations destination.now) self.entry.now.sight.profiles (strangers_in self.entry.now)) 0 self.entry.now.subscribers)) }
+            ++ each_sent (item_at (destination_of self.entry.now.sight.stations destination.now) self.entry.now.sight.profiles (λ id. stranger_at id self.entry.now.strangers)) 0 subscribers.old.subscribers)) }
         ensures strangers { IfOk result (λ p. settled_strangers p self.entry.now.strangers
             ≡ strangers_behind self.entry.now.sight.profiles (destination_of self.entry.now.sight.stations destination.now) self.entry.now.strangers) }
-        ensures subscribers { IfOk result (λ p. settled_subscribers p self.entry.now.subscribers
-            ≡ each_after (item_at (destination_of self.entry.now.sight.stations destination.now) self.entry.now.sight.profiles (strangers_in self.entry.now)) 0 self.entry.now.subscribers) }
-        ensures fits { IfOk result (λ p. IsFor p self.entry.now.subscribers) }
+        ensures subscribers { IfOk result (λ p. settled_subscribers p subscribers.old.subscribers
+            ≡ each_after (item_at (destination_of self.entry.now.sight.stations destination.now) self.entry.now.sight.profiles (λ id. stranger_at id self.entry.now.strangers)) 0 subscribers.old.subscribers) }
+        ensures fits { IfOk result (λ p. IsFor p subscribers.old.subscribers) }
+        ensures passing { IfOk result (λ p. IsPassing passes p) }
+        ensures same { subscribers.new ≡ subscribers.old }
     {
         prepare(
             self.alloc,
             &self.provision,
             &self.strangers,
-            self.subscribers.as_slice(),
+            subscribers,
             &self.stations,
             destination,
+            passes,
             outs,
         )
     }
 
     // What an event leads to, on copies.
-    fn ready<'a>(&'a self, event: &'a Event<'_>) -> Result<Ready, StepFault>
-        ensures reply { IfOk result (λ r. reply self.entry.now event.entry.now ≡ Ok r.outs) }
-        ensures after { IfOk result (λ r. ready_world r self.entry.now ≡ world_after self.entry.now event.entry.now) }
-        ensures fits { IfOk result (λ r. IsFor r.prepared self.entry.now.subscribers) }
+    fn ready<'a>(
+        &'a self,
+        subscribers: &mut Subscribers,
+        event: &'a Event<'_>,
+    ) -> Result<Ready, StepFault>
+        requires { AreInUse subscribers.old.subscribers }
+        ensures reply { IfOk result (λ r. reply (world_of self.entry.now subscribers.old.subscribers) event.entry.now ≡ Ok r.outs) }
+        ensures after { IfOk result (λ r. ready_world r (world_of self.entry.now subscribers.old.subscribers) ≡ world_after (world_of self.entry.now subscribers.old.subscribers) event.entry.now) }
+        ensures fits { IfOk result (λ r. IsFor r.prepared subscribers.old.subscribers) }
+        ensures in_time { IfOk result (λ r. IsInTime r.prepared self.entry.now.sight.clock r.moves.clock) }
         ensures rising { IfOk result (λ r. Rising known_id (settled_strangers r.prepared self.entry.now.strangers)) }
-        ensures in_use { IfOk result (λ r. AreInUse (settled_subscribers r.prepared self.entry.now.subscribers)) }
+        ensures in_use { IfOk result (λ r. AreInUse (settled_subscribers r.prepared subscribers.old.subscribers)) }
         ensures order { IfOk result (λ r. AreInOrder r.outs) }
         ensures accepted { OnOk result (event_fault self.entry.now.sight event.entry.now ≡ None) }
         ensures refused { IfErr result (λ fault. (event_fault self.entry.now.sight event.entry.now ≡ Some fault)
             ⊎ ((fault ≡ NoMemory) × (event_fault self.entry.now.sight event.entry.now ≡ None))) }
+        ensures same { subscribers.new ≡ subscribers.old }
     {
         in_use_is_kept();
         soundness_is_kept();
+        running_is_kept();
         if let Some(fault) = self.fault_of(event) {
             return Err(fault);
         }
@@ -342,13 +418,14 @@ impl Mme {
             sent,
             destination,
         } = self.outcome(event)?;
+        let passes = self.clock < clock;
         let moves = Moves {
             station: event.station(),
             state,
             clock,
         };
         let mut outs = station_outs(self.alloc, moves.station, &sent)?;
-        let prepared = self.prepared(&destination, &mut outs)?;
+        let prepared = self.prepared(subscribers, &destination, passes, &mut outs)?;
         Ok(Ready {
             moves,
             prepared,
@@ -356,23 +433,27 @@ impl Mme {
         })
     }
 
-    // What was prepared is so. Room for a stranger comes first; refused, all is as it was.
-    fn take(&mut self, ready: Ready) -> Result<Outs, StepFault>
-        requires fits { IsFor ready.prepared self.old.subscribers }
+    // What was prepared is so.
+    fn take(&mut self, subscribers: &mut Subscribers, ready: Ready) -> Result<Outs, StepFault>
+        requires fits { IsFor ready.prepared subscribers.old.subscribers }
+        requires clock { subscribers.old.clock ≤ self.old.sight.clock }
+        requires in_time { IsInTime ready.prepared self.old.sight.clock ready.moves.clock }
         requires rising { Rising known_id (settled_strangers ready.prepared self.old.strangers) }
-        requires in_use { AreInUse (settled_subscribers ready.prepared self.old.subscribers) }
-        ensures after { OnOk result (self.new ≡ ready_world ready self.old) }
+        ensures after { OnOk result (world_of self.new subscribers.new.subscribers ≡ ready_world ready (world_of self.old subscribers.old.subscribers)) }
+        ensures clock { OnOk result (subscribers.new.clock ≤ self.new.sight.clock) }
         ensures outs { IfOk result (λ outs. outs ≡ ready.outs) }
         ensures short { IfOk result (λ outs. AreShort outs) }
         ensures memory { IfErr result (λ fault. fault ≡ NoMemory) }
         ensures err { OnErr result (self.new ≡ self.old) }
+        ensures err_subscribers { OnErr result (subscribers.new.subscribers ≡ subscribers.old.subscribers) }
+        ensures err_clock { OnErr result (subscribers.new.clock ≡ subscribers.old.clock) }
     {
         let Ready {
             moves,
             prepared,
             outs,
         } = ready;
-        settle(&mut self.strangers, &mut self.subscribers, prepared)?;
+        settle(&mut self.strangers, subscribers, prepared)?;
         settle_station(&mut self.stations, moves.station, moves.state);
         self.clock = moves.clock;
         // The caller is told this of all messages.

@@ -1,15 +1,8 @@
 //! What an event leads to, before it is taken.
 
-use emm_state::Solo;
-use identity_slots::{AssociationId, Slot};
+use identity_slots::AssociationId;
 use stranger_machine::{After, Notice};
-
-/// The state of a subscriber after an event, which is not its own yet.
-#[derive(Drop)]
-pub(crate) struct Stepped {
-    pub slot: Slot,
-    pub solo: Solo,
-}
+use subscriber_table::Stepped;
 
 /// What is to become of those whom an event goes to.
 #[derive(Drop)]
@@ -20,4 +13,6 @@ pub(crate) enum Prepared {
     Stranger(AssociationId, After, Option<Stepped>),
     /// All strangers, and each subscriber whom the notice doesn't leave as it is.
     Everyone(Notice, Vec<Stepped>),
+    /// A tick for all strangers and all subscribers, of whom those who are due were prepared.
+    Tick(Vec<Stepped>),
 }

@@ -1,69 +1,109 @@
 //! What strangers and subscribers do at an event, worked out before any of it is taken.
 
-ghost use Rattle.std.specs.Prelude.{◌≡◌, ◌≤◌, ◌++◌, List, map, length, IfOk, OnOk};
-ghost use Rattle.identity_slots.specs.Ids.{slots};
+ghost use Rattle.std.specs.Prelude.{◌≡◌, ◌<◌, ◌++◌, List, map, length, IfOk, OnOk, Some};
 ghost use Rattle.mme_vocabulary.specs.declared.stations.StationState.{StationState};
 ghost use Rattle.mme_vocabulary.specs.Events.{item_of};
-ghost use Rattle.stranger_machine.specs.Table.{stranger_at};
+ghost use Rattle.mme_vocabulary.specs.Events as items;
+ghost use Rattle.ordered_lists.specs.Ordered.{Every};
+ghost use Rattle.stranger_machine.specs.Table.{noted, stranger_at};
 ghost use Rattle.stranger_machine.specs.Turns.{call_of};
+ghost use Rattle.subscriber_table.specs.declared.stepped.Stepped.{Stepped};
+ghost use Rattle.subscriber_table.specs.Laws.{some_give};
+ghost use Rattle.subscriber_table.specs.Table.{IsCounting, IsTicked, slots_stepped};
 ghost use Rattle.mme_routing.specs.Destinations.{for_all, for_one, if_called, item_at, item_of_notice, strangers_behind};
 ghost use Rattle.mme_routing.specs.Seen.{destination_of};
-ghost use Rattle.mme_core.specs.Settled.{IsFor, IsUnder, settled_strangers, settled_subscribers, stepped_from, with_one};
-ghost use Rattle.mme_core.specs.World.{each_after, each_sent, slot_out, strangers_sent, subscriber_step};
+ghost use Rattle.mme_core.specs.FreshRuns.{AreInUse};
+ghost use Rattle.mme_core.specs.Settled.{IsFitIf, IsFor, IsPassing, sent_at, settled_strangers, settled_subscribers, solo_at, stepped_from, tick_sent, with_one};
+ghost use Rattle.mme_core.specs.World.{each_after, each_known, each_sent, strangers_sent};
 
 use crate::out::{Outs, Owner};
-use crate::prepared::{Prepared, Stepped};
+use crate::prepared::Prepared;
 use crate::provisioning::slot_of;
 use crate::sending::{send_all, send_each};
-use emm_machine::Subscriber;
-use emm_state::{Draft, Solo};
+use emm_machine::running_is_kept;
+use emm_state::Draft;
 use identity_slots::{Provision, Slot};
 use mme_routing::Destination;
 use mme_vocabulary::{EnbWorld, SoloEvent};
 use std::alloc::{AllocError, Global};
 use stranger_machine::{Call, Notice, Strangers, Turn, begins, receives};
+use subscriber_table::{Stepped, Subscribers};
 
 // A subscriber's step, on a copy: its state after it; what it sends stands behind what is sent so far.
 fn prepare_step(
     alloc: Global,
-    subscriber: &Subscriber,
+    subscribers: &mut Subscribers,
     slot: Slot,
     event: &SoloEvent,
     stations: &EnbWorld,
     outs: &mut Outs,
-) -> Result<Solo, AllocError>
-    ensures after { IfOk result (λ s. s ≡ (subscriber_step subscriber.now (item_of event.now stations.now)).solo) }
-    ensures sends { OnOk result (outs.new ≡ outs.old ++ map (slot_out slot) (subscriber_step subscriber.now (item_of event.now stations.now)).sent) }
+) -> Result<Stepped, AllocError>
+    requires slot { slot < length subscribers.old.subscribers }
+    requires in_use { AreInUse subscribers.old.subscribers }
+    ensures slot { IfOk result (λ x. x.slot ≡ slot) }
+    ensures after { IfOk result (λ x. solo_at slot (item_of event.now stations.now) subscribers.old.subscribers ≡ Some x.solo) }
+    ensures counting { IfOk result (λ x. IsCounting x.solo) }
+    ensures sends { OnOk result (outs.new ≡ outs.old ++ sent_at slot (item_of event.now stations.now) subscribers.old.subscribers) }
+    ensures same { subscribers.new ≡ subscribers.old }
 {
+    running_is_kept();
     let Draft {
         solo,
         sent,
         accepted: _,
-    } = subscriber.prepare(event, stations)?;
+    } = subscribers.prepare(slot, event, stations)?;
     send_all(alloc, outs, Owner::Subscriber(slot), &sent)?;
-    Ok(solo)
+    Ok(Stepped { slot, solo })
 }
 
 // The step of everyone, but of those whom the event leaves as they are: a look tells.
 fn prepare_everyone(
     alloc: Global,
-    subscribers: &[Subscriber],
+    subscribers: &mut Subscribers,
     event: &SoloEvent,
     stations: &EnbWorld,
     outs: &mut Outs,
 ) -> Result<Vec<Stepped>, AllocError>
-    requires { length subscribers.now ≤ slots }
-    ensures stepped { IfOk result (λ xs. xs.items ≡ stepped_from (item_of event.now stations.now) 0 subscribers.now) }
-    ensures sends { OnOk result (outs.new ≡ outs.old ++ each_sent (for_all (item_of event.now stations.now)) 0 subscribers.now) }
+    requires { AreInUse subscribers.old.subscribers }
+    ensures stepped { IfOk result (λ xs. xs.items ≡ stepped_from (item_of event.now stations.now) 0 subscribers.old.subscribers) }
+    ensures sends { OnOk result (outs.new ≡ outs.old ++ each_sent (for_all (item_of event.now stations.now)) 0 subscribers.old.subscribers) }
+    ensures same { subscribers.new ≡ subscribers.old }
 {
+    let count = subscribers.len();
     let mut stepped = Vec::new(alloc);
-    for (place, subscriber) in subscribers.iter().enumerate() {
-        if subscriber.is_still(event) {
+    for place in 0..count {
+        let slot = slot_of(place);
+        if subscribers.is_still(slot, event) {
             continue;
         }
-        let slot = slot_of(place);
-        let solo = prepare_step(alloc, subscriber, slot, event, stations, outs)?;
-        stepped.push(Stepped { slot, solo })?;
+        let one = prepare_step(alloc, subscribers, slot, event, stations, outs)?;
+        stepped.push(one)?;
+    }
+    Ok(stepped)
+}
+
+// A tick of those who are due.
+fn prepare_due(
+    alloc: Global,
+    subscribers: &mut Subscribers,
+    due: &[Slot],
+    event: &SoloEvent,
+    stations: &EnbWorld,
+    outs: &mut Outs,
+) -> Result<Vec<Stepped>, AllocError>
+    requires tick { item_of event.now stations.now ≡ items.Tick }
+    requires due { Every (λ k. k < length subscribers.old.subscribers) due.now }
+    requires in_use { AreInUse subscribers.old.subscribers }
+    ensures slots { IfOk result (λ xs. slots_stepped xs.items ≡ due.now) }
+    ensures ticked { IfOk result (λ xs. Every (IsTicked subscribers.old.subscribers) xs.items) }
+    ensures counting { IfOk result (λ xs. Every (λ (x : Stepped). IsCounting x.solo) xs.items) }
+    ensures sends { OnOk result (outs.new ≡ outs.old ++ some_give tick_sent due.now subscribers.old.subscribers) }
+    ensures same { subscribers.new ≡ subscribers.old }
+{
+    let mut stepped = Vec::new(alloc);
+    for slot in due {
+        let one = prepare_step(alloc, subscribers, *slot, event, stations, outs)?;
+        stepped.push(one)?;
     }
     Ok(stepped)
 }
@@ -71,36 +111,39 @@ fn prepare_everyone(
 // The step of one, if its slot is provisioned.
 fn prepare_one(
     alloc: Global,
-    subscribers: &[Subscriber],
+    subscribers: &mut Subscribers,
     slot: Slot,
     event: &SoloEvent,
     stations: &EnbWorld,
     outs: &mut Outs,
 ) -> Result<Option<Stepped>, AllocError>
-    ensures after { IfOk result (λ x. with_one x subscribers.now ≡ each_after (for_one slot (item_of event.now stations.now)) 0 subscribers.now) }
-    ensures fits { IfOk result (λ x. IsUnder (length subscribers.now) x) }
-    ensures sends { OnOk result (outs.new ≡ outs.old ++ each_sent (for_one slot (item_of event.now stations.now)) 0 subscribers.now) }
+    requires { AreInUse subscribers.old.subscribers }
+    ensures after { IfOk result (λ x. with_one x subscribers.old.subscribers ≡ each_after (for_one slot (item_of event.now stations.now)) 0 subscribers.old.subscribers) }
+    ensures fits { IfOk result (λ x. IsFitIf (length subscribers.old.subscribers) x) }
+    ensures sends { OnOk result (outs.new ≡ outs.old ++ each_sent (for_one slot (item_of event.now stations.now)) 0 subscribers.old.subscribers) }
+    ensures same { subscribers.new ≡ subscribers.old }
 {
     let place = slot.get() as usize;
     if place >= subscribers.len() {
         return Ok(None);
     }
-    let subscriber = &subscribers[place];
-    let solo = prepare_step(alloc, subscriber, slot, event, stations, outs)?;
-    Ok(Some(Stepped { slot, solo }))
+    let one = prepare_step(alloc, subscribers, slot, event, stations, outs)?;
+    Ok(Some(one))
 }
 
 // The step of the one whom a stranger calls, if it calls.
 fn prepare_called(
     alloc: Global,
-    subscribers: &[Subscriber],
+    subscribers: &mut Subscribers,
     call: &Option<Call>,
     stations: &EnbWorld,
     outs: &mut Outs,
 ) -> Result<Option<Stepped>, AllocError>
-    ensures after { IfOk result (λ x. with_one x subscribers.now ≡ each_after (if_called (call_of stations.now call.now)) 0 subscribers.now) }
-    ensures fits { IfOk result (λ x. IsUnder (length subscribers.now) x) }
-    ensures sends { OnOk result (outs.new ≡ outs.old ++ each_sent (if_called (call_of stations.now call.now)) 0 subscribers.now) }
+    requires { AreInUse subscribers.old.subscribers }
+    ensures after { IfOk result (λ x. with_one x subscribers.old.subscribers ≡ each_after (if_called (call_of stations.now call.now)) 0 subscribers.old.subscribers) }
+    ensures fits { IfOk result (λ x. IsFitIf (length subscribers.old.subscribers) x) }
+    ensures sends { OnOk result (outs.new ≡ outs.old ++ each_sent (if_called (call_of stations.now call.now)) 0 subscribers.old.subscribers) }
+    ensures same { subscribers.new ≡ subscribers.old }
 {
     match call {
         Some(call) => {
@@ -121,23 +164,63 @@ fn event_of<'a>(notice: Notice) -> SoloEvent<'a>
     }
 }
 
+// What is to become of all strangers and all subscribers, and what they send. A tick that the clock passes touches those alone who
+// are due.
+fn prepare_all(
+    alloc: Global,
+    strangers: &Strangers,
+    subscribers: &mut Subscribers,
+    stations: &EnbWorld,
+    notice: Notice,
+    event: &SoloEvent,
+    passes: bool,
+    outs: &mut Outs,
+) -> Result<Prepared, AllocError>
+    requires event { item_of event.now stations.now ≡ item_of_notice notice }
+    requires in_use { AreInUse subscribers.old.subscribers }
+    ensures sends { OnOk result (outs.new ≡ outs.old ++ (each_known notice strangers.now ++ each_sent (for_all (item_of_notice notice)) 0 subscribers.old.subscribers)) }
+    ensures strangers { IfOk result (λ p. settled_strangers p strangers.now ≡ noted notice strangers.now) }
+    ensures subscribers { IfOk result (λ p. settled_subscribers p subscribers.old.subscribers ≡ each_after (for_all (item_of_notice notice)) 0 subscribers.old.subscribers) }
+    ensures fits { IfOk result (λ p. IsFor p subscribers.old.subscribers) }
+    ensures passing { IfOk result (λ p. IsPassing passes p) }
+    ensures same { subscribers.new ≡ subscribers.old }
+{
+    running_is_kept();
+    send_each(alloc, strangers, &notice, outs)?;
+    match notice {
+        Notice::Tick if passes => {
+            let due = subscribers.due()?;
+            let slots = due.as_slice();
+            let stepped = prepare_due(alloc, subscribers, slots, event, stations, outs)?;
+            Ok(Prepared::Tick(stepped))
+        }
+        _ => {
+            let stepped = prepare_everyone(alloc, subscribers, event, stations, outs)?;
+            Ok(Prepared::Everyone(notice, stepped))
+        }
+    }
+}
+
 /// What is to become of those whom an event goes to, and what they send, behind what is sent so far.
 pub(crate) fn prepare<'a>(
     alloc: Global,
     provision: &Provision,
     strangers: &'a Strangers,
-    subscribers: &[Subscriber],
+    subscribers: &mut Subscribers,
     stations: &EnbWorld,
     destination: &Destination<'a>,
+    passes: bool,
     outs: &mut Outs,
 ) -> Result<Prepared, AllocError>
-    requires few { length subscribers.now ≤ slots }
+    requires in_use { AreInUse subscribers.old.subscribers }
     ensures sends { OnOk result (outs.new ≡ outs.old ++ (strangers_sent provision.now.profiles (destination_of stations.now destination.now) strangers.entry.now
-        ++ each_sent (item_at (destination_of stations.now destination.now) provision.now.profiles (λ id. stranger_at id strangers.entry.now)) 0 subscribers.now)) }
+        ++ each_sent (item_at (destination_of stations.now destination.now) provision.now.profiles (λ id. stranger_at id strangers.entry.now)) 0 subscribers.old.subscribers)) }
     ensures strangers { IfOk result (λ p. settled_strangers p strangers.entry.now ≡ strangers_behind provision.now.profiles (destination_of stations.now destination.now) strangers.entry.now) }
-    ensures subscribers { IfOk result (λ p. settled_subscribers p subscribers.now
-        ≡ each_after (item_at (destination_of stations.now destination.now) provision.now.profiles (λ id. stranger_at id strangers.entry.now)) 0 subscribers.now) }
-    ensures fits { IfOk result (λ p. IsFor p subscribers.now) }
+    ensures subscribers { IfOk result (λ p. settled_subscribers p subscribers.old.subscribers
+        ≡ each_after (item_at (destination_of stations.now destination.now) provision.now.profiles (λ id. stranger_at id strangers.entry.now)) 0 subscribers.old.subscribers) }
+    ensures fits { IfOk result (λ p. IsFor p subscribers.old.subscribers) }
+    ensures passing { IfOk result (λ p. IsPassing passes p) }
+    ensures same { subscribers.new ≡ subscribers.old }
 {
     match destination {
         Destination::Nobody => Ok(Prepared::Nobody),
@@ -166,10 +249,17 @@ pub(crate) fn prepare<'a>(
             Ok(Prepared::Stranger(id, after, called))
         }
         Destination::Everyone(notice) => {
-            send_each(alloc, strangers, notice, outs)?;
             let event = event_of(*notice);
-            let stepped = prepare_everyone(alloc, subscribers, &event, stations, outs)?;
-            Ok(Prepared::Everyone(*notice, stepped))
+            prepare_all(
+                alloc,
+                strangers,
+                subscribers,
+                stations,
+                *notice,
+                &event,
+                passes,
+                outs,
+            )
         }
     }
 }

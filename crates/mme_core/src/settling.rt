@@ -1,60 +1,73 @@
 //! What was prepared is so.
 
-ghost use Rattle.std.specs.Prelude.{◌≡◌, ◌<◌, length, slice_set, unwrap_or, OnOk, OnErr};
+ghost use Rattle.std.specs.Prelude.{◌≡◌, ◌≤◌, length, slice_set, unwrap_or, OnOk, OnErr};
 ghost use Rattle.mme_vocabulary.specs.Stations.{station_at};
-ghost use Rattle.mme_core.specs.Settled.{AreUnder, IsFor, settled_strangers, settled_subscribers, with_solo, with_stepped};
+ghost use Rattle.mme_core.specs.Settled.{AreFit, IsFor, MayPass, settled_clock, settled_strangers, settled_subscribers, steps_of, with_stepped};
 ghost use Rattle.mme_core.specs.World.{placed};
 
-use crate::prepared::{Prepared, Stepped};
-use emm_machine::Subscriber;
-use emm_state::Solo;
-use identity_slots::Slot;
+use crate::prepared::Prepared;
 use mme_vocabulary::{EnbWorld, StationNumber, StationState};
 use std::alloc::AllocError;
-use stranger_machine::Strangers;
+use stranger_machine::{Notice, Strangers};
+use subscriber_table::{Stepped, Subscribers};
 
 // Each has the state that it was prepared for.
-fn settle_everyone(subscribers: &mut Vec<Subscriber>, stepped: Vec<Stepped>)
-    requires { AreUnder (length subscribers.old.items) stepped.items }
-    ensures { subscribers.new.items ≡ with_stepped stepped.items subscribers.old.items }
+fn settle_everyone(subscribers: &mut Subscribers, stepped: Vec<Stepped>)
+    requires fits { AreFit (length subscribers.old.subscribers) stepped.items }
+    requires room { length stepped.items ≤ subscribers.old.room }
+    ensures clock { subscribers.new.clock ≡ subscribers.old.clock }
+    ensures subscribers { subscribers.new.subscribers ≡ with_stepped stepped.items subscribers.old.subscribers }
 {
     for one in stepped {
-        settle_one(subscribers, one.slot, one.solo);
+        subscribers.settle(one.slot, one.solo);
     }
 }
 
-// One has a new state.
-fn settle_one(subscribers: &mut Vec<Subscriber>, slot: Slot, solo: Solo)
-    requires { slot < length subscribers.old.items }
-    ensures { subscribers.new.items ≡ with_solo slot solo subscribers.old.items }
-{
-    subscribers[slot.get() as usize].settle(solo);
-}
-
-/// Strangers and subscribers are what was prepared. Room for a stranger comes first; refused, all are as they were.
-pub(crate) fn settle(
-    strangers: &mut Strangers,
-    subscribers: &mut Vec<Subscriber>,
-    prepared: Prepared,
-) -> Result<(), AllocError>
-    requires { IsFor prepared subscribers.old.items }
-    ensures strangers { OnOk result (strangers.new ≡ settled_strangers prepared strangers.old) }
-    ensures subscribers { OnOk result (subscribers.new.items ≡ settled_subscribers prepared subscribers.old.items) }
-    ensures same_strangers { OnErr result (strangers.new ≡ strangers.old) }
-    ensures same_subscribers { OnErr result (subscribers.new.items ≡ subscribers.old.items) }
+// For how many steps room is made.
+fn steps_of(prepared: &Prepared) -> usize
+    ensures { result ≡ steps_of prepared.now }
 {
     match prepared {
+        Prepared::Nobody => 0,
+        Prepared::Subscriber(_) | Prepared::Stranger(_, _, _) => 1,
+        Prepared::Everyone(_, stepped) | Prepared::Tick(stepped) => stepped.len(),
+    }
+}
+
+/// Strangers and subscribers are what was prepared. Room for steps and for a stranger comes first; refused, all are as they were.
+pub(crate) fn settle(
+    strangers: &mut Strangers,
+    subscribers: &mut Subscribers,
+    prepared: Prepared,
+) -> Result<(), AllocError>
+    requires fits { IsFor prepared subscribers.old.subscribers }
+    requires clock { MayPass prepared subscribers.old.clock }
+    ensures strangers { OnOk result (strangers.new ≡ settled_strangers prepared strangers.old) }
+    ensures subscribers { OnOk result (subscribers.new.subscribers ≡ settled_subscribers prepared subscribers.old.subscribers) }
+    ensures clock { OnOk result (subscribers.new.clock ≡ settled_clock prepared subscribers.old.clock) }
+    ensures same_strangers { OnErr result (strangers.new ≡ strangers.old) }
+    ensures same_subscribers { OnErr result (subscribers.new.subscribers ≡ subscribers.old.subscribers) }
+    ensures same_clock { OnErr result (subscribers.new.clock ≡ subscribers.old.clock) }
+{
+    // (that there are no more of them than slots)
+    let _ = subscribers.len();
+    subscribers.reserve(steps_of(&prepared))?;
+    match prepared {
         Prepared::Nobody => {}
-        Prepared::Subscriber(called) => settle_one(subscribers, called.slot, called.solo),
+        Prepared::Subscriber(called) => subscribers.settle(called.slot, called.solo),
         Prepared::Stranger(id, after, called) => {
             strangers.settle(id, after)?;
             if let Some(called) = called {
-                settle_one(subscribers, called.slot, called.solo);
+                subscribers.settle(called.slot, called.solo);
             }
         }
         Prepared::Everyone(notice, stepped) => {
             strangers.note(notice);
             settle_everyone(subscribers, stepped);
+        }
+        Prepared::Tick(stepped) => {
+            strangers.note(Notice::Tick);
+            subscribers.tick(stepped);
         }
     }
     Ok(())

@@ -4,18 +4,17 @@ use Rattle.mme_vocabulary.specs.Events.{entry_lists, message_lists}
 use Rattle.stranger_machine.specs.Machine.{begins, stranger_step, receives}
 use Rattle.stranger_machine.specs.Table.{with_stranger}
 use Rattle.stranger_machine.specs.Turns.{Turn, call_of, turn_of}
-use Rattle.mme_routing.specs.Destinations.{for_all, if_called}
+use Rattle.mme_routing.specs.Destinations.{if_called}
 use Rattle.mme_core.specs.World.{each_after, each_sent, stranger_out}
 use Rattle.mme_core.proofs.Calling.{after_nothing, sends_nothing}
-use Rattle.mme_core.proofs.Stepping.{everyone_fits, everyone_settled}
 use Rattle.mme_core.proofs.preparing.prepare.Goals as goal
 
 pub returns-in-Nobody-clause-sends : goal.returns-in-Nobody-clause-sends
 returns-in-Nobody-clause-sends c =
-    rw c.in-Nobody.is (sym (ap (λ zs. c.args.outs.now ++ zs) (sends_nothing 0 _ c.args.subscribers.now (λ m le. refl)) ∙ append-nil c.args.outs.now))
+    rw c.in-Nobody.is (sym (ap (λ zs. c.args.outs.now ++ zs) (sends_nothing 0 _ c.args.subscribers.now.subscribers (λ m le. refl)) ∙ append-nil c.args.outs.now))
 
 pub returns-in-Nobody-clause-subscribers : goal.returns-in-Nobody-clause-subscribers
-returns-in-Nobody-clause-subscribers c = rw c.in-Nobody.is (sym (after_nothing 0 _ c.args.subscribers.now (λ m le. refl)))
+returns-in-Nobody-clause-subscribers c = rw c.in-Nobody.is (sym (after_nothing 0 _ c.args.subscribers.now.subscribers (λ m le. refl)))
 
 pub returns-in_ok-called-in-Beginner-clause-sends : goal.returns-in_ok-called-in-Beginner-clause-sends
 unfolding stranger_step
@@ -24,7 +23,7 @@ returns-in_ok-called-in-Beginner-clause-sends c =
     let m = entry_lists c.in-Beginner.entry in
     let x = c.in_ok-after-in-Beginner.field-0 in
     let ws = c.args.stations.now in
-    let subs = c.args.subscribers.now in
+    let subs = c.args.subscribers.now.subscribers in
     let outs = c.args.outs.now in
     let own = ap (λ o. turn_of ws o x) (sym c.find.ensures) ∙ c.in_ok-after-in-Beginner.ensures ws ∙ ap (λ o. begins id o m) c.find.ensures in
     let called = c.in_ok-called-in-Beginner.ensures.sends ∙ ap (λ os. os ++ each_sent (if_called (call_of ws x.call)) 0 subs) c.in_ok-send_all-in-Beginner.ensures in
@@ -47,7 +46,7 @@ returns-in_ok-called-in-Beginner-clause-subscribers c =
     let m = entry_lists c.in-Beginner.entry in
     let x = c.in_ok-after-in-Beginner.field-0 in
     let ws = c.args.stations.now in
-    let subs = c.args.subscribers.now in
+    let subs = c.args.subscribers.now.subscribers in
     let own = ap (λ o. turn_of ws o x) (sym c.find.ensures) ∙ c.in_ok-after-in-Beginner.ensures ws ∙ ap (λ o. begins id o m) c.find.ensures in
     rw c.in-Beginner.is (c.in_ok-called-in-Beginner.ensures.after ∙ ap (λ (t : Turn). each_after (if_called t.call) 0 subs) own)
 
@@ -58,7 +57,7 @@ returns-in_ok-called-in-Stranger-clause-sends c =
     let m = message_lists c.in-Stranger.message in
     let x = c.in_ok-after-in-Stranger.field-0 in
     let ws = c.args.stations.now in
-    let subs = c.args.subscribers.now in
+    let subs = c.args.subscribers.now.subscribers in
     let outs = c.args.outs.now in
     let own = ap (λ o. turn_of ws o x) (sym c.find-in-Stranger.ensures) ∙ c.in_ok-after-in-Stranger.ensures ws ∙ ap (λ o. receives c.args.provision.now.profiles o m) c.find-in-Stranger.ensures in
     let called = c.in_ok-called-in-Stranger.ensures.sends ∙ ap (λ os. os ++ each_sent (if_called (call_of ws x.call)) 0 subs) c.in_ok-send_all-in-Stranger.ensures in
@@ -80,17 +79,6 @@ returns-in_ok-called-in-Stranger-clause-subscribers c =
     let m = message_lists c.in-Stranger.message in
     let x = c.in_ok-after-in-Stranger.field-0 in
     let ws = c.args.stations.now in
-    let subs = c.args.subscribers.now in
+    let subs = c.args.subscribers.now.subscribers in
     let own = ap (λ o. turn_of ws o x) (sym c.find-in-Stranger.ensures) ∙ c.in_ok-after-in-Stranger.ensures ws ∙ ap (λ o. receives c.args.provision.now.profiles o m) c.find-in-Stranger.ensures in
     rw c.in-Stranger.is (c.in_ok-called-in-Stranger.ensures.after ∙ ap (λ (t : Turn). each_after (if_called t.call) 0 subs) own)
-
-pub returns-in_ok-stepped-in-Everyone-clause-subscribers : goal.returns-in_ok-stepped-in-Everyone-clause-subscribers
-returns-in_ok-stepped-in-Everyone-clause-subscribers c =
-    let ws = c.args.stations.now in
-    let subs = c.args.subscribers.now in
-    let item = ap (λ i. each_after (for_all i) 0 subs) (c.event_of-event.ensures ws) in
-    rw c.in-Everyone.is (everyone_settled _ subs c.in_ok-stepped-in-Everyone.stepped.items c.in_ok-stepped-in-Everyone.ensures.stepped ∙ item)
-
-pub returns-in_ok-stepped-in-Everyone-clause-fits : goal.returns-in_ok-stepped-in-Everyone-clause-fits
-returns-in_ok-stepped-in-Everyone-clause-fits c =
-    everyone_fits _ c.args.subscribers.now c.in_ok-stepped-in-Everyone.stepped.items c.in_ok-stepped-in-Everyone.ensures.stepped

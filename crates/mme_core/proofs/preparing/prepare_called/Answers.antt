@@ -4,8 +4,8 @@ use Rattle.mme_core.proofs.Calling.{after_nothing, sends_nothing}
 use Rattle.mme_core.proofs.preparing.prepare_called.Goals as goal
 
 pub returns-in-None-clause-after : goal.returns-in-None-clause-after
-returns-in-None-clause-after c = rw c.in-None.is (sym (after_nothing 0 _ c.args.subscribers.now (λ m le. refl)))
+returns-in-None-clause-after c = rw c.in-None.is (sym (after_nothing 0 _ c.args.subscribers.now.subscribers (λ m le. refl)))
 
 pub returns-in-None-clause-sends : goal.returns-in-None-clause-sends
 returns-in-None-clause-sends c =
-    rw c.in-None.is (sym (ap (λ zs. c.args.outs.now ++ zs) (sends_nothing 0 _ c.args.subscribers.now (λ m le. refl)) ∙ append-nil c.args.outs.now))
+    rw c.in-None.is (sym (ap (λ zs. c.args.outs.now ++ zs) (sends_nothing 0 _ c.args.subscribers.now.subscribers (λ m le. refl)) ∙ append-nil c.args.outs.now))

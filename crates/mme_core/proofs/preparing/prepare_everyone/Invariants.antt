@@ -9,8 +9,9 @@ use Rattle.mme_core.proofs.preparing.prepare_everyone.Given as goal
 abbrev pub invariant-loop-place : goal.invariant-loop-place
 invariant-loop-place l =
     let item = item_of l.event l.stations in
-    let items = for_all item in
+    let ws = l.fn.subscribers.subscribers in
     record {
-      stepped : l.stepped.items ++ stepped_from item l.place (drop l.place l.subscribers) ≡ stepped_from item 0 l.subscribers;
-      sends : l.outs ++ each_sent items l.place (drop l.place l.subscribers) ≡ l.fn.outs ++ each_sent items 0 l.subscribers;
+      same : l.subscribers ≡ l.fn.subscribers;
+      stepped : l.stepped.items ++ stepped_from item l.place (drop l.place ws) ≡ stepped_from item 0 ws;
+      sends : l.outs ++ each_sent (for_all item) l.place (drop l.place ws) ≡ l.fn.outs ++ each_sent (for_all item) 0 ws;
     }

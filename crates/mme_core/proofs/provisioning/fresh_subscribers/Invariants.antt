@@ -6,9 +6,10 @@ use Rattle.mme_core.proofs.provisioning.fresh_subscribers.Given as goal
 -- who was made, and who is left with the vectors given
 abbrev pub invariant-loop-place : goal.invariant-loop-place
 invariant-loop-place l = record {
-  made : l.subscribers.items ++ fresh_subscribers l.network l.place (drop l.place l.fn.provision.profiles) l.fn.provision.vectors
+  clock : l.subscribers.clock ≡ 0;
+  made : l.subscribers.subscribers ++ fresh_subscribers l.network l.place (drop l.place l.fn.provision.profiles) l.fn.provision.vectors
       ≡ fresh_subscribers l.network 0 l.fn.provision.profiles l.fn.provision.vectors;
-  count : length l.subscribers.items ≡ l.place;
+  count : length l.subscribers.subscribers ≡ l.place;
   profiles : l.provision.profiles ≡ l.fn.provision.profiles;
   left : (k : ℕ) → l.place ≤ k → vectors_at k l.provision.vectors ≡ vectors_at k l.fn.provision.vectors;
 }

@@ -1,4 +1,4 @@
-use Rattle.std.proofs.Common.{◌≡◌, ◌+◌, ◌++◌, map, ap, arith, sym, ◌∙◌, append_assoc, append-nil}
+use Rattle.std.proofs.Common.{◌+◌, ◌++◌, map, ap, arith, sym, ◌∙◌, append_assoc, append-nil}
 use Rattle.std.specs.Prelude.{Some}
 use Rattle.stranger_machine.specs.declared.table.Known.{Known}
 use Rattle.stranger_machine.specs.Machine.{notes}

@@ -12,9 +12,10 @@ use Rattle.mme_routing.specs.Outcomes.{Outcome, answered, begins_anew, goes_to, 
 use Rattle.mme_routing.specs.declared.outcome.Outcome.{Outcome as OutcomeInCode}
 use Rattle.mme_routing.specs.Seen.{seen_outcome}
 use Rattle.mme_core.specs.declared.event.Event.TheVariants as events
-use Rattle.mme_core.specs.World.{World, happens, to_slot}
-use Rattle.mme_core.specs.contracts.mme.Mme.{the_view}
-use Rattle.mme_core.proofs.mme.Mme.outcome.Goals as goal
+use Rattle.mme_core.specs.Sight.{Around}
+use Rattle.mme_core.specs.World.{happens, to_slot}
+use Rattle.mme_core.specs.contracts.mme.Surroundings.{the_view}
+use Rattle.mme_core.proofs.mme.Surroundings.outcome.Goals as goal
 
 -- an outcome without what is sent
 abbrev with_sent : Destination → List Answer → Outcome
@@ -39,7 +40,7 @@ returns-in-In c =
     let v = the_view c.self.inside in
     let made : (x : OutcomeInCode) → ((stations : List StationState) → seen_outcome stations x ≡ outcome_of v.sight.config.network v.sight.profiles e c.get-state.result.now (decoded c.in-In.octets.now))
     → seen_outcome c.args.self.now.sight.stations x ≡ happens c.args.self.now.sight (events.In e c.in-In.octets) =
-    λ x h. subst (λ (w : World). seen_outcome w.sight.stations x ≡ happens w.sight (events.In e c.in-In.octets)) c.self.view_is
+    λ x h. subst (λ (w : Around). seen_outcome w.sight.stations x ≡ happens w.sight (events.In e c.in-In.octets)) c.self.view_is
     (h v.sight.stations ∙ ap (λ s. outcome_of v.sight.config.network v.sight.profiles e s (decoded c.in-In.octets.now)) c.get-state.ensures)
     in
     rw c.in-In.is (if_ok c.outcome_of.result made c.outcome_of.ensures)

@@ -1,0 +1,2 @@
+mod Queueing
+mod Waking

@@ -1,0 +1,6 @@
+pub mod Changed
+pub mod Laws
+pub mod Matching
+pub mod Records
+pub mod Running
+pub mod Table

@@ -1,0 +1,84 @@
+-- What a caller sees of the table, and what becomes of it.
+use Rattle.std.specs.Prelude.{◌≡◌, ℕ, ◌+◌, Bool, List, [], ◌∷◌, map, slice_get, slice_set, Option, Some, option_map}
+use Rattle.std.specs.Option.{option_map_or}
+use Rattle.mme_vocabulary.specs.Events.{Item, Tick}
+use Rattle.emm_state.specs.declared.draft.Draft.{Draft}
+use Rattle.emm_state.specs.declared.solo.Solo.{Solo}
+use Rattle.emm_machine.specs.Steps.{solo_step}
+use Rattle.emm_machine.specs.Still.{still}
+use Rattle.emm_machine.specs.SubscriberView.{SubscriberView}
+use Rattle.emm_machine.specs.Ticks.{countdowns, solo_aged}
+use Rattle.ordered_lists.specs.Ordered.{Every}
+use Rattle.subscriber_table.specs.declared.stepped.Stepped.{Stepped}
+use Rattle.subscriber_table.specs.Running.{AreInRange, due_from}
+
+pub record SubscriberTable : Type 0 where
+  pub clock : ℕ
+  pub subscribers : List SubscriberView
+  pub room : ℕ  -- so many more steps can be settled with no allocation
+
+-- ---- steps
+
+abbrev pub subscriber_step : SubscriberView → Item → Draft
+subscriber_step w item = solo_step w.setting w.solo item
+
+abbrev pub subscriber_after : SubscriberView → Item → SubscriberView
+subscriber_after w item = record { setting = w.setting; solo = (subscriber_step w item).solo }
+
+-- each subscriber after its own item, from slot n on
+abbrev pub each_after : (ℕ → Item) → ℕ → List SubscriberView → List SubscriberView
+each_after items n [] = []
+each_after items n (w ∷ ws) = subscriber_after w (items n) ∷ each_after items (n + 1) ws
+
+-- the step of a slot, if somebody has it
+abbrev pub step_at : ℕ → Item → List SubscriberView → Option Draft
+step_at slot item ws = option_map (λ w. subscriber_step w item) (slice_get ws slot)
+
+-- whether a look tells that an item leaves a slot's state as it is
+abbrev pub still_at : ℕ → Item → List SubscriberView → Option Bool
+still_at slot item ws = option_map (λ (w : SubscriberView). still w.solo item) (slice_get ws slot)
+
+-- ---- what is settled
+
+abbrev pub in_state : Solo → SubscriberView → SubscriberView
+in_state s w = record { setting = w.setting; solo = s }
+
+abbrev pub with_solo : ℕ → Solo → List SubscriberView → List SubscriberView
+with_solo n s ws = option_map_or (λ w. slice_set ws n (in_state s w)) (slice_get ws n) ws
+
+-- each in the state that it was prepared for
+abbrev pub with_stepped : List Stepped → List SubscriberView → List SubscriberView
+with_stepped [] ws = ws
+with_stepped (x ∷ xs) ws = with_stepped xs (with_solo x.slot x.solo ws)
+
+-- ---- countdowns
+
+abbrev pub all_countdowns : List SubscriberView → List (Option ℕ × Option ℕ)
+all_countdowns ws = map (λ w. countdowns w.solo) ws
+
+-- the slots of those who have a countdown that the next tick meets
+abbrev pub due_slots : List SubscriberView → List ℕ
+due_slots ws = due_from 0 (all_countdowns ws)
+
+-- each countdown that runs has from 1 to 3480 ticks left
+abbrev pub IsCounting : Solo → Type 0
+IsCounting s = AreInRange (countdowns s)
+
+abbrev pub AreCounting : List SubscriberView → Type 0
+AreCounting ws = Every (λ w. IsCounting w.solo) ws
+
+-- ---- a tick
+
+abbrev pub slots_stepped : List Stepped → List ℕ
+slots_stepped xs = map (λ x. x.slot) xs
+
+abbrev pub one_less : SubscriberView → SubscriberView
+one_less w = record { setting = w.setting; solo = solo_aged 1 w.solo }
+
+-- those who were prepared have their state, and each of the others counts down by one
+abbrev pub tick_settled : List Stepped → List SubscriberView → List SubscriberView
+tick_settled xs ws = with_stepped xs (map one_less ws)
+
+-- it was prepared for a tick
+abbrev pub IsTicked : List SubscriberView → Stepped → Type 0
+IsTicked ws x = option_map (λ (d : Draft). d.solo) (step_at x.slot Tick ws) ≡ Some x.solo

@@ -1,0 +1,33 @@
+//! Subscribers as they were when they were last touched.
+
+ghost use Rattle.std.specs.Prelude.{◌≡◌};
+ghost use Rattle.subscriber_table.specs.Records.{renewed, woken, IsFresh};
+
+use emm_machine::Subscriber;
+use emm_state::Solo;
+
+/// A subscriber as it was when the clock was `touched`.
+#[derive(Drop)]
+pub(crate) struct Record {
+    pub subscriber: Subscriber,
+    pub touched: u64,
+}
+
+impl Record {
+    /// The subscriber is as it is now; takes no memory.
+    pub fn wake(&mut self, clock: u64)
+        requires { IsFresh clock self.old }
+        ensures { self.new ≡ woken clock self.old }
+    {
+        self.subscriber.pass(clock - self.touched);
+        self.touched = clock;
+    }
+
+    /// The state is this one now; takes no memory.
+    pub fn renew(&mut self, clock: u64, solo: Solo)
+        ensures { self.new ≡ renewed clock solo self.old }
+    {
+        self.subscriber.settle(solo);
+        self.touched = clock;
+    }
+}
