@@ -14,19 +14,20 @@ use Rattle.association_table.specs.declared.places.Held.{Held}
 use Rattle.association_table.specs.declared.places.SlabPlace.{SlabPlace}
 use Rattle.association_table.specs.declared.places.Seat.{Seat}
 use Rattle.association_table.specs.Table.{association_id, found, opened, closed}
-use Rattle.association_table.specs.Kept.{place_id, place_key, or_blank, with_id, entry_at, entries_of, seat_of, seat_rank, seating, IsId, IsTable}
+use Rattle.association_table.specs.Kept.{place_id, place_key, or_blank, with_id, entry_at, entries_of, station_bench, number_bench, seat_of, seat_rank, seating, seats_of, IsId, IsTable}
 
-apart : (x y : Association) → IsId x → IsId y → seating x ≡ seating y → association_id x ≡ association_id y
-apart x y a b e = omega arith
+apart : (bench : Association → ℕ) (x y : Association) → IsId x → IsId y → seating bench x ≡ seating bench y → association_id x ≡ association_id y
+apart bench x y a b e = let p = a.0 in let q = b.0 in omega (arith, p, q, e)
 
 pub rising_entries : (s : Slab Held) (ps : List SlabPlace) → Rising place_id ps → Rising association_id (entries_of s ps)
 rising_entries s ps h = rising-map (entry_at s) association_id ps h
 
-pub rising_seats : (s : Slab Held) (ps : List SlabPlace) (seats : List Seat) → IsTable s ps seats → Rising seat_rank seats
-rising_seats s ps seats k =
-    let es = entries_of s ps in
-    subst (Rising seat_rank) (sym k.seats)
-    (rising-map seat_of seat_rank (ordered seating es) (rising-ordered seating es (apart_distinct association_id seating IsId apart es k.ids (rising_distinct association_id es (rising_entries s ps k.rising)))))
+-- the seats of a bench stand for entries
+distinct_seats : (bench : Association → ℕ) (es : List Association) → Rising association_id es → Every IsId es → Distinct (seating bench) es
+distinct_seats bench es h i = apart_distinct association_id (seating bench) IsId (apart bench) es i (rising_distinct association_id es h)
+
+pub rising_seats : (bench : Association → ℕ) (es : List Association) → Rising association_id es → Every IsId es → Rising seat_rank (seats_of bench es)
+rising_seats bench es h i = rising-map (seat_of bench) seat_rank (ordered (seating bench) es) (rising-ordered (seating bench) es (distinct_seats bench es h i))
 
 pub found_place : (s : Slab Held) (id : ℕ) (ps : List SlabPlace) → found id (entries_of s ps) ≡ option_map (entry_at s) (at place_id id ps)
 found_place s id ps = at-map (entry_at s) association_id id ps
@@ -45,12 +46,15 @@ mapped_some s a (Some p) h = (p, refl, (cc))
 pub taken_place : (s : Slab Held) (id : ℕ) (a : Association) (ps : List SlabPlace) → found id (entries_of s ps) ≡ Some a → (p : SlabPlace) × (at place_id id ps ≡ Some p) × (entry_at s p ≡ a)
 taken_place s id a ps h = mapped_some s a (at place_id id ps) (sym (found_place s id ps) ∙ h)
 
-pub free_seat : (s : Slab Held) (a : Association) (ps : List SlabPlace) (seats : List Seat) → IsTable s ps seats → IsId a → found a.id (entries_of s ps) ≡ None → at seat_rank (seat_rank (seat_of a)) seats ≡ None
-free_seat s a ps seats k i f =
-    let es = entries_of s ps in
-    let distinct = apart_distinct association_id seating IsId apart es k.ids (rising_distinct association_id es (rising_entries s ps k.rising)) in
-    ap (at seat_rank (seat_rank (seat_of a))) k.seats ∙ at-map seat_of seat_rank (seat_rank (seat_of a)) (ordered seating es)
-    ∙ ap (option_map seat_of) (at-ordered seating (seating a) es distinct ∙ apart_none association_id seating IsId apart a es i k.ids f)
+pub free_seat : (bench : Association → ℕ) (a : Association) (es : List Association) → Rising association_id es → Every IsId es → IsId a → found a.id es ≡ None → at seat_rank (seat_rank (seat_of bench a)) (seats_of bench es) ≡ None
+free_seat bench a es h k i f =
+    at-map (seat_of bench) seat_rank (seat_rank (seat_of bench a)) (ordered (seating bench) es)
+    ∙ ap (option_map (seat_of bench)) (at-ordered (seating bench) (seating bench a) es (distinct_seats bench es h k) ∙ apart_none association_id (seating bench) IsId (apart bench) a es i k f)
+
+seats_opened : (bench : Association → ℕ) (a : Association) (es : List Association) → Every IsId es → IsId a → found a.id es ≡ None → add seat_rank (seat_of bench a) (seats_of bench es) ≡ seats_of bench (opened a es)
+seats_opened bench a es k i f =
+    sym (map-add (seat_of bench) seat_rank a (ordered (seating bench) es))
+    ∙ ap (map (seat_of bench)) (sym (ordered-add association_id (seating bench) a es (apart_none association_id (seating bench) IsId (apart bench) a es i k f)))
 
 -- another key of the slab
 pub none_some : {X : Type 0} (o : Option X) → IsSome o → o ≡ None → ⊥
@@ -92,10 +96,10 @@ open_entries s t a key ps n h u =
     ∙ ap (λ x. add association_id (with_id a.id (or_blank x)) (entries_of t ps)) u.changed
     ∙ ap (add association_id a) (same_entries s t key ps u.others (vacant_none s key ps n h))
 
-pub open_kept : (s t : Slab Held) (a : Association) (key : ℕ) (ps : List SlabPlace) (seats : List Seat) → IsTable s ps seats → IsId a → found a.id (entries_of s ps) ≡ None → get s key ≡ None
+pub open_kept : (s t : Slab Held) (a : Association) (key : ℕ) (ps : List SlabPlace) (seats chairs : List Seat) → IsTable s ps seats chairs → IsId a → found a.id (entries_of s ps) ≡ None → get s key ≡ None
     → Updates s t key (Some (record { owner = a.owner; station = a.station; enb_id = a.enb_id }))
-    → IsTable t (add place_id (record { id = a.id; key = key }) ps) (add seat_rank (seat_of a) seats)
-open_kept s t a key ps seats k i f n u =
+    → IsTable t (add place_id (record { id = a.id; key = key }) ps) (add seat_rank (seat_of station_bench a) seats) (add seat_rank (seat_of number_bench a) chairs)
+open_kept s t a key ps seats chairs k i f n u =
     let p : SlabPlace = record { id = a.id; key = key } in
     let es = entries_of s ps in
     let none = vacant_none s key ps n k.held in
@@ -105,8 +109,8 @@ open_kept s t a key ps seats k i f n u =
       keys = distinct_add place_id place_key p ps k.keys none;
       held = every-add (λ q. IsSome (get t q.key)) place_id p ps (some_is (get t key) _ u.changed) (same_held s t key ps u.others none k.held);
       ids = subst (Every IsId) (sym e) (every-add IsId association_id a es i k.ids);
-      seats = ap (add seat_rank (seat_of a)) k.seats ∙ sym (map-add seat_of seat_rank a (ordered seating es))
-          ∙ ap (map seat_of) (sym (ordered-add association_id seating a es (apart_none association_id seating IsId apart a es i k.ids f))) ∙ ap (λ xs. map seat_of (ordered seating xs)) (sym e);
+      seats = ap (add seat_rank (seat_of station_bench a)) k.seats ∙ seats_opened station_bench a es k.ids i f ∙ ap (seats_of station_bench) (sym e);
+      numbers = ap (add seat_rank (seat_of number_bench a)) k.numbers ∙ seats_opened number_bench a es k.ids i f ∙ ap (seats_of number_bench) (sym e);
     }
 
 -- a closing
@@ -115,20 +119,25 @@ pub close_entries : (s t : Slab Held) (id : ℕ) (p : SlabPlace) (ps : List Slab
 close_entries s t id p ps d h u =
     same_entries s t p.key (without place_id id ps) u.others (gone_other place_id place_key id p ps d h) ∙ map-without (entry_at s) association_id id ps
 
-pub seats_with : (s : Slab Held) (id : ℕ) (a : Association) (ps : List SlabPlace) (seats : List Seat) → IsTable s ps seats → found id (entries_of s ps) ≡ Some a
-    → seats ≡ add seat_rank (seat_of a) (map seat_of (ordered seating (closed id (entries_of s ps))))
-seats_with s id a ps seats k f =
-    let es = entries_of s ps in
-    k.seats ∙ ap (map seat_of) (ordered_left association_id seating IsId apart id a es k.ids f) ∙ map-add seat_of seat_rank a (ordered seating (closed id es))
+pub seats_with : (bench : Association → ℕ) (id : ℕ) (a : Association) (es : List Association) → Every IsId es → found id es ≡ Some a
+    → seats_of bench es ≡ add seat_rank (seat_of bench a) (seats_of bench (closed id es))
+seats_with bench id a es k f =
+    ap (map (seat_of bench)) (ordered_left association_id (seating bench) IsId (apart bench) id a es k f) ∙ map-add (seat_of bench) seat_rank a (ordered (seating bench) (closed id es))
 
-pub seat_there : (s : Slab Held) (id : ℕ) (a : Association) (ps : List SlabPlace) (seats : List Seat) → IsTable s ps seats → found id (entries_of s ps) ≡ Some a
-    → at seat_rank (seat_rank (seat_of a)) seats ≡ Some (seat_of a)
-seat_there s id a ps seats k f =
-    ap (at seat_rank (seat_rank (seat_of a))) (seats_with s id a ps seats k f) ∙ at_added seat_rank (seat_of a) (map seat_of (ordered seating (closed id (entries_of s ps))))
+pub seat_there : (bench : Association → ℕ) (id : ℕ) (a : Association) (es : List Association) → Every IsId es → found id es ≡ Some a
+    → at seat_rank (seat_rank (seat_of bench a)) (seats_of bench es) ≡ Some (seat_of bench a)
+seat_there bench id a es k f =
+    ap (at seat_rank (seat_rank (seat_of bench a))) (seats_with bench id a es k f) ∙ at_added seat_rank (seat_of bench a) (seats_of bench (closed id es))
 
-pub close_kept : (s t : Slab Held) (id : ℕ) (a : Association) (p : SlabPlace) (ps : List SlabPlace) (seats : List Seat) → IsTable s ps seats → found id (entries_of s ps) ≡ Some a → at place_id id ps ≡ Some p
-    → Updates s t p.key None → IsTable t (without place_id id ps) (without seat_rank (seat_rank (seat_of a)) seats)
-close_kept s t id a p ps seats k f h u =
+seats_closed : (bench : Association → ℕ) (id : ℕ) (a : Association) (es : List Association) → Every IsId es → found id es ≡ Some a
+    → without seat_rank (seat_rank (seat_of bench a)) (seats_of bench es) ≡ seats_of bench (closed id es)
+seats_closed bench id a es k f =
+    ap (without seat_rank (seat_rank (seat_of bench a))) (seats_with bench id a es k f)
+    ∙ without-add seat_rank (seat_rank (seat_of bench a)) (seat_of bench a) (seats_of bench (closed id es)) refl
+
+pub close_kept : (s t : Slab Held) (id : ℕ) (a : Association) (p : SlabPlace) (ps : List SlabPlace) (seats chairs : List Seat) → IsTable s ps seats chairs → found id (entries_of s ps) ≡ Some a → at place_id id ps ≡ Some p
+    → Updates s t p.key None → IsTable t (without place_id id ps) (without seat_rank (seat_rank (seat_of station_bench a)) seats) (without seat_rank (seat_rank (seat_of number_bench a)) chairs)
+close_kept s t id a p ps seats chairs k f h u =
     let es = entries_of s ps in
     let e = close_entries s t id p ps k.keys h u in
     let gone = gone_other place_id place_key id p ps k.keys h in
@@ -137,15 +146,20 @@ close_kept s t id a p ps seats k f h u =
       keys = distinct_other place_id place_key id ps k.keys;
       held = same_held s t p.key (without place_id id ps) u.others gone (every-without (λ q. IsSome (get s q.key)) place_id id ps k.held);
       ids = subst (Every IsId) (sym e) (every-without IsId association_id id es k.ids);
-      seats = ap (without seat_rank (seat_rank (seat_of a))) (seats_with s id a ps seats k f)
-          ∙ without-add seat_rank (seat_rank (seat_of a)) (seat_of a) (map seat_of (ordered seating (closed id es))) refl ∙ ap (λ xs. map seat_of (ordered seating xs)) (sym e);
+      seats = ap (without seat_rank (seat_rank (seat_of station_bench a))) k.seats ∙ seats_closed station_bench id a es k.ids f ∙ ap (seats_of station_bench) (sym e);
+      numbers = ap (without seat_rank (seat_rank (seat_of number_bench a))) k.numbers ∙ seats_closed number_bench id a es k.ids f ∙ ap (seats_of number_bench) (sym e);
     }
 
+-- the same slab and lists
+pub same_kept : (s t : Slab Held) (ps qs : List SlabPlace) (seats stools chairs benches : List Seat) → IsTable s ps seats chairs → t ≡ s → qs ≡ ps → stools ≡ seats → benches ≡ chairs → IsTable t qs stools benches
+same_kept s t ps qs seats stools chairs benches k e f g h =
+    subst (λ x. IsTable x qs stools benches) (sym e) (subst (λ x. IsTable s x stools benches) (sym f) (subst (λ x. IsTable s ps x benches) (sym g) (subst (λ x. IsTable s ps seats x) (sym h) k)))
+
 -- more room
-pub kept_room : (s t : Slab Held) (ps qs : List SlabPlace) (seats chairs : List Seat) → IsTable s ps seats → t ≡ record s { capacity = t.capacity } → qs ≡ ps → chairs ≡ seats → IsTable t qs chairs
-kept_room s t ps qs seats chairs k e f g =
-    let there : IsTable (record s { capacity = t.capacity }) ps seats = record { rising = k.rising; keys = k.keys; held = k.held; ids = k.ids; seats = k.seats } in
-    subst (λ x. IsTable x qs chairs) (sym e) (subst (λ x. IsTable (record s { capacity = t.capacity }) x chairs) (sym f) (subst (IsTable (record s { capacity = t.capacity }) ps) (sym g) there))
+pub kept_room : (s t : Slab Held) (ps qs : List SlabPlace) (seats stools chairs benches : List Seat) → IsTable s ps seats chairs → t ≡ record s { capacity = t.capacity } → qs ≡ ps → stools ≡ seats → benches ≡ chairs → IsTable t qs stools benches
+kept_room s t ps qs seats stools chairs benches k e f g h =
+    let there : IsTable (record s { capacity = t.capacity }) ps seats chairs = record { rising = k.rising; keys = k.keys; held = k.held; ids = k.ids; seats = k.seats; numbers = k.numbers } in
+    same_kept (record s { capacity = t.capacity }) t ps qs seats stools chairs benches there e f g h
 
 pub when_ok : {X E Y : Type 0} (r : Result X E) (a b : Y) → IsOk r → (if is_ok r then a else b) ≡ a
 when_ok (Ok x) a b h = refl
@@ -175,17 +189,18 @@ copied_map s t (p ∷ ps) e =
 pub copied_entries : (s t : Slab Held) (ps qs : List SlabPlace) → t.slots ≡ s.slots → qs ≡ ps → entries_of t qs ≡ entries_of s ps
 copied_entries s t ps qs e f = ap (entries_of t) f ∙ copied_map s t ps e
 
-pub copied_kept : (s t : Slab Held) (ps qs : List SlabPlace) (seats chairs : List Seat) → IsTable s ps seats → t.slots ≡ s.slots → qs ≡ ps → chairs ≡ seats → IsTable t qs chairs
-copied_kept s t ps qs seats chairs k e f g =
+pub copied_kept : (s t : Slab Held) (ps qs : List SlabPlace) (seats stools chairs benches : List Seat) → IsTable s ps seats chairs → t.slots ≡ s.slots → qs ≡ ps → stools ≡ seats → benches ≡ chairs → IsTable t qs stools benches
+copied_kept s t ps qs seats stools chairs benches k e f g h =
     let es = copied_map s t ps e in
-    let there : IsTable t ps seats = record {
+    let there : IsTable t ps seats chairs = record {
       rising = k.rising;
       keys = k.keys;
       held = copied_held s t ps e k.held;
       ids = subst (Every IsId) (sym es) k.ids;
-      seats = k.seats ∙ ap (λ xs. map seat_of (ordered seating xs)) (sym es);
+      seats = k.seats ∙ ap (seats_of station_bench) (sym es);
+      numbers = k.numbers ∙ ap (seats_of number_bench) (sym es);
     } in
-    subst (λ x. IsTable t x chairs) (sym f) (subst (IsTable t ps) (sym g) there)
+    same_kept t t ps qs seats stools chairs benches there refl f g h
 
 pub on_some : {X P : Type 0} (o : Option X) → IsSome o → OnSome o P → P
 on_some None h p = absurd (cc)

@@ -1,5 +1,5 @@
 -- What a caller sees of the associations: the entries by id.
-use Rattle.std.specs.Prelude.{ℕ, List, [], ◌∷◌, Option, Some, None, ◌==◌, nat_le, if◌then◌else◌}
+use Rattle.std.specs.Prelude.{ℕ, List, [], ◌∷◌, Option, ◌==◌, if◌then◌else◌}
 use Rattle.association_table.specs.declared.association.Association.{Association}
 use Rattle.ordered_lists.specs.Ordered.{at, add, without}
 
@@ -33,8 +33,3 @@ at_station e (a ∷ es) = if a.station == e then a ∷ at_station e es else at_s
 abbrev pub elsewhere : ℕ → List Association → List Association
 elsewhere e [] = []
 elsewhere e (a ∷ es) = if a.station == e then elsewhere e es else a ∷ elsewhere e es
-
--- the first entry of a station whose id is at least the number
-abbrev pub first_from : ℕ → ℕ → List Association → Option Association
-first_from e n [] = None
-first_from e n (a ∷ es) = if a.station == e then (if nat_le n a.id then Some a else first_from e n es) else first_from e n es

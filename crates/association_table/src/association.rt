@@ -1,4 +1,9 @@
-//! An association, and why a change of the map was refused.
+//! An association, how a list names one, and why a change of the map was refused.
+
+ghost use Rattle.std.specs.Prelude.{◌≡◌, ℕ};
+ghost use Rattle.association_table.specs.Table.{association_id};
+
+use sorted_list::Keyed;
 
 /// Whose association it is.
 #[derive(Clone, Copy, PartialEq, Eq, Debug)]
@@ -19,6 +24,23 @@ pub struct Association {
     pub station: u8,
     /// eNB UE S1AP ID (TS 36.413 clause 9.2.3.4).
     pub enb_id: u32,
+}
+
+impl Keyed for Association {
+    ghost rank = { association_id };
+
+    fn key(&self) -> u128 {
+        u128::from(self.id)
+    }
+}
+
+/// What a list names associations of a station by: the ids that are given of them (TS 36.413 clause 9.1.8.1).
+#[derive(Clone, Copy, PartialEq, Eq, Debug)]
+pub struct Listed {
+    /// MME UE S1AP ID.
+    pub id: Option<u32>,
+    /// eNB UE S1AP ID.
+    pub enb_id: Option<u32>,
 }
 
 /// Why an association was not opened, in the order of the checks.

@@ -6,8 +6,9 @@
 #![tactic(auto)]
 
 mod association;
+mod gathering;
 mod places;
 mod table;
 
-pub use association::{Association, AssociationOwner, MoveFault, OpenFault};
+pub use association::{Association, AssociationOwner, Listed, MoveFault, OpenFault};
 pub use table::Associations;

@@ -1,10 +1,10 @@
-//! The two lists in order that lead to the slab's entries: by id, and by station and id.
+//! The three lists in order that lead to the slab's entries: by id, by station and id, and by station, eNB UE id and id.
 
 ghost use Rattle.std.specs.Prelude.{◌≡◌, ℕ, ◌+◌, ◌*◌, ◌<◌, ◌≤◌, ◌^◌, Option, None, IsSome, true, is_some};
 ghost use Rattle.ordered_lists.specs.Ordered.{at, add, without, Rising, Every};
-ghost use Rattle.association_table.specs.Kept.{place_id, seat_rank, IsSeat, first_seat};
+ghost use Rattle.association_table.specs.Kept.{place_id, seat_of, seat_rank, station_bench, number_bench, bench_at, IsSeat, first_seat};
 
-use crate::association::AssociationOwner;
+use crate::association::{Association, AssociationOwner};
 use sorted_list::{Keyed, SortedList};
 
 /// What the slab holds of an association.
@@ -30,25 +30,54 @@ impl Keyed for SlabPlace {
     }
 }
 
-/// An association of a station.
+/// An association on its bench: among those of a station, or of an eNB UE id there.
 #[derive(Clone, Copy)]
 pub(crate) struct Seat {
-    pub(crate) station: u8,
+    pub(crate) bench: u64,
     pub(crate) id: u32,
 }
 
-/// The number by which seats are kept in order: the station above the 32 bits of the id.
-fn seat_rank(seat: Seat) -> u64
+/// The bench of an eNB UE id of a station: the station above the 32 bits of the id.
+pub(crate) fn bench_at(station: u8, enb_id: u32) -> u64
+    ensures bench { result ≡ bench_at station enb_id }
+    ensures small { enb_id < 2 ^ 32 }
+{
+    u64::from(station) * 0x1_0000_0000 + u64::from(enb_id)
+}
+
+/// Where an association sits among those of its station.
+pub(crate) fn station_seat(association: Association) -> Seat
+    ensures { result ≡ seat_of station_bench association }
+{
+    Seat {
+        bench: u64::from(association.station),
+        id: association.id,
+    }
+}
+
+/// Where an association sits among those of its eNB UE id.
+pub(crate) fn number_seat(association: Association) -> Seat
+    ensures seat { result ≡ seat_of number_bench association }
+    ensures small { association.enb_id < 2 ^ 32 }
+{
+    Seat {
+        bench: bench_at(association.station, association.enb_id),
+        id: association.id,
+    }
+}
+
+/// The number by which seats are kept in order: the bench above the 32 bits of the id.
+fn seat_rank(seat: Seat) -> u128
     ensures { result ≡ seat_rank seat }
 {
-    u64::from(seat.station) * 0x1_0000_0000 + u64::from(seat.id)
+    u128::from(seat.bench) * 0x1_0000_0000 + u128::from(seat.id)
 }
 
 impl Keyed for Seat {
     ghost rank = { seat_rank };
 
     fn key(&self) -> u128 {
-        u128::from(seat_rank(*self))
+        seat_rank(*self)
     }
 }
 
@@ -76,18 +105,18 @@ pub(crate) fn take_seat(seats: &mut SortedList<Seat>, seat: Seat)
     ensures room { seats.old.steady ≡ true → seats.old.room + 1 ≤ seats.new.room }
     ensures steady { seats.new.steady ≡ seats.old.steady }
 {
-    seats.take(u128::from(seat_rank(seat)));
+    seats.take(seat_rank(seat));
 }
 
-/// The station's seat with the lowest id of at least `least`: that id.
-pub(crate) fn first_seat(seats: &SortedList<Seat>, station: u8, least: u64) -> Option<u32>
+/// The bench's seat with the lowest id of at least `least`: that id.
+pub(crate) fn first_seat(seats: &SortedList<Seat>, bench: u64, least: u64) -> Option<u32>
     requires rising { Rising seat_rank seats.now.items }
     requires small { Every IsSeat seats.now.items }
     requires least { least ≤ 2 ^ 32 }
-    ensures { result ≡ first_seat station least seats.now.items }
+    ensures { result ≡ first_seat bench least seats.now.items }
 {
-    let seat = seats.first_from(u128::from(u64::from(station) * 0x1_0000_0000 + least))?;
-    if seat.station != station {
+    let seat = seats.first_from(u128::from(bench) * 0x1_0000_0000 + u128::from(least))?;
+    if seat.bench != bench {
         return None;
     }
     Some(seat.id)

@@ -4,16 +4,23 @@ ghost use Rattle.std.specs.Prelude.{◌≡◌, ℕ, ◌+◌, ◌-◌, ◌*◌, �
 ghost use Rattle.association_table.specs.declared.association.OpenFault.TheVariants.{Taken};
 ghost use Rattle.association_table.specs.declared.association.MoveFault.TheVariants.{Unknown};
 ghost use Rattle.ordered_lists.specs.Ordered.{Rising};
-ghost use Rattle.association_table.specs.Table.{association_id, found, opened, closed, moved, at_station, elsewhere, first_from};
+ghost use Rattle.association_table.specs.Table.{association_id, found, opened, closed, moved, at_station, elsewhere};
+ghost use Rattle.association_table.specs.Listing.{listed_at, unlisted};
+ghost use Rattle.association_table.specs.Kept.{station_bench, first_from};
+ghost use Rattle.association_table.specs.Gathering.{first_numbered, closed_all};
 
-use crate::association::{Association, MoveFault, OpenFault};
-use crate::places::{Held, Seat, SlabPlace, find_place, first_seat, take_place, take_seat};
+use crate::association::{Association, Listed, MoveFault, OpenFault};
+use crate::gathering::gathered;
+use crate::places::{
+    Held, Seat, SlabPlace, bench_at, find_place, first_seat, number_seat, station_seat, take_place,
+    take_seat,
+};
 use slab::Slab;
 use sorted_list::SortedList;
 use std::alloc::{AllocError, Global};
 use std::marker::Model;
 
-fn association_id(association: Association) -> u32
+pub(crate) fn association_id(association: Association) -> u32
     ensures { result ≡ association.id }
 {
     association.id
@@ -25,6 +32,7 @@ pub struct Associations {
     slab: Slab<Held>,
     by_id: SortedList<SlabPlace>,
     by_station: SortedList<Seat>,
+    by_number: SortedList<Seat>,
     alloc: Global,
 }
 
@@ -37,9 +45,9 @@ impl Model for Associations {
 
     ghost use Rattle.association_table.specs.Kept.{entries_of, IsTable};
 
-    ghost view = { λ t. record { entries = entries_of t.slab t.by_id.items; room = min (t.slab.capacity - slab_len t.slab) (min t.by_id.room t.by_station.room) } };
+    ghost view = { λ t. record { entries = entries_of t.slab t.by_id.items; room = min (t.slab.capacity - slab_len t.slab) (min t.by_id.room (min t.by_station.room t.by_number.room)) } };
 
-    ghost invariant = { λ t. IsTable t.slab t.by_id.items t.by_station.items × (t.by_id.steady ≡ true) × (t.by_station.steady ≡ true) };
+    ghost invariant = { λ t. IsTable t.slab t.by_id.items t.by_station.items t.by_number.items × (t.by_id.steady ≡ true) × (t.by_station.steady ≡ true) × (t.by_number.steady ≡ true) };
 }
 
 impl Associations {
@@ -51,6 +59,7 @@ impl Associations {
             slab: Slab::new(alloc),
             by_id: SortedList::steady(alloc),
             by_station: SortedList::steady(alloc),
+            by_number: SortedList::steady(alloc),
             alloc,
         }
     }
@@ -81,6 +90,7 @@ impl Associations {
         self.slab.reserve(more)?;
         self.by_id.reserve(more)?;
         self.by_station.reserve(more)?;
+        self.by_number.reserve(more)?;
         Ok(())
     }
 
@@ -110,17 +120,16 @@ impl Associations {
         ensures room { self.old.room ≤ self.new.room + 1 }
     {
         let id = association_id(association);
-        let seat = Seat {
-            station: association.station,
-            id,
-        };
+        let station_seat = station_seat(association);
+        let number_seat = number_seat(association);
         let key = self.slab.insert_reserved(Held {
             owner: association.owner,
             station: association.station,
             enb_id: association.enb_id,
         });
         self.by_id.insert_reserved(SlabPlace { id, key });
-        self.by_station.insert_reserved(seat);
+        self.by_station.insert_reserved(station_seat);
+        self.by_number.insert_reserved(number_seat);
     }
 
     /// Moves an association to another station and eNB UE id; Unknown where there is none. Takes no memory.
@@ -166,20 +175,29 @@ impl Associations {
     {
         let place = take_place(&mut self.by_id, association.id).unwrap();
         let _ = self.slab.try_remove(place.key);
-        let seat = Seat {
-            station: association.station,
-            id: association.id,
-        };
-        take_seat(&mut self.by_station, seat);
+        take_seat(&mut self.by_station, station_seat(association));
+        take_seat(&mut self.by_number, number_seat(association));
     }
 
     /// The station's association with the lowest id of at least `least`.
     fn first_at(&self, station: u8, least: u64) -> Option<Association>
         requires { least ≤ 2 ^ 32 }
-        ensures value { result ≡ first_from station least self.now.entries }
+        ensures value { result ≡ first_from station_bench station least self.now.entries }
         ensures order { Rising association_id self.now.entries }
     {
-        match first_seat(&self.by_station, station, least) {
+        match first_seat(&self.by_station, u64::from(station), least) {
+            Some(id) => self.find(id),
+            None => None,
+        }
+    }
+
+    /// The association of a station with an eNB UE id, and with the lowest id of at least `least`.
+    pub(crate) fn first_numbered(&self, station: u8, enb_id: u32, least: u64) -> Option<Association>
+        requires { least ≤ 2 ^ 32 }
+        ensures value { result ≡ first_numbered station enb_id least self.now.entries }
+        ensures order { Rising association_id self.now.entries }
+    {
+        match first_seat(&self.by_number, bench_at(station, enb_id), least) {
             Some(id) => self.find(id),
             None => None,
         }
@@ -221,6 +239,35 @@ impl Associations {
         Ok(entries)
     }
 
+    /// Closes the associations of a station that some item of a list matches, and answers them by id (TS 36.413 clause
+    /// 8.7.1.2.2): an item matches where it gives an id, and each id that it gives is the association's. NoMemory where room
+    /// for the answer was refused: then the entries are as they were.
+    pub fn close_listed(
+        &mut self,
+        station: u8,
+        items: &[Listed],
+    ) -> Result<Vec<Association>, AllocError>
+        ensures answer { IfOk result (λ entries. entries.items ≡ listed_at station items.now self.old.entries) }
+        ensures entries { OnOk result (self.new.entries ≡ unlisted station items.now self.old.entries) }
+        ensures err { OnErr result (self.new ≡ self.old) }
+        ensures room { self.old.room ≤ self.new.room }
+    {
+        let gathered = gathered(self.alloc, self, station, items)?;
+        let listed = gathered.items(self.alloc)?;
+        self.close_all(gathered);
+        Ok(listed)
+    }
+
+    /// Closes those that were gathered. Takes no memory.
+    fn close_all(&mut self, mut gathered: SortedList<Association>)
+        ensures entries { self.new.entries ≡ closed_all gathered.items self.old.entries }
+        ensures room { self.old.room ≤ self.new.room }
+    {
+        while let Some(association) = gathered.take_first() {
+            self.close(association.id);
+        }
+    }
+
     /// An equal map: the same entries.
     pub fn copy(&self) -> Result<Associations, AllocError>
         ensures { IfOk result (λ copy. copy.entries ≡ self.now.entries) }
@@ -229,6 +276,7 @@ impl Associations {
             slab: self.slab.clone()?,
             by_id: self.by_id.copy()?,
             by_station: self.by_station.copy()?,
+            by_number: self.by_number.copy()?,
             alloc: self.alloc,
         })
     }

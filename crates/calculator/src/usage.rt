@@ -23,7 +23,7 @@ Timers      timers new CLOCK | start OWNER KIND TICKS | start_reserved OWNER KIN
 \x20           left OWNER KIND | clock | tick | due | pass | copy | back\n\
 Association associations new | open ID OWNER STATION NUMBER | open_reserved ID OWNER STATION NUMBER\n\
 \x20           find ID | move ID STATION NUMBER | close ID | at STATION | close_station STATION\n\
-\x20           clear_station STATION | copy | back\n\
+\x20           clear_station STATION | close_listed STATION ID|-.NUMBER|- .. | copy | back\n\
 Bearer      bearer new | state | request OCTETS | asks_information | information_request | is_of_request PTI\n\
 \x20           activate APN ADDRESS | accept OCTETS | disconnect PTI | message OCTETS | awaited OCTETS\n\
 Context     context new KASME KSI DOWN_NEXT UP_LAST|none | protect 1..4 OCTETS | accept OCTETS\n\

@@ -2,7 +2,7 @@
 
 ghost use Rattle.std.specs.Prelude.{◌<◌, ◌≤◌};
 
-use association_table::{Association, AssociationOwner, Associations};
+use association_table::{Association, AssociationOwner, Associations, Listed};
 use call_text::{Answer, Call, Fault, Field, Text};
 use std::alloc::{AllocError, Global};
 
@@ -30,6 +30,7 @@ impl AssociationDesk {
             "find" | "close" => self.id_answer(call),
             "move" => self.moved(call),
             "at" | "close_station" | "clear_station" => self.station_answer(call),
+            "close_listed" => self.close_listed(call),
             _ => self.plain_answer(call),
         }
     }
@@ -67,6 +68,20 @@ impl AssociationDesk {
                 call.word_answer("cleared")
             }
         }
+    }
+
+    /// Closes what the items behind a station mean.
+    fn close_listed(&mut self, call: Call) -> Answer {
+        let (station, others) = call.first()?;
+        let mut items = Vec::new(call.alloc);
+        for text in others.fields {
+            let ItemWord(item) = ItemWord::read(call.alloc, *text)?;
+            items.push(item)?;
+        }
+        associations_answer(
+            call,
+            self.associations.close_listed(station, items.as_slice()),
+        )
     }
 
     /// The answer of a call that has no field.
@@ -161,4 +176,27 @@ impl<'a> Field<'a> for OwnerWord {
             None => Err(Fault::Name),
         }
     }
+}
+
+/// An id and a number with a dot between, each `-` where it isn't given.
+#[derive(Clone, Copy)]
+struct ItemWord(Listed);
+
+impl<'a> Field<'a> for ItemWord {
+    fn read(alloc: Global, text: &'a str) -> Result<ItemWord, Fault> {
+        let Some((id, enb_id)) = text.split_once(".") else {
+            return Err(Fault::Name);
+        };
+        Ok(ItemWord(Listed {
+            id: given_number(alloc, id)?,
+            enb_id: given_number(alloc, enb_id)?,
+        }))
+    }
+}
+
+fn given_number(alloc: Global, text: &str) -> Result<Option<u32>, Fault> {
+    if text == "-" {
+        return Ok(None);
+    }
+    Ok(Some(u32::read(alloc, text)?))
 }

@@ -3,7 +3,7 @@
 ghost use Rattle.std.specs.Prelude.{◌≡◌, ◌≤◌, OnOk};
 
 use super::must;
-use association_table::{Association, AssociationOwner, Associations, OpenFault};
+use association_table::{Association, AssociationOwner, Associations, Listed, OpenFault};
 use std::test::Fail;
 
 fn phone(id: u32, slot: u32, station: u8, enb_id: u32) -> Association
@@ -99,4 +99,67 @@ fn open_in_room(associations: &mut Associations) -> Result<(), Fail> {
 fn room_for_two(rt: HostRuntime) -> Result<(), Fail> {
     let mut associations = Associations::new(rt.alloc());
     open_in_room(&mut associations)
+}
+
+/// An item with an eNB UE id alone, which two have, and one with an id.
+fn listed() -> [Listed; 2] {
+    [
+        Listed {
+            id: None,
+            enb_id: Some(9),
+        },
+        Listed {
+            id: Some(3),
+            enb_id: None,
+        },
+    ]
+}
+
+fn open_again(associations: &mut Associations, association: Association) -> Result<(), Fail> {
+    if associations.open(association).is_err() {
+        associations.open(association)?;
+    }
+    Ok(())
+}
+
+fn close_listed_again(associations: &mut Associations) -> Result<Vec<Association>, Fail> {
+    must(
+        associations.find(1) == Some(first()),
+        "1 closed, and refused",
+    )?;
+    must(
+        associations.find(2) == Some(phone(2, 0, 127, 9)),
+        "2 closed, and refused",
+    )?;
+    must(
+        associations.find(3) == Some(phone(3, 0, 127, 8)),
+        "3 closed, and refused",
+    )?;
+    Ok(associations.close_listed(127, listed().as_slice())?)
+}
+
+fn close_three(associations: &mut Associations) -> Result<(), Fail> {
+    open_again(associations, phone(2, 0, 127, 9))?;
+    open_again(associations, phone(3, 0, 127, 8))?;
+    open_again(associations, phone(4, 0, 127, 7))?;
+    open_again(associations, first())?;
+    let closed = match associations.close_listed(127, listed().as_slice()) {
+        Ok(closed) => closed,
+        Err(_) => close_listed_again(associations)?,
+    };
+    let three = [first(), phone(2, 0, 127, 9), phone(3, 0, 127, 8)];
+    must(closed.as_slice() == three.as_slice(), "others closed")?;
+    must(associations.find(1).is_none(), "1 stays")?;
+    must(associations.find(2).is_none(), "2 stays")?;
+    must(associations.find(3).is_none(), "3 stays")?;
+    must(
+        associations.find(4) == Some(phone(4, 0, 127, 7)),
+        "4 closed",
+    )
+}
+
+#[test]
+fn refused_close_of_a_list(rt: HostRuntime) -> Result<(), Fail> {
+    let mut associations = Associations::new(rt.alloc());
+    close_three(&mut associations)
 }

@@ -9,9 +9,10 @@ slots c = same_from_all_zip _ c.self.inside.slab.slots c.in_ok-clone.field-0.slo
 
 pub invariant_of-result : goal.invariant_of-result
 invariant_of-result c = (
-  copied_kept c.self.inside.slab c.in_ok-clone.field-0 c.self.inside.by_id.items _ c.self.inside.by_station.items _ c.self.invariant.0 (slots c) c.in_ok-copy.ensures.items c.in_ok-copy-2.ensures.items,
+  copied_kept c.self.inside.slab c.in_ok-clone.field-0 c.self.inside.by_id.items _ c.self.inside.by_station.items _ c.self.inside.by_number.items _ c.self.invariant.0 (slots c) c.in_ok-copy.ensures.items c.in_ok-copy-2.ensures.items c.in_ok-copy-3.ensures.items,
   c.in_ok-copy.ensures.steady ∙ c.self.invariant.1,
   c.in_ok-copy-2.ensures.steady ∙ c.self.invariant.2,
+  c.in_ok-copy-3.ensures.steady ∙ c.self.invariant.3,
 )
 
 pub returns : goal.returns
