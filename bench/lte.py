@@ -221,6 +221,7 @@ RADIO, NAS = (0, 6), (2, 2)
 USER_INACTIVITY, UNKNOWN_MME_ID, UNKNOWN_PAIR = (RADIO, 20), (RADIO, 13), (RADIO, 15)
 NORMAL_RELEASE, DETACHED, NAS_UNSPECIFIED = (NAS, 0), (NAS, 2), (NAS, 3)
 SYNTAX, NOT_COMPATIBLE = ((3, 3), 0), ((3, 3), 3)
+OM_INTERVENTION = ((4, 3), 3)
 
 
 def cause(group_and_number):
@@ -242,9 +243,17 @@ def address_and_tunnel(item, address, teid):
     return item.put(0, 1).whole(32, 1, 160).octets(address).octets(teid)
 
 
+def put_list(out, number, criticality, items):
+    """The octets with a list behind them, each item an element with this id and criticality."""
+    out.whole(len(items), 1, 256)
+    for item in items:
+        out.put(number, 16).put(criticality, 2).open(item.done())
+    return out.done()
+
+
 def listed_item(number, criticality, item):
     """A list of one item."""
-    return Bits().whole(1, 1, 256).put(number, 16).put(criticality, 2).open(item.done()).done()
+    return put_list(Bits(), number, criticality, [item])
 
 
 def rab_at(number, criticality, address, teid):
@@ -297,6 +306,29 @@ def security_key(key):
 
 def security_context(chaining, key):
     return 40, Bits().put(0, 2).whole(chaining, 0, 7).octets(key).done()
+
+
+def association(ids):
+    """An association by its MME UE S1AP ID and its eNB UE S1AP ID, nothing for one that isn't given."""
+    m, b = ids
+    item = Bits().put(0, 1).put(m is not None, 1).put(b is not None, 1).put(0, 1)
+    if m is not None:
+        item.whole(m, 0, 2**32 - 1)
+    if b is not None:
+        item.whole(b, 0, 2**24 - 1)
+    return item
+
+
+WHOLE_INTERFACE = 92, bits((0, 3))
+
+
+def part_of_interface(*associations):
+    """ResetType, the alternative of a list of associations, each by its ids."""
+    return 92, put_list(Bits().put(0, 1).put(1, 1), 91, REJECT, [association(ids) for ids in associations])
+
+
+def associations_reset(*associations):
+    return 93, put_list(Bits(), 91, IGNORE, [association(ids) for ids in associations])
 
 
 def enb_identity(network, number):
@@ -381,6 +413,16 @@ def error_indication(why, ids=()):
     """With both ids, or without them."""
     named = [(IGNORE, mme_id(ids[0])), (IGNORE, enb_id(ids[1]))] if ids else []
     return s1ap(INITIATING, 15, IGNORE, *named, (IGNORE, cause(why)))
+
+
+def reset(reset_type=WHOLE_INTERFACE, why=OM_INTERVENTION):
+    return s1ap(INITIATING, 14, REJECT, (IGNORE, cause(why)), (REJECT, reset_type))
+
+
+def reset_acknowledge(*associations):
+    """With the associations of a part, or without a list."""
+    named = [(IGNORE, associations_reset(*associations))] if associations else []
+    return s1ap(SUCCESSFUL, 14, REJECT, *named)
 
 
 def paging(network, imsi, tmsi, tac):

@@ -81,6 +81,12 @@ class Trace:
         self.hear(station, lte.s1_setup_request(self.network, station))
         self.owe("e%d" % station.number, station, lte.s1_setup_response(self.network))
 
+    def set_back(self, station, *associations):
+        """RESET of these associations, each by its ids, or of the whole interface; owed RESET ACKNOWLEDGE with the same."""
+        reset_type = lte.part_of_interface(*associations) if associations else lte.WHOLE_INTERFACE
+        self.hear(station, lte.reset(reset_type))
+        self.owe("e%d" % station.number, station, lte.reset_acknowledge(*associations))
+
     def text(self):
         return "\n".join(self.lines) + "\n"
 
@@ -226,9 +232,17 @@ class Phone:
         self.trace.hear(self.station, lte.release_complete(self.m, self.b))
         self.station = self.b = None
 
+    def is_gone(self):
+        """The association has ended without a word."""
+        self.station = self.b = None
+
     def has_data_waiting(self, stations):
         """Downlink data for an idle phone; owed PAGING by each of these stations."""
         self.trace.say("data " + self.imsi)
+        self.is_paged(stations)
+
+    def is_paged(self, stations):
+        """Owed PAGING by each of these stations."""
         for station in stations:
             octets = lte.paging(self.network, self.imsi, self.tmsi, self.accepted_tac)
             self.trace.owe("s%d" % self.slot, station, octets)

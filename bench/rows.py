@@ -9,6 +9,7 @@ import argparse
 import os
 import sys
 
+import lte
 from phones import CONNECTED, IDLE, PENDING, UNDER_WAY, KNOWN_VECTOR, Network, Phone, Station, Trace, Vector
 
 FOLDER = os.path.join(os.path.dirname(os.path.abspath(__file__)), "..", "tests", "rows")
@@ -271,6 +272,194 @@ def path_switch_after_tau():
     phone.shows("COMMON-PROCEDURE-INITIATED CONNECTED ACTIVE")
     phone.completes_update(from_idle=True)
     phone.shows(IDLE)
+    return trace
+
+
+# --- RESET of a part of the interface (TS 36.413 clause 8.7.1) ---
+
+
+def connected_at(*numbers):
+    """A station with a connected phone for each of these eNB UE ids."""
+    def made_for(trace):
+        return [Phone(trace, slot, [Vector.made("reset %d" % slot)]) for slot in range(len(numbers))]
+
+    trace, [station], made = begun(made_for)
+    for phone, b in zip(made, numbers):
+        phone.attaches(station, b)
+    return trace, station, made
+
+
+def goes_on(phone):
+    """Its connection is there."""
+    phone.updates()
+    phone.completes_update(from_idle=False)
+    phone.shows(CONNECTED)
+
+
+def was_set_back(phone):
+    """Its connection has ended without a word: the id is nobody's, and the phone is idle."""
+    phone.trace.hear(phone.station, lte.release_request(phone.m, phone.b, lte.USER_INACTIVITY))
+    phone.owed(lte.error_indication(lte.UNKNOWN_MME_ID, (phone.m, phone.b)))
+    phone.is_gone()
+    phone.shows(IDLE)
+
+
+@row
+def reset_of_nobody():
+    """RESET of items that give no id, of ids of nobody, of an idle phone's last association and of numbers that no phone
+    has: all stand in the acknowledgement in their order, and the phone that is connected stays."""
+    trace, station, [phone, idle] = connected_at(1, 2)
+    last = idle.m
+    idle.is_released()
+    trace.set_back(station, (None, None))
+    trace.set_back(station, (last, None), (None, None), (last, 2), (0, None), (None, 2), (None, None), (lte.id_of_slot(0, 2), None),
+                   (lte.id_of_slot(9, 1), 1), (2**32 - 1, None), (None, 2**24 - 1), (None, 0))
+    idle.shows(IDLE)
+    phone.shows(CONNECTED)
+    goes_on(phone)
+    return trace
+
+
+@row
+def reset_at_another_station():
+    """RESET by another station than the phone's, of its id, its number and both: the phone stays. It moves there by path
+    switch: now its old station's RESET leaves it, and the other's ends its connection."""
+    trace, [own, other], [phone] = one_phone_at_two()
+    phone.attaches(own, 1)
+    trace.set_back(other, (phone.m, None), (None, 1), (phone.m, 1))
+    phone.shows(CONNECTED)
+    phone.switches_path(other, 9)
+    trace.set_back(own, (phone.m, None), (None, 1), (phone.m, 1), (None, 9), (phone.m, 9))
+    goes_on(phone)
+    trace.set_back(other, (phone.m, None))
+    was_set_back(phone)
+    return trace
+
+
+@row
+def reset_of_another_pair():
+    """RESET of two phones' ids, each with another number: both phones stay. With its own number one is set back; it comes
+    again, as the phone that it is."""
+    trace, station, [first, second] = connected_at(1, 2)
+    trace.set_back(station, (first.m, 2), (second.m, 1), (first.m, 3))
+    goes_on(first)
+    goes_on(second)
+    trace.set_back(station, (second.m, 1), (first.m, 1))
+    was_set_back(first)
+    goes_on(second)
+    first.updates_from_idle(station, 1)
+    first.completes_update(from_idle=True)
+    first.shows(IDLE)
+    return trace
+
+
+@row
+def reset_of_one_thrice():
+    """RESET of an association by its id, by its id again, and by both: the phone is set back, and all three items are
+    acknowledged."""
+    trace, station, [phone, other] = connected_at(1, 2)
+    trace.set_back(station, (phone.m, None), (phone.m, None), (phone.m, 1))
+    was_set_back(phone)
+    goes_on(other)
+    return trace
+
+
+@row
+def reset_by_number_0():
+    """Number 0 is a number, and MME UE S1AP ID 0 an id, which nobody has here."""
+    trace, station, [phone, other] = connected_at(0, 1)
+    trace.set_back(station, (0, None), (0, 0), (0, 1))
+    goes_on(phone)
+    trace.set_back(station, (None, 0))
+    was_set_back(phone)
+    goes_on(other)
+    return trace
+
+
+@row
+def reset_of_a_part_before_setup():
+    """RESET of a part by a station that is down, and by one that isn't set up: refused, and message-not-compatible. Set up,
+    its RESET is acknowledged. A phone at another station stays."""
+    trace, station, [phone] = connected_at(1)
+    other, asked = Station(1, 2, 2, 0x201), ((phone.m, None), (None, 1))
+    trace.hear(other, lte.reset(lte.part_of_interface(*asked)))
+    trace.answers.append("refused 1")
+    trace.say("up 1")
+    trace.hear(other, lte.reset(lte.part_of_interface(*asked)))
+    trace.owe("e1", other, lte.error_indication(lte.NOT_COMPATIBLE))
+    trace.set_up(other, connects=False)
+    trace.set_back(other, *asked)
+    goes_on(phone)
+    return trace
+
+
+@row
+def reset_while_paged():
+    """A phone is paged at two stations. RESET of a part, of its last association, strikes neither: both are asked once more.
+    Behind the paging it is paged anew, and RESET of the whole interface strikes its station."""
+    trace, [own, other], [phone] = begun(lambda trace: [Phone(trace, 0)], [Station(0), Station(1, 2, 1, 0x201)])
+    phone.attaches(own, 1)
+    last = phone.m
+    phone.is_released()
+    phone.has_data_waiting([own, other])
+    trace.say("tick 4")
+    trace.set_back(own, (last, None), (None, 1))
+    trace.set_back(other, (None, 1))
+    trace.say("tick 5")
+    phone.shows(IDLE)
+    trace.say("tick 1")
+    phone.is_paged([own, other])
+    trace.say("tick 10")
+    phone.shows(IDLE)
+    phone.has_data_waiting([own, other])
+    trace.set_back(own)
+    trace.say("tick 10")
+    phone.is_paged([other])
+    phone.shows(IDLE)
+    return trace
+
+
+# What no ResetType is (X.691 clauses 11, 13, 19, 20, 23; TS 36.413 clause 9.1.8.1), and why.
+NO_RESET_TYPES = (
+    "40",  # a part without a list
+    "4000",  # an item is announced, and there is none: a list has one at the least
+    "4001005b00022001",  # two are announced, and there is one
+    "4000005b0005" + "2c01000000",  # an eNB UE S1AP ID of four octets
+    "4000005b0003" + "440001",  # an MME UE S1AP ID in two octets where one is enough
+    "4000005b0002" + "2101",  # a padding of 1
+    "4000005b0003" + "200100",  # an octet behind an item
+    "4000005b00022001" + "00",  # an octet behind the list
+    "4000005b0001" + "20",  # an item whose number is missing
+    "4000005a00022001",  # an item of another element
+    "4000005bc0022001",  # no criticality
+    "7f00005b00022001",  # paddings of 1 before the list
+    "8000",  # an alternative of a later release
+)
+
+
+@row
+def reset_of_no_part():
+    """RESET whose list can't be read: transfer-syntax-error each time, and the phone stays."""
+    trace, station, [phone] = connected_at(1)
+    for octets in NO_RESET_TYPES:
+        trace.hear(station, lte.reset((92, bytes.fromhex(octets))))
+        trace.owe("e0", station, lte.error_indication(lte.SYNTAX))
+    phone.shows(CONNECTED)
+    goes_on(phone)
+    return trace
+
+
+@row
+def reset_with_more_in_an_item():
+    """An item marked notify, with iE-Extensions and additions of a later release, which are passed over: the acknowledgement has
+    its id alone, marked ignore."""
+    trace, station, [phone] = connected_at(1)
+    extensions, additions = "000100070002010200078000", "028002aabb"
+    item = bytes.fromhex("d001" + extensions + additions)
+    listed = bytes.fromhex("4000005b80") + lte.sized(item)
+    trace.hear(station, lte.reset((92, listed)))
+    trace.owe("e0", station, lte.reset_acknowledge((phone.m, None)))
+    was_set_back(phone)
     return trace
 
 

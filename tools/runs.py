@@ -310,7 +310,8 @@ class Causes:
         if answer.owner != "e%d" % event.station or any(other.owner == answer.owner for _, other in step.answers):
             return False
         if said.message.code != s1ap.ERROR:
-            return heard.outcome == (said.message.code, s1ap.INITIATING)
+            same = s1ap.listed(heard.message) == s1ap.listed(said.message)
+            return same and heard.outcome == (said.message.code, s1ap.INITIATING)
         wrong = heard.message.fault or heard.outcome not in s1ap.OF_STATION
         return bool(wrong) or event.station not in self.ready
 

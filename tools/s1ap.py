@@ -61,6 +61,7 @@ OF_MME |= {(code, outcome) for code in (SETUP, PATH_SWITCH) for outcome in (SUCC
 
 # Protocol IEs (clause 9.3.6).
 MME_ID, CAUSE, ENB_ID, SETUP_LIST, NAS_PDU, SOURCE_MME_ID, S_TMSI, BOTH_IDS = 0, 2, 8, 24, 26, 88, 96, 99
+RESET_TYPE, RESET_LIST = 92, 93
 
 # The groups of causes with the bits of their root, and the names in it (clause 9.2.1.3, Release 8).
 RADIO_CAUSES = """unspecified tx2relocoverall-expiry successful-handover release-due-to-eutran-generated-reason
@@ -230,6 +231,35 @@ def ids(message):
         return reader.sized_number(2), reader.sized_number(2)
     except Unreadable:
         return None, None
+
+
+def listed(message):
+    """The associations of a RESET of a part, or of its acknowledgement (clause 9.1.8), or nothing where there is no list: of each
+    its MME UE S1AP ID and its eNB UE S1AP ID, nothing for one that isn't given."""
+    try:
+        if message.code == RESET and RESET_TYPE in message.elements:
+            reader = Reader(message.elements[RESET_TYPE])
+            extended, part = reader.bits(1), reader.bits(1)
+            return associations(reader) if part and not extended else None
+        if message.code == RESET and RESET_LIST in message.elements:
+            return associations(Reader(message.elements[RESET_LIST]))
+    except Unreadable:
+        pass
+    return None
+
+
+def associations(reader):
+    """A list of associations, each in an element of its own."""
+    found = []
+    for _ in range(reader.whole(1)[0] + 1):
+        reader.whole(2)
+        reader.bits(2)
+        item = Reader(reader.open())
+        item.bits(1)
+        has_mme_id, has_enb_id, _ = item.bits(1), item.bits(1), item.bits(1)
+        mme_id = item.sized_number(2) if has_mme_id else None
+        found.append((mme_id, item.sized_number(2) if has_enb_id else None))
+    return found
 
 
 def tmsi(message):

@@ -13,7 +13,7 @@ del sys.path[0]
 PROGRAM = tables.TOP / "crates" / "mme" / "out" / "mme"
 ATTACH_REJECT = 0x44
 
-Sent = collections.namedtuple("Sent", "owner text mme_id enb_id station nas")
+Sent = collections.namedtuple("Sent", "owner text mme_id enb_id station nas listed")
 Group = collections.namedtuple("Group", "sent refused states")
 
 
@@ -46,7 +46,8 @@ def read_sent(owner, station, octets):
         text += " with " + nas_text(nas)
     elif cause:
         text += " " + cause
-    return Sent(owner, text, *s1ap.ids(message), station, nas)
+    listed = s1ap.listed(message)
+    return Sent(owner, text + " with the list" * (listed is not None), *s1ap.ids(message), station, nas, listed)
 
 
 def groups_of(output):

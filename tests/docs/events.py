@@ -365,7 +365,7 @@ def station_event(name, happen):
     event(name + " (another station)")(lambda scene: happen(scene, scene.stations[2]))
 
 
-RESET_ALL = lte.s1ap(lte.INITIATING, 14, lte.REJECT, (lte.IGNORE, UNSPECIFIED), (lte.REJECT, (92, lte.bits((0, 3)))))
+RESET_ALL = lte.reset()
 
 
 def loses(scene, station):
@@ -377,6 +377,37 @@ station_event("lost", loses)
 station_event("S1 SETUP REQUEST", lambda scene, station: scene.trace.hear(
     station, lte.s1_setup_request(scene.trace.network, station)))
 station_event("RESET", lambda scene, station: scene.trace.hear(station, RESET_ALL))
+
+
+def resets(scene, station, *associations):
+    """A station resets these associations; none is struck from a paging."""
+    scene.trace.hear(station, lte.reset(lte.part_of_interface(*associations)))
+
+
+def each_by_itself(m, b):
+    """An association by its id, by its number, and by both."""
+    return (m, None), (None, b), (m, b)
+
+
+# What a RESET of a part by the connection's station lists, by the connection's ids.
+LISTED = {
+    "its id": lambda m, b: [(m, None)],
+    "its radio id": lambda m, b: [(None, b)],
+    "its pair": lambda m, b: [(None, None), (m ^ 0x40, None), (m, b)],
+    "another id": lambda m, b: [(m ^ 0x40, None)],
+    "another radio id": lambda m, b: [(None, b + 7)],
+    "another pair": lambda m, b: [(m, b + 7), (m ^ 0x40, b)],
+    "no id": lambda m, b: [(None, None)],
+}
+for variant, of_ids in LISTED.items():
+    event("RESET of a part (%s)" % variant, phases=ALL if variant == "no id" else CONNECTED)(lambda scene, of_ids=of_ids: resets(
+        scene, scene.phone.station or scene.home, *of_ids(scene.phone.m, scene.phone.b or 1)))
+event("RESET of a part (claimed association)", phases=CLAIMED, choices={"claimed": True})(
+    lambda scene: resets(scene, scene.home, (scene.phone.m, scene.phone.b)))
+event("RESET of a part (last id)", phases=UNCONNECTED)(
+    lambda scene: resets(scene, scene.home, *each_by_itself(scene.phone.m, 1)))
+event("RESET of a part (another station)")(
+    lambda scene: resets(scene, scene.stations[2], *each_by_itself(scene.phone.m, scene.phone.b or 1)))
 
 
 @event("displaced", phases=CLAIMED, choices={"claimed": True})

@@ -120,7 +120,7 @@ def element_rows(term):
 
 def code_rows():
     """The rows of each message in the code, by its type."""
-    found = {"ResetAcknowledge": ""}
+    found = {}
     marks = {"Needed": "", "Optional": "?", "Unkept": "-"}
     for name, rows in re.findall(r"type (\w+)Rows(?:<'a>)? =\s*(.*?);", texts_of("s1ap_messages"), re.S):
         rows = re.findall(r"(Needed|Optional|Unkept)<(\d+), (REJECT|IGNORE),", rows)
@@ -149,8 +149,8 @@ def s1ap_messages():
 
 def sender(name):
     """Who sends a message: what is taken from a station, and what the MME makes."""
-    taken = set(re.findall(r"Pdu::(\w+)(?:\(\w\)|\(_\))", text_of("mme_routing/src/outcome.rt"))) | {"ResetAcknowledge"}
-    made = set(re.findall(r"Pdu::(\w+)\(\1 \{", "".join(map(texts_of, MACHINES)))) | {"ResetAcknowledge"}
+    taken = set(re.findall(r"Pdu::(\w+)(?:\(\w\)|\(_\))", text_of("mme_routing/src/outcome.rt")))
+    made = set(re.findall(r"Pdu::(\w+)\(\1 \{", "".join(map(texts_of, MACHINES))))
     return {(True, False): "station", (False, True): "MME", (True, True): "both"}[name in taken, name in made]
 
 

@@ -22,9 +22,9 @@ def setup_with(network, station, *more, without=0):
 
 
 UNKNOWN_ELEMENT = 999, b"\0"
-RESET_PART = lte.s1ap(lte.INITIATING, 14, lte.REJECT, (lte.IGNORE, lte.cause((lte.RADIO, 0))),
-                      (lte.REJECT, (92, bytes.fromhex("4000005b00022001"))))
 UNKNOWN_SLOT = lte.id_of_slot(9, 1)
+LISTED = [(UNKNOWN_SLOT, None), (None, 1), (None, None), (UNKNOWN_SLOT, 1), (None, 1)]  # of nobody, as it comes
+RESET_UNREADABLE = lte.reset((92, b"\x40"))  # a part without a list
 IDS_IGNORED = both(1, 1, lte.IGNORE)
 WHY = lte.IGNORE, lte.cause((lte.RADIO, 0))
 SUBSCRIBER = phones.Phone(phones.Trace(), 0)
@@ -33,8 +33,10 @@ SENT = {
     "S1 SETUP REQUEST": lte.s1_setup_request,
     "S1 SETUP REQUEST (another network)": lambda n, e: lte.s1_setup_request(OTHER_NETWORK, e),
     "RESET": lambda n, e: RESET_ALL,
-    "RESET (of a part)": lambda n, e: RESET_PART,
-    "RESET ACKNOWLEDGE": lambda n, e: lte.s1ap(lte.SUCCESSFUL, 14, lte.REJECT),
+    "RESET of a part": lambda n, e: lte.reset(lte.part_of_interface(*LISTED)),
+    "RESET (unreadable)": lambda n, e: RESET_UNREADABLE,
+    "RESET ACKNOWLEDGE": lambda n, e: lte.reset_acknowledge(),
+    "RESET ACKNOWLEDGE (of a part)": lambda n, e: lte.reset_acknowledge(*LISTED),
     "ERROR INDICATION": lambda n, e: lte.s1ap(lte.INITIATING, 15, lte.IGNORE, WHY),
     "S1 SETUP RESPONSE": lambda n, e: lte.s1_setup_response(n),
     "S1 SETUP FAILURE": lambda n, e: lte.s1ap(2, 17, lte.REJECT, WHY),
@@ -97,6 +99,8 @@ def judge_of(row, wanted):
         own = [message for message in group.sent if message.owner == "e0"]
         found = "; ".join(group.refused) or texts(own) or "-"
         must(found == wanted, "sent is %s, not %s", found, wanted)
+        for message in own:
+            must(message.listed in (None, LISTED), "the list is %s", message.listed)
         must(own == group.sent or row.event == "INITIAL UE MESSAGE", "others are sent something")
         for message in own:
             check_ids(message)

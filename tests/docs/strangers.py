@@ -3,7 +3,7 @@
 The stranger's state isn't printed: it is seen by who answers a message with its id from another radio id, and how.
 """
 from answers import Failure, judge_steps, must, play
-from events import LATER_CAUSE, MESSAGES, RESET_ALL, attach_nas, both, initial, with_cause
+from events import LATER_CAUSE, LISTED, MESSAGES, RESET_ALL, attach_nas, both, each_by_itself, initial, resets, with_cause
 from scenes import FOREIGN_GUTI, PTI, Scene, lte, phones, stranger_id
 from subscribers import AGE, LONG
 
@@ -177,6 +177,11 @@ def is_lost(scene, station):
 goes("lost", is_lost)
 goes("S1 SETUP REQUEST", sets_up)
 goes("RESET", lambda scene, station: scene.trace.hear(station, RESET_ALL))
+for variant, of_ids in LISTED.items():
+    event("RESET of a part (%s)" % variant)(lambda scene, of_ids=of_ids: resets(
+        scene, scene.home, *of_ids(stranger_id(scene.home, B), B)))
+event("RESET of a part (another station)")(lambda scene: resets(
+    scene, scene.stations[2], *each_by_itself(stranger_id(scene.home, B), B)))
 
 
 # --- A stranger's row, tried ---

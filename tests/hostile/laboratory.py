@@ -37,8 +37,8 @@ def reset(value):
     return standards.message(INITIATING, 14, REJECT, (IGNORE, standards.cause(UNSPECIFIED)), (REJECT, (92, value)))
 
 
-WHOLE, LATER_WHOLE = lte.bits((0, 3)), lte.bits((0, 2), (1, 1), (5, 7))
-PART = bytes.fromhex("4000005b00022001")  # one item, of eNB UE S1AP ID 1
+WHOLE, LATER_WHOLE = lte.WHOLE_INTERFACE[1], lte.bits((0, 2), (1, 1), (5, 7))
+MOST_LISTED = 256  # associations of a RESET
 
 
 class Laboratory:
@@ -213,7 +213,27 @@ class Laboratory:
             return [self.set_up(station)]
         if choice < 0.75:
             return [self.set_up(station, phones.Network("208", "93"))]
-        return [self.heard(station, reset(self.rng.choice((WHOLE, WHOLE, LATER_WHOLE, PART))))]
+        if choice < 0.85:
+            return [self.heard(station, reset(self.rng.choice((WHOLE, WHOLE, LATER_WHOLE))))]
+        return self.resets_part()
+
+    def resets_part(self):
+        """A station, mostly that of a phone's connection, resets a list of associations, of which some are there."""
+        rng = self.rng
+        station = rng.choice([phone.station for phone in self.phones if phone.m is not None and phone.station] or STATIONS)
+        station = station if rng.random() < 0.9 else rng.choice(STATIONS)
+        count = MOST_LISTED if rng.random() < 0.02 else rng.choice((1, 1, 1, 2, 3, 8))
+        octets = reset(lte.part_of_interface(*[self.some_ids(station) for _ in range(count)])[1])
+        self.told["resets of a part"] += 1
+        return [self.heard(station, octets if rng.random() < 0.9 else self.damaged(octets))]
+
+    def some_ids(self, station):
+        """The ids that are given of an association: a phone's or a stranger's, both, one or none; or another pair."""
+        rng, b = self.rng, self.rng.choice(RADIO_IDS)
+        phone = rng.choice([phone for phone in self.phones if phone.station is station] or self.phones)
+        of_slot = lte.id_of_slot(rng.randrange(SUBSCRIBERS), rng.randrange(8))
+        m = rng.choice((phone.m, phone.m, projection.stranger(station.number, b), of_slot))
+        return rng.choice(((m, None), (m, None), (m, phone.b), (m, b), (None, phone.b), (None, b), (None, None)))
 
     # --- What the MME sends ---
 

@@ -10,7 +10,6 @@ from standards import IGNORE, INITIATING, REJECT, lte
 
 # The kinds of messages with ids.
 KINDS = ("uplink", "uplink", "undelivered", "capability", "asks_release", "released", "is_set_up", "is_not_set_up", "switch")
-RESET_ACKNOWLEDGE = bytes.fromhex("200e0003000000")
 
 
 def turned(octets, place):
@@ -90,7 +89,8 @@ class Liar(Laboratory):
 
     def lie(self):
         lies = (self.replays, self.replays_elsewhere, self.impersonates, self.impersonates, self.speaks_for, self.speaks_for,
-                self.garbage, self.not_a_stations, self.flood, self.tells_identity, self.forges, self.steals, self.later_cause)
+                self.garbage, self.not_a_stations, self.flood, self.tells_identity, self.forges, self.steals, self.later_cause,
+                self.resets_part)
         self.speaking = self.rng.choice(self.phones)
         events = self.rng.choice(lies)()
         self.told["messages that are lies"] += len(events)
@@ -134,7 +134,8 @@ class Liar(Laboratory):
         m, rng = self.some_id(), self.rng
         octets = rng.choice((
             lte.downlink_nas(m, b, b"\x07\x46"), lte.release_command(m, b, lte.NORMAL_RELEASE), lte.s1_setup_response(NETWORK),
-            lte.path_switch_acknowledge(m, b, 1, bytes(32)), lte.paging(NETWORK, self.speaking.imsi, 1, 1), RESET_ACKNOWLEDGE,
+            lte.path_switch_acknowledge(m, b, 1, bytes(32)), lte.paging(NETWORK, self.speaking.imsi, 1, 1),
+            lte.reset_acknowledge(), lte.reset_acknowledge((m, b), (None, b)),
             lte.s1ap(INITIATING, 15, IGNORE, (IGNORE, lte.mme_id(m)), (IGNORE, lte.enb_id(b)))))
         return [self.heard(station, octets)]
 

@@ -13,8 +13,9 @@ MME_ID, ENB_ID, NAS_PDU, SOURCE_ID, S_TMSI = 0, 8, 26, 88, 96
 FIRST_STRANGER = 1 << 31
 EMM, PLAIN, SERVICE_REQUEST = 7, 0x07, 0xC7
 PROTECTED = 6  # octets before the message in a protected one
-# S1 SETUP RESPONSE and FAILURE, and RESET ACKNOWLEDGE without a list: what a station is sent where its strangers end.
+# S1 SETUP RESPONSE and FAILURE, and RESET ACKNOWLEDGE without a list: what a station is sent where all its strangers end.
 ENDS_STRANGERS = ("2011", "4011", "200e0003000000")
+ACKNOWLEDGES, RESET_LIST = "200e", 93  # RESET ACKNOWLEDGE, and its list of the associations that end
 
 Message = collections.namedtuple("Message", "kind code elements")
 
@@ -54,6 +55,26 @@ def number(content):
     if not content:
         return None
     return int.from_bytes(content[1:(content[0] >> 6) + 2], "big")
+
+
+def listed(content):
+    """The associations of a list, as the MME writes them: of each its MME UE S1AP ID and its eNB UE S1AP ID, where they are."""
+    found, at = [], 1
+    for _ in range(content[0] + 1):
+        item, at = sized(content, at + 3)
+        by_id, by_number = item[0] & 0x40, item[0] & 0x20
+        size, rest = (item[0] >> 2 & 3) + 1, item[1:]
+        m = int.from_bytes(rest[:size], "big") if by_id else None
+        if by_id and by_number:  # behind the first number the size of the second has an octet of its own
+            size, rest = (rest[size] >> 6) + 1, rest[size + 1:]
+        found.append((m, int.from_bytes(rest[:size], "big") if by_number else None))
+    return found
+
+
+def matches(m, ids):
+    """Whether the ids that are given of an association are those of a stranger."""
+    by_id, by_number = ids
+    return ids != (None, None) and by_id in (None, m) and by_number in (None, m & 0xFFFFFF)
 
 
 def digits(identity):
@@ -153,8 +174,12 @@ class Projection:
         except (Unreadable, IndexError):
             return set()
         if message.kind == INITIATING and message.code in (SETUP, RESET):
-            if any(line.split(" ")[3].startswith(ENDS_STRANGERS) for line in answers if line.startswith("out e")):
-                self.closes(station)
+            for text in [line.split(" ")[3] for line in answers if line.startswith("out e")]:
+                if text.startswith(ENDS_STRANGERS):
+                    self.closes(station)
+                elif text.startswith(ACKNOWLEDGES):
+                    ended = listed(read(bytes.fromhex(text)).elements[RESET_LIST])
+                    self.closes(station, lambda m, ended=ended: any(matches(m, ids) for ids in ended))
             return self.EVERYONE
         if message.kind == INITIATING and message.code == INITIAL_UE:
             return self.first(place, station, message, answers)
@@ -190,10 +215,10 @@ class Projection:
             return {claiming[0]}
         return set()
 
-    def closes(self, station):
-        """All strangers of a station are closed."""
+    def closes(self, station, means=lambda m: True):
+        """The strangers of a station are closed, all or those that are meant."""
         for kept in (self.held, self.began):
-            for m in [m for m in kept if m - FIRST_STRANGER >> 24 == station]:
+            for m in [m for m in kept if m - FIRST_STRANGER >> 24 == station and means(m)]:
                 del kept[m]
 
     def outsider(self, line, slots, answers):

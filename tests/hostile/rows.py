@@ -58,8 +58,15 @@ class Stranger(phones.Phone):
             step()
 
     def is_gone(self):
-        """The association has ended without a word."""
-        self.station = self.b = self.held = None
+        super().is_gone()
+        self.held = None
+
+
+def is_nobodys(trace, station, b, owner=None):
+    """A message with a stranger's id; owed ERROR INDICATION, unknown MME UE S1AP ID, by this owner, or by the stranger."""
+    m = stranger(station.number, b)
+    trace.hear(station, lte.release_request(m, b, lte.USER_INACTIVITY))
+    trace.owe(owner or "x%d.%d" % (station.number, b), station, lte.error_indication(lte.UNKNOWN_MME_ID, (m, b)))
 
 
 def is_asked(trace, station, b):
@@ -162,6 +169,63 @@ def another_phones_association():
     phone.updates()
     phone.completes_update(from_idle=False)
     shows((phone, liar), phones.CONNECTED, phones.CONNECTED)
+    return trace
+
+
+@row
+def reset_of_waiting_strangers():
+    """Strangers wait at two stations. One station resets one of its own by the id and one by the number: they are closed without a
+    word. One whose id it gives with another's number, and one of the other station, wait on; the first of these attaches."""
+    trace, [station, elsewhere], [phone, other] = two_phones()
+    for b in (5, 6, 7):
+        phone.is_foreign(station, b)
+    other.is_foreign(elsewhere, 6)
+    trace.set_back(station, (stranger(0, 5), None), (None, 6), (stranger(0, 7), 6), (stranger(1, 6), None), (None, None))
+    is_nobodys(trace, station, 5)
+    is_nobodys(trace, station, 6)
+    trace.say("tick 6")
+    is_asked(trace, station, 7)
+    is_asked(trace, elsewhere, 6)
+    phone.claims(station, 7)
+    phone.goes_on()
+    shows((phone, other), phones.CONNECTED, DEREGISTERED)
+    trace.set_back(elsewhere, (stranger(1, 6), 6))
+    is_nobodys(trace, elsewhere, 6)
+    trace.say("tick 30")
+    shows((phone, other), phones.CONNECTED, DEREGISTERED)
+    return trace
+
+
+@row
+def reset_of_held_strangers():
+    """RESET of an association that began as a stranger's ends it and the holding: in mid-attach by its id and number, and of a
+    registered phone by the number alone. Where the phone went on elsewhere before, RESET ends the holding, and the phone stays."""
+    trace, [station, elsewhere], [first, second] = two_phones()
+    first.is_foreign(station, 5)
+    first.claims(station, 5)
+    shows((first, second), phones.UNDER_WAY, DEREGISTERED)
+    trace.set_back(station, (first.m, 5))
+    first.is_gone()
+    is_nobodys(trace, station, 5)
+    shows((first, second), DEREGISTERED, DEREGISTERED)
+    second.is_foreign(station, 5)
+    second.claims(station, 5)
+    second.goes_on()
+    shows((first, second), DEREGISTERED, phones.CONNECTED)
+    trace.set_back(station, (None, 5))
+    second.is_gone()
+    is_nobodys(trace, station, 5)
+    shows((first, second), DEREGISTERED, phones.IDLE)
+    first.is_foreign(station, 8)
+    first.claims(station, 8)
+    first.goes_on()
+    first.updates_from_idle(elsewhere, 9)
+    is_nobodys(trace, station, 8, "s0")
+    trace.set_back(station, (stranger(0, 8), None))
+    is_nobodys(trace, station, 8)
+    shows((first, second), "COMMON-PROCEDURE-INITIATED CONNECTED ACTIVE", phones.IDLE)
+    first.completes_update(from_idle=True)
+    shows((first, second), phones.IDLE, phones.IDLE)
     return trace
 
 

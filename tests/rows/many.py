@@ -110,7 +110,63 @@ def served_on_its_own_id(refused=lte.IDS_OF_A_SLOT - 1):
     return trace, None
 
 
-ROWS = {make.__name__: make for make in (slot_2048, each_slot_taken, one_subscriber_too_many, ids_wrap, served_on_its_own_id)}
+def reset_of_256():
+    """257 phones are connected. RESET of 256 of them, the most that a list has, in turn by the id, by the number and by both: these
+    are idle, the last goes on, and all items are acknowledged in their order. Then all numbers again, of which one is left."""
+    trace, station, made = provisioned(257, *range(257))
+    for phone in made:
+        phone.attaches(station, 1 + phone.slot)
+    kinds = (lambda m, b: (m, None)), (lambda m, b: (None, b)), (lambda m, b: (m, b))
+    trace.set_back(station, *[kinds[phone.slot % 3](phone.m, phone.b) for phone in reversed(made[:256])])
+    for phone in made[:256]:
+        phone.shows(phones.IDLE)
+    goes_on(made[256])
+    trace.set_back(station, *[(None, phone.b) for phone in made[1:]])
+    made[256].shows(phones.IDLE)
+    return trace, None
+
+
+def challenged(count):
+    """So many phones are challenged in one second, and the sixth second, at which each is challenged again, is the next."""
+    trace, station, made = provisioned(count, *range(count))
+    for phone in made:
+        phone.asks_to_attach(station, 1 + phone.slot)
+    trace.say("tick 5")
+    return trace, made
+
+
+def all_challenged_again(trace, made):
+    for phone in made:
+        phone.owed_nas(lte.authentication_request(phone.ksi, phone.vector))
+
+
+def due_at_once_2048():
+    """2,048 phones are challenged in one second and don't answer. At the sixth second each is challenged again, in the order of
+    their slots, and so three times more; at the thirtieth all are released."""
+    trace, made = challenged(2048)
+    trace.say("tick 1")
+    all_challenged_again(trace, made)
+    trace.say("tick 23")
+    for _ in range(3):
+        all_challenged_again(trace, made)
+    trace.say("tick 1")
+    for phone in made:
+        phone.owed(lte.release_command(phone.m, phone.b, lte.NAS_UNSPECIFIED))
+    for phone in (made[0], made[-1]):
+        phone.shows(NEVER_SEEN)
+    return trace, None
+
+
+def due_at_once_in_each_slot():
+    """As many phones as there is room for are challenged in one second, and at the sixth each is challenged again."""
+    trace, made = challenged(lte.SLOTS)
+    trace.say("tick 1")
+    all_challenged_again(trace, made)
+    return trace, None
+
+
+ROWS = {make.__name__: make for make in (slot_2048, each_slot_taken, one_subscriber_too_many, ids_wrap, served_on_its_own_id,
+                                         reset_of_256, due_at_once_2048, due_at_once_in_each_slot)}
 
 
 def main(words):

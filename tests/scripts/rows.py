@@ -111,6 +111,17 @@ NO_ASSOCIATION = ("00030041000006000800020007" + "0016000f000017000a0a1fc0a80001
 row("raw_path_switch", SET_UP + ["raw 0 " + NO_ASSOCIATION], printed=owed_lines(SET_UP) + [
     "in 0 " + NO_ASSOCIATION, "# out s0 0 400300150000030000400200050008400200070002400201a0"])
 
+# RESET of the first phone's id, of a number that nobody has, and of nothing; what a station sends so, it doesn't take in itself.
+BOTH_ATTACHED = ATTACHED + ["attach %s 0 2" % TWO]
+LISTED = (1, None), (None, 9), (None, None)
+PART, PAIR = lte.reset(lte.part_of_interface(*LISTED)).hex(), (1, 1)
+row("raw_reset_of_a_part", BOTH_ATTACHED + ["raw 0 " + PART, "show " + ONE, "show " + TWO, "idle " + ONE],
+    printed=owed_lines(BOTH_ATTACHED) + [
+        "in 0 " + PART, "# out e0 0 " + lte.reset_acknowledge(*LISTED).hex(),
+        "show " + ONE, "# state %s REGISTERED IDLE ACTIVE" % ONE, "show " + TWO, "# state %s REGISTERED CONNECTED ACTIVE" % TWO,
+        "in 0 " + lte.release_request(*PAIR, lte.USER_INACTIVITY).hex(),
+        "# out s0 0 " + lte.error_indication(lte.UNKNOWN_MME_ID, PAIR).hex()])
+
 # ---- scripts that end well
 
 row("empty", text="")

@@ -148,6 +148,24 @@ class Text(unittest.TestCase):
                 marked = [line for line in CHART.text_of(rows, end, 120).split("\n") if line[7:8] == "!"]
                 self.assertEqual(len(marked), count)
 
+    def test_lists_of_associations(self):
+        """What a RESET of a part lists stands at the margin: the first four, and how many more."""
+        for name, wanted in (("reset_listed", ["misc om-intervention (MME id 1, eNB id 7)", "(MME id 1, eNB id 7)"]),
+                             ("reset_registered", ["misc om-intervention", ""]),
+                             ("reset_of_another_pair", [
+                                 "misc om-intervention (MME id 1 with eNB id 2, MME id 65537 with eNB id 1, MME id 1 with eNB id 3)",
+                                 "(MME id 1 with eNB id 2, MME id 65537 with eNB id 1, MME id 1 with eNB id 3)",
+                                 "misc om-intervention (MME id 65537 with eNB id 1, MME id 1 with eNB id 1)",
+                                 "(MME id 65537 with eNB id 1, MME id 1 with eNB id 1)"]),
+                             ("reset_of_nobody", [
+                                 "misc om-intervention (no id)", "(no id)",
+                                 "misc om-intervention (MME id 65537, no id, MME id 65537 with eNB id 2, MME id 0, 7 more)",
+                                 "(MME id 65537, no id, MME id 65537 with eNB id 2, MME id 0, 7 more)"])):
+            with self.subTest(row=name):
+                rows, _ = rows_of(name)
+                said = [CHART.note_texts(row) for row in rows if any(arrow.label.startswith("RESET") for arrow in row.arrows)]
+                self.assertEqual(said, wanted)
+
     def test_phone_of_another_mme(self):
         """A phone that comes with a foreign GUTI is the one whose IMSI it then tells."""
         rows, _ = rows_of("foreign_guti")

@@ -126,6 +126,19 @@ class Matching(unittest.TestCase):
                 told = [answer_text(answer) for answer in answers if answer.word != "out"]
                 self.assertEqual([answer_text(answer) for answer in got if answer.word != "out"], told)
 
+    def test_acknowledgements(self):
+        """An acknowledgement is to the RESET with its items, and to no other."""
+        trace, answers = row("reset_of_nobody")
+        acknowledged = [answer for answer in answers if answer.word == "out" and answer.octets[:2] == b"\x20\x0e"]
+        for kept in ([0, 1], [0], [1]):
+            with self.subTest(kept=kept):
+                left_out = [acknowledged[at] for at in {0, 1} - set(kept)]
+                steps = RUNS.matched(trace, [answer for answer in answers if answer not in left_out])
+                found = [(step.event.octets, answer.octets) for step in steps for _, answer in step.answers
+                         if answer in acknowledged]
+                self.assertEqual([len(S1AP.listed(S1AP.read(octets))) for pair in found for octets in pair],
+                                 [(1, 11)[at] for at in kept for _ in range(2)])
+
     def test_answers_to_ticks(self):
         """Five answers to 30 ticks stand at 6, 12, .. 30: T3460 has 6 seconds (TS 24.301 table 10.2.2)."""
         steps = RUNS.matched(*row("attach_unanswered"))
@@ -293,6 +306,19 @@ class Names(unittest.TestCase):
                 self.assertEqual((S1AP.name(message), S1AP.ids(message), S1AP.cause(message), nas and nas.name), (name, ids, cause, inside))
                 self.assertIsNone(message.fault)
 
+    def test_lists_of_associations(self):
+        """The ids in RESET and RESET ACKNOWLEDGE (TS 36.413 clauses 9.1.8.1 and 9.1.8.2)."""
+        for text, name, listed in (
+                ("000e000d0000020002400143005c000100", "RESET", None), ("200e0003000000", "RESET ACKNOWLEDGE", None),
+                ("000e001a0000020002400143005c000e4001005b00024001005b00022007", "RESET", [(1, None), (None, 7)]),
+                ("200e0014000001005d400d01005b40024001005b40022007", "RESET ACKNOWLEDGE", [(1, None), (None, 7)]),
+                ("200e0018000001005d401101005b4001" + "00" + "005b4007" + "68010001" + "40ffff", "RESET ACKNOWLEDGE",
+                 [(None, None), (65537, 65535)]),
+                ("000e000e0000020002400143005c00022080", "RESET", None), ("000e000e0000020002400143005c00024001", "RESET", None)):
+            with self.subTest(text=text):
+                message = S1AP.read(bytes.fromhex(text))
+                self.assertEqual((S1AP.name(message), S1AP.listed(message), message.fault), (name, listed, None))
+
     def test_octets_of_any_kind(self):
         """Whatever the octets, reading ends and names something."""
         for name in tools.playable():
@@ -300,5 +326,6 @@ class Names(unittest.TestCase):
                 if event.octets is not None and len(event.octets) < 500:
                     for cut in range(len(event.octets)):
                         whole = RUNS.content(event.octets[:cut])
+                        S1AP.listed(whole.message)
                         self.assertIsNotNone(whole.message.fault)
                         self.assertIsInstance(whole.name, str)

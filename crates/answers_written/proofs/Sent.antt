@@ -1,5 +1,5 @@
 -- A message that has a written form is sent; those for stations have one.
-use Rattle.std.proofs.Common.{◌≡◌, ℕ, ◌^◌, ◌<◌, ◌&&◌, Bool, true, false, cond, List, ◌∷◌, ◌++◌, length, Option, Some, None, refl, ap, subst, ◌∙◌, arith}
+use Rattle.std.proofs.Common.{◌≡◌, ℕ, ◌^◌, ◌<◌, ◌&&◌, Bool, true, false, cond, List, ◌∷◌, ◌++◌, length, Option, Some, None, refl, ap, subst, sym, ◌∙◌, arith}
 use Rattle.std.proofs.lemmas.Bool.{and_from}
 use Rattle.std.proofs.lemmas.Option.{same_Some}
 use Rattle.s1ap_elements.specs.Causes.{typed_cause}
@@ -9,12 +9,12 @@ use Rattle.s1ap_elements.specs.declared.cause.Cause.TheVariants.{Nas, Protocol, 
 use Rattle.s1ap_elements.specs.declared.cause.NasCause.TheVariants.{NormalRelease}
 use Rattle.s1ap_elements.specs.declared.cause.ProtocolCause.TheVariants.{MessageNotCompatible}
 use Rattle.s1ap_elements.specs.declared.cause.RadioNetworkCause.TheVariants.{UnknownMmeUeS1apId}
+use Rattle.s1ap_elements.specs.declared.phone.ResetType.{ResetType}
 use Rattle.s1ap_elements.specs.declared.station.SupportedTa.{SupportedTa}
 use Rattle.s1ap_rows.specs.declared.criticality.Criticality.TheVariants.{Reject, Ignore, Notify}
 use Rattle.s1ap_rows.specs.declared.fault.S1apFault.{S1apFault}
 use Rattle.s1ap_rows.specs.declared.fault.S1apFault.TheVariants.{Syntax, UnknownProcedure, MissingElement, RefusedElement, RepeatedElement, NoMemory}
 use Rattle.s1ap_messages.specs.declared.pdu.Pdu.{Pdu}
-use Rattle.s1ap_messages.specs.declared.pdu.Pdu.TheVariants as pdu
 use Rattle.s1ap_messages.specs.Pdus.{encoded}
 use Rattle.mme_vocabulary.specs.declared.connection.Connection.{Connection}
 use Rattle.mme_vocabulary.specs.declared.event.UeBody.TheVariants as bodies
@@ -22,14 +22,19 @@ use Rattle.mme_vocabulary.specs.declared.network.Network.{Network}
 use Rattle.mme_vocabulary.specs.declared.octets.Answer.{Answer}
 use Rattle.mme_vocabulary.specs.Answers.{answer_of}
 use Rattle.mme_vocabulary.specs.declared.stations.StationState.TheVariants.{Ready, Up}
+use Rattle.mme_vocabulary.specs.Listed.{ToReset}
 use Rattle.mme_signalling.specs.Pdus.{downlink, error_indication, is_extended, path_switch_failure, release_command}
 use Rattle.stranger_machine.specs.Machine.{unknown}
 use Rattle.stranger_machine.specs.Turns.{identity_asked, identity_request, refused, released, sent_to}
 use Rattle.mme_routing.specs.Outcomes.{begins_anew, broadcasts, cause_of, indicated, indication, setup_failure, setup_response, station_set_up}
+use Rattle.mme_routing.specs.Resets.{ends_listed, part_acknowledge, reset, whole_acknowledge}
 use Rattle.written_sizes.specs.Sizes.{IsShortMessage, most_octets}
 use Rattle.written_messages.specs.BuilderLaws.{bytes_long, cause_in_range, cause_size}
 use Rattle.written_messages.specs.Ranges.{ConnectionInRange, IsBrief, IsWritten, NetworkInRange}
-use Rattle.answers_written.specs.Answered.{AnswersWith, AnswersWithBoth, FaultIsAnswered, IdentityAskedIsSent, IncompatibleIsAnswered, RefusedIsSent, ReleasedIsSent, ResetIsAnswered, SetupIsAnswered, UnknownIsAnswered}
+use Rattle.answers_written.specs.Answered.{AnswersWith, AnswersWithBoth, FaultIsAnswered, IdentityAskedIsSent, IncompatibleIsAnswered, PartResetIsAnswered, RefusedIsSent, ReleasedIsSent, ResetIsAnswered, SetupIsAnswered, UnknownIsAnswered}
+use Rattle.answers_written.specs.Ranges.{ListInRange}
+use Rattle.answers_written.specs.Received.{ResetsAreInRange}
+use Rattle.answers_written.proofs.Listing.{short_part_acknowledge}
 
 -- ---- one message
 
@@ -71,8 +76,8 @@ short_setup_failure = record { ranges = refl; size = omega arith }
 short_indication : (c : Cause) → is_extended c ≡ false → IsShortMessage (indication c)
 short_indication c known = let size : most_octets cause (typed_cause c) ≡ 22 = cause_size c in record { ranges = then_done _ (cause_in_range c known); size = omega (arith, size) }
 
-short_reset_acknowledge : IsShortMessage pdu.ResetAcknowledge
-short_reset_acknowledge = record { ranges = refl; size = omega arith }
+short_whole_acknowledge : IsShortMessage whole_acknowledge
+short_whole_acknowledge = record { ranges = refl; size = omega arith }
 
 -- the cause of a fault is one of this release
 abbrev IsKnownIf : Option Cause → Type 0
@@ -104,7 +109,14 @@ module _ (short : ShortIsWritten) where
   setup_is_answered n e tas h = (λ is. set_up_by n e tas true is h, λ is. set_up_by n e tas false is h)
 
   pub reset_is_answered : ResetIsAnswered
-  reset_is_answered e tas = answers e pdu.ResetAcknowledge (short pdu.ResetAcknowledge short_reset_acknowledge)
+  reset_is_answered e tas a = answers e whole_acknowledge (short whole_acknowledge short_whole_acknowledge)
+
+  part_answered : (e : ℕ) (items : ToReset) → ListInRange items → AnswersWith e (part_acknowledge items) (ends_listed e items).sent
+  part_answered e items fits = answers e (part_acknowledge items) (short (part_acknowledge items) (short_part_acknowledge items fits))
+
+  pub part_reset_is_answered : ResetsAreInRange → PartResetIsAnswered
+  part_reset_is_answered ranged os e tas m items is part =
+      subst (λ (t : ResetType). AnswersWith e (part_acknowledge items) (reset e (Ready tas) t).sent) (sym part) (part_answered e items (ranged os m items is part))
 
   fault_by : (e : ℕ) (o : Option Cause) (c : Cause) → o ≡ Some c → IsKnownIf o → AnswersWith e (indication c) (indicated e o)
   fault_by e None c is known = absurd (cc is)

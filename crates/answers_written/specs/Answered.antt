@@ -1,15 +1,18 @@
 -- What is sent for a station and for a stranger is sent: each message has a written form, so each answer is there.
-use Rattle.std.specs.Prelude.{◌≡◌, ℕ, ◌^◌, ◌<◌, true, false, List, [], ◌∷◌, Some, None, Err}
+use Rattle.std.specs.Prelude.{◌≡◌, ℕ, ◌^◌, ◌<◌, true, false, List, [], ◌∷◌, Some, None, Ok, Err}
 use Rattle.s1ap_elements.specs.declared.cause.Cause.{Cause}
 use Rattle.s1ap_elements.specs.declared.cause.Cause.TheVariants.{Nas, Protocol, RadioNetwork}
 use Rattle.s1ap_elements.specs.declared.cause.NasCause.TheVariants.{NormalRelease}
 use Rattle.s1ap_elements.specs.declared.cause.ProtocolCause.TheVariants.{MessageNotCompatible}
 use Rattle.s1ap_elements.specs.declared.cause.RadioNetworkCause.TheVariants.{UnknownMmeUeS1apId}
+use Rattle.s1ap_elements.specs.declared.phone.ResetAll.{ResetAll}
+use Rattle.s1ap_elements.specs.declared.phone.ResetType.TheVariants.{All, Part}
 use Rattle.s1ap_elements.specs.declared.station.SupportedTa.{SupportedTa}
 use Rattle.s1ap_rows.specs.declared.fault.S1apFault.{S1apFault}
 use Rattle.s1ap_messages.specs.declared.pdu.Pdu.{Pdu}
 use Rattle.s1ap_messages.specs.declared.pdu.Pdu.TheVariants as pdu
-use Rattle.s1ap_messages.specs.Pdus.{encoded}
+use Rattle.s1ap_messages.specs.declared.pdu.Reset.{Reset}
+use Rattle.s1ap_messages.specs.Pdus.{decoded, encoded}
 use Rattle.identity_slots.specs.declared.profile.Profile.{Profile}
 use Rattle.mme_vocabulary.specs.declared.connection.Connection.{Connection}
 use Rattle.mme_vocabulary.specs.declared.event.UeBody.{UeBody}
@@ -19,10 +22,12 @@ use Rattle.mme_vocabulary.specs.declared.network.Network.{Network}
 use Rattle.mme_vocabulary.specs.declared.octets.Answer.{Answer}
 use Rattle.mme_vocabulary.specs.declared.stations.StationState.{StationState}
 use Rattle.mme_vocabulary.specs.declared.stations.StationState.TheVariants.{Ready}
+use Rattle.mme_vocabulary.specs.Listed.{ToReset}
 use Rattle.mme_signalling.specs.Pdus.{downlink, error_indication, is_extended, path_switch_failure, release_command}
 use Rattle.stranger_machine.specs.Machine.{unknown}
 use Rattle.stranger_machine.specs.Turns.{identity_asked, identity_request, refused, released}
-use Rattle.mme_routing.specs.Outcomes.{broadcasts, cause_of, indication, interface_reset, not_compatible, outcome_of, setup_failure, setup_response, station_set_up}
+use Rattle.mme_routing.specs.Outcomes.{broadcasts, cause_of, indication, not_compatible, outcome_of, setup_failure, setup_response, station_set_up}
+use Rattle.mme_routing.specs.Resets.{part_acknowledge, reset, whole_acknowledge}
 use Rattle.written_messages.specs.Ranges.{ConnectionInRange, IsBrief, NetworkInRange}
 
 -- the one message to the station
@@ -47,7 +52,14 @@ SetupIsAnswered =
 
 -- RESET of the whole interface
 abbrev pub ResetIsAnswered : Type 0
-ResetIsAnswered = (e : ℕ) (tas : List SupportedTa) → AnswersWith e pdu.ResetAcknowledge (interface_reset e (Ready tas)).sent
+ResetIsAnswered =
+    (e : ℕ) (tas : List SupportedTa) (a : ResetAll) → AnswersWith e whole_acknowledge (reset e (Ready tas) (All a)).sent
+
+-- RESET of a part, as it was read: each of its items comes back
+abbrev pub PartResetIsAnswered : Type 0
+PartResetIsAnswered =
+    (os : List ℕ) (e : ℕ) (tas : List SupportedTa) (m : Reset) (items : ToReset) → decoded os ≡ Ok (pdu.Reset m)
+    → m.reset_type ≡ Part items → AnswersWith e (part_acknowledge items) (reset e (Ready tas) m.reset_type).sent
 
 -- octets that are no message, by the cause of their fault
 abbrev pub FaultIsAnswered : Type 0

@@ -42,6 +42,7 @@ use Rattle.emm_serving.specs.Connected as connected
 use Rattle.emm_machine.specs.Freshness.{IsInUse, next_place, next_up}
 use Rattle.mme_signalling.specs.Hearing.{heard}
 use Rattle.mme_vocabulary.specs.Events as events
+use Rattle.mme_vocabulary.specs.Listed.{ToReset}
 use Rattle.emm_serving.specs.Idle as idle
 use Rattle.mme_signalling.specs.Pdus.{path_switch_failure}
 use Rattle.emm_serving.specs.Serving as serving
@@ -256,6 +257,10 @@ module _ {b : Solo} where
   unfolding connected.station_gone connected.strike
   fresh_station_gone {d} station h = at_some d.solo.connection (λ k _. either _ (fresh_lost (quiet h refl)) (quiet h refl)) (quiet h refl)
 
+  fresh_connections_gone : {d : Draft} (station : ℕ) (items : ToReset) → IsFresh b d → IsFresh b (connected.connections_gone station items d)
+  unfolding connected.connections_gone
+  fresh_connections_gone {d} station items h = at_some d.solo.connection (λ k _. either _ (fresh_lost h) h) h
+
   -- ---- paging, countdowns and a withdrawn subscription
 
   fresh_emit_each : (message : Pdu (List ℕ)) (es : List ℕ) (d : Draft) → IsFresh b d → IsFresh b (idle.emit_each message es d)
@@ -389,6 +394,7 @@ module _ (whole : WholeIsFresh) (short : ShortIsFresh) {b : Solo} where
   fresh_row s (events.Message m) h = fresh_message_of m.body s m h
   fresh_row s (events.Displaced id) h = some (fresh_displaced id h)
   fresh_row s (events.StationGone station) h = some (fresh_station_gone station h)
+  fresh_row s (events.ConnectionsGone station items) h = some (fresh_connections_gone station items h)
   fresh_row s events.Tick h = fresh_tick s h
   fresh_row s (events.Data stations) h = some (fresh_data_waits s stations h)
   fresh_row {d} s events.Cancel h = fresh_cancelled d.solo.phase h

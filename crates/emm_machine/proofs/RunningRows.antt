@@ -22,6 +22,7 @@ use Rattle.mme_vocabulary.specs.declared.event.UeMessage.{UeMessage}
 use Rattle.mme_vocabulary.specs.declared.octets.Mark.{Mark}
 use Rattle.mme_vocabulary.specs.declared.stations.StationState.{StationState}
 use Rattle.mme_vocabulary.specs.Events as events
+use Rattle.mme_vocabulary.specs.Listed.{ToReset}
 use Rattle.mme_signalling.specs.declared.cause.EmmCause.{EmmCause}
 use Rattle.mme_signalling.specs.declared.heard.Heard.{Heard}
 use Rattle.mme_signalling.specs.declared.heard.Heard.TheVariants as heards
@@ -414,6 +415,10 @@ runs_station_gone {d} station h =
     let rest : Runs (connected.strike station d) = record { holds = (going_struck d.solo.procedure d.solo.repeat station h.holds.0, h.holds.1) } in
     at_some Runs d.solo.connection (λ k. either Runs _ (runs_lost (connected.strike station d)) rest) rest
 
+runs_connections_gone : {d : Draft} (station : ℕ) (items : ToReset) → Runs d → Runs (connected.connections_gone station items d)
+unfolding connected.connections_gone
+runs_connections_gone {d} station items h = at_some Runs d.solo.connection (λ k. either Runs _ (runs_lost d) h) h
+
 -- ---- paging, countdowns and a withdrawn subscription
 
 runs_data_waits : {d : Draft} (s : Setting) (stations : List StationState) → Runs d → Runs (idle.data_waits s stations d)
@@ -496,6 +501,7 @@ runs_row s (events.Claim id m) h = some (runs_claimed _ s id m h)
 runs_row s (events.Message m) h = runs_message_of m.body s m h
 runs_row s (events.Displaced id) h = some (runs_displaced id h)
 runs_row s (events.StationGone station) h = some (runs_station_gone station h)
+runs_row s (events.ConnectionsGone station items) h = some (runs_connections_gone station items h)
 runs_row s events.Tick h = runs_tick s h
 runs_row s (events.Data stations) h = some (runs_data_waits s stations h)
 runs_row {d} s events.Cancel h = runs_cancelled d.solo.phase h

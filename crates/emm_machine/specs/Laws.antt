@@ -1,7 +1,8 @@
 -- What follows from the definitions: an item that is still leaves a subscriber as it is, and nothing is sent.
 use Rattle.std.proofs.Common.{◌≡◌, ℕ, ◌==◌, ◌&&◌, Bool, true, false, not, if◌then◌else◌, Option, Some, None, is_some, refl}
 use Rattle.mme_vocabulary.specs.declared.connection.Connection.{Connection}
-use Rattle.mme_vocabulary.specs.Events.{Item, Nothing, Initial, Claim, Message, Displaced, StationGone, Tick, Data, Cancel}
+use Rattle.mme_vocabulary.specs.Events.{Item, Nothing, Initial, Claim, Message, Displaced, StationGone, ConnectionsGone, Tick, Data, Cancel}
+use Rattle.mme_vocabulary.specs.Listed.{ToReset, is_listed}
 use Rattle.emm_state.specs.declared.draft.Draft.{Draft}
 use Rattle.emm_state.specs.declared.setting.Setting.{Setting}
 use Rattle.emm_state.specs.declared.solo.Countdown.{Countdown}
@@ -9,10 +10,10 @@ use Rattle.emm_state.specs.declared.solo.Repeat.{Repeat}
 use Rattle.emm_state.specs.declared.solo.Repeat.TheVariants as repeats
 use Rattle.emm_state.specs.declared.solo.Solo.{Solo}
 use Rattle.emm_state.specs.Actions.{lost, untouched}
-use Rattle.emm_serving.specs.Connected.{station_gone, strike}
+use Rattle.emm_serving.specs.Connected.{connections_gone, station_gone, strike}
 use Rattle.emm_serving.specs.Idle.{lowered, procedure_ticks, reachable_ticks_out, tick}
 use Rattle.emm_machine.specs.Steps.{row, solo_step}
-use Rattle.emm_machine.specs.Still.{is_elsewhere, pages, still}
+use Rattle.emm_machine.specs.Still.{is_elsewhere, is_unlisted, pages, still}
 
 abbrev counting : Option Countdown → Option ℕ → Solo → Solo
 counting procedure reachable solo = record solo { procedure = procedure; reachable = reachable }
@@ -43,11 +44,22 @@ still_gone s solo e (Some k) None h = not_lost (k.station == e) (untouched (link
 still_gone s solo e (Some k) (Some (repeats.Nas protection nas)) h = not_lost (k.station == e) (untouched (linked (Some k) (Some (repeats.Nas protection nas)) solo)) h
 still_gone s solo e (Some k) (Some (repeats.Paging es)) h = cc
 
+abbrev connected : Option Connection → Solo → Solo
+connected connection solo = record solo { connection = connection }
+
+-- the connection isn't in the list
+still_listed : (s : Setting) (solo : Solo) (e : ℕ) (items : ToReset) (connection : Option Connection)
+    → is_unlisted e items connection ≡ true → solo_step s (connected connection solo) (ConnectionsGone e items) ≡ untouched (connected connection solo)
+unfolding solo_step row connections_gone
+still_listed s solo e items None h = refl
+still_listed s solo e items (Some k) h = not_lost (k.station == e && is_listed k.id k.enb_id items) (untouched (connected (Some k) solo)) h
+
 pub still_stays : (s : Setting) (solo : Solo) (item : Item) → still solo item ≡ true → solo_step s solo item ≡ untouched solo
 unfolding solo_step row
 still_stays s solo Nothing h = refl
 still_stays s solo Tick h = still_tick s solo solo.procedure solo.reachable h
 still_stays s solo (StationGone e) h = still_gone s solo e solo.connection solo.repeat h
+still_stays s solo (ConnectionsGone e items) h = still_listed s solo e items solo.connection h
 still_stays s solo (Initial m) h = cc
 still_stays s solo (Claim id m) h = cc
 still_stays s solo (Message m) h = cc

@@ -3,12 +3,12 @@ use Rattle.std.specs.Prelude.{List, [], ◌∷◌, Option, Some, unwrap_or}
 use Rattle.s1ap_elements.specs.declared.cause.Cause.TheVariants.{Nas}
 use Rattle.s1ap_elements.specs.declared.cause.NasCause.TheVariants.{Unspecified}
 use Rattle.mme_vocabulary.specs.declared.octets.Answer.{Answer}
-use Rattle.mme_vocabulary.specs.Events.{Item, Nothing, Initial, Claim, Message, Displaced, StationGone, Tick, Data, Cancel}
+use Rattle.mme_vocabulary.specs.Events.{Item, Nothing, Initial, Claim, Message, Displaced, StationGone, ConnectionsGone, Tick, Data, Cancel}
 use Rattle.emm_state.specs.declared.draft.Draft.{Draft}
 use Rattle.emm_state.specs.declared.setting.Setting.{Setting}
 use Rattle.emm_state.specs.declared.solo.Solo.{Solo}
 use Rattle.emm_state.specs.Actions.{fall, untouched, wipe}
-use Rattle.emm_serving.specs.Connected.{displaced, message_of, station_gone}
+use Rattle.emm_serving.specs.Connected.{connections_gone, displaced, message_of, station_gone}
 use Rattle.emm_serving.specs.Idle.{cancelled, data_waits, tick}
 use Rattle.emm_serving.specs.Serving.{claim, initial}
 
@@ -22,6 +22,7 @@ row s (Claim id m) d = Some (claim s id m d)
 row s (Message m) d = message_of m.body s m d
 row s (Displaced id) d = Some (displaced id d)
 row s (StationGone station) d = Some (station_gone station d)
+row s (ConnectionsGone station items) d = Some (connections_gone station items d)
 row s Tick d = tick s d
 row s (Data stations) d = Some (data_waits s stations d)
 row s Cancel d = cancelled d.solo.phase d

@@ -1,7 +1,8 @@
 -- Items that a subscriber isn't touched by.
 use Rattle.std.specs.Prelude.{ℕ, ◌==◌, ◌&&◌, Bool, true, false, not, Option, Some, None, is_some}
 use Rattle.mme_vocabulary.specs.declared.connection.Connection.{Connection}
-use Rattle.mme_vocabulary.specs.Events.{Item, Nothing, Initial, Claim, Message, Displaced, StationGone, Tick, Data, Cancel}
+use Rattle.mme_vocabulary.specs.Events.{Item, Nothing, Initial, Claim, Message, Displaced, StationGone, ConnectionsGone, Tick, Data, Cancel}
+use Rattle.mme_vocabulary.specs.Listed.{ToReset, is_listed}
 use Rattle.emm_state.specs.declared.solo.Repeat.{Repeat}
 use Rattle.emm_state.specs.declared.solo.Repeat.TheVariants as repeats
 use Rattle.emm_state.specs.declared.solo.Solo.{Solo}
@@ -9,6 +10,11 @@ use Rattle.emm_state.specs.declared.solo.Solo.{Solo}
 abbrev pub is_elsewhere : ℕ → Option Connection → Bool
 is_elsewhere station None = true
 is_elsewhere station (Some k) = not (k.station == station)
+
+-- the connection is elsewhere, or no item of a list in a RESET matches it
+abbrev pub is_unlisted : ℕ → ToReset → Option Connection → Bool
+is_unlisted station items None = true
+is_unlisted station items (Some k) = not (k.station == station && is_listed k.id k.enb_id items)
 
 abbrev pub pages : Option Repeat → Bool
 pages None = false
@@ -20,6 +26,7 @@ abbrev pub still : Solo → Item → Bool
 still solo Nothing = true
 still solo Tick = not (is_some solo.procedure) && not (is_some solo.reachable)
 still solo (StationGone station) = not (pages solo.repeat) && is_elsewhere station solo.connection
+still solo (ConnectionsGone station items) = is_unlisted station items solo.connection
 still solo (Initial m) = false
 still solo (Claim id m) = false
 still solo (Message m) = false

@@ -2,17 +2,34 @@
 
 ghost use Rattle.std.specs.Prelude.{◌≡◌, List};
 ghost use Rattle.mme_vocabulary.specs.Events.{item_of};
-ghost use Rattle.emm_machine.specs.Still.{is_elsewhere, pages, still};
+ghost use Rattle.emm_machine.specs.Still.{is_elsewhere, is_unlisted, pages, still};
 ghost use Rattle.mme_vocabulary.specs.declared.stations.StationState.{StationState};
 
 use emm_state::{Repeat, Solo};
-use mme_vocabulary::{Connection, SoloEvent, StationNumber};
+use mme_vocabulary::{Connection, SoloEvent, StationNumber, is_listed};
+use per_bits::Listed;
+use s1ap_elements::ListedAssociation;
 
 fn is_elsewhere(station: StationNumber, connection: Option<Connection>) -> bool
     ensures { result ≡ is_elsewhere station connection }
 {
     match connection {
         Some(connection) => connection.station != station,
+        None => true,
+    }
+}
+
+fn is_unlisted(
+    station: StationNumber,
+    items: &[Listed<ListedAssociation, 91, 0>],
+    connection: Option<Connection>,
+) -> bool
+    ensures { result ≡ is_unlisted station items.now connection }
+{
+    match connection {
+        Some(connection) => {
+            !(connection.station == station && is_listed(connection.id, connection.enb_id, items))
+        }
         None => true,
     }
 }
@@ -36,6 +53,7 @@ pub(crate) fn is_still(solo: &Solo, event: &SoloEvent) -> bool
         SoloEvent::StationGone(station) => {
             !pages(&solo.repeat) && is_elsewhere(*station, solo.connection)
         }
+        SoloEvent::ConnectionsGone(station, items) => is_unlisted(*station, items, solo.connection),
         SoloEvent::Initial(_)
         | SoloEvent::Claim(_, _)
         | SoloEvent::Message(_)

@@ -12,7 +12,8 @@ ghost use Rattle.mme_vocabulary.specs.declared.stations.StationState.{StationSta
 use crate::passing::age;
 use crate::still::is_still;
 use emm_serving::{
-    cancelled, claim, data_waits, displaced, initial, message_of, station_gone, tick,
+    cancelled, claim, connections_gone, data_waits, displaced, initial, message_of, station_gone,
+    tick,
 };
 use emm_state::{Asked, Counter, Draft, Phase, Repeat, Setting, Solo, StepStop};
 use esm_machine::{Bearer, BearerState};
@@ -117,6 +118,10 @@ fn row(
         }
         SoloEvent::StationGone(station) => {
             station_gone(draft, *station);
+            Ok(())
+        }
+        SoloEvent::ConnectionsGone(station, items) => {
+            connections_gone(draft, *station, items);
             Ok(())
         }
         SoloEvent::Tick => tick(draft, alloc, setting),

@@ -13,6 +13,7 @@ use Rattle.mme_vocabulary.specs.declared.event.UeBody.TheVariants as bodies
 use Rattle.mme_vocabulary.specs.declared.event.UeMessage.{UeMessage}
 use Rattle.mme_vocabulary.specs.declared.stations.StationState.{StationState}
 use Rattle.mme_vocabulary.specs.Events as events
+use Rattle.mme_vocabulary.specs.Listed.{ToReset}
 use Rattle.mme_signalling.specs.declared.heard.Heard.{Heard}
 use Rattle.mme_signalling.specs.declared.heard.Heard.TheVariants as heards
 use Rattle.mme_signalling.specs.Hearing.{heard, initial_octets}
@@ -269,6 +270,10 @@ module _ {x : Context} {b : Solo} where
       let r = keeps_strike station h in
       at_some (Keeps x b) (connected.strike station d).solo.connection (λ k is. either (Keeps x b) _ (keeps_lost r) r) (λ is. r)
 
+  keeps_connections_gone : {d : Draft} (station : ℕ) (items : ToReset) → Keeps x b d → Keeps x b (connected.connections_gone station items d)
+  unfolding connected.connections_gone
+  keeps_connections_gone {d} station items h = at_some (Keeps x b) d.solo.connection (λ k is. either (Keeps x b) _ (keeps_lost h) h) (λ is. h)
+
   keeps_start : {d : Draft} (timer : NasTimer) (repeat : Repeat) → Keeps x b d → Keeps x b (start timer repeat d)
   unfolding start
   keeps_start timer repeat h = record {
@@ -303,6 +308,7 @@ leaves_row s b x (events.Claim id m) r is p a n = here (leaves false (keeps_clai
 leaves_row s b x (events.Message m) r is p a n = leaves_message_of m.body s m p (untouched_keeps b x r is)
 leaves_row s b x (events.Displaced id) r is p a n = here (leaves false (keeps_displaced id (untouched_keeps b x r is)))
 leaves_row s b x (events.StationGone station) r is p a n = here (leaves false (keeps_station_gone station (untouched_keeps b x r is)))
+leaves_row s b x (events.ConnectionsGone station items) r is p a n = here (leaves false (keeps_connections_gone station items (untouched_keeps b x r is)))
 leaves_row s b x events.Tick r is p a n = absurd (cc)
 leaves_row s b x (events.Data stations) r is p a n = here (leaves false (keeps_data_waits s stations (untouched_keeps b x r is)))
 leaves_row s b x events.Cancel r is p a n = absurd (cc)

@@ -22,6 +22,7 @@ use Rattle.mme_vocabulary.specs.declared.event.UeBody.TheVariants as bodies
 use Rattle.mme_vocabulary.specs.declared.event.UeMessage.{UeMessage}
 use Rattle.mme_vocabulary.specs.declared.stations.StationState.{StationState}
 use Rattle.mme_vocabulary.specs.Events as events
+use Rattle.mme_vocabulary.specs.Listed.{ToReset}
 use Rattle.mme_signalling.specs.declared.cause.EmmCause.{EmmCause}
 use Rattle.mme_signalling.specs.declared.heard.Heard.{Heard}
 use Rattle.mme_signalling.specs.declared.heard.Heard.TheVariants as heards
@@ -417,6 +418,10 @@ module _ {s : Setting} {b : Solo} {item : events.Item} where
       let r = here_strike station h in
       at_some (Moves s b item) (connected.strike station d).solo.connection (λ k is. either (Moves s b item) _ (moves_lost r) (stays r)) (λ is. stays r)
 
+  moves_connections_gone : {d : Draft} (station : ℕ) (items : ToReset) → IsHere b d → Moves s b item (connected.connections_gone station items d)
+  unfolding connected.connections_gone
+  moves_connections_gone {d} station items h = at_some (Moves s b item) d.solo.connection (λ k is. either (Moves s b item) _ (moves_lost h) (stays h)) (λ is. stays h)
+
   moves_given_up : {d : Draft} (timer : NasTimer) → IsHere b d → Moves s b item (idle.given_up timer d)
   unfolding idle.given_up ended
   moves_given_up T3413 h = stays (here_by refl refl refl h)
@@ -463,6 +468,7 @@ moves_row equal s b (events.Claim id m) = some (moves_claimed _ id m begun)
 moves_row equal s b (events.Message m) = moves_message_of equal m.body m refl
 moves_row equal s b (events.Displaced id) = some (moves_displaced id begun)
 moves_row equal s b (events.StationGone station) = some (moves_station_gone station begun)
+moves_row equal s b (events.ConnectionsGone station items) = some (moves_connections_gone station items begun)
 moves_row equal s b events.Tick = moves_tick begun
 moves_row equal s b (events.Data stations) = some (stays (here_data_waits s stations begun))
 moves_row equal s b events.Cancel = moves_cancelled b.phase refl

@@ -26,6 +26,7 @@ use Rattle.mme_vocabulary.specs.declared.event.UeBody.TheVariants as bodies
 use Rattle.mme_vocabulary.specs.declared.event.UeMessage.{UeMessage}
 use Rattle.mme_vocabulary.specs.declared.stations.StationState.{StationState}
 use Rattle.mme_vocabulary.specs.Events as events
+use Rattle.mme_vocabulary.specs.Listed.{ToReset}
 use Rattle.mme_signalling.specs.declared.cause.EmmCause.{EmmCause}
 use Rattle.mme_signalling.specs.declared.cause.EmmCause.TheVariants.{IdentityNotDerived, ImplicitlyDetached}
 use Rattle.mme_signalling.specs.declared.heard.Heard.{Heard}
@@ -594,6 +595,10 @@ module _ (whole : WholeIsFresh) {s : Setting} where
       let r = sound_strike station h in
       at_some (IsReady s (IsSound s)) (connected.strike station d).solo.connection (λ k is. either (IsReady s (IsSound s)) _ (sound_lost r) r) (λ is. r)
 
+  sound_connections_gone : {d : Draft} (station : ℕ) (items : ToReset) → IsReady s (IsSound s) d → IsReady s (IsSound s) (connected.connections_gone station items d)
+  unfolding connected.connections_gone
+  sound_connections_gone {d} station items h = at_some (IsReady s (IsSound s)) d.solo.connection (λ k is. either (IsReady s (IsSound s)) _ (sound_lost h) h) (λ is. h)
+
   -- ---- paging, countdowns and a withdrawn subscription
 
   sound_emit_each : (message : Pdu (List ℕ)) (es : List ℕ) (d : Draft) → ((station : ℕ) (e : Draft) → IsReady s (IsSound s) e → IsReady s (IsSound s) (emit station message None e))
@@ -697,6 +702,7 @@ module _ (whole : WholeIsFresh) {s : Setting} where
   done_row (events.Message m) h = done_message_of m.body m h
   done_row (events.Displaced id) h = some (done (sound_displaced id h))
   done_row (events.StationGone station) h = some (done (sound_station_gone station h))
+  done_row (events.ConnectionsGone station items) h = some (done (sound_connections_gone station items h))
   done_row events.Tick h = done_if (sound_tick h)
   done_row (events.Data stations) h = some (done (sound_data_waits stations h))
   done_row {d} events.Cancel h = done_if (sound_cancelled d.solo.phase refl h)

@@ -1,5 +1,5 @@
 -- The rows of messages on an association (TS 36.413 clause 8), and of what ends one.
-use Rattle.std.specs.Prelude.{ℕ, ◌+◌, ◌%◌, ◌==◌, Bool, false, not, if◌then◌else◌, List, filter, Option, Some, None}
+use Rattle.std.specs.Prelude.{ℕ, ◌+◌, ◌%◌, ◌==◌, ◌&&◌, Bool, false, not, if◌then◌else◌, List, filter, Option, Some, None}
 use Rattle.std.specs.Option.{option_map_or}
 use Rattle.s1ap_elements.specs.declared.cause.Cause.{Cause}
 use Rattle.s1ap_elements.specs.declared.cause.Cause.TheVariants as causes
@@ -12,6 +12,7 @@ use Rattle.mme_vocabulary.specs.declared.event.UeBody.TheVariants.{Uplink, Relea
 use Rattle.mme_vocabulary.specs.declared.event.UeMessage.{UeMessage}
 use Rattle.mme_vocabulary.specs.declared.connection.Connection.{Connection}
 use Rattle.mme_vocabulary.specs.declared.connection.RadioKeys.{RadioKeys}
+use Rattle.mme_vocabulary.specs.Listed.{ToReset, is_listed}
 use Rattle.mme_signalling.specs.Pdus.{cause_of_request, error_indication, path_switch_acknowledge, path_switch_failure}
 use Rattle.emm_state.specs.declared.draft.Draft.{Draft}
 use Rattle.emm_state.specs.declared.setting.Setting.{Setting}
@@ -110,3 +111,8 @@ unfoldable pub station_gone : ℕ → Draft → Draft
 station_gone station d =
     let rest = strike station d in
     option_map_or (λ k. if k.station == station then lost rest else rest) rest.solo.connection rest
+
+-- a station reset a list of associations; no station is struck from the paging to repeat
+unfoldable pub connections_gone : ℕ → ToReset → Draft → Draft
+connections_gone station items d =
+    option_map_or (λ k. if k.station == station && is_listed k.id k.enb_id items then lost d else d) d.solo.connection d

@@ -2,7 +2,7 @@
 
 ghost use Rattle.std.specs.Prelude.{◌≡◌, OnOk, Some, None};
 ghost use Rattle.mme_signalling.specs.Pdus.{cause_of_request, is_extended};
-ghost use Rattle.emm_serving.specs.Connected.{checked, connection_of, displaced, has_connection_id, has_pair, hopped, indicate, message_of, next_chaining_count, not_switched, on_connection, path_switch, station_gone, strike, struck, switched};
+ghost use Rattle.emm_serving.specs.Connected.{checked, connection_of, connections_gone, displaced, has_connection_id, has_pair, hopped, indicate, message_of, next_chaining_count, not_switched, on_connection, path_switch, station_gone, strike, struck, switched};
 ghost use Rattle.emm_state.specs.Does.{Does};
 ghost use Rattle.mme_vocabulary.specs.Events.{message_lists};
 
@@ -13,8 +13,9 @@ use identity_slots::AssociationId;
 use mme_signalling::{
     cause_of_request, error_indication, path_switch_acknowledge, path_switch_failure,
 };
-use mme_vocabulary::{Connection, RadioKeys, StationNumber, UeBody, UeMessage};
-use s1ap_elements::{Cause, ProtocolCause, RadioNetworkCause};
+use mme_vocabulary::{Connection, RadioKeys, StationNumber, UeBody, UeMessage, is_listed};
+use per_bits::Listed;
+use s1ap_elements::{Cause, ListedAssociation, ProtocolCause, RadioNetworkCause};
 use std::alloc::{AllocError, Global};
 
 // Next hop chaining counts are below this (TS 33.401 clause 7.2.8.1).
@@ -232,6 +233,22 @@ pub fn station_gone(draft: &mut Draft, station: StationNumber)
     strike(draft, station);
     if let Some(connection) = draft.solo.connection {
         if connection.station == station {
+            draft.lose();
+        }
+    }
+}
+
+/// A station reset a list of associations (TS 36.413 clause 8.7.1.2.2); no station is struck from the paging to repeat.
+#[tactic(auto, unfolding(crate::specs::Connected::connections_gone))]
+pub fn connections_gone(
+    draft: &mut Draft,
+    station: StationNumber,
+    items: &[Listed<ListedAssociation, 91, 0>],
+)
+    ensures { draft.new ≡ connections_gone station items.now draft.old }
+{
+    if let Some(connection) = draft.solo.connection {
+        if connection.station == station && is_listed(connection.id, connection.enb_id, items) {
             draft.lose();
         }
     }

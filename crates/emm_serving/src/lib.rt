@@ -7,6 +7,6 @@ mod connected;
 mod idle;
 mod serving;
 
-pub use connected::{displaced, message_of, station_gone};
+pub use connected::{connections_gone, displaced, message_of, station_gone};
 pub use idle::{cancelled, data_waits, tick};
 pub use serving::{claim, initial};

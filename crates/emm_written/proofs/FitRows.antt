@@ -25,6 +25,7 @@ use Rattle.mme_vocabulary.specs.declared.event.UeBody.TheVariants as bodies
 use Rattle.mme_vocabulary.specs.declared.event.UeMessage.{UeMessage}
 use Rattle.mme_vocabulary.specs.declared.stations.StationState.{StationState}
 use Rattle.mme_vocabulary.specs.Events as events
+use Rattle.mme_vocabulary.specs.Listed.{ToReset}
 use Rattle.mme_signalling.specs.declared.cause.EmmCause.{EmmCause}
 use Rattle.mme_signalling.specs.declared.heard.Heard.{Heard}
 use Rattle.mme_signalling.specs.declared.heard.Heard.TheVariants as heards
@@ -392,6 +393,10 @@ module _ (spelled : DecodedIsSpelled) (esm_spelled : DecodedEsmIsSpelled) {s : S
       let r = fit_strike station h in
       at_some IsFit (connected.strike station d).solo.connection (λ k is. either IsFit _ (fit_lost r) r) (λ is. r)
 
+  fit_connections_gone : {d : Draft} (station : ℕ) (items : ToReset) → IsFit d → IsFit (connected.connections_gone station items d)
+  unfolding connected.connections_gone
+  fit_connections_gone {d} station items h = at_some IsFit d.solo.connection (λ k is. either IsFit _ (fit_lost h) h) (λ is. h)
+
   -- ---- paging, countdowns and a withdrawn subscription
 
   fit_emit_each : (message : Pdu (List ℕ)) (es : List ℕ) (d : Draft) → IsFit d → IsFit (idle.emit_each message es d)
@@ -467,6 +472,7 @@ module _ (spelled : DecodedIsSpelled) (esm_spelled : DecodedEsmIsSpelled) {s : S
   fit_row (events.Message m) fits h = fit_message_of m.body m fits h
   fit_row (events.Displaced id) fits h = some (fit_displaced id h)
   fit_row (events.StationGone station) fits h = some (fit_station_gone station h)
+  fit_row (events.ConnectionsGone station items) fits h = some (fit_connections_gone station items h)
   fit_row events.Tick fits h = fit_tick h
   fit_row (events.Data stations) fits h = some (fit_data_waits stations h)
   fit_row {d} events.Cancel fits h = fit_cancelled d.solo.phase h

@@ -3,6 +3,8 @@ use Rattle.std.proofs.Common.{◌≡◌, ◌≢◌, ℕ, ◌+◌, List, [], ◌�
 use Rattle.std.specs.Prelude.{if◌then◌else◌, unwrap_or}
 use Rattle.std.proofs.lemmas.Bool.{cases_eq}
 use Rattle.std.proofs.lemmas.List.{set-get_or}
+use Rattle.s1ap_elements.specs.declared.phone.ResetType.{ResetType}
+use Rattle.s1ap_elements.specs.declared.phone.ResetType.TheVariants.{All, Part}
 use Rattle.s1ap_rows.specs.declared.fault.S1apFault.{S1apFault}
 use Rattle.s1ap_messages.specs.declared.pdu.Pdu.{Pdu}
 use Rattle.s1ap_messages.specs.declared.pdu.Pdu.TheVariants as pdu
@@ -26,7 +28,8 @@ use Rattle.mme_core.specs.Laws.{Exchanges, event_name, slot_named}
 use Rattle.mme_routing.specs.Naming.{named_slot}
 use Rattle.mme_core.specs.Sight.{Sight}
 use Rattle.mme_routing.specs.Destinations.{Subscriber, Stranger, for_one, item_at, strangers_behind}
-use Rattle.mme_routing.specs.Outcomes.{Outcome, broadcasts, begins_anew, enters, entry_routed, entry_of, goes_to, outcome_of, outcome_of_message, interface_reset, setup_failure, setup_response, phone_message, phone_message_if, message_of_slot, ue_message_in}
+use Rattle.mme_routing.specs.Outcomes.{Outcome, broadcasts, begins_anew, enters, entry_routed, entry_of, goes_to, outcome_of, outcome_of_message, setup_failure, setup_response, phone_message, phone_message_if, message_of_slot, ue_message_in}
+use Rattle.mme_routing.specs.Resets.{reset}
 use Rattle.mme_core.specs.World.{World, each_after, each_sent, event_fault, happens, if_down, if_known, items_of, world_moved, to_slot, outputs, reply, reply_of, sight_moved, slot_out, station_of, station_sent, strangers_in, strangers_sent, unless, subscriber_after, subscriber_step, world_after}
 use Rattle.mme_core.proofs.Calling.{at_nothing, item_other, stays}
 
@@ -86,10 +89,11 @@ named_set_up : (b : Bool) (x y : Outcome) (state : StationState) (slot : ℕ) �
 named_set_up true x y state slot h k is = cc
 named_set_up false x y state slot h k is = cc
 
-named_reset : (e : ℕ) (state : StationState) (slot : ℕ) → slot_named (interface_reset e state).destination ≡ Some slot → NamesIn state (interface_reset e state) slot
-named_reset e Down slot is = cc
-named_reset e Up slot is = cc
-named_reset e (Ready tas) slot is = cc
+named_reset : (e : ℕ) (state : StationState) (t : ResetType) (slot : ℕ) → slot_named (reset e state t).destination ≡ Some slot → NamesIn state (reset e state t) slot
+named_reset e Down t slot is = cc
+named_reset e Up t slot is = cc
+named_reset e (Ready tas) (All all) slot is = cc
+named_reset e (Ready tas) (Part items) slot is = cc
 
 named_entry : (o : Option ℕ) (e : ℕ) (state : StationState) (m : InitialUeMessage (List ℕ)) (slot : ℕ) → if_down state (Some NotUp) None ≡ None
     → slot_named (entry_routed o e m).destination ≡ Some slot → NamesIn state (entry_routed o e m) slot
@@ -122,9 +126,9 @@ named_message : (n : Network) (ps : List Profile) (e : ℕ) (state : StationStat
     → slot_named (outcome_of_message n ps e state m).destination ≡ Some slot → NamesIn state (outcome_of_message n ps e state m) slot
 named_message n ps e state (pdu.SetupRequest m) slot is =
     named_set_up (broadcasts n.plmn m.supported_tas) (begins_anew e (Some (Ready m.supported_tas)) (sent_to e (setup_response n))) (begins_anew e (Some Up) (sent_to e setup_failure)) state slot refl refl is
-named_message n ps e state (pdu.Reset m) slot is = named_reset e state slot is
+named_message n ps e state (pdu.Reset m) slot is = named_reset e state m.reset_type slot is
 named_message n ps e state (pdu.ErrorIndication m) slot is = cc
-named_message n ps e state pdu.ResetAcknowledge slot is = cc
+named_message n ps e state (pdu.ResetAcknowledge m) slot is = cc
 named_message n ps e state (pdu.InitialUeMessage m) slot is = named_enters n ps e state m slot is
 named_message n ps e state m slot is = named_phone_if ps e state (ue_message_in e m) slot is
 

@@ -16,3 +16,4 @@ pub mod OneOutput
 pub mod Short
 pub mod Faults
 pub mod Taken
+pub mod Ticks

@@ -1,10 +1,11 @@
 -- One event that is not refused: what it makes, from what comes of it.
-use Rattle.std.proofs.Common.{◌≡◌, ℕ, suc, ◌^◌, ◌<◌, ◌≤◌, List, [], ◌∷◌, ◌++◌, length, Bool, true, Option, Some, None, Ok, refl, sym, ◌∙◌, ap, arith}
+use Rattle.std.proofs.Common.{◌≡◌, ℕ, suc, ◌^◌, ◌<◌, ◌≤◌, List, [], ◌∷◌, ◌++◌, length, ◌+◌, Option, Some, None, Ok, refl, sym, ◌∙◌, ap, arith}
 use Rattle.emm_machine.specs.SubscriberView.{SubscriberView}
 use Rattle.subscriber_table.specs.declared.stepped.Stepped.{Stepped}
 use Rattle.subscriber_table.specs.Laws.{due_few}
 use Rattle.subscriber_table.specs.Table.{slots_stepped}
-use Rattle.mme_routing.specs.Destinations.{item_at, strangers_behind}
+use Rattle.stranger_machine.specs.declared.turn.Notice.TheVariants as notices
+use Rattle.mme_routing.specs.Destinations.{Destination, Everyone, item_at, strangers_behind}
 use Rattle.mme_routing.specs.Outcomes.{Outcome}
 use Rattle.mme_core.specs.declared.prepared.Prepared.{Prepared}
 use Rattle.mme_core.specs.declared.prepared.Prepared.TheVariants as prepared
@@ -82,10 +83,10 @@ not_past (prepared.Stranger id after x) t c m le h = let e = h.1 in omega arith
 not_past (prepared.Everyone notice xs) t c m le h = let e = h.1 in omega arith
 not_past (prepared.Tick xs) t c m le h = let e = h.1 in omega arith
 
--- a tick was prepared where the clock moves
-pub in_time : (b : Bool) (p : Prepared) (c m : ℕ) → IsPassing b p → (b ≡ true → c < m) → c ≤ m → (c < m → m ≤ 2 ^ 62) → IsInTime p c m
-in_time b prepared.Nobody c m h moves le most = (tt, le)
-in_time b (prepared.Subscriber x) c m h moves le most = (tt, le)
-in_time b (prepared.Stranger id after x) c m h moves le most = (tt, le)
-in_time b (prepared.Everyone notice xs) c m h moves le most = (tt, le)
-in_time b (prepared.Tick xs) c m h moves le most = let lt = moves h in let end = most lt in (omega arith, omega arith)
+-- a tick was prepared where everyone was told of one
+pub in_time : (d : Destination) (p : Prepared) (c m : ℕ) → IsPassing d p → (d ≡ Everyone notices.Tick → (c < 2 ^ 62) × (m ≡ c + 1)) → c ≤ m → IsInTime p c m
+in_time d prepared.Nobody c m h moves le = (tt, le)
+in_time d (prepared.Subscriber x) c m h moves le = (tt, le)
+in_time d (prepared.Stranger id after x) c m h moves le = (tt, le)
+in_time d (prepared.Everyone notice xs) c m h moves le = (tt, le)
+in_time d (prepared.Tick xs) c m h moves le = let k = moves h in let lt = k.0 in let is = k.1 in (lt, omega arith)

@@ -1,5 +1,5 @@
 -- What strangers and subscribers are once what was prepared for an event is settled.
-use Rattle.std.specs.Prelude.{◌≡◌, ◌+◌, ◌<◌, ◌≤◌, ◌^◌, ℕ, Bool, true, if◌then◌else◌, slice_get, List, [], ◌∷◌, length, map, option_map, Option, Some, None}
+use Rattle.std.specs.Prelude.{◌≡◌, ◌+◌, ◌<◌, ◌≤◌, ◌^◌, ℕ, Bool, true, false, if◌then◌else◌, slice_get, List, [], ◌∷◌, length, map, option_map, Option, Some, None}
 use Rattle.std.specs.Option.{option_map_or}
 use Rattle.emm_state.specs.declared.draft.Draft.{Draft}
 use Rattle.emm_state.specs.declared.solo.Solo.{Solo}
@@ -16,6 +16,9 @@ use Rattle.subscriber_table.specs.Table.{IsCounting, due_slots, slots_stepped, s
 use Rattle.mme_core.specs.declared.out.Out.{Out}
 use Rattle.mme_core.specs.declared.prepared.Prepared.{Prepared}
 use Rattle.mme_core.specs.declared.prepared.Prepared.TheVariants as prepared
+use Rattle.mme_routing.specs.declared.destination.Destination.{Destination as DestinationInCode}
+use Rattle.mme_routing.specs.declared.destination.Destination.TheVariants as code
+use Rattle.mme_routing.specs.Destinations.{Destination, Everyone}
 use Rattle.mme_core.specs.World.{slot_out, subscriber_step}
 pub use Rattle.subscriber_table.specs.Table.{in_state, with_solo, with_stepped}
 
@@ -82,10 +85,15 @@ MayPass _ clock = Unit {0}
 abbrev pub IsInTime : Prepared → ℕ → ℕ → Type 0
 IsInTime p before after = MayPass p before × (settled_clock p before ≤ after)
 
--- a tick was prepared only where the clock moves
-abbrev pub IsPassing : Bool → Prepared → Type 0
-IsPassing moves (prepared.Tick xs) = moves ≡ true
-IsPassing moves _ = Unit {0}
+-- it doesn't go to everyone
+abbrev pub is_own : DestinationInCode → Bool
+is_own (code.Everyone notice) = false
+is_own _ = true
+
+-- a tick was prepared only where everyone was told of one
+abbrev pub IsPassing : Destination → Prepared → Type 0
+IsPassing d (prepared.Tick xs) = d ≡ Everyone notices.Tick
+IsPassing d _ = Unit {0}
 
 -- ---- what an item makes of those whom it is for
 

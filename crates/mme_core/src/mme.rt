@@ -348,7 +348,6 @@ impl Surroundings {
         requires { event_fault self.now.sight event.now ≡ None }
         ensures value { result ≡ clock_after self.now.sight.clock event.now }
         ensures least { self.now.sight.clock ≤ result }
-        ensures most { self.now.sight.clock < result → result ≤ 2 ^ 62 }
     {
         match event {
             Event::Tick => self.clock + 1,
@@ -360,19 +359,18 @@ impl Surroundings {
     fn prepared<'a>(
         &'a self,
         subscribers: &mut Subscribers,
-        destination: &Destination<'a>,
-        passes: bool,
+        destination: Destination<'a>,
         outs: &mut Outs,
     ) -> Result<Prepared, AllocError>
         requires { AreInUse subscribers.old.subscribers }
-        ensures sends { OnOk result (outs.new ≡ outs.old ++ (strangers_sent self.entry.now.sight.profiles (destination_of self.entry.now.sight.stations destination.now) self.entry.now.strangers
-            ++ each_sent (item_at (destination_of self.entry.now.sight.stations destination.now) self.entry.now.sight.profiles (λ id. stranger_at id self.entry.now.strangers)) 0 subscribers.old.subscribers)) }
+        ensures sends { OnOk result (outs.new ≡ outs.old ++ (strangers_sent self.entry.now.sight.profiles (destination_of self.entry.now.sight.stations destination.entry) self.entry.now.strangers
+            ++ each_sent (item_at (destination_of self.entry.now.sight.stations destination.entry) self.entry.now.sight.profiles (λ id. stranger_at id self.entry.now.strangers)) 0 subscribers.old.subscribers)) }
         ensures strangers { IfOk result (λ p. settled_strangers p self.entry.now.strangers
-            ≡ strangers_behind self.entry.now.sight.profiles (destination_of self.entry.now.sight.stations destination.now) self.entry.now.strangers) }
+            ≡ strangers_behind self.entry.now.sight.profiles (destination_of self.entry.now.sight.stations destination.entry) self.entry.now.strangers) }
         ensures subscribers { IfOk result (λ p. settled_subscribers p subscribers.old.subscribers
-            ≡ each_after (item_at (destination_of self.entry.now.sight.stations destination.now) self.entry.now.sight.profiles (λ id. stranger_at id self.entry.now.strangers)) 0 subscribers.old.subscribers) }
+            ≡ each_after (item_at (destination_of self.entry.now.sight.stations destination.entry) self.entry.now.sight.profiles (λ id. stranger_at id self.entry.now.strangers)) 0 subscribers.old.subscribers) }
         ensures fits { IfOk result (λ p. IsFor p subscribers.old.subscribers) }
-        ensures passing { IfOk result (λ p. IsPassing passes p) }
+        ensures passing { IfOk result (λ p. IsPassing (destination_of self.entry.now.sight.stations destination.entry) p) }
         ensures same { subscribers.new ≡ subscribers.old }
     {
         prepare(
@@ -382,7 +380,6 @@ impl Surroundings {
             subscribers,
             &self.stations,
             destination,
-            passes,
             outs,
         )
     }
@@ -418,14 +415,13 @@ impl Surroundings {
             sent,
             destination,
         } = self.outcome(event)?;
-        let passes = self.clock < clock;
         let moves = Moves {
             station: event.station(),
             state,
             clock,
         };
         let mut outs = station_outs(self.alloc, moves.station, &sent)?;
-        let prepared = self.prepared(subscribers, &destination, passes, &mut outs)?;
+        let prepared = self.prepared(subscribers, destination, &mut outs)?;
         Ok(Ready {
             moves,
             prepared,

@@ -1,20 +1,22 @@
 //! What strangers and subscribers do at an event, worked out before any of it is taken.
 
-ghost use Rattle.std.specs.Prelude.{◌≡◌, ◌<◌, ◌++◌, List, map, length, IfOk, OnOk, Some};
+ghost use Rattle.std.specs.Prelude.{◌≡◌, ◌<◌, ◌≤◌, ◌++◌, List, map, length, IfOk, OnOk, Some, true};
 ghost use Rattle.mme_vocabulary.specs.declared.stations.StationState.{StationState};
 ghost use Rattle.mme_vocabulary.specs.Events.{item_of};
 ghost use Rattle.mme_vocabulary.specs.Events as items;
 ghost use Rattle.ordered_lists.specs.Ordered.{Every};
-ghost use Rattle.stranger_machine.specs.Table.{noted, stranger_at};
-ghost use Rattle.stranger_machine.specs.Turns.{call_of};
+ghost use Rattle.stranger_machine.specs.declared.table.Known.{Known};
+ghost use Rattle.stranger_machine.specs.declared.turn.Notice.TheVariants as notices;
+ghost use Rattle.stranger_machine.specs.Table.{noted, stranger_at, with_stranger};
+ghost use Rattle.stranger_machine.specs.Turns.{after_of, call_of};
 ghost use Rattle.subscriber_table.specs.declared.stepped.Stepped.{Stepped};
 ghost use Rattle.subscriber_table.specs.Laws.{some_give};
 ghost use Rattle.subscriber_table.specs.Table.{IsCounting, IsTicked, slots_stepped};
-ghost use Rattle.mme_routing.specs.Destinations.{for_all, for_one, if_called, item_at, item_of_notice, strangers_behind};
+ghost use Rattle.mme_routing.specs.Destinations.{Destination as DestinationInSpecs, Everyone, for_all, for_one, if_called, item_at, item_of_notice, strangers_behind};
 ghost use Rattle.mme_routing.specs.Seen.{destination_of};
 ghost use Rattle.mme_core.specs.FreshRuns.{AreInUse};
-ghost use Rattle.mme_core.specs.Settled.{IsFitIf, IsFor, IsPassing, sent_at, settled_strangers, settled_subscribers, solo_at, stepped_from, tick_sent, with_one};
-ghost use Rattle.mme_core.specs.World.{each_after, each_known, each_sent, strangers_sent};
+ghost use Rattle.mme_core.specs.Settled.{AreFit, IsFitIf, IsFor, IsPassing, is_own, sent_at, settled_strangers, settled_subscribers, solo_at, stepped_from, tick_sent, with_one, with_stepped};
+ghost use Rattle.mme_core.specs.World.{each_after, each_known, each_sent, stranger_out, strangers_sent};
 
 use crate::out::{Outs, Owner};
 use crate::prepared::Prepared;
@@ -22,7 +24,7 @@ use crate::provisioning::slot_of;
 use crate::sending::{send_all, send_each};
 use emm_machine::running_is_kept;
 use emm_state::Draft;
-use identity_slots::{Provision, Slot};
+use identity_slots::{AssociationId, Provision, Slot};
 use mme_routing::Destination;
 use mme_vocabulary::{EnbWorld, SoloEvent};
 use std::alloc::{AllocError, Global};
@@ -154,64 +156,98 @@ fn prepare_called(
     }
 }
 
+// What is to become of a stranger by its turn, and of the one whom it calls, if it calls.
+fn prepare_turn(
+    alloc: Global,
+    subscribers: &mut Subscribers,
+    id: AssociationId,
+    turn: Turn<'_>,
+    stations: &EnbWorld,
+    outs: &mut Outs,
+) -> Result<Prepared, AllocError>
+    requires { AreInUse subscribers.old.subscribers }
+    ensures sends { OnOk result (outs.new ≡ outs.old ++ (map (stranger_out id) turn.entry.sent ++ each_sent (if_called (call_of stations.now turn.entry.call)) 0 subscribers.old.subscribers)) }
+    ensures strangers { IfOk result (λ p. (ks : List Known) → settled_strangers p ks ≡ with_stranger id (after_of turn.entry.after (stranger_at id ks)) ks) }
+    ensures subscribers { IfOk result (λ p. settled_subscribers p subscribers.old.subscribers ≡ each_after (if_called (call_of stations.now turn.entry.call)) 0 subscribers.old.subscribers) }
+    ensures fits { IfOk result (λ p. IsFor p subscribers.old.subscribers) }
+    ensures passing { IfOk result (λ p. (d : DestinationInSpecs) → IsPassing d p) }
+    ensures same { subscribers.new ≡ subscribers.old }
+{
+    let Turn { after, sent, call } = turn;
+    send_all(alloc, outs, Owner::Stranger(id), &sent)?;
+    let called = prepare_called(alloc, subscribers, &call, stations, outs)?;
+    Ok(Prepared::Stranger(id, after, called))
+}
+
 // What a notice is to a subscriber.
-fn event_of<'a>(notice: Notice) -> SoloEvent<'a>
-    ensures { (stations : List StationState) → item_of result stations ≡ item_of_notice notice }
+fn event_of(notice: &Notice) -> SoloEvent<'_>
+    ensures { (stations : List StationState) → item_of result stations ≡ item_of_notice notice.entry.now }
 {
     match notice {
         Notice::Tick => SoloEvent::Tick,
-        Notice::Gone(station) => SoloEvent::StationGone(station),
+        Notice::Gone(station) => SoloEvent::StationGone(*station),
+        Notice::Listed(station, items) => SoloEvent::ConnectionsGone(*station, items.as_slice()),
     }
 }
 
-// What is to become of all strangers and all subscribers, and what they send. A tick that the clock passes touches those alone who
-// are due.
+// A tick of all strangers and, of the subscribers, of those alone who are due; and what all send.
+fn prepare_tick(
+    alloc: Global,
+    strangers: &Strangers,
+    subscribers: &mut Subscribers,
+    stations: &EnbWorld,
+    event: &SoloEvent,
+    outs: &mut Outs,
+) -> Result<Prepared, AllocError>
+    requires tick { item_of event.now stations.now ≡ items.Tick }
+    requires in_use { AreInUse subscribers.old.subscribers }
+    ensures sends { OnOk result (outs.new ≡ outs.old ++ (each_known notices.Tick strangers.now ++ each_sent (for_all items.Tick) 0 subscribers.old.subscribers)) }
+    ensures strangers { IfOk result (λ p. settled_strangers p strangers.now ≡ noted notices.Tick strangers.now) }
+    ensures subscribers { IfOk result (λ p. settled_subscribers p subscribers.old.subscribers ≡ each_after (for_all items.Tick) 0 subscribers.old.subscribers) }
+    ensures fits { IfOk result (λ p. IsFor p subscribers.old.subscribers) }
+    ensures passing { IfOk result (λ p. IsPassing (Everyone notices.Tick) p) }
+    ensures same { subscribers.new ≡ subscribers.old }
+{
+    send_each(alloc, strangers, &Notice::Tick, outs)?;
+    let due = subscribers.due()?;
+    let slots = due.as_slice();
+    let stepped = prepare_due(alloc, subscribers, slots, event, stations, outs)?;
+    Ok(Prepared::Tick(stepped))
+}
+
+// What a notice makes of all subscribers, by the event that it is to them, and what strangers and subscribers send.
 fn prepare_all(
     alloc: Global,
     strangers: &Strangers,
     subscribers: &mut Subscribers,
     stations: &EnbWorld,
-    notice: Notice,
+    notice: &Notice,
     event: &SoloEvent,
-    passes: bool,
     outs: &mut Outs,
-) -> Result<Prepared, AllocError>
-    requires event { item_of event.now stations.now ≡ item_of_notice notice }
+) -> Result<Vec<Stepped>, AllocError>
+    requires event { item_of event.now stations.now ≡ item_of_notice notice.now }
     requires in_use { AreInUse subscribers.old.subscribers }
-    ensures sends { OnOk result (outs.new ≡ outs.old ++ (each_known notice strangers.now ++ each_sent (for_all (item_of_notice notice)) 0 subscribers.old.subscribers)) }
-    ensures strangers { IfOk result (λ p. settled_strangers p strangers.now ≡ noted notice strangers.now) }
-    ensures subscribers { IfOk result (λ p. settled_subscribers p subscribers.old.subscribers ≡ each_after (for_all (item_of_notice notice)) 0 subscribers.old.subscribers) }
-    ensures fits { IfOk result (λ p. IsFor p subscribers.old.subscribers) }
-    ensures passing { IfOk result (λ p. IsPassing passes p) }
+    ensures sends { OnOk result (outs.new ≡ outs.old ++ (each_known notice.now strangers.now ++ each_sent (for_all (item_of_notice notice.now)) 0 subscribers.old.subscribers)) }
+    ensures subscribers { IfOk result (λ xs. with_stepped xs.items subscribers.old.subscribers ≡ each_after (for_all (item_of_notice notice.now)) 0 subscribers.old.subscribers) }
+    ensures fits { IfOk result (λ xs. AreFit (length subscribers.old.subscribers) xs.items × (length xs.items ≤ length subscribers.old.subscribers)) }
     ensures same { subscribers.new ≡ subscribers.old }
 {
     running_is_kept();
-    send_each(alloc, strangers, &notice, outs)?;
-    match notice {
-        Notice::Tick if passes => {
-            let due = subscribers.due()?;
-            let slots = due.as_slice();
-            let stepped = prepare_due(alloc, subscribers, slots, event, stations, outs)?;
-            Ok(Prepared::Tick(stepped))
-        }
-        _ => {
-            let stepped = prepare_everyone(alloc, subscribers, event, stations, outs)?;
-            Ok(Prepared::Everyone(notice, stepped))
-        }
-    }
+    send_each(alloc, strangers, notice, outs)?;
+    prepare_everyone(alloc, subscribers, event, stations, outs)
 }
 
-/// What is to become of those whom an event goes to, and what they send, behind what is sent so far.
-pub(crate) fn prepare<'a>(
+// What is to become of those whom an event goes to that isn't for everyone.
+fn prepare_own<'a>(
     alloc: Global,
     provision: &Provision,
     strangers: &'a Strangers,
     subscribers: &mut Subscribers,
     stations: &EnbWorld,
     destination: &Destination<'a>,
-    passes: bool,
     outs: &mut Outs,
 ) -> Result<Prepared, AllocError>
+    requires own { is_own destination.now ≡ true }
     requires in_use { AreInUse subscribers.old.subscribers }
     ensures sends { OnOk result (outs.new ≡ outs.old ++ (strangers_sent provision.now.profiles (destination_of stations.now destination.now) strangers.entry.now
         ++ each_sent (item_at (destination_of stations.now destination.now) provision.now.profiles (λ id. stranger_at id strangers.entry.now)) 0 subscribers.old.subscribers)) }
@@ -219,7 +255,7 @@ pub(crate) fn prepare<'a>(
     ensures subscribers { IfOk result (λ p. settled_subscribers p subscribers.old.subscribers
         ≡ each_after (item_at (destination_of stations.now destination.now) provision.now.profiles (λ id. stranger_at id strangers.entry.now)) 0 subscribers.old.subscribers) }
     ensures fits { IfOk result (λ p. IsFor p subscribers.old.subscribers) }
-    ensures passing { IfOk result (λ p. IsPassing passes p) }
+    ensures passing { IfOk result (λ p. IsPassing (destination_of stations.now destination.now) p) }
     ensures same { subscribers.new ≡ subscribers.old }
 {
     match destination {
@@ -231,35 +267,64 @@ pub(crate) fn prepare<'a>(
             }
         }
         Destination::Beginner(id, entry) => {
-            let Turn { after, sent, call } = begins(alloc, *id, strangers.find(*id), entry)?;
-            send_all(alloc, outs, Owner::Stranger(*id), &sent)?;
-            let called = prepare_called(alloc, subscribers, &call, stations, outs)?;
-            Ok(Prepared::Stranger(*id, after, called))
+            let turn = begins(alloc, *id, strangers.find(*id), entry)?;
+            prepare_turn(alloc, subscribers, *id, turn, stations, outs)
         }
         Destination::Stranger(message) => {
             let id = message.mme_id;
-            let Turn { after, sent, call } = receives(
-                alloc,
-                provision,
-                strangers.find(id),
-                message,
-            )?;
-            send_all(alloc, outs, Owner::Stranger(id), &sent)?;
-            let called = prepare_called(alloc, subscribers, &call, stations, outs)?;
-            Ok(Prepared::Stranger(id, after, called))
+            let turn = receives(alloc, provision, strangers.find(id), message)?;
+            prepare_turn(alloc, subscribers, id, turn, stations, outs)
+        }
+        Destination::Everyone(_) => unreachable!(),
+    }
+}
+
+/// What is to become of those whom an event goes to, and what they send, behind what is sent so far.
+pub(crate) fn prepare<'a>(
+    alloc: Global,
+    provision: &Provision,
+    strangers: &'a Strangers,
+    subscribers: &mut Subscribers,
+    stations: &EnbWorld,
+    destination: Destination<'a>,
+    outs: &mut Outs,
+) -> Result<Prepared, AllocError>
+    requires in_use { AreInUse subscribers.old.subscribers }
+    ensures sends { OnOk result (outs.new ≡ outs.old ++ (strangers_sent provision.now.profiles (destination_of stations.now destination.entry) strangers.entry.now
+        ++ each_sent (item_at (destination_of stations.now destination.entry) provision.now.profiles (λ id. stranger_at id strangers.entry.now)) 0 subscribers.old.subscribers)) }
+    ensures strangers { IfOk result (λ p. settled_strangers p strangers.entry.now ≡ strangers_behind provision.now.profiles (destination_of stations.now destination.entry) strangers.entry.now) }
+    ensures subscribers { IfOk result (λ p. settled_subscribers p subscribers.old.subscribers
+        ≡ each_after (item_at (destination_of stations.now destination.entry) provision.now.profiles (λ id. stranger_at id strangers.entry.now)) 0 subscribers.old.subscribers) }
+    ensures fits { IfOk result (λ p. IsFor p subscribers.old.subscribers) }
+    ensures passing { IfOk result (λ p. IsPassing (destination_of stations.now destination.entry) p) }
+    ensures same { subscribers.new ≡ subscribers.old }
+{
+    match destination {
+        Destination::Everyone(Notice::Tick) => {
+            let event = &SoloEvent::Tick;
+            prepare_tick(alloc, strangers, subscribers, stations, event, outs)
         }
         Destination::Everyone(notice) => {
-            let event = event_of(*notice);
-            prepare_all(
+            let event = &event_of(&notice);
+            let stepped = prepare_all(
                 alloc,
                 strangers,
                 subscribers,
                 stations,
-                *notice,
-                &event,
-                passes,
+                &notice,
+                event,
                 outs,
-            )
+            )?;
+            Ok(Prepared::Everyone(notice, stepped))
         }
+        own => prepare_own(
+            alloc,
+            provision,
+            strangers,
+            subscribers,
+            stations,
+            &own,
+            outs,
+        ),
     }
 }

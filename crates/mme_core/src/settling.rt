@@ -62,11 +62,11 @@ pub(crate) fn settle(
             }
         }
         Prepared::Everyone(notice, stepped) => {
-            strangers.note(notice);
+            strangers.note(&notice);
             settle_everyone(subscribers, stepped);
         }
         Prepared::Tick(stepped) => {
-            strangers.note(Notice::Tick);
+            strangers.note(&Notice::Tick);
             subscribers.tick(stepped);
         }
     }

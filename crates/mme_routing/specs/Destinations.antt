@@ -3,11 +3,11 @@ use Rattle.std.specs.Prelude.{ℕ, List, Option, Some, None, ◌==◌, if◌then
 use Rattle.identity_slots.specs.declared.profile.Profile.{Profile}
 use Rattle.mme_vocabulary.specs.declared.event.Entry.{Entry}
 use Rattle.mme_vocabulary.specs.declared.event.UeMessage.{UeMessage}
-use Rattle.mme_vocabulary.specs.Events.{Item, StationGone}
+use Rattle.mme_vocabulary.specs.Events.{Item, ConnectionsGone, StationGone}
 use Rattle.mme_vocabulary.specs.Events as items
 use Rattle.stranger_machine.specs.declared.state.Stranger.{Stranger as StrangerState}
 use Rattle.stranger_machine.specs.declared.turn.Notice.{Notice}
-use Rattle.stranger_machine.specs.declared.turn.Notice.TheVariants.{Gone, Tick}
+use Rattle.stranger_machine.specs.declared.turn.Notice.TheVariants.{Gone, Listed, Tick}
 use Rattle.stranger_machine.specs.declared.table.Known.{Known}
 use Rattle.stranger_machine.specs.Machine.{Input, Begins, Nothing, Notes, Receives, stranger_step}
 use Rattle.stranger_machine.specs.Table.{noted, with_input}
@@ -57,6 +57,7 @@ if_called (Some c) slot = for_one c.slot c.item slot
 abbrev pub item_of_notice : Notice → Item
 item_of_notice Tick = items.Tick
 item_of_notice (Gone e) = StationGone e
+item_of_notice (Listed e items) = ConnectionsGone e items
 
 -- by its slot: the strangers, by id, tell whom they call
 abbrev pub item_at : Destination → List Profile → (ℕ → Option StrangerState) → ℕ → Item

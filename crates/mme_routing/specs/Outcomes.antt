@@ -3,7 +3,7 @@ use Rattle.std.specs.Prelude.{ℕ, Bool, List, [], ◌∷◌, Option, Some, None
 use Rattle.std.specs.List.{list_any}
 use Rattle.s1ap_elements.specs.declared.cause.Cause.{Cause}
 use Rattle.s1ap_elements.specs.declared.cause.Cause.TheVariants.{Protocol, Misc}
-use Rattle.s1ap_elements.specs.declared.cause.ProtocolCause.TheVariants.{TransferSyntaxError, AbstractSyntaxErrorReject, AbstractSyntaxErrorIgnoreAndNotify, MessageNotCompatible, FalselyConstructedMessage}
+use Rattle.s1ap_elements.specs.declared.cause.ProtocolCause.TheVariants.{TransferSyntaxError, AbstractSyntaxErrorReject, AbstractSyntaxErrorIgnoreAndNotify, FalselyConstructedMessage}
 use Rattle.s1ap_elements.specs.declared.cause.MiscCause.TheVariants.{UnknownPlmn}
 use Rattle.s1ap_elements.specs.declared.station.SupportedTa.{SupportedTa}
 use Rattle.s1ap_elements.specs.declared.station.ServedGummei.{ServedGummei}
@@ -27,11 +27,12 @@ use Rattle.mme_vocabulary.specs.Stations.{is_broadcast}
 use Rattle.mme_vocabulary.specs.declared.stations.StationState.{StationState}
 use Rattle.mme_vocabulary.specs.declared.stations.StationState.TheVariants.{Down, Up, Ready}
 use Rattle.mme_vocabulary.specs.Events.{Initial, Message}
-use Rattle.stranger_machine.specs.declared.turn.Notice.TheVariants.{Gone}
 use Rattle.stranger_machine.specs.Machine.{unknown}
 use Rattle.stranger_machine.specs.Turns.{sent_to}
-use Rattle.mme_routing.specs.Destinations.{Destination, Nobody, Subscriber, Beginner, Stranger, Everyone}
+use Rattle.mme_routing.specs.Destinations.{Subscriber, Beginner, Stranger}
 use Rattle.mme_routing.specs.Naming.{named_slot}
+pub use Rattle.mme_routing.specs.Outcome.{Outcome, answered, begins_anew, goes_to, indication, not_compatible}
+use Rattle.mme_routing.specs.Resets.{reset}
 
 -- ---- what the MME sends to stations
 
@@ -44,10 +45,6 @@ setup_response network = pdu.SetupResponse (record { served_gummeis = served_gum
 
 abbrev pub setup_failure : Pdu (List ℕ)
 setup_failure = pdu.SetupFailure (record { cause = Misc UnknownPlmn })
-
--- an ERROR INDICATION without ids
-abbrev pub indication : Cause → Pdu (List ℕ)
-indication cause = pdu.ErrorIndication (record { mme_id = None; enb_id = None; cause = Some cause })
 
 -- the cause that octets with a fault are answered with; an unknown procedure by its criticality
 abbrev pub cause_of_unknown : Criticality → Option Cause
@@ -69,22 +66,6 @@ indicated e (Some cause) = sent_to e (indication cause)
 
 -- ---- what a station makes of a message
 
--- the station's new state, if it has one, what is sent for it, and where the event goes
-pub record Outcome : Type 0 where
-  pub state : Option StationState
-  pub sent : List Answer
-  pub destination : Destination
-
-abbrev pub answered : List Answer → Outcome
-answered sent = record { state = None; sent = sent; destination = Nobody }
-
-abbrev pub goes_to : Destination → Outcome
-goes_to d = record { state = None; sent = []; destination = d }
-
--- the associations of a station end, with what is sent for it
-abbrev pub begins_anew : ℕ → Option StationState → List Answer → Outcome
-begins_anew e state sent = record { state = state; sent = sent; destination = Everyone (Gone e) }
-
 -- whether some tracking area broadcasts the network
 abbrev pub broadcasts : List ℕ → List SupportedTa → Bool
 broadcasts plmn tas = list_any (λ ta. is_broadcast plmn ta.plmns) tas
@@ -95,16 +76,6 @@ station_set_up network e tas =
     if broadcasts network.plmn tas
     then begins_anew e (Some (Ready tas)) (sent_to e (setup_response network))
     else begins_anew e (Some Up) (sent_to e setup_failure)
-
--- a message that the state of the station doesn't take
-abbrev pub not_compatible : ℕ → Outcome
-not_compatible e = answered (sent_to e (indication (Protocol MessageNotCompatible)))
-
--- a reset of the whole interface, of a station that is set up (TS 36.413 clause 8.7.1)
-abbrev pub interface_reset : ℕ → StationState → Outcome
-interface_reset e Down = not_compatible e
-interface_reset e Up = not_compatible e
-interface_reset e (Ready tas) = begins_anew e None (sent_to e pdu.ResetAcknowledge)
 
 abbrev pub entry_of : ℕ → InitialUeMessage (List ℕ) → Entry (List ℕ)
 entry_of e m = record { station = e; enb_id = m.enb_id; nas = m.nas; tai = m.tai }
@@ -156,9 +127,9 @@ phone_message_if ps e state None = not_compatible e
 -- what a station that is not down makes of the message that it sends
 abbrev pub outcome_of_message : Network → List Profile → ℕ → StationState → Pdu (List ℕ) → Outcome
 outcome_of_message n ps e state (pdu.SetupRequest m) = station_set_up n e m.supported_tas
-outcome_of_message n ps e state (pdu.Reset m) = interface_reset e state
+outcome_of_message n ps e state (pdu.Reset m) = reset e state m.reset_type
 outcome_of_message n ps e state (pdu.ErrorIndication m) = answered []
-outcome_of_message n ps e state pdu.ResetAcknowledge = answered []
+outcome_of_message n ps e state (pdu.ResetAcknowledge m) = answered []
 outcome_of_message n ps e state (pdu.InitialUeMessage m) = enters n ps e state m
 outcome_of_message n ps e state m = phone_message_if ps e state (ue_message_in e m)
 

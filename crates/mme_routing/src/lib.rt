@@ -6,6 +6,7 @@ mod answers;
 mod destination;
 mod naming;
 mod outcome;
+mod resets;
 
 pub use destination::Destination;
 pub use outcome::{Outcome, outcome_of};

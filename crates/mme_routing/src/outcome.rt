@@ -7,11 +7,13 @@ ghost use Rattle.s1ap_rows.specs.declared.fault.S1apFault.TheVariants as faults;
 ghost use Rattle.mme_vocabulary.specs.declared.stations.StationState.{StationState};
 ghost use Rattle.mme_vocabulary.specs.Events.{ue_body_lists, message_lists};
 ghost use Rattle.mme_routing.specs.Seen.{destination_of, seen_outcome};
-ghost use Rattle.mme_routing.specs.Outcomes.{begins_anew, broadcasts, cause_of, entry_routed, enters, goes_to, outcome_of, outcome_of_message, indicated, indication, not_compatible, interface_reset, answered, station_set_up, phone_message, phone_message_if, message_by_id, message_of_slot, ue_message, ue_message_in};
+ghost use Rattle.mme_routing.specs.Resets.{reset};
+ghost use Rattle.mme_routing.specs.Outcomes.{begins_anew, broadcasts, cause_of, entry_routed, enters, goes_to, outcome_of, outcome_of_message, indicated, indication, not_compatible, answered, station_set_up, phone_message, phone_message_if, message_by_id, message_of_slot, ue_message, ue_message_in};
 
 use crate::answers::{cause_of, indication, setup_failure, setup_response};
 use crate::destination::Destination;
 use crate::naming::named_slot;
+use crate::resets::reset;
 use identity_slots::{AssociationId, Provision};
 use mme_vocabulary::{
     Answers, Entry, Network, SoloEvent, StationNumber, StationState, UeBody, UeMessage,
@@ -73,7 +75,8 @@ fn outcome_of_cause<'a>(
     }
 }
 
-fn not_compatible<'a>(alloc: Global, station: StationNumber) -> Result<Outcome<'a>, AllocError>
+/// A message that the state of the station doesn't take (TS 36.413 clause 10.4). Refused where memory is.
+pub fn not_compatible<'a>(alloc: Global, station: StationNumber) -> Result<Outcome<'a>, AllocError>
     ensures { IfOk result (λ h. (stations : List StationState) → seen_outcome stations h ≡ not_compatible station) }
 {
     let cause = Cause::Protocol(ProtocolCause::MessageNotCompatible);
@@ -122,22 +125,6 @@ fn station_set_up<'a>(
     } else {
         let sent = sent_to(alloc, station, &setup_failure())?;
         Ok(Outcome::begins_anew(station, Some(StationState::Up), sent))
-    }
-}
-
-fn interface_reset<'a>(
-    alloc: Global,
-    station: StationNumber,
-    state: &StationState,
-) -> Result<Outcome<'a>, AllocError>
-    ensures { IfOk result (λ h. (stations : List StationState) → seen_outcome stations h ≡ interface_reset station state.now) }
-{
-    match state {
-        StationState::Ready(_) => {
-            let sent = sent_to(alloc, station, &Pdu::ResetAcknowledge)?;
-            Ok(Outcome::begins_anew(station, None, sent))
-        }
-        StationState::Up | StationState::Down => not_compatible(alloc, station),
     }
 }
 
@@ -304,8 +291,8 @@ fn outcome_of_message<'a>(
 {
     match message {
         Pdu::SetupRequest(m) => station_set_up(alloc, network, station, m),
-        Pdu::Reset(_) => interface_reset(alloc, station, state),
-        Pdu::ErrorIndication(_) | Pdu::ResetAcknowledge => {
+        Pdu::Reset(m) => reset(alloc, station, state, m.reset_type),
+        Pdu::ErrorIndication(_) | Pdu::ResetAcknowledge(_) => {
             Ok(Outcome::answered(Answers::new(alloc)))
         }
         Pdu::InitialUeMessage(m) => enters(alloc, network, provision, station, state, m),

@@ -8,6 +8,7 @@ use Rattle.mme_vocabulary.specs.declared.event.UeBody.{UeBody}
 use Rattle.mme_vocabulary.specs.declared.event.UeBody.TheVariants as bodies
 use Rattle.mme_vocabulary.specs.declared.event.UeMessage.{UeMessage}
 use Rattle.mme_vocabulary.specs.declared.stations.StationState.{StationState}
+use Rattle.mme_vocabulary.specs.Listed.{ToReset}
 
 -- what of an event is for one subscriber: none but Data carries the stations
 pub data Item : Type 0 where
@@ -17,6 +18,7 @@ pub data Item : Type 0 where
   Message : UeMessage (List ℕ) → Item
   Displaced : ℕ → Item
   StationGone : ℕ → Item
+  ConnectionsGone : ℕ → ToReset → Item
   Tick : Item
   Data : List StationState → Item
   Cancel : Item
@@ -44,6 +46,7 @@ item_of (events.Claim id m) stations = Claim id (entry_lists m)
 item_of (events.Message m) stations = Message (message_lists m)
 item_of (events.Displaced id) stations = Displaced id
 item_of (events.StationGone station) stations = StationGone station
+item_of (events.ConnectionsGone station items) stations = ConnectionsGone station items.now
 item_of events.Tick stations = Tick
 item_of events.Data stations = Data stations
 item_of events.Cancel stations = Cancel

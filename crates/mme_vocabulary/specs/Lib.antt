@@ -1,4 +1,5 @@
 pub mod Network
 pub mod Stations
 pub mod Answers
+pub mod Listed
 pub mod Events

@@ -1,7 +1,8 @@
 //! What happens to a subscriber. `B` is what holds octets: a slice of the message in code, a list in contracts.
 
 use identity_slots::{AssociationId, StationNumber};
-use s1ap_elements::{Cause, EnbUeId, Tai};
+use per_bits::Listed;
+use s1ap_elements::{Cause, EnbUeId, ListedAssociation, Tai};
 
 /// An INITIAL UE MESSAGE (TS 36.413 clause 8.6.2.1).
 #[derive(Clone, Copy)]
@@ -71,6 +72,8 @@ pub enum SoloEvent<'a> {
     Displaced(AssociationId),
     /// A station was lost, set up anew or reset.
     StationGone(StationNumber),
+    /// A station reset a list of associations.
+    ConnectionsGone(StationNumber, &'a [Listed<ListedAssociation, 91, 0>]),
     /// A second has passed.
     Tick,
     /// Downlink data waits.

@@ -4,6 +4,7 @@
 
 mod connection;
 mod event;
+mod listed;
 mod network;
 mod octets;
 mod stations;
@@ -11,6 +12,7 @@ mod stations;
 pub use connection::{Connection, RadioKeys};
 pub use event::{Entry, SoloEvent, UeBody, UeMessage};
 pub use identity_slots::StationNumber;
+pub use listed::is_listed;
 pub use network::{AggregateBitRate, Apn, Network, SharedNetwork};
 pub use octets::{Answer, Answers, Mark, NasOctets, SentOctets};
 pub use stations::{EnbWorld, StationState, is_broadcast};

@@ -1,14 +1,14 @@
 //! S1AP messages as text: the name of their type, and the fields of TS 36.413 clause 9.1.
 
 use crate::parts::{
-    with_algorithms, with_area, with_bearer, with_each, with_ids, with_place, with_station,
-    with_tunnels,
+    with_algorithms, with_area, with_associations, with_bearer, with_each, with_given_ids,
+    with_ids, with_place, with_reset_type, with_station, with_tunnels,
 };
 use call_text::{Call, Text};
 use s1ap_elements::{UePagingId, UeS1apIds};
 use s1ap_messages::{
     ContextSetupRequest, ErrorIndication, InitialUeMessage, Paging, PathSwitchRequest, Pdu,
-    ReleaseCommand, S1apPdu, SetupRequest, SetupResponse,
+    ReleaseCommand, ResetAcknowledge, S1apPdu, SetupRequest, SetupResponse,
 };
 
 /// A message.
@@ -17,11 +17,10 @@ pub fn message_text(call: Call, message: &S1apPdu) -> Text {
         Pdu::SetupRequest(m) => setup_request(call, m),
         Pdu::SetupResponse(m) => setup_response(call, m),
         Pdu::SetupFailure(m) => call.text("SetupFailure").named(" cause ", &m.cause),
-        Pdu::Reset(m) => call
-            .text("Reset")
-            .named(" cause ", &m.cause)
-            .named(" type ", &m.reset_type),
-        Pdu::ResetAcknowledge => call.text("ResetAcknowledge"),
+        Pdu::Reset(m) => {
+            with_reset_type(call.text("Reset").named(" cause ", &m.cause), &m.reset_type)
+        }
+        Pdu::ResetAcknowledge(m) => reset_acknowledge(call, m),
         Pdu::ErrorIndication(m) => error_indication(call, m),
         Pdu::Paging(m) => paging(call, m),
         Pdu::InitialUeMessage(m) => initial_ue_message(call, m),
@@ -114,14 +113,16 @@ fn setup_response(call: Call, m: &SetupResponse) -> Text {
     text
 }
 
+fn reset_acknowledge(call: Call, m: &ResetAcknowledge) -> Text {
+    let text = call.text("ResetAcknowledge");
+    match &m.associations {
+        Some(associations) => with_associations(text, associations.as_slice()),
+        None => text,
+    }
+}
+
 fn error_indication(call: Call, m: &ErrorIndication) -> Text {
-    let mut text = call.text("ErrorIndication");
-    if let Some(id) = m.mme_id {
-        text = text.with(" mme ", &id.get());
-    }
-    if let Some(id) = m.enb_id {
-        text = text.with(" enb ", &id.get());
-    }
+    let text = with_given_ids(call.text("ErrorIndication"), m.mme_id, m.enb_id);
     match m.cause {
         Some(cause) => text.named(" cause ", &cause),
         None => text,

@@ -3,13 +3,49 @@
 use call_text::Text;
 use per_bits::{Listed, Octets};
 use s1ap_elements::{
-    EnbId, EnbUeId, ErabToBeSetup, ErabTunnel, EutranCgi, MmeUeId, SecurityCapabilities, Tai,
+    EnbId, EnbUeId, ErabToBeSetup, ErabTunnel, EutranCgi, ListedAssociation, MmeUeId, ResetType,
+    SecurityCapabilities, Tai,
 };
 
 /// A text and both numbers of an association.
 pub fn with_ids(text: Text, mme_id: MmeUeId, enb_id: EnbUeId) -> Text {
     text.with(" mme ", &mme_id.get())
         .with(" enb ", &enb_id.get())
+}
+
+/// A text and those numbers of an association that are given.
+pub fn with_given_ids(text: Text, mme_id: Option<MmeUeId>, enb_id: Option<EnbUeId>) -> Text {
+    let text = match mme_id {
+        Some(id) => text.with(" mme ", &id.get()),
+        None => text,
+    };
+    match enb_id {
+        Some(id) => text.with(" enb ", &id.get()),
+        None => text,
+    }
+}
+
+/// A text and each association of a list, by those of its numbers that are given.
+pub fn with_associations<const CRITICALITY: u64>(
+    text: Text,
+    associations: &[Listed<ListedAssociation, 91, CRITICALITY>],
+) -> Text {
+    let mut text = text;
+    for listed in associations {
+        let ListedAssociation { mme_id, enb_id } = listed.value;
+        text = with_given_ids(text.with(" association", &""), mme_id, enb_id);
+    }
+    text
+}
+
+/// A text and what is set back.
+pub fn with_reset_type(text: Text, reset_type: &ResetType) -> Text {
+    match reset_type {
+        ResetType::All(all) => text.named(" type All(", all).with(")", &""),
+        ResetType::Part(associations) => {
+            with_associations(text.with(" type Part", &""), associations.as_slice())
+        }
+    }
 }
 
 /// A text, a tracking area and a cell.

@@ -95,9 +95,18 @@ security_key = octets 32
 abbrev pub security_context : Format
 security_context = sequence (must (number 0 7) (must security_key (skip extensions done)))
 
--- the index bit of the second alternative, a part, is refused as the extension's is
+abbrev pub listed_association : Format
+listed_association = sequence (may mme_ue_id (may enb_ue_id (skip extensions done)))
+
+abbrev pub associations_to_reset : Format
+associations_to_reset = items 1 256 (item 91 0 listed_association)
+
+abbrev pub associations_reset : Format
+associations_reset = items 1 256 (item 91 1 listed_association)
+
+-- the whole interface, or a part of it
 abbrev pub reset_type : Format
-reset_type = choice (last (choice (last (enumerated 0))))
+reset_type = choice (either (enumerated 0) (last associations_to_reset))
 
 -- ---- bearers
 

@@ -31,8 +31,9 @@ pub use identity::{
     RelativeCapacity, SecurityKey, Tac, Teid, UeIndex,
 };
 pub use phone::{
-    CnDomain, EutranCgi, ResetAll, ResetType, RrcCause, STmsi, SecurityCapabilities,
-    SecurityContext, Tai, TaiItem, TaiList, UeIdPair, UePagingId, UeS1apIds,
+    AssociationsReset, AssociationsToReset, CnDomain, EutranCgi, ListedAssociation, ResetAll,
+    ResetType, RrcCause, STmsi, SecurityCapabilities, SecurityContext, Tai, TaiItem, TaiList,
+    UeIdPair, UePagingId, UeS1apIds,
 };
 pub use station::{
     EnbId, GlobalEnbId, PagingDrx, ServedGummei, ServedGummeis, SupportedTa, SupportedTas,

@@ -96,8 +96,24 @@ pub enum ResetAll {
     Extended(u64),
 }
 
+/// An association by those of its numbers that are given (TS 36.413 clauses 9.1.8.1 and 9.1.8.2).
+#[derive(Clone, Copy)]
+pub struct ListedAssociation {
+    pub mme_id: Option<MmeUeId>,
+    pub enb_id: Option<EnbUeId>,
+}
+
+/// Associations that are to be set back: elements 91, marked reject.
+pub type AssociationsToReset = Items<Listed<ListedAssociation, 91, 0>, 1, 256>;
+
+/// Associations that were set back: elements 91, marked ignore.
+pub type AssociationsReset = Items<Listed<ListedAssociation, 91, 1>, 1, 256>;
+
 /// What is set back (TS 36.413 clause 9.1.8.1).
-#[derive(Clone, Copy, Debug)]
+#[derive(Drop)]
 pub enum ResetType {
+    /// The whole interface.
     All(ResetAll),
+    /// These associations alone.
+    Part(AssociationsToReset),
 }

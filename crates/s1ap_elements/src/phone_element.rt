@@ -1,22 +1,23 @@
 //! What tells phones apart, and what is told of them, read and written.
 
-ghost use Rattle.std.specs.Prelude.{◌≡◌};
-ghost use Rattle.bit_streams.specs.Bits.{Gives};
+ghost use Rattle.std.specs.Prelude.{◌≡◌, ◌∷◌, []};
+ghost use Rattle.bit_streams.specs.Bits.{Answers, Gives, bit_at};
+ghost use Rattle.bit_streams.specs.Each.{times};
 ghost use Rattle.per_bits.specs.Reading.{read_at};
 ghost use Rattle.per_bits.specs.Writing.{write_at, Wrote};
 ghost use Rattle.per_bits.specs.Names.{view_of_name, IsName};
-ghost use Rattle.s1ap_elements.specs.Formats.{tai, tai_item, eutran_cgi, s_tmsi, ue_paging_id, rrc_cause, cn_domain, ue_id_pair, ue_s1ap_ids, security_capabilities, security_context, reset_type};
-ghost use Rattle.s1ap_elements.specs.Phones.{typed_tai, typed_tai_item, typed_eutran_cgi, typed_s_tmsi, ue_paging_id_lists, typed_ue_paging_id, typed_rrc_cause, typed_cn_domain, typed_ue_id_pair, typed_ue_s1ap_ids, typed_security_capabilities, typed_security_context, typed_reset_all, typed_reset_type};
+ghost use Rattle.s1ap_elements.specs.Formats.{tai, tai_item, eutran_cgi, s_tmsi, ue_paging_id, rrc_cause, cn_domain, ue_id_pair, ue_s1ap_ids, security_capabilities, security_context, listed_association, reset_type};
+ghost use Rattle.s1ap_elements.specs.Phones.{typed_tai, typed_tai_item, typed_eutran_cgi, typed_s_tmsi, ue_paging_id_lists, typed_ue_paging_id, typed_rrc_cause, typed_cn_domain, typed_ue_id_pair, typed_ue_s1ap_ids, typed_security_capabilities, typed_security_context, typed_reset_all, typed_listed_association, typed_reset_type};
 
 use crate::identity::{CellId, EnbUeId, MTmsi, MmeCode, MmeUeId, Plmn, SecurityKey, Tac};
 use crate::phone::{
-    CnDomain, EutranCgi, ResetAll, ResetType, RrcCause, STmsi, SecurityCapabilities,
-    SecurityContext, Tai, TaiItem, UeIdPair, UePagingId, UeS1apIds,
+    AssociationsToReset, CnDomain, EutranCgi, ListedAssociation, ResetAll, ResetType, RrcCause,
+    STmsi, SecurityCapabilities, SecurityContext, Tai, TaiItem, UeIdPair, UePagingId, UeS1apIds,
 };
 use per_bits::{
     BitField, BitReader, BitWriter, Closed, Element, Enumerated, PerError, PerFault, SizedString,
-    Whole, offset_of, put_choice, put_flags, put_number, read_two, skip_later, take_choice,
-    take_flags, take_name, write_choice,
+    Whole, offset_of, put_flags, put_number, put_optional, read_optional, read_two, skip_later,
+    take_choice, take_flags, take_name, take_three_flags, write_choice,
 };
 use std::alloc::Global;
 
@@ -273,6 +274,39 @@ impl<'a> Element<'a> for CnDomain {
     }
 }
 
+// The presence bits of a SEQUENCE two parts of which may lack.
+#[tactic(auto, unfolding(bit_streams::specs::Each::times))]
+fn take_four_flags(reader: &mut BitReader) -> Result<(bool, bool, bool, bool), PerFault>
+    ensures { Answers (λ f. f.0 ∷ f.1 ∷ f.2 ∷ f.3 ∷ []) result reader.new (times bit_at 4 reader.old) }
+{
+    let extended = reader.take_bit()?;
+    let (first, second, more) = take_three_flags(reader)?;
+    Ok((extended, first, second, more))
+}
+
+impl<'a> Element<'a> for ListedAssociation {
+    ghost format = { listed_association };
+
+    ghost view = { typed_listed_association };
+
+    fn read(alloc: Global, reader: &mut BitReader<'a>) -> Result<Self, PerError> {
+        let (extended, has_mme_id, has_enb_id, more) = take_four_flags(reader)?;
+        let mme_id = read_optional::<MmeUeId>(alloc, has_mme_id, reader)?;
+        let enb_id = read_optional::<EnbUeId>(alloc, has_enb_id, reader)?;
+        skip_later(extended, more, reader)?;
+        Ok(ListedAssociation { mme_id, enb_id })
+    }
+
+    fn write(&self, alloc: Global, writer: &mut BitWriter) -> Result<(), PerError> {
+        writer.put_bit(false)?;
+        writer.put_bit(self.mme_id.is_some())?;
+        writer.put_bit(self.enb_id.is_some())?;
+        writer.put_bit(false)?;
+        put_optional(alloc, &self.mme_id, writer)?;
+        put_optional(alloc, &self.enb_id, writer)
+    }
+}
+
 fn reset_all_of(name: Enumerated<0>) -> ResetAll
     requires { IsName name }
     ensures { typed_reset_all result ≡ view_of_name name }
@@ -297,17 +331,23 @@ impl<'a> Element<'a> for ResetType {
 
     ghost view = { typed_reset_type };
 
-    fn read(_alloc: Global, reader: &mut BitReader<'a>) -> Result<Self, PerError> {
-        take_choice(0, reader)?;
-        take_choice(0, reader)?;
-        let name = take_name::<0>(reader)?;
-        Ok(ResetType::All(reset_all_of(name)))
+    fn read(alloc: Global, reader: &mut BitReader<'a>) -> Result<Self, PerError> {
+        match take_choice(1, reader)? {
+            0 => match take_name::<0>(reader) {
+                Ok(name) => Ok(ResetType::All(reset_all_of(name))),
+                Err(fault) => Err(PerError::Fault(fault)),
+            },
+            1 => read_choice!(ResetType::Part, AssociationsToReset::read(alloc, reader)),
+            _ => Err(PerError::Fault(PerFault::Range)),
+        }
     }
 
     fn write(&self, alloc: Global, writer: &mut BitWriter) -> Result<(), PerError> {
-        let ResetType::All(reset) = self;
-        put_choice(0, 0, writer)?;
-        put_choice(0, 0, writer)?;
-        name_of_reset_all(*reset).write(alloc, writer)
+        match self {
+            ResetType::All(reset) => {
+                write_choice(1, 0, &name_of_reset_all(*reset), alloc, writer)
+            }
+            ResetType::Part(associations) => write_choice(1, 1, associations, alloc, writer),
+        }
     }
 }

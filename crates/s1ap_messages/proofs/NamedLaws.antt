@@ -5,11 +5,11 @@ use Rattle.bit_streams.specs.declared.fault.PerFault.{PerFault}
 use Rattle.per_bits.specs.Formats.{Value}
 use Rattle.s1ap_elements.specs.Formats.{cause}
 use Rattle.s1ap_elements.specs.Causes.{typed_cause, named_cause}
-use Rattle.s1ap_elements.specs.Phones.{typed_s_tmsi, named_s_tmsi}
+use Rattle.s1ap_elements.specs.Phones.{typed_associations_reset, named_associations_reset, typed_s_tmsi, named_s_tmsi}
 use Rattle.s1ap_elements.specs.ListLaws.{option_back}
 use Rattle.s1ap_elements.specs.CauseLaws.{cause_again, cause_spelled}
 use Rattle.s1ap_elements.specs.StationLaws.{global_enb_id_again, global_enb_id_spelled, paging_drx_again, paging_drx_spelled, served_gummeis_again, served_gummeis_spelled, supported_tas_again, supported_tas_spelled}
-use Rattle.s1ap_elements.specs.PhoneLaws.{cn_domain_again, cn_domain_spelled, reset_type_again, reset_type_spelled, rrc_cause_again, rrc_cause_spelled, tai_list_again, tai_list_spelled, ue_paging_id_again, ue_paging_id_spelled, ue_s1ap_ids_again, ue_s1ap_ids_spelled}
+use Rattle.s1ap_elements.specs.PhoneLaws.{associations_reset_again, associations_reset_spelled, cn_domain_again, cn_domain_spelled, reset_type_again, reset_type_spelled, rrc_cause_again, rrc_cause_spelled, tai_list_again, tai_list_spelled, ue_paging_id_again, ue_paging_id_spelled, ue_s1ap_ids_again, ue_s1ap_ids_spelled}
 use Rattle.s1ap_elements.specs.BearerLaws.{erabs_setup_again, erabs_setup_spelled, erabs_to_be_setup_again, erabs_to_be_setup_spelled, erabs_to_be_switched_again, erabs_to_be_switched_spelled}
 use Rattle.s1ap_rows.specs.declared.fault.S1apFault.{S1apFault}
 use Rattle.s1ap_rows.specs.declared.fault.S1apFault.TheVariants as faults
@@ -29,13 +29,14 @@ use Rattle.s1ap_messages.specs.declared.pdu.Paging.{Paging}
 use Rattle.s1ap_messages.specs.declared.pdu.PathSwitchRequest.{PathSwitchRequest}
 use Rattle.s1ap_messages.specs.declared.pdu.PathSwitchFailure.{PathSwitchFailure}
 use Rattle.s1ap_messages.specs.declared.pdu.Reset.{Reset}
+use Rattle.s1ap_messages.specs.declared.pdu.ResetAcknowledge.{ResetAcknowledge}
 use Rattle.s1ap_messages.specs.declared.pdu.ErrorIndication.{ErrorIndication}
 use Rattle.s1ap_messages.specs.declared.pdu.Pdu.{Pdu}
 use Rattle.s1ap_messages.specs.declared.pdu.Pdu.TheVariants as pdu
 use Rattle.s1ap_rows.specs.Rows.{Kept}
-use Rattle.s1ap_messages.specs.Profile.{rows_of, setup_request, setup_response, setup_failure, initial_ue_message, nas_non_delivery, context_setup_request, context_setup_response, context_setup_failure, release_request, release_command, paging, path_switch_request, path_switch_failure, reset, error_indication}
+use Rattle.s1ap_messages.specs.Profile.{rows_of, setup_request, setup_response, setup_failure, initial_ue_message, nas_non_delivery, context_setup_request, context_setup_response, context_setup_failure, release_request, release_command, paging, path_switch_request, path_switch_failure, reset, reset_acknowledge, error_indication}
 use Rattle.s1ap_messages.specs.Typed.{Typed, typed_of, decode_typed, SpellsTyped, encode_typed}
-use Rattle.s1ap_messages.specs.Pdus.{lists, typed, named, decoded, encoded, ok_of, SpellsMessage, typed_setup_request, named_setup_request, typed_setup_response, named_setup_response, typed_setup_failure, named_setup_failure, typed_initial_ue_message, named_initial_ue_message, typed_nas_non_delivery, named_nas_non_delivery, typed_context_setup_request, named_context_setup_request, typed_context_setup_response, named_context_setup_response, typed_context_setup_failure, named_context_setup_failure, typed_release_request, named_release_request, typed_release_command, named_release_command, typed_paging, named_paging, typed_path_switch_request, named_path_switch_request, typed_path_switch_failure, named_path_switch_failure, typed_reset, named_reset, typed_error_indication, named_error_indication}
+use Rattle.s1ap_messages.specs.Pdus.{lists, typed, named, decoded, encoded, ok_of, SpellsMessage, typed_setup_request, named_setup_request, typed_setup_response, named_setup_response, typed_setup_failure, named_setup_failure, typed_initial_ue_message, named_initial_ue_message, typed_nas_non_delivery, named_nas_non_delivery, typed_context_setup_request, named_context_setup_request, typed_context_setup_response, named_context_setup_response, typed_context_setup_failure, named_context_setup_failure, typed_release_request, named_release_request, typed_release_command, named_release_command, typed_paging, named_paging, typed_path_switch_request, named_path_switch_request, typed_path_switch_failure, named_path_switch_failure, typed_reset, named_reset, typed_reset_acknowledge, named_reset_acknowledge, typed_error_indication, named_error_indication}
 use Rattle.s1ap_rows.specs.Reading.{◌>>>◌}
 use Rattle.s1ap_rows.specs.Answers.{Answers, FailsAs}
 use Rattle.s1ap_rows.specs.MessageLaws.{bind_some}
@@ -85,6 +86,9 @@ path_switch_failure_again m = rw (cause_again m.cause) refl
 reset_again : (m : Reset) → named_reset (typed_reset m) ≡ m
 reset_again m = rw (cause_again m.cause, reset_type_again m.reset_type) refl
 
+reset_acknowledge_again : (m : ResetAcknowledge) → named_reset_acknowledge (typed_reset_acknowledge m) ≡ m
+reset_acknowledge_again m = rw (option_back typed_associations_reset named_associations_reset associations_reset_again m.associations) refl
+
 error_indication_again : (m : ErrorIndication) → named_error_indication (typed_error_indication m) ≡ m
 error_indication_again m = rw (option_back typed_cause named_cause cause_again m.cause) refl
 
@@ -108,7 +112,7 @@ named_of_typed (pdu.PathSwitchRequest m) = ap (λ x. pdu.PathSwitchRequest x) (p
 named_of_typed (pdu.PathSwitchAcknowledge m) = refl
 named_of_typed (pdu.PathSwitchFailure m) = ap (λ x. pdu.PathSwitchFailure x) (path_switch_failure_again m)
 named_of_typed (pdu.Reset m) = ap (λ x. pdu.Reset x) (reset_again m)
-named_of_typed pdu.ResetAcknowledge = refl
+named_of_typed (pdu.ResetAcknowledge m) = ap (λ x. pdu.ResetAcknowledge x) (reset_acknowledge_again m)
 named_of_typed (pdu.ErrorIndication m) = ap (λ x. pdu.ErrorIndication x) (error_indication_again m)
 
 -- ---- and what is spelled is what its rows have
@@ -159,6 +163,9 @@ path_switch_failure_spelled v s = rw (cause_spelled v.1.1.0 s.1.1.0) refl
 reset_spelled : (v : Kept reset) → AreSpelled reset v → typed_reset (named_reset v) ≡ v
 reset_spelled v s = rw (cause_spelled v.0 s.0, reset_type_spelled v.1.0 s.1.0) refl
 
+reset_acknowledge_spelled : (v : Kept reset_acknowledge) → typed_reset_acknowledge (named_reset_acknowledge v) ≡ v
+reset_acknowledge_spelled v = rw (option_back named_associations_reset typed_associations_reset associations_reset_spelled v.0) refl
+
 error_indication_spelled : (v : Kept error_indication) → AreSpelled error_indication v → typed_error_indication (named_error_indication v) ≡ v
 error_indication_spelled v s = rw (option_cause_spelled v.1.1.0 s.1.1.0) refl
 
@@ -182,7 +189,7 @@ typed_of_named message.PathSwitchRequest v s = ap (λ (x : Kept path_switch_requ
 typed_of_named message.PathSwitchAcknowledge v s = refl
 typed_of_named message.PathSwitchFailure v s = ap (λ (x : Kept path_switch_failure). typed_of message.PathSwitchFailure x) (path_switch_failure_spelled v s)
 typed_of_named message.Reset v s = ap (λ (x : Kept reset). typed_of message.Reset x) (reset_spelled v s)
-typed_of_named message.ResetAcknowledge v s = refl
+typed_of_named message.ResetAcknowledge v s = ap (λ (x : Kept reset_acknowledge). typed_of message.ResetAcknowledge x) (reset_acknowledge_spelled v)
 typed_of_named message.ErrorIndication v s = ap (λ (x : Kept error_indication). typed_of message.ErrorIndication x) (error_indication_spelled v s)
 
 -- ---- decoding

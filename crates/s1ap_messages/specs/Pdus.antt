@@ -4,7 +4,7 @@ use Rattle.std.specs.Borrow.{Bor}
 use Rattle.bit_streams.specs.declared.fault.PerFault.{PerFault}
 use Rattle.s1ap_elements.specs.Causes.{typed_cause, named_cause}
 use Rattle.s1ap_elements.specs.Stations.{typed_global_enb_id, named_global_enb_id, typed_supported_tas, named_supported_tas, typed_paging_drx, named_paging_drx, typed_served_gummeis, named_served_gummeis}
-use Rattle.s1ap_elements.specs.Phones.{typed_tai, named_tai, typed_eutran_cgi, named_eutran_cgi, typed_rrc_cause, named_rrc_cause, typed_s_tmsi, named_s_tmsi, typed_security_capabilities, named_security_capabilities, typed_ue_s1ap_ids, named_ue_s1ap_ids, typed_ue_paging_id, named_ue_paging_id, ue_paging_id_lists, typed_cn_domain, named_cn_domain, typed_tai_list, named_tai_list, typed_security_context, named_security_context, typed_reset_type, named_reset_type}
+use Rattle.s1ap_elements.specs.Phones.{typed_tai, named_tai, typed_eutran_cgi, named_eutran_cgi, typed_rrc_cause, named_rrc_cause, typed_s_tmsi, named_s_tmsi, typed_security_capabilities, named_security_capabilities, typed_ue_s1ap_ids, named_ue_s1ap_ids, typed_ue_paging_id, named_ue_paging_id, ue_paging_id_lists, typed_cn_domain, named_cn_domain, typed_tai_list, named_tai_list, typed_security_context, named_security_context, typed_reset_type, named_reset_type, typed_associations_reset, named_associations_reset}
 use Rattle.s1ap_elements.specs.Bearers.{typed_ambr, named_ambr, typed_erabs_to_be_setup, named_erabs_to_be_setup, erabs_to_be_setup_lists, typed_erabs_setup, named_erabs_setup, typed_erabs_to_be_switched, named_erabs_to_be_switched}
 use Rattle.s1ap_rows.specs.declared.fault.S1apFault.{S1apFault}
 use Rattle.s1ap_messages.specs.declared.message_type.MessageType.{MessageType}
@@ -28,11 +28,12 @@ use Rattle.s1ap_messages.specs.declared.pdu.PathSwitchRequest.{PathSwitchRequest
 use Rattle.s1ap_messages.specs.declared.pdu.PathSwitchAcknowledge.{PathSwitchAcknowledge}
 use Rattle.s1ap_messages.specs.declared.pdu.PathSwitchFailure.{PathSwitchFailure}
 use Rattle.s1ap_messages.specs.declared.pdu.Reset.{Reset}
+use Rattle.s1ap_messages.specs.declared.pdu.ResetAcknowledge.{ResetAcknowledge}
 use Rattle.s1ap_messages.specs.declared.pdu.ErrorIndication.{ErrorIndication}
 use Rattle.s1ap_messages.specs.declared.pdu.Pdu.{Pdu}
 use Rattle.s1ap_messages.specs.declared.pdu.Pdu.TheVariants as pdu
 use Rattle.s1ap_rows.specs.Rows.{Kept}
-use Rattle.s1ap_messages.specs.Profile.{rows_of, setup_request, setup_response, setup_failure, initial_ue_message, downlink_nas_transport, uplink_nas_transport, nas_non_delivery, capability_info, context_setup_request, context_setup_response, context_setup_failure, release_request, release_command, release_complete, paging, path_switch_request, path_switch_acknowledge, path_switch_failure, reset, error_indication}
+use Rattle.s1ap_messages.specs.Profile.{rows_of, setup_request, setup_response, setup_failure, initial_ue_message, downlink_nas_transport, uplink_nas_transport, nas_non_delivery, capability_info, context_setup_request, context_setup_response, context_setup_failure, release_request, release_command, release_complete, paging, path_switch_request, path_switch_acknowledge, path_switch_failure, reset, reset_acknowledge, error_indication}
 use Rattle.s1ap_rows.specs.Reading.{◌>>>◌}
 use Rattle.s1ap_rows.specs.Writable.{message_fits}
 use Rattle.s1ap_messages.specs.Typed.{Typed, decode_typed, SpellsTyped, encode_typed}
@@ -100,7 +101,7 @@ lists (pdu.PathSwitchRequest m) = pdu.PathSwitchRequest m
 lists (pdu.PathSwitchAcknowledge m) = pdu.PathSwitchAcknowledge m
 lists (pdu.PathSwitchFailure m) = pdu.PathSwitchFailure m
 lists (pdu.Reset m) = pdu.Reset m
-lists pdu.ResetAcknowledge = pdu.ResetAcknowledge
+lists (pdu.ResetAcknowledge m) = pdu.ResetAcknowledge m
 lists (pdu.ErrorIndication m) = pdu.ErrorIndication m
 
 -- ---- a message as its rows have it, and back
@@ -264,6 +265,12 @@ typed_reset m = (typed_cause m.cause, (typed_reset_type m.reset_type, tt))
 abbrev pub named_reset : Kept reset → Reset
 named_reset (cause, (reset_type, _)) = record { cause = named_cause cause; reset_type = named_reset_type reset_type }
 
+abbrev pub typed_reset_acknowledge : ResetAcknowledge → Kept reset_acknowledge
+typed_reset_acknowledge m = (option_map typed_associations_reset m.associations, tt)
+
+abbrev pub named_reset_acknowledge : Kept reset_acknowledge → ResetAcknowledge
+named_reset_acknowledge (associations, _) = record { associations = option_map named_associations_reset associations }
+
 abbrev pub typed_error_indication : ErrorIndication → Kept error_indication
 typed_error_indication m = (m.mme_id, (m.enb_id, (option_map typed_cause m.cause, tt)))
 
@@ -291,7 +298,7 @@ typed (pdu.PathSwitchRequest m) = (message.PathSwitchRequest, typed_path_switch_
 typed (pdu.PathSwitchAcknowledge m) = (message.PathSwitchAcknowledge, typed_path_switch_acknowledge m)
 typed (pdu.PathSwitchFailure m) = (message.PathSwitchFailure, typed_path_switch_failure m)
 typed (pdu.Reset m) = (message.Reset, typed_reset m)
-typed pdu.ResetAcknowledge = (message.ResetAcknowledge, tt)
+typed (pdu.ResetAcknowledge m) = (message.ResetAcknowledge, typed_reset_acknowledge m)
 typed (pdu.ErrorIndication m) = (message.ErrorIndication, typed_error_indication m)
 
 abbrev pub named : (t : MessageType) → Kept (rows_of t) → Pdu (List ℕ)
@@ -314,7 +321,7 @@ named message.PathSwitchRequest v = pdu.PathSwitchRequest (named_path_switch_req
 named message.PathSwitchAcknowledge v = pdu.PathSwitchAcknowledge (named_path_switch_acknowledge v)
 named message.PathSwitchFailure v = pdu.PathSwitchFailure (named_path_switch_failure v)
 named message.Reset v = pdu.Reset (named_reset v)
-named message.ResetAcknowledge v = pdu.ResetAcknowledge
+named message.ResetAcknowledge v = pdu.ResetAcknowledge (named_reset_acknowledge v)
 named message.ErrorIndication v = pdu.ErrorIndication (named_error_indication v)
 
 -- ---- what octets spell, what is read of them, and what is written

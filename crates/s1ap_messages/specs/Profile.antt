@@ -1,7 +1,7 @@
 -- The rows of each message, and its kind, code and criticality (TS 36.413 clauses 9.1 and 9.3.3).
 use Rattle.std.specs.Prelude.{ℕ, ◌==◌, if◌then◌else◌, Option, Some, None}
 use Rattle.per_bits.specs.Formats.{octet_string}
-use Rattle.s1ap_elements.specs.Formats.{ambr, cause, cn_domain, enb_ue_id, erabs_setup, erabs_to_be_setup, erabs_to_be_switched, eutran_cgi, global_enb_id, mme_ue_id, paging_drx, relative_capacity, reset_type, rrc_cause, s_tmsi, security_capabilities, security_context, security_key, served_gummeis, supported_tas, tai, tai_list, text, ue_index, ue_paging_id, ue_s1ap_ids}
+use Rattle.s1ap_elements.specs.Formats.{ambr, associations_reset, cause, cn_domain, enb_ue_id, erabs_setup, erabs_to_be_setup, erabs_to_be_switched, eutran_cgi, global_enb_id, mme_ue_id, paging_drx, relative_capacity, reset_type, rrc_cause, s_tmsi, security_capabilities, security_context, security_key, served_gummeis, supported_tas, tai, tai_list, text, ue_index, ue_paging_id, ue_s1ap_ids}
 use Rattle.s1ap_rows.specs.Rows.{Rows, ie, end, needed, optional, unkept}
 use Rattle.s1ap_rows.specs.declared.criticality.Criticality.{Criticality}
 use Rattle.s1ap_rows.specs.declared.criticality.Criticality.TheVariants.{Reject, Ignore}
@@ -115,7 +115,7 @@ abbrev pub reset : Rows
 reset = ie 2 Ignore needed cause (ie 92 Reject needed reset_type end)
 
 abbrev pub reset_acknowledge : Rows
-reset_acknowledge = end
+reset_acknowledge = ie 93 Ignore optional associations_reset end
 
 abbrev pub error_indication : Rows
 error_indication = ie 0 Ignore optional mme_ue_id (ie 8 Ignore optional enb_ue_id (ie 2 Ignore optional cause end))

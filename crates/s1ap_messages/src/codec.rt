@@ -149,7 +149,7 @@ fn write_content(alloc: Global, message: &S1apPdu) -> Written
         Pdu::PathSwitchAcknowledge(m) => movement::write_path_switch_acknowledge(alloc, m),
         Pdu::PathSwitchFailure(m) => movement::write_path_switch_failure(alloc, m),
         Pdu::Reset(m) => interface::write_reset(alloc, m),
-        Pdu::ResetAcknowledge => interface::write_reset_acknowledge(alloc),
+        Pdu::ResetAcknowledge(m) => interface::write_reset_acknowledge(alloc, m),
         Pdu::ErrorIndication(m) => interface::write_error_indication(alloc, m),
     }
 }
@@ -179,7 +179,7 @@ impl<'a> S1apPdu<'a> {
             Pdu::PathSwitchAcknowledge(_) => MessageType::PathSwitchAcknowledge,
             Pdu::PathSwitchFailure(_) => MessageType::PathSwitchFailure,
             Pdu::Reset(_) => MessageType::Reset,
-            Pdu::ResetAcknowledge => MessageType::ResetAcknowledge,
+            Pdu::ResetAcknowledge(_) => MessageType::ResetAcknowledge,
             Pdu::ErrorIndication(_) => MessageType::ErrorIndication,
         }
     }

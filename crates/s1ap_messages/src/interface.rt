@@ -4,16 +4,16 @@ ghost use Rattle.std.specs.Prelude.{◌≡◌};
 ghost use Rattle.per_bits.specs.Reading.{GivesWhole};
 ghost use Rattle.per_bits.specs.Writing.{write_whole};
 ghost use Rattle.s1ap_rows.specs.Answers.{Answers};
-ghost use Rattle.s1ap_messages.specs.Pdus.{lists, typed, typed_reset, typed_error_indication};
+ghost use Rattle.s1ap_messages.specs.Pdus.{lists, typed, typed_reset, typed_reset_acknowledge, typed_error_indication};
 ghost use Rattle.s1ap_messages.specs.Profile.{reset, reset_acknowledge, error_indication};
 ghost use Rattle.s1ap_rows.specs.Writing.{write_message};
 ghost use Rattle.s1ap_messages.specs.declared.message_type.MessageType.TheVariants as message;
 ghost use Rattle.s1ap_messages.specs.Typed.{read_typed};
 
-use crate::pdu::{Decoded, ErrorIndication, Pdu, Reset, Written};
-use s1ap_elements::{Cause, EnbUeId, MmeUeId, ResetType};
+use crate::pdu::{Decoded, ErrorIndication, Pdu, Reset, ResetAcknowledge, Written};
+use s1ap_elements::{AssociationsReset, Cause, EnbUeId, MmeUeId, ResetType};
 use s1ap_rows::{
-    End, IGNORE, Needed, Optional, REJECT, ThreeRows, TwoRows, read_message, write_message,
+    IGNORE, Needed, OneRow, Optional, REJECT, ThreeRows, TwoRows, read_message, write_message,
 };
 use std::alloc::Global;
 
@@ -37,22 +37,24 @@ pub fn write_reset(alloc: Global, m: &Reset) -> Written
     write_message::<ResetRows>(alloc, &lent!(&m.cause, &m.reset_type))
 }
 
+type ResetAcknowledgeRows = OneRow<Optional<93, IGNORE, AssociationsReset>>;
+
 /// Reads RESET ACKNOWLEDGE from the octets of its elements (TS 36.413 clause 9.1.8.2).
 #[tactic(auto, unfolding(crate::specs::Typed::read_typed))]
 pub fn read_reset_acknowledge<'a>(alloc: Global, octets: &'a [u8]) -> Decoded<'a>
     ensures { Answers (λ m. typed (lists m)) result (read_typed message.ResetAcknowledge octets.now) }
 {
-    match read_message::<End>(alloc, octets) {
-        Ok(elements!()) => Ok(Pdu::ResetAcknowledge),
+    match read_message::<ResetAcknowledgeRows>(alloc, octets) {
+        Ok(elements!(associations)) => Ok(Pdu::ResetAcknowledge(ResetAcknowledge { associations })),
         Err(fault) => Err(fault),
     }
 }
 
 /// Writes the elements of RESET ACKNOWLEDGE (TS 36.413 clause 9.1.8.2).
-pub fn write_reset_acknowledge(alloc: Global) -> Written
-    ensures { GivesWhole (λ v. v.items) result (write_whole (write_message reset_acknowledge) tt) }
+pub fn write_reset_acknowledge(alloc: Global, m: &ResetAcknowledge) -> Written
+    ensures { GivesWhole (λ v. v.items) result (write_whole (write_message reset_acknowledge) (typed_reset_acknowledge m.now)) }
 {
-    write_message::<End>(alloc, &lent!())
+    write_message::<ResetAcknowledgeRows>(alloc, &lent!(&m.associations))
 }
 
 type ErrorIndicationRows = ThreeRows<

@@ -32,7 +32,7 @@ pub use pdu::{
     CapabilityInfo, ContextSetupFailure, ContextSetupRequest, ContextSetupResponse,
     DownlinkNasTransport, ErrorIndication, InitialUeMessage, NasNonDelivery, Paging,
     PathSwitchAcknowledge, PathSwitchFailure, PathSwitchRequest, Pdu, ReleaseCommand,
-    ReleaseComplete, ReleaseRequest, Reset, S1apPdu, SetupFailure, SetupRequest, SetupResponse,
-    UplinkNasTransport,
+    ReleaseComplete, ReleaseRequest, Reset, ResetAcknowledge, S1apPdu, SetupFailure, SetupRequest,
+    SetupResponse, UplinkNasTransport,
 };
 pub use s1ap_rows::{Criticality, EncodeFault, S1apFault};

@@ -2,10 +2,10 @@
 
 use per_bits::PerError;
 use s1ap_elements::{
-    Ambr, Cause, CnDomain, EnbUeId, ErabsSetup, ErabsToBeSetup, ErabsToBeSwitched, EutranCgi,
-    GlobalEnbId, MmeUeId, PagingDrx, RelativeCapacity, ResetType, RrcCause, STmsi,
-    SecurityCapabilities, SecurityContext, SecurityKey, ServedGummeis, SupportedTas, Tai, TaiList,
-    UeIndex, UePagingId, UeS1apIds,
+    Ambr, AssociationsReset, Cause, CnDomain, EnbUeId, ErabsSetup, ErabsToBeSetup,
+    ErabsToBeSwitched, EutranCgi, GlobalEnbId, MmeUeId, PagingDrx, RelativeCapacity, ResetType,
+    RrcCause, STmsi, SecurityCapabilities, SecurityContext, SecurityKey, ServedGummeis,
+    SupportedTas, Tai, TaiList, UeIndex, UePagingId, UeS1apIds,
 };
 use s1ap_rows::S1apFault;
 
@@ -177,6 +177,13 @@ pub struct Reset {
     pub reset_type: ResetType,
 }
 
+/// The interface, or a part of it, was set back (TS 36.413 clause 9.1.8.2).
+#[derive(Drop)]
+pub struct ResetAcknowledge {
+    /// Those of a part, in the order in which they were asked for.
+    pub associations: Option<AssociationsReset>,
+}
+
 /// Something is wrong with a message (TS 36.413 clause 9.1.8.3).
 #[derive(Drop)]
 pub struct ErrorIndication {
@@ -207,8 +214,7 @@ pub enum Pdu<'a, B: Drop> {
     PathSwitchAcknowledge(PathSwitchAcknowledge),
     PathSwitchFailure(PathSwitchFailure),
     Reset(Reset),
-    /// The interface was set back (TS 36.413 clause 9.1.8.2).
-    ResetAcknowledge,
+    ResetAcknowledge(ResetAcknowledge),
     ErrorIndication(ErrorIndication),
 }
 

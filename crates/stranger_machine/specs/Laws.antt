@@ -8,9 +8,9 @@ use Rattle.ordered_lists.specs.Laws.{at_over, at-put, at-without, rising-put, ri
 use Rattle.stranger_machine.specs.declared.state.Stranger.{Stranger}
 use Rattle.stranger_machine.specs.declared.table.Known.{Known}
 use Rattle.stranger_machine.specs.declared.turn.Notice.{Notice}
-use Rattle.stranger_machine.specs.declared.turn.Notice.TheVariants.{Tick, Gone}
+use Rattle.stranger_machine.specs.declared.turn.Notice.TheVariants.{Tick, Gone, Listed}
 use Rattle.identity_slots.specs.Ids.{station_in}
-use Rattle.stranger_machine.specs.Machine.{Input, Nothing, Notes, loses, notes, stranger_step, ticks}
+use Rattle.stranger_machine.specs.Machine.{Input, Nothing, Notes, is_meant, loses, notes, stranger_step, ticks, unlists}
 use Rattle.stranger_machine.specs.Turns.{closing, stays}
 use Rattle.stranger_machine.specs.Table.{known_id, known_if, noted, stranger_at, with_input, with_stranger}
 
@@ -27,9 +27,10 @@ closed_either false = refl
 
 -- a notice leaves one that is closed as it is
 pub closed_notes : (id : ℕ) (notice : Notice) → notes id None notice ≡ stays None []
-unfolding notes ticks loses
+unfolding notes ticks loses unlists
 closed_notes id Tick = refl
 closed_notes id (Gone e) = closed_either (station_in id == e)
+closed_notes id (Listed e items) = closed_either (is_meant id e items)
 
 pub at_notice : (ps : List Profile) (id : ℕ) (s : Option Stranger) (notice : Notice) → stranger_step ps id s (Notes notice) ≡ notes id s notice
 unfolding stranger_step

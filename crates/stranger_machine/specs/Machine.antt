@@ -1,8 +1,8 @@
 -- The machine of one stranger: a phone that no subscriber is known for, at a station and under its number there. It is closed,
 -- waits for an identity (TS 24.301 clause 5.4.4), or is held by the subscriber that it turned out to be.
-use Rattle.std.specs.Prelude.{ℕ, ◌-◌, ◌==◌, ◌&&◌, nat_lt, if◌then◌else◌, List, [], slice_index, Option, Some, None, Result, Ok, Err}
+use Rattle.std.specs.Prelude.{ℕ, ◌-◌, ◌==◌, ◌&&◌, nat_lt, if◌then◌else◌, Bool, List, [], slice_index, Option, Some, None, Result, Ok, Err}
 use Rattle.identity_slots.specs.declared.profile.Profile.{Profile}
-use Rattle.identity_slots.specs.Ids.{station_in}
+use Rattle.identity_slots.specs.Ids.{number_in, station_in}
 use Rattle.identity_slots.specs.Provisioned.{slot_of_imsi}
 use Rattle.nas_elements.specs.declared.fault.NasFault.{NasFault}
 use Rattle.nas_elements.specs.declared.fault.NasFault.TheVariants.{TooShort, Mandatory, UnknownType, OptionalPart, NoMemory}
@@ -26,11 +26,12 @@ use Rattle.mme_signalling.specs.Hearing.{initial_octets}
 use Rattle.mme_signalling.specs.Messages.{attach_reject, service_reject, update_reject}
 use Rattle.mme_signalling.specs.Pdus.{error_indication, path_switch_failure}
 use Rattle.mme_vocabulary.specs.Events.{Claim, Displaced, Message}
+use Rattle.mme_vocabulary.specs.Listed.{ToReset, is_listed}
 use Rattle.stranger_machine.specs.declared.state.KeptEntry.{KeptEntry}
 use Rattle.stranger_machine.specs.declared.state.Stranger.{Stranger}
 use Rattle.stranger_machine.specs.declared.state.Stranger.TheVariants.{Waiting, Held}
 use Rattle.stranger_machine.specs.declared.turn.Notice.{Notice}
-use Rattle.stranger_machine.specs.declared.turn.Notice.TheVariants.{Tick, Gone}
+use Rattle.stranger_machine.specs.declared.turn.Notice.TheVariants.{Tick, Gone, Listed}
 use Rattle.stranger_machine.specs.Turns.{Call, Turn, identity_asked, also_calling, closing, as_entry, as_kept, place_of, refused, released, sent_to, stays}
 
 -- T3470: the ticks until IDENTITY REQUEST is sent again, and how often it is (TS 24.301 clause 10.2)
@@ -166,9 +167,19 @@ ticks id (Some (Held slot)) = stays (Some (Held slot)) []
 unfoldable pub loses : ℕ → Option Stranger → ℕ → Turn
 loses id s e = if station_in id == e then closing [] else stays s []
 
+-- a stranger of the station whose own id and number an item matches
+abbrev pub is_meant : ℕ → ℕ → ToReset → Bool
+is_meant id e items = station_in id == e && is_listed id (number_in id) items
+
+-- a station reset a list of associations: the strangers that it means are closed, those too that are held
+-- (TS 36.413 clause 8.7.1.2.2)
+unfoldable pub unlists : ℕ → Option Stranger → ℕ → ToReset → Turn
+unlists id s e items = if is_meant id e items then closing [] else stays s []
+
 unfoldable pub notes : ℕ → Option Stranger → Notice → Turn
 notes id s Tick = ticks id s
 notes id s (Gone e) = loses id s e
+notes id s (Listed e items) = unlists id s e items
 
 -- ---- the step
 

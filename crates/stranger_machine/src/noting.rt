@@ -1,17 +1,35 @@
 //! What a stranger does at a notice.
 
 ghost use Rattle.std.specs.Prelude.{◌≡◌, ℕ, IfOk, Some};
-ghost use Rattle.stranger_machine.specs.Machine.{notes};
+ghost use Rattle.identity_slots.specs.Ids.{number_in};
+ghost use Rattle.stranger_machine.specs.Machine.{is_meant, notes};
 ghost use Rattle.stranger_machine.specs.Table.{passed, stays_open};
 
 use crate::entering::IDENTITY_TICKS;
 use crate::sending::{identity_asked, released};
 use crate::state::Stranger;
 use crate::turn::Notice;
-use identity_slots::{AssociationId, station_in};
-use mme_vocabulary::Answers;
-use s1ap_elements::{Cause, NasCause};
+use identity_slots::{AssociationId, number_in, station_in};
+use mme_vocabulary::{Answers, StationNumber, is_listed};
+use s1ap_elements::{AssociationsToReset, Cause, EnbUeId, NasCause};
 use std::alloc::{AllocError, Global};
+
+// A stranger's number at its station, as S1AP has it.
+fn own_number(id: AssociationId) -> EnbUeId
+    ensures { result ≡ number_in id }
+{
+    match EnbUeId::try_new(u64::from(number_in(id))) {
+        Some(number) => number,
+        None => unreachable!(),
+    }
+}
+
+// Whether a list in a RESET of a station means the stranger with this id (TS 36.413 clause 8.7.1.2.2).
+fn is_meant(id: AssociationId, station: StationNumber, items: &AssociationsToReset) -> bool
+    ensures { result ≡ is_meant id station items.now }
+{
+    station_in(id) == station.get() && is_listed(id, own_number(id), items.as_slice())
+}
 
 impl Stranger {
     /// What the stranger with this id sends at a notice: at a tick that ends T3470 the request once more, at the last one the
@@ -25,7 +43,7 @@ impl Stranger {
     ) -> Result<Answers, AllocError>
         ensures { IfOk result (λ sent. sent ≡ (notes id (Some self.now) notice.now).sent) }
     {
-        match (*notice, self) {
+        match (notice, self) {
             (
                 Notice::Tick,
                 Stranger::Waiting {
@@ -42,7 +60,9 @@ impl Stranger {
                     released(alloc, kept.place(id), Cause::Nas(NasCause::Unspecified))
                 }
             }
-            (Notice::Tick, Stranger::Held(_)) | (Notice::Gone(_), _) => Ok(Answers::new(alloc)),
+            (Notice::Tick, Stranger::Held(_)) => Ok(Answers::new(alloc)),
+            (Notice::Gone(_), _) => Ok(Answers::new(alloc)),
+            (Notice::Listed(_, _), _) => Ok(Answers::new(alloc)),
         }
     }
 
@@ -51,7 +71,7 @@ impl Stranger {
     pub(crate) fn stays_open(&self, id: AssociationId, notice: &Notice) -> bool
         ensures { result ≡ stays_open notice.now (record { id = id; stranger = self.now }) }
     {
-        match (*notice, self) {
+        match (notice, self) {
             (
                 Notice::Tick,
                 Stranger::Waiting {
@@ -62,6 +82,7 @@ impl Stranger {
             ) => *left > 1 || *repeats > 0,
             (Notice::Tick, Stranger::Held(_)) => true,
             (Notice::Gone(station), _) => station_in(id) != station.get(),
+            (Notice::Listed(station, items), _) => !is_meant(id, *station, items),
         }
     }
 
@@ -70,21 +91,25 @@ impl Stranger {
     pub(crate) fn pass(&mut self, notice: &Notice)
         ensures { (id : ℕ) → self.new ≡ (passed notice.now (record { id = id; stranger = self.old })).stranger }
     {
-        if let (
-            Notice::Tick,
-            Stranger::Waiting {
-                kept: _,
-                left,
-                repeats,
-            },
-        ) = (*notice, self)
-        {
-            if *left > 1 {
-                *left -= 1;
-            } else if *repeats > 0 {
-                *left = IDENTITY_TICKS;
-                *repeats -= 1;
+        match (notice, self) {
+            (
+                Notice::Tick,
+                Stranger::Waiting {
+                    kept: _,
+                    left,
+                    repeats,
+                },
+            ) => {
+                if *left > 1 {
+                    *left -= 1;
+                } else if *repeats > 0 {
+                    *left = IDENTITY_TICKS;
+                    *repeats -= 1;
+                }
             }
+            (Notice::Tick, Stranger::Held(_)) => {}
+            (Notice::Gone(_), _) => {}
+            (Notice::Listed(_, _), _) => {}
         }
     }
 }

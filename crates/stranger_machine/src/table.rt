@@ -187,9 +187,9 @@ impl Strangers {
     }
 
     /// All behind a notice. Takes no memory.
-    pub fn note(&mut self, notice: Notice)
-        ensures { self.new ≡ noted notice self.old }
+    pub fn note(&mut self, notice: &Notice)
+        ensures { self.new ≡ noted notice.now self.old }
     {
-        note_all(&mut self.slab, &mut self.places, &notice);
+        note_all(&mut self.slab, &mut self.places, notice);
     }
 }

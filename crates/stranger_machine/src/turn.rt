@@ -3,14 +3,17 @@
 use crate::state::Stranger;
 use identity_slots::Slot;
 use mme_vocabulary::{Answers, SoloEvent, StationNumber};
+use s1ap_elements::AssociationsToReset;
 
 /// What comes to all strangers.
-#[derive(Clone, Copy)]
+#[derive(Drop)]
 pub enum Notice {
     /// A second has passed.
     Tick,
     /// A station was lost, set up anew or reset.
     Gone(StationNumber),
+    /// A station reset a list of associations (TS 36.413 clause 8.7.1.2.2).
+    Listed(StationNumber, AssociationsToReset),
 }
 
 /// What a stranger is from now on.

@@ -1,4 +1,5 @@
-use Rattle.answers_written.proofs.Sent.{TellsPhones, fault_is_answered, incompatible_is_answered, reset_is_answered, setup_is_answered, unknown_is_answered}
+use Rattle.answers_written.proofs.Ranged.{resets_are_in_range}
+use Rattle.answers_written.proofs.Sent.{TellsPhones, fault_is_answered, incompatible_is_answered, part_reset_is_answered, reset_is_answered, setup_is_answered, unknown_is_answered}
 use Rattle.answers_written.proofs.laws.stations_are_answered.Goals as goal
 
 pub returns : goal.returns
@@ -9,6 +10,7 @@ returns c =
     record {
       setup = setup_is_answered short;
       reset = reset_is_answered short;
+      part_reset = part_reset_is_answered short (resets_are_in_range c.decoded_exactly.ensures.spelled);
       fault = fault_is_answered short;
       incompatible = incompatible_is_answered short;
       unknown = unknown_is_answered tells;

@@ -1,4 +1,4 @@
-use Rattle.answers_written.proofs.Ranged.{entries_are_in_range, messages_are_in_range}
+use Rattle.answers_written.proofs.Ranged.{entries_are_in_range, messages_are_in_range, resets_are_in_range}
 use Rattle.answers_written.proofs.laws.what_stations_tell_is_in_range.Goals as goal
 
 pub returns-clause-entries : goal.returns-clause-entries
@@ -6,3 +6,6 @@ returns-clause-entries c = entries_are_in_range c.decoded_exactly.ensures.spelle
 
 pub returns-clause-messages : goal.returns-clause-messages
 returns-clause-messages c = messages_are_in_range c.decoded_exactly.ensures.spelled
+
+pub returns-clause-resets : goal.returns-clause-resets
+returns-clause-resets c = resets_are_in_range c.decoded_exactly.ensures.spelled

@@ -8,3 +8,6 @@ returns-in-InitialUeMessage c = rw c.in-InitialUeMessage.is c.write_initial_ue_m
 
 pub returns-in-ErrorIndication : goal.returns-in-ErrorIndication
 returns-in-ErrorIndication c = rw c.in-ErrorIndication.is c.write_error_indication.ensures
+
+pub returns-in-ResetAcknowledge : goal.returns-in-ResetAcknowledge
+returns-in-ResetAcknowledge c = rw c.in-ResetAcknowledge.is c.write_reset_acknowledge.ensures

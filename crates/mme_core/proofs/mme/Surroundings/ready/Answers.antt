@@ -1,19 +1,18 @@
-use Rattle.std.proofs.Common.{◌≡◌, ◌++◌, sym, subst, ◌∙◌, ap, arith}
-use Rattle.std.specs.Prelude.{nat_lt}
-use Rattle.std.proofs.lemmas.Bool.Decides.{nat_tests}
+use Rattle.std.proofs.Common.{◌≡◌, ◌++◌, sym, subst, ◌∙◌, ap}
 use Rattle.ordered_lists.specs.Ordered.{Rising}
 use Rattle.stranger_machine.specs.Table.{known_id}
 use Rattle.mme_routing.specs.Destinations.{item_at}
+use Rattle.mme_routing.specs.Outcomes.{Outcome}
 use Rattle.mme_routing.specs.Seen.{destination_of}
 use Rattle.mme_core.specs.Projection.{AreInOrder}
 use Rattle.mme_core.specs.Ready.{world_of}
 use Rattle.mme_core.specs.Sight.{Around}
 use Rattle.mme_core.specs.World.{each_sent, station_sent, strangers_in, strangers_sent}
 use Rattle.mme_core.specs.FreshRuns.{AreInUse}
-use Rattle.mme_core.specs.Settled.{IsInTime}
 use Rattle.mme_core.proofs.InUse.{each_in_use}
 use Rattle.mme_core.proofs.Order.{parts_order}
 use Rattle.mme_core.proofs.Steps.{in_time}
+use Rattle.mme_core.proofs.Ticks.{ticks_alone}
 use Rattle.mme_core.proofs.Turns.{rising_behind}
 use Rattle.mme_core.proofs.mme.Surroundings.ready.Goals as goal
 
@@ -40,9 +39,9 @@ returns-clause-in_use c =
 
 pub returns-clause-in_time : goal.returns-clause-in_time
 returns-clause-in_time c =
-    let clock : c.self.inside.clock ≡ c.args.self.now.sight.clock = ap (λ (v : Around). v.sight.clock) c.self.view_is in
-    let after = c.clock_after-clock.result in
-    let least = c.clock_after-clock.ensures.least in
-    let most = c.clock_after-clock.ensures.most in
-    subst (λ n. IsInTime c.in_ok-prepared.prepared n after) clock
-    (in_time (nat_lt c.self.inside.clock after) c.in_ok-prepared.prepared c.self.inside.clock after c.in_ok-prepared.ensures.passing (λ e. grind (arith, nat_tests)) (omega arith) (λ lt. most (omega (arith, clock, lt))))
+    let s = c.args.self.now.sight in
+    let d = destination_of s.stations c.in_ok-state.field-0.destination in
+    let after = c.clock_after-clock in
+    in_time d c.in_ok-prepared.prepared s.clock after.result c.in_ok-prepared.ensures.passing
+    (λ told. let k = ticks_alone s c.args.event.now (ap (λ (h : Outcome). h.destination) (sym c.in_ok-state.ensures) ∙ told) (sym c.in_default.ensures) in (k.0, after.ensures.value ∙ k.1))
+    after.ensures.least
