@@ -43,7 +43,7 @@ use Rattle.emm_state.specs.declared.solo.Repeat.TheVariants as repeats
 use Rattle.emm_state.specs.declared.solo.Solo.{Solo}
 use Rattle.emm_state.specs.Actions.{connect, connect_on, emit, ended, is_registered, mac_of, send, start, untouched, wipe}
 use Rattle.emm_machine.specs.Attaching as attaching
-use Rattle.emm_machine.specs.Attaching.{counted_up, keys_of}
+use Rattle.emm_machine.specs.Attaching.{counted_up}
 use Rattle.emm_machine.specs.Connected as connected
 use Rattle.emm_machine.specs.Idle as idle
 use Rattle.emm_machine.specs.Serving as serving

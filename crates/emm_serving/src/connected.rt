@@ -225,7 +225,7 @@ fn strike(draft: &mut Draft, station: StationNumber)
     }
 }
 
-/// A station was lost, set up anew or reset.
+/// A station was lost, set up anew or reset as a whole.
 #[tactic(auto, unfolding(crate::specs::Connected::station_gone))]
 pub fn station_gone(draft: &mut Draft, station: StationNumber)
     ensures { draft.new ≡ station_gone station draft.old }

@@ -70,7 +70,7 @@ pub enum SoloEvent<'a> {
     Message(UeMessage<&'a [u8]>),
     /// A stranger came anew where this association was claimed.
     Displaced(AssociationId),
-    /// A station was lost, set up anew or reset.
+    /// A station was lost, set up anew or reset as a whole.
     StationGone(StationNumber),
     /// A station reset a list of associations.
     ConnectionsGone(StationNumber, &'a [Listed<ListedAssociation, 91, 0>]),

@@ -163,7 +163,7 @@ ticks id None = stays None []
 ticks id (Some (Waiting k left repeats)) = waits id k left repeats
 ticks id (Some (Held slot)) = stays (Some (Held slot)) []
 
--- a station was lost, set up anew or reset: its strangers are closed, those too that are held
+-- a station was lost, set up anew or reset as a whole: its strangers are closed, those too that are held
 unfoldable pub loses : ℕ → Option Stranger → ℕ → Turn
 loses id s e = if station_in id == e then closing [] else stays s []
 

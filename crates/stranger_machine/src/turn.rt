@@ -10,7 +10,7 @@ use s1ap_elements::AssociationsToReset;
 pub enum Notice {
     /// A second has passed.
     Tick,
-    /// A station was lost, set up anew or reset.
+    /// A station was lost, set up anew or reset as a whole.
     Gone(StationNumber),
     /// A station reset a list of associations (TS 36.413 clause 8.7.1.2.2).
     Listed(StationNumber, AssociationsToReset),
