@@ -1,0 +1,4 @@
+pub mod Seated
+pub mod Walked
+pub mod Meant
+pub mod Tables

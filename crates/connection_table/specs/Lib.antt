@@ -1,0 +1,3 @@
+pub mod Whereabouts
+pub mod Seats
+pub mod Gathering

@@ -1,0 +1,33 @@
+-- Where phones are, and which slots an event of a station concerns.
+use Rattle.std.specs.Prelude.{ℕ, ◌+◌, List, [], ◌∷◌, Option, Some, None, Bool, false, ◌==◌, ◌&&◌, ◌||◌, if◌then◌else◌}
+use Rattle.mme_vocabulary.specs.declared.connection.Connection.{Connection}
+use Rattle.mme_vocabulary.specs.Listed.{ToReset, is_listed}
+use Rattle.connection_table.specs.declared.whereabouts.Whereabouts.{Whereabouts}
+
+-- no connection, and no paging that is to be sent again
+abbrev pub nowhere : Whereabouts
+nowhere = record { connection = None; is_paged = false }
+
+-- a connection at the station
+abbrev pub is_there : ℕ → Option Connection → Bool
+is_there e None = false
+is_there e (Some k) = k.station == e
+
+-- the loss of the station concerns the phone: the MME releases its connection (TS 36.413 clauses 8.7.1 and 8.7.3), or looks
+-- where its paging is sent again
+abbrev pub is_concerned : ℕ → Whereabouts → Bool
+is_concerned e w = w.is_paged || is_there e w.connection
+
+-- a RESET of a part of the station means the connection (TS 36.413 clause 8.7.1.2.2)
+abbrev pub is_meant_at : ℕ → ToReset → Option Connection → Bool
+is_meant_at e items None = false
+is_meant_at e items (Some k) = k.station == e && is_listed k.id k.enb_id items
+
+abbrev pub is_meant : ℕ → ToReset → Whereabouts → Bool
+is_meant e items w = is_meant_at e items w.connection
+
+module _ {X : Type 0} where
+  -- the places, from n on, of those that pass a test
+  abbrev pub slots_where : (X → Bool) → ℕ → List X → List ℕ
+  slots_where p n [] = []
+  slots_where p n (x ∷ xs) = if p x then n ∷ slots_where p (n + 1) xs else slots_where p (n + 1) xs

@@ -1,0 +1,48 @@
+//! Items of a list that stood in it before.
+
+ghost use Rattle.std.specs.Prelude.{◌≡◌};
+ghost use Rattle.std.specs.List.{list_any};
+ghost use Rattle.connection_table.specs.Gathering.{is_same_id, is_same_item};
+
+use per_bits::Listed;
+use s1ap_elements::{EnbUeId, ListedAssociation, MmeUeId};
+
+fn is_same_mme_id(given: Option<MmeUeId>, other: Option<MmeUeId>) -> bool
+    ensures { result ≡ is_same_id given other }
+{
+    match given {
+        Some(given) => match other {
+            Some(other) => given == other,
+            None => false,
+        },
+        None => other.is_none(),
+    }
+}
+
+fn is_same_enb_id(given: Option<EnbUeId>, other: Option<EnbUeId>) -> bool
+    ensures { result ≡ is_same_id given other }
+{
+    match given {
+        Some(given) => match other {
+            Some(other) => given == other,
+            None => false,
+        },
+        None => other.is_none(),
+    }
+}
+
+fn is_same_item(item: &ListedAssociation, other: &ListedAssociation) -> bool
+    ensures { result ≡ is_same_item item.now other.now }
+{
+    is_same_mme_id(item.mme_id, other.mme_id) && is_same_enb_id(item.enb_id, other.enb_id)
+}
+
+/// Whether an equal item is among these.
+pub(crate) fn is_repeated(
+    item: &ListedAssociation,
+    before: &[Listed<ListedAssociation, 91, 0>],
+) -> bool
+    ensures { result ≡ list_any (λ other. is_same_item item.now other.value) before.now }
+{
+    before.iter().any(|other| is_same_item(item, &other.value))
+}

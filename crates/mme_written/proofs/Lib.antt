@@ -1,0 +1,5 @@
+pub mod Each
+pub mod Routed
+pub mod Turned
+pub mod Along
+pub mod Begun
