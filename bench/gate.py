@@ -1,5 +1,5 @@
 #!/usr/bin/env python3
-"""Runs the gate, or another command, and prints the processor time that each crate took in it: proof, tests, edits.
+"""Runs the gate, or another command, and prints the processor time that each crate took in it: proof, tests, edits, guards.
 
     python3 bench/gate.py                              runs .ci/run
     taskset -c 0,1 python3 bench/gate.py               the same on two processors
@@ -17,7 +17,7 @@ import time
 
 TOP = os.path.realpath(os.path.join(os.path.dirname(os.path.realpath(__file__)), ".."))
 TICKS = os.sysconf("SC_CLK_TCK")
-PARTS = ("proof", "tests", "edits")
+PARTS = ("proof", "tests", "edits", "guards")
 
 Process = collections.namedtuple("Process", "parent own waited words folder")
 
@@ -68,8 +68,9 @@ def told(process):
     if "--crate-name" not in process.words:
         return None
     crate = process.words[process.words.index("--crate-name") + 1]
-    part = "edits" if "rt-edit" in process.folder else "tests" if "--test" in process.words else "proof"
-    return crate, part
+    if "rt-edit" in process.folder:
+        return crate, "guards" if "--only" in process.words else "edits"
+    return crate, "tests" if "--test" in process.words else "proof"
 
 
 def sample(root, spent):
@@ -90,7 +91,7 @@ def table(spent):
     rows = collections.defaultdict(collections.Counter)
     for (_, (crate, part)), seconds in spent.items():
         rows[crate][part] += seconds
-    print("| Crate | proof | tests | edits |\n|---|---|---|---|")
+    print("| Crate | %s |\n|---|%s" % (" | ".join(PARTS), "---|" * len(PARTS)))
     for crate in sorted(rows, key=lambda it: -sum(rows[it].values())):
         print(f"| `{crate}` | " + " | ".join(f"{rows[crate][part] / 60:.1f}" for part in PARTS) + " |")
     whole = {part: sum(it[part] for it in rows.values()) / 60 for part in PARTS}

@@ -392,7 +392,7 @@ LIMITS = {
     "ticks of a trace's line": ("trace_text/src/fields.rt", r"number\(text, 1, (1_000_000)\)"),
     "bits a second of an aggregate bit rate": ("trace_text/src/fields.rt", r"number\(text, 1, (10_000_000_000)\)"),
     "octets of an access point name": ("trace_text/src/values.rt", r"text\.len\(\) > (\d+)"),
-    "reads of a run": ("mme_main/src/play.rt", r"MOST_TURNS: u64 = (.*);"),
+    "reads of a run": ("trace_player/src/watched.rt", r"MOST_TURNS: u64 = (.*);"),
 }
 BELOW = {"octets of a string or an open type"}  # the code has the first that isn't
 

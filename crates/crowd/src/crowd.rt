@@ -8,7 +8,8 @@ use identity_slots::{StationNumber, Vector};
 use nas_elements::Imsi;
 use phone_sim::PhoneAct;
 use s1ap_elements::UeIdPair;
-use s1ap_messages::{Pdu, S1apFault, decode};
+use s1ap_messages::{Pdu, S1apFault};
+use s1ap_reading::decode;
 use script_text::{PhoneWord, RadioPlace, RadioWord, StationLine};
 use std::alloc::{AllocError, Global};
 

@@ -7,7 +7,6 @@
 
 mod laws;
 mod passing;
-mod still;
 mod subscriber;
 
 pub use laws::{

@@ -1,16 +1,13 @@
 //! One subscriber.
 
-ghost use Rattle.std.specs.Prelude.{◌≡◌, IfOk, List, OnErr, OnOk, length};
+ghost use Rattle.std.specs.Prelude.{◌≡◌, IfOk, OnErr, OnOk, length};
 ghost use Rattle.emm_state.specs.Does.{Does};
 ghost use Rattle.mme_vocabulary.specs.Events.{item_of};
 ghost use Rattle.emm_machine.specs.Steps.{row, solo_step};
-ghost use Rattle.emm_machine.specs.Still.{still};
 ghost use Rattle.emm_machine.specs.Ticks.{AreAbove, countdowns, ticks_after};
 ghost use Rattle.emm_machine.specs.Words.{ecm_of, emm_of, fresh_solo, pages_in, states_of};
-ghost use Rattle.mme_vocabulary.specs.declared.stations.StationState.{StationState};
 
 use crate::passing::age;
-use crate::still::is_still;
 use emm_serving::{
     cancelled, claim, connections_gone, data_waits, displaced, initial, message_of, station_gone,
     tick,
@@ -197,13 +194,6 @@ impl Subscriber {
         })
     }
 
-    /// Whether a look at a few fields tells that an event leaves the state as it is and sends nothing; takes no memory.
-    pub fn is_still(&self, event: &SoloEvent) -> bool
-        ensures { (stations : List StationState) → result ≡ still self.now.solo (item_of event.now stations) }
-    {
-        is_still(&self.solo, event)
-    }
-
     /// What an event would leave and send; nothing changes.
     pub fn prepare(&self, event: &SoloEvent, world: &EnbWorld) -> Result<Draft, AllocError>
         ensures { IfOk result (λ d. d ≡ solo_step self.now.setting self.now.solo (item_of event.now world.now)) }
@@ -228,6 +218,7 @@ impl Subscriber {
             solo,
             sent,
             accepted: _,
+            unwritten: _,
         } = self.prepare(event, world)?;
         self.settle(solo);
         Ok(sent)

@@ -1,6 +1,6 @@
 -- The actions of the one-subscriber machine, each from a step under way to the step with the action done. A release without
 -- a connection sends nothing, and a message without a written form isn't sent.
-use Rattle.std.specs.Prelude.{ℕ, ◌+◌, ◌^◌, ◌==◌, ◌&&◌, Bool, true, false, nat_lt, if◌then◌else◌, List, [], ◌++◌, Option, Some, None}
+use Rattle.std.specs.Prelude.{ℕ, ◌+◌, ◌^◌, ◌==◌, ◌&&◌, ◌||◌, Bool, true, false, is_none, nat_lt, if◌then◌else◌, List, [], ◌++◌, Option, Some, None}
 use Rattle.std.specs.Option.{option_map_or}
 use Rattle.s1ap_elements.specs.declared.cause.Cause.{Cause}
 use Rattle.s1ap_elements.specs.declared.cause.Cause.TheVariants.{Nas}
@@ -32,13 +32,13 @@ use Rattle.emm_state.specs.Timers.{reachable_ticks, repeats_of, ticks_of}
 
 -- a step of which nothing is done yet
 abbrev pub untouched : Solo → Draft
-untouched solo = record { solo = solo; sent = []; accepted = None }
+untouched solo = record { solo = solo; sent = []; accepted = None; unwritten = false }
 
 -- ---- messages
 
 -- the message goes to the station, under a vector's place and a count where its NAS message is protected
 unfoldable pub emit : ℕ → Pdu (List ℕ) → Option Mark → Draft → Draft
-emit station message under d = record d { sent = d.sent ++ answer_of station under (encoded message) }
+emit station message under d = record d { sent = d.sent ++ answer_of station under (encoded message); unwritten = is_none (encoded message) || d.unwritten }
 
 -- NAS to the phone, plain
 unfoldable pub send : List ℕ → Draft → Draft

@@ -58,6 +58,7 @@ impl Draft {
         ensures { OnOk result (self.new ≡ emit station (lists message.now) under self.old) }
     {
         let Some(octets) = SentOctets::of_message(alloc, message)? else {
+            self.unwritten = true;
             return Ok(());
         };
         self.sent.push(Answer {

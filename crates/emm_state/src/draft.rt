@@ -7,12 +7,14 @@ use crate::solo::Solo;
 use mme_vocabulary::{Answers, Mark, NasOctets};
 use std::alloc::{AllocError, Global};
 
-/// A step under way: the state so far, what is sent so far, and what an uplink message was accepted under.
+/// A step under way: the state so far, what is sent so far, what an uplink message was accepted under, and whether a message had no
+/// written form, and so isn't sent.
 #[derive(Drop)]
 pub struct Draft {
     pub solo: Solo,
     pub sent: Answers,
     pub accepted: Option<Mark>,
+    pub unwritten: bool,
 }
 
 impl Draft {
@@ -24,6 +26,7 @@ impl Draft {
             solo: solo.copy(alloc)?,
             sent: Answers::new(alloc),
             accepted: None,
+            unwritten: false,
         })
     }
 }

@@ -1,13 +1,10 @@
 -- Rows of an attach send their messages whole.
-use Rattle.std.proofs.Common.{◌≡◌, ℕ, ◌+◌, ◌%◌, Bool, true, false, cond, List, Option, Some, None, refl, sym, ap, subst, ◌∙◌, arith}
+use Rattle.std.proofs.Common.{◌≡◌, ℕ, ◌+◌, ◌%◌, List, Option, Some, None, refl, sym, ap, subst, ◌∙◌, arith}
 use Rattle.std.specs.Option.{option_map_or}
-use Rattle.s1ap_elements.specs.declared.cause.Cause.{Cause}
 use Rattle.s1ap_elements.specs.declared.cause.Cause.TheVariants as causes
 use Rattle.s1ap_elements.specs.declared.cause.NasCause.TheVariants.{AuthenticationFailure, NormalRelease}
-use Rattle.s1ap_elements.specs.declared.cause.RadioNetworkCause.TheVariants as radio
 use Rattle.mme_vocabulary.specs.declared.connection.Connection.{Connection}
 use Rattle.mme_signalling.specs.Messages.{attach_reject, authentication_reject, authentication_request}
-use Rattle.mme_signalling.specs.Pdus.{is_extended}
 use Rattle.emm_state.specs.declared.draft.Draft.{Draft}
 use Rattle.emm_state.specs.declared.solo.Phase.TheVariants.{Authenticating}
 use Rattle.emm_state.specs.declared.solo.Solo.{Solo}
@@ -15,8 +12,9 @@ use Rattle.emm_state.specs.Actions.{emit, send, start, wipe}
 use Rattle.emm_machine.specs.Attaching.{attach_refused, challenged, not_authenticated}
 use Rattle.written_messages.specs.NasLaws.{brief_attach_reject, brief_authentication_reject, brief_authentication_request}
 use Rattle.emm_written.specs.InRange.{SoloInRange}
-use Rattle.emm_written.specs.Whole.{AttachRefusedIsWhole, ChallengedIsWhole, NotAuthenticatedIsWhole, RequestsAreKnown}
-use Rattle.emm_written.proofs.Whole.{AreWritten, release_whole, send_whole}
+use Rattle.emm_written.specs.Whole.{AttachRefusedIsWhole, ChallengedIsWhole, NotAuthenticatedIsWhole}
+use Rattle.emm_written.proofs.FitActions.{AreWritten}
+use Rattle.emm_written.proofs.Whole.{release_whole, send_whole}
 
 -- what is sent leaves the state
 solo_at : (o : Option Connection) (f : Connection → Draft) (d : Draft) → ((k : Connection) → (f k).solo ≡ d.solo) → (option_map_or f o d).solo ≡ d.solo
@@ -59,10 +57,3 @@ module _ (written : AreWritten) where
       let same : SoloInRange taken.solo =
       record { connection = range.connection; context = range.context; tai = range.tai; capability = range.capability; transaction = range.transaction; repeat = range.repeat } in
       send_whole written taken k (authentication_request (place % 7) v.rand v.autn) same is (brief_authentication_request (place % 7) v.rand v.autn (omega arith) fits.rand fits.autn)
-
-known_if : (b : Bool) (c : Cause) → is_extended c ≡ b → is_extended (cond b (causes.RadioNetwork radio.Unspecified) c) ≡ false
-known_if true c e = refl
-known_if false c e = e
-
-pub requests_are_known : RequestsAreKnown
-requests_are_known c = known_if (is_extended c) c refl

@@ -1,27 +1,21 @@
 -- Each action sends its message whole, and so is the challenge of whoever has proved itself.
-use Rattle.std.proofs.Common.{◌≡◌, ℕ, ◌%◌, ◌^◌, ◌<◌, Bool, true, false, cond, List, [], ◌∷◌, ◌++◌, Option, Some, None, refl, sym, ap, subst, ◌∙◌, append_assoc, arith}
+use Rattle.std.proofs.Common.{◌≡◌, ℕ, ◌%◌, Bool, true, false, cond, List, [], ◌∷◌, ◌++◌, Option, Some, None, refl, sym, ap, subst, ◌∙◌, append_assoc, arith}
 use Rattle.std.specs.Prelude.{map}
 use Rattle.std.specs.Option.{option_map_or}
 use Rattle.std.proofs.lemmas.List.{append-nil}
 use Rattle.std.proofs.lemmas.Option.{same_Some}
-use Rattle.bit_streams.specs.Octet.{AreBytes}
-use Rattle.s1ap_elements.specs.declared.cause.Cause.{Cause}
 use Rattle.s1ap_elements.specs.declared.cause.Cause.TheVariants.{Nas}
 use Rattle.s1ap_elements.specs.declared.cause.NasCause.TheVariants.{NormalRelease}
-use Rattle.s1ap_elements.specs.declared.phone.Tai.{Tai}
 use Rattle.s1ap_messages.specs.declared.pdu.Pdu.{Pdu}
 use Rattle.s1ap_messages.specs.Pdus.{encoded}
 use Rattle.nas_messages.specs.declared.protection.SecurityHeader.{SecurityHeader}
 use Rattle.eps_keys.specs.declared.direction.DirectionBit.TheVariants.{Downlink}
-use Rattle.identity_slots.specs.declared.profile.Profile.{Profile}
 use Rattle.mme_vocabulary.specs.declared.connection.Connection.{Connection}
-use Rattle.mme_vocabulary.specs.declared.connection.RadioKeys.{RadioKeys}
-use Rattle.mme_vocabulary.specs.declared.network.Network.{Network}
 use Rattle.mme_vocabulary.specs.declared.octets.Answer.{Answer}
 use Rattle.mme_vocabulary.specs.declared.octets.Mark.{Mark}
 use Rattle.mme_vocabulary.specs.Answers.{answer_of}
 use Rattle.mme_vocabulary.specs.Events.{Item}
-use Rattle.mme_signalling.specs.Pdus.{context_setup, downlink, error_indication, is_extended, paging, path_switch_acknowledge, path_switch_failure, release_command}
+use Rattle.mme_signalling.specs.Pdus.{context_setup, downlink, paging, path_switch_acknowledge, release_command}
 use Rattle.emm_state.specs.declared.draft.Draft.{Draft}
 use Rattle.emm_state.specs.declared.draft.Sealed.{Sealed}
 use Rattle.emm_state.specs.declared.solo.Context.{Context}
@@ -32,29 +26,14 @@ use Rattle.emm_machine.specs.Idle.{emit_each, page}
 use Rattle.emm_machine.specs.Steps.{solo_after, solo_step}
 use Rattle.written_messages.specs.KeyLaws.{brief_mac, next_hop_bytes}
 use Rattle.written_messages.specs.NasLaws.{brief_authentication_request, brief_none, brief_protected, brief_within}
-use Rattle.written_messages.specs.Ranges.{ConnectionInRange, IsBrief, IsBriefIf, IsWritten, KeysInRange, NetworkInRange, ProfileInRange, TaiInRange}
-use Rattle.emm_written.specs.InRange.{ConnectionInRangeIf, ContextInRange, EachInRange, SoloInRange}
+use Rattle.written_messages.specs.Ranges.{ConnectionInRange, IsBrief, IsBriefIf, IsWritten, KeysInRange}
+use Rattle.emm_written.specs.InRange.{ContextInRange, EachInRange, SoloInRange}
 use Rattle.emm_written.specs.Whole.{IndicateIsWhole, LeaveIsWhole, NotSwitchedIsWhole, PageIsWhole, ProtectIsWhole, RefuseIsWhole, ReleaseIsWhole, SendIsWhole, SendsWhole, SetUpIsWhole, SwitchedIsWhole, TheProvedWereChallenged, TurnAwayIsWhole}
-use Rattle.emm_written.proofs.FitActions.{id_in_range, known_in}
+use Rattle.emm_written.proofs.FitActions.{AreWritten, connection_at, id_in_range, known_in}
 use Rattle.emm_written.proofs.FitRows.{fit_step, stays_in_range}
 use Rattle.emm_written.proofs.Heard.{DecodedEsmIsSpelled, DecodedIsSpelled}
 
--- what written_messages' law says of each message
-pub record AreWritten : Type 0 where
-  pub nas : (k : Connection) (nas : List ℕ) → ConnectionInRange k → IsBrief 15000 nas → IsWritten (downlink k nas)
-  pub release : (id enb_id : ℕ) (c : Cause) → id < 2 ^ 32 → enb_id < 2 ^ 24 → is_extended c ≡ false → IsWritten (release_command id enb_id c)
-  pub indication : (id enb_id : ℕ) (c : Cause) → id < 2 ^ 32 → enb_id < 2 ^ 24 → is_extended c ≡ false → IsWritten (error_indication id enb_id c)
-  pub not_switched : (id enb_id : ℕ) (c : Cause) → id < 2 ^ 32 → enb_id < 2 ^ 24 → is_extended c ≡ false → IsWritten (path_switch_failure id enb_id c)
-  pub switched : (k : Connection) (keys : RadioKeys) → ConnectionInRange k → KeysInRange keys → IsWritten (path_switch_acknowledge k keys)
-  pub page : (n : Network) (imsi : List ℕ) (tmsi : ℕ) (tai : Tai) → NetworkInRange n → TaiInRange tai → IsWritten (paging n imsi tmsi tai)
-  pub set_up : (n : Network) (p : Profile) (capability : List ℕ) (k : Connection) (kenb : List ℕ) (nas : Option (List ℕ)) → NetworkInRange n → ProfileInRange p → ConnectionInRange k
-      → AreBytes 32 kenb → IsBriefIf 15000 nas → IsWritten (context_setup n p capability k kenb nas)
-
 -- ---- at a connection that is there
-
-connection_at : (o : Option Connection) (k : Connection) → o ≡ Some k → ConnectionInRangeIf o → ConnectionInRange k
-connection_at None k is h = absurd (cc is)
-connection_at (Some j) k is h = subst ConnectionInRange (same_Some j k is) h
 
 with_some : {K : Type 0} (Q : Draft → Type 0) (f : K → Draft) (d : Draft) (o : Option K) (k : K) → o ≡ Some k → Q (f k) → Q (option_map_or f o d)
 with_some Q f d o k is h = subst (λ (p : Option _). Q (option_map_or f p d)) (sym is) h
@@ -217,8 +196,8 @@ module _ (written : AreWritten) where
       let all = each_front (p.before ++ p.challenge ∷ p.between ++ p.response ∷ p.waiting) (p.completion ∷ p.since) (subst EachInRange p.whole fits) in
       let most = each_front (p.before ++ p.challenge ∷ p.between) (p.response ∷ p.waiting) all.0 in
       let parts = each_front p.before (p.challenge ∷ p.between) most.0 in
-      let before = stays_in_range spelled esm_spelled s solo p.before setting h parts.0 in
-      let after = (fit_step spelled esm_spelled setting (solo_after s solo p.before) p.challenge parts.1.0 before).solo in
+      let before = stays_in_range written spelled esm_spelled s solo p.before setting h parts.0 in
+      let after = (fit_step written spelled esm_spelled setting (solo_after s solo p.before) p.challenge parts.1.0 before).solo in
       let c = p.challenged in
       let ids = connection_at (solo_step s (solo_after s solo p.before) p.challenge).solo.connection c.0 c.2 after.connection in
       let v = setting.vectors place p.vector p.there in

@@ -28,7 +28,7 @@ use Rattle.emm_machine.specs.Idle.{page}
 use Rattle.emm_machine.specs.Steps.{solo_after, solo_step}
 use Rattle.emm_promises.specs.Proof.{IsProved}
 use Rattle.written_messages.specs.Ranges.{IsBrief, IsBriefIf, VectorInRange}
-use Rattle.emm_written.specs.InRange.{ContextInRange, EachInRange, MessageInRange, SettingInRange, SoloInRange}
+use Rattle.emm_written.specs.InRange.{ContextInRange, EachInRange, ItemInRange, MessageInRange, SettingInRange, SoloInRange}
 
 -- the message to the station, under its mark, is the next that is sent
 abbrev pub SendsWhole : ℕ → Option Mark → Pdu (List ℕ) → Draft → Draft → Type 0
@@ -152,3 +152,7 @@ TheProvedWereChallenged =
     (s : Setting) (solo : Solo) (items : List Item) (place : ℕ) → SettingInRange s → SoloInRange solo → EachInRange items
     → (proved : IsProved s solo items place)
     → ChallengeIsSent place proved.vector (solo_step s (solo_after s solo proved.before) proved.challenge)
+
+-- each message that a step in range builds is sent: none is without a written form
+abbrev pub EveryMessageIsSent : Type 0
+EveryMessageIsSent = (s : Setting) (solo : Solo) (item : Item) → SettingInRange s → SoloInRange solo → ItemInRange item → (solo_step s solo item).unwritten ≡ false

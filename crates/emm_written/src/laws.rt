@@ -2,7 +2,7 @@
 
 ghost use Rattle.emm_machine.specs.Words.{fresh_solo};
 ghost use Rattle.emm_written.specs.InRange.{SoloInRange, StaysInRange};
-ghost use Rattle.emm_written.specs.Whole.{AttachRefusedIsWhole, ChallengedIsWhole, IndicateIsWhole, LeaveIsWhole, NotAuthenticatedIsWhole, NotSwitchedIsWhole, PageIsWhole, ProtectIsWhole, RefuseIsWhole, ReleaseIsWhole, RequestsAreKnown, SendIsWhole, SetUpIsWhole, SwitchedIsWhole, TheProvedWereChallenged, TurnAwayIsWhole};
+ghost use Rattle.emm_written.specs.Whole.{AttachRefusedIsWhole, ChallengedIsWhole, EveryMessageIsSent, IndicateIsWhole, LeaveIsWhole, NotAuthenticatedIsWhole, NotSwitchedIsWhole, PageIsWhole, ProtectIsWhole, RefuseIsWhole, ReleaseIsWhole, RequestsAreKnown, SendIsWhole, SetUpIsWhole, SwitchedIsWhole, TheProvedWereChallenged, TurnAwayIsWhole};
 
 use nas_messages::{decoded_esm_is_spelled, decoded_is_spelled};
 use written_messages::phone_messages_are_written;
@@ -15,6 +15,16 @@ pub fn ranges_are_kept()
 {
     decoded_is_spelled();
     decoded_esm_is_spelled();
+    phone_messages_are_written();
+}
+
+/// Each message that a step builds is sent, where its setting, its state and its item are in range: none is without a written form.
+pub fn every_message_is_sent()
+    ensures { EveryMessageIsSent }
+{
+    decoded_is_spelled();
+    decoded_esm_is_spelled();
+    phone_messages_are_written();
 }
 
 /// In a state in range each action whose parts are in range sends its message: it has a written form, and is the next that is sent.

@@ -4,4 +4,7 @@
 
 mod laws;
 
-pub use laws::{actions_send_whole, proved_were_challenged, ranges_are_kept, rows_send_whole};
+pub use laws::{
+    actions_send_whole, every_message_is_sent, proved_were_challenged, ranges_are_kept,
+    rows_send_whole,
+};

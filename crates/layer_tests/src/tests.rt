@@ -1,16 +1,31 @@
-ghost use Rattle.std.specs.Prelude.{◌≡◌, true, OnOk};
-
 mod associations;
 mod elements;
 mod sessions;
 mod subscribers;
 mod timers;
 
-use std::test::Fail;
+use std::process::Abort;
 
-/// Fails, in these words, where it isn't so.
-fn must(holds: bool, otherwise: &'static str) -> Result<(), Fail>
-    ensures { OnOk result (holds ≡ true) }
-{
-    if holds { Ok(()) } else { Err(otherwise)? }
+/// Ends the test as failed where it isn't so.
+fn must(rt: &impl Abort, holds: bool) {
+    assert!(rt; holds);
+}
+
+/// Whether the answer is what is wanted, or why it was refused.
+fn compared<T: PartialEq + Drop, E: Copy>(
+    answer: Result<Vec<T>, E>,
+    wanted: &[T],
+) -> Result<bool, E> {
+    match answer {
+        Ok(items) => Ok(items.as_slice() == wanted),
+        Err(fault) => Err(fault),
+    }
+}
+
+/// Whether the answer is what is wanted, and wasn't refused.
+fn is_answer<T: PartialEq + Drop, E: Copy>(answer: Result<Vec<T>, E>, wanted: &[T]) -> bool {
+    match answer {
+        Ok(items) => items.as_slice() == wanted,
+        Err(_) => false,
+    }
 }

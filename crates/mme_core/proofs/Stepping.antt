@@ -1,9 +1,8 @@
--- An event for everyone: some are left as they are, of the others the step is prepared.
-use Rattle.std.proofs.Common.{◌≡◌, ℕ, zero, suc, ◌+◌, ◌<◌, ◌≤◌, List, [], ◌∷◌, ◌++◌, length, drop, map, Bool, true, false, Option, Some, None, refl, sym, subst, ◌∙◌, ap, arith}
-use Rattle.std.specs.Prelude.{if◌then◌else◌, slice_get, slice_set, option_map}
+-- A step that was prepared, of one and of some.
+use Rattle.std.proofs.Common.{◌≡◌, ℕ, zero, suc, ◌+◌, ◌<◌, ◌≤◌, List, [], ◌∷◌, ◌++◌, length, map, true, false, Option, Some, None, Result, Ok, Err, IfOk, refl, sym, subst, ◌∙◌, ap, arith}
+use Rattle.std.specs.Prelude.{slice_get, slice_set, option_map}
 use Rattle.std.specs.Option.{option_map_or}
-use Rattle.std.proofs.lemmas.List.{append_assoc, drop_more, length-set, length_push}
-use Rattle.std.proofs.lemmas.Option.{slice_get_within, get_or_from_slice_get}
+use Rattle.std.proofs.lemmas.List.{length-set}
 use Rattle.emm_state.specs.declared.solo.Solo.{Solo}
 use Rattle.emm_state.specs.declared.draft.Draft.{Draft}
 use Rattle.emm_machine.specs.Laws.{still_stays}
@@ -14,78 +13,15 @@ use Rattle.emm_machine.specs.Ticks.{IsRunning, StaysRunning, countdowns}
 use Rattle.emm_machine.specs.TickLaws.{running_timed}
 use Rattle.ordered_lists.specs.Ordered.{Every}
 use Rattle.subscriber_table.specs.declared.stepped.Stepped.{Stepped}
-use Rattle.subscriber_table.specs.Laws.{all_give_as_due, each_gives, quiet_sent, some_give, tick_is_of_all, timed_in_range}
+use Rattle.subscriber_table.specs.Laws.{all_give_as_due, all_give_as_touched, each_gives, quiet_sent, some_give, tick_is_of_all, timed_in_range, touched_below, touched_few, touched_is_of_all}
 use Rattle.subscriber_table.specs.Running.{is_due}
-use Rattle.subscriber_table.specs.Table.{IsCounting, IsTicked, due_slots, one_less, slots_stepped, still_at, step_at, tick_settled}
-use Rattle.mme_core.specs.declared.out.Out.{Out}
+use Rattle.subscriber_table.specs.Table.{IsCounting, IsStepped, due_slots, one_less, slots_stepped, step_at, tick_settled}
+use Rattle.subscriber_table.specs.Touched.{touched_slots}
 use Rattle.mme_core.specs.FreshRuns.{AreInUse}
-use Rattle.mme_core.specs.Settled.{AreFit, in_state, sent_at, solo_at, stepped_from, tick_sent, with_solo, with_stepped}
+use Rattle.mme_core.specs.Settled.{AreFit, in_state, item_sent, sent_at, solo_at, with_solo, with_stepped}
 use Rattle.mme_routing.specs.Destinations.{for_all, for_one}
-use Rattle.mme_core.specs.World.{each_after, each_sent, slot_out, subscriber_after, subscriber_step}
+use Rattle.mme_core.specs.World.{each_after, each_sent, slot_out, subscriber_step}
 use Rattle.mme_core.proofs.Calling.{after_call, sends_call}
-
--- ---- one who is left as it is
-
-left : (w : SubscriberView) (item : Item) → still w.solo item ≡ true → subscriber_after w item ≡ w
-left w item h = ap (λ d. record { setting = w.setting; solo = d.solo }) (still_stays w.setting w.solo item h)
-
-silent : (n : ℕ) (w : SubscriberView) (item : Item) → still w.solo item ≡ true → map (slot_out n) (subscriber_step w item).sent ≡ []
-silent n w item h = ap (λ d. map (slot_out n) d.sent) (still_stays w.setting w.solo item h)
-
--- ---- what a loop over all has prepared
-
-abbrev stepped_one : Item → ℕ → SubscriberView → Stepped
-stepped_one item n w = record { slot = n; solo = (subscriber_step w item).solo }
-
-abbrev either : Item → ℕ → SubscriberView → List SubscriberView → Bool → List Stepped
-either item n w ws b = if b then stepped_from item (n + 1) ws else stepped_one item n w ∷ stepped_from item (n + 1) ws
-
--- past one who is left as it is
-pub stepped_past : (item : Item) (n : ℕ) (xs all : List Stepped) (zs : List SubscriberView) (w : SubscriberView) (ws : List SubscriberView) → zs ≡ w ∷ ws → still w.solo item ≡ true
-    → xs ++ stepped_from item n zs ≡ all → xs ++ stepped_from item (n + 1) ws ≡ all
-stepped_past item n xs all zs w ws at h whole = sym (ap (λ ys. xs ++ stepped_from item n ys) at ∙ ap (λ b. xs ++ either item n w ws b) h) ∙ whole
-
-pub sends_past : (item : Item) (n : ℕ) (os all : List Out) (zs : List SubscriberView) (w : SubscriberView) (ws : List SubscriberView) → zs ≡ w ∷ ws → still w.solo item ≡ true
-    → os ++ each_sent (for_all item) n zs ≡ all → os ++ each_sent (for_all item) (n + 1) ws ≡ all
-sends_past item n os all zs w ws at h whole =
-    sym (ap (λ ys. os ++ each_sent (for_all item) n ys) at ∙ ap (λ ys. os ++ (ys ++ each_sent (for_all item) (n + 1) ws)) (silent n w item h)) ∙ whole
-
--- ---- each is in the state that was prepared
-
-under_head : (f : SubscriberView) (zs : List SubscriberView) (n : ℕ) (s : Solo) (o : Option SubscriberView)
-    → option_map_or (λ w. f ∷ slice_set zs n (in_state s w)) o (f ∷ zs) ≡ f ∷ option_map_or (λ w. slice_set zs n (in_state s w)) o zs
-under_head f zs n s None = refl
-under_head f zs n s (Some w) = refl
-
-one_settled : (fs ws : List SubscriberView) (w : SubscriberView) (s : Solo) → with_solo (length fs) s (fs ++ w ∷ ws) ≡ fs ++ in_state s w ∷ ws
-one_settled [] ws w s = refl
-one_settled (f ∷ fs) ws w s = under_head f (fs ++ w ∷ ws) (length fs) s (slice_get (fs ++ w ∷ ws) (length fs)) ∙ ap (λ xs. f ∷ xs) (one_settled fs ws w s)
-
--- whoever stands before them
-abbrev AllSettled : Item → List SubscriberView → Type 0
-AllSettled item ws = (fs : List SubscriberView) → with_stepped (stepped_from item (length fs) ws) (fs ++ ws) ≡ fs ++ each_after (for_all item) (length fs) ws
-
-onward : (item : Item) (fs : List SubscriberView) (w : SubscriberView) (ws : List SubscriberView) → AllSettled item ws
-    → with_stepped (stepped_from item (length fs + 1) ws) (fs ++ w ∷ ws) ≡ fs ++ w ∷ each_after (for_all item) (length fs + 1) ws
-onward item fs w ws ih =
-    let gs = fs ++ w ∷ [] in
-    let many : length gs ≡ length fs + 1 = length_push fs w in
-    ap (λ n. with_stepped (stepped_from item n ws) (fs ++ w ∷ ws)) (sym many)
-    ∙ ap (with_stepped (stepped_from item (length gs) ws)) (sym (append_assoc fs (w ∷ []) ws))
-    ∙ ih gs ∙ append_assoc fs (w ∷ []) (each_after (for_all item) (length gs) ws)
-    ∙ ap (λ n. fs ++ w ∷ each_after (for_all item) n ws) many
-
-settled_by : (item : Item) (fs : List SubscriberView) (w : SubscriberView) (ws : List SubscriberView) (b : Bool) → still w.solo item ≡ b → AllSettled item ws
-    → with_stepped (either item (length fs) w ws b) (fs ++ w ∷ ws) ≡ fs ++ subscriber_after w item ∷ each_after (for_all item) (length fs + 1) ws
-settled_by item fs w ws true h ih = onward item fs w ws ih ∙ ap (λ x. fs ++ x ∷ each_after (for_all item) (length fs + 1) ws) (sym (left w item h))
-settled_by item fs w ws false h ih = ap (with_stepped (stepped_from item (length fs + 1) ws)) (one_settled fs ws w (subscriber_step w item).solo) ∙ onward item fs (subscriber_after w item) ws ih
-
-all_settled : (item : Item) (ws : List SubscriberView) → AllSettled item ws
-all_settled item [] fs = refl
-all_settled item (w ∷ ws) fs = settled_by item fs w ws (still w.solo item) refl (all_settled item ws)
-
-pub everyone_settled : (item : Item) (ws : List SubscriberView) (xs : List Stepped) → xs ≡ stepped_from item 0 ws → with_stepped xs ws ≡ each_after (for_all item) 0 ws
-everyone_settled item ws xs made = ap (λ ys. with_stepped ys ws) made ∙ all_settled item ws []
 
 -- ---- a step that was prepared
 
@@ -118,28 +54,20 @@ sent_is slot item ws d at = sent_if slot item (slice_get ws slot) d at
 
 -- ---- each is that of a subscriber, and they are as many as before
 
-fit_if : (m : ℕ) (x : Stepped) (xs : List Stepped) (b : Bool) → x.slot < m → IsCounting x.solo → AreFit m xs → AreFit m (if b then xs else x ∷ xs)
-fit_if m x xs true lt k h = h
-fit_if m x xs false lt k h = ((lt, k), h)
+fit_each : (m : ℕ) (xs : List Stepped) → Every (λ k. k < m) (slots_stepped xs) → Every (λ (x : Stepped). IsCounting x.solo) xs → AreFit m xs
+fit_each m [] h k = tt
+fit_each m (x ∷ xs) h k = ((h.0, k.0), fit_each m xs h.1 k.1)
 
-all_fit : StaysRunning → (item : Item) (n m : ℕ) (ws : List SubscriberView) → AreInUse ws → n + length ws ≤ m → AreFit m (stepped_from item n ws)
-all_fit law item n m [] h le = tt
-all_fit law item n m (w ∷ ws) h le =
-    fit_if m (stepped_one item n w) (stepped_from item (n + 1) ws) (still w.solo item) (omega arith) (counting_after law w item h.2) (all_fit law item (n + 1) m ws h.3 (omega arith))
+slots_many : (xs : List Stepped) → length (slots_stepped xs) ≡ length xs
+slots_many [] = refl
+slots_many (x ∷ xs) = ap suc (slots_many xs)
 
-few_if : (x : Stepped) (xs : List Stepped) (b : Bool) (m : ℕ) → length xs ≤ m → length (if b then xs else x ∷ xs) ≤ m + 1
-few_if x xs true m le = omega arith
-few_if x xs false m le = omega arith
-
-all_few : (item : Item) (n : ℕ) (ws : List SubscriberView) → length (stepped_from item n ws) ≤ length ws
-all_few item n [] = omega arith
-all_few item n (w ∷ ws) =
-    let few = few_if (stepped_one item n w) (stepped_from item (n + 1) ws) (still w.solo item) (length ws) (all_few item (n + 1) ws) in
-    omega arith
-
-pub everyone_fits : StaysRunning → (item : Item) (ws : List SubscriberView) (xs : List Stepped) → AreInUse ws → xs ≡ stepped_from item 0 ws → AreFit (length ws) xs × (length xs ≤ length ws)
-everyone_fits law item ws xs h made =
-    subst (λ ys. AreFit (length ws) ys × (length ys ≤ length ws)) (sym made) (all_fit law item 0 (length ws) ws h (omega arith), all_few item 0 ws)
+pub touched_fit : (item : Item) (xs : List Stepped) (ws : List SubscriberView) → slots_stepped xs ≡ touched_slots item ws → Every (λ (x : Stepped). IsCounting x.solo) xs
+    → AreFit (length ws) xs × (length xs ≤ length ws)
+touched_fit item xs ws touched k =
+    let many = slots_many xs in
+    let few = subst (λ ks. length ks ≤ length ws) (sym touched) (touched_few item ws) in
+    (fit_each (length ws) xs (subst (Every (λ n. n < length ws)) (sym touched) (touched_below item ws)) k, omega arith)
 
 solo_many_if : (n : ℕ) (s : Solo) (ws : List SubscriberView) (o : Option SubscriberView) → length (option_map_or (λ w. slice_set ws n (in_state s w)) o ws) ≡ length ws
 solo_many_if n s ws None = refl
@@ -159,58 +87,6 @@ less_many (w ∷ ws) = ap suc (less_many ws)
 pub ticked_many : (xs : List Stepped) (ws : List SubscriberView) → length (tick_settled xs ws) ≡ length ws
 ticked_many xs ws = stepped_many xs (map one_less ws) ∙ less_many ws
 
--- ---- whom a look leaves out, by slot
-
-looked : {P : Type 0} (item : Item) (b : Bool) (o : Option SubscriberView) → option_map (λ (w : SubscriberView). still w.solo item) o ≡ Some b
-    → ((w : SubscriberView) → o ≡ Some w → still w.solo item ≡ b → P) → P
-looked item b None h k = absurd (cc)
-looked item b (Some w) h k = let is : still w.solo item ≡ b = cc in k w refl is
-
-first_of : (ws : List SubscriberView) (n : ℕ) (w : SubscriberView) → slice_get ws n ≡ Some w → drop n ws ≡ w ∷ drop (n + 1) ws
-first_of ws n w at = drop_more ws n w (slice_get_within ws n w at) ∙ ap (λ x. x ∷ drop (n + 1) ws) (get_or_from_slice_get ws n w w at)
-
--- one whom a look leaves out
-pub skipped : (item : Item) (n : ℕ) (ws : List SubscriberView) (xs all : List Stepped) (os sent : List Out) → still_at n item ws ≡ Some true
-    → xs ++ stepped_from item n (drop n ws) ≡ all → os ++ each_sent (for_all item) n (drop n ws) ≡ sent
-    → (xs ++ stepped_from item (n + 1) (drop (n + 1) ws) ≡ all) × (os ++ each_sent (for_all item) (n + 1) (drop (n + 1) ws) ≡ sent)
-skipped item n ws xs all os sent look made sends = looked item true (slice_get ws n) look (λ w at h. (
-  stepped_past item n xs all (drop n ws) w (drop (n + 1) ws) (first_of ws n w at) h made,
-  sends_past item n os sent (drop n ws) w (drop (n + 1) ws) (first_of ws n w at) h sends,
-))
-
--- the step of one more
-pub stepped_next : (item : Item) (n : ℕ) (xs all : List Stepped) (zs : List SubscriberView) (w : SubscriberView) (ws : List SubscriberView) (x : Stepped) → zs ≡ w ∷ ws → still w.solo item ≡ false
-    → x.slot ≡ n → x.solo ≡ (subscriber_step w item).solo → xs ++ stepped_from item n zs ≡ all → (xs ++ x ∷ []) ++ stepped_from item (n + 1) ws ≡ all
-stepped_next item n xs all zs w ws x at h slot solo whole =
-    let same : x ≡ stepped_one item n w = ap (λ k. record { slot = k; solo = x.solo }) slot ∙ ap (λ (s : Solo). record { slot = n; solo = s }) solo in
-    append_assoc xs (x ∷ []) (stepped_from item (n + 1) ws) ∙ ap (λ y. xs ++ y ∷ stepped_from item (n + 1) ws) same
-    ∙ sym (ap (λ ys. xs ++ stepped_from item n ys) at ∙ ap (λ b. xs ++ either item n w ws b) h) ∙ whole
-
-solo_of_if : (item : Item) (o : Option SubscriberView) (w : SubscriberView) (s : Solo) → o ≡ Some w → option_map (λ (d : Draft). d.solo) (option_map (λ v. subscriber_step v item) o) ≡ Some s → s ≡ (subscriber_step w item).solo
-solo_of_if item None w s at h = absurd (cc)
-solo_of_if item (Some v) w s at h =
-    let here : v ≡ w = cc in
-    let is : (subscriber_step v item).solo ≡ s = cc in
-    sym is ∙ ap (λ u. (subscriber_step u item).solo) here
-
-pub solo_of : (slot : ℕ) (item : Item) (ws : List SubscriberView) (w : SubscriberView) (s : Solo) → slice_get ws slot ≡ Some w → solo_at slot item ws ≡ Some s → s ≡ (subscriber_step w item).solo
-solo_of slot item ws w s at h = solo_of_if item (slice_get ws slot) w s at h
-
-pub sent_of : (slot : ℕ) (item : Item) (ws : List SubscriberView) (w : SubscriberView) → slice_get ws slot ≡ Some w → sent_at slot item ws ≡ map (slot_out slot) (subscriber_step w item).sent
-sent_of slot item ws w at = ap (λ o. option_map_or (λ v. map (slot_out slot) (subscriber_step v item).sent) o []) at
-
--- and one who is called
-pub called : (item : Item) (n : ℕ) (ws : List SubscriberView) (xs all : List Stepped) (os now sent : List Out) (x : Stepped) → still_at n item ws ≡ Some false
-    → x.slot ≡ n → solo_at n item ws ≡ Some x.solo → now ≡ os ++ sent_at n item ws
-    → xs ++ stepped_from item n (drop n ws) ≡ all → os ++ each_sent (for_all item) n (drop n ws) ≡ sent
-    → ((xs ++ x ∷ []) ++ stepped_from item (n + 1) (drop (n + 1) ws) ≡ all) × (now ++ each_sent (for_all item) (n + 1) (drop (n + 1) ws) ≡ sent)
-called item n ws xs all os now sent x look slot solo told made sends = looked item false (slice_get ws n) look (λ w at h.
-    let rest = each_sent (for_all item) (n + 1) (drop (n + 1) ws) in (
-      stepped_next item n xs all (drop n ws) w (drop (n + 1) ws) x (first_of ws n w at) h slot (solo_of n item ws w x.solo at solo) made,
-      ap (λ ys. ys ++ rest) (told ∙ ap (λ ys. os ++ ys) (sent_of n item ws w at)) ∙ append_assoc os (map (slot_out n) (subscriber_step w item).sent) rest
-          ∙ sym (ap (λ zs. os ++ each_sent (for_all item) n zs) (first_of ws n w at)) ∙ sends,
-    ))
-
 -- ---- one alone is called
 
 stepped_at : {P : Type 0} (item : Item) (s : Solo) (o : Option SubscriberView) → option_map (λ (d : Draft). d.solo) (option_map (λ v. subscriber_step v item) o) ≡ Some s
@@ -224,21 +100,35 @@ called_after slot item ws s h = stepped_at item s (slice_get ws slot) h (λ w at
     ∙ ap (λ (t : Solo). slice_set ws slot (in_state t w)) (sym is) ∙ after_call slot item ws w at)
 
 pub called_sends : (slot : ℕ) (item : Item) (ws : List SubscriberView) (s : Solo) → solo_at slot item ws ≡ Some s → sent_at slot item ws ≡ each_sent (for_one slot item) 0 ws
-called_sends slot item ws s h = stepped_at item s (slice_get ws slot) h (λ w at is. sent_of slot item ws w at ∙ sends_call slot item ws w at)
+called_sends slot item ws s h = stepped_at item s (slice_get ws slot) h (λ w at is.
+    ap (λ (o : Option SubscriberView). option_map_or (λ v. map (slot_out slot) (subscriber_step v item).sent) o []) at ∙ sends_call slot item ws w at)
 
--- ---- a tick of those who are due
+-- ---- what some do is what all do: at a tick those who are due, at a notice of a station those whom it touches
 
-quiet_gives : (n : ℕ) (w : SubscriberView) → is_due (countdowns w.solo) ≡ false → tick_sent n w ≡ []
+quiet_gives : (n : ℕ) (w : SubscriberView) → is_due (countdowns w.solo) ≡ false → item_sent Tick n w ≡ []
 quiet_gives n w e = ap (map (slot_out n)) (quiet_sent w e)
 
-each_gives_sent : (n : ℕ) (ws : List SubscriberView) → each_gives tick_sent n ws ≡ each_sent (for_all Tick) n ws
-each_gives_sent n [] = refl
-each_gives_sent n (w ∷ ws) = ap (λ os. tick_sent n w ++ os) (each_gives_sent (n + 1) ws)
+still_gives : (item : Item) (n : ℕ) (w : SubscriberView) → still w.solo item ≡ true → item_sent item n w ≡ []
+still_gives item n w h = ap (λ (d : Draft). map (slot_out n) d.sent) (still_stays w.setting w.solo item h)
 
--- what those send who are due is what all send
-pub due_send : (ws : List SubscriberView) → some_give tick_sent (due_slots ws) ws ≡ each_sent (for_all Tick) 0 ws
-due_send ws = all_give_as_due tick_sent ws quiet_gives ∙ each_gives_sent 0 ws
+each_gives_sent : (item : Item) (n : ℕ) (ws : List SubscriberView) → each_gives (item_sent item) n ws ≡ each_sent (for_all item) n ws
+each_gives_sent item n [] = refl
+each_gives_sent item n (w ∷ ws) = ap (λ os. item_sent item n w ++ os) (each_gives_sent item (n + 1) ws)
 
--- and they are as all are
-pub ticks_all : (xs : List Stepped) (ws : List SubscriberView) → slots_stepped xs ≡ due_slots ws → Every (IsTicked ws) xs → tick_settled xs ws ≡ each_after (for_all Tick) 0 ws
+pub due_send : (ws : List SubscriberView) → some_give (item_sent Tick) (due_slots ws) ws ≡ each_sent (for_all Tick) 0 ws
+due_send ws = all_give_as_due (item_sent Tick) ws quiet_gives ∙ each_gives_sent Tick 0 ws
+
+pub touched_send : (item : Item) (ws : List SubscriberView) → some_give (item_sent item) (touched_slots item ws) ws ≡ each_sent (for_all item) 0 ws
+touched_send item ws = all_give_as_touched item (item_sent item) ws (still_gives item) ∙ each_gives_sent item 0 ws
+
+pub ticks_all : (xs : List Stepped) (ws : List SubscriberView) → slots_stepped xs ≡ due_slots ws → Every (IsStepped Tick ws) xs → tick_settled xs ws ≡ each_after (for_all Tick) 0 ws
 ticks_all xs ws due h = tick_is_of_all xs ws due h
+
+pub touches_all : (item : Item) (xs : List Stepped) (ws : List SubscriberView) → slots_stepped xs ≡ touched_slots item ws → Every (IsStepped item ws) xs
+    → with_stepped xs ws ≡ each_after (for_all item) 0 ws
+touches_all item xs ws touched h = touched_is_of_all item xs ws touched h
+
+-- two facts of one answer
+pub ok_both : {T E : Type 0} (P Q R : T → Type 0) (r : Result T E) → ((x : T) → P x → Q x → R x) → IfOk r P → IfOk r Q → IfOk r R
+ok_both P Q R (Ok x) both p q = both x p q
+ok_both P Q R (Err e) both p q = tt

@@ -1,13 +1,13 @@
 -- What strangers and subscribers are once what was prepared for an event is settled.
-use Rattle.std.specs.Prelude.{◌≡◌, ◌+◌, ◌<◌, ◌≤◌, ◌^◌, ℕ, Bool, true, false, if◌then◌else◌, slice_get, List, [], ◌∷◌, length, map, option_map, Option, Some, None}
+use Rattle.std.specs.Prelude.{◌≡◌, ◌+◌, ◌<◌, ◌≤◌, ◌^◌, ℕ, Bool, true, false, slice_get, List, [], length, map, option_map, Option, Some, None}
 use Rattle.std.specs.Option.{option_map_or}
 use Rattle.emm_state.specs.declared.draft.Draft.{Draft}
 use Rattle.emm_state.specs.declared.solo.Solo.{Solo}
-use Rattle.mme_vocabulary.specs.Events.{Item, Tick}
-use Rattle.emm_machine.specs.Still.{still}
+use Rattle.mme_vocabulary.specs.Events.{Item}
 use Rattle.emm_machine.specs.SubscriberView.{SubscriberView}
 use Rattle.ordered_lists.specs.Ordered.{Every}
 use Rattle.stranger_machine.specs.declared.table.Known.{Known}
+use Rattle.stranger_machine.specs.declared.turn.Notice.{Notice}
 use Rattle.stranger_machine.specs.declared.turn.Notice.TheVariants as notices
 use Rattle.stranger_machine.specs.Table.{noted, stranger_at, with_stranger}
 use Rattle.stranger_machine.specs.Turns.{after_of}
@@ -85,6 +85,11 @@ MayPass _ clock = Unit {0}
 abbrev pub IsInTime : Prepared → ℕ → ℕ → Type 0
 IsInTime p before after = MayPass p before × (settled_clock p before ≤ after)
 
+-- a notice of what happened to a station
+abbrev pub is_of_station : Notice → Bool
+is_of_station notices.Tick = false
+is_of_station _ = true
+
 -- it doesn't go to everyone
 abbrev pub is_own : DestinationInCode → Bool
 is_own (code.Everyone notice) = false
@@ -104,13 +109,6 @@ solo_at slot item ws = option_map (λ (d : Draft). d.solo) (step_at slot item ws
 abbrev pub sent_at : ℕ → Item → List SubscriberView → List Out
 sent_at slot item ws = option_map_or (λ w. map (slot_out slot) (subscriber_step w item).sent) (slice_get ws slot) []
 
--- what a slot's subscriber sends at a tick
-abbrev pub tick_sent : ℕ → SubscriberView → List Out
-tick_sent n w = map (slot_out n) (subscriber_step w Tick).sent
-
--- whom an item doesn't leave as they are, as far as a look tells: the states after it, from slot n on
-abbrev pub stepped_from : Item → ℕ → List SubscriberView → List Stepped
-stepped_from item n [] = []
-stepped_from item n (w ∷ ws) =
-    if still w.solo item then stepped_from item (n + 1) ws
-    else record { slot = n; solo = (subscriber_step w item).solo } ∷ stepped_from item (n + 1) ws
+-- what a slot's subscriber sends at an item
+abbrev pub item_sent : Item → ℕ → SubscriberView → List Out
+item_sent item n w = map (slot_out n) (subscriber_step w item).sent

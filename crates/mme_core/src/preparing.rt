@@ -11,16 +11,16 @@ ghost use Rattle.stranger_machine.specs.Table.{noted, stranger_at, with_stranger
 ghost use Rattle.stranger_machine.specs.Turns.{after_of, call_of};
 ghost use Rattle.subscriber_table.specs.declared.stepped.Stepped.{Stepped};
 ghost use Rattle.subscriber_table.specs.Laws.{some_give};
-ghost use Rattle.subscriber_table.specs.Table.{IsCounting, IsTicked, slots_stepped};
+ghost use Rattle.subscriber_table.specs.Table.{IsCounting, IsStepped, slots_stepped};
+ghost use Rattle.subscriber_table.specs.Touched.{touched_slots};
 ghost use Rattle.mme_routing.specs.Destinations.{Destination as DestinationInSpecs, Everyone, for_all, for_one, if_called, item_at, item_of_notice, strangers_behind};
 ghost use Rattle.mme_routing.specs.Seen.{destination_of};
 ghost use Rattle.mme_core.specs.FreshRuns.{AreInUse};
-ghost use Rattle.mme_core.specs.Settled.{AreFit, IsFitIf, IsFor, IsPassing, is_own, sent_at, settled_strangers, settled_subscribers, solo_at, stepped_from, tick_sent, with_one, with_stepped};
+ghost use Rattle.mme_core.specs.Settled.{AreFit, IsFitIf, IsFor, IsPassing, is_of_station, is_own, item_sent, sent_at, settled_strangers, settled_subscribers, solo_at, with_one, with_stepped};
 ghost use Rattle.mme_core.specs.World.{each_after, each_known, each_sent, stranger_out, strangers_sent};
 
 use crate::out::{Outs, Owner};
 use crate::prepared::Prepared;
-use crate::provisioning::slot_of;
 use crate::sending::{send_all, send_each};
 use emm_machine::running_is_kept;
 use emm_state::Draft;
@@ -53,57 +53,31 @@ fn prepare_step(
         solo,
         sent,
         accepted: _,
+        unwritten: _,
     } = subscribers.prepare(slot, event, stations)?;
     send_all(alloc, outs, Owner::Subscriber(slot), &sent)?;
     Ok(Stepped { slot, solo })
 }
 
-// The step of everyone, but of those whom the event leaves as they are: a look tells.
-fn prepare_everyone(
+// The step of each of some slots; what they send stands behind what is sent so far.
+fn prepare_each(
     alloc: Global,
     subscribers: &mut Subscribers,
+    called: &[Slot],
     event: &SoloEvent,
     stations: &EnbWorld,
     outs: &mut Outs,
 ) -> Result<Vec<Stepped>, AllocError>
-    requires { AreInUse subscribers.old.subscribers }
-    ensures stepped { IfOk result (λ xs. xs.items ≡ stepped_from (item_of event.now stations.now) 0 subscribers.old.subscribers) }
-    ensures sends { OnOk result (outs.new ≡ outs.old ++ each_sent (for_all (item_of event.now stations.now)) 0 subscribers.old.subscribers) }
-    ensures same { subscribers.new ≡ subscribers.old }
-{
-    let count = subscribers.len();
-    let mut stepped = Vec::new(alloc);
-    for place in 0..count {
-        let slot = slot_of(place);
-        if subscribers.is_still(slot, event) {
-            continue;
-        }
-        let one = prepare_step(alloc, subscribers, slot, event, stations, outs)?;
-        stepped.push(one)?;
-    }
-    Ok(stepped)
-}
-
-// A tick of those who are due.
-fn prepare_due(
-    alloc: Global,
-    subscribers: &mut Subscribers,
-    due: &[Slot],
-    event: &SoloEvent,
-    stations: &EnbWorld,
-    outs: &mut Outs,
-) -> Result<Vec<Stepped>, AllocError>
-    requires tick { item_of event.now stations.now ≡ items.Tick }
-    requires due { Every (λ k. k < length subscribers.old.subscribers) due.now }
+    requires called { Every (λ k. k < length subscribers.old.subscribers) called.now }
     requires in_use { AreInUse subscribers.old.subscribers }
-    ensures slots { IfOk result (λ xs. slots_stepped xs.items ≡ due.now) }
-    ensures ticked { IfOk result (λ xs. Every (IsTicked subscribers.old.subscribers) xs.items) }
+    ensures slots { IfOk result (λ xs. slots_stepped xs.items ≡ called.now) }
+    ensures stepped { IfOk result (λ xs. Every (IsStepped (item_of event.now stations.now) subscribers.old.subscribers) xs.items) }
     ensures counting { IfOk result (λ xs. Every (λ (x : Stepped). IsCounting x.solo) xs.items) }
-    ensures sends { OnOk result (outs.new ≡ outs.old ++ some_give tick_sent due.now subscribers.old.subscribers) }
+    ensures sends { OnOk result (outs.new ≡ outs.old ++ some_give (item_sent (item_of event.now stations.now)) called.now subscribers.old.subscribers) }
     ensures same { subscribers.new ≡ subscribers.old }
 {
     let mut stepped = Vec::new(alloc);
-    for slot in due {
+    for slot in called {
         let one = prepare_step(alloc, subscribers, *slot, event, stations, outs)?;
         stepped.push(one)?;
     }
@@ -179,17 +153,6 @@ fn prepare_turn(
     Ok(Prepared::Stranger(id, after, called))
 }
 
-// What a notice is to a subscriber.
-fn event_of(notice: &Notice) -> SoloEvent<'_>
-    ensures { (stations : List StationState) → item_of result stations ≡ item_of_notice notice.entry.now }
-{
-    match notice {
-        Notice::Tick => SoloEvent::Tick,
-        Notice::Gone(station) => SoloEvent::StationGone(*station),
-        Notice::Listed(station, items) => SoloEvent::ConnectionsGone(*station, items.as_slice()),
-    }
-}
-
 // A tick of all strangers and, of the subscribers, of those alone who are due; and what all send.
 fn prepare_tick(
     alloc: Global,
@@ -210,12 +173,37 @@ fn prepare_tick(
 {
     send_each(alloc, strangers, &Notice::Tick, outs)?;
     let due = subscribers.due()?;
-    let slots = due.as_slice();
-    let stepped = prepare_due(alloc, subscribers, slots, event, stations, outs)?;
+    let called = due.as_slice();
+    let stepped = prepare_each(alloc, subscribers, called, event, stations, outs)?;
     Ok(Prepared::Tick(stepped))
 }
 
-// What a notice makes of all subscribers, by the event that it is to them, and what strangers and subscribers send.
+// What a notice of a station is to a subscriber.
+fn event_of(notice: &Notice) -> SoloEvent<'_>
+    requires { is_of_station notice.now ≡ true }
+    ensures { (stations : List StationState) → item_of result stations ≡ item_of_notice notice.entry.now }
+{
+    match notice {
+        Notice::Gone(station) => SoloEvent::StationGone(*station),
+        Notice::Listed(station, items) => SoloEvent::ConnectionsGone(*station, items.as_slice()),
+        Notice::Tick => unreachable!(),
+    }
+}
+
+// The slots of those whom a notice of a station may touch.
+fn touched_by(subscribers: &Subscribers, notice: &Notice) -> Result<Vec<Slot>, AllocError>
+    requires { is_of_station notice.now ≡ true }
+    ensures { IfOk result (λ touched. touched.items ≡ touched_slots (item_of_notice notice.now) subscribers.now.subscribers) }
+{
+    match notice {
+        Notice::Gone(station) => subscribers.concerned(*station),
+        Notice::Listed(station, items) => subscribers.listed(*station, items.as_slice()),
+        Notice::Tick => unreachable!(),
+    }
+}
+
+// What a notice of a station makes of those subscribers whom it touches, by the event that it is to them, and what strangers and
+// subscribers send.
 fn prepare_all(
     alloc: Global,
     strangers: &Strangers,
@@ -225,6 +213,7 @@ fn prepare_all(
     event: &SoloEvent,
     outs: &mut Outs,
 ) -> Result<Vec<Stepped>, AllocError>
+    requires station { is_of_station notice.now ≡ true }
     requires event { item_of event.now stations.now ≡ item_of_notice notice.now }
     requires in_use { AreInUse subscribers.old.subscribers }
     ensures sends { OnOk result (outs.new ≡ outs.old ++ (each_known notice.now strangers.now ++ each_sent (for_all (item_of_notice notice.now)) 0 subscribers.old.subscribers)) }
@@ -232,9 +221,10 @@ fn prepare_all(
     ensures fits { IfOk result (λ xs. AreFit (length subscribers.old.subscribers) xs.items × (length xs.items ≤ length subscribers.old.subscribers)) }
     ensures same { subscribers.new ≡ subscribers.old }
 {
-    running_is_kept();
     send_each(alloc, strangers, notice, outs)?;
-    prepare_everyone(alloc, subscribers, event, stations, outs)
+    let touched = touched_by(subscribers, notice)?;
+    let called = touched.as_slice();
+    prepare_each(alloc, subscribers, called, event, stations, outs)
 }
 
 // What is to become of those whom an event goes to that isn't for everyone.

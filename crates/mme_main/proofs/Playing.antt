@@ -1,14 +1,15 @@
 -- A run of the program, one turn after another.
 use Rattle.std.proofs.Common.{◌≡◌, ℕ, ◌+◌, Bool, true, List, [], ◌++◌, Option, Result, Ok, Err, inl, inr, sym, ap, ◌∙◌, append_assoc, append-nil, arith, length}
 use Rattle.std.specs.Io.KnownBytes.{Appends, Consumes, Keeps}
-use Rattle.mme_main.specs.declared.fault.PlayFault.{PlayFault}
-use Rattle.mme_main.specs.declared.fault.PlayFault.TheVariants.{Trace, Read, Write, NoMemory}
+use Rattle.trace_player.specs.declared.fault.PlayFault.{PlayFault}
+use Rattle.trace_player.specs.declared.fault.PlayFault.TheVariants.{Trace, Read, Write, NoMemory}
 use Rattle.mme_main.specs.declared.player.Player.{Player}
-use Rattle.mme_main.specs.declared.progress.Progress.TheVariants.{Nothing}
-use Rattle.mme_main.specs.Text.{prepended, play, lines_of, played_of}
-use Rattle.mme_main.specs.Play.{breaks, played_from, IsReady, IsPrefix, TakesPiece, Finishes, WritesFor, ReadsFarEnough, Plays}
-use Rattle.mme_main.specs.OctetLaws.{Appends-nil, Appends-then, Consumes-nil, Consumes-then, Consumes-keeps, Consumes-same}
-use Rattle.mme_main.specs.TextLaws.{breaks-append, prepended-then}
+use Rattle.trace_player.specs.declared.progress.Progress.TheVariants.{Nothing}
+use Rattle.trace_player.specs.Text.{prepended, play, lines_of, played_of, breaks}
+use Rattle.trace_player.specs.Acts.{IsPrefix}
+use Rattle.mme_main.specs.Play.{played_from, IsReady, TakesPiece, Finishes, WritesFor, ReadsFarEnough, Plays}
+use Rattle.trace_player.specs.OctetLaws.{Appends-nil, Appends-then, Consumes-nil, Consumes-then, Consumes-keeps, Consumes-same}
+use Rattle.trace_player.specs.TextLaws.{breaks-append, prepended-then}
 
 -- after some turns: what was read and written, and what the player makes of the rest
 pub record Playing (left_old left_new held_old held_new : Option (List ℕ)) (player : Player) : Type 0 where

@@ -1,20 +1,19 @@
 -- What pieces of a trace leave and write, one after another.
-use Rattle.std.proofs.Common.{◌≡◌, ℕ, ◌+◌, ◌<◌, ◌≤◌, ◌==◌, Bool, true, false, cond, List, [], ◌∷◌, ◌++◌, length, Option, Some, None, Result, Ok, Err, inl, inr, refl, sym, ap, ◌∙◌, append_assoc, append-nil, arith, take, drop, get_or, ◌≢◌, subst, length-append}
+use Rattle.std.proofs.Common.{◌≡◌, ℕ, ◌+◌, ◌<◌, ◌≤◌, List, [], ◌∷◌, ◌++◌, length, Some, None, Result, Ok, Err, inl, inr, refl, sym, ap, ◌∙◌, append_assoc, append-nil, arith, ◌≢◌, subst, length-append}
 use Rattle.std.specs.Prelude.{OnOk}
 use Rattle.std.proofs.lemmas.Grind.{common_steps}
-use Rattle.std.proofs.lemmas.List.{take_more, take-append-drop}
-use Rattle.std.proofs.lemmas.Bool.Decides.{nat_tests}
 use Rattle.trace_text.specs.declared.fault.TraceFault.{TraceFault}
 use Rattle.trace_text.specs.declared.fault.TraceFault.TheVariants.{TooLong}
-use Rattle.mme_main.specs.declared.fault.PlayFault.{PlayFault}
-use Rattle.mme_main.specs.declared.fault.PlayFault.TheVariants.{Trace, Read, Write, NoMemory}
+use Rattle.trace_player.specs.declared.fault.PlayFault.{PlayFault}
+use Rattle.trace_player.specs.declared.fault.PlayFault.TheVariants.{Trace, Read, Write, NoMemory}
 use Rattle.mme_main.specs.declared.player.Player.{Player}
-use Rattle.mme_main.specs.declared.progress.Progress.{Progress}
-use Rattle.mme_main.specs.Effects.{Effect}
-use Rattle.mme_main.specs.Text.{Played, prepended, played_text, play, then_play, line_effect, lines_of}
-use Rattle.mme_main.specs.Play.{breaks, played_from, IsReady, IsPrefix, Acts, effect_text, TakesPiece, Finishes}
-use Rattle.mme_main.proofs.Fronts.{IsPrefix-of, IsPrefix-after, IsPrefix-more}
-use Rattle.mme_main.specs.TextLaws.{breaks-append, breaks-other, unbroken_more, lines_of-at, lines_of-front, lines_of-last, lines_of-nil, line_of-long, play-cons, play-nil, prepended-then, prepended-ends}
+use Rattle.trace_player.specs.declared.progress.Progress.{Progress}
+use Rattle.trace_player.specs.Effects.{Effect}
+use Rattle.trace_player.specs.Text.{Played, prepended, played_text, play, then_play, line_effect, lines_of, breaks}
+use Rattle.trace_player.specs.Acts.{IsPrefix, Acts, effect_text}
+use Rattle.mme_main.specs.Play.{played_from, IsReady, TakesPiece, Finishes}
+use Rattle.trace_player.specs.FrontLaws.{IsPrefix-of, IsPrefix-after, IsPrefix-more}
+use Rattle.trace_player.specs.TextLaws.{breaks-append, breaks-other, unbroken_more, lines_of-at, lines_of-front, lines_of-last, lines_of-nil, line_of-long, play-cons, play-nil, prepended-then, prepended-ends}
 
 -- ---- lines that are played
 

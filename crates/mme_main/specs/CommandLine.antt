@@ -1,10 +1,8 @@
--- The command line that the program takes, and its exit status.
-use Rattle.std.specs.Prelude.{ℕ, List, codes, Option, option_map}
+-- The command line that the program takes.
+use Rattle.std.specs.Prelude.{List, codes, Option, option_map}
 use Rattle.clap.specs.Words.{App, Text, Row, first_of, new_app, new_rule, subcommand_of, with_rule, with_subcommand}
 use Rattle.mme_main.specs.declared.command_line.Choice.{Choice}
 use Rattle.mme_main.specs.declared.command_line.Choice.TheVariants.{Play, Sim}
-use Rattle.mme_main.specs.declared.fault.PlayFault.{PlayFault}
-use Rattle.mme_main.specs.declared.fault.PlayFault.TheVariants.{Trace, Read, Write, NoMemory}
 
 -- a subcommand of that name, which takes a FILE
 abbrev pub file_app : Text → App
@@ -24,10 +22,3 @@ asked_of words = option_map with_file (subcommand_of mme_app words)
 abbrev pub choice_of : Choice → Text × Option Text
 choice_of (Play file) = (codes "play", option_map (λ s. s.now) file)
 choice_of (Sim file) = (codes "sim", option_map (λ s. s.now) file)
-
--- the exit status of a run that ends with a fault
-abbrev pub status_of : PlayFault → ℕ
-status_of (Trace line fault) = 1
-status_of Read = 3
-status_of Write = 3
-status_of NoMemory = 4

@@ -1,16 +1,14 @@
 //! A trace played from a reader to a writer.
 
-ghost use Rattle.std.specs.Prelude.{◌≡◌, ◌⊎◌, ◌<◌, ◌≤◌, ◌+◌, ◌^◌, length, true, IsErrOf};
-ghost use Rattle.mme_main.specs.Play.{Plays, GrowsBy, TakesPiece, Finishes, IsReady};
+ghost use Rattle.std.specs.Prelude.{◌≡◌, ◌⊎◌, ◌<◌, ◌≤◌, ◌+◌, ◌^◌, [], length, true, IsErrOf};
+ghost use Rattle.trace_player.specs.declared.progress.Progress.TheVariants.{Nothing};
+ghost use Rattle.trace_player.specs.Acts.{GrowsBy};
+ghost use Rattle.mme_main.specs.Play.{Plays, TakesPiece, Finishes, IsReady};
 
-use crate::fault::PlayFault;
 use crate::player::Player;
-use crate::watched::Watched;
 use std::alloc::Global;
 use std::io::{Read, Write};
-
-/// How many reads a run makes at most.
-pub const MOST_TURNS: u64 = 4_294_967_296;
+use trace_player::{MOST_TURNS, PlayFault, Watched};
 
 /// Plays the trace that the reader gives, and writes the answers of each event before the next one.
 /// What has been answered is flushed before each read after the first.
@@ -26,15 +24,34 @@ pub fn run_play<R: Read, W: Write>(
     ensures write { IsErrOf result PlayFault.Write → writer.new.failed ≡ true }
 {
     let mut player = Player::new(alloc);
+    play_pieces(alloc, &mut player, reader, writer)
+}
+
+/// Plays the trace with a player that has played nothing: it is the caller's, so that it is let go in one place.
+fn play_pieces<R: Read, W: Write>(
+    alloc: Global,
+    player: &mut Player,
+    reader: &mut Watched<R>,
+    writer: &mut Watched<W>,
+) -> Result<(), PlayFault>
+    requires progress { player.old.progress ≡ Nothing }
+    requires line { player.old.line ≡ 1 }
+    requires pending { player.old.pending.items ≡ [] }
+    ensures played { Plays (R.remaining reader.old.inner) (R.remaining reader.new.inner)
+        (W.contents writer.old.inner) (W.contents writer.new.inner) reader.new.ended result }
+    ensures read { reader.old.calls ≡ 0 → IsErrOf result PlayFault.Read
+        → (reader.new.failed ≡ true) ⊎ (MOST_TURNS ≤ reader.new.calls) }
+    ensures write { IsErrOf result PlayFault.Write → writer.new.failed ≡ true }
+{
     let mut chunk = [0u8; 4096];
     for turn in 0..MOST_TURNS {
         let Ok(count) = reader.read(&mut chunk) else {
             return Err(PlayFault::Read);
         };
         if count == 0 {
-            return last_turn(alloc, &mut player, writer);
+            return last_turn(alloc, player, writer);
         }
-        match one_turn(alloc, &mut player, &chunk[..count], writer) {
+        match one_turn(alloc, player, &chunk[..count], writer) {
             Ok(()) => {}
             Err(fault) => return Err(fault),
         }

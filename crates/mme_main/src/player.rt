@@ -1,16 +1,14 @@
 //! The lines of a trace, as their octets come.
 
 ghost use Rattle.std.specs.Prelude.{◌≡◌, ◌<◌, ◌+◌, ◌∷◌, [], ◌^◌, length, OnOk, IsErrOf, true};
-ghost use Rattle.mme_main.specs.declared.progress.Progress.TheVariants.{Nothing};
-ghost use Rattle.mme_main.specs.Text.{line_effect};
-ghost use Rattle.mme_main.specs.Play.{Acts, GrowsBy, TakesPiece, Finishes, IsReady};
+ghost use Rattle.trace_player.specs.declared.progress.Progress.TheVariants.{Nothing};
+ghost use Rattle.trace_player.specs.Text.{line_effect};
+ghost use Rattle.trace_player.specs.Acts.{Acts, GrowsBy};
+ghost use Rattle.mme_main.specs.Play.{TakesPiece, Finishes, IsReady};
 
-use crate::acts::act_on_line;
-use crate::fault::{PlayFault, fault_in_line};
-use crate::progress::Progress;
-use crate::watched::Watched;
 use std::alloc::Global;
 use std::io::Write;
+use trace_player::{PlayFault, Progress, Watched, act_on_line, fault_in_line};
 use trace_text::{LONGEST_LINE, TraceFault, parse_line};
 
 /// How far a trace has been played.

@@ -20,7 +20,8 @@ use mme_vocabulary::{
     is_broadcast,
 };
 use s1ap_elements::{Cause, EnbUeId, MmeUeId, Plmn, ProtocolCause, SupportedTa};
-use s1ap_messages::{InitialUeMessage, Pdu, S1apFault, S1apPdu, SetupRequest, decode};
+use s1ap_messages::{InitialUeMessage, Pdu, S1apFault, S1apPdu, SetupRequest};
+use s1ap_reading::decode;
 use std::alloc::{AllocError, Global};
 use stranger_machine::{Notice, sent_to, unknown};
 

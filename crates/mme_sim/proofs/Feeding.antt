@@ -4,13 +4,12 @@ use Rattle.std.specs.Prelude.{OnOk}
 use Rattle.trace_text.specs.declared.line.Line.{Line}
 use Rattle.trace_text.specs.declared.fault.TraceFault.{TraceFault}
 use Rattle.script_text.specs.Kept.{kept_in}
-use Rattle.mme_main.specs.declared.fault.PlayFault.{PlayFault}
-use Rattle.mme_main.specs.declared.fault.PlayFault.TheVariants.{Trace, Read, Write, NoMemory}
-use Rattle.mme_main.specs.declared.progress.Progress.{Progress}
-use Rattle.mme_main.specs.Text.{lines_of}
-use Rattle.mme_main.specs.Play.{breaks}
+use Rattle.trace_player.specs.declared.fault.PlayFault.{PlayFault}
+use Rattle.trace_player.specs.declared.fault.PlayFault.TheVariants.{Trace, Read, Write, NoMemory}
+use Rattle.trace_player.specs.declared.progress.Progress.{Progress}
+use Rattle.trace_player.specs.Text.{lines_of, breaks}
 use Rattle.script_player.specs.Printed.{Speaks, Prints, PrintsScriptLine}
-use Rattle.mme_main.specs.TextLaws.{breaks-append, breaks-other, unbroken_more, lines_of-at, lines_of-last, lines_of-nil}
+use Rattle.trace_player.specs.TextLaws.{breaks-append, breaks-other, unbroken_more, lines_of-at, lines_of-last, lines_of-nil}
 use Rattle.script_player.specs.PrintLaws.{kept_nil, kept_assoc, kept_in-append, Speaks-nil, Speaks-then}
 use Rattle.mme_sim.specs.declared.player.ScriptPlayer.{ScriptPlayer}
 use Rattle.mme_sim.specs.Simulated.{WritesLine, IsWaiting, kept_before, GoesOn, Feeds, Closes}

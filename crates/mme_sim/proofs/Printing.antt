@@ -3,7 +3,7 @@ use Rattle.std.proofs.Common.{◌≡◌, ℕ, List, [], Result, OnOk, sym, subst
 use Rattle.trace_text.specs.declared.line.Line.{Line}
 use Rattle.trace_text.specs.declared.fault.TraceFault.{TraceFault}
 use Rattle.script_text.specs.Kept.{kept_line}
-use Rattle.mme_main.specs.declared.progress.Progress.{Progress}
+use Rattle.trace_player.specs.declared.progress.Progress.{Progress}
 use Rattle.script_player.specs.Printed.{AddsComments, IsBegun, PrintsOn}
 use Rattle.script_player.specs.PrintLaws.{Prints-then, Prints-comments}
 

@@ -3,15 +3,14 @@ use Rattle.std.proofs.Common.{◌≡◌, ℕ, ◌+◌, ◌-◌, ◌≤◌, Bool,
 use Rattle.std.specs.Io.KnownBytes.{Appends, Consumes, Keeps}
 use Rattle.std.proofs.lemmas.List.{take_all}
 use Rattle.script_text.specs.Kept.{kept_in}
-use Rattle.mme_main.specs.declared.fault.PlayFault.{PlayFault}
-use Rattle.mme_main.specs.declared.fault.PlayFault.TheVariants.{Trace, Read, Write, NoMemory}
-use Rattle.mme_main.specs.declared.progress.Progress.{Progress}
-use Rattle.mme_main.specs.declared.progress.Progress.TheVariants.{Nothing}
-use Rattle.mme_main.specs.Text.{prepended, play, played_text, lines_of, played_of}
-use Rattle.mme_main.specs.Play.{breaks}
-use Rattle.mme_main.specs.OctetLaws.{Appends-nil, Appends-then, Consumes-nil, Consumes-then, Consumes-keeps, Consumes-same}
+use Rattle.trace_player.specs.declared.fault.PlayFault.{PlayFault}
+use Rattle.trace_player.specs.declared.fault.PlayFault.TheVariants.{Trace, Read, Write, NoMemory}
+use Rattle.trace_player.specs.declared.progress.Progress.{Progress}
+use Rattle.trace_player.specs.declared.progress.Progress.TheVariants.{Nothing}
+use Rattle.trace_player.specs.Text.{prepended, play, played_text, lines_of, played_of, breaks}
+use Rattle.trace_player.specs.OctetLaws.{Appends-nil, Appends-then, Consumes-nil, Consumes-then, Consumes-keeps, Consumes-same}
 use Rattle.script_player.specs.Printed.{answers_in, Speaks}
-use Rattle.mme_main.specs.TextLaws.{breaks-append, lines_of-nil, play-nil, prepended-ends}
+use Rattle.trace_player.specs.TextLaws.{breaks-append, lines_of-nil, play-nil, prepended-ends}
 use Rattle.script_player.specs.PrintLaws.{kept_assoc, Speaks-nil, Speaks-then}
 use Rattle.mme_sim.specs.declared.player.ScriptPlayer.{ScriptPlayer}
 use Rattle.mme_sim.specs.Simulated.{IsWaiting, kept_before, GoesOn, Feeds, Closes, SimTells, OnlyAtEnd, Simulates}

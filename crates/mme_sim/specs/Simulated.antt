@@ -4,11 +4,10 @@ use Rattle.std.specs.Io.KnownBytes.{Consumes, Appends}
 use Rattle.trace_text.specs.declared.line.Line.{Line}
 use Rattle.trace_text.specs.declared.fault.TraceFault.{TraceFault}
 use Rattle.script_text.specs.Kept.{kept_in}
-use Rattle.mme_main.specs.declared.fault.PlayFault.{PlayFault}
-use Rattle.mme_main.specs.declared.fault.PlayFault.TheVariants.{Trace, Read, Write, NoMemory}
-use Rattle.mme_main.specs.declared.progress.Progress.{Progress}
-use Rattle.mme_main.specs.Text.{played_text, lines_of, played_of}
-use Rattle.mme_main.specs.Play.{breaks}
+use Rattle.trace_player.specs.declared.fault.PlayFault.{PlayFault}
+use Rattle.trace_player.specs.declared.fault.PlayFault.TheVariants.{Trace, Read, Write, NoMemory}
+use Rattle.trace_player.specs.declared.progress.Progress.{Progress}
+use Rattle.trace_player.specs.Text.{played_text, lines_of, played_of, breaks}
 use Rattle.script_player.specs.Printed.{answers_in, Speaks}
 use Rattle.mme_sim.specs.declared.player.ScriptPlayer.{ScriptPlayer}
 

@@ -8,10 +8,10 @@ use crate::turns::{deliver, play_message, play_queue};
 use crowd::Acted;
 use identity_slots::StationNumber;
 use mme_core::Outs;
-use mme_main::PlayFault;
 use script_player::{is_begun, play_in, play_up, push_skipped};
 use script_text::ScriptAct;
 use std::alloc::{AllocError, Global};
+use trace_player::PlayFault;
 use trace_text::TraceFault;
 
 /// What an act does, where there is an MME; else that is the fault of the line of that number.

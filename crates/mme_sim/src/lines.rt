@@ -10,13 +10,13 @@ use crate::acts::play_act;
 use crate::script::Script;
 use crate::turns::play_answers;
 use identity_slots::{Profile, StationNumber, Vector};
-use mme_main::PlayFault;
 use nas_elements::Imsi;
 use script_player::{
     is_begun, play_cancel, play_data, play_lost, play_mme, play_show, play_sub, play_tick, play_vec,
 };
 use script_text::ScriptAct;
 use std::alloc::{AllocError, Global};
+use trace_player::PlayFault;
 use trace_text::{Line, MmeLine, TraceFault};
 
 /// What a line does that is read as in a trace; `text` is the line of that number, as it was read.

@@ -2,14 +2,15 @@
 
 ghost use Rattle.std.specs.Prelude.{◌≡◌, ◌<◌, ◌+◌, ◌∷◌, [], ◌^◌, length, OnOk, IsErrOf, true};
 ghost use Rattle.script_text.specs.Kept.{kept_in};
-ghost use Rattle.mme_main.specs.declared.progress.Progress.TheVariants.{Nothing};
-ghost use Rattle.mme_main.specs.Play.{GrowsBy, breaks};
+ghost use Rattle.trace_player.specs.declared.progress.Progress.TheVariants.{Nothing};
+ghost use Rattle.trace_player.specs.Acts.{GrowsBy};
+ghost use Rattle.trace_player.specs.Text.{breaks};
 ghost use Rattle.mme_sim.specs.Simulated.{IsWaiting, WritesLine, Feeds, Closes};
 
 use crate::script::{Script, play_script_line};
-use mme_main::{PlayFault, Watched, write_whole};
 use std::alloc::Global;
 use std::io::Write;
+use trace_player::{PlayFault, Watched, write_whole};
 use trace_text::{LONGEST_LINE, TraceFault};
 
 /// How far a script has been played.

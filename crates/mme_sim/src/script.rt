@@ -2,16 +2,16 @@
 
 ghost use Rattle.std.specs.Prelude.{◌≡◌, ◌∷◌, []};
 ghost use Rattle.script_text.specs.Kept.{kept_in};
-ghost use Rattle.mme_main.specs.Play.{breaks};
-ghost use Rattle.mme_main.specs.declared.progress.Progress.TheVariants.{Nothing};
+ghost use Rattle.trace_player.specs.Text.{breaks};
+ghost use Rattle.trace_player.specs.declared.progress.Progress.TheVariants.{Nothing};
 ghost use Rattle.script_player.specs.Printed.{PrintsScriptLine};
 
 use crate::acts::play_act_line;
 use crate::lines::play_trace_line;
 use crowd::Crowd;
-use mme_main::{PlayFault, Progress, fault_in_line};
 use script_text::{ScriptLine, first_word_tells, parse_script_line};
 use std::alloc::Global;
+use trace_player::{PlayFault, Progress, fault_in_line};
 
 /// A script that is being played: the trace that it makes, and its stations and phones.
 #[derive(Drop)]

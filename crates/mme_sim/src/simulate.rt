@@ -1,13 +1,14 @@
 //! A script simulated from a reader to a writer.
 
-ghost use Rattle.std.specs.Prelude.{◌≡◌, ◌⊎◌, ◌<◌, ◌≤◌, ◌+◌, ◌^◌, length, true, IsErrOf};
-ghost use Rattle.mme_main.specs.Play.{GrowsBy};
+ghost use Rattle.std.specs.Prelude.{◌≡◌, ◌⊎◌, ◌<◌, ◌≤◌, ◌+◌, ◌^◌, [], length, true, IsErrOf};
+ghost use Rattle.trace_player.specs.declared.progress.Progress.TheVariants.{Nothing};
+ghost use Rattle.trace_player.specs.Acts.{GrowsBy};
 ghost use Rattle.mme_sim.specs.Simulated.{Simulates, IsWaiting, Feeds, Closes};
 
 use crate::player::ScriptPlayer;
-use mme_main::{MOST_TURNS, PlayFault, Watched};
 use std::alloc::Global;
 use std::io::{Read, Write};
+use trace_player::{MOST_TURNS, PlayFault, Watched};
 
 /// Simulates the script that the reader gives: what comes of each line is written, as a trace with its answers, before the next
 /// line is played. What has been written is flushed before each read after the first.
@@ -23,15 +24,34 @@ pub fn run_sim<R: Read, W: Write>(
     ensures write { IsErrOf result PlayFault.Write → writer.new.failed ≡ true }
 {
     let mut player = ScriptPlayer::new(alloc);
+    simulate_pieces(alloc, &mut player, reader, writer)
+}
+
+/// Simulates the script with a player that has played nothing: it is the caller's, so that it is let go in one place.
+fn simulate_pieces<R: Read, W: Write>(
+    alloc: Global,
+    player: &mut ScriptPlayer,
+    reader: &mut Watched<R>,
+    writer: &mut Watched<W>,
+) -> Result<(), PlayFault>
+    requires progress { player.old.script.progress ≡ Nothing }
+    requires line { player.old.line ≡ 1 }
+    requires pending { player.old.pending.items ≡ [] }
+    ensures simulated { Simulates (R.remaining reader.old.inner) (R.remaining reader.new.inner)
+        (W.contents writer.old.inner) (W.contents writer.new.inner) reader.new.ended result }
+    ensures read { reader.old.calls ≡ 0 → IsErrOf result PlayFault.Read
+        → (reader.new.failed ≡ true) ⊎ (MOST_TURNS ≤ reader.new.calls) }
+    ensures write { IsErrOf result PlayFault.Write → writer.new.failed ≡ true }
+{
     let mut chunk = [0u8; 4096];
     for turn in 0..MOST_TURNS {
         let Ok(count) = reader.read(&mut chunk) else {
             return Err(PlayFault::Read);
         };
         if count == 0 {
-            return close_turn(alloc, &mut player, writer);
+            return close_turn(alloc, player, writer);
         }
-        match feed_turn(alloc, &mut player, &chunk[..count], writer) {
+        match feed_turn(alloc, player, &chunk[..count], writer) {
             Ok(()) => {}
             Err(fault) => return Err(fault),
         }

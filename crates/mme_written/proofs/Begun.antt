@@ -27,7 +27,7 @@ use Rattle.mme_core.specs.Projection.{alone_after}
 use Rattle.mme_core.specs.World.{fresh_subscribers, fresh_world, strangers_in}
 use Rattle.written_messages.specs.Ranges.{ConnectionInRange, IsWritten, NetworkInRange, ProfileInRange, VectorInRange}
 use Rattle.emm_written.specs.InRange.{EachInRange, ItemInRange, MessageInRange, SoloInRange, StaysInRange}
-use Rattle.emm_written.specs.Whole.{TheProvedWereChallenged}
+use Rattle.emm_written.specs.Whole.{EveryMessageIsSent, TheProvedWereChallenged}
 use Rattle.answers_written.specs.Answered.{IdentityAskedIsSent, RefusedIsSent, ReleasedIsSent, UnknownIsAnswered}
 use Rattle.answers_written.specs.Received.{EntriesAreInRange, MessagesAreInRange}
 use Rattle.mme_written.specs.InRange.{StrangerInRange, SubscriberInRange, WorldInRange}
@@ -65,8 +65,14 @@ subscriber_at [] slot x h is = absurd (cc is)
 subscriber_at (y ∷ xs) zero x h is = subst SubscriberInRange (same_Some y x is) h.0
 subscriber_at (y ∷ xs) (suc slot) x h is = subscriber_at xs slot x h.1 is
 
-step_of : StaysInRange → (x : SubscriberView) (item : Item) → SubscriberInRange x → ItemInRange item → StepInRange x item
-step_of kept x item h fits = record { setting = h.setting; before = h.solo; heard = fits; after = kept x.setting x.solo (item ∷ []) h.setting h.solo (fits, tt) }
+step_of : StaysInRange → EveryMessageIsSent → (x : SubscriberView) (item : Item) → SubscriberInRange x → ItemInRange item → StepInRange x item
+step_of kept sent x item h fits = record {
+  setting = h.setting;
+  before = h.solo;
+  heard = fits;
+  after = kept x.setting x.solo (item ∷ []) h.setting h.solo (fits, tt);
+  whole = sent x.setting x.solo item h.setting h.solo fits;
+}
 
 each_front : (xs ys : List Item) → EachInRange (xs ++ ys) → EachInRange xs × EachInRange ys
 each_front [] ys h = (tt, h)
@@ -98,19 +104,19 @@ module _ (solo : SoloInRange fresh_solo) (kept : StaysInRange) (entries : Entrie
   pub items_are_in_range : ItemsAreInRange
   items_are_in_range w events slot h = items_in_range entries messages slot w.sight (strangers_in w) events h.stations h.strangers
 
-  pub steps_in_range : StepsAreInRange
-  steps_in_range config p seen next slot x given at =
+  pub steps_in_range : EveryMessageIsSent → StepsAreInRange
+  steps_in_range sent config p seen next slot x given at =
       let w = world_behind config p seen in
       let h : WorldInRange w = stays_in_range (fresh_world config p) seen (begins_in_range solo config p given) in
-      step_of kept x _ (subscriber_at w.subscribers slot x h.subscribers at) (item_in_range entries messages slot w.sight (strangers_in w) next h.stations h.strangers)
+      step_of kept sent x _ (subscriber_at w.subscribers slot x h.subscribers at) (item_in_range entries messages slot w.sight (strangers_in w) next h.stations h.strangers)
 
-  pub alone_steps_in_range : AloneStepsAreInRange
-  alone_steps_in_range config p events slot x before since item given at whole =
+  pub alone_steps_in_range : EveryMessageIsSent → AloneStepsAreInRange
+  alone_steps_in_range sent config p events slot x before since item given at whole =
       let w = fresh_world config p in
       let h : WorldInRange w = begins_in_range solo config p given in
       let own = subscriber_at w.subscribers slot x h.subscribers at in
       let parts = each_front before (item ∷ since) (subst EachInRange whole (items_are_in_range w events slot h)) in
-      step_of kept (alone_after x before) item (record { setting = own.setting; solo = kept x.setting x.solo before own.setting own.solo parts.0 }) parts.1.0
+      step_of kept sent (alone_after x before) item (record { setting = own.setting; solo = kept x.setting x.solo before own.setting own.solo parts.0 }) parts.1.0
 
   pub challenges_sent : TheProvedWereChallenged → ChallengesAreSent
   challenges_sent challenged config p events slot x place given at proved =

@@ -1,7 +1,8 @@
 -- Over a run of the MME all is in range: the MME behind each event, and what the events have for each slot.
-use Rattle.std.specs.Prelude.{◌≡◌, ℕ, List, ◌∷◌, ◌++◌, Some, slice_get}
+use Rattle.std.specs.Prelude.{◌≡◌, ℕ, false, List, ◌∷◌, ◌++◌, Some, slice_get}
 use Rattle.identity_slots.specs.Provisioned.{Provisioned}
 use Rattle.mme_vocabulary.specs.Events.{Item}
+use Rattle.emm_machine.specs.Steps.{solo_step}
 use Rattle.emm_machine.specs.SubscriberView.{SubscriberView}
 use Rattle.mme_core.specs.declared.config.Config.{Config}
 use Rattle.mme_core.specs.declared.event.Event.{Event}
@@ -26,13 +27,14 @@ ItemsAreInRange =
 
 -- ---- the steps of a slot
 
--- what the laws of one subscriber's machine ask for, at a step: what never changes, the state before it, and its item; and the
--- state behind it
+-- what the laws of one subscriber's machine ask for, at a step: what never changes, the state before it, and its item; and what
+-- they say of it: the state behind it is in range, and each message that the step builds is sent
 pub record StepInRange (x : SubscriberView) (item : Item) : Type 0 where
   pub setting : SettingInRange x.setting
   pub before : SoloInRange x.solo
   pub heard : ItemInRange item
   pub after : SoloInRange (subscriber_after x item).solo
+  pub whole : (solo_step x.setting x.solo item).unwritten ≡ false
 
 -- the MME that is given these, behind a list of events
 abbrev pub world_behind : Config → Provisioned → List Event → World

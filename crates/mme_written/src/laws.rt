@@ -6,7 +6,7 @@ ghost use Rattle.mme_written.specs.Told.{BeginnersAreTold, ChallengesAreSent, Se
 use answers_written::{
     stations_are_answered, strangers_are_answered, what_stations_tell_is_in_range,
 };
-use emm_written::{proved_were_challenged, ranges_are_kept};
+use emm_written::{every_message_is_sent, proved_were_challenged, ranges_are_kept};
 use written_messages::phone_messages_are_written;
 
 /// An MME whose configuration and provisioning are in range, as all are, begins in range, and stays so over every list of events,
@@ -21,11 +21,13 @@ pub fn runs_are_in_range()
 }
 
 /// At every step of every slot over such a run the setting, the state before it, its item and the state behind it are in range: so
-/// the laws of one subscriber's machine apply to it. By the event that comes next in a run, and by the slot's items alone.
+/// the laws of one subscriber's machine apply to it, and each message that it builds is sent. By the event that comes next in a run,
+/// and by the slot's items alone.
 pub fn steps_are_in_range()
     ensures next { StepsAreInRange }
     ensures alone { AloneStepsAreInRange }
 {
+    every_message_is_sent();
     ranges_are_kept();
     what_stations_tell_is_in_range();
 }

@@ -3,10 +3,8 @@ use Rattle.std.specs.Prelude.{ℕ, List, [], ◌∷◌, find, Option, Some, None
 use Rattle.eps_keys.specs.Hmac.{nas_integrity_key}
 use Rattle.eps_keys.specs.Same.{same_octets}
 use Rattle.nas_elements.specs.declared.fault.NasFault.{NasFault}
-use Rattle.nas_elements.specs.declared.identity.Guti.{Guti}
 use Rattle.nas_elements.specs.declared.identity.MobileIdentity.TheVariants as identity
 use Rattle.nas_elements.specs.Identities.{first_of, guti_of}
-use Rattle.nas_messages.specs.declared.emm_types.AuthenticationRequest.{AuthenticationRequest}
 use Rattle.nas_messages.specs.declared.emm_types.Direction.TheVariants.{Downlink}
 use Rattle.nas_messages.specs.declared.emm_types.Emm.{Emm}
 use Rattle.nas_messages.specs.declared.emm_types.Emm.TheVariants as emm

@@ -1,11 +1,11 @@
 -- What a phone sends of its own accord.
-use Rattle.std.specs.Prelude.{ℕ, ◌%◌, ◌^◌, Bool, true, false, nat_le, if◌then◌else◌, List, Option, Some, None}
+use Rattle.std.specs.Prelude.{ℕ, ◌%◌, ◌^◌, Bool, nat_le, if◌then◌else◌, List, Option, Some, None}
 use Rattle.nas_elements.specs.declared.identity.Guti.{Guti}
 use Rattle.nas_elements.specs.declared.identity.MobileIdentity.{MobileIdentity}
 use Rattle.nas_elements.specs.declared.identity.MobileIdentity.TheVariants as identity
 use Rattle.nas_messages.specs.declared.protection.SecurityHeader.TheVariants.{IntegrityProtected}
 use Rattle.phone_sim.specs.declared.registration.Registration.{Registration}
-use Rattle.phone_sim.specs.Messages.{attach_octets, detach_octets, foreign_guti, no_key_set, unregistered, update_octets}
+use Rattle.phone_sim.specs.Messages.{attach_octets, detach_octets, no_key_set, unregistered, update_octets}
 use Rattle.phone_sim.specs.Protecting.{Spoken, protected_saying, service_octets, silent, with_count_spent, with_context}
 use Rattle.phone_sim.specs.Sides.{PhoneContextView}
 

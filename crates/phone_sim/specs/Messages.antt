@@ -1,13 +1,11 @@
 -- The NAS messages that a phone sends, before they are protected.
-use Rattle.std.specs.Prelude.{ℕ, ◌%◌, Bool, false, List, [], ◌∷◌, Option, Some, None}
+use Rattle.std.specs.Prelude.{ℕ, Bool, false, List, [], ◌∷◌, None}
 use Rattle.nas_elements.specs.declared.identity.Guti.{Guti}
 use Rattle.nas_elements.specs.declared.identity.MobileIdentity.{MobileIdentity}
-use Rattle.nas_elements.specs.declared.identity.MobileIdentity.TheVariants as identity
 use Rattle.nas_messages.specs.declared.emm_types.Emm.TheVariants as emm
 use Rattle.nas_messages.specs.declared.esm_types.EsmBody.TheVariants as esm
 use Rattle.nas_messages.specs.Messages.{encoded_emm}
 use Rattle.nas_messages.specs.EsmMessages.{encoded_esm}
-use Rattle.phone_sim.specs.Sides.{PhoneContextView}
 use Rattle.phone_sim.specs.declared.registration.Registration.{Registration}
 
 -- nothing is kept of a registration

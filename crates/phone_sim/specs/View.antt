@@ -1,5 +1,5 @@
 -- A phone, and what becomes of it.
-use Rattle.std.specs.Prelude.{◌≡◌, ℕ, Bool, true, false, is_some, if◌then◌else◌, List, [], ◌∷◌, Option, Some, None}
+use Rattle.std.specs.Prelude.{ℕ, Bool, true, false, is_some, if◌then◌else◌, List, [], ◌∷◌, Option, Some, None}
 use Rattle.std.specs.Int.{w32, to_be_bytes}
 use Rattle.nas_elements.specs.declared.identity.Guti.{Guti}
 use Rattle.nas_elements.specs.declared.identity.MobileIdentity.TheVariants as identity
@@ -39,8 +39,16 @@ pub record Move : Type 0 where
   pub octets : Option (List ℕ)
   pub phone : PhoneView
 
+-- nothing is said, and nothing changes
+abbrev pub unmoved : PhoneView → Move
+unmoved p = record { octets = None; phone = p }
+
 abbrev pub saying_of : Spoken → PhoneView → Move
 saying_of s p = record { octets = s.octets; phone = after_saying s p }
+
+-- what a phone says by an act, and what it is then; an act by which there is nothing to say can't be done, and leaves the phone
+abbrev pub doing : Spoken → PhoneView → Move
+doing s p = if is_some s.octets then saying_of s p else unmoved p
 
 -- a lie changes nothing: it is no protected message of the phone's own
 abbrev pub lie_of : Option (List ℕ) → PhoneView → Move
@@ -48,19 +56,19 @@ lie_of octets p = record { octets = octets; phone = p }
 
 -- an act
 unfoldable pub acted : PhoneAct → PhoneView → Move
-acted Attach p = saying_of (attach_saying (identity.Imsi p.imsi) false) p
-acted Info p = saying_of (attach_saying (identity.Imsi p.imsi) true) p
-acted Foreign p = saying_of (attach_saying (identity.Temporary foreign_guti) false) p
-acted Service p = saying_of (service_saying p.registration) p
-acted Tau p = saying_of (update_saying p.registration) p
-acted Detach p = saying_of (detach_saying p.imsi p.registration false) p
-acted Off p = saying_of (leaving (detach_saying p.imsi p.registration true)) p
+acted Attach p = doing (attach_saying (identity.Imsi p.imsi) false) p
+acted Info p = doing (attach_saying (identity.Imsi p.imsi) true) p
+acted Foreign p = doing (attach_saying (identity.Temporary foreign_guti) false) p
+acted Service p = doing (service_saying p.registration) p
+acted Tau p = doing (update_saying p.registration) p
+acted Detach p = doing (detach_saying p.imsi p.registration false) p
+acted Off p = doing (leaving (detach_saying p.imsi p.registration true)) p
 acted Replay p = lie_of p.sent p
 acted Forge p = lie_of (forged p.sent) p
 
 -- NAS octets of the network
 unfoldable pub hearing : List ℕ → PhoneView → Move
-hearing os p = if p.deaf then lie_of None p else saying_of (phone_answer (card_of p) p.registration os) p
+hearing os p = if p.deaf then unmoved p else saying_of (phone_answer (card_of p) p.registration os) p
 
 -- the S-TMSI that a GUTI is longer by its network and its group than (TS 23.003 clause 2.9)
 abbrev pub short_identity : Guti → STmsi

@@ -1,6 +1,6 @@
 //! What a phone sends of its own accord.
 
-ghost use Rattle.std.specs.Prelude.{◌≡◌, ◌<◌, IfOk, Some};
+ghost use Rattle.std.specs.Prelude.{◌≡◌, ◌<◌, ◌^◌, ℕ, Bool, List, IfOk, Some, is_some, nat_le};
 ghost use Rattle.nas_elements.specs.Identities.{IdentityFits};
 ghost use Rattle.phone_sim.specs.Asking.{attach_saying, detach_saying, identity_by, service_saying, service_with, update_saying, update_with};
 
@@ -31,6 +31,45 @@ pub(crate) fn attach_saying(
     })
 }
 
+// Whether no count is left to a context.
+fn is_spent(context: &PhoneContext) -> bool
+    ensures { result ≡ nat_le (2 ^ 24) context.now.down_next }
+{
+    COUNT_LIMIT <= context.down_next()
+}
+
+/// Whether a SERVICE REQUEST can be sent. Takes no memory.
+pub(crate) fn can_request_service(registration: Registration) -> bool
+    ensures { result ≡ is_some (service_saying registration).octets }
+{
+    match registration.context {
+        Some(context) => !is_spent(&context),
+        None => false,
+    }
+}
+
+/// Whether a TRACKING AREA UPDATE REQUEST can be sent. Takes no memory.
+#[tactic(auto, unfolding(crate::specs::Protecting::protected_saying))]
+pub(crate) fn can_request_update(registration: Registration) -> bool
+    ensures { result ≡ is_some (update_saying registration).octets }
+{
+    match (registration.context, registration.guti) {
+        (Some(context), Some(_)) => !is_spent(&context),
+        _ => false,
+    }
+}
+
+/// Whether a DETACH REQUEST can be sent: one without a context is sent plain. Takes no memory.
+#[tactic(auto, unfolding(crate::specs::Protecting::protected_saying))]
+pub(crate) fn can_detach(registration: Registration) -> bool
+    ensures { (imsi : List ℕ) (switch_off : Bool) → result ≡ is_some (detach_saying imsi registration switch_off).octets }
+{
+    match registration.context {
+        Some(context) => !is_spent(&context),
+        None => true,
+    }
+}
+
 fn service_with(
     alloc: Global,
     registration: Registration,
@@ -38,7 +77,7 @@ fn service_with(
 ) -> Result<Saying, AllocError>
     ensures { IfOk result (λ s. s ≡ service_with registration context) }
 {
-    if COUNT_LIMIT <= context.down_next() {
+    if is_spent(&context) {
         return Ok(Saying::nothing(registration));
     }
     Ok(Saying {

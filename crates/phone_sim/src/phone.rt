@@ -1,6 +1,6 @@
 //! A phone.
 
-ghost use Rattle.std.specs.Prelude.{◌≡◌, ℕ, List, IfOk, OnOk, OnErr, Option, Some, Ok, true, false, option_map};
+ghost use Rattle.std.specs.Prelude.{◌≡◌, ℕ, List, IfOk, OnOk, OnErr, Option, Some, None, Ok, true, false, is_some, option_map, IsNone};
 ghost use Rattle.nas_elements.specs.Seen.{octets_of};
 ghost use Rattle.nas_elements.specs.declared.identity.MobileIdentity.TheVariants as identities;
 ghost use Rattle.nas_messages.specs.Messages.{decoded_emm};
@@ -13,7 +13,10 @@ ghost use Rattle.phone_sim.specs.Answering.{authentication_answer, vector_with};
 ghost use Rattle.phone_sim.specs.View.{acted, after_saying, hearing, new_phone, kept_form, short_identity};
 
 use crate::answering::phone_answer;
-use crate::asking::{attach_saying, detach_saying, service_saying, update_saying};
+use crate::asking::{
+    attach_saying, can_detach, can_request_service, can_request_update, detach_saying,
+    service_saying, update_saying,
+};
 use crate::messages::{foreign_guti, permanent, temporary};
 use crate::protecting::{Saying, forged};
 use crate::registration::Registration;
@@ -34,13 +37,13 @@ pub enum PhoneAct {
     Info,
     /// ATTACH REQUEST by a GUTI of another network.
     Foreign,
-    /// SERVICE REQUEST; needs a context.
+    /// SERVICE REQUEST; needs a context with a count left.
     Service,
-    /// TRACKING AREA UPDATE REQUEST; needs a context and a GUTI.
+    /// TRACKING AREA UPDATE REQUEST; needs that, too, and a GUTI.
     Tau,
-    /// DETACH REQUEST by the GUTI, or else by the IMSI.
+    /// DETACH REQUEST by the GUTI, or else by the IMSI; needs a count of the context, where there is one.
     Detach,
-    /// The same for switching off, after which nothing is kept of the registration.
+    /// The same for switching off; where it is sent, nothing is kept of the registration.
     Off,
     /// A lie: the last message in the protected form, once more. Needs one.
     Replay,
@@ -163,12 +166,39 @@ impl Phone {
         }
     }
 
-    /// Does an act: the octets to send, or `None` where it can't be done. Refused for want of memory alone, and the phone is then
-    /// as it was.
+    // Whether a message in the protected form was sent, which can be forged.
+    fn can_forge(&self) -> bool
+        ensures { result ≡ is_some (forged self.now.sent) }
+    {
+        match &self.sent {
+            Some(sent) => split_protected(sent).is_some(),
+            None => false,
+        }
+    }
+
+    // Whether an act can be done: there is something to say by it. Takes no memory.
+    #[tactic(auto, unfolding(crate::specs::View::acted))]
+    fn can_act(&self, act: PhoneAct) -> bool
+        ensures { result ≡ is_some (acted act self.now).octets }
+    {
+        match act {
+            PhoneAct::Attach | PhoneAct::Info | PhoneAct::Foreign => true,
+            PhoneAct::Service => can_request_service(self.registration),
+            PhoneAct::Tau => can_request_update(self.registration),
+            PhoneAct::Detach | PhoneAct::Off => can_detach(self.registration),
+            PhoneAct::Replay => self.sent.is_some(),
+            PhoneAct::Forge => self.can_forge(),
+        }
+    }
+
+    /// Does an act: the octets to send, or `None` where it can't be done, whatever memory there is, and the phone is then as it
+    /// was. Refused for want of memory alone, and the phone is then as it was, too.
     #[tactic(auto, unfolding(crate::specs::View::acted))]
     pub fn act(&mut self, act: PhoneAct) -> Result<Option<Vec<u8>>, AllocError>
         ensures octets { IfOk result (λ o. option_map (λ v. v.items) o ≡ (acted act self.old).octets) }
         ensures phone { OnOk result (self.new ≡ (acted act self.old).phone) }
+        ensures undone { (acted act self.old).octets ≡ None → result ≡ Ok None }
+        ensures left { IfOk result (λ o. IsNone o → self.new ≡ self.old) }
         ensures err { OnErr result (self.new ≡ self.old) }
 
         // An ATTACH REQUEST is always sent.
@@ -179,6 +209,9 @@ impl Phone {
         ensures foreign { act ≡ PhoneAct.Foreign
             → IfOk result (λ o. option_map (λ v. v.items) o ≡ Some (attach_octets (identities.Temporary foreign_guti) false)) }
     {
+        if !self.can_act(act) {
+            return Ok(None);
+        }
         let (alloc, imsi, registration) = (self.alloc, self.imsi, self.registration);
         match act {
             PhoneAct::Attach => self.say(attach_saying(alloc, permanent(imsi), false)?),

@@ -1,43 +1,53 @@
+ghost use Rattle.std.specs.Prelude.{◌≡◌};
+ghost use Rattle.mme_main.specs.Play.{IsReady};
+
 mod run;
 
 use identity_slots::Provision;
 use mme_core::{Config, Mme};
-use mme_main::{PlayFault, Player, Progress, Watched, run_play};
+use mme_main::{Player, run_play};
 use mme_vocabulary::{AggregateBitRate, Apn, Network};
 use per_bits::Octets;
-use std::alloc::{AllocError, Global};
+use std::alloc::Global;
 use std::io;
 use std::io::{BufWriter, Read, Write};
-use std::test::Fail;
+use std::process::Abort;
+use trace_player::{PlayFault, Progress, Watched};
 use trace_text::TraceFault;
-
-const BEGIN: &[u8] = b"mme 001 01 8001 01 internet 1000000000 1000000000\nup 0\n";
 
 const SETUP: &[u8] =
     b"mme 001 01 8001 01 internet 1000000000 1000000000\nup 0\nin 0 0011001f000003003b00080000f11000000010004000070000004000f1100089400140\n";
 
 const RESPONSE: &[u8] = b"out e0 0 201100170000020069000b000000f11000008001000100574001ff\n";
 
+/// A message that is refused with an indication, and a line with a fault.
+const FAULTY: &[u8] = b"mme 001 01 8001 01 internet 1000000000 1000000000\nup 0\nin 0 -\nfly 0\n";
+
 const INDICATION: &[u8] = b"out e0 0 000f40080000010002400130\n";
 
-/// The first lines of each trace here, and then these.
-fn begun(alloc: Global, lines: &[u8]) -> Result<Vec<u8>, AllocError> {
-    let mut trace = Vec::from_slice(alloc, BEGIN)?;
-    trace.extend_from_slice(lines)?;
-    Ok(trace)
+/// More calls than a run makes here.
+const ENOUGH: usize = 1000;
+
+/// Ends the test as failed where it isn't so.
+fn must(rt: &impl Abort, holds: bool) {
+    assert!(rt; holds);
+}
+
+fn is_printed(alloc: Global, fault: PlayFault, text: &str) -> bool {
+    match format!(in alloc; "{}", fault) {
+        Ok(printed) => printed.as_str() == text,
+        Err(_) => false,
+    }
 }
 
 #[test]
-fn faults_have_their_texts(rt: HostRuntime) -> Result<(), Fail> {
-    let trace = format!(in rt.alloc(); "{}", PlayFault::Trace(8, TraceFault::TooLong))?;
-    assert_eq!(rt; trace.as_str(), "line 8: fault 5");
-    let read = format!(in rt.alloc(); "{}", PlayFault::Read)?;
-    assert_eq!(rt; read.as_str(), "read failed");
-    let write = format!(in rt.alloc(); "{}", PlayFault::Write)?;
-    assert_eq!(rt; write.as_str(), "write failed");
-    let memory = format!(in rt.alloc(); "{}", PlayFault::NoMemory)?;
-    assert_eq!(rt; memory.as_str(), "out of memory");
-    Ok(())
+fn faults_have_their_texts(rt: HostRuntime) {
+    let alloc = rt.alloc();
+    let trace = PlayFault::Trace(8, TraceFault::TooLong);
+    must(&rt, is_printed(alloc, trace, "line 8: fault 5"));
+    must(&rt, is_printed(alloc, PlayFault::Read, "read failed"));
+    must(&rt, is_printed(alloc, PlayFault::Write, "write failed"));
+    must(&rt, is_printed(alloc, PlayFault::NoMemory, "out of memory"));
 }
 
 /// Gives one octet per read, and fails at a read that is counted down to.
@@ -85,130 +95,172 @@ impl<'a> Write for Narrow<'a> {
     }
 }
 
-#[test]
-fn one_octet_at_a_time(rt: HostRuntime) -> Result<(), Fail> {
-    let mut held = Vec::new(rt.alloc());
+/// Whether a run ends well, over a reader and a writer of single octets.
+fn plays_octets(alloc: Global, held: &mut Vec<u8>) -> bool {
     let mut reader = Watched::new(Slow {
         rest: SETUP,
-        good_reads: 1000,
+        good_reads: ENOUGH,
     });
     let mut writer = Watched::new(Narrow {
-        held: &mut held,
-        good_writes: 1000,
-        good_flushes: 1000,
+        held,
+        good_writes: ENOUGH,
+        good_flushes: ENOUGH,
     });
-    assert_eq!(rt; run_play(rt.alloc(), &mut reader, &mut writer), Ok(()));
-    assert!(rt; reader.ended && !reader.failed && !writer.failed);
-    assert!(rt; held.as_slice() == RESPONSE);
-    Ok(())
+    run_play(alloc, &mut reader, &mut writer) == Ok(())
+        && reader.ended
+        && !reader.failed
+        && !writer.failed
 }
 
 #[test]
-fn each_read_fails(rt: HostRuntime) -> Result<(), Fail> {
-    for k in 0..=SETUP.len() {
-        let mut held = Vec::new(rt.alloc());
-        let mut reader = Watched::new(Slow {
-            rest: SETUP,
-            good_reads: k,
-        });
-        let mut writer = Watched::new(&mut held);
-        assert_eq!(rt;
-            run_play(rt.alloc(), &mut reader, &mut writer),
-            Err(PlayFault::Read)
-        );
-        assert!(rt; reader.failed && !reader.ended);
-        if k == SETUP.len() {
-            assert!(rt; held.as_slice() == RESPONSE);
-        } else {
-            assert!(rt; held.is_empty());
-        }
-    }
-    Ok(())
-}
-
-#[test]
-fn each_write_fails(rt: HostRuntime) -> Result<(), Fail> {
-    for k in 0..RESPONSE.len() {
-        let mut held = Vec::new(rt.alloc());
-        let mut reader = Watched::new(SETUP);
-        let mut writer = Watched::new(Narrow {
-            held: &mut held,
-            good_writes: k,
-            good_flushes: 1000,
-        });
-        assert_eq!(rt;
-            run_play(rt.alloc(), &mut reader, &mut writer),
-            Err(PlayFault::Write)
-        );
-        assert!(rt; writer.failed);
-        assert!(rt; held.as_slice() == &RESPONSE[..k.min(RESPONSE.len())]);
-    }
-    Ok(())
-}
-
-#[test]
-fn each_flush_fails(rt: HostRuntime) -> Result<(), Fail> {
-    for k in 0..2usize {
-        let mut held = Vec::new(rt.alloc());
-        let mut reader = Watched::new(SETUP);
-        let mut writer = Watched::new(Narrow {
-            held: &mut held,
-            good_writes: 1000,
-            good_flushes: k,
-        });
-        assert_eq!(rt;
-            run_play(rt.alloc(), &mut reader, &mut writer),
-            Err(PlayFault::Write)
-        );
-        assert!(rt; writer.failed);
-        assert!(rt; held.as_slice() == RESPONSE);
-    }
-    Ok(())
-}
-
-#[test]
-fn nothing_is_kept_back(rt: HostRuntime) -> Result<(), Fail> {
-    let trace = begun(rt.alloc(), b"in 0 -\nfly 0\n".as_slice())?;
+fn one_octet_at_a_time(rt: HostRuntime) {
     let mut held = Vec::new(rt.alloc());
-    let mut reader = Watched::new(trace.as_slice());
-    let mut writer = Watched::new(BufWriter::new(rt.alloc(), &mut held)?);
-    let outcome = run_play(rt.alloc(), &mut reader, &mut writer);
-    assert_eq!(rt; outcome, Err(PlayFault::Trace(4, TraceFault::UnknownWord)));
-    assert!(rt; writer.inner.get_ref().as_slice() == INDICATION);
-    Ok(())
+    must(
+        &rt,
+        plays_octets(rt.alloc(), &mut held) && held.as_slice() == RESPONSE,
+    );
 }
 
-/// The network of the worked rows.
-fn network() -> Result<Network, Fail> {
-    let rate = AggregateBitRate::try_new(1_000_000_000).ok_or("rate")?;
-    Ok(Network {
+/// Whether a run whose read fails after so many ends by that.
+fn ends_at_read(alloc: Global, good_reads: usize, held: &mut Vec<u8>) -> bool {
+    let mut reader = Watched::new(Slow {
+        rest: SETUP,
+        good_reads,
+    });
+    let mut writer = Watched::new(held);
+    run_play(alloc, &mut reader, &mut writer) == Err(PlayFault::Read)
+        && reader.failed
+        && !reader.ended
+}
+
+/// Whether it has written the answer by then if the whole trace was read, and else nothing.
+fn answers_before_read(alloc: Global, good_reads: usize) -> bool {
+    let mut held = Vec::new(alloc);
+    let answer = if good_reads == SETUP.len() {
+        RESPONSE
+    } else {
+        b"".as_slice()
+    };
+    ends_at_read(alloc, good_reads, &mut held) && held.as_slice() == answer
+}
+
+#[test]
+fn each_read_fails(rt: HostRuntime) {
+    for k in 0..=SETUP.len() {
+        must(&rt, answers_before_read(rt.alloc(), k));
+    }
+}
+
+/// Whether a run whose write or flush fails after so many ends by that.
+fn ends_at_write(
+    alloc: Global,
+    good_writes: usize,
+    good_flushes: usize,
+    held: &mut Vec<u8>,
+) -> bool {
+    let mut reader = Watched::new(SETUP);
+    let mut writer = Watched::new(Narrow {
+        held,
+        good_writes,
+        good_flushes,
+    });
+    run_play(alloc, &mut reader, &mut writer) == Err(PlayFault::Write) && writer.failed
+}
+
+/// Whether it has written this by then.
+fn writes_before(alloc: Global, good_writes: usize, good_flushes: usize, answer: &[u8]) -> bool {
+    let mut held = Vec::new(alloc);
+    ends_at_write(alloc, good_writes, good_flushes, &mut held) && held.as_slice() == answer
+}
+
+#[test]
+fn each_write_fails(rt: HostRuntime) {
+    for k in 0..RESPONSE.len() {
+        let answer = &RESPONSE[..k.min(RESPONSE.len())];
+        must(&rt, writes_before(rt.alloc(), k, ENOUGH, answer));
+    }
+}
+
+#[test]
+fn each_flush_fails(rt: HostRuntime) {
+    for k in 0..2usize {
+        must(&rt, writes_before(rt.alloc(), ENOUGH, k, RESPONSE));
+    }
+}
+
+/// Whether a run ends at its faulty line, and has written all before it by then.
+fn keeps_nothing_back(alloc: Global, buffered: BufWriter<&mut Vec<u8>>) -> bool {
+    let mut reader = Watched::new(FAULTY);
+    let mut writer = Watched::new(buffered);
+    run_play(alloc, &mut reader, &mut writer) == Err(PlayFault::Trace(4, TraceFault::UnknownWord))
+        && writer.inner.get_ref().as_slice() == INDICATION
+}
+
+fn buffers_nothing(alloc: Global, held: &mut Vec<u8>) -> bool {
+    match BufWriter::new(alloc, held) {
+        Ok(buffered) => keeps_nothing_back(alloc, buffered),
+        Err(_) => false,
+    }
+}
+
+#[test]
+fn nothing_is_kept_back(rt: HostRuntime) {
+    let mut held = Vec::new(rt.alloc());
+    must(&rt, buffers_nothing(rt.alloc(), &mut held));
+}
+
+/// The network of the worked rows, and this clock.
+fn config(clock: u64) -> Option<Config> {
+    let rate = AggregateBitRate::try_new(1_000_000_000)?;
+    let network = Network {
         plmn: Octets::new([0x00, 0xf1, 0x10]),
         group: Octets::new([0x80, 0x01]),
         code: Octets::new([0x01]),
-        apn: Apn::try_new(b"internet").ok_or("label")?,
+        apn: Apn::try_new(b"internet")?,
         down: rate,
         up: rate,
-    })
+    };
+    Some(Config { network, clock })
 }
 
-/// An MME without subscribers, whose clock is there.
-fn at_clock(alloc: Global, clock: u64) -> Result<Progress, Fail> {
-    let config = Config {
-        network: network()?,
-        clock,
-    };
-    let mme = Mme::new(alloc, config, Provision::new(alloc))?;
-    Ok(Progress::Running(mme))
+fn feeds(alloc: Global, player: &mut Player, held: &mut Vec<u8>) -> bool
+    requires ready { IsReady player.old }
+    requires line { player.old.line ≡ 1 }
+{
+    let mut writer = Watched::new(held);
+    let lines = b"up 7\ntick 2\nup 7\nlost 7\ntick 1\n".as_slice();
+    player.feed(alloc, lines, &mut writer) == Ok(())
+}
+
+/// Whether the clock's last tick is taken and the next is refused, and what comes between them is answered.
+fn ends_clock(alloc: Global, player: &mut Player) -> bool
+    requires ready { IsReady player.old }
+    requires line { player.old.line ≡ 1 }
+{
+    let mut held = Vec::new(alloc);
+    feeds(alloc, player, &mut held)
+        && held.as_slice() == b"refused 3\nrefused 2\nrefused 3\n".as_slice()
+}
+
+/// Without subscribers.
+fn plays_to_end_of_clock(alloc: Global, config: Config) -> bool {
+    match Mme::new(alloc, config, Provision::new(alloc)) {
+        Ok(mme) => {
+            let mut player = Player {
+                progress: Progress::Running(mme),
+                line: 1,
+                pending: Vec::new(alloc),
+            };
+            ends_clock(alloc, &mut player)
+        }
+        Err(_) => false,
+    }
 }
 
 #[test]
-fn the_clock_ends(rt: HostRuntime) -> Result<(), Fail> {
-    let mut player = Player::new(rt.alloc());
-    player.progress = at_clock(rt.alloc(), (1 << 62) - 1)?;
-    let mut held = Vec::new(rt.alloc());
-    let mut writer = Watched::new(&mut held);
-    let lines = b"up 7\ntick 2\nup 7\nlost 7\ntick 1\n".as_slice();
-    assert_eq!(rt; player.feed(rt.alloc(), lines, &mut writer), Ok(()));
-    assert!(rt; held.as_slice() == b"refused 3\nrefused 2\nrefused 3\n".as_slice());
-    Ok(())
+fn the_clock_ends(rt: HostRuntime) {
+    match config((1 << 62) - 1) {
+        Some(config) => must(&rt, plays_to_end_of_clock(rt.alloc(), config)),
+        None => must(&rt, false),
+    }
 }

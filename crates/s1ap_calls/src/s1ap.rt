@@ -2,7 +2,8 @@
 
 use crate::messages::message_text;
 use call_text::{Answer, Call, Codec, Fault, Text, turned_answer};
-use s1ap_messages::{EncodeFault, S1apFault, decode, encode};
+use s1ap_messages::{EncodeFault, S1apFault, encode};
+use s1ap_reading::decode;
 use std::alloc::{AllocError, Global};
 
 /// How messages of S1AP are read and written.

@@ -1,6 +1,5 @@
 -- Messages keep their names.
 use Rattle.std.proofs.Common.{◌≡◌, ℕ, List, Option, Some, None, Result, Ok, Err, refl, sym, ap, subst, ◌∙◌, option_map}
-use Rattle.std.specs.Borrow.{Bor}
 use Rattle.bit_streams.specs.declared.fault.PerFault.{PerFault}
 use Rattle.per_bits.specs.Formats.{Value}
 use Rattle.s1ap_elements.specs.Formats.{cause}
@@ -12,7 +11,6 @@ use Rattle.s1ap_elements.specs.StationLaws.{global_enb_id_again, global_enb_id_s
 use Rattle.s1ap_elements.specs.PhoneLaws.{associations_reset_again, associations_reset_spelled, cn_domain_again, cn_domain_spelled, reset_type_again, reset_type_spelled, rrc_cause_again, rrc_cause_spelled, tai_list_again, tai_list_spelled, ue_paging_id_again, ue_paging_id_spelled, ue_s1ap_ids_again, ue_s1ap_ids_spelled}
 use Rattle.s1ap_elements.specs.BearerLaws.{erabs_setup_again, erabs_setup_spelled, erabs_to_be_setup_again, erabs_to_be_setup_spelled, erabs_to_be_switched_again, erabs_to_be_switched_spelled}
 use Rattle.s1ap_rows.specs.declared.fault.S1apFault.{S1apFault}
-use Rattle.s1ap_rows.specs.declared.fault.S1apFault.TheVariants as faults
 use Rattle.s1ap_messages.specs.declared.message_type.MessageType.{MessageType}
 use Rattle.s1ap_messages.specs.declared.message_type.MessageType.TheVariants as message
 use Rattle.s1ap_messages.specs.declared.pdu.SetupRequest.{SetupRequest}
@@ -36,9 +34,8 @@ use Rattle.s1ap_messages.specs.declared.pdu.Pdu.TheVariants as pdu
 use Rattle.s1ap_rows.specs.Rows.{Kept}
 use Rattle.s1ap_messages.specs.Profile.{rows_of, setup_request, setup_response, setup_failure, initial_ue_message, nas_non_delivery, context_setup_request, context_setup_response, context_setup_failure, release_request, release_command, paging, path_switch_request, path_switch_failure, reset, reset_acknowledge, error_indication}
 use Rattle.s1ap_messages.specs.Typed.{Typed, typed_of, decode_typed, SpellsTyped, encode_typed}
-use Rattle.s1ap_messages.specs.Pdus.{lists, typed, named, decoded, encoded, ok_of, SpellsMessage, typed_setup_request, named_setup_request, typed_setup_response, named_setup_response, typed_setup_failure, named_setup_failure, typed_initial_ue_message, named_initial_ue_message, typed_nas_non_delivery, named_nas_non_delivery, typed_context_setup_request, named_context_setup_request, typed_context_setup_response, named_context_setup_response, typed_context_setup_failure, named_context_setup_failure, typed_release_request, named_release_request, typed_release_command, named_release_command, typed_paging, named_paging, typed_path_switch_request, named_path_switch_request, typed_path_switch_failure, named_path_switch_failure, typed_reset, named_reset, typed_reset_acknowledge, named_reset_acknowledge, typed_error_indication, named_error_indication}
+use Rattle.s1ap_messages.specs.Pdus.{typed, named, decoded, encoded, ok_of, SpellsMessage, typed_setup_request, named_setup_request, typed_setup_response, named_setup_response, typed_setup_failure, named_setup_failure, typed_initial_ue_message, named_initial_ue_message, typed_nas_non_delivery, named_nas_non_delivery, typed_context_setup_request, named_context_setup_request, typed_context_setup_response, named_context_setup_response, typed_context_setup_failure, named_context_setup_failure, typed_release_request, named_release_request, typed_release_command, named_release_command, typed_paging, named_paging, typed_path_switch_request, named_path_switch_request, typed_path_switch_failure, named_path_switch_failure, typed_reset, named_reset, typed_reset_acknowledge, named_reset_acknowledge, typed_error_indication, named_error_indication}
 use Rattle.s1ap_rows.specs.Reading.{◌>>>◌}
-use Rattle.s1ap_rows.specs.Answers.{Answers, FailsAs}
 use Rattle.s1ap_rows.specs.MessageLaws.{bind_some}
 use Rattle.s1ap_messages.proofs.PduLaws.{decode_to, decode_from}
 use Rattle.s1ap_messages.proofs.WrittenLaws.{typed_written}
@@ -202,19 +199,6 @@ okay_same x y e = cc
 
 abbrev named_of : Result Typed S1apFault → Result (Pdu (List ℕ)) S1apFault
 named_of r = r >>> λ m. Ok (named m.0 m.1)
-
-failed : (f : S1apFault) (r : Result Typed S1apFault) → FailsAs f r → FailsAs f (named_of r)
-failed faults.NoMemory r h = tt
-failed (faults.Syntax f) r h = ap named_of h
-failed (faults.UnknownProcedure f) r h = ap named_of h
-failed (faults.MissingElement f) r h = ap named_of h
-failed (faults.RepeatedElement f) r h = ap named_of h
-failed (faults.RefusedElement f) r h = ap named_of h
-
-pub answers_named : (result : Result (Pdu (Bor (List ℕ))) S1apFault) (os : List ℕ) → Answers (λ m. typed (lists m)) result (decode_typed os) → Answers lists result (decoded os)
-unfolding decoded
-answers_named (Ok m) os h = ap named_of h ∙ ap (λ x. Ok x) (named_of_typed (lists m))
-answers_named (Err f) os h = failed f (decode_typed os) h
 
 pub decoded_takes : (m : Pdu (List ℕ)) (os : List ℕ) → decoded os ≡ Ok m → SpellsMessage m os
 unfolding decoded

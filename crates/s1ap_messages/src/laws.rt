@@ -2,12 +2,17 @@
 
 ghost use Rattle.std.specs.Prelude.{◌≡◌, ℕ, List, Ok, Some, None};
 ghost use Rattle.s1ap_messages.specs.declared.pdu.Pdu.{Pdu};
-ghost use Rattle.s1ap_messages.specs.Pdus.{IsWritableMessage, SpellsMessage, decoded, encoded};
+ghost use Rattle.s1ap_messages.specs.Pdus.{IsWritableMessage, SpellsMessage, decoded, encoded, named, typed};
 
 /// Octets are decoded exactly where they spell a message.
 pub fn decoded_exactly()
     ensures decoded { (m : Pdu (List ℕ)) (os : List ℕ) → SpellsMessage m os → decoded os ≡ Ok m }
     ensures spelled { (m : Pdu (List ℕ)) (os : List ℕ) → decoded os ≡ Ok m → SpellsMessage m os }
+{}
+
+/// The values of a message's rows give the message again.
+pub fn named_again()
+    ensures { (m : Pdu (List ℕ)) → named (typed m).0 (typed m).1 ≡ m }
 {}
 
 /// Octets spell at most one message.

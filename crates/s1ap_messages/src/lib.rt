@@ -1,15 +1,10 @@
 //! S1AP messages between a station and an MME (TS 36.413): values and octets.
 #![tactic(auto)]
 
-// A message's rows stand once, as a type beside its `read` and `write`: presence, id, criticality and element of each.
+// A message's rows stand once, as a type beside its `write`: presence, id, criticality and element of each. `s1ap_reading` reads
+// by the same types.
 
-// The elements that are read of a message's rows, as pairs: the first, and the others.
-macro_rules! elements {
-    () => { () };
-    ($first:ident $(, $others:ident)*) => { ($first, elements!($($others),*)) };
-}
-
-// The same of those that are written.
+// The elements that are written of a message's rows, as pairs: the first, and the others.
 macro_rules! lent {
     () => { () };
     ($first:expr $(, $others:expr)*) => { ($first, lent!($($others),*)) };
@@ -22,11 +17,12 @@ mod laws;
 mod message_type;
 mod movement;
 mod pdu;
+pub mod rows;
 mod setup;
 mod transport;
 
-pub use codec::{decode, encode};
-pub use laws::{decoded_exactly, encoded_exactly, one_message, what_is_encoded};
+pub use codec::encode;
+pub use laws::{decoded_exactly, encoded_exactly, named_again, one_message, what_is_encoded};
 pub use message_type::MessageType;
 pub use pdu::{
     CapabilityInfo, ContextSetupFailure, ContextSetupRequest, ContextSetupResponse,

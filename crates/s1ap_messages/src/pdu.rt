@@ -7,7 +7,6 @@ use s1ap_elements::{
     RrcCause, STmsi, SecurityCapabilities, SecurityContext, SecurityKey, ServedGummeis,
     SupportedTas, Tai, TaiList, UeIndex, UePagingId, UeS1apIds,
 };
-use s1ap_rows::S1apFault;
 
 /// A station sets the interface up (TS 36.413 clause 9.1.8.4).
 #[derive(Drop)]
@@ -220,9 +219,6 @@ pub enum Pdu<'a, B: Drop> {
 
 /// A message that lends its octets from where it was read.
 pub type S1apPdu<'a> = Pdu<'a, &'a [u8]>;
-
-/// What reading a message's octets answers.
-pub type Decoded<'a> = Result<S1apPdu<'a>, S1apFault>;
 
 /// What writing a message's elements answers.
 pub type Written = Result<Vec<u8>, PerError>;

@@ -1,50 +1,28 @@
 //! Messages by which stations come up.
 
-ghost use Rattle.std.specs.Prelude.{◌≡◌};
 ghost use Rattle.per_bits.specs.Reading.{GivesWhole};
 ghost use Rattle.per_bits.specs.Writing.{write_whole};
-ghost use Rattle.s1ap_rows.specs.Answers.{Answers};
-ghost use Rattle.s1ap_messages.specs.Pdus.{lists, typed, setup_request_lists, typed_setup_request, typed_setup_response, typed_setup_failure};
+ghost use Rattle.s1ap_messages.specs.Pdus.{setup_request_lists, typed_setup_request, typed_setup_response, typed_setup_failure};
 ghost use Rattle.s1ap_messages.specs.Profile.{setup_request, setup_response, setup_failure};
 ghost use Rattle.s1ap_rows.specs.Writing.{write_message};
-ghost use Rattle.s1ap_messages.specs.declared.message_type.MessageType.TheVariants as message;
-ghost use Rattle.s1ap_messages.specs.Typed.{read_typed};
 
-use crate::pdu::{Decoded, Pdu, SetupFailure, SetupRequest, SetupResponse, Written};
+use crate::pdu::{SetupFailure, SetupRequest, SetupResponse, Written};
 use s1ap_elements::{
     Cause, GlobalEnbId, Name, PagingDrx, RelativeCapacity, ServedGummeis, SupportedTas,
-    name_of_octets, octets_of_name,
+    name_of_octets,
 };
 use s1ap_rows::{
-    FourRows, IGNORE, Needed, OneRow, Optional, REJECT, ThreeRows, Unkept, read_message,
-    write_message,
+    FourRows, IGNORE, Needed, OneRow, Optional, REJECT, ThreeRows, Unkept, write_message,
 };
 use std::alloc::Global;
 
-type SetupRequestRows<'a> = FourRows<
+/// The rows of S1 SETUP REQUEST (TS 36.413 clause 9.1.8.4).
+pub type SetupRequestRows<'a> = FourRows<
     Needed<59, REJECT, GlobalEnbId>,
     Optional<60, IGNORE, Name<'a>>,
     Needed<64, REJECT, SupportedTas>,
     Needed<137, IGNORE, PagingDrx>,
 >;
-
-/// Reads S1 SETUP REQUEST from the octets of its elements (TS 36.413 clause 9.1.8.4).
-#[tactic(auto, unfolding(crate::specs::Typed::read_typed))]
-pub fn read_setup_request<'a>(alloc: Global, octets: &'a [u8]) -> Decoded<'a>
-    ensures { Answers (λ m. typed (lists m)) result (read_typed message.SetupRequest octets.now) }
-{
-    match read_message::<SetupRequestRows>(alloc, octets) {
-        Ok(elements!(station, name, supported_tas, paging_drx)) => Ok(Pdu::SetupRequest(
-            SetupRequest {
-                station,
-                name: octets_of_name(name),
-                supported_tas,
-                paging_drx,
-            },
-        )),
-        Err(fault) => Err(fault),
-    }
-}
 
 /// Writes the elements of S1 SETUP REQUEST (TS 36.413 clause 9.1.8.4).
 pub fn write_setup_request(alloc: Global, m: &SetupRequest<&[u8]>) -> Written
@@ -62,25 +40,12 @@ pub fn write_setup_request(alloc: Global, m: &SetupRequest<&[u8]>) -> Written
     )
 }
 
-type SetupResponseRows<'a> = ThreeRows<
+/// The rows of S1 SETUP RESPONSE (TS 36.413 clause 9.1.8.5).
+pub type SetupResponseRows<'a> = ThreeRows<
     Unkept<61, IGNORE, Name<'a>>,
     Needed<105, REJECT, ServedGummeis>,
     Needed<87, IGNORE, RelativeCapacity>,
 >;
-
-/// Reads S1 SETUP RESPONSE from the octets of its elements (TS 36.413 clause 9.1.8.5).
-#[tactic(auto, unfolding(crate::specs::Typed::read_typed))]
-pub fn read_setup_response<'a>(alloc: Global, octets: &'a [u8]) -> Decoded<'a>
-    ensures { Answers (λ m. typed (lists m)) result (read_typed message.SetupResponse octets.now) }
-{
-    match read_message::<SetupResponseRows>(alloc, octets) {
-        Ok(elements!(served_gummeis, capacity)) => Ok(Pdu::SetupResponse(SetupResponse {
-            served_gummeis,
-            capacity,
-        })),
-        Err(fault) => Err(fault),
-    }
-}
 
 /// Writes the elements of S1 SETUP RESPONSE (TS 36.413 clause 9.1.8.5).
 pub fn write_setup_response(alloc: Global, m: &SetupResponse) -> Written
@@ -89,18 +54,8 @@ pub fn write_setup_response(alloc: Global, m: &SetupResponse) -> Written
     write_message::<SetupResponseRows>(alloc, &lent!(&m.served_gummeis, &m.capacity))
 }
 
-type SetupFailureRows = OneRow<Needed<2, IGNORE, Cause>>;
-
-/// Reads S1 SETUP FAILURE from the octets of its elements (TS 36.413 clause 9.1.8.6).
-#[tactic(auto, unfolding(crate::specs::Typed::read_typed))]
-pub fn read_setup_failure<'a>(alloc: Global, octets: &'a [u8]) -> Decoded<'a>
-    ensures { Answers (λ m. typed (lists m)) result (read_typed message.SetupFailure octets.now) }
-{
-    match read_message::<SetupFailureRows>(alloc, octets) {
-        Ok(elements!(cause)) => Ok(Pdu::SetupFailure(SetupFailure { cause })),
-        Err(fault) => Err(fault),
-    }
-}
+/// The rows of S1 SETUP FAILURE (TS 36.413 clause 9.1.8.6).
+pub type SetupFailureRows = OneRow<Needed<2, IGNORE, Cause>>;
 
 /// Writes the elements of S1 SETUP FAILURE (TS 36.413 clause 9.1.8.6).
 pub fn write_setup_failure(alloc: Global, m: &SetupFailure) -> Written

@@ -15,13 +15,13 @@ use Rattle.trace_text.specs.declared.fault.TraceFault.{TraceFault}
 use Rattle.trace_text.specs.Trace.{line_of, refused_text, ◌>>=◌}
 use Rattle.script_text.specs.Kept.{kept_line}
 use Rattle.script_text.specs.Script.{FirstWordTells}
-use Rattle.mme_main.specs.declared.fault.PlayFault.{PlayFault}
-use Rattle.mme_main.specs.declared.fault.PlayFault.TheVariants.{Trace, Read, Write, NoMemory}
-use Rattle.mme_main.specs.Play.{Acts}
-use Rattle.mme_main.specs.declared.progress.Progress.{Progress}
-use Rattle.mme_main.specs.declared.progress.Progress.TheVariants.{Running}
-use Rattle.mme_main.specs.Effects.{Effect, configured, effect_of, event_played, in_event, left, left_by, running, states_of_imsi, states_shown, subscriber_added, tick_then, ticked, vector_given}
-use Rattle.mme_main.specs.Words.{answers_of, refusal_number, reply_text, states_text}
+use Rattle.trace_player.specs.declared.fault.PlayFault.{PlayFault}
+use Rattle.trace_player.specs.declared.fault.PlayFault.TheVariants.{Trace, Read, Write, NoMemory}
+use Rattle.trace_player.specs.Acts.{Acts}
+use Rattle.trace_player.specs.declared.progress.Progress.{Progress}
+use Rattle.trace_player.specs.declared.progress.Progress.TheVariants.{Running}
+use Rattle.trace_player.specs.Effects.{Effect, configured, effect_of, event_played, in_event, left, left_by, running, states_of_imsi, states_shown, subscriber_added, tick_then, ticked, vector_given}
+use Rattle.trace_player.specs.Words.{answers_of, refusal_number, reply_text, states_text}
 use Rattle.script_player.specs.Printed.{AddsComments, IfSent, Prints, PrintsFrom, PrintsLine, ReadsAs, event_line}
 use Rattle.script_player.specs.PrintLaws.{AddsComments-none, Prints-line}
 

@@ -9,11 +9,10 @@ use Rattle.trace_text.specs.declared.line.Line.TheVariants.{Skip}
 use Rattle.trace_text.specs.declared.fault.TraceFault.{TraceFault}
 use Rattle.trace_text.specs.declared.fault.TraceFault.TheVariants.{TooLong}
 use Rattle.trace_text.specs.Trace.{line_of, is_skipped, read_words, ◌>>=◌}
-use Rattle.mme_main.specs.declared.progress.Progress.{Progress}
-use Rattle.mme_main.specs.Effects.{effect_of}
-use Rattle.mme_main.specs.Text.{line_effect, lines_of}
-use Rattle.mme_main.specs.Play.{breaks}
-use Rattle.mme_main.specs.TextLaws.{breaks-append, lines_of-at, lines_of-nil}
+use Rattle.trace_player.specs.declared.progress.Progress.{Progress}
+use Rattle.trace_player.specs.Effects.{effect_of}
+use Rattle.trace_player.specs.Text.{line_effect, lines_of, breaks}
+use Rattle.trace_player.specs.TextLaws.{breaks-append, lines_of-at, lines_of-nil}
 
 -- ---- LFs
 

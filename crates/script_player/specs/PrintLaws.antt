@@ -7,12 +7,11 @@ use Rattle.trace_text.specs.Lines.{is_unbroken, IsLineWithin}
 use Rattle.trace_text.specs.Trace.{line_of, is_skipped, ◌>>=◌}
 use Rattle.script_text.specs.Kept.{kept_in, kept_line, is_kept_text}
 use Rattle.script_text.specs.Script.{CommentsAreNotKept, FirstWordTells}
-use Rattle.mme_main.specs.declared.progress.Progress.{Progress}
-use Rattle.mme_main.specs.Effects.{effect_of}
-use Rattle.mme_main.specs.Text.{prepended, play, then_play, line_effect, lines_of}
-use Rattle.mme_main.specs.Play.{breaks}
+use Rattle.trace_player.specs.declared.progress.Progress.{Progress}
+use Rattle.trace_player.specs.Effects.{effect_of}
+use Rattle.trace_player.specs.Text.{prepended, play, then_play, line_effect, lines_of, breaks}
 use Rattle.script_player.specs.Printed.{answer_in, answers_in, AreComments, AddsComments, Speaks, Prints, ReadsAs}
-use Rattle.mme_main.specs.TextLaws.{breaks-append, lines_of-nil, play-cons, prepended-then}
+use Rattle.trace_player.specs.TextLaws.{breaks-append, lines_of-nil, play-cons, prepended-then}
 use Rattle.script_player.specs.LineLaws.{first_line, one_line, one_break, skip_effect, hash_skip, not_skipped}
 
 pub kept_nil : (xs : List (Result Line TraceFault)) → xs ++ [] ≡ xs

@@ -9,13 +9,12 @@ use Rattle.trace_text.specs.declared.line.Line.TheVariants.{Up, Lost, In, Tick, 
 use Rattle.trace_text.specs.declared.fault.TraceFault.{TraceFault}
 use Rattle.trace_text.specs.Trace.{line_of}
 use Rattle.script_text.specs.Kept.{kept_in, kept_line}
-use Rattle.mme_main.specs.declared.fault.PlayFault.{PlayFault}
-use Rattle.mme_main.specs.declared.fault.PlayFault.TheVariants.{Trace, Read, Write, NoMemory}
-use Rattle.mme_main.specs.declared.progress.Progress.{Progress}
-use Rattle.mme_main.specs.declared.progress.Progress.TheVariants.{Nothing, Provisioning, Running}
-use Rattle.mme_main.specs.Effects.{effect_of, running}
-use Rattle.mme_main.specs.Text.{prepended, play, lines_of}
-use Rattle.mme_main.specs.Play.{breaks}
+use Rattle.trace_player.specs.declared.fault.PlayFault.{PlayFault}
+use Rattle.trace_player.specs.declared.fault.PlayFault.TheVariants.{Trace, Read, Write, NoMemory}
+use Rattle.trace_player.specs.declared.progress.Progress.{Progress}
+use Rattle.trace_player.specs.declared.progress.Progress.TheVariants.{Nothing, Provisioning, Running}
+use Rattle.trace_player.specs.Effects.{effect_of, running}
+use Rattle.trace_player.specs.Text.{prepended, play, lines_of, breaks}
 
 -- ---- comments
 

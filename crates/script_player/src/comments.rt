@@ -5,15 +5,15 @@ ghost use Rattle.std.specs.Fmt.{decimal};
 ghost use Rattle.s1ap_messages.specs.Pdus.{longest};
 ghost use Rattle.trace_text.specs.Lines.{octets_said};
 ghost use Rattle.trace_text.specs.Trace.{answer_text, refused_text};
-ghost use Rattle.mme_main.specs.Words.{answers_of, out_text, refusal_number, states_text};
+ghost use Rattle.trace_player.specs.Words.{answers_of, out_text, refusal_number, states_text};
 ghost use Rattle.script_player.specs.Printed.{AddsComments};
 
 use emm_machine::States;
 use mme_core::{Out, StepFault};
-use mme_main::{answer_owner, ecm_shown, emm_shown, esm_shown};
 use nas_elements::Imsi;
 use script_text::comments_are_not_kept;
 use std::alloc::{AllocError, Global};
+use trace_player::{answer_owner, ecm_shown, emm_shown, esm_shown};
 use trace_text::{AnswerLine, write_answer};
 
 /// Appends a line.

@@ -4,16 +4,16 @@ ghost use Rattle.std.specs.Prelude.{◌≡◌, true, false, IfOk, OnOk, is_some}
 ghost use Rattle.std.specs.Result.{result_ok};
 ghost use Rattle.script_text.specs.Kept.{kept_line};
 ghost use Rattle.mme_core.specs.World.{reply};
-ghost use Rattle.mme_main.specs.Effects.{states_of_imsi};
+ghost use Rattle.trace_player.specs.Effects.{states_of_imsi};
 ghost use Rattle.trace_text.specs.declared.line.Line.TheVariants.{Show};
 ghost use Rattle.script_player.specs.Printed.{PrintsFrom, ReadsAs, event_line};
 
 use crate::comments::{push_answers, push_line, push_refusal, push_states};
 use mme_core::{Event, Mme, Outs};
-use mme_main::states_of_imsi;
 use nas_elements::Imsi;
 use script_text::first_word_tells;
 use std::alloc::{AllocError, Global};
+use trace_player::states_of_imsi;
 
 /// Plays an event: appends `text`, the line that says it, and then its answers, each behind `# `. What is sent, or None where
 /// the event was refused. A refusal leaves the MME as it was; where memory is refused the output may end within a line.

@@ -5,17 +5,17 @@ ghost use Rattle.trace_text.specs.declared.line.Line.TheVariants.{Mme, Sub, Vec,
 ghost use Rattle.script_text.specs.Kept.{kept_line};
 ghost use Rattle.mme_core.specs.World.{World};
 ghost use Rattle.mme_core.specs.declared.event.Event.TheVariants as event;
-ghost use Rattle.mme_main.specs.Effects.{in_event, running, states_of_imsi};
+ghost use Rattle.trace_player.specs.Effects.{in_event, running, states_of_imsi};
 ghost use Rattle.script_player.specs.Printed.{IfSent, IsBegun, PrintsLine, PrintsOn, ReadsAs, event_line};
 
 use crate::comments::push_line;
 use crate::events::{print_event, print_show};
 use identity_slots::{Profile, StationNumber, Vector};
 use mme_core::{Event, Outs};
-use mme_main::{PlayFault, Progress, add, give, run, start};
 use nas_elements::Imsi;
 use script_text::first_word_tells;
 use std::alloc::{AllocError, Global};
+use trace_player::{PlayFault, Progress, add, give, run, start};
 use trace_text::{LONGEST_LINE, MmeLine, write_in, write_lost, write_up};
 
 // ---- provisioning

@@ -1,2 +1,3 @@
 mod Queueing
+mod Touching
 mod Waking

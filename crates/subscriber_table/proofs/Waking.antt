@@ -4,16 +4,14 @@ use Rattle.std.specs.Prelude.{nat_le, slice_get, Option, Some, None, Bool, true,
 use Rattle.std.proofs.lemmas.Bool.Decides.{nat_tests}
 use Rattle.std.proofs.lemmas.List.{length_push, map-append}
 use Rattle.std.proofs.lemmas.Option.{slice_get-map, slice_get_past, slice_get_read}
-use Rattle.std.specs.Prelude.{IfOk, Result, Ok, Err, is_some, not, ◌&&◌, get_or, set}
+use Rattle.std.specs.Prelude.{IfOk, Result, Ok, Err, get_or, set}
 use Rattle.identity_slots.specs.Ids.{slots}
-use Rattle.mme_vocabulary.specs.Events.{Item, Tick}
-use Rattle.emm_state.specs.declared.solo.Countdown.{Countdown as ProcedureCountdown}
+use Rattle.mme_vocabulary.specs.Events.{Item}
 use Rattle.emm_state.specs.declared.setting.Setting.{Setting}
 use Rattle.emm_state.specs.declared.solo.Solo.{Solo}
-use Rattle.emm_machine.specs.Still.{still}
 use Rattle.emm_machine.specs.SubscriberView.{SubscriberView}
 use Rattle.emm_machine.specs.Words.{states_of}
-use Rattle.emm_machine.specs.Ticks.{AreAbove, IsAbove, both_less, countdowns, less, procedure_less, solo_aged, ticks_after}
+use Rattle.emm_machine.specs.Ticks.{AreAbove, IsAbove, both_less, countdowns, less, solo_aged, ticks_after}
 use Rattle.emm_machine.specs.TickLaws.{countdowns_aged, quiet_tick, ticks_are_aged, ticks_more}
 use Rattle.ordered_lists.specs.Ordered.{Every}
 use Rattle.timer_queue.specs.declared.timer.Kind.TheVariants.{Procedure, Reachable}
@@ -26,7 +24,7 @@ use Rattle.subscriber_table.specs.Laws.{due_below, due_no, with_solo_is}
 use Rattle.subscriber_table.specs.Matching.{AreOff, Match, cleared_all, match_changed, off_changed}
 use Rattle.subscriber_table.specs.Records.{AreFresh, IsFresh, IsSubscriberTable, all_retimed, renewed, view_at, views, with_records, woken}
 use Rattle.subscriber_table.specs.Running.{AreInRange, IsInRange, both_retimed, both_left_by_tick, left_by_tick, is_due, running_from, slots_once, with_countdown, AreOfSlots}
-use Rattle.subscriber_table.specs.Table.{AreCounting, IsCounting, all_countdowns, due_slots, in_state, one_less, slots_stepped, step_at, still_at, subscriber_step, tick_settled, with_solo, with_stepped}
+use Rattle.subscriber_table.specs.Table.{AreCounting, IsCounting, all_countdowns, due_slots, in_state, one_less, slots_stepped, step_at, subscriber_step, tick_settled, with_solo, with_stepped}
 use Rattle.subscriber_table.proofs.Queueing.{aged_is, both_retimed_is, changed_length, due_of_slots, once_is}
 
 -- ---- one record
@@ -349,7 +347,7 @@ all_ticked c xs running after rs new t due k e g =
     let bs = map is_due ps in
     let target = tick_settled xs ws in
     let done = with_records (c + 1) xs rs in
-    let off : AreOff (cleared (slots_stepped xs) bs) = subst (λ ks. AreOff (cleared ks bs)) (sym due) (cleared_all ps) in
+    let off : AreOff (cleared (slots_stepped xs) bs) = subst (λ ks. AreOff (cleared ks bs)) (sym due) (cleared_all is_due ps) in
     let m = kept_along (c + 1) xs bs rs (map one_less ws) k (quiet_all c rs t.fresh t.counting) in
     let seen : views (c + 1) done ≡ target = views_of (c + 1) _ done target off m in
     let q = timed_along xs bs (map both_left_by_tick ps) (map one_less ws) (timed_all ws) in
@@ -390,20 +388,6 @@ states_aged : (n : ℕ) (solo : Solo) → states_of (solo_aged n solo) ≡ state
 unfolding solo_aged
 states_aged n solo = refl
 
-runs_less : (n : ℕ) (o : Option ℕ) → is_some (less n o) ≡ is_some o
-runs_less n None = refl
-runs_less n (Some m) = refl
-
-procedure_runs_less : (n : ℕ) (o : Option ProcedureCountdown) → is_some (procedure_less n o) ≡ is_some o
-procedure_runs_less n None = refl
-procedure_runs_less n (Some p) = refl
-
--- a look tells the same before and after ticks that end no countdown
-still_aged : (n : ℕ) (solo : Solo) (item : Item) → still (solo_aged n solo) item ≡ still solo item
-unfolding solo_aged
-still_aged n solo Tick = ap (λ a. not a && not (is_some (less n solo.reachable))) (procedure_runs_less n solo.procedure) ∙ ap (λ b. not (is_some solo.procedure) && not b) (runs_less n solo.reachable)
-still_aged n solo item = refl
-
 pub states_seen : (c k : ℕ) (running : List Countdown) (rs : List Record) (r : Record) → IsSubscriberTable c running rs → k < length rs → r ≡ get_or rs k r
     → option_map (λ (w : SubscriberView). states_of w.solo) (slice_get (views c rs) k) ≡ Some (states_of r.subscriber.solo)
 states_seen c k running rs r t lt e =
@@ -415,13 +399,6 @@ pub states_past : (c k : ℕ) (rs : List Record) → length rs ≤ k → option_
 states_past c k rs le =
     let many = views_length c rs in
     ap (option_map (λ (w : SubscriberView). states_of w.solo)) (slice_get_past (views c rs) k (omega arith))
-
-pub still_seen : (c k : ℕ) (running : List Countdown) (rs : List Record) (r : Record) (item : Item) → IsSubscriberTable c running rs → k < length rs → r ≡ get_or rs k r
-    → still_at k item (views c rs) ≡ Some (still r.subscriber.solo item)
-still_seen c k running rs r item t lt e =
-    let f = fresh_slot c k rs r t.fresh lt e in
-    ap (option_map (λ (w : SubscriberView). still w.solo item)) (view_slot c k rs r lt e)
-    ∙ ap (λ s. Some (still s item)) (seen_aged c r f) ∙ ap Some (still_aged (c - r.touched) r.subscriber.solo item)
 
 pub fresh_read : (c k : ℕ) (running : List Countdown) (rs : List Record) (r : Record) → IsSubscriberTable c running rs → k < length rs → r ≡ get_or rs k r → IsFresh c r
 fresh_read c k running rs r t lt e = fresh_slot c k rs r t.fresh lt e

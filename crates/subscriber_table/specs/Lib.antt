@@ -4,3 +4,4 @@ pub mod Matching
 pub mod Records
 pub mod Running
 pub mod Table
+pub mod Touched

@@ -1,10 +1,10 @@
 -- Two lists, one beside the other, some of whose elements are still to be changed: those whose flags are on.
 use Rattle.std.proofs.Common.{◌≡◌, ℕ, zero, suc, ◌+◌, List, [], ◌∷◌, ◌++◌, length, refl, sym, ◌∙◌, ap, subst, arith, append_assoc}
-use Rattle.std.specs.Prelude.{slice_get, Option, Some, Bool, true, false, cond, map}
+use Rattle.std.specs.Prelude.{slice_get, Some, Bool, true, false, cond, map}
 use Rattle.std.proofs.lemmas.List.{append-nil, length_push}
 use Rattle.ordered_lists.specs.Ordered.{Every}
+use Rattle.connection_table.specs.Whereabouts.{slots_where}
 use Rattle.subscriber_table.specs.Changed.{changed_at, cleared}
-use Rattle.subscriber_table.specs.Running.{is_due, due_from}
 
 -- P holds of each two that stand side by side, by their flag
 abbrev pub Match : {X Y : Type 0} → (Bool → X → Y → Type 0) → List Bool → List X → List Y → Type 0
@@ -56,12 +56,12 @@ cleared_by : (n : ℕ) (old bs : List Bool) (b : Bool) (ks : List ℕ) → lengt
 cleared_by n old bs true ks e h = subst (λ cs. AreOff (cleared ks cs)) (append_assoc old (false ∷ []) bs ∙ sym (changed_here n old bs true e)) h
 cleared_by n old bs false ks e h = subst (λ cs. AreOff (cleared ks cs)) (append_assoc old (false ∷ []) bs) h
 
-cleared_from : (n : ℕ) (old : List Bool) (ps : List (Option ℕ × Option ℕ)) → length old ≡ n → AreOff old → AreOff (cleared (due_from n ps) (old ++ map is_due ps))
-cleared_from n old [] e h = subst AreOff (sym (append-nil old)) h
-cleared_from n old (p ∷ ps) e h =
+cleared_from : {X : Type 0} (p : X → Bool) (n : ℕ) (old : List Bool) (xs : List X) → length old ≡ n → AreOff old → AreOff (cleared (slots_where p n xs) (old ++ map p xs))
+cleared_from p n old [] e h = subst AreOff (sym (append-nil old)) h
+cleared_from p n old (x ∷ xs) e h =
     let next : length (old ++ false ∷ []) ≡ n + 1 = length_push old false ∙ ap (λ m. m + 1) e in
-    cleared_by n old (map is_due ps) (is_due p) (due_from (n + 1) ps) e (cleared_from (n + 1) (old ++ false ∷ []) ps next (off_push old h))
+    cleared_by n old (map p xs) (p x) (slots_where p (n + 1) xs) e (cleared_from p (n + 1) (old ++ false ∷ []) xs next (off_push old h))
 
--- where all that are due are changed, nothing is left to be
-pub cleared_all : (ps : List (Option ℕ × Option ℕ)) → AreOff (cleared (due_from 0 ps) (map is_due ps))
-cleared_all ps = cleared_from 0 [] ps refl tt
+-- where all that pass a test are changed, nothing is left to be
+pub cleared_all : {X : Type 0} (p : X → Bool) (xs : List X) → AreOff (cleared (slots_where p 0 xs) (map p xs))
+cleared_all p xs = cleared_from p 0 [] xs refl tt

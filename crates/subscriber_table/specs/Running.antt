@@ -1,5 +1,6 @@
 -- Countdowns of slots: two of each, of a procedure and of an idle phone, as what each slot has left and as the queue has them.
 use Rattle.std.specs.Prelude.{ℕ, ◌+◌, ◌-◌, ◌<◌, ◌≤◌, nat_le, ◌==◌, ◌||◌, Bool, false, List, [], ◌∷◌, Option, Some, None, if◌then◌else◌}
+use Rattle.connection_table.specs.Whereabouts.{slots_where}
 use Rattle.timer_queue.specs.declared.timer.Kind.{Kind}
 use Rattle.timer_queue.specs.declared.timer.Kind.TheVariants.{Procedure, Reachable}
 use Rattle.timer_queue.specs.declared.timer.Timer.{Timer}
@@ -61,8 +62,7 @@ is_due p = is_last p.0 || is_last p.1
 
 -- the slots, from n on, of which a countdown is met by the next tick
 abbrev pub due_from : ℕ → List (Option ℕ × Option ℕ) → List ℕ
-due_from n [] = []
-due_from n (p ∷ ps) = if is_due p then n ∷ due_from (n + 1) ps else due_from (n + 1) ps
+due_from n ps = slots_where is_due n ps
 
 -- what a tick leaves of a countdown
 abbrev pub left_by_tick : Option ℕ → Option ℕ

@@ -1,11 +1,10 @@
 -- What a caller sees of the table, and what becomes of it.
-use Rattle.std.specs.Prelude.{◌≡◌, ℕ, ◌+◌, Bool, List, [], ◌∷◌, map, slice_get, slice_set, Option, Some, option_map}
+use Rattle.std.specs.Prelude.{◌≡◌, ℕ, ◌+◌, List, [], ◌∷◌, map, slice_get, slice_set, Option, Some, option_map}
 use Rattle.std.specs.Option.{option_map_or}
-use Rattle.mme_vocabulary.specs.Events.{Item, Tick}
+use Rattle.mme_vocabulary.specs.Events.{Item}
 use Rattle.emm_state.specs.declared.draft.Draft.{Draft}
 use Rattle.emm_state.specs.declared.solo.Solo.{Solo}
 use Rattle.emm_machine.specs.Steps.{solo_step}
-use Rattle.emm_machine.specs.Still.{still}
 use Rattle.emm_machine.specs.SubscriberView.{SubscriberView}
 use Rattle.emm_machine.specs.Ticks.{countdowns, solo_aged}
 use Rattle.ordered_lists.specs.Ordered.{Every}
@@ -33,10 +32,6 @@ each_after items n (w ∷ ws) = subscriber_after w (items n) ∷ each_after item
 -- the step of a slot, if somebody has it
 abbrev pub step_at : ℕ → Item → List SubscriberView → Option Draft
 step_at slot item ws = option_map (λ w. subscriber_step w item) (slice_get ws slot)
-
--- whether a look tells that an item leaves a slot's state as it is
-abbrev pub still_at : ℕ → Item → List SubscriberView → Option Bool
-still_at slot item ws = option_map (λ (w : SubscriberView). still w.solo item) (slice_get ws slot)
 
 -- ---- what is settled
 
@@ -79,6 +74,6 @@ one_less w = record { setting = w.setting; solo = solo_aged 1 w.solo }
 abbrev pub tick_settled : List Stepped → List SubscriberView → List SubscriberView
 tick_settled xs ws = with_stepped xs (map one_less ws)
 
--- it was prepared for a tick
-abbrev pub IsTicked : List SubscriberView → Stepped → Type 0
-IsTicked ws x = option_map (λ (d : Draft). d.solo) (step_at x.slot Tick ws) ≡ Some x.solo
+-- it was prepared for an item
+abbrev pub IsStepped : Item → List SubscriberView → Stepped → Type 0
+IsStepped item ws x = option_map (λ (d : Draft). d.solo) (step_at x.slot item ws) ≡ Some x.solo

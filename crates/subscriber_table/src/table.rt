@@ -1,78 +1,46 @@
-//! Subscribers by slot, each asleep until something is for it.
+//! Subscribers by slot, and where their phones are.
 
-ghost use Rattle.std.specs.Prelude.{◌≡◌, ◌+◌, ◌*◌, ◌<◌, ◌≤◌, ◌^◌, ◌++◌, ◌∷◌, [], List, length, slice_get, IfOk, OnErr, OnOk, Some, None, option_map};
+ghost use Rattle.std.specs.Prelude.{◌≡◌, ◌+◌, ◌<◌, ◌≤◌, ◌^◌, ◌++◌, ◌∷◌, [], length, slice_get, IfOk, OnErr, OnOk, None, option_map};
 ghost use Rattle.identity_slots.specs.Ids.{slots};
-ghost use Rattle.mme_vocabulary.specs.Events.{item_of};
-ghost use Rattle.mme_vocabulary.specs.declared.stations.StationState.{StationState};
+ghost use Rattle.mme_vocabulary.specs.Events.{item_of, ConnectionsGone, StationGone};
+ghost use Rattle.connection_table.specs.Whereabouts.{nowhere};
 ghost use Rattle.emm_machine.specs.Ticks.{countdowns};
 ghost use Rattle.emm_machine.specs.Words.{states_of};
 ghost use Rattle.ordered_lists.specs.Ordered.{Every};
-ghost use Rattle.subscriber_table.specs.Changed.{changed_at};
-ghost use Rattle.subscriber_table.specs.Running.{both_retimed};
-ghost use Rattle.subscriber_table.specs.Records.{all_retimed, renewed, with_records};
-ghost use Rattle.subscriber_table.specs.Table.{due_slots, slots_stepped, step_at, still_at, tick_settled, with_solo, AreCounting, IsCounting};
+ghost use Rattle.subscriber_table.specs.Table.{due_slots, slots_stepped, step_at, tick_settled, with_solo, AreCounting, IsCounting};
+ghost use Rattle.subscriber_table.specs.Touched.{touched_slots, whereabouts};
 
-use crate::due::slots_of;
-use crate::records::Record;
+use crate::sleeping::Sleepers;
 use crate::stepped::Stepped;
-use crate::timing::retime;
+use crate::whereabouts::{place, place_all};
+use connection_table::Connections;
 use emm_machine::{States, Subscriber};
 use emm_state::{Draft, Solo};
 use identity_slots::Slot;
-use mme_vocabulary::{EnbWorld, SoloEvent};
+use mme_vocabulary::{EnbWorld, SoloEvent, StationNumber};
+use per_bits::Listed;
+use s1ap_elements::ListedAssociation;
 use std::alloc::{AllocError, Global};
 use std::marker::Model;
-use timer_queue::Timers;
-
-// One has a new state, and the queue its countdowns.
-fn settle_one(records: &mut Vec<Record>, timers: &mut Timers, slot: Slot, solo: Solo)
-    requires slot { slot < length records.old.items }
-    requires room { 2 ≤ timers.old.room }
-    requires counting { IsCounting solo }
-    ensures records { records.new.items ≡ changed_at slot (renewed timers.old.clock solo) records.old.items }
-    ensures clock { timers.new.clock ≡ timers.old.clock }
-    ensures running { timers.new.running ≡ both_retimed slot (countdowns solo) timers.old.running }
-    ensures room { timers.old.room ≤ timers.new.room + 2 }
-{
-    let place = slot.get() as usize;
-    records[place].renew(timers.clock(), solo);
-    retime(timers, slot.get(), records[place].subscriber.countdowns());
-}
-
-// Each has the state that it was prepared for.
-fn settle_all(records: &mut Vec<Record>, timers: &mut Timers, stepped: Vec<Stepped>)
-    requires slots { Every (λ x. x.slot < length records.old.items) stepped.items }
-    requires room { 2 * length stepped.items ≤ timers.old.room }
-    requires counting { Every (λ x. IsCounting x.solo) stepped.items }
-    ensures records { records.new.items ≡ with_records timers.old.clock stepped.items records.old.items }
-    ensures clock { timers.new.clock ≡ timers.old.clock }
-    ensures running { timers.new.running ≡ all_retimed stepped.items timers.old.running }
-    ensures room { timers.old.room ≤ timers.new.room + 2 * length stepped.items }
-{
-    for one in stepped {
-        settle_one(records, timers, one.slot, one.solo);
-    }
-}
 
 /// Subscribers by slot; a contract sees the clock, each subscriber as it is now, and for how many steps there is room.
 #[derive(Drop)]
 pub struct Subscribers {
-    records: Vec<Record>,
-    timers: Timers,
-    alloc: Global,
+    sleepers: Sleepers,
+    connections: Connections,
 }
 
 impl Model for Subscribers {
-    ghost use Rattle.std.specs.Prelude.{◌/◌};
+    ghost use Rattle.std.specs.Prelude.{◌≡◌};
     ghost use Rattle.subscriber_table.specs.Table.{SubscriberTable};
 
     ghost Value = { SubscriberTable };
 
-    ghost use Rattle.subscriber_table.specs.Records.{views, IsSubscriberTable};
+    ghost use Rattle.subscriber_table.specs.Touched.{all_whereabouts};
 
-    ghost view = { λ t. record { clock = t.timers.clock; subscribers = views t.timers.clock t.records.items; room = t.timers.room / 2 } };
+    ghost view = { λ t. t.sleepers };
 
-    ghost invariant = { λ t. IsSubscriberTable t.timers.clock t.timers.running t.records.items };
+    ghost invariant = { λ t. t.connections ≡ all_whereabouts t.sleepers.subscribers };
 }
 
 impl Subscribers {
@@ -83,27 +51,22 @@ impl Subscribers {
         ensures subscribers { result.subscribers ≡ [] }
     {
         Subscribers {
-            records: Vec::new(alloc),
-            timers: Timers::new(alloc, clock),
-            alloc,
+            sleepers: Sleepers::new(alloc, clock),
+            connections: Connections::new(alloc),
         }
     }
 
-    /// A subscriber of whom no countdown runs has the next slot. Refused, all is as it was.
+    /// A subscriber of whom no countdown runs and whose phone is nowhere has the next slot. Refused, all is as it was.
     pub fn push(&mut self, subscriber: Subscriber) -> Result<(), AllocError>
         requires slots { length self.old.subscribers < slots }
         requires off { countdowns subscriber.solo ≡ (None, None) }
+        requires away { whereabouts subscriber.solo ≡ nowhere }
         ensures clock { self.new.clock ≡ self.old.clock }
         ensures ok { OnOk result (self.new.subscribers ≡ self.old.subscribers ++ subscriber ∷ []) }
         ensures room { self.new.room ≡ self.old.room }
         ensures err { OnErr result (self.new ≡ self.old) }
     {
-        let touched = self.timers.clock();
-        self.records.push(Record {
-            subscriber,
-            touched,
-        })?;
-        Ok(())
+        self.sleepers.push(subscriber, &mut self.connections)
     }
 
     /// How many there are. Each countdown that runs has from 1 to 3480 ticks left.
@@ -112,7 +75,7 @@ impl Subscribers {
         ensures few { length self.now.subscribers ≤ slots }
         ensures counting { AreCounting self.now.subscribers }
     {
-        self.records.len()
+        self.sleepers.len()
     }
 
     /// The ticks passed, from the clock at the start on.
@@ -120,26 +83,14 @@ impl Subscribers {
         ensures value { result ≡ self.now.clock }
         ensures small { self.now.clock ≤ 2 ^ 62 }
     {
-        self.timers.clock()
+        self.sleepers.clock()
     }
 
     /// The states of a slot, if it is somebody's; takes no memory.
     pub fn states(&self, slot: Slot) -> Option<States>
         ensures { result ≡ option_map (λ w. states_of w.solo) (slice_get self.now.subscribers slot) }
     {
-        let place = slot.get() as usize;
-        if place >= self.records.len() {
-            return None;
-        }
-        Some(self.records[place].subscriber.states())
-    }
-
-    /// Whether a look at a few fields tells that an event leaves the state of a slot as it is and sends nothing; takes no memory.
-    pub fn is_still(&self, slot: Slot, event: &SoloEvent) -> bool
-        requires { slot < length self.now.subscribers }
-        ensures { (stations : List StationState) → still_at slot (item_of event.now stations) self.now.subscribers ≡ Some result }
-    {
-        self.records[slot.get() as usize].subscriber.is_still(event)
+        self.sleepers.states(slot)
     }
 
     /// What an event would leave and send for a slot; nothing changes.
@@ -153,18 +104,34 @@ impl Subscribers {
         ensures step { IfOk result (λ d. step_at slot (item_of event.now world.now) self.old.subscribers ≡ Some d) }
         ensures same { self.new ≡ self.old }
     {
-        let clock = self.timers.clock();
-        let place = slot.get() as usize;
-        self.records[place].wake(clock);
-        self.records[place].subscriber.prepare(event, world)
+        self.sleepers.prepare(slot, event, world)
     }
 
     /// The slots of those who have a countdown that the next tick ends, by rising slot. Only the front of the queue is looked at.
     pub fn due(&self) -> Result<Vec<Slot>, AllocError>
         ensures { IfOk result (λ due. due.items ≡ due_slots self.now.subscribers) }
     {
-        let timers = self.timers.due()?;
-        slots_of(self.alloc, timers.as_slice())
+        self.sleepers.due()
+    }
+
+    /// The slots of those whom the loss of a station may touch, by rising slot: who is connected there, or is paged. It leaves all
+    /// others as they are. Only those who are answered are looked at.
+    pub fn concerned(&self, station: StationNumber) -> Result<Vec<Slot>, AllocError>
+        ensures { IfOk result (λ touched. touched.items ≡ touched_slots (StationGone station) self.now.subscribers) }
+    {
+        self.connections.concerned(station)
+    }
+
+    /// The slots of those whose connection a RESET of a part of a station means, by rising slot (TS 36.413 clause 8.7.1.2.2). It
+    /// leaves all others as they are. Each item is looked up.
+    pub fn listed(
+        &self,
+        station: StationNumber,
+        items: &[Listed<ListedAssociation, 91, 0>],
+    ) -> Result<Vec<Slot>, AllocError>
+        ensures { IfOk result (λ touched. touched.items ≡ touched_slots (ConnectionsGone station items.now) self.now.subscribers) }
+    {
+        self.connections.listed(station, items)
     }
 
     /// Room for so many more steps, of which there are no more than slots. Refused, all but the room is as it was.
@@ -175,7 +142,7 @@ impl Subscribers {
         ensures room { OnOk result (steps ≤ self.new.room) }
         ensures kept { self.old.room ≤ self.new.room }
     {
-        self.timers.reserve(2 * steps)
+        self.sleepers.reserve(steps)
     }
 
     /// The state of a slot is this one, of a step that was prepared, where there is room. Takes no memory.
@@ -187,7 +154,8 @@ impl Subscribers {
         ensures subscribers { self.new.subscribers ≡ with_solo slot solo self.old.subscribers }
         ensures room { self.old.room ≤ self.new.room + 1 }
     {
-        settle_one(&mut self.records, &mut self.timers, slot, solo);
+        place(&mut self.connections, slot, &solo);
+        self.sleepers.settle(slot, solo);
     }
 
     /// One tick: those who are due have the state that was prepared, all others have a tick less. Only those who are due are
@@ -201,7 +169,7 @@ impl Subscribers {
         ensures subscribers { self.new.subscribers ≡ tick_settled stepped.items self.old.subscribers }
         ensures room { self.old.room ≤ self.new.room + length stepped.items }
     {
-        self.timers.pass();
-        settle_all(&mut self.records, &mut self.timers, stepped);
+        place_all(&mut self.connections, stepped.as_slice());
+        self.sleepers.tick(stepped);
     }
 }

@@ -1,165 +1,182 @@
-//! Associations where memory is refused: the entries stay, and the call is asked again.
+//! Associations where memory is refused: the entries stay, and the call is asked again. Each function says whether it went so.
 
-ghost use Rattle.std.specs.Prelude.{◌≡◌, ◌≤◌, OnOk};
+ghost use Rattle.std.specs.Prelude.{◌≡◌, ◌≤◌, true};
 
-use super::must;
+use super::{compared, is_answer, must};
 use association_table::{Association, AssociationOwner, Associations, Listed, OpenFault};
-use std::test::Fail;
 
-fn phone(id: u32, slot: u32, station: u8, enb_id: u32) -> Association
+/// The association that the calls are about.
+const FIRST: Association = Association {
+    id: 1,
+    owner: AssociationOwner::Subscriber(0),
+    station: 127,
+    enb_id: 9,
+};
+
+/// One with the same eNB UE id.
+const SECOND: Association = Association {
+    id: 2,
+    owner: AssociationOwner::Subscriber(0),
+    station: 127,
+    enb_id: 9,
+};
+
+const THIRD: Association = Association {
+    id: 3,
+    owner: AssociationOwner::Subscriber(0),
+    station: 127,
+    enb_id: 8,
+};
+
+const FOURTH: Association = Association {
+    id: 4,
+    owner: AssociationOwner::Subscriber(0),
+    station: 127,
+    enb_id: 7,
+};
+
+const FIRST_ALONE: &[Association] = &[FIRST];
+
+const THREE: &[Association] = &[FIRST, SECOND, THIRD];
+
+fn holds(associations: &Associations, association: Association) -> bool {
+    associations.find(association.id) == Some(association)
+}
+
+fn opens_first(associations: &mut Associations) -> bool {
+    match associations.open(FIRST) {
+        Ok(()) => true,
+        Err(fault) => {
+            fault == OpenFault::NoMemory
+                && associations.find(1).is_none()
+                && associations.open(FIRST).is_ok()
+        }
+    }
+}
+
+fn lists_first(associations: &Associations) -> bool {
+    match compared(associations.entries_at(127), FIRST_ALONE) {
+        Ok(is_wanted) => is_wanted,
+        Err(_) => is_answer(associations.entries_at(127), FIRST_ALONE),
+    }
+}
+
+fn copies_first(associations: &Associations) -> bool {
+    match associations.copy() {
+        Ok(copy) => holds(&copy, FIRST),
+        Err(_) => match associations.copy() {
+            Ok(copy) => holds(&copy, FIRST),
+            Err(_) => false,
+        },
+    }
+}
+
+fn closes_first(associations: &mut Associations) -> bool {
+    match compared(associations.close_station(127), FIRST_ALONE) {
+        Ok(is_wanted) => is_wanted,
+        Err(_) => {
+            holds(associations, FIRST) && is_answer(associations.close_station(127), FIRST_ALONE)
+        }
+    }
+}
+
+#[test]
+fn refused_open_and_close(rt: HostRuntime) {
+    let mut associations = Associations::new(rt.alloc());
+    must(
+        &rt,
+        opens_first(&mut associations)
+            && lists_first(&associations)
+            && copies_first(&associations)
+            && closes_first(&mut associations),
+    );
+}
+
+fn reserves_two(associations: &mut Associations) -> bool
+    ensures { result ≡ true → 2 ≤ associations.new.room }
+{
+    associations.reserve(2).is_ok() || associations.reserve(2).is_ok()
+}
+
+fn phone(id: u32) -> Association
     ensures { result.id ≡ id }
 {
     Association {
         id,
-        owner: AssociationOwner::Subscriber(slot),
-        station,
-        enb_id,
+        owner: AssociationOwner::Subscriber(0),
+        station: 0,
+        enb_id: id,
     }
 }
 
-/// The association that the calls are about.
-fn first() -> Association {
-    phone(1, 0, 127, 9)
-}
-
-fn open_first(associations: &mut Associations) -> Result<(), Fail> {
-    if let Err(fault) = associations.open(first()) {
-        must(fault == OpenFault::NoMemory, "another fault")?;
-        must(associations.find(1).is_none(), "opened, and refused")?;
-        associations.open(first())?;
+fn opens_in_room(associations: &mut Associations) -> bool {
+    if !reserves_two(associations) || associations.find(1).is_some() {
+        return false;
     }
-    Ok(())
-}
-
-fn list_first(associations: &Associations) -> Result<(), Fail> {
-    let entries = match associations.entries_at(127) {
-        Ok(entries) => entries,
-        Err(_) => associations.entries_at(127)?,
-    };
-    must(entries.as_slice() == [first()].as_slice(), "other entries")
-}
-
-fn copy_first(associations: &Associations) -> Result<(), Fail> {
-    let copy = match associations.copy() {
-        Ok(copy) => copy,
-        Err(_) => associations.copy()?,
-    };
-    must(copy.find(1) == Some(first()), "another copy")
-}
-
-fn close_again(associations: &mut Associations) -> Result<Vec<Association>, Fail> {
-    must(associations.find(1) == Some(first()), "closed, and refused")?;
-    Ok(associations.close_station(127)?)
-}
-
-fn close_first(associations: &mut Associations) -> Result<(), Fail> {
-    let closed = match associations.close_station(127) {
-        Ok(closed) => closed,
-        Err(_) => close_again(associations)?,
-    };
-    must(closed.as_slice() == [first()].as_slice(), "others closed")
-}
-
-fn open_and_close(associations: &mut Associations) -> Result<(), Fail> {
-    open_first(associations)?;
-    list_first(associations)?;
-    copy_first(associations)?;
-    close_first(associations)
+    associations.open_reserved(phone(1));
+    if associations.find(2).is_some() {
+        return false;
+    }
+    associations.open_reserved(phone(2));
+    associations.close(1) && holds(associations, phone(2))
 }
 
 #[test]
-fn refused_open_and_close(rt: HostRuntime) -> Result<(), Fail> {
+fn room_for_two(rt: HostRuntime) {
     let mut associations = Associations::new(rt.alloc());
-    open_and_close(&mut associations)
-}
-
-fn reserve_two(associations: &mut Associations) -> Result<(), Fail>
-    ensures { OnOk result (2 ≤ associations.new.room) }
-{
-    match associations.reserve(2) {
-        Ok(()) => Ok(()),
-        Err(_) => Ok(associations.reserve(2)?),
-    }
-}
-
-fn open_in_room(associations: &mut Associations) -> Result<(), Fail> {
-    reserve_two(associations)?;
-    must(associations.find(1).is_none(), "1 is taken")?;
-    associations.open_reserved(phone(1, 0, 0, 1));
-    must(associations.find(2).is_none(), "2 is taken")?;
-    associations.open_reserved(phone(2, 0, 0, 2));
-    must(associations.close(1), "1 isn't there")?;
-    must(
-        associations.find(2) == Some(phone(2, 0, 0, 2)),
-        "2 isn't there",
-    )
-}
-
-#[test]
-fn room_for_two(rt: HostRuntime) -> Result<(), Fail> {
-    let mut associations = Associations::new(rt.alloc());
-    open_in_room(&mut associations)
+    must(&rt, opens_in_room(&mut associations));
 }
 
 /// An item with an eNB UE id alone, which two have, and one with an id.
-fn listed() -> [Listed; 2] {
-    [
-        Listed {
-            id: None,
-            enb_id: Some(9),
-        },
-        Listed {
-            id: Some(3),
-            enb_id: None,
-        },
-    ]
+const LISTED: [Listed; 2] = [
+    Listed {
+        id: None,
+        enb_id: Some(9),
+    },
+    Listed {
+        id: Some(3),
+        enb_id: None,
+    },
+];
+
+fn opens(associations: &mut Associations, association: Association) -> bool {
+    associations.open(association).is_ok() || associations.open(association).is_ok()
 }
 
-fn open_again(associations: &mut Associations, association: Association) -> Result<(), Fail> {
-    if associations.open(association).is_err() {
-        associations.open(association)?;
+fn opens_four(associations: &mut Associations) -> bool {
+    opens(associations, SECOND)
+        && opens(associations, THIRD)
+        && opens(associations, FOURTH)
+        && opens(associations, FIRST)
+}
+
+fn holds_three(associations: &Associations) -> bool {
+    holds(associations, FIRST) && holds(associations, SECOND) && holds(associations, THIRD)
+}
+
+fn closes_three(associations: &mut Associations) -> bool {
+    match compared(associations.close_listed(127, &LISTED), THREE) {
+        Ok(is_wanted) => is_wanted,
+        Err(_) => {
+            holds_three(associations) && is_answer(associations.close_listed(127, &LISTED), THREE)
+        }
     }
-    Ok(())
 }
 
-fn close_listed_again(associations: &mut Associations) -> Result<Vec<Association>, Fail> {
-    must(
-        associations.find(1) == Some(first()),
-        "1 closed, and refused",
-    )?;
-    must(
-        associations.find(2) == Some(phone(2, 0, 127, 9)),
-        "2 closed, and refused",
-    )?;
-    must(
-        associations.find(3) == Some(phone(3, 0, 127, 8)),
-        "3 closed, and refused",
-    )?;
-    Ok(associations.close_listed(127, listed().as_slice())?)
-}
-
-fn close_three(associations: &mut Associations) -> Result<(), Fail> {
-    open_again(associations, phone(2, 0, 127, 9))?;
-    open_again(associations, phone(3, 0, 127, 8))?;
-    open_again(associations, phone(4, 0, 127, 7))?;
-    open_again(associations, first())?;
-    let closed = match associations.close_listed(127, listed().as_slice()) {
-        Ok(closed) => closed,
-        Err(_) => close_listed_again(associations)?,
-    };
-    let three = [first(), phone(2, 0, 127, 9), phone(3, 0, 127, 8)];
-    must(closed.as_slice() == three.as_slice(), "others closed")?;
-    must(associations.find(1).is_none(), "1 stays")?;
-    must(associations.find(2).is_none(), "2 stays")?;
-    must(associations.find(3).is_none(), "3 stays")?;
-    must(
-        associations.find(4) == Some(phone(4, 0, 127, 7)),
-        "4 closed",
-    )
+fn holds_fourth_alone(associations: &Associations) -> bool {
+    associations.find(1).is_none()
+        && associations.find(2).is_none()
+        && associations.find(3).is_none()
+        && holds(associations, FOURTH)
 }
 
 #[test]
-fn refused_close_of_a_list(rt: HostRuntime) -> Result<(), Fail> {
+fn refused_close_of_a_list(rt: HostRuntime) {
     let mut associations = Associations::new(rt.alloc());
-    close_three(&mut associations)
+    must(
+        &rt,
+        opens_four(&mut associations)
+            && closes_three(&mut associations)
+            && holds_fourth_alone(&associations),
+    );
 }

@@ -1,106 +1,87 @@
-//! Timers where memory is refused: what runs stays, and the call is asked again.
+//! Timers where memory is refused: what runs stays, and the call is asked again. Each function says whether it went so.
 
-ghost use Rattle.std.specs.Prelude.{◌≤◌, OnOk};
+ghost use Rattle.std.specs.Prelude.{◌≡◌, ◌≤◌, true};
 
-use super::must;
-use std::test::Fail;
+use super::{compared, is_answer, must};
 use timer_queue::{Expiry, Kind, TickFault, Timer, TimerOwner, Timers};
 
 const FIRST: TimerOwner = TimerOwner::Subscriber(0);
 
 const LAST: TimerOwner = TimerOwner::Subscriber(32767);
 
-fn start_first(timers: &mut Timers) -> Result<(), Fail> {
-    if timers.start(FIRST, Kind::Procedure, 1).is_err() {
-        must(
-            timers.left(FIRST, Kind::Procedure).is_none(),
-            "started, and refused",
-        )?;
-        must(timers.clock() == 7, "the clock went on")?;
-        timers.start(FIRST, Kind::Procedure, 1)?;
+const FIRST_PROCEDURE: &[Expiry] = &[Timer {
+    owner: FIRST,
+    kind: Kind::Procedure,
+}];
+
+fn starts_first(timers: &mut Timers) -> bool {
+    timers.start(FIRST, Kind::Procedure, 1).is_ok()
+        || timers.left(FIRST, Kind::Procedure).is_none()
+            && timers.clock() == 7
+            && timers.start(FIRST, Kind::Procedure, 1).is_ok()
+}
+
+fn ends_first(timers: &mut Timers) -> bool {
+    match compared(timers.tick(), FIRST_PROCEDURE) {
+        Ok(is_wanted) => is_wanted,
+        Err(fault) => {
+            fault == TickFault::NoMemory
+                && timers.clock() == 7
+                && is_answer(timers.tick(), FIRST_PROCEDURE)
+        }
     }
-    Ok(())
-}
-
-fn tick_again(timers: &mut Timers, fault: TickFault) -> Result<Vec<Expiry>, Fail> {
-    must(fault == TickFault::NoMemory, "another fault")?;
-    must(timers.clock() == 7, "the clock went on")?;
-    Ok(timers.tick()?)
-}
-
-fn end_first(timers: &mut Timers) -> Result<(), Fail> {
-    let due = match timers.tick() {
-        Ok(due) => due,
-        Err(fault) => tick_again(timers, fault)?,
-    };
-    let procedure = Timer {
-        owner: FIRST,
-        kind: Kind::Procedure,
-    };
-    must(due.as_slice() == [procedure].as_slice(), "others are due")
-}
-
-fn start_and_end(timers: &mut Timers) -> Result<(), Fail> {
-    start_first(timers)?;
-    end_first(timers)
 }
 
 #[test]
-fn refused_start_and_tick(rt: HostRuntime) -> Result<(), Fail> {
+fn refused_start_and_tick(rt: HostRuntime) {
     let mut timers = Timers::new(rt.alloc(), 7);
-    start_and_end(&mut timers)
+    must(&rt, starts_first(&mut timers) && ends_first(&mut timers));
 }
 
-fn reserve_two(timers: &mut Timers) -> Result<(), Fail>
-    ensures { OnOk result (2 ≤ timers.new.room) }
+fn starts_last(timers: &mut Timers) -> bool {
+    timers.start(LAST, Kind::Procedure, 1).is_ok()
+}
+
+fn reserves_two(timers: &mut Timers) -> bool
+    ensures { result ≡ true → 2 ≤ timers.new.room }
 {
-    if timers.reserve(2).is_err() {
-        must(
-            timers.left(LAST, Kind::Procedure) == Some(1),
-            "stopped, and refused",
-        )?;
-        timers.reserve(2)?;
-    }
-    Ok(())
+    timers.reserve(2).is_ok()
+        || timers.left(LAST, Kind::Procedure) == Some(1) && timers.reserve(2).is_ok()
 }
 
-fn start_in_room(timers: &mut Timers) -> Result<(), Fail> {
-    reserve_two(timers)?;
+fn starts_in_room(timers: &mut Timers) -> bool {
+    if !reserves_two(timers) {
+        return false;
+    }
     timers.start_reserved(LAST, Kind::Reachable, 3480);
-    must(
-        timers.left(LAST, Kind::Reachable) == Some(3480),
-        "not started",
-    )
+    timers.left(LAST, Kind::Reachable) == Some(3480)
 }
 
-fn copy_of(timers: &Timers) -> Result<Timers, Fail> {
+fn starts_in_copy(timers: &Timers) -> bool {
     match timers.copy() {
-        Ok(copy) => Ok(copy),
-        Err(_) => Ok(timers.copy()?),
+        Ok(mut copy) => starts_in_room(&mut copy),
+        Err(_) => match timers.copy() {
+            Ok(mut copy) => starts_in_room(&mut copy),
+            Err(_) => false,
+        },
     }
 }
 
-fn one_is_due(timers: &Timers) -> Result<(), Fail> {
-    let due = match timers.due() {
-        Ok(due) => due,
-        Err(_) => timers.due()?,
-    };
-    must(due.len() == 1, "not one is due")
-}
-
-fn start_in_copy(timers: &Timers) -> Result<(), Fail> {
-    let mut copy = copy_of(timers)?;
-    start_in_room(&mut copy)
-}
-
-fn room_and_copy(timers: &mut Timers) -> Result<(), Fail> {
-    timers.start(LAST, Kind::Procedure, 1)?;
-    start_in_copy(timers)?;
-    one_is_due(timers)
+fn one_is_due(timers: &Timers) -> bool {
+    match timers.due() {
+        Ok(due) => due.len() == 1,
+        Err(_) => match timers.due() {
+            Ok(due) => due.len() == 1,
+            Err(_) => false,
+        },
+    }
 }
 
 #[test]
-fn refused_room_and_copy(rt: HostRuntime) -> Result<(), Fail> {
+fn refused_room_and_copy(rt: HostRuntime) {
     let mut timers = Timers::new(rt.alloc(), 0);
-    room_and_copy(&mut timers)
+    must(
+        &rt,
+        starts_last(&mut timers) && starts_in_copy(&timers) && one_is_due(&timers),
+    );
 }

@@ -1,12 +1,11 @@
 //! A list of events at once: a station is set up, and a phone that is known attaches and is challenged.
 
-use crate::tests::network;
+use crate::tests::{config, must};
 use identity_slots::{Profile, Provision, Slot, Vector, Xres};
 use mme_core::{Config, Event, Mme, Outs, Owner, StepFault};
 use mme_vocabulary::StationNumber;
 use nas_elements::Imsi;
 use std::alloc::Global;
-use std::test::Fail;
 
 const SETUP: &[u8] =
     b"\x00\x11\x00\x1f\x00\x00\x03\x00\x3b\x00\x08\x00\x00\xf1\x10\x00\x00\x00\x10\x00\
@@ -28,30 +27,33 @@ const CHALLENGE: &[u8] =
     \x0d\x0e\x0f\x10\x10\x11\x12\x13\x14\x15\x16\x17\x18\x19\x1a\x1b\x1c\x1d\x1e\x1f";
 
 /// The vector of the worked rows, but for what its answer is to be.
-fn vector() -> Result<Vector, Fail> {
-    Ok(Vector {
+fn vector() -> Option<Vector> {
+    Some(Vector {
         rand: *b"\x00\x01\x02\x03\x04\x05\x06\x07\x08\x09\x0a\x0b\x0c\x0d\x0e\x0f",
         autn: *b"\x10\x11\x12\x13\x14\x15\x16\x17\x18\x19\x1a\x1b\x1c\x1d\x1e\x1f",
-        xres: Xres::try_new(b"expected").ok_or("length")?,
+        xres: Xres::try_new(b"expected")?,
         kasme: [0; 32],
     })
 }
 
-/// An MME with one subscriber, who has one vector.
-fn provisioned(alloc: Global, imsi: Imsi) -> Result<Mme, Fail> {
-    let mut provision = Provision::new(alloc);
-    let slot = provision.add(Profile {
+fn profile(imsi: Imsi) -> Profile {
+    Profile {
         imsi,
         address: [10, 0, 0, 1],
         gateway: [10, 0, 0, 100],
         teid: [0, 0, 0, 1],
-    })?;
-    provision.give(slot, vector()?)?;
-    let config = Config {
-        network: network()?,
-        clock: 0,
-    };
-    Ok(Mme::new(alloc, config, provision)?)
+    }
+}
+
+/// Whether the subscriber was provisioned, with one vector.
+fn provisions(provision: &mut Provision, imsi: Imsi) -> bool {
+    match provision.add(profile(imsi)) {
+        Ok(slot) => match vector() {
+            Some(vector) => provision.give(slot, vector).is_ok(),
+            None => false,
+        },
+        Err(_) => false,
+    }
 }
 
 /// Whether this alone was sent, for this owner at this station.
@@ -80,20 +82,59 @@ fn are_owed(replies: &[Result<Outs, StepFault>], station: StationNumber, slot: S
     }
 }
 
-#[test]
-fn events_at_once(rt: HostRuntime) -> Result<(), Fail> {
-    let imsi = Imsi::try_from_digits("001010000000001").ok_or("digits")?;
-    let unknown = Imsi::try_from_digits("001010000000002").ok_or("digits")?;
-    let station = StationNumber::try_new(0).ok_or("number")?;
-    let mut mme = provisioned(rt.alloc(), imsi)?;
-    let slot = mme.slot_of_imsi(imsi).ok_or("slot")?;
-    let replies = mme.run(&[
+/// Whether the events of the station, the unknown phone and the known one are answered as they are owed.
+fn answers_events(mme: &mut Mme, station: StationNumber, known: Imsi, unknown: Imsi) -> bool {
+    let events = [
         Event::Up(station),
         Event::In(station, SETUP),
         Event::Up(station),
         Event::Data(unknown),
         Event::In(station, ATTACH),
-    ])?;
-    assert!(rt; are_owed(replies.as_slice(), station, slot));
-    Ok(())
+    ];
+    let Some(slot) = mme.slot_of_imsi(known) else {
+        return false;
+    };
+    match mme.run(&events) {
+        Ok(replies) => are_owed(replies.as_slice(), station, slot),
+        Err(_) => false,
+    }
+}
+
+/// As one MME with that phone alone answers them.
+fn answers_at_once(
+    alloc: Global,
+    config: Config,
+    station: StationNumber,
+    known: Imsi,
+    unknown: Imsi,
+) -> bool {
+    let mut provision = Provision::new(alloc);
+    if !provisions(&mut provision, known) {
+        return false;
+    }
+    match Mme::new(alloc, config, provision) {
+        Ok(mut mme) => answers_events(&mut mme, station, known, unknown),
+        Err(_) => false,
+    }
+}
+
+fn answers_station_and_phones(alloc: Global, config: Config) -> bool {
+    let Some(station) = StationNumber::try_new(0) else {
+        return false;
+    };
+    match (
+        Imsi::try_from_digits("001010000000001"),
+        Imsi::try_from_digits("001010000000002"),
+    ) {
+        (Some(known), Some(unknown)) => answers_at_once(alloc, config, station, known, unknown),
+        _ => false,
+    }
+}
+
+#[test]
+fn events_at_once(rt: HostRuntime) {
+    match config(0) {
+        Some(config) => must(&rt, answers_station_and_phones(rt.alloc(), config)),
+        None => must(&rt, false),
+    }
 }

@@ -1,4 +1,5 @@
-use Rattle.emm_written.proofs.Whole.{AreWritten, indicate_whole, leave_whole, not_switched_whole, page_whole, protect_whole, refuse_whole, release_whole, send_whole, set_up_whole, switched_whole, turn_away_whole}
+use Rattle.emm_written.proofs.FitActions.{AreWritten}
+use Rattle.emm_written.proofs.Whole.{indicate_whole, leave_whole, not_switched_whole, page_whole, protect_whole, refuse_whole, release_whole, send_whole, set_up_whole, switched_whole, turn_away_whole}
 use Rattle.emm_written.proofs.laws.actions_send_whole.Goals as goal
 
 pub returns : goal.returns

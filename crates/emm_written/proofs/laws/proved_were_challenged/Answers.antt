@@ -1,4 +1,5 @@
-use Rattle.emm_written.proofs.Whole.{AreWritten, proved_were_challenged}
+use Rattle.emm_written.proofs.FitActions.{AreWritten}
+use Rattle.emm_written.proofs.Whole.{proved_were_challenged}
 use Rattle.emm_written.proofs.laws.proved_were_challenged.Goals as goal
 
 pub returns : goal.returns

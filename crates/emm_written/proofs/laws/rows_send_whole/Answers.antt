@@ -1,5 +1,6 @@
-use Rattle.emm_written.proofs.RowsWhole.{attach_refused_whole, challenged_whole, not_authenticated_whole, requests_are_known}
-use Rattle.emm_written.proofs.Whole.{AreWritten}
+use Rattle.emm_written.proofs.RowsWhole.{attach_refused_whole, challenged_whole, not_authenticated_whole}
+use Rattle.emm_written.proofs.FitActions.{AreWritten}
+use Rattle.emm_written.proofs.FitRows.{requests_are_known}
 use Rattle.emm_written.proofs.laws.rows_send_whole.Goals as goal
 
 pub returns : goal.returns

@@ -1,5 +1,5 @@
 use Rattle.std.proofs.Common.{◌++◌, [], append-nil}
-use Rattle.mme_main.specs.OctetLaws.{Appends-then, Appends-keeps, Appends-same}
+use Rattle.trace_player.specs.OctetLaws.{Appends-then, Appends-keeps, Appends-same}
 use Rattle.mme_main.proofs.Taken.{Finishes-prefix}
 use Rattle.mme_main.proofs.play.last_turn.Goals as goal
 

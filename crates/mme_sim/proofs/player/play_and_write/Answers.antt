@@ -1,6 +1,6 @@
 use Rattle.std.proofs.Common.{[], ◌∷◌}
 use Rattle.script_text.specs.Kept.{kept_in}
-use Rattle.mme_main.specs.OctetLaws.{Appends-nil, Appends-same}
+use Rattle.trace_player.specs.OctetLaws.{Appends-nil, Appends-same}
 use Rattle.mme_sim.proofs.Feeding.{WritesLine-printed, WritesLine-fault}
 use Rattle.mme_sim.proofs.player.play_and_write.Goals as goal
 

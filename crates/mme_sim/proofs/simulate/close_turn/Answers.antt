@@ -1,5 +1,5 @@
 use Rattle.std.proofs.Common.{◌++◌, [], append-nil}
-use Rattle.mme_main.specs.OctetLaws.{Appends-then, Appends-keeps, Appends-same}
+use Rattle.trace_player.specs.OctetLaws.{Appends-then, Appends-keeps, Appends-same}
 use Rattle.mme_sim.proofs.simulate.close_turn.Goals as goal
 
 pub returns-then-is_err-clause-closes : goal.returns-then-is_err-clause-closes

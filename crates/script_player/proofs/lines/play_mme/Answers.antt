@@ -1,6 +1,6 @@
 use Rattle.std.proofs.Common.{◌∙◌}
 use Rattle.trace_text.specs.declared.line.Line.TheVariants.{Mme}
-use Rattle.mme_main.specs.Effects.{configured}
+use Rattle.trace_player.specs.Effects.{configured}
 use Rattle.script_player.proofs.Played.{mme_effect, Prints-provisioned, PrintsLine-fault}
 use Rattle.script_player.proofs.lines.play_mme.Goals as goal
 

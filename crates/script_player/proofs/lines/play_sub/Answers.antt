@@ -1,6 +1,6 @@
 use Rattle.std.proofs.Common.{◌∙◌}
 use Rattle.trace_text.specs.declared.line.Line.TheVariants.{Sub}
-use Rattle.mme_main.specs.Effects.{subscriber_added}
+use Rattle.trace_player.specs.Effects.{subscriber_added}
 use Rattle.script_player.proofs.Played.{sub_effect, Prints-provisioned, PrintsLine-fault}
 use Rattle.script_player.proofs.lines.play_sub.Goals as goal
 

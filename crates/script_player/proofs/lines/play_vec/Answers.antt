@@ -1,6 +1,6 @@
 use Rattle.std.proofs.Common.{◌∙◌}
 use Rattle.trace_text.specs.declared.line.Line.TheVariants.{Vec}
-use Rattle.mme_main.specs.Effects.{vector_given}
+use Rattle.trace_player.specs.Effects.{vector_given}
 use Rattle.script_player.proofs.Played.{vec_effect, Prints-provisioned, PrintsLine-fault}
 use Rattle.script_player.proofs.lines.play_vec.Goals as goal
 

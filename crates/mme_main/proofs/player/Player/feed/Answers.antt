@@ -1,7 +1,7 @@
 use Rattle.std.proofs.Common.{◌+◌, [], ◌∷◌, ◌++◌, take, drop, get_or, Ok, Err, refl, sym, arith, length-take}
 use Rattle.std.proofs.lemmas.List.{take_more}
-use Rattle.mme_main.specs.OctetLaws.{Appends-then}
-use Rattle.mme_main.specs.TextLaws.{breaks-le, split_at}
+use Rattle.trace_player.specs.OctetLaws.{Appends-then}
+use Rattle.trace_player.specs.TextLaws.{breaks-le, split_at}
 use Rattle.mme_main.proofs.Taken.{Takes-then, Takes-stop, Takes-piece}
 use Rattle.mme_main.proofs.player.Player.feed.Goals as goal
 

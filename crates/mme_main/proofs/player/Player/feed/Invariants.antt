@@ -1,5 +1,6 @@
 use Rattle.std.proofs.Common.{take, Ok}
-use Rattle.mme_main.specs.Play.{GrowsBy, TakesPiece}
+use Rattle.trace_player.specs.Acts.{GrowsBy}
+use Rattle.mme_main.specs.Play.{TakesPiece}
 use Rattle.mme_main.proofs.player.Player.feed.Given as goal
 
 abbrev pub invariant-loop-octet : goal.invariant-loop-octet

@@ -1,8 +1,8 @@
 use Rattle.std.proofs.Common.{[], arith, rules}
 use Rattle.std.proofs.lemmas.Grind.{common_steps}
 use Rattle.std.proofs.lemmas.Bool.Decides.{nat_tests}
-use Rattle.mme_main.specs.OctetLaws.{Appends-nil}
-use Rattle.mme_main.specs.TextLaws.{nil-from_length}
+use Rattle.trace_player.specs.OctetLaws.{Appends-nil}
+use Rattle.trace_player.specs.TextLaws.{nil-from_length}
 use Rattle.mme_main.proofs.Taken.{whole-end, Finishes-from_line}
 use Rattle.mme_main.proofs.player.Player.finish.Goals as goal
 

@@ -1,6 +1,6 @@
 use Rattle.std.proofs.Common.{[], refl, inl, rules}
 use Rattle.mme_main.specs.declared.player.Player.{Player}
-use Rattle.mme_main.specs.OctetLaws.{Appends-nil}
+use Rattle.trace_player.specs.OctetLaws.{Appends-nil}
 use Rattle.mme_main.proofs.Taken.{Takes-octet, octet_too_many}
 use Rattle.mme_main.proofs.player.Player.take_octet.Goals as goal
 

@@ -1,5 +1,5 @@
 use Rattle.std.proofs.Common.{take, Ok}
-use Rattle.mme_main.specs.Play.{GrowsBy}
+use Rattle.trace_player.specs.Acts.{GrowsBy}
 use Rattle.mme_sim.specs.Simulated.{Feeds}
 use Rattle.mme_sim.proofs.player.ScriptPlayer.feed.Given as goal
 

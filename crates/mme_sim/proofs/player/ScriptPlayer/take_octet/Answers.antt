@@ -1,6 +1,6 @@
 use Rattle.std.proofs.Common.{[], ◌∷◌, refl, rules}
 use Rattle.trace_text.specs.declared.fault.TraceFault.TheVariants.{TooLong}
-use Rattle.mme_main.specs.OctetLaws.{Appends-nil}
+use Rattle.trace_player.specs.OctetLaws.{Appends-nil}
 use Rattle.mme_sim.specs.declared.player.ScriptPlayer.{ScriptPlayer}
 use Rattle.mme_sim.proofs.Feeding.{Feeds-octet, Feeds-fault}
 use Rattle.mme_sim.proofs.player.ScriptPlayer.take_octet.Goals as goal

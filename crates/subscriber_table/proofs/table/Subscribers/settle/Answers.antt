@@ -1,23 +1,11 @@
-use Rattle.std.proofs.Common.{◌∙◌, ap, arith, length}
-use Rattle.subscriber_table.specs.Records.{views}
-use Rattle.subscriber_table.specs.Table.{SubscriberTable, with_solo}
-use Rattle.subscriber_table.proofs.Waking.{IsSubscriberTableOf, at_clock, settled, views_length}
+use Rattle.std.proofs.Common.{sym, ◌∙◌, ap}
+use Rattle.std.specs.Prelude.{slice_set}
+use Rattle.subscriber_table.specs.Touched.{all_whereabouts, whereabouts}
+use Rattle.subscriber_table.proofs.Touching.{settled_there}
 use Rattle.subscriber_table.proofs.table.Subscribers.settle.Goals as goal
 
-table : (c : goal.After-settle_one) → IsSubscriberTableOf c.settle_one.new.timers.clock c.settle_one.new.timers.running c.settle_one.new.records.items
-    (with_solo c.args.slot c.args.solo (views c.self.inside.timers.clock c.self.inside.records.items))
-table c =
-    let rs = c.self.inside.records.items in
-    let clock = c.self.inside.timers.clock in
-    let many = ap (λ (v : SubscriberTable). length v.subscribers) c.self.view_is in
-    let same = views_length clock rs in
-    let lt = c.requires.slot in
-    at_clock clock c.settle_one.new.timers.clock _ _ _ c.settle_one.ensures.clock
-    (settled clock c.args.slot c.args.solo c.self.inside.timers.running c.settle_one.new.timers.running rs c.settle_one.new.records.items c.self.invariant (omega arith) c.requires.counting
-    c.settle_one.ensures.records c.settle_one.ensures.running)
-
 pub invariant_of-self : goal.invariant_of-self
-invariant_of-self c = (table c).table
-
-pub returns-clause-subscribers : goal.returns-clause-subscribers
-returns-clause-subscribers c = (table c).seen ∙ ap (λ (v : SubscriberTable). with_solo c.args.slot c.args.solo v.subscribers) c.self.view_is
+invariant_of-self c =
+    let ws = c.self.inside.sleepers.subscribers in
+    c.place.ensures ∙ ap (λ cs. slice_set cs c.args.slot (whereabouts c.args.solo)) c.self.invariant
+    ∙ sym (settled_there c.args.slot c.args.solo ws) ∙ ap all_whereabouts (sym c.settle.ensures.subscribers)

@@ -1,0 +1,124 @@
+//! The message that octets spell.
+
+ghost use Rattle.std.specs.Prelude.{◌≡◌};
+ghost use Rattle.s1ap_rows.specs.Answers.{Answers};
+ghost use Rattle.s1ap_messages.specs.Pdus.{lists, typed, decoded};
+ghost use Rattle.s1ap_messages.specs.Profile.{initiating, successful, unsuccessful, type_of};
+ghost use Rattle.s1ap_messages.specs.Typed.{decode_typed, read_typed};
+
+use crate::answer::Decoded;
+use crate::{context, interface, movement, setup, transport};
+use s1ap_messages::{MessageType, S1apFault, S1apPdu, named_again};
+use s1ap_rows::read_frame;
+use std::alloc::Global;
+
+#[tactic(auto, unfolding(s1ap_messages::specs::Profile::initiating))]
+fn initiating(code: u8) -> Option<MessageType>
+    ensures { result ≡ initiating code }
+{
+    match code {
+        3 => Some(MessageType::PathSwitchRequest),
+        9 => Some(MessageType::ContextSetupRequest),
+        10 => Some(MessageType::Paging),
+        11 => Some(MessageType::DownlinkNasTransport),
+        12 => Some(MessageType::InitialUeMessage),
+        13 => Some(MessageType::UplinkNasTransport),
+        14 => Some(MessageType::Reset),
+        15 => Some(MessageType::ErrorIndication),
+        16 => Some(MessageType::NasNonDelivery),
+        17 => Some(MessageType::SetupRequest),
+        18 => Some(MessageType::ReleaseRequest),
+        22 => Some(MessageType::CapabilityInfo),
+        23 => Some(MessageType::ReleaseCommand),
+        _ => None,
+    }
+}
+
+#[tactic(auto, unfolding(s1ap_messages::specs::Profile::successful))]
+fn successful(code: u8) -> Option<MessageType>
+    ensures { result ≡ successful code }
+{
+    match code {
+        3 => Some(MessageType::PathSwitchAcknowledge),
+        9 => Some(MessageType::ContextSetupResponse),
+        14 => Some(MessageType::ResetAcknowledge),
+        17 => Some(MessageType::SetupResponse),
+        23 => Some(MessageType::ReleaseComplete),
+        _ => None,
+    }
+}
+
+#[tactic(auto, unfolding(s1ap_messages::specs::Profile::unsuccessful))]
+fn unsuccessful(code: u8) -> Option<MessageType>
+    ensures { result ≡ unsuccessful code }
+{
+    match code {
+        3 => Some(MessageType::PathSwitchFailure),
+        9 => Some(MessageType::ContextSetupFailure),
+        17 => Some(MessageType::SetupFailure),
+        _ => None,
+    }
+}
+
+// The message of a kind and a procedure's code.
+#[tactic(auto, unfolding(s1ap_messages::specs::Profile::type_of))]
+fn type_of(kind: u8, code: u8) -> Option<MessageType>
+    ensures { result ≡ type_of kind code }
+{
+    match kind {
+        0 => initiating(code),
+        1 => successful(code),
+        _ => unsuccessful(code),
+    }
+}
+
+fn read_message<'a>(alloc: Global, message_type: MessageType, octets: &'a [u8]) -> Decoded<'a>
+    ensures { Answers (λ m. typed (lists m)) result (read_typed message_type octets.now) }
+{
+    match message_type {
+        MessageType::SetupRequest => setup::read_setup_request(alloc, octets),
+        MessageType::SetupResponse => setup::read_setup_response(alloc, octets),
+        MessageType::SetupFailure => setup::read_setup_failure(alloc, octets),
+        MessageType::InitialUeMessage => transport::read_initial_ue_message(alloc, octets),
+        MessageType::DownlinkNasTransport => transport::read_downlink_nas_transport(alloc, octets),
+        MessageType::UplinkNasTransport => transport::read_uplink_nas_transport(alloc, octets),
+        MessageType::NasNonDelivery => transport::read_nas_non_delivery(alloc, octets),
+        MessageType::CapabilityInfo => transport::read_capability_info(alloc, octets),
+        MessageType::ContextSetupRequest => context::read_context_setup_request(alloc, octets),
+        MessageType::ContextSetupResponse => context::read_context_setup_response(alloc, octets),
+        MessageType::ContextSetupFailure => context::read_context_setup_failure(alloc, octets),
+        MessageType::ReleaseRequest => context::read_release_request(alloc, octets),
+        MessageType::ReleaseCommand => context::read_release_command(alloc, octets),
+        MessageType::ReleaseComplete => context::read_release_complete(alloc, octets),
+        MessageType::Paging => movement::read_paging(alloc, octets),
+        MessageType::PathSwitchRequest => movement::read_path_switch_request(alloc, octets),
+        MessageType::PathSwitchAcknowledge => movement::read_path_switch_acknowledge(alloc, octets),
+        MessageType::PathSwitchFailure => movement::read_path_switch_failure(alloc, octets),
+        MessageType::Reset => interface::read_reset(alloc, octets),
+        MessageType::ResetAcknowledge => interface::read_reset_acknowledge(alloc, octets),
+        MessageType::ErrorIndication => interface::read_error_indication(alloc, octets),
+    }
+}
+
+#[tactic(auto, using(s1ap_rows::specs::Criticalities::named_again), unfolding(s1ap_messages::specs::Typed::decode_typed))]
+fn read_pdu<'a>(alloc: Global, octets: &'a [u8]) -> Decoded<'a>
+    ensures { Answers (λ m. typed (lists m)) result (decode_typed octets.now) }
+{
+    let frame = read_frame(octets)?;
+    match type_of(frame.kind, frame.code) {
+        Some(message_type) => read_message(alloc, message_type, frame.octets),
+        None => Err(S1apFault::UnknownProcedure(frame.criticality)),
+    }
+}
+
+/// The message that the octets spell, or their first fault (TS 36.413 clause 9.1).
+///
+/// The octets are lent to the message. The frame's faults come first, then an unknown procedure, then
+/// those of the elements from the left, and a missing element last. NoMemory stands where a growth was
+/// refused. Criticalities are not compared.
+pub fn decode<'a>(alloc: Global, octets: &'a [u8]) -> Result<S1apPdu<'a>, S1apFault>
+    ensures { Answers lists result (decoded octets.now) }
+{
+    named_again();
+    read_pdu(alloc, octets)
+}

@@ -1,0 +1,18 @@
+//! S1AP messages from octets (TS 36.413 clause 9): what is read of each message's rows, which stand in `s1ap_messages`.
+#![tactic(auto)]
+
+// The elements that are read of a message's rows, as pairs: the first, and the others.
+macro_rules! elements {
+    () => { () };
+    ($first:ident $(, $others:ident)*) => { ($first, elements!($($others),*)) };
+}
+
+mod answer;
+mod context;
+mod decoding;
+mod interface;
+mod movement;
+mod setup;
+mod transport;
+
+pub use decoding::decode;

@@ -1,0 +1,12 @@
+use Rattle.std.proofs.Common.{◌∙◌, ap, get_or, set}
+use Rattle.subscriber_table.specs.Records.{renewed}
+use Rattle.subscriber_table.proofs.Waking.{set_changed}
+use Rattle.subscriber_table.proofs.sleeping.settle_one.Goals as goal
+
+pub returns-clause-records : goal.returns-clause-records
+returns-clause-records c =
+    let rs = c.args.records.now.items in
+    let r = c.index_mut.result.now in
+    ap (λ n. set rs n c.renew.new.self) c.get-place.ensures.value
+    ∙ set_changed (renewed c.args.timers.now.clock c.args.solo) rs c.args.slot r c.renew.new.self c.requires.slot
+    (c.index_mut.ensures.value ∙ ap (λ n. get_or rs n r) c.get-place.ensures.value) (c.renew.ensures ∙ ap (λ n. renewed n c.args.solo r) c.clock.ensures.clock)

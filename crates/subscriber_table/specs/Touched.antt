@@ -1,0 +1,25 @@
+-- Whom an item touches, and where the phones are, by which those are found whom one of a station touches.
+use Rattle.std.specs.Prelude.{ℕ, not, List, [], ◌∷◌, map, slice_set}
+use Rattle.mme_vocabulary.specs.Events.{Item}
+use Rattle.connection_table.specs.declared.whereabouts.Whereabouts.{Whereabouts}
+use Rattle.connection_table.specs.Whereabouts.{slots_where}
+use Rattle.emm_state.specs.declared.solo.Solo.{Solo}
+use Rattle.emm_machine.specs.Still.{pages, still}
+use Rattle.emm_machine.specs.SubscriberView.{SubscriberView}
+use Rattle.subscriber_table.specs.declared.stepped.Stepped.{Stepped}
+
+-- the slots of those whom an item doesn't leave as they are, as far as a look tells
+abbrev pub touched_slots : Item → List SubscriberView → List ℕ
+touched_slots item ws = slots_where (λ (w : SubscriberView). not (still w.solo item)) 0 ws
+
+-- where a subscriber's phone is
+abbrev pub whereabouts : Solo → Whereabouts
+whereabouts s = record { connection = s.connection; is_paged = pages s.repeat }
+
+abbrev pub all_whereabouts : List SubscriberView → List Whereabouts
+all_whereabouts ws = map (λ (w : SubscriberView). whereabouts w.solo) ws
+
+-- each phone is where the state says that was prepared
+abbrev pub with_whereabouts : List Stepped → List Whereabouts → List Whereabouts
+with_whereabouts [] cs = cs
+with_whereabouts (x ∷ xs) cs = with_whereabouts xs (slice_set cs x.slot (whereabouts x.solo))

@@ -1,0 +1,4 @@
+pub mod Answered
+pub mod Ticks
+pub mod Places
+pub mod Heard

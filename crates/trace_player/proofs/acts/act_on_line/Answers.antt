@@ -1,0 +1,15 @@
+use Rattle.std.proofs.Common.{refl}
+use Rattle.mme_core.specs.declared.event.Event.TheVariants as event
+use Rattle.trace_player.specs.Effects.{effect_of, happened}
+use Rattle.trace_player.proofs.Heard.{Acts-effect, octets-effect}
+use Rattle.trace_player.proofs.acts.act_on_line.Goals as goal
+
+pub returns-in-In-clause-acts : goal.returns-in-In-clause-acts
+returns-in-In-clause-acts g c =
+    let old = c.args.progress.now in
+    let line = c.args.line in
+    let number = c.in-In.station in
+    let slice = c.as_slice.result in
+    let acts = c.play_event-in-In.ensures.acts in
+    let same = octets-effect old line c.in-In.station number c.in-In.octets slice c.in-In.is refl c.as_slice.ensures in
+    (acts.0, acts.1, Acts-effect c.args.number (happened old (event.In number slice)) (effect_of old line) c.play_event-in-In.result c.play_event-in-In.new.progress acts.0 same acts.2)

@@ -1,0 +1,187 @@
+//! What each line of a trace does.
+
+ghost use Rattle.std.specs.Prelude.{◌≡◌, true, is_ok, IfOk, OnOk, IsErrOf};
+ghost use Rattle.mme_core.specs.World.{reply};
+ghost use Rattle.trace_player.specs.Effects.{effect_of, happened, left_by, ticks_passed, shown, states_of_imsi, ticked, states_shown};
+ghost use Rattle.trace_player.specs.Words.{reply_text};
+ghost use Rattle.trace_player.specs.Acts.{Acts, GrowsBy, Puts};
+ghost use Rattle.trace_player.specs.declared.progress.Progress.TheVariants.{Running};
+
+use crate::answers::{write_all, write_refusal, write_states};
+use crate::fault::PlayFault;
+use crate::progress::{Progress, add, give, run, start};
+use crate::watched::Watched;
+use emm_machine::States;
+use mme_core::{Event, Mme, StepFault};
+use nas_elements::Imsi;
+use std::alloc::Global;
+use std::io::Write;
+use trace_text::{Line, TraceFault};
+
+/// Does what the line of that number says, and writes its answers. Order or Provision where what came before doesn't allow the
+/// line, and then nothing is written; Write where the writer failed and NoMemory where a growth of memory was refused, and then a
+/// front of its answers is. Takes memory for what is provisioned, for the MME, which the first event or question makes, and for
+/// each answer.
+#[tactic(auto, unfolding(crate::specs::Effects::effect_of))]
+pub fn act_on_line<W: Write>(
+    alloc: Global,
+    progress: &mut Progress,
+    number: u64,
+    line: Line,
+    writer: &mut Watched<W>,
+) -> Result<(), PlayFault>
+    ensures acts { GrowsBy (W.contents writer.old.inner) (W.contents writer.new.inner) (Acts number (effect_of progress.old line) result progress.new) }
+    ensures write { IsErrOf result PlayFault.Write → writer.new.failed ≡ true }
+{
+    match line {
+        Line::Skip => Ok(()),
+        Line::Mme(fields) => start(alloc, progress, number, &fields),
+        Line::Sub(profile) => add(progress, number, profile),
+        Line::Vec(imsi, vector) => give(progress, number, imsi, vector),
+        Line::Up(station) => {
+            let event = Event::Up(station);
+            play_event(alloc, progress, number, &event, writer)
+        }
+        Line::Lost(station) => {
+            let event = Event::Lost(station);
+            play_event(alloc, progress, number, &event, writer)
+        }
+        Line::In(station, octets) => {
+            let event = Event::In(station, octets.as_slice());
+            play_event(alloc, progress, number, &event, writer)
+        }
+        Line::Tick(ticks) => play_ticks(alloc, progress, number, ticks.get(), writer),
+        Line::Data(imsi) => play_event(alloc, progress, number, &Event::Data(imsi), writer),
+        Line::Cancel(imsi) => play_event(alloc, progress, number, &Event::Cancel(imsi), writer),
+        Line::Show(imsi) => show(alloc, progress, number, imsi, writer),
+    }
+}
+
+/// Plays one event and writes its answers.
+fn play_event<W: Write>(
+    alloc: Global,
+    progress: &mut Progress,
+    number: u64,
+    event: &Event<'_>,
+    writer: &mut Watched<W>,
+) -> Result<(), PlayFault>
+    ensures acts { GrowsBy (W.contents writer.old.inner) (W.contents writer.new.inner) (Acts number (happened progress.old event.now) result progress.new) }
+    ensures write { IsErrOf result PlayFault.Write → writer.new.failed ≡ true }
+{
+    run(alloc, progress, number)?;
+    match progress {
+        Progress::Running(mme) => match step_event(alloc, mme, event, writer) {
+            Ok(_) => Ok(()),
+            Err(fault) => Err(fault),
+        },
+        Progress::Nothing | Progress::Provisioning(_, _) => unreachable!(),
+    }
+}
+
+/// Plays so many ticks and writes their answers.
+fn play_ticks<W: Write>(
+    alloc: Global,
+    progress: &mut Progress,
+    number: u64,
+    count: u32,
+    writer: &mut Watched<W>,
+) -> Result<(), PlayFault>
+    ensures acts { GrowsBy (W.contents writer.old.inner) (W.contents writer.new.inner) (Acts number (ticks_passed progress.old count) result progress.new) }
+    ensures write { IsErrOf result PlayFault.Write → writer.new.failed ≡ true }
+{
+    run(alloc, progress, number)?;
+    match progress {
+        Progress::Running(mme) => step_ticks(alloc, mme, count, writer),
+        Progress::Nothing | Progress::Provisioning(_, _) => unreachable!(),
+    }
+}
+
+/// Writes the states of the subscriber of that IMSI.
+fn show<W: Write>(
+    alloc: Global,
+    progress: &mut Progress,
+    number: u64,
+    imsi: Imsi,
+    writer: &mut Watched<W>,
+) -> Result<(), PlayFault>
+    ensures acts { GrowsBy (W.contents writer.old.inner) (W.contents writer.new.inner) (Acts number (shown progress.old imsi) result progress.new) }
+    ensures write { IsErrOf result PlayFault.Write → writer.new.failed ≡ true }
+{
+    run(alloc, progress, number)?;
+    match progress {
+        Progress::Running(mme) => show_states(alloc, mme, number, imsi, writer),
+        Progress::Nothing | Progress::Provisioning(_, _) => unreachable!(),
+    }
+}
+
+/// One event: whether it was taken.
+fn step_event<W: Write>(
+    alloc: Global,
+    mme: &mut Mme,
+    event: &Event<'_>,
+    writer: &mut Watched<W>,
+) -> Result<bool, PlayFault>
+    ensures put { GrowsBy (W.contents writer.old.inner) (W.contents writer.new.inner) (Puts (reply_text (reply mme.old event.now)) result) }
+    ensures after { OnOk result (mme.new ≡ left_by mme.old event.now (reply mme.old event.now)) }
+    ensures taken { IfOk result (λ taken. taken ≡ is_ok (reply mme.old event.now)) }
+    ensures write { IsErrOf result PlayFault.Write → writer.new.failed ≡ true }
+{
+    match mme.step(event) {
+        Ok(outs) => match write_all(alloc, outs.as_slice(), writer) {
+            Ok(()) => Ok(true),
+            Err(fault) => Err(fault),
+        },
+        Err(StepFault::NoMemory) => Err(PlayFault::NoMemory),
+        Err(StepFault::NotUp) => write_refusal(alloc, 1, writer),
+        Err(StepFault::AlreadyUp) => write_refusal(alloc, 2, writer),
+        Err(StepFault::ClockSpent) => write_refusal(alloc, 3, writer),
+        Err(StepFault::UnknownImsi) => write_refusal(alloc, 5, writer),
+    }
+}
+
+/// Ticks, one after another, up to the first that is refused.
+fn step_ticks<W: Write>(
+    alloc: Global,
+    mme: &mut Mme,
+    count: u32,
+    writer: &mut Watched<W>,
+) -> Result<(), PlayFault>
+    ensures put { GrowsBy (W.contents writer.old.inner) (W.contents writer.new.inner) (Puts (ticked count mme.old).1 result) }
+    ensures after { OnOk result (mme.new ≡ (ticked count mme.old).0) }
+    ensures write { IsErrOf result PlayFault.Write → writer.new.failed ≡ true }
+{
+    for _tick in 0..count {
+        match step_event(alloc, mme, &Event::Tick, writer) {
+            Ok(true) => {}
+            Ok(false) => return Ok(()),
+            Err(fault) => return Err(fault),
+        }
+    }
+    Ok(())
+}
+
+fn show_states<W: Write>(
+    alloc: Global,
+    mme: &Mme,
+    number: u64,
+    imsi: Imsi,
+    writer: &mut Watched<W>,
+) -> Result<(), PlayFault>
+    ensures acts { GrowsBy (W.contents writer.old.inner) (W.contents writer.new.inner) (Acts number (states_shown imsi mme.now (states_of_imsi imsi mme.now)) result (Running mme.now)) }
+    ensures write { IsErrOf result PlayFault.Write → writer.new.failed ≡ true }
+{
+    match states_of_imsi(mme, imsi) {
+        Some(states) => write_states(alloc, imsi, states, writer),
+        None => Err(PlayFault::Trace(number, TraceFault::Provision)),
+    }
+}
+
+/// The states of the subscriber of that IMSI, if one is provisioned with it.
+pub fn states_of_imsi(mme: &Mme, imsi: Imsi) -> Option<States>
+    ensures { result ≡ states_of_imsi imsi mme.now }
+{
+    match mme.slot_of_imsi(imsi) {
+        Some(slot) => mme.states(slot),
+        None => None,
+    }
+}
