@@ -5,10 +5,10 @@
     measure.py [PROGRAM] --table
 
 PROGRAM is the built one of this repository where none is given. `--table` prints, behind the figures one by one, the table of
-bench/README.md. The words: attaches, growth, events, ticks, setups, instructions, scripts. Times are those of the processor, of one thread; the best of
-the rounds counts, and a run's start and provisioning, measured in the same rounds, are taken off. `instructions` counts them
-by valgrind, which no other work on the machine can change. Most are taken at 20, 2,048 and 32,768 subscribers. Ends with 1 where
-an answer is wrong.
+bench/README.md. The words: attaches, growth, events, ticks, setups, instructions, stations, waiting, scripts. Times are those of the
+processor, of one thread; the best of the rounds counts, and a run's start and provisioning, measured in the same rounds, are taken
+off. `instructions`, `stations` and `waiting` count them by valgrind, which no other work on the machine can change. Most are taken
+at 20, 2,048 and 32,768 subscribers. Ends with 1 where an answer is wrong.
 """
 import argparse
 import functools
@@ -27,7 +27,8 @@ import scripts
 FEW, MANY, MOST = COUNTS = (20, 2048, attaches.MOST)
 COLUMNS = ["{:,}".format(count) for count in COUNTS]  # of the table
 PROGRAM = os.path.join(os.path.dirname(os.path.abspath(__file__)), "..", "crates", "mme", "out", "mme")
-USUAL, OF_TABLE = ("attaches", "growth", "events", "ticks", "setups"), ("instructions", "growth", "events", "scripts")
+USUAL = ("attaches", "growth", "events", "ticks", "setups")
+OF_TABLE = ("instructions", "stations", "waiting", "growth", "events", "scripts")
 
 
 class Bench:
@@ -193,23 +194,56 @@ def paged(bench):
         print("a page for each of %d: %.2f us each" % (count, (most - least) / count * 1e6))
 
 
+def told(bench, what, count, each):
+    """Keeps and prints how many instructions something takes with so many subscribers."""
+    bench.figure("%s, instructions" % what, count, "{:,.0f}".format(each))
+    print("%s among %d: %.0f instructions" % (what, count, each))
+    sys.stdout.flush()
+
+
+def stations(bench):
+    """Instructions of what concerns none of so many subscribers: a station's set-up, its loss and its return, and a tick."""
+    for count in (0, *COUNTS):
+        trace, station, _ = attaches.provisioned(count)
+        before = trace.text()
+        trace.set_up(station, connects=False)
+        lost = "lost %d\nup %d\n" % (station.number, station.number)
+        for what, lines in (("a station's set-up", trace.text()[len(before):]), ("a station lost and up again", lost),
+                            ("a tick with nothing due", "tick 1\n")):
+            each = bench.instructions(before + lines * COUNTED) - bench.instructions(before)
+            told(bench, what, count, each / COUNTED)
+
+
+def waiting(bench):
+    """Instructions of a tick and of one more first message, with so many unknown phones that were asked for their identity."""
+    nas = lte.attach_request(1, scripts.FOREIGN_GUTI, b"\xe0\x60", lte.pdn_connectivity_request(1, 1, False))
+    for count in (0, *COUNTS):
+        trace, station, _ = attaches.provisioned(FEW)
+        messages = [lte.initial_ue_message(trace.network, station, b, nas) for b in range(count + COUNTED)]
+        for message in messages[:count]:
+            trace.hear(station, message)
+        before = trace.text()
+        for message in messages[count:]:
+            trace.hear(station, message)
+        begun, ticked, asked, more = map(bench.instructions, (before, before + "tick 5\n", before + "tick 6\n", trace.text()))
+        told(bench, "a tick while unknown phones wait", count, (ticked - begun) / 5)
+        told(bench, "an unknown phone's first message", count, (more - begun) / COUNTED)
+        if count:
+            told(bench, "a tick for each whom it asks again", count, (asked - ticked) / count)
+
+
 def instructions(bench):
     """Instructions of an attach, of an event of one subscriber and of a tick, with so many subscribers."""
-    def told(what, count, each):
-        bench.figure("%s, instructions" % what, count, "{:,.0f}".format(each))
-        print("%s among %d: %.0f instructions" % (what, count, each))
-        sys.stdout.flush()
-
     for count in COUNTS:
         base = bench.instructions(attaches.provisioned(count)[0].text())
-        told("an attach", count, (bench.instructions(attached(count, False)[0].text()) - base) / count)
+        told(bench, "an attach", count, (bench.instructions(attached(count, False)[0].text()) - base) / count)
     for what, release, add in KINDS:
         for count in COUNTS:
             before, trace = before_and_whole(count, lambda t, s, made: add(t, s, made[10], COUNTED), release)
-            told(what, count, (bench.instructions(trace.text()) - bench.instructions(before)) / COUNTED)
+            told(bench, what, count, (bench.instructions(trace.text()) - bench.instructions(before)) / COUNTED)
     for count in COUNTS:
         before, trace = before_and_whole(count, lambda t, s, made: t.say("tick 10"))
-        told("a tick over idle phones", count, (bench.instructions(trace.text()) - bench.instructions(before)) / 10)
+        told(bench, "a tick over idle phones", count, (bench.instructions(trace.text()) - bench.instructions(before)) / 10)
 
 
 def ticks(bench, most):
@@ -273,7 +307,7 @@ def main():
     parser = argparse.ArgumentParser(description=__doc__, formatter_class=argparse.RawDescriptionHelpFormatter)
     parser.add_argument("program", nargs="?", default=PROGRAM)
     parser.add_argument("--table", action="store_true", help="at the end print the table of bench/README.md; measures what it has")
-    parser.add_argument("--only", nargs="*", choices=[*USUAL, "instructions", "scripts"])
+    parser.add_argument("--only", nargs="*", choices=[*USUAL, "instructions", "stations", "waiting", "scripts"])
     parser.add_argument("--rounds", type=int, default=10)
     parser.add_argument("--ticks", type=int, default=3000)
     given = parser.parse_args()
@@ -282,7 +316,7 @@ def main():
     bench = Bench(given.program, given.rounds)
     for word in given.only or (OF_TABLE if given.table else USUAL):
         {"attaches": attaches_per_second, "growth": growth, "events": events, "setups": set_ups, "instructions": instructions,
-         "scripts": simulated,
+         "stations": stations, "waiting": waiting, "scripts": simulated,
          "ticks": lambda bench: ticks(bench, given.ticks)}[word](bench)
         sys.stdout.flush()
     if given.table:
