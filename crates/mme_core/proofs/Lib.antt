@@ -17,3 +17,4 @@ pub mod Short
 pub mod Faults
 pub mod Taken
 pub mod Ticks
+pub mod Known

@@ -9,6 +9,7 @@ use Rattle.ordered_lists.specs.Ordered.{Every}
 use Rattle.stranger_machine.specs.declared.table.Known.{Known}
 use Rattle.stranger_machine.specs.declared.turn.Notice.{Notice}
 use Rattle.stranger_machine.specs.declared.turn.Notice.TheVariants as notices
+use Rattle.stranger_machine.specs.Machine.{is_of_station, notes}
 use Rattle.stranger_machine.specs.Table.{noted, stranger_at, with_stranger}
 use Rattle.stranger_machine.specs.Turns.{after_of}
 use Rattle.subscriber_table.specs.declared.stepped.Stepped.{Stepped}
@@ -19,7 +20,7 @@ use Rattle.mme_core.specs.declared.prepared.Prepared.TheVariants as prepared
 use Rattle.mme_routing.specs.declared.destination.Destination.{Destination as DestinationInCode}
 use Rattle.mme_routing.specs.declared.destination.Destination.TheVariants as code
 use Rattle.mme_routing.specs.Destinations.{Destination, Everyone}
-use Rattle.mme_core.specs.World.{slot_out, subscriber_step}
+use Rattle.mme_core.specs.World.{slot_out, stranger_out, subscriber_step}
 pub use Rattle.subscriber_table.specs.Table.{in_state, with_solo, with_stepped}
 
 abbrev pub with_one : Option Stepped → List SubscriberView → List SubscriberView
@@ -42,7 +43,7 @@ settled_strangers (prepared.Stranger id after x) ks = with_stranger id (after_of
 settled_strangers (prepared.Everyone notice xs) ks = noted notice ks
 settled_strangers (prepared.Tick xs) ks = noted notices.Tick ks
 
--- and the clock of the subscribers
+-- and the clock of the tables of both
 abbrev pub settled_clock : Prepared → ℕ → ℕ
 settled_clock (prepared.Tick xs) clock = clock + 1
 settled_clock _ clock = clock
@@ -58,12 +59,12 @@ abbrev pub IsFitIf : ℕ → Option Stepped → Type 0
 IsFitIf n None = Unit {0}
 IsFitIf n (Some x) = IsFit n x
 
--- each is that of a subscriber, and at a tick they are those who are due
+-- each is that of a subscriber, at a tick they are those who are due, and any other notice is that of a station
 abbrev pub IsFor : Prepared → List SubscriberView → Type 0
 IsFor prepared.Nobody ws = Unit {0}
 IsFor (prepared.Subscriber x) ws = IsFit (length ws) x
 IsFor (prepared.Stranger id after x) ws = IsFitIf (length ws) x
-IsFor (prepared.Everyone notice xs) ws = AreFit (length ws) xs.items × (length xs.items ≤ length ws)
+IsFor (prepared.Everyone notice xs) ws = AreFit (length ws) xs.items × (length xs.items ≤ length ws) × (is_of_station notice ≡ true)
 IsFor (prepared.Tick xs) ws = (slots_stepped xs.items ≡ due_slots ws) × Every (λ (x : Stepped). IsCounting x.solo) xs.items
 
 -- for how many steps room is made
@@ -84,11 +85,6 @@ MayPass _ clock = Unit {0}
 -- and it moves no further than another
 abbrev pub IsInTime : Prepared → ℕ → ℕ → Type 0
 IsInTime p before after = MayPass p before × (settled_clock p before ≤ after)
-
--- a notice of what happened to a station
-abbrev pub is_of_station : Notice → Bool
-is_of_station notices.Tick = false
-is_of_station _ = true
 
 -- it doesn't go to everyone
 abbrev pub is_own : DestinationInCode → Bool
@@ -112,3 +108,7 @@ sent_at slot item ws = option_map_or (λ w. map (slot_out slot) (subscriber_step
 -- what a slot's subscriber sends at an item
 abbrev pub item_sent : Item → ℕ → SubscriberView → List Out
 item_sent item n w = map (slot_out n) (subscriber_step w item).sent
+
+-- what a stranger sends at a notice
+abbrev pub known_sent : Notice → Known → List Out
+known_sent notice k = map (stranger_out k.id) (notes k.id (Some k.stranger) notice).sent

@@ -41,7 +41,8 @@ use mme_vocabulary::{Answers, EnbWorld, SharedNetwork, SoloEvent, StationNumber,
 use nas_elements::Imsi;
 use std::alloc::{AllocError, Global};
 use std::marker::Model;
-use stranger_machine::{Notice, Strangers};
+use stranger_machine::Notice;
+use stranger_table::Strangers;
 use subscriber_table::Subscribers;
 
 /// The last tick of the clock.
@@ -59,7 +60,7 @@ pub(crate) struct Surroundings {
 }
 
 impl Model for Surroundings {
-    ghost use Rattle.std.specs.Prelude.{◌≡◌, length};
+    ghost use Rattle.std.specs.Prelude.{◌≡◌, ◌≤◌, length};
     ghost use Rattle.ordered_lists.specs.Ordered.{Rising};
     ghost use Rattle.stranger_machine.specs.Table.{known_id};
     ghost use Rattle.mme_core.specs.Sight.{Around};
@@ -68,10 +69,10 @@ impl Model for Surroundings {
 
     ghost view = { λ s. record {
       sight = record { config = s.config; clock = s.clock; stations = s.stations; profiles = s.provision.profiles };
-      strangers = s.strangers;
+      strangers = s.strangers.strangers;
     } };
 
-    ghost invariant = { λ s. (length s.stations ≡ 128) × Rising known_id s.strangers };
+    ghost invariant = { λ s. (length s.stations ≡ 128) × Rising known_id s.strangers.strangers × (s.strangers.clock ≤ s.clock) };
 }
 
 /// An MME with its stations, strangers and subscribers; a contract sees what every owner may see, the strangers that aren't
@@ -132,7 +133,7 @@ impl Mme {
             clock,
             stations,
             provision,
-            strangers: Strangers::new(alloc),
+            strangers: Strangers::new(alloc, 0),
             alloc,
         };
         Ok(Mme {

@@ -7,6 +7,7 @@ ghost use Rattle.mme_vocabulary.specs.Events as items;
 ghost use Rattle.ordered_lists.specs.Ordered.{Every};
 ghost use Rattle.stranger_machine.specs.declared.table.Known.{Known};
 ghost use Rattle.stranger_machine.specs.declared.turn.Notice.TheVariants as notices;
+ghost use Rattle.stranger_machine.specs.Machine.{is_of_station};
 ghost use Rattle.stranger_machine.specs.Table.{noted, stranger_at, with_stranger};
 ghost use Rattle.stranger_machine.specs.Turns.{after_of, call_of};
 ghost use Rattle.subscriber_table.specs.declared.stepped.Stepped.{Stepped};
@@ -16,19 +17,20 @@ ghost use Rattle.subscriber_table.specs.Touched.{touched_slots};
 ghost use Rattle.mme_routing.specs.Destinations.{Destination as DestinationInSpecs, Everyone, for_all, for_one, if_called, item_at, item_of_notice, strangers_behind};
 ghost use Rattle.mme_routing.specs.Seen.{destination_of};
 ghost use Rattle.mme_core.specs.FreshRuns.{AreInUse};
-ghost use Rattle.mme_core.specs.Settled.{AreFit, IsFitIf, IsFor, IsPassing, is_of_station, is_own, item_sent, sent_at, settled_strangers, settled_subscribers, solo_at, with_one, with_stepped};
+ghost use Rattle.mme_core.specs.Settled.{AreFit, IsFitIf, IsFor, IsPassing, is_own, item_sent, sent_at, settled_strangers, settled_subscribers, solo_at, with_one, with_stepped};
 ghost use Rattle.mme_core.specs.World.{each_after, each_known, each_sent, stranger_out, strangers_sent};
 
 use crate::out::{Outs, Owner};
 use crate::prepared::Prepared;
-use crate::sending::{send_all, send_each};
+use crate::sending::{send_all, send_due};
 use emm_machine::running_is_kept;
 use emm_state::Draft;
 use identity_slots::{AssociationId, Provision, Slot};
 use mme_routing::Destination;
 use mme_vocabulary::{EnbWorld, SoloEvent};
 use std::alloc::{AllocError, Global};
-use stranger_machine::{Call, Notice, Strangers, Turn, begins, receives};
+use stranger_machine::{Call, Notice, Turn, begins, receives};
+use stranger_table::Strangers;
 use subscriber_table::{Stepped, Subscribers};
 
 // A subscriber's step, on a copy: its state after it; what it sends stands behind what is sent so far.
@@ -153,7 +155,7 @@ fn prepare_turn(
     Ok(Prepared::Stranger(id, after, called))
 }
 
-// A tick of all strangers and, of the subscribers, of those alone who are due; and what all send.
+// A tick of those alone, strangers and subscribers, who are due; and what all send.
 fn prepare_tick(
     alloc: Global,
     strangers: &Strangers,
@@ -164,14 +166,14 @@ fn prepare_tick(
 ) -> Result<Prepared, AllocError>
     requires tick { item_of event.now stations.now ≡ items.Tick }
     requires in_use { AreInUse subscribers.old.subscribers }
-    ensures sends { OnOk result (outs.new ≡ outs.old ++ (each_known notices.Tick strangers.now ++ each_sent (for_all items.Tick) 0 subscribers.old.subscribers)) }
-    ensures strangers { IfOk result (λ p. settled_strangers p strangers.now ≡ noted notices.Tick strangers.now) }
+    ensures sends { OnOk result (outs.new ≡ outs.old ++ (each_known notices.Tick strangers.now.strangers ++ each_sent (for_all items.Tick) 0 subscribers.old.subscribers)) }
+    ensures strangers { IfOk result (λ p. settled_strangers p strangers.now.strangers ≡ noted notices.Tick strangers.now.strangers) }
     ensures subscribers { IfOk result (λ p. settled_subscribers p subscribers.old.subscribers ≡ each_after (for_all items.Tick) 0 subscribers.old.subscribers) }
     ensures fits { IfOk result (λ p. IsFor p subscribers.old.subscribers) }
     ensures passing { IfOk result (λ p. IsPassing (Everyone notices.Tick) p) }
     ensures same { subscribers.new ≡ subscribers.old }
 {
-    send_each(alloc, strangers, &Notice::Tick, outs)?;
+    send_due(alloc, strangers, outs)?;
     let due = subscribers.due()?;
     let called = due.as_slice();
     let stepped = prepare_each(alloc, subscribers, called, event, stations, outs)?;
@@ -202,11 +204,10 @@ fn touched_by(subscribers: &Subscribers, notice: &Notice) -> Result<Vec<Slot>, A
     }
 }
 
-// What a notice of a station makes of those subscribers whom it touches, by the event that it is to them, and what strangers and
-// subscribers send.
+// What a notice of a station makes of those subscribers whom it touches, by the event that it is to them, and what they send;
+// strangers send nothing at it.
 fn prepare_all(
     alloc: Global,
-    strangers: &Strangers,
     subscribers: &mut Subscribers,
     stations: &EnbWorld,
     notice: &Notice,
@@ -216,12 +217,11 @@ fn prepare_all(
     requires station { is_of_station notice.now ≡ true }
     requires event { item_of event.now stations.now ≡ item_of_notice notice.now }
     requires in_use { AreInUse subscribers.old.subscribers }
-    ensures sends { OnOk result (outs.new ≡ outs.old ++ (each_known notice.now strangers.now ++ each_sent (for_all (item_of_notice notice.now)) 0 subscribers.old.subscribers)) }
+    ensures sends { OnOk result (outs.new ≡ outs.old ++ each_sent (for_all (item_of_notice notice.now)) 0 subscribers.old.subscribers) }
     ensures subscribers { IfOk result (λ xs. with_stepped xs.items subscribers.old.subscribers ≡ each_after (for_all (item_of_notice notice.now)) 0 subscribers.old.subscribers) }
     ensures fits { IfOk result (λ xs. AreFit (length subscribers.old.subscribers) xs.items × (length xs.items ≤ length subscribers.old.subscribers)) }
     ensures same { subscribers.new ≡ subscribers.old }
 {
-    send_each(alloc, strangers, notice, outs)?;
     let touched = touched_by(subscribers, notice)?;
     let called = touched.as_slice();
     prepare_each(alloc, subscribers, called, event, stations, outs)
@@ -239,11 +239,11 @@ fn prepare_own<'a>(
 ) -> Result<Prepared, AllocError>
     requires own { is_own destination.now ≡ true }
     requires in_use { AreInUse subscribers.old.subscribers }
-    ensures sends { OnOk result (outs.new ≡ outs.old ++ (strangers_sent provision.now.profiles (destination_of stations.now destination.now) strangers.entry.now
-        ++ each_sent (item_at (destination_of stations.now destination.now) provision.now.profiles (λ id. stranger_at id strangers.entry.now)) 0 subscribers.old.subscribers)) }
-    ensures strangers { IfOk result (λ p. settled_strangers p strangers.entry.now ≡ strangers_behind provision.now.profiles (destination_of stations.now destination.now) strangers.entry.now) }
+    ensures sends { OnOk result (outs.new ≡ outs.old ++ (strangers_sent provision.now.profiles (destination_of stations.now destination.now) strangers.entry.now.strangers
+        ++ each_sent (item_at (destination_of stations.now destination.now) provision.now.profiles (λ id. stranger_at id strangers.entry.now.strangers)) 0 subscribers.old.subscribers)) }
+    ensures strangers { IfOk result (λ p. settled_strangers p strangers.entry.now.strangers ≡ strangers_behind provision.now.profiles (destination_of stations.now destination.now) strangers.entry.now.strangers) }
     ensures subscribers { IfOk result (λ p. settled_subscribers p subscribers.old.subscribers
-        ≡ each_after (item_at (destination_of stations.now destination.now) provision.now.profiles (λ id. stranger_at id strangers.entry.now)) 0 subscribers.old.subscribers) }
+        ≡ each_after (item_at (destination_of stations.now destination.now) provision.now.profiles (λ id. stranger_at id strangers.entry.now.strangers)) 0 subscribers.old.subscribers) }
     ensures fits { IfOk result (λ p. IsFor p subscribers.old.subscribers) }
     ensures passing { IfOk result (λ p. IsPassing (destination_of stations.now destination.now) p) }
     ensures same { subscribers.new ≡ subscribers.old }
@@ -280,11 +280,11 @@ pub(crate) fn prepare<'a>(
     outs: &mut Outs,
 ) -> Result<Prepared, AllocError>
     requires in_use { AreInUse subscribers.old.subscribers }
-    ensures sends { OnOk result (outs.new ≡ outs.old ++ (strangers_sent provision.now.profiles (destination_of stations.now destination.entry) strangers.entry.now
-        ++ each_sent (item_at (destination_of stations.now destination.entry) provision.now.profiles (λ id. stranger_at id strangers.entry.now)) 0 subscribers.old.subscribers)) }
-    ensures strangers { IfOk result (λ p. settled_strangers p strangers.entry.now ≡ strangers_behind provision.now.profiles (destination_of stations.now destination.entry) strangers.entry.now) }
+    ensures sends { OnOk result (outs.new ≡ outs.old ++ (strangers_sent provision.now.profiles (destination_of stations.now destination.entry) strangers.entry.now.strangers
+        ++ each_sent (item_at (destination_of stations.now destination.entry) provision.now.profiles (λ id. stranger_at id strangers.entry.now.strangers)) 0 subscribers.old.subscribers)) }
+    ensures strangers { IfOk result (λ p. settled_strangers p strangers.entry.now.strangers ≡ strangers_behind provision.now.profiles (destination_of stations.now destination.entry) strangers.entry.now.strangers) }
     ensures subscribers { IfOk result (λ p. settled_subscribers p subscribers.old.subscribers
-        ≡ each_after (item_at (destination_of stations.now destination.entry) provision.now.profiles (λ id. stranger_at id strangers.entry.now)) 0 subscribers.old.subscribers) }
+        ≡ each_after (item_at (destination_of stations.now destination.entry) provision.now.profiles (λ id. stranger_at id strangers.entry.now.strangers)) 0 subscribers.old.subscribers) }
     ensures fits { IfOk result (λ p. IsFor p subscribers.old.subscribers) }
     ensures passing { IfOk result (λ p. IsPassing (destination_of stations.now destination.entry) p) }
     ensures same { subscribers.new ≡ subscribers.old }
@@ -296,15 +296,7 @@ pub(crate) fn prepare<'a>(
         }
         Destination::Everyone(notice) => {
             let event = &event_of(&notice);
-            let stepped = prepare_all(
-                alloc,
-                strangers,
-                subscribers,
-                stations,
-                &notice,
-                event,
-                outs,
-            )?;
+            let stepped = prepare_all(alloc, subscribers, stations, &notice, event, outs)?;
             Ok(Prepared::Everyone(notice, stepped))
         }
         own => prepare_own(

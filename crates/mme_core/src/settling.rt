@@ -8,7 +8,7 @@ ghost use Rattle.mme_core.specs.World.{placed};
 use crate::prepared::Prepared;
 use mme_vocabulary::{EnbWorld, StationNumber, StationState};
 use std::alloc::AllocError;
-use stranger_machine::{Notice, Strangers};
+use stranger_table::Strangers;
 use subscriber_table::{Stepped, Subscribers};
 
 // Each has the state that it was prepared for.
@@ -42,7 +42,9 @@ pub(crate) fn settle(
 ) -> Result<(), AllocError>
     requires fits { IsFor prepared subscribers.old.subscribers }
     requires clock { MayPass prepared subscribers.old.clock }
-    ensures strangers { OnOk result (strangers.new ≡ settled_strangers prepared strangers.old) }
+    requires strangers_clock { MayPass prepared strangers.old.clock }
+    ensures strangers { OnOk result (strangers.new.strangers ≡ settled_strangers prepared strangers.old.strangers) }
+    ensures strangers_clock { OnOk result (strangers.new.clock ≡ settled_clock prepared strangers.old.clock) }
     ensures subscribers { OnOk result (subscribers.new.subscribers ≡ settled_subscribers prepared subscribers.old.subscribers) }
     ensures clock { OnOk result (subscribers.new.clock ≡ settled_clock prepared subscribers.old.clock) }
     ensures same_strangers { OnErr result (strangers.new ≡ strangers.old) }
@@ -66,7 +68,7 @@ pub(crate) fn settle(
             settle_everyone(subscribers, stepped);
         }
         Prepared::Tick(stepped) => {
-            strangers.note(&Notice::Tick);
+            strangers.tick();
             subscribers.tick(stepped);
         }
     }

@@ -1,3 +1,1 @@
-pub mod Unchanged
-pub mod Kept
 pub mod Notices

@@ -3,5 +3,7 @@ pub mod Machine
 pub mod Seen
 pub mod Table
 pub mod Laws
-pub mod Kept
-pub mod Walks
+pub mod Ticks
+pub mod TickLaws
+pub mod Lent
+pub mod StationLaws

@@ -1,6 +1,6 @@
 -- The machine of one stranger: a phone that no subscriber is known for, at a station and under its number there. It is closed,
 -- waits for an identity (TS 24.301 clause 5.4.4), or is held by the subscriber that it turned out to be.
-use Rattle.std.specs.Prelude.{ℕ, ◌-◌, ◌==◌, ◌&&◌, nat_lt, if◌then◌else◌, Bool, List, [], slice_index, Option, Some, None, Result, Ok, Err}
+use Rattle.std.specs.Prelude.{ℕ, ◌-◌, ◌==◌, ◌&&◌, nat_lt, if◌then◌else◌, Bool, true, false, List, [], slice_index, Option, Some, None, Result, Ok, Err}
 use Rattle.identity_slots.specs.declared.profile.Profile.{Profile}
 use Rattle.identity_slots.specs.Ids.{number_in, station_in}
 use Rattle.identity_slots.specs.Provisioned.{slot_of_imsi}
@@ -180,6 +180,25 @@ unfoldable pub notes : ℕ → Option Stranger → Notice → Turn
 notes id s Tick = ticks id s
 notes id s (Gone e) = loses id s e
 notes id s (Listed e items) = unlists id s e items
+
+-- ---- a notice of a station
+
+-- a notice of what happened to a station
+abbrev pub is_of_station : Notice → Bool
+is_of_station Tick = false
+is_of_station _ = true
+
+-- the station that it is of
+abbrev pub noted_station : Notice → ℕ
+noted_station Tick = 0
+noted_station (Gone e) = e
+noted_station (Listed e items) = e
+
+-- it closes the stranger with an id, whatever that is
+abbrev pub closes : ℕ → Notice → Bool
+closes id Tick = false
+closes id (Gone e) = station_in id == e
+closes id (Listed e items) = is_meant id e items
 
 -- ---- the step
 

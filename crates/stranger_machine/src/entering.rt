@@ -6,10 +6,12 @@ ghost use Rattle.mme_vocabulary.specs.declared.stations.StationState.{StationSta
 ghost use Rattle.mme_vocabulary.specs.Events.{entry_lists};
 ghost use Rattle.stranger_machine.specs.Machine.{begins, welcome_by_fault, welcome_by_identity, welcome_by_message, welcome_by_type, displaced_by, meet, welcomed};
 ghost use Rattle.stranger_machine.specs.Seen.{refusal_of, welcome_of};
+ghost use Rattle.stranger_machine.specs.Lent.{lent_now};
 ghost use Rattle.stranger_machine.specs.Turns.{call_of, as_kept, turn_of};
 
 use crate::sending::{identity_asked, place, refused, released};
 use crate::state::{KeptEntry, Stranger};
+use crate::table::LentStranger;
 use crate::turn::{After, Call, Turn};
 use identity_slots::AssociationId;
 use mme_signalling::{EmmCause, attach_reject, initial_octets, service_reject, update_reject};
@@ -125,22 +127,19 @@ fn refusal(alloc: Global, rejected: Rejected) -> Result<Vec<u8>, AllocError>
 }
 
 // Whoever held the id loses it.
-fn displaced_by<'a>(id: AssociationId, before: Option<&Stranger>) -> Option<Call<'a>>
-    ensures { (stations : List StationState) → call_of stations result ≡ displaced_by id (option_map (λ s. s.now) before.entry) }
+fn displaced_by<'a>(id: AssociationId, before: Option<LentStranger<'_>>) -> Option<Call<'a>>
+    ensures { (stations : List StationState) → call_of stations result ≡ displaced_by id (option_map lent_now before.entry) }
 {
-    match before {
-        Some(Stranger::Held(slot)) => Some(Call {
+    match before?.stranger {
+        Stranger::Held(slot) => Some(Call {
             slot: *slot,
             event: SoloEvent::Displaced(id),
         }),
-        Some(
-            Stranger::Waiting {
-                kept: _,
-                left: _,
-                repeats: _,
-            },
-        )
-        | None => None,
+        Stranger::Waiting {
+            kept: _,
+            left: _,
+            repeats: _,
+        } => None,
     }
 }
 
@@ -150,11 +149,11 @@ fn displaced_by<'a>(id: AssociationId, before: Option<&Stranger>) -> Option<Call
 pub fn begins<'a>(
     alloc: Global,
     id: AssociationId,
-    before: Option<&Stranger>,
+    before: Option<LentStranger<'_>>,
     entry: &Entry<&'a [u8]>,
 ) -> Result<Turn<'a>, AllocError>
-    ensures { (stations : List StationState) → IfOk result (λ t. turn_of stations (option_map (λ s. s.now) before.entry) t
-        ≡ begins id (option_map (λ s. s.now) before.entry) (entry_lists entry.now)) }
+    ensures { (stations : List StationState) → IfOk result (λ t. turn_of stations (option_map lent_now before.entry) t
+        ≡ begins id (option_map lent_now before.entry) (entry_lists entry.now)) }
 {
     let call = displaced_by(id, before);
     let (station, enb_id) = (entry.station, entry.enb_id);

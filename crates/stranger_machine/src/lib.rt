@@ -2,14 +2,12 @@
 //! TS 36.413 clause 8.6.2.1).
 //!
 //! A [`Stranger`] waits for an identity, or is held by the subscriber that it turned out to be; any other is closed. What one
-//! stranger does at an event is a function of its state and the event ([`begins`], [`receives`], [`Stranger::sends`]), and
-//! [`Strangers`] keeps those that aren't closed by their ids: a look-up, an insertion and a removal cost about the same whether few
-//! wait or many.
+//! stranger does at an event is a function of its state and the event ([`begins`], [`receives`], [`LentStranger::sends`]). Contracts see
+//! those that aren't closed as a list of [`Known`] by rising id.
 #![tactic(auto)]
 
 mod entering;
 mod noting;
-mod places;
 mod receiving;
 mod sending;
 mod state;
@@ -20,5 +18,5 @@ pub use entering::begins;
 pub use receiving::{receives, unknown};
 pub use sending::sent_to;
 pub use state::{KeptEntry, Stranger};
-pub use table::{Known, LentStranger, Strangers};
+pub use table::{Known, LentStranger};
 pub use turn::{After, Call, Notice, Turn};

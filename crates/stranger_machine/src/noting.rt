@@ -2,12 +2,15 @@
 
 ghost use Rattle.std.specs.Prelude.{◌≡◌, ℕ, IfOk, Some};
 ghost use Rattle.identity_slots.specs.Ids.{number_in};
+ghost use Rattle.stranger_machine.specs.Lent.{lent_now};
 ghost use Rattle.stranger_machine.specs.Machine.{is_meant, notes};
 ghost use Rattle.stranger_machine.specs.Table.{passed, stays_open};
+ghost use Rattle.stranger_machine.specs.Ticks.{stranger_aged};
 
 use crate::entering::IDENTITY_TICKS;
 use crate::sending::{identity_asked, released};
 use crate::state::Stranger;
+use crate::table::LentStranger;
 use crate::turn::Notice;
 use identity_slots::{AssociationId, number_in, station_in};
 use mme_vocabulary::{Answers, StationNumber, is_listed};
@@ -31,7 +34,7 @@ fn is_meant(id: AssociationId, station: StationNumber, items: &AssociationsToRes
     station_in(id) == station.get() && is_listed(id, own_number(id), items.as_slice())
 }
 
-impl Stranger {
+impl LentStranger<'_> {
     /// What the stranger with this id sends at a notice: at a tick that ends T3470 the request once more, at the last one the
     /// release.
     #[tactic(auto, unfolding(crate::specs::Machine::notes, crate::specs::Machine::ticks, crate::specs::Machine::waits, crate::specs::Machine::loses))]
@@ -41,9 +44,9 @@ impl Stranger {
         id: AssociationId,
         notice: &Notice,
     ) -> Result<Answers, AllocError>
-        ensures { IfOk result (λ sent. sent ≡ (notes id (Some self.now) notice.now).sent) }
+        ensures { IfOk result (λ sent. sent ≡ (notes id (Some (lent_now self.now)) notice.now).sent) }
     {
-        match (notice, self) {
+        match (notice, self.stranger) {
             (
                 Notice::Tick,
                 Stranger::Waiting {
@@ -52,7 +55,7 @@ impl Stranger {
                     repeats,
                 },
             ) => {
-                if *left > 1 {
+                if u64::from(*left).saturating_sub(self.slept) > 1 {
                     Ok(Answers::new(alloc))
                 } else if *repeats > 0 {
                     identity_asked(alloc, kept.place(id))
@@ -65,10 +68,12 @@ impl Stranger {
             (Notice::Listed(_, _), _) => Ok(Answers::new(alloc)),
         }
     }
+}
 
+impl Stranger {
     /// Whether a notice leaves it open.
     #[tactic(auto, unfolding(crate::specs::Machine::notes, crate::specs::Machine::ticks, crate::specs::Machine::waits, crate::specs::Machine::loses))]
-    pub(crate) fn stays_open(&self, id: AssociationId, notice: &Notice) -> bool
+    pub fn stays_open(&self, id: AssociationId, notice: &Notice) -> bool
         ensures { result ≡ stays_open notice.now (record { id = id; stranger = self.now }) }
     {
         match (notice, self) {
@@ -88,7 +93,7 @@ impl Stranger {
 
     /// What it is behind a notice that leaves it open.
     #[tactic(auto, unfolding(crate::specs::Machine::notes, crate::specs::Machine::ticks, crate::specs::Machine::waits, crate::specs::Machine::loses))]
-    pub(crate) fn pass(&mut self, notice: &Notice)
+    pub fn pass(&mut self, notice: &Notice)
         ensures { (id : ℕ) → self.new ≡ (passed notice.now (record { id = id; stranger = self.old })).stranger }
     {
         match (notice, self) {
@@ -110,6 +115,20 @@ impl Stranger {
             (Notice::Tick, Stranger::Held(_)) => {}
             (Notice::Gone(_), _) => {}
             (Notice::Listed(_, _), _) => {}
+        }
+    }
+
+    /// Its T3470, if it runs, has so many ticks less: what it is behind ticks that don't end it.
+    pub fn pass_ticks(&mut self, ticks: u64)
+        ensures { self.new ≡ stranger_aged ticks self.old }
+    {
+        match self {
+            Stranger::Waiting {
+                kept: _,
+                left,
+                repeats: _,
+            } => *left = u64::from(*left).saturating_sub(ticks) as u32,
+            Stranger::Held(_) => {}
         }
     }
 }

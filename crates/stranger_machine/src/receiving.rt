@@ -8,10 +8,12 @@ ghost use Rattle.mme_vocabulary.specs.Events.{Message, message_lists};
 ghost use Rattle.stranger_machine.specs.declared.state.Stranger.{Stranger};
 ghost use Rattle.stranger_machine.specs.declared.turn.After.TheVariants as afters;
 ghost use Rattle.stranger_machine.specs.Machine.{checked_for_pair, claimed_by, receives_own, identified, imsi_of_identity, receives, imsi_in_response, unknown, receives_waiting};
+ghost use Rattle.stranger_machine.specs.Lent.{lent_now};
 ghost use Rattle.stranger_machine.specs.Turns.{turn_of};
 
 use crate::sending::{refused, released, sent_to};
 use crate::state::{KeptEntry, Stranger};
+use crate::table::LentStranger;
 use crate::turn::{After, Call, Turn};
 use identity_slots::{AssociationId, Provision, Slot};
 use mme_signalling::{
@@ -235,21 +237,21 @@ fn handed_on<'a>(alloc: Global, slot: Slot, message: &UeMessage<&'a [u8]>) -> Tu
 pub fn receives<'a>(
     alloc: Global,
     provision: &Provision,
-    before: Option<&'a Stranger>,
+    before: Option<LentStranger<'a>>,
     message: &UeMessage<&'a [u8]>,
 ) -> Result<Turn<'a>, AllocError>
-    ensures { (stations : List StationState) → IfOk result (λ t. turn_of stations (option_map (λ s. s.now) before.entry) t
-        ≡ receives provision.now.profiles (option_map (λ s. s.now) before.entry) (message_lists message.now)) }
+    ensures { (stations : List StationState) → IfOk result (λ t. turn_of stations (option_map lent_now before.entry) t
+        ≡ receives provision.now.profiles (option_map lent_now before.entry) (message_lists message.now)) }
 {
-    match before {
-        None => Ok(closing(unknown(alloc, message)?)),
-        Some(
-            Stranger::Waiting {
-                kept,
-                left: _,
-                repeats: _,
-            },
-        ) => receives_waiting(alloc, provision, kept, message),
-        Some(Stranger::Held(slot)) => Ok(handed_on(alloc, *slot, message)),
+    let Some(before) = before else {
+        return Ok(closing(unknown(alloc, message)?));
+    };
+    match before.stranger {
+        Stranger::Waiting {
+            kept,
+            left: _,
+            repeats: _,
+        } => receives_waiting(alloc, provision, kept, message),
+        Stranger::Held(slot) => Ok(handed_on(alloc, *slot, message)),
     }
 }

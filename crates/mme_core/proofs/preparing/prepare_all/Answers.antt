@@ -1,13 +1,11 @@
 use Rattle.std.proofs.Common.{◌<◌, ◌++◌, List, length, sym, ◌∙◌, ap, subst}
-use Rattle.std.proofs.lemmas.List.{append_assoc}
 use Rattle.std.proofs.lemmas.Result.{on_ok_weaker}
 use Rattle.ordered_lists.specs.Ordered.{Every}
 use Rattle.subscriber_table.specs.Laws.{some_give, touched_below}
 use Rattle.subscriber_table.specs.Table.{IsStepped}
-use Rattle.mme_routing.specs.Destinations.{for_all, item_of_notice}
+use Rattle.mme_routing.specs.Destinations.{item_of_notice}
 use Rattle.mme_core.specs.declared.out.Out.{Out}
 use Rattle.mme_core.specs.Settled.{item_sent}
-use Rattle.mme_core.specs.World.{each_known, each_sent}
 use Rattle.mme_core.proofs.Stepping.{ok_both, touched_fit, touched_send, touches_all}
 use Rattle.mme_core.proofs.preparing.prepare_all.Goals as goal
 
@@ -20,11 +18,9 @@ pub returns-clause-sends : goal.returns-clause-sends
 returns-clause-sends c =
     let ws = c.args.subscribers.now.subscribers in
     let item = item_of_notice c.args.notice.now in
-    let others = each_known c.args.notice.now c.args.strangers.now in
     let due = c.as_slice-called.ensures.value ∙ c.in_ok-touched.ensures in
-    on_ok_weaker c.prepare_each.result (λ h. h ∙ ap (λ i. c.send_each.new.outs ++ some_give (item_sent i) c.as_slice-called.result.now ws) c.requires.event
-    ∙ ap (λ ks. c.send_each.new.outs ++ some_give (item_sent item) ks ws) due ∙ ap (λ (os : List Out). c.send_each.new.outs ++ os) (touched_send item ws)
-    ∙ ap (λ (os : List Out). os ++ each_sent (for_all item) 0 ws) c.in_ok-send_each.ensures ∙ append_assoc c.args.outs.now others (each_sent (for_all item) 0 ws)) c.prepare_each.ensures.sends
+    on_ok_weaker c.prepare_each.result (λ h. h ∙ ap (λ i. c.args.outs.now ++ some_give (item_sent i) c.as_slice-called.result.now ws) c.requires.event
+    ∙ ap (λ ks. c.args.outs.now ++ some_give (item_sent item) ks ws) due ∙ ap (λ (os : List Out). c.args.outs.now ++ os) (touched_send item ws)) c.prepare_each.ensures.sends
 
 pub returns-clause-subscribers : goal.returns-clause-subscribers
 returns-clause-subscribers c =

@@ -35,7 +35,7 @@ returns-in_ok-turn-in-Beginner-clause-strangers c =
     let id = c.in-Beginner.id in
     let m = entry_lists c.in-Beginner.entry in
     let x = c.in_ok-turn-in-Beginner.turn in
-    let ks = c.args.strangers.now in
+    let ks = c.args.strangers.now.strangers in
     let own = ap (λ o. turn_of [] o x) (sym c.find.ensures) ∙ c.in_ok-turn-in-Beginner.ensures [] ∙ ap (λ o. begins id o m) c.find.ensures in
     rw c.in-Beginner.is (IfOk-weaker c.prepare_turn.result _ _ (λ p h. h ks ∙ ap (λ (t : Turn). with_stranger id t.stranger ks) own) c.prepare_turn.ensures.strangers)
 
@@ -68,7 +68,7 @@ returns-in_ok-turn-in-Stranger-clause-strangers c =
     let id = c.in-Stranger.message.mme_id in
     let m = message_lists c.in-Stranger.message in
     let x = c.in_ok-turn-in-Stranger.turn in
-    let ks = c.args.strangers.now in
+    let ks = c.args.strangers.now.strangers in
     let own = ap (λ o. turn_of [] o x) (sym c.find-in-Stranger.ensures) ∙ c.in_ok-turn-in-Stranger.ensures [] ∙ ap (λ o. receives c.args.provision.now.profiles o m) c.find-in-Stranger.ensures in
     rw c.in-Stranger.is (IfOk-weaker c.prepare_turn-in-Stranger.result _ _ (λ p h. h ks ∙ ap (λ (t : Turn). with_stranger id t.stranger ks) own) c.prepare_turn-in-Stranger.ensures.strangers)
 

@@ -13,7 +13,7 @@ unfolding no_stations
 invariant_of-result c = (
   omega (arith, c.in_ok-subscribers.ensures.clock),
   ap length c.in_ok-stations.ensures ∙ length-replicate 128 Down,
-  subst (Rising known_id) (sym c.new-3.ensures) tt,
+  subst (Rising known_id) (sym c.new-3.ensures.strangers) tt,
   subst AreInUse (sym c.in_ok-subscribers.ensures.value) (fresh_in_use c.in_use_is_kept.ensures.fresh c.soundness_is_kept.ensures.fresh c.running_is_kept.ensures.fresh _ 0 _ _),
   c.in_ok-subscribers.ensures.count ∙ ap length (sym c.in_ok-subscribers.ensures.profiles),
 )

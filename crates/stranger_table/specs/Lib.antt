@@ -1,0 +1,6 @@
+pub mod Rows
+pub mod Queued
+pub mod Table
+pub mod Ended
+pub mod Kept
+pub mod Laws
