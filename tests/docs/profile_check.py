@@ -15,7 +15,7 @@ import s1ap
 del sys.path[0]
 
 KINDS = ("initiating", "successful", "unsuccessful")
-MACHINES = ("mme_signalling", "emm_state", "emm_attaching", "emm_serving", "emm_machine", "stranger_machine", "mme_routing")
+MACHINES = ("mme_signalling", "emm_state", "emm_attaching", "emm_serving", "emm_connected", "emm_idle", "emm_machine", "stranger_machine", "mme_naming", "mme_routing")
 
 
 def text_of(path):

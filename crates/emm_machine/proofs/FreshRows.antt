@@ -38,12 +38,12 @@ use Rattle.mme_vocabulary.specs.declared.stations.StationState.{StationState}
 use Rattle.emm_state.specs.Actions.{connect, connect_on, association_counted, emit, ended, is_at, is_registered, leave_old, untouched}
 use Rattle.emm_attaching.specs.Attaching as attaching
 use Rattle.emm_attaching.specs.Attaching.{counted_up, keyed, took}
-use Rattle.emm_serving.specs.Connected as connected
+use Rattle.emm_connected.specs.Connected as connected
 use Rattle.emm_machine.specs.Freshness.{IsInUse, next_place, next_up}
 use Rattle.mme_signalling.specs.Hearing.{heard}
 use Rattle.mme_vocabulary.specs.Events as events
 use Rattle.mme_vocabulary.specs.Listed.{ToReset}
-use Rattle.emm_serving.specs.Idle as idle
+use Rattle.emm_idle.specs.Idle as idle
 use Rattle.mme_signalling.specs.Pdus.{path_switch_failure}
 use Rattle.emm_serving.specs.Serving as serving
 use Rattle.emm_machine.specs.Steps as steps

@@ -44,8 +44,8 @@ use Rattle.emm_state.specs.Actions.{association_counted, emit, ended, fall, fall
 use Rattle.emm_state.specs.Does.{◌>>=◌}
 use Rattle.emm_state.specs.Timers.{reachable_ticks, ticks_of}
 use Rattle.emm_attaching.specs.Attaching as attaching
-use Rattle.emm_serving.specs.Connected as connected
-use Rattle.emm_serving.specs.Idle as idle
+use Rattle.emm_connected.specs.Connected as connected
+use Rattle.emm_idle.specs.Idle as idle
 use Rattle.emm_serving.specs.Serving as serving
 use Rattle.emm_machine.specs.Steps as steps
 use Rattle.emm_machine.specs.Ticks.{IsGoing, IsRunning, IsTimed, StaysRunning}

@@ -10,8 +10,8 @@ use Rattle.emm_state.specs.declared.solo.Repeat.{Repeat}
 use Rattle.emm_state.specs.declared.solo.Repeat.TheVariants as repeats
 use Rattle.emm_state.specs.declared.solo.Solo.{Solo}
 use Rattle.emm_state.specs.Actions.{lost, untouched}
-use Rattle.emm_serving.specs.Connected.{connections_gone, station_gone, strike}
-use Rattle.emm_serving.specs.Idle.{lowered, procedure_ticks, reachable_ticks_out, tick}
+use Rattle.emm_connected.specs.Connected.{connections_gone, station_gone, strike}
+use Rattle.emm_idle.specs.Idle.{lowered, procedure_ticks, reachable_ticks_out, tick}
 use Rattle.emm_machine.specs.Steps.{row, solo_step}
 use Rattle.emm_machine.specs.Still.{is_elsewhere, is_unlisted, pages, still}
 

@@ -8,6 +8,6 @@ pub mod Freshness
 pub mod Laws
 -- what the rows do, for those who stand on the machine alone
 pub use Rattle.emm_attaching.specs.Attaching
-pub use Rattle.emm_serving.specs.Connected
-pub use Rattle.emm_serving.specs.Idle
+pub use Rattle.emm_connected.specs.Connected
+pub use Rattle.emm_idle.specs.Idle
 pub use Rattle.emm_serving.specs.Serving

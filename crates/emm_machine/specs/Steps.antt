@@ -8,8 +8,8 @@ use Rattle.emm_state.specs.declared.draft.Draft.{Draft}
 use Rattle.emm_state.specs.declared.setting.Setting.{Setting}
 use Rattle.emm_state.specs.declared.solo.Solo.{Solo}
 use Rattle.emm_state.specs.Actions.{fall, untouched, wipe}
-use Rattle.emm_serving.specs.Connected.{connections_gone, displaced, message_of, station_gone}
-use Rattle.emm_serving.specs.Idle.{cancelled, data_waits, tick}
+use Rattle.emm_connected.specs.Connected.{connections_gone, displaced, message_of, station_gone}
+use Rattle.emm_idle.specs.Idle.{cancelled, data_waits, tick}
 use Rattle.emm_serving.specs.Serving.{claim, initial}
 
 -- ---- the step

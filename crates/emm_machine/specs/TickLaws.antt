@@ -7,7 +7,7 @@ use Rattle.emm_state.specs.declared.solo.Countdown.{Countdown}
 use Rattle.emm_state.specs.declared.solo.Repeat.{Repeat}
 use Rattle.emm_state.specs.declared.solo.Solo.{Solo}
 use Rattle.emm_state.specs.Actions.{untouched}
-use Rattle.emm_serving.specs.Idle.{lowered, procedure_ticks, reachable_ticks_out, tick}
+use Rattle.emm_idle.specs.Idle.{lowered, procedure_ticks, reachable_ticks_out, tick}
 use Rattle.emm_machine.specs.Steps.{row, solo_step}
 use Rattle.emm_machine.specs.Ticks.{AreAbove, AreTimed, IsAbove, IsGoing, IsRunning, IsTimed, both_less, countdowns, less, procedure_less, solo_aged, ticks_after}
 use Rattle.emm_machine.specs.Words.{procedure_left}

@@ -8,10 +8,9 @@ ghost use Rattle.emm_machine.specs.Ticks.{AreAbove, countdowns, ticks_after};
 ghost use Rattle.emm_machine.specs.Words.{ecm_of, emm_of, fresh_solo, pages_in, states_of};
 
 use crate::passing::age;
-use emm_serving::{
-    cancelled, claim, connections_gone, data_waits, displaced, initial, message_of, station_gone,
-    tick,
-};
+use emm_connected::{connections_gone, displaced, message_of, station_gone};
+use emm_idle::{cancelled, data_waits, tick};
+use emm_serving::{claim, initial};
 use emm_state::{Asked, Counter, Draft, Phase, Repeat, Setting, Solo, StepStop};
 use esm_machine::{Bearer, BearerState};
 use identity_slots::{Profile, Slot, Vectors};

@@ -1,3 +1,1 @@
 pub mod Serving
-pub mod Connected
-pub mod Idle

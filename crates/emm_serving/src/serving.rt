@@ -546,9 +546,10 @@ fn in_later(
     inner_message(draft, alloc, setting, tai, message)
 }
 
-/// NAS from the phone, by phase.
+/// What an UPLINK NAS TRANSPORT of a known phone does, by its phase (TS 24.301 clause 4.4.4.3). Refused where memory is, or where the
+/// context's counts are spent.
 #[tactic(auto, unfolding(crate::specs::Serving::uplink))]
-pub(crate) fn uplink(
+pub fn uplink(
     draft: &mut Draft,
     alloc: Global,
     setting: &Setting,

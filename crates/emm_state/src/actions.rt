@@ -46,9 +46,9 @@ pub fn is_registered(phase: Phase) -> bool
 }
 
 impl Draft {
-    /// The message goes to the station, and its NAS message under a mark where it is protected.
+    /// The message goes to the station, and its NAS message under a mark where it is protected. It is lent, so that it can go to several.
     #[tactic(auto, unfolding(crate::specs::Actions::emit))]
-    pub fn emit(
+    pub fn emit_lent(
         &mut self,
         alloc: Global,
         station: StationNumber,
@@ -68,6 +68,19 @@ impl Draft {
         })
     }
 
+    /// The same of a message that goes to one station, and ends here.
+    pub fn emit(
+        &mut self,
+        alloc: Global,
+        station: StationNumber,
+        message: S1apPdu,
+        under: Option<Mark>,
+    ) -> Result<(), AllocError>
+        ensures { OnOk result (self.new ≡ emit station (lists message.entry) under self.old) }
+    {
+        self.emit_lent(alloc, station, &message, under)
+    }
+
     /// NAS to the phone, plain, in DOWNLINK NAS TRANSPORT.
     #[tactic(auto, unfolding(crate::specs::Actions::send))]
     pub fn send(&mut self, alloc: Global, nas: &[u8]) -> Result<(), AllocError>
@@ -78,7 +91,7 @@ impl Draft {
         };
         let station = connection.station;
         let message = downlink(connection, nas);
-        self.emit(alloc, station, &message, None)
+        self.emit(alloc, station, message, None)
     }
 
     /// UE CONTEXT RELEASE COMMAND, and the connection is gone.
@@ -90,7 +103,7 @@ impl Draft {
             return Ok(());
         };
         let message = release_command(connection.id, connection.enb_id, cause);
-        self.emit(alloc, connection.station, &message, None)?;
+        self.emit(alloc, connection.station, message, None)?;
         self.solo.connection = None;
         Ok(())
     }
@@ -172,7 +185,7 @@ impl Draft {
             return Ok(());
         }
         let message = release_command(old.id, old.enb_id, normal_release());
-        self.emit(alloc, old.station, &message, None)
+        self.emit(alloc, old.station, message, None)
     }
 
     /// The association with this id is the connection.
@@ -234,7 +247,7 @@ impl Draft {
     {
         let id = self.next_id(slot);
         let message = release_command(id, enb_id, normal_release());
-        self.emit(alloc, station, &message, None)
+        self.emit(alloc, station, message, None)
     }
 
     /// A phone's request is refused by a plain message and a release, on an association of its own; all else stays.
@@ -258,9 +271,9 @@ impl Draft {
             },
             nas,
         );
-        self.emit(alloc, station, &message, None)?;
+        self.emit(alloc, station, message, None)?;
         let released = release_command(id, enb_id, normal_release());
-        self.emit(alloc, station, &released, None)
+        self.emit(alloc, station, released, None)
     }
 
     /// The timer's countdown runs, and what is sent again is kept.
@@ -325,7 +338,7 @@ impl Draft {
         let Sealed { form, under } = sealed;
         let station = connection.station;
         let message = downlink(connection, form.as_slice());
-        self.emit(alloc, station, &message, under)?;
+        self.emit(alloc, station, message, under)?;
         Ok(())
     }
 
@@ -354,7 +367,7 @@ impl Draft {
             kenb,
             nas,
         )?;
-        self.emit(alloc, station, &message, under)
+        self.emit(alloc, station, message, under)
     }
 
     /// INITIAL CONTEXT SETUP REQUEST without a NAS message.

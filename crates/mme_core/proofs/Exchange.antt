@@ -25,13 +25,13 @@ use Rattle.mme_core.specs.declared.event.Event.{Event}
 use Rattle.mme_core.specs.declared.event.Event.TheVariants.{Up as UpEvent, Lost as LostEvent, In as InEvent, Tick as TickEvent, Data as DataEvent, Cancel as CancelEvent}
 use Rattle.mme_core.specs.declared.event.StepFault.TheVariants.{NotUp}
 use Rattle.mme_core.specs.Laws.{Exchanges, event_name, slot_named}
-use Rattle.mme_routing.specs.Naming.{named_slot}
+use Rattle.mme_naming.specs.Naming.{named_slot}
 use Rattle.mme_core.specs.Sight.{Sight}
 use Rattle.mme_routing.specs.Destinations.{Subscriber, Stranger, for_one, item_at, strangers_behind}
 use Rattle.mme_routing.specs.Outcomes.{Outcome, broadcasts, begins_anew, enters, entry_routed, entry_of, goes_to, outcome_of, outcome_of_message, setup_failure, setup_response, phone_message, phone_message_if, message_of_slot, ue_message_in}
 use Rattle.mme_routing.specs.Resets.{reset}
 use Rattle.mme_core.specs.World.{World, each_after, each_sent, event_fault, happens, if_down, if_known, items_of, world_moved, to_slot, outputs, reply, reply_of, sight_moved, slot_out, station_of, station_sent, strangers_in, strangers_sent, unless, subscriber_after, subscriber_step, world_after}
-use Rattle.mme_core.proofs.Calling.{at_nothing, item_other, stays}
+use Rattle.mme_answering.specs.Laws.{at_nothing, item_other, stays}
 
 -- ---- subscribers, each of whom one of two events has nothing for
 

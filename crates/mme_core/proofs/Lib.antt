@@ -1,5 +1,3 @@
-pub mod Calling
-pub mod Stepping
 pub mod Owned
 pub mod Turns
 pub mod Alone
@@ -13,8 +11,6 @@ pub mod Named
 pub mod Exchange
 pub mod InUse
 pub mod OneOutput
-pub mod Short
 pub mod Faults
 pub mod Taken
 pub mod Ticks
-pub mod Known

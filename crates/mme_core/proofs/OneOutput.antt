@@ -5,9 +5,9 @@ use Rattle.std.proofs.lemmas.Bool.Decides.{nat_tests}
 use Rattle.emm_machine.specs.SubscriberView.{SubscriberView}
 use Rattle.mme_core.specs.declared.event.Event.{Event}
 use Rattle.mme_core.specs.declared.event.StepFault.{StepFault}
-use Rattle.mme_core.specs.declared.out.Out.{Out}
-use Rattle.mme_core.specs.declared.out.Owner.{Owner}
-use Rattle.mme_core.specs.declared.out.Owner.TheVariants.{Station, Stranger, Subscriber}
+use Rattle.mme_answering.specs.declared.out.Out.{Out}
+use Rattle.mme_answering.specs.declared.out.Owner.{Owner}
+use Rattle.mme_answering.specs.declared.out.Owner.TheVariants.{Station, Stranger, Subscriber}
 use Rattle.mme_core.specs.Laws.{IsOutput, OneOutput, RepliesSo, told_if}
 use Rattle.mme_core.specs.Projection.{AllFrom, AreInOrder, IsNotBehind, Told, is_slot, is_station, is_stranger, item_for, owned_by, told_in, told_of}
 use Rattle.mme_core.specs.World.{World, event_fault, outputs, reply, reply_of, strangers_in}

@@ -15,9 +15,9 @@ use Rattle.mme_core.proofs.Turns.{rising_once}
 use Rattle.mme_core.specs.declared.event.Event.{Event}
 use Rattle.mme_core.specs.declared.event.StepFault.{StepFault}
 use Rattle.mme_core.specs.declared.event.StepFault.TheVariants.{NotUp, AlreadyUp, ClockSpent, NoMemory, UnknownImsi}
-use Rattle.mme_core.specs.declared.out.Out.{Out}
-use Rattle.mme_core.specs.declared.out.Owner.{Owner}
-use Rattle.mme_core.specs.declared.out.Owner.TheVariants.{Station, Stranger, Subscriber}
+use Rattle.mme_answering.specs.declared.out.Out.{Out}
+use Rattle.mme_answering.specs.declared.out.Owner.{Owner}
+use Rattle.mme_answering.specs.declared.out.Owner.TheVariants.{Station, Stranger, Subscriber}
 use Rattle.mme_core.specs.Projection.{AllFrom, AllInOrder, AreInOrder, IsNotBehind}
 use Rattle.mme_core.specs.World.{World, each_known, each_sent, event_fault, replies_given, happens, input_sent, items_of, outputs, owner_out, replies, reply_of, slot_out, station_of, station_sent, stranger_out, strangers_in, strangers_sent, subscriber_step, world_after}
 

@@ -15,9 +15,9 @@ use Rattle.stranger_machine.specs.Table.{known_id, stranger_at}
 use Rattle.mme_routing.specs.Destinations.{Destination, input_for}
 use Rattle.mme_routing.specs.Destinations as to
 use Rattle.stranger_machine.specs.Laws.{at_nothing, at_notice, closed_notes}
-use Rattle.mme_core.specs.declared.out.Out.{Out}
-use Rattle.mme_core.specs.declared.out.Owner.{Owner}
-use Rattle.mme_core.specs.declared.out.Owner.TheVariants.{Station, Stranger, Subscriber}
+use Rattle.mme_answering.specs.declared.out.Out.{Out}
+use Rattle.mme_answering.specs.declared.out.Owner.{Owner}
+use Rattle.mme_answering.specs.declared.out.Owner.TheVariants.{Station, Stranger, Subscriber}
 use Rattle.mme_core.specs.Projection.{answer_told, is_slot, is_station, is_stranger, own_told, owned_by, told_of}
 use Rattle.mme_core.specs.World.{each_known, each_sent, input_sent, owner_out, slot_out, station_sent, stranger_out, strangers_sent, subscriber_step}
 

@@ -4,7 +4,7 @@ use Rattle.std.specs.Prelude.{if◌then◌else◌, IfOk, OnOk, IfErr, OnErr}
 use Rattle.mme_core.specs.declared.event.Event.{Event}
 use Rattle.mme_core.specs.declared.event.StepFault.{StepFault}
 use Rattle.mme_core.specs.declared.event.StepFault.TheVariants.{NotUp, AlreadyUp, ClockSpent, NoMemory, UnknownImsi}
-use Rattle.mme_core.specs.declared.out.Out.{Out}
+use Rattle.mme_answering.specs.declared.out.Out.{Out}
 use Rattle.mme_core.specs.World.{World, event_fault, world_moved, outputs, reply, reply_of, replies, unless, world_after, world_run, is_no_memory, events_taken, replies_given}
 
 -- a refused event changes nothing

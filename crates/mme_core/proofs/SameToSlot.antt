@@ -6,7 +6,7 @@ use Rattle.mme_core.specs.Laws.{SameFromMme, SameToSlot, busy, in_order}
 use Rattle.mme_core.specs.Projection.{alone_after, answer_told, projection, subscriber_told}
 use Rattle.mme_core.specs.World.{strangers_in, subscriber_after, subscriber_step}
 use Rattle.mme_core.proofs.Alone.{slots_end, slots_told}
-use Rattle.mme_core.proofs.Calling.{at_nothing}
+use Rattle.mme_answering.specs.Laws.{at_nothing}
 
 told_busy : (w : SubscriberView) (is : List Item) → in_order (subscriber_told w is) ≡ in_order (subscriber_told w (busy is))
 told_busy w [] = refl

@@ -1,19 +1,14 @@
 -- One event that is not refused: what it makes, from what comes of it.
-use Rattle.std.proofs.Common.{◌≡◌, ℕ, suc, ◌^◌, ◌<◌, ◌≤◌, List, [], ◌∷◌, ◌++◌, length, ◌+◌, Option, Some, None, Ok, refl, sym, ◌∙◌, ap, arith}
-use Rattle.emm_machine.specs.SubscriberView.{SubscriberView}
-use Rattle.subscriber_table.specs.declared.stepped.Stepped.{Stepped}
-use Rattle.subscriber_table.specs.Laws.{due_few}
-use Rattle.subscriber_table.specs.Table.{slots_stepped}
+use Rattle.std.proofs.Common.{◌≡◌, ℕ, ◌^◌, ◌<◌, ◌≤◌, List, ◌++◌, ◌+◌, None, Ok, sym, ◌∙◌, ap, arith}
 use Rattle.stranger_machine.specs.declared.turn.Notice.TheVariants as notices
 use Rattle.mme_routing.specs.Destinations.{Destination, Everyone, item_at, strangers_behind}
 use Rattle.mme_routing.specs.Outcomes.{Outcome}
-use Rattle.mme_core.specs.declared.prepared.Prepared.{Prepared}
-use Rattle.mme_core.specs.declared.prepared.Prepared.TheVariants as prepared
+use Rattle.mme_answering.specs.declared.prepared.Prepared.{Prepared}
+use Rattle.mme_answering.specs.declared.prepared.Prepared.TheVariants as prepared
 use Rattle.mme_core.specs.declared.event.Event.{Event}
-use Rattle.mme_core.specs.declared.out.Out.{Out}
-use Rattle.mme_core.specs.Settled.{IsFor, IsInTime, IsPassing, MayPass, settled_clock, settled_subscribers, steps_of, with_one}
+use Rattle.mme_answering.specs.declared.out.Out.{Out}
+use Rattle.mme_answering.specs.Settled.{IsInTime, IsPassing, MayPass, settled_clock}
 use Rattle.mme_core.specs.World.{World, clock_after, each_after, each_sent, event_fault, happens, outputs, placed, reply, reply_of, station_of, station_sent, strangers_in, strangers_sent, unless, world_after, world_moved}
-use Rattle.mme_core.proofs.Stepping.{solo_many, stepped_many, ticked_many}
 
 -- what is sent, by what comes of it
 abbrev pub sent_by : World → Event → Outcome → List Out
@@ -35,36 +30,6 @@ world_by w e h = record {
 -- and after the event
 pub after_so : (w v : World) (e : Event) (h : Outcome) → event_fault w.sight e ≡ None → h ≡ happens w.sight e → v ≡ world_by w e h → v ≡ world_after w e
 after_so w v e h fine is made = made ∙ ap (world_by w e) is ∙ ap (λ o. unless o w (world_moved w e)) (sym fine)
-
--- ---- the subscribers
-
-one_many : (x : Option Stepped) (ws : List SubscriberView) → length (with_one x ws) ≡ length ws
-one_many None ws = refl
-one_many (Some x) ws = solo_many x.slot x.solo ws
-
--- as many as before
-pub settled_many : (p : Prepared) (ws : List SubscriberView) → length (settled_subscribers p ws) ≡ length ws
-settled_many prepared.Nobody ws = refl
-settled_many (prepared.Subscriber x) ws = solo_many x.slot x.solo ws
-settled_many (prepared.Stranger id after x) ws = one_many x ws
-settled_many (prepared.Everyone notice xs) ws = stepped_many xs.items ws
-settled_many (prepared.Tick xs) ws = ticked_many xs.items ws
-
-slots_many : (xs : List Stepped) → length (slots_stepped xs) ≡ length xs
-slots_many [] = refl
-slots_many (x ∷ xs) = ap suc (slots_many xs)
-
--- there are no more steps than n, where there are no more subscribers
-pub steps_few : (p : Prepared) (ws : List SubscriberView) (n : ℕ) → IsFor p ws → length ws ≤ n → 1 ≤ n → steps_of p ≤ n
-steps_few prepared.Nobody ws n h le one = omega arith
-steps_few (prepared.Subscriber x) ws n h le one = one
-steps_few (prepared.Stranger id after x) ws n h le one = one
-steps_few (prepared.Everyone notice xs) ws n h le one = let few = h.1 in omega arith
-steps_few (prepared.Tick xs) ws n h le one =
-    let many = slots_many xs.items in
-    let due = ap length h.0 in
-    let few = due_few ws in
-    omega arith
 
 -- ---- the clock
 

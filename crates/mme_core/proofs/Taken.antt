@@ -7,11 +7,11 @@ use Rattle.stranger_machine.specs.Table.{known_id}
 use Rattle.mme_core.specs.declared.mme.Ready.{Ready}
 use Rattle.mme_core.specs.FreshRuns.{AreInUse}
 use Rattle.mme_core.specs.Ready.{ready_world, world_of}
-use Rattle.mme_core.specs.Settled.{settled_strangers, settled_subscribers}
+use Rattle.mme_answering.specs.Laws.{settled_many}
+use Rattle.mme_answering.specs.Settled.{settled_strangers, settled_subscribers}
 use Rattle.mme_core.specs.Sight.{Around}
 use Rattle.mme_core.specs.World.{World}
 use Rattle.mme_core.proofs.Stations.{placed_many}
-use Rattle.mme_core.proofs.Steps.{settled_many}
 
 -- of an MME whose subscribers have this clock
 abbrev IsMme : ℕ → Around → List SubscriberView → Type 0

@@ -15,11 +15,11 @@ use Rattle.mme_routing.specs.Destinations.{Destination, if_called, input_for, it
 use Rattle.mme_routing.specs.Destinations as to
 use Rattle.mme_core.specs.declared.event.Event.{Event}
 use Rattle.mme_core.specs.declared.event.StepFault.{StepFault}
-use Rattle.mme_core.specs.declared.out.Out.{Out}
+use Rattle.mme_answering.specs.declared.out.Out.{Out}
 use Rattle.mme_core.specs.Projection.{Told, answer_told, is_slot, is_station, is_stranger, item_for, own_told, owned_by, stranger_input, strangers_after, told_in}
 use Rattle.mme_core.specs.Sight.{Sight}
 use Rattle.mme_core.specs.World.{World, each_after, each_sent, event_fault, happens, items_of, world_moved, outputs, reply, reply_of, sight_after, station_of, station_sent, strangers_in, strangers_sent, unless, subscriber_after, subscriber_step, world_after}
-use Rattle.mme_core.proofs.Calling.{at_nothing, stays}
+use Rattle.mme_answering.specs.Laws.{at_nothing, stays}
 use Rattle.mme_core.proofs.Owned.{no_slot, no_station, no_stranger, owned_absent, owned_first, owned_second, owned_slot, owned_station, owned_stranger}
 
 sight_by : (o : Option StepFault) (w v : World) → (unless o w v).sight ≡ unless o w.sight v.sight

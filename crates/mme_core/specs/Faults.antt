@@ -2,7 +2,7 @@
 use Rattle.std.specs.Prelude.{◌≡◌, if◌then◌else◌, IfSome, List, [], ◌∷◌, Result, Err}
 use Rattle.mme_core.specs.declared.event.Event.{Event}
 use Rattle.mme_core.specs.declared.event.StepFault.{StepFault}
-use Rattle.mme_core.specs.declared.out.Out.{Out}
+use Rattle.mme_answering.specs.declared.out.Out.{Out}
 use Rattle.mme_core.specs.World.{World, event_fault, is_no_memory, world_after}
 
 -- the MME after an event with this reply: want of memory changes nothing

@@ -1,16 +1,10 @@
 -- What is fresh of a subscriber over a list of items: the NAS COUNTs that it is sent and accepted under, each with the place of its
 -- vector, and the vectors that become contexts (TS 24.301 clause 4.4.3, TS 33.401 clause 6.5).
-use Rattle.std.specs.Prelude.{◌≤◌, ◌<◌, List, [], ◌∷◌, All, AllPairs}
+use Rattle.std.specs.Prelude.{◌≤◌, ◌<◌, List, All, AllPairs}
 use Rattle.mme_vocabulary.specs.Events.{Item}
-use Rattle.emm_machine.specs.Freshness.{IsAhead, IsBefore, IsInUse, accepted_marks, next_down, next_place, next_up, places_made, sent_marks}
+use Rattle.emm_machine.specs.Freshness.{IsAhead, IsBefore, accepted_marks, next_down, next_place, next_up, places_made, sent_marks}
 use Rattle.emm_machine.specs.SubscriberView.{SubscriberView}
-use Rattle.emm_machine.specs.Ticks.{IsRunning}
-use Rattle.emm_promises.specs.Sound.{IsSound}
-
--- no vector of a context that stands can become one again, each state is sound, and each countdown that runs is in time
-abbrev pub AreInUse : List SubscriberView → Type 0
-AreInUse [] = Unit {0}
-AreInUse (w ∷ ws) = IsInUse w.solo × IsSound w.setting w.solo × IsRunning w.solo × AreInUse ws
+pub use Rattle.mme_answering.specs.InUse.{AreInUse}
 
 pub record IsFreshRun (w : SubscriberView) (items : List Item) : Type 0 where
   pub sent_ahead : All (IsAhead next_down w.solo) (sent_marks w.setting w.solo items)

@@ -1,10 +1,8 @@
 pub mod Sight
 pub mod World
-pub mod Settled
 pub mod Ready
 pub mod Projection
 pub mod FreshRuns
 pub mod GuardedRuns
 pub mod Laws
-pub mod Short
 pub mod Faults

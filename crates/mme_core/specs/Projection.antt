@@ -13,9 +13,9 @@ use Rattle.stranger_machine.specs.Machine as inputs
 use Rattle.mme_routing.specs.Destinations.{input_for}
 use Rattle.mme_core.specs.declared.event.Event.{Event}
 use Rattle.mme_core.specs.declared.event.StepFault.{StepFault}
-use Rattle.mme_core.specs.declared.out.Out.{Out}
-use Rattle.mme_core.specs.declared.out.Owner.{Owner}
-use Rattle.mme_core.specs.declared.out.Owner.TheVariants.{Station, Stranger, Subscriber}
+use Rattle.mme_answering.specs.declared.out.Out.{Out}
+use Rattle.mme_answering.specs.declared.out.Owner.{Owner}
+use Rattle.mme_answering.specs.declared.out.Owner.TheVariants.{Station, Stranger, Subscriber}
 use Rattle.mme_core.specs.Sight.{Sight}
 use Rattle.mme_core.specs.World.{World, event_fault, happens, items_of, sight_after, station_of, subscriber_after, unless, world_after}
 

@@ -2,7 +2,7 @@
 use Rattle.std.specs.Prelude.{List}
 use Rattle.emm_machine.specs.SubscriberView.{SubscriberView}
 use Rattle.mme_core.specs.declared.mme.Ready.{Ready}
-use Rattle.mme_core.specs.Settled.{settled_strangers, settled_subscribers}
+use Rattle.mme_answering.specs.Settled.{settled_strangers, settled_subscribers}
 use Rattle.mme_core.specs.Sight.{Around}
 use Rattle.mme_core.specs.World.{World, placed}
 

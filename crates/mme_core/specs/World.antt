@@ -14,24 +14,21 @@ use Rattle.emm_machine.specs.SubscriberView.{SubscriberView}
 use Rattle.emm_machine.specs.Words.{fresh_solo}
 use Rattle.stranger_machine.specs.declared.state.Stranger.{Stranger}
 use Rattle.stranger_machine.specs.declared.table.Known.{Known}
-use Rattle.stranger_machine.specs.declared.turn.Notice.{Notice}
 use Rattle.stranger_machine.specs.declared.turn.Notice.TheVariants as notices
-use Rattle.stranger_machine.specs.Machine.{Input, Begins, Receives, notes, stranger_step}
 use Rattle.stranger_machine.specs.Table.{stranger_at}
 use Rattle.mme_core.specs.declared.config.Config.{Config}
 use Rattle.mme_core.specs.declared.event.Event.{Event}
 use Rattle.mme_core.specs.declared.event.Event.TheVariants.{Up as UpEvent, Lost as LostEvent, In as InEvent, Tick as TickEvent, Data as DataEvent, Cancel as CancelEvent}
 use Rattle.mme_core.specs.declared.event.StepFault.{StepFault}
 use Rattle.mme_core.specs.declared.event.StepFault.TheVariants.{NotUp, AlreadyUp, ClockSpent, NoMemory, UnknownImsi}
-use Rattle.mme_core.specs.declared.out.Out.{Out}
-use Rattle.mme_core.specs.declared.out.Owner.{Owner}
-use Rattle.mme_core.specs.declared.out.Owner.TheVariants.{Station, Subscriber}
-use Rattle.mme_core.specs.declared.out.Owner.TheVariants as owners
+use Rattle.mme_answering.specs.declared.out.Out.{Out}
+use Rattle.mme_answering.specs.declared.out.Owner.TheVariants.{Station}
 use Rattle.mme_core.specs.Sight.{Sight}
 use Rattle.mme_routing.specs.Destinations.{Destination, item_at, strangers_behind}
 use Rattle.mme_routing.specs.Destinations as to
 use Rattle.mme_routing.specs.Outcomes.{Outcome, begins_anew, goes_to, outcome_of}
 pub use Rattle.subscriber_table.specs.Table.{each_after, subscriber_after, subscriber_step}
+pub use Rattle.mme_answering.specs.Sending.{each_known, each_sent, input_sent, owner_out, slot_out, stranger_out, strangers_sent}
 
 -- ---- what is refused
 
@@ -112,43 +109,11 @@ sight_run s (event ∷ events) = sight_run (sight_after s event) events
 
 -- ---- the subscribers
 
-abbrev pub owner_out : Owner → Answer → Out
-owner_out owner a = record { owner = owner; station = a.station; octets = a.octets }
-
-abbrev pub slot_out : ℕ → Answer → Out
-slot_out slot a = owner_out (Subscriber slot) a
-
--- what each subscriber sends at its own item, by slot
-abbrev pub each_sent : (ℕ → Item) → ℕ → List SubscriberView → List Out
-each_sent items n [] = []
-each_sent items n (w ∷ ws) = map (slot_out n) (subscriber_step w (items n)).sent ++ each_sent items (n + 1) ws
-
 -- subscribers who were never seen, from a slot on
 abbrev pub fresh_subscribers : Network → ℕ → List Profile → List (List Vector) → List SubscriberView
 fresh_subscribers n slot [] vectors = []
 fresh_subscribers n slot (p ∷ ps) vectors =
     record { setting = record { network = n; slot = slot; profile = p; vectors = vectors_at slot vectors }; solo = fresh_solo } ∷ fresh_subscribers n (slot + 1) ps vectors
-
--- ---- the strangers
-
-abbrev pub stranger_out : ℕ → Answer → Out
-stranger_out id a = owner_out (owners.Stranger id) a
-
--- what each sends at a notice, by id
-abbrev pub each_known : Notice → List Known → List Out
-each_known notice [] = []
-each_known notice (k ∷ ks) = map (stranger_out k.id) (notes k.id (Some k.stranger) notice).sent ++ each_known notice ks
-
--- and what one sends at an input
-abbrev pub input_sent : List Profile → ℕ → Input → List Known → List Out
-input_sent ps id input ks = map (stranger_out id) (stranger_step ps id (stranger_at id ks) input).sent
-
-abbrev pub strangers_sent : List Profile → Destination → List Known → List Out
-strangers_sent ps to.Nobody ks = []
-strangers_sent ps (to.Subscriber n item) ks = []
-strangers_sent ps (to.Beginner id m) ks = input_sent ps id (Begins m) ks
-strangers_sent ps (to.Stranger m) ks = input_sent ps m.mme_id (Receives m) ks
-strangers_sent ps (to.Everyone notice) ks = each_known notice ks
 
 -- ---- the MME
 

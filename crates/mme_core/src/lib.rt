@@ -8,15 +8,11 @@ mod config;
 mod event;
 mod laws;
 mod mme;
-mod out;
-mod prepared;
-mod preparing;
 mod provisioning;
-mod sending;
-mod settling;
+mod station;
 
 pub use config::Config;
 pub use event::{Event, StepFault};
 pub use laws::{exchanges, names_slot, one_output, same_to_slot};
 pub use mme::Mme;
-pub use out::{Out, Outs, Owner};
+pub use mme_answering::{Out, Outs, Owner};

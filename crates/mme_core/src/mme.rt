@@ -11,22 +11,18 @@ ghost use Rattle.mme_core.specs.Projection.{AllInOrder, AreInOrder, alone_after,
 ghost use Rattle.mme_vocabulary.specs.declared.stations.StationState.{StationState};
 ghost use Rattle.mme_routing.specs.Destinations.{item_at, strangers_behind};
 ghost use Rattle.mme_routing.specs.Seen.{destination_of, seen_outcome};
-ghost use Rattle.mme_core.specs.Settled.{IsFor, IsInTime, IsPassing, settled_strangers, settled_subscribers};
+ghost use Rattle.mme_answering.specs.Settled.{IsFor, IsInTime, IsPassing, settled_strangers, settled_subscribers};
 ghost use Rattle.mme_core.specs.FreshRuns.{AreInUse, IsFreshRun};
 ghost use Rattle.mme_core.specs.GuardedRuns.{IsGuardedRun};
 ghost use Rattle.mme_core.specs.Faults.{HasEachFault};
 ghost use Rattle.mme_core.specs.Ready.{ready_world, world_of};
-ghost use Rattle.mme_core.specs.Short.{AreShort};
+ghost use Rattle.mme_answering.specs.Short.{AreShort};
 ghost use Rattle.mme_core.specs.World.{clock_after, each_after, each_sent, event_fault, events_taken, fresh_world, happens, replies, replies_given, reply, strangers_in, strangers_sent, world_after, world_run};
 
 use crate::config::Config;
 use crate::event::{Event, StepFault};
-use crate::out::Outs;
-use crate::prepared::Prepared;
-use crate::preparing::prepare;
 use crate::provisioning::fresh_subscribers;
-use crate::sending::station_outs;
-use crate::settling::{settle, settle_station};
+use crate::station::{settle_station, station_outs};
 use emm_machine::{
     States, accepted_counts_are_fresh, in_use_is_kept, running_is_kept, sent_counts_are_fresh,
     vector_makes_one_context,
@@ -36,6 +32,7 @@ use emm_promises::{
     unproved_leaves,
 };
 use identity_slots::{Provision, Slot};
+use mme_answering::{Outs, Prepared, prepare, settle};
 use mme_routing::{Destination, Outcome, outcome_of};
 use mme_vocabulary::{Answers, EnbWorld, SharedNetwork, SoloEvent, StationNumber, StationState};
 use nas_elements::Imsi;

@@ -1,5 +1,4 @@
 pub mod Destinations
-pub mod Naming
 pub mod Outcome
 pub mod Outcomes
 pub mod Resets

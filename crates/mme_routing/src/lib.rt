@@ -4,7 +4,6 @@
 
 mod answers;
 mod destination;
-mod naming;
 mod outcome;
 mod resets;
 

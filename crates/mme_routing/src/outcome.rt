@@ -1,26 +1,28 @@
 //! What a station that isn't down makes of the octets that it sends, and where they go.
 
-ghost use Rattle.std.specs.Prelude.{◌≡◌, ◌≢◌, ◌^◌, ◌≤◌, List, [], IfOk, OnOk, Ok, Err, option_map};
+ghost use Rattle.std.specs.Prelude.{◌≡◌, ◌≢◌, ◌^◌, ◌≤◌, List, [], IfOk, OnOk, Some, Ok, Err, option_map};
 ghost use Rattle.identity_slots.specs.Ids.{stranger_id};
 ghost use Rattle.s1ap_messages.specs.Pdus.{lists, decoded, initial_ue_message_lists};
 ghost use Rattle.s1ap_rows.specs.declared.fault.S1apFault.TheVariants as faults;
 ghost use Rattle.mme_vocabulary.specs.declared.stations.StationState.{StationState};
+ghost use Rattle.mme_vocabulary.specs.declared.stations.StationState.TheVariants.{Up, Ready};
+ghost use Rattle.stranger_machine.specs.Turns.{sent_to};
 ghost use Rattle.mme_vocabulary.specs.Events.{ue_body_lists, message_lists};
 ghost use Rattle.mme_routing.specs.Seen.{destination_of, seen_outcome};
 ghost use Rattle.mme_routing.specs.Resets.{reset};
-ghost use Rattle.mme_routing.specs.Outcomes.{begins_anew, broadcasts, cause_of, entry_routed, enters, goes_to, outcome_of, outcome_of_message, indicated, indication, not_compatible, answered, station_set_up, phone_message, phone_message_if, message_by_id, message_of_slot, ue_message, ue_message_in};
+ghost use Rattle.mme_routing.specs.Outcomes.{begins_anew, broadcasts, cause_of, entry_routed, enters, goes_to, outcome_of, outcome_of_message, indicated, indication, not_compatible, answered, setup_failure, setup_response, station_set_up, phone_message, phone_message_if, message_by_id, message_of_slot, ue_message, ue_message_in};
 
 use crate::answers::{cause_of, indication, setup_failure, setup_response};
 use crate::destination::Destination;
-use crate::naming::named_slot;
 use crate::resets::reset;
 use identity_slots::{AssociationId, Provision};
+use mme_naming::named_slot;
 use mme_vocabulary::{
     Answers, Entry, Network, SoloEvent, StationNumber, StationState, UeBody, UeMessage,
     is_broadcast,
 };
-use s1ap_elements::{Cause, EnbUeId, MmeUeId, Plmn, ProtocolCause, SupportedTa};
-use s1ap_messages::{InitialUeMessage, Pdu, S1apFault, S1apPdu, SetupRequest};
+use s1ap_elements::{Cause, EnbUeId, MmeUeId, Plmn, ProtocolCause, SupportedTa, SupportedTas};
+use s1ap_messages::{InitialUeMessage, Pdu, S1apFault, S1apPdu};
 use s1ap_reading::decode;
 use std::alloc::{AllocError, Global};
 use stranger_machine::{Notice, sent_to, unknown};
@@ -71,7 +73,7 @@ fn outcome_of_cause<'a>(
     ensures { IfOk result (λ h. (stations : List StationState) → seen_outcome stations h ≡ answered (indicated station cause)) }
 {
     match cause {
-        Some(cause) => Ok(Outcome::answered(sent_to(alloc, station, &indication(cause))?)),
+        Some(cause) => Ok(Outcome::answered(sent_to(alloc, station, indication(cause))?)),
         None => Ok(Outcome::answered(Answers::new(alloc))),
     }
 }
@@ -105,27 +107,42 @@ fn broadcasts(plmn: Plmn, tas: &[SupportedTa]) -> bool
     tas.iter().any(|ta| is_broadcast(plmn, ta.plmns.as_slice()))
 }
 
+// A station that broadcasts the network is set up.
+fn station_taken<'a>(
+    alloc: Global,
+    network: &Network,
+    station: StationNumber,
+    supported_tas: SupportedTas,
+) -> Result<Outcome<'a>, AllocError>
+    ensures { IfOk result (λ h. (stations : List StationState) → seen_outcome stations h
+        ≡ begins_anew station (Some (Ready supported_tas)) (sent_to station (setup_response network.now))) }
+{
+    let response = setup_response(alloc, network)?;
+    let sent = sent_to(alloc, station, response)?;
+    let ready = StationState::Ready(supported_tas);
+    Ok(Outcome::begins_anew(station, Some(ready), sent))
+}
+
+fn station_turned_away<'a>(alloc: Global, station: StationNumber) -> Result<Outcome<'a>, AllocError>
+    ensures { IfOk result (λ h. (stations : List StationState) → seen_outcome stations h
+        ≡ begins_anew station (Some Up) (sent_to station setup_failure)) }
+{
+    let sent = sent_to(alloc, station, setup_failure())?;
+    Ok(Outcome::begins_anew(station, Some(StationState::Up), sent))
+}
+
 fn station_set_up<'a>(
     alloc: Global,
     network: &Network,
     station: StationNumber,
-    request: SetupRequest<&[u8]>,
+    supported_tas: SupportedTas,
 ) -> Result<Outcome<'a>, AllocError>
-    ensures { IfOk result (λ h. (stations : List StationState) → seen_outcome stations h ≡ station_set_up network.now station request.entry.supported_tas) }
+    ensures { IfOk result (λ h. (stations : List StationState) → seen_outcome stations h ≡ station_set_up network.now station supported_tas) }
 {
-    let SetupRequest {
-        station: _,
-        name: _,
-        supported_tas,
-        paging_drx: _,
-    } = request;
     if broadcasts(network.plmn, supported_tas.as_slice()) {
-        let sent = sent_to(alloc, station, &setup_response(alloc, network)?)?;
-        let ready = StationState::Ready(supported_tas);
-        Ok(Outcome::begins_anew(station, Some(ready), sent))
+        station_taken(alloc, network, station, supported_tas)
     } else {
-        let sent = sent_to(alloc, station, &setup_failure())?;
-        Ok(Outcome::begins_anew(station, Some(StationState::Up), sent))
+        station_turned_away(alloc, station)
     }
 }
 
@@ -291,7 +308,7 @@ fn outcome_of_message<'a>(
         ≡ outcome_of_message network.now provision.now.profiles station state.now (lists message.entry)) }
 {
     match message {
-        Pdu::SetupRequest(m) => station_set_up(alloc, network, station, m),
+        Pdu::SetupRequest(m) => station_set_up(alloc, network, station, m.supported_tas),
         Pdu::Reset(m) => reset(alloc, station, state, m.reset_type),
         Pdu::ErrorIndication(_) | Pdu::ResetAcknowledge(_) => {
             Ok(Outcome::answered(Answers::new(alloc)))

@@ -45,7 +45,8 @@ fn ends_listed<'a>(
 ) -> Result<Outcome<'a>, AllocError>
     ensures { IfOk result (λ h. (stations : List StationState) → seen_outcome stations h ≡ ends_listed station items) }
 {
-    let sent = sent_to(alloc, station, &part_acknowledge(alloc, &items)?)?;
+    let acknowledge = part_acknowledge(alloc, &items)?;
+    let sent = sent_to(alloc, station, acknowledge)?;
     Ok(Outcome {
         state: None,
         sent,
@@ -62,7 +63,7 @@ fn set_back<'a>(
 {
     match reset_type {
         ResetType::All(_) => {
-            let sent = sent_to(alloc, station, &whole_acknowledge())?;
+            let sent = sent_to(alloc, station, whole_acknowledge())?;
             Ok(Outcome::begins_anew(station, None, sent))
         }
         ResetType::Part(items) => ends_listed(alloc, station, items),

@@ -1,3 +1,2 @@
-pub mod Printing
 pub mod Feeding
 pub mod Simulating

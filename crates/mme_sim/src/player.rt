@@ -7,7 +7,7 @@ ghost use Rattle.trace_player.specs.Acts.{GrowsBy};
 ghost use Rattle.trace_player.specs.Text.{breaks};
 ghost use Rattle.mme_sim.specs.Simulated.{IsWaiting, WritesLine, Feeds, Closes};
 
-use crate::script::{Script, play_script_line};
+use sim_lines::{Script, play_script_line};
 use std::alloc::Global;
 use std::io::Write;
 use trace_player::{PlayFault, Watched, write_whole};

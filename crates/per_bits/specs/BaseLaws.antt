@@ -5,7 +5,8 @@ use Rattle.std.proofs.lemmas.List.{append-nil}
 use Rattle.bit_streams.specs.declared.fault.PerFault.TheVariants.{Range}
 use Rattle.bit_streams.specs.Bits.{value, bits, octet_bits, pad, IsBytes, ◌>>=◌, take_at, whole_octets_at, aligned_octets_at}
 use Rattle.per_bits.specs.Spelling.{SpellsOctets}
-use Rattle.per_bits.specs.Reading.{octets_at, small_at}
+use Rattle.per_bits.specs.Reading.{octets_at}
+use Rattle.per_numbers.specs.Reading.{small_at}
 use Rattle.bit_streams.specs.BitLaws.{value-bits, bits-value, length-bits}
 use Rattle.bit_streams.specs.Exact.{Exact, IsBits, exact_take, Bind, exact_bind, Nothing, exact_ok, Never, exact_err, exact_same, Cond, exact_cond}
 use Rattle.bit_streams.specs.OctetLaws.{AreOctets, AlignedStep, exact_whole_octets, exact_aligned_octets}

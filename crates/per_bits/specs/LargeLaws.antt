@@ -6,8 +6,9 @@ use Rattle.std.proofs.lemmas.List.{append-nil}
 use Rattle.std.proofs.Math.Pow.{pow_mono}
 use Rattle.bit_streams.specs.declared.fault.PerFault.TheVariants.{Range, NotFewest}
 use Rattle.bit_streams.specs.Bits.{value, bits, pad, ◌>>=◌, take_at, align_at}
-use Rattle.per_bits.specs.Numbers.{octets_for, width_of}
-use Rattle.per_bits.specs.Reading.{small_at, large_at}
+use Rattle.per_numbers.specs.Numbers.{octets_for, width_of}
+use Rattle.per_numbers.specs.NumberLaws.{octets-fit, octets-mono}
+use Rattle.per_numbers.specs.Reading.{small_at, large_at}
 use Rattle.bit_streams.specs.BitLaws.{value_below, value-bits, bits-value, length-bits}
 use Rattle.bit_streams.specs.Exact.{Exact, IsBits, exact_take, Bind, exact_bind, Nothing, exact_ok, Never, exact_err, exact_same, Cond, exact_cond}
 use Rattle.bit_streams.specs.OctetLaws.{IsPad, exact_align}
@@ -20,14 +21,6 @@ octets-some n = grind (arith, common_steps)
 pub octets-most : (n : ℕ) → octets_for n ≤ 8
 unfolding octets_for
 octets-most n = grind (arith, common_steps)
-
-pub octets-fit : (n : ℕ) → n < 2 ^ 64 → n < 2 ^ (8 * octets_for n)
-unfolding octets_for
-octets-fit n lt = grind (arith, common_steps, lt)
-
-pub octets-mono : (n m : ℕ) → n ≤ m → octets_for n ≤ octets_for m
-unfolding octets_for
-octets-mono n m le = grind (arith, common_steps, le)
 
 pub width-fits : (n : ℕ) → n < 255 → n < 2 ^ width_of n
 unfolding width_of

@@ -1,4 +1,3 @@
-pub mod Numbers
 pub mod Formats
 pub mod Spelling
 pub mod Reading
@@ -10,3 +9,5 @@ pub mod BaseLaws
 pub mod LargeLaws
 pub mod FormatLaws
 pub mod WritingLaws
+-- whole numbers, for those who stand on the formats
+pub use Rattle.per_numbers.specs.Numbers

@@ -1,43 +1,14 @@
 -- Reading values from the left: what is spelled is answered, and else the fault of the leftmost part that has no spelling at its place.
-use Rattle.std.specs.Prelude.{◌≡◌, ℕ, zero, suc, ◌+◌, ◌-◌, ◌*◌, Bool, true, false, if◌then◌else◌, nat_le, nat_lt, ◌==◌, List, Option, Some, None, Result, Ok, Err, ◌⊎◌}
+use Rattle.std.specs.Prelude.{◌≡◌, ℕ, zero, suc, ◌+◌, ◌-◌, Bool, true, false, if◌then◌else◌, nat_lt, ◌==◌, List, Option, Some, None, Result, Ok, Err, ◌⊎◌}
 use Rattle.std.proofs.Common.{inl, inr}
 use Rattle.bit_streams.specs.declared.fault.PerFault.{PerFault}
-use Rattle.bit_streams.specs.declared.fault.PerFault.TheVariants.{Range, NotFewest, Alternative}
+use Rattle.bit_streams.specs.declared.fault.PerFault.TheVariants.{Range, Alternative}
 use Rattle.bit_streams.specs.declared.fault.PerError.{PerError}
-use Rattle.bit_streams.specs.Bits.{value, Place, start, ◌>>=◌, take_at, align_at, end_at, whole_octets_at, aligned_octets_at, open_at, bit_at, aligned_bits_at, Fails}
+use Rattle.bit_streams.specs.Bits.{Place, start, ◌>>=◌, take_at, end_at, whole_octets_at, aligned_octets_at, open_at, bit_at, aligned_bits_at, Fails}
 use Rattle.bit_streams.specs.Each.{times}
-use Rattle.per_bits.specs.Numbers.{width_of, octets_for}
+use Rattle.per_numbers.specs.Reading.{number_at}
 use Rattle.per_bits.specs.Formats.{left_of, right_of, Format, Fields, Alternatives, Value, Values, Chosen, optionals, alternatives, flag_of, flags_after, number, octets, octets_between, octet_string, bit_string, bits_between, enumerated, closed, items, open_type, plain, sequence, choice, done, must, may, skip, fixed, marked, last, either}
 use Rattle.per_bits.specs.Spelling.{trues}
-
-unfoldable pub small_at : ℕ → ℕ → Place → Result (ℕ × Place) PerFault
-small_at span w s = do
-  x ← take_at w s
-  if nat_le (value x.0) span then Ok (value x.0, x.1) else Err Range
-
-abbrev pub aligned_small_at : ℕ → ℕ → Place → Result (ℕ × Place) PerFault
-aligned_small_at span w s = align_at s >>= λ a. small_at span w a.1
-
-unfoldable pub large_at : ℕ → Place → Result (ℕ × Place) PerFault
-large_at span s = do
-  n ← small_at (octets_for span - 1) (width_of (octets_for span - 1)) s
-  a ← align_at n.1
-  x ← take_at (8 * (n.0 + 1)) a.1
-  if nat_le (value x.0) span then (if octets_for (value x.0) == n.0 + 1 then Ok (value x.0, x.1) else Err NotFewest) else Err Range
-
-unfoldable pub offset_at : ℕ → Place → Result (ℕ × Place) PerFault
-offset_at span s =
-    if nat_lt span 255 then small_at span (width_of span) s
-    else if nat_lt span 256 then aligned_small_at span 8 s
-    else if nat_lt span 65536 then aligned_small_at span 16 s
-    else large_at span s
-
--- ---- reading, from the left
-
-unfoldable pub number_at : ℕ → ℕ → Place → Result (ℕ × Place) PerFault
-number_at lo hi s = do
-  x ← offset_at (hi - lo) s
-  Ok (lo + x.0, x.1)
 
 unfoldable pub octets_at : ℕ → Place → Result (List ℕ × Place) PerFault
 octets_at n s = if nat_lt n 3 then whole_octets_at n s else aligned_octets_at n s

@@ -1,24 +1,13 @@
 -- Writing behind the bits so far.
-use Rattle.std.specs.Prelude.{◌≡◌, ℕ, suc, ◌-◌, ◌^◌, ◌&&◌, Bool, false, if◌then◌else◌, nat_le, nat_lt, ◌==◌, List, [], ◌∷◌, ◌++◌, length, Option, Some, None, Result, Ok, Err, ◌⊎◌, is_some}
+use Rattle.std.specs.Prelude.{ℕ, suc, ◌-◌, ◌&&◌, Bool, false, if◌then◌else◌, nat_lt, ◌==◌, List, [], ◌∷◌, ◌++◌, length, Option, Some, None, Result, Ok, Err, ◌⊎◌, is_some}
 use Rattle.std.proofs.Common.{inl, inr}
 use Rattle.bit_streams.specs.declared.fault.PerFault.{PerFault}
 use Rattle.bit_streams.specs.declared.fault.PerFault.TheVariants.{Range}
-use Rattle.bit_streams.specs.declared.fault.PerError.{PerError}
 use Rattle.bit_streams.specs.Octet.{all_below}
-use Rattle.bit_streams.specs.Bits.{octet_bits, padded, pad, ◌>>=◌, Fails}
+use Rattle.bit_streams.specs.Bits.{octet_bits, padded, pad, ◌>>=◌}
 use Rattle.per_bits.specs.Formats.{Format, number, octets, octets_between, octet_string, bit_string, bits_between, enumerated, closed, items, open_type, plain, sequence, choice, Fields, done, must, may, skip, fixed, marked, Alternatives, last, either, Value, Values, Chosen, alternatives}
-use Rattle.per_bits.specs.Numbers.{whole}
+use Rattle.per_numbers.specs.Writing.{write_number}
 use Rattle.per_bits.specs.Spelling.{length_octets}
-
--- What a function returned, and what it left, is what writing gives, unless memory ran out.
-abbrev pub Wrote : {X : Type 0} → Result X PerError → List Bool → Result (List Bool) PerFault → Type 0
-Wrote (Ok x) after write = write ≡ Ok after
-Wrote (Err e) after write = Fails e write
-
-unfoldable pub write_number : ℕ → ℕ → ℕ → List Bool → Result (List Bool) PerFault
-write_number lo hi n out =
-    if nat_le lo n && (nat_le n hi && nat_lt (n - lo) (2 ^ 64)) then Ok (out ++ whole lo hi n (length out))
-    else Err Range
 
 unfoldable pub write_octets : ℕ → List ℕ → List Bool → Result (List Bool) PerFault
 write_octets n os out =

@@ -3,13 +3,15 @@
 ghost use Rattle.std.specs.Prelude.{◌≡◌, ◌+◌, ◌-◌, ◌*◌, ◌++◌, ◌<◌, ◌^◌, ◌≤◌, ◌%◌, List, Bool, length, ◌↔◌, IsSome, IfSome, IfOk};
 ghost use Rattle.bit_streams.specs.Bits.{Gives, Answers, bits, octet_bits, aligned_bits_at};
 ghost use Rattle.bit_streams.specs.Octet.{IsString};
-ghost use Rattle.per_bits.specs.Reading.{bits_between_at, number_at, read_at};
+ghost use Rattle.per_bits.specs.Reading.{bits_between_at, read_at};
+ghost use Rattle.per_numbers.specs.Reading.{number_at};
 ghost use Rattle.per_bits.specs.Formats.{bits_between};
-ghost use Rattle.per_bits.specs.Writing.{write_at, Wrote};
+ghost use Rattle.per_bits.specs.Writing.{write_at};
+ghost use Rattle.per_numbers.specs.Writing.{Wrote};
 
 use crate::element::Element;
-use crate::whole::{offset_of, put_number};
 use bit_streams::{BitReader, BitWriter, PerError, PerFault};
+use per_numbers::{offset_of, put_number};
 use std::alloc::Global;
 use std::marker::Model;
 
@@ -66,7 +68,7 @@ impl<'a, const MIN: u64, const MAX: u64> Element<'a> for BitString<'a, MIN, MAX>
 
     ghost view = { λ s. s };
 
-    #[tactic(auto, unfolding(crate::specs::Reading::bits_between_at, crate::specs::Reading::number_at))]
+    #[tactic(auto, unfolding(crate::specs::Reading::bits_between_at, per_numbers::specs::Reading::number_at))]
     fn read(_alloc: Global, reader: &mut BitReader<'a>) -> Result<Self, PerError> {
         let over = offset_of(MAX.saturating_sub(MIN), reader)?;
         let (octets, last, more) = take_string(MIN + over, reader)?;

@@ -3,17 +3,18 @@
 ghost use Rattle.std.specs.Prelude.{◌≡◌, ◌++◌, ◌∷◌, ◌≤◌, [], false, IfOk};
 ghost use Rattle.bit_streams.specs.declared.fault.PerFault.TheVariants.{Alternative};
 ghost use Rattle.bit_streams.specs.Bits.{Answers};
-ghost use Rattle.per_bits.specs.Reading.{closed_at, number_at};
-ghost use Rattle.per_bits.specs.Writing.{write_number, Wrote};
+ghost use Rattle.per_bits.specs.Reading.{closed_at};
+ghost use Rattle.per_numbers.specs.Reading.{number_at};
+ghost use Rattle.per_numbers.specs.Writing.{write_number, Wrote};
 ghost use Rattle.per_bits.specs.Sequences.{write_alternative};
 
 use crate::element::Element;
-use crate::whole::{offset_of, put_number};
 use bit_streams::{BitReader, BitWriter, PerError, PerFault};
+use per_numbers::{offset_of, put_number};
 use std::alloc::Global;
 
 /// The index of an alternative, the last of which has index `last`; an extension bit of 1 is Alternative.
-#[tactic(auto, unfolding(crate::specs::Reading::number_at))]
+#[tactic(auto, unfolding(per_numbers::specs::Reading::number_at))]
 pub fn take_choice(last: u64, reader: &mut BitReader) -> Result<u64, PerFault>
     ensures exact { Answers (λ n. n) result reader.new (closed_at Alternative (number_at 0 last) reader.old) }
     ensures within { IfOk result (λ n. n ≤ last) }

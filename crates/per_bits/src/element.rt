@@ -4,7 +4,8 @@ ghost use Rattle.std.specs.Prelude.{◌≡◌};
 ghost use Rattle.bit_streams.specs.Bits.{Place, Gives};
 ghost use Rattle.per_bits.specs.Formats.{Format, Value};
 ghost use Rattle.per_bits.specs.Reading.{read_at};
-ghost use Rattle.per_bits.specs.Writing.{write_at, Wrote};
+ghost use Rattle.per_bits.specs.Writing.{write_at};
+ghost use Rattle.per_numbers.specs.Writing.{Wrote};
 
 use bit_streams::{BitReader, BitWriter, PerError};
 use std::alloc::Global;

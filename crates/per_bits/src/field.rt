@@ -5,7 +5,8 @@ ghost use Rattle.bit_streams.specs.Bits.{Gives, Answers, take_at, aligned_bits_a
 ghost use Rattle.bit_streams.specs.Octet.{IsLong};
 ghost use Rattle.per_bits.specs.Reading.{bits_at, read_at};
 ghost use Rattle.per_bits.specs.Formats.{bit_string};
-ghost use Rattle.per_bits.specs.Writing.{write_at, Wrote, write_bits};
+ghost use Rattle.per_bits.specs.Writing.{write_at, write_bits};
+ghost use Rattle.per_numbers.specs.Writing.{Wrote};
 
 use crate::element::Element;
 use bit_streams::{BitReader, BitWriter, PerError, PerFault};

@@ -31,11 +31,11 @@ pub use open::{
     put_length, read_complete, read_open, take_length, take_open, take_small_number,
     write_complete, write_open,
 };
+pub use per_numbers::{Whole, offset_of, put_number};
 pub use sequence::{
     put_flags, put_three_flags, read_pair, read_three, read_two, skip_later, take_flags,
     take_three_flags,
 };
 pub use skips::{skip_additions, skip_extensions};
 pub use strings::{OctetString, SizedString, put_aligned, put_open};
-pub use whole::{Whole, offset_of, put_number};
 pub use wrapped::{Closed, Listed, put_optional, read_optional};

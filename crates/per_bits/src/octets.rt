@@ -5,7 +5,8 @@ ghost use Rattle.bit_streams.specs.Octet.{AreBytes, all_below};
 ghost use Rattle.bit_streams.specs.Bits.{Gives};
 ghost use Rattle.per_bits.specs.Reading.{octets_at, read_at};
 ghost use Rattle.per_bits.specs.Formats.{octets};
-ghost use Rattle.per_bits.specs.Writing.{write_at, Wrote, write_octets};
+ghost use Rattle.per_bits.specs.Writing.{write_at, write_octets};
+ghost use Rattle.per_numbers.specs.Writing.{Wrote};
 
 use crate::element::Element;
 use bit_streams::{BitReader, BitWriter, PerError};

@@ -1,63 +1,16 @@
-//! Whole numbers in a range.
+//! Whole numbers of a range as elements.
 
-ghost use Rattle.std.specs.Prelude.{ℕ, ◌↔◌, IsSome, IfSome, ◌≡◌, ◌≤◌, ◌<◌, ◌^◌, ◌*◌, ◌-◌, ◌+◌, ◌++◌, length, Ok, IfOk};
-ghost use Rattle.bit_streams.specs.Bits.{Answers, Gives, bits, pad};
+ghost use Rattle.std.specs.Prelude.{◌≡◌};
+ghost use Rattle.bit_streams.specs.Bits.{Gives};
 ghost use Rattle.per_bits.specs.Formats.{number};
-ghost use Rattle.per_bits.specs.Reading.{number_at, offset_at, small_at, aligned_small_at, large_at, read_at};
-ghost use Rattle.per_bits.specs.Numbers.{width_of, octets_for, offset_bits};
-ghost use Rattle.per_bits.specs.Writing.{write_number, write_at, Wrote};
+ghost use Rattle.per_bits.specs.Reading.{read_at};
+ghost use Rattle.per_bits.specs.Writing.{write_at};
+ghost use Rattle.per_numbers.specs.Writing.{Wrote};
 
 use crate::element::Element;
-use bit_streams::{BitReader, BitWriter, PerError, PerFault};
+use bit_streams::{BitReader, BitWriter, PerError};
+use per_numbers::{Whole, put_number};
 use std::alloc::Global;
-use std::marker::Model;
-
-/// A whole number from `LO` to `HI` (X.691 clauses 11.5 and 13); a contract sees the number.
-#[derive(Clone, Copy, PartialEq, Eq)]
-pub struct Whole<const LO: u64, const HI: u64> {
-    value: u64,
-}
-
-impl<const LO: u64, const HI: u64> Model for Whole<LO, HI> {
-    ghost Value = { ℕ };
-
-    ghost view = { λ n. n.value };
-
-    ghost invariant = { λ n. (LO ≤ n.value) × (n.value - LO ≤ HI - LO) };
-
-    ghost inverse = { λ n. record { value = n } };
-}
-
-impl<const LO: u64, const HI: u64> Whole<LO, HI> {
-    /// The number, where it lies in the range; takes no memory.
-    pub fn try_new(value: u64) -> Option<Self>
-        ensures some { IsSome result ↔ ((LO ≤ value) × (value ≤ HI)) }
-        ensures value { IfSome result (λ n. n ≡ value) }
-    {
-        if value < LO || value > HI {
-            return None;
-        }
-        Some(Whole { value })
-    }
-
-    /// The number.
-    pub fn get(self) -> u64
-        ensures value { result ≡ self.entry }
-        ensures low { LO ≤ result }
-        ensures high { LO ≤ HI → result ≤ HI }
-    {
-        self.value
-    }
-
-    /// Reads a number; takes no memory.
-    #[tactic(auto, unfolding(crate::specs::Reading::number_at))]
-    pub fn read(reader: &mut BitReader) -> Result<Self, PerFault>
-        ensures { Answers (λ n. n) result reader.new (number_at LO HI reader.old) }
-    {
-        let offset = offset_of(HI.saturating_sub(LO), reader)?;
-        Ok(Whole { value: LO + offset })
-    }
-}
 
 impl<'a, const LO: u64, const HI: u64> Element<'a> for Whole<LO, HI> {
     ghost format = { number LO HI };
@@ -70,160 +23,6 @@ impl<'a, const LO: u64, const HI: u64> Element<'a> for Whole<LO, HI> {
     }
 
     fn write(&self, _alloc: Global, writer: &mut BitWriter) -> Result<(), PerError> {
-        put_number(LO, HI, self.value, writer)
+        put_number(LO, HI, self.get(), writer)
     }
-}
-
-/// Writes a number of `lo..hi` (X.691 clause 11.5); one outside is Range.
-#[tactic(auto, unfolding(crate::specs::Writing::write_number))]
-pub fn put_number(lo: u64, hi: u64, number: u64, writer: &mut BitWriter) -> Result<(), PerError>
-    ensures { Wrote result writer.new (write_number lo hi number writer.old) }
-{
-    if number < lo || number > hi {
-        return Err(PerError::Fault(PerFault::Range));
-    }
-    put_offset(hi - lo, number - lo, writer)
-}
-
-/// Writes the offset of a number in a range whose last offset is `span`.
-#[tactic(auto, unfolding(crate::specs::Numbers::offset_bits))]
-fn put_offset(span: u64, offset: u64, writer: &mut BitWriter) -> Result<(), PerError>
-    requires { offset ≤ span }
-    ensures { Wrote result writer.new (Ok (writer.old ++ offset_bits span offset (length writer.old))) }
-{
-    if span < 255 {
-        writer.put_bits(width(span), offset)
-    } else if span < 256 {
-        put_in_octets(1, offset, writer)
-    } else if span < 65536 {
-        put_in_octets(2, offset, writer)
-    } else {
-        let most = (octets_of(span) - 1) as u64;
-        let count = octets_of(offset);
-        writer.put_bits(width(most), (count - 1) as u64)?;
-        put_in_octets(count, offset, writer)
-    }
-}
-
-/// Writes a number in so many octets from the next octet on.
-fn put_in_octets(count: u8, number: u64, writer: &mut BitWriter) -> Result<(), PerError>
-    requires count { count ≤ 8 }
-    requires fits { number < 2 ^ (8 * count) }
-    ensures { Wrote result writer.new (Ok (writer.old ++ (pad (length writer.old) ++ bits (8 * count) number))) }
-{
-    writer.align()?;
-    writer.put_bits(8 * count, number)
-}
-
-/// The number of bits for numbers up to one below 256.
-#[tactic(auto, unfolding(crate::specs::Numbers::width_of))]
-fn width(most: u64) -> u8
-    requires { most < 256 }
-    ensures exact { result ≡ width_of most }
-    ensures fits { most < 2 ^ result }
-    ensures octet { result ≤ 8 }
-{
-    if most < 1 {
-        0
-    } else if most < 2 {
-        1
-    } else if most < 4 {
-        2
-    } else if most < 8 {
-        3
-    } else if most < 16 {
-        4
-    } else if most < 32 {
-        5
-    } else if most < 64 {
-        6
-    } else if most < 128 {
-        7
-    } else {
-        8
-    }
-}
-
-#[tactic(auto, unfolding(crate::specs::Reading::small_at))]
-fn small(span: u64, bits: u8, reader: &mut BitReader) -> Result<u64, PerFault>
-    requires { bits ≤ 64 }
-    ensures exact { Answers (λ n. n) result reader.new (small_at span bits reader.old) }
-    ensures within { IfOk result (λ n. n ≤ span) }
-{
-    let offset = reader.take_bits(bits)?;
-    if offset <= span {
-        Ok(offset)
-    } else {
-        Err(PerFault::Range)
-    }
-}
-
-// a number in so many bits from the next octet on
-fn aligned(span: u64, bits: u8, reader: &mut BitReader) -> Result<u64, PerFault>
-    requires { bits ≤ 64 }
-    ensures exact { Answers (λ n. n) result reader.new (aligned_small_at span bits reader.old) }
-    ensures within { IfOk result (λ n. n ≤ span) }
-{
-    reader.align()?;
-    small(span, bits, reader)
-}
-
-/// Reads the offset of a number in a range whose last offset is `span` (X.691 clause 11.5); takes no memory.
-#[tactic(auto, unfolding(crate::specs::Reading::offset_at))]
-pub fn offset_of(span: u64, reader: &mut BitReader) -> Result<u64, PerFault>
-    ensures exact { Answers (λ n. n) result reader.new (offset_at span reader.old) }
-    ensures within { IfOk result (λ n. n ≤ span) }
-{
-    if span < 255 {
-        small(span, width(span), reader)
-    } else if span < 256 {
-        aligned(span, 8, reader)
-    } else if span < 65536 {
-        aligned(span, 16, reader)
-    } else {
-        large(span, reader)
-    }
-}
-
-#[tactic(auto, unfolding(crate::specs::Numbers::octets_for))]
-fn octets_of(n: u64) -> u8
-    ensures exact { result ≡ octets_for n }
-    ensures some { 1 ≤ result }
-    ensures most { result ≤ 8 }
-{
-    if n < 1 << 8 {
-        1
-    } else if n < 1 << 16 {
-        2
-    } else if n < 1 << 24 {
-        3
-    } else if n < 1 << 32 {
-        4
-    } else if n < 1 << 40 {
-        5
-    } else if n < 1 << 48 {
-        6
-    } else if n < 1 << 56 {
-        7
-    } else {
-        8
-    }
-}
-
-#[tactic(auto, unfolding(crate::specs::Reading::large_at))]
-fn large(span: u64, reader: &mut BitReader) -> Result<u64, PerFault>
-    ensures exact { Answers (λ n. n) result reader.new (large_at span reader.old) }
-    ensures within { IfOk result (λ n. n ≤ span) }
-{
-    let most = (octets_of(span) - 1) as u64;
-    let count = small(most, width(most), reader)?;
-    reader.align()?;
-    let offset = reader.take_bits(8 * (count as u8 + 1))?;
-    if offset > span {
-        return Err(PerFault::Range);
-    }
-    if octets_of(offset) as u64 != count + 1 {
-        return Err(PerFault::NotFewest);
-    }
-    Ok(offset)
 }

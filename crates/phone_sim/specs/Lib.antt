@@ -1,6 +1,1 @@
-pub mod Sides
-pub mod Messages
-pub mod Protecting
-pub mod Answering
-pub mod Asking
 pub mod View

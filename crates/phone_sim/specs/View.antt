@@ -9,11 +9,11 @@ use Rattle.s1ap_elements.specs.declared.phone.STmsi.{STmsi}
 use Rattle.identity_slots.specs.declared.profile.Vector.{Vector}
 use Rattle.phone_sim.specs.declared.phone.PhoneAct.{PhoneAct}
 use Rattle.phone_sim.specs.declared.phone.PhoneAct.TheVariants.{Attach, Info, Foreign, Service, Tau, Detach, Off, Replay, Forge}
-use Rattle.phone_sim.specs.declared.registration.Registration.{Registration}
-use Rattle.phone_sim.specs.Messages.{foreign_guti, unregistered}
-use Rattle.phone_sim.specs.Protecting.{Spoken, forged, leaving}
-use Rattle.phone_sim.specs.Answering.{Card, phone_answer}
-use Rattle.phone_sim.specs.Asking.{attach_saying, detach_saying, service_saying, update_saying}
+use Rattle.phone_nas.specs.declared.registration.Registration.{Registration}
+use Rattle.phone_nas.specs.Messages.{foreign_guti, unregistered}
+use Rattle.phone_nas.specs.Protecting.{Spoken, forged, leaving}
+use Rattle.phone_nas.specs.Answering.{Card, phone_answer}
+use Rattle.phone_nas.specs.Asking.{attach_saying, detach_saying, service_saying, update_saying}
 
 pub record PhoneView : Type 0 where
   pub imsi : List ℕ

@@ -7,23 +7,20 @@ ghost use Rattle.nas_messages.specs.Messages.{decoded_emm};
 ghost use Rattle.nas_messages.specs.declared.emm_types.AuthenticationRequest.{AuthenticationRequest};
 ghost use Rattle.nas_messages.specs.declared.emm_types.Direction.{Direction};
 ghost use Rattle.nas_messages.specs.declared.emm_types.Emm.TheVariants as messages;
-ghost use Rattle.phone_sim.specs.Messages.{attach_octets, foreign_guti, identity_octets_of};
-ghost use Rattle.phone_sim.specs.Protecting.{forged};
-ghost use Rattle.phone_sim.specs.Answering.{authentication_answer, vector_with};
+ghost use Rattle.phone_nas.specs.Messages.{attach_octets, foreign_guti, identity_octets_of};
+ghost use Rattle.phone_nas.specs.Protecting.{forged};
+ghost use Rattle.phone_nas.specs.Answering.{authentication_answer, vector_with};
 ghost use Rattle.phone_sim.specs.View.{acted, after_saying, hearing, new_phone, kept_form, short_identity};
 
-use crate::answering::phone_answer;
-use crate::asking::{
-    attach_saying, can_detach, can_request_service, can_request_update, detach_saying,
-    service_saying, update_saying,
-};
-use crate::messages::{foreign_guti, permanent, temporary};
-use crate::protecting::{Saying, forged};
-use crate::registration::Registration;
 use identity_slots::Vector;
 use nas_elements::{Guti, Imsi};
 use nas_messages::split_protected;
 use per_bits::Octets;
+use phone_nas::{
+    Registration, Saying, attach_saying, can_detach, can_request_service, can_request_update,
+    detach_saying, foreign_guti, forged, permanent, phone_answer, service_saying, temporary,
+    update_saying,
+};
 use s1ap_elements::STmsi;
 use std::alloc::{AllocError, Global};
 use std::marker::Model;
@@ -230,7 +227,7 @@ impl Phone {
 
     /// Takes NAS octets of the network: the octets to answer, if any. A deaf phone answers nothing and stays as it is. Refused
     /// for want of memory alone, and the phone is then as it was.
-    #[tactic(auto, unfolding(crate::specs::View::hearing, crate::specs::Answering::phone_answer))]
+    #[tactic(auto, unfolding(crate::specs::View::hearing, phone_nas::specs::Answering::phone_answer))]
     pub fn deliver(&mut self, nas: &[u8]) -> Result<Option<Vec<u8>>, AllocError>
         ensures octets { IfOk result (λ o. option_map (λ v. v.items) o ≡ (hearing nas.now self.old).octets) }
         ensures phone { OnOk result (self.new ≡ (hearing nas.now self.old).phone) }

@@ -3,74 +3,14 @@
 ghost use Rattle.std.specs.Prelude.{◌≡◌};
 ghost use Rattle.s1ap_rows.specs.Answers.{Answers};
 ghost use Rattle.s1ap_messages.specs.Pdus.{lists, typed, decoded};
-ghost use Rattle.s1ap_messages.specs.Profile.{initiating, successful, unsuccessful, type_of};
 ghost use Rattle.s1ap_messages.specs.Typed.{decode_typed, read_typed};
 
 use crate::answer::Decoded;
 use crate::{context, interface, movement, setup, transport};
 use s1ap_messages::{MessageType, S1apFault, S1apPdu, named_again};
+use s1ap_procedures::message_type_of;
 use s1ap_rows::read_frame;
 use std::alloc::Global;
-
-#[tactic(auto, unfolding(s1ap_messages::specs::Profile::initiating))]
-fn initiating(code: u8) -> Option<MessageType>
-    ensures { result ≡ initiating code }
-{
-    match code {
-        3 => Some(MessageType::PathSwitchRequest),
-        9 => Some(MessageType::ContextSetupRequest),
-        10 => Some(MessageType::Paging),
-        11 => Some(MessageType::DownlinkNasTransport),
-        12 => Some(MessageType::InitialUeMessage),
-        13 => Some(MessageType::UplinkNasTransport),
-        14 => Some(MessageType::Reset),
-        15 => Some(MessageType::ErrorIndication),
-        16 => Some(MessageType::NasNonDelivery),
-        17 => Some(MessageType::SetupRequest),
-        18 => Some(MessageType::ReleaseRequest),
-        22 => Some(MessageType::CapabilityInfo),
-        23 => Some(MessageType::ReleaseCommand),
-        _ => None,
-    }
-}
-
-#[tactic(auto, unfolding(s1ap_messages::specs::Profile::successful))]
-fn successful(code: u8) -> Option<MessageType>
-    ensures { result ≡ successful code }
-{
-    match code {
-        3 => Some(MessageType::PathSwitchAcknowledge),
-        9 => Some(MessageType::ContextSetupResponse),
-        14 => Some(MessageType::ResetAcknowledge),
-        17 => Some(MessageType::SetupResponse),
-        23 => Some(MessageType::ReleaseComplete),
-        _ => None,
-    }
-}
-
-#[tactic(auto, unfolding(s1ap_messages::specs::Profile::unsuccessful))]
-fn unsuccessful(code: u8) -> Option<MessageType>
-    ensures { result ≡ unsuccessful code }
-{
-    match code {
-        3 => Some(MessageType::PathSwitchFailure),
-        9 => Some(MessageType::ContextSetupFailure),
-        17 => Some(MessageType::SetupFailure),
-        _ => None,
-    }
-}
-
-// The message of a kind and a procedure's code.
-#[tactic(auto, unfolding(s1ap_messages::specs::Profile::type_of))]
-fn type_of(kind: u8, code: u8) -> Option<MessageType>
-    ensures { result ≡ type_of kind code }
-{
-    match kind {
-        0 => initiating(code),
-        1 => successful(code),
-        _ => unsuccessful(code),
-    }
-}
 
 fn read_message<'a>(alloc: Global, message_type: MessageType, octets: &'a [u8]) -> Decoded<'a>
     ensures { Answers (λ m. typed (lists m)) result (read_typed message_type octets.now) }
@@ -105,9 +45,9 @@ fn read_pdu<'a>(alloc: Global, octets: &'a [u8]) -> Decoded<'a>
     ensures { Answers (λ m. typed (lists m)) result (decode_typed octets.now) }
 {
     let frame = read_frame(octets)?;
-    match type_of(frame.kind, frame.code) {
-        Some(message_type) => read_message(alloc, message_type, frame.octets),
-        None => Err(S1apFault::UnknownProcedure(frame.criticality)),
+    match message_type_of(frame.kind, frame.code, frame.criticality) {
+        Ok(message_type) => read_message(alloc, message_type, frame.octets),
+        Err(fault) => Err(fault),
     }
 }
 

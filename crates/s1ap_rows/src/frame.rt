@@ -1,9 +1,11 @@
 //! What stands around the elements of a message.
 
 ghost use Rattle.std.specs.Prelude.{◌≡◌, ◌≤◌, IfOk};
-ghost use Rattle.per_bits.specs.Reading.{GivesWhole, whole_at, number_at, closed_at};
+ghost use Rattle.per_bits.specs.Reading.{GivesWhole, whole_at, closed_at};
+ghost use Rattle.per_numbers.specs.Reading.{number_at};
 ghost use Rattle.bit_streams.specs.Each.{times};
-ghost use Rattle.per_bits.specs.Writing.{Wrote, write_whole};
+ghost use Rattle.per_bits.specs.Writing.{write_whole};
+ghost use Rattle.per_numbers.specs.Writing.{Wrote};
 ghost use Rattle.s1ap_rows.specs.Criticalities.{criticality_number};
 ghost use Rattle.s1ap_rows.specs.Reading.{frame_at};
 ghost use Rattle.s1ap_rows.specs.Writing.{write_frame};
@@ -30,7 +32,7 @@ pub struct Frame<'a> {
 }
 
 /// The frame that octets spell, or their first fault.
-#[tactic(auto, unfolding(crate::specs::Reading::frame_at, per_bits::specs::Reading::whole_at, per_bits::specs::Reading::number_at, bit_streams::specs::Each::times))]
+#[tactic(auto, unfolding(crate::specs::Reading::frame_at, per_bits::specs::Reading::whole_at, per_numbers::specs::Reading::number_at, bit_streams::specs::Each::times))]
 pub fn read_frame<'a>(octets: &'a [u8]) -> Result<Frame<'a>, PerFault>
     ensures kinds { IfOk result (λ f. f.kind ≤ 2) }
     ensures exact { AnswersWhole (λ f. (f.kind, (f.code, (criticality_number f.criticality, (f.octets.now, tt)))))

@@ -2,7 +2,8 @@
 
 ghost use Rattle.std.specs.Prelude.{◌≡◌, ◌≤◌, ◌+◌};
 ghost use Rattle.per_bits.specs.Reading.{GivesWhole};
-ghost use Rattle.per_bits.specs.Writing.{Wrote, write_whole};
+ghost use Rattle.per_bits.specs.Writing.{write_whole};
+ghost use Rattle.per_numbers.specs.Writing.{Wrote};
 ghost use Rattle.s1ap_rows.specs.Rows.{Rows, Slots, Kept, row_count, no_slots};
 ghost use Rattle.s1ap_rows.specs.Reading.{put_at, kept_of, message_at};
 ghost use Rattle.s1ap_rows.specs.Writing.{count_of, write_rows, write_message};

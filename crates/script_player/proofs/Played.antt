@@ -7,7 +7,7 @@ use Rattle.mme_core.specs.World.{World, happens, reply, world_after}
 use Rattle.mme_core.specs.declared.event.Event.{Event}
 use Rattle.mme_core.specs.declared.event.Event.TheVariants as event
 use Rattle.mme_core.specs.declared.event.StepFault.{StepFault}
-use Rattle.mme_core.specs.declared.out.Out.{Out}
+use Rattle.mme_answering.specs.declared.out.Out.{Out}
 use Rattle.trace_text.specs.declared.line.Line.{Line}
 use Rattle.trace_text.specs.declared.line.Line.TheVariants.{Skip, Mme, Sub, Vec, Tick, Show}
 use Rattle.trace_text.specs.declared.line.MmeLine.{MmeLine}
@@ -21,7 +21,8 @@ use Rattle.trace_player.specs.Acts.{Acts}
 use Rattle.trace_player.specs.declared.progress.Progress.{Progress}
 use Rattle.trace_player.specs.declared.progress.Progress.TheVariants.{Running}
 use Rattle.trace_player.specs.Effects.{Effect, configured, effect_of, event_played, in_event, left, left_by, running, states_of_imsi, states_shown, subscriber_added, tick_then, ticked, vector_given}
-use Rattle.trace_player.specs.Words.{answers_of, refusal_number, reply_text, states_text}
+use Rattle.answer_lines.specs.Words.{answers_of, states_text}
+use Rattle.trace_player.specs.Replies.{refusal_number, reply_text}
 use Rattle.script_player.specs.Printed.{AddsComments, IfSent, Prints, PrintsFrom, PrintsLine, ReadsAs, event_line}
 use Rattle.script_player.specs.PrintLaws.{AddsComments-none, Prints-line}
 

@@ -1,8 +1,8 @@
 -- The texts of answers, one after another.
 use Rattle.std.proofs.Common.{◌≡◌, ℕ, ◌+◌, ◌<◌, List, [], ◌∷◌, ◌++◌, length, take, get_or, refl, sym, ap, ◌∙◌, append_assoc, append-nil}
 use Rattle.std.proofs.lemmas.List.{take_more}
-use Rattle.mme_core.specs.declared.out.Out.{Out}
-use Rattle.trace_player.specs.Words.{answers_of, out_text}
+use Rattle.mme_answering.specs.declared.out.Out.{Out}
+use Rattle.answer_lines.specs.Words.{answers_of, out_text}
 
 answers_of-append : (xs ys : List Out) → answers_of (xs ++ ys) ≡ answers_of xs ++ answers_of ys
 answers_of-append [] ys = refl

@@ -5,15 +5,16 @@ ghost use Rattle.std.specs.Fmt.{decimal};
 ghost use Rattle.s1ap_messages.specs.Pdus.{longest};
 ghost use Rattle.trace_text.specs.Lines.{octets_said};
 ghost use Rattle.trace_text.specs.Trace.{answer_text, refused_text};
-ghost use Rattle.trace_player.specs.Words.{answers_of, out_text, refusal_number, states_text};
+ghost use Rattle.answer_lines.specs.Words.{answers_of, out_text, states_text};
+ghost use Rattle.trace_player.specs.Replies.{refusal_number};
 ghost use Rattle.script_player.specs.Printed.{AddsComments};
 
+use answer_lines::{sent_line, states_line};
 use emm_machine::States;
 use mme_core::{Out, StepFault};
 use nas_elements::Imsi;
 use script_text::comments_are_not_kept;
 use std::alloc::{AllocError, Global};
-use trace_player::{answer_owner, ecm_shown, emm_shown, esm_shown};
 use trace_text::{AnswerLine, write_answer};
 
 /// Appends a line.
@@ -39,10 +40,7 @@ fn push_sent(alloc: Global, message: &Out, out: &mut Vec<u8>) -> Result<(), Allo
     ensures { OnOk result (AddsComments out.old.items out.new.items (out_text message.now)) }
 {
     message.octets.is_short();
-    let owner = answer_owner(message.owner);
-    let octets = message.octets.as_slice();
-    let answer = AnswerLine::Sent(owner, message.station.get(), octets);
-    push_answer(alloc, &answer, out)?;
+    push_answer(alloc, &sent_line(message), out)?;
     Ok(())
 }
 
@@ -73,10 +71,7 @@ pub(crate) fn push_states(
 ) -> Result<(), AllocError>
     ensures { OnOk result (AddsComments out.old.items out.new.items (states_text imsi states)) }
 {
-    let emm = emm_shown(states.emm);
-    let ecm = ecm_shown(states.ecm);
-    let answer = AnswerLine::State(imsi, emm, ecm, esm_shown(states.esm));
-    push_answer(alloc, &answer, out)?;
+    push_answer(alloc, &states_line(imsi, states), out)?;
     Ok(())
 }
 

@@ -36,14 +36,14 @@ pub fn unknown(alloc: Global, message: &UeMessage<&[u8]>) -> Result<Answers, All
         UeBody::ReleaseComplete => Ok(Answers::new(alloc)),
         UeBody::PathSwitch => {
             let failure = path_switch_failure(message.mme_id, message.enb_id, cause);
-            sent_to(alloc, message.station, &failure)
+            sent_to(alloc, message.station, failure)
         }
         UeBody::Uplink { nas: _, tai: _ }
         | UeBody::ReleaseRequest { cause: _ }
         | UeBody::ContextSetupFailure
         | UeBody::Notice => {
             let indication = error_indication(message.mme_id, message.enb_id, cause);
-            sent_to(alloc, message.station, &indication)
+            sent_to(alloc, message.station, indication)
         }
     }
 }
@@ -187,7 +187,7 @@ fn checked_for_pair<'a>(
     }
     let cause = Cause::RadioNetwork(RadioNetworkCause::UnknownPairUeS1apId);
     let indication = error_indication(message.mme_id, message.enb_id, cause);
-    Ok(staying(sent_to(alloc, message.station, &indication)?))
+    Ok(staying(sent_to(alloc, message.station, indication)?))
 }
 
 // A message for a stranger that waits.

@@ -14,16 +14,17 @@ use s1ap_elements::{Cause, EnbUeId, NasCause};
 use s1ap_messages::S1apPdu;
 use std::alloc::{AllocError, Global};
 
-// The message behind what is sent so far; one without a written form isn't sent.
+// The message behind what is sent so far; one without a written form isn't sent. It is taken, so that it ends here and not in each
+// caller.
 pub(crate) fn push_sent(
     alloc: Global,
     sent: &mut Answers,
     station: StationNumber,
-    message: &S1apPdu,
+    message: S1apPdu,
 ) -> Result<(), AllocError>
-    ensures { OnOk result (sent.new ≡ sent.old ++ sent_to station (lists message.now)) }
+    ensures { OnOk result (sent.new ≡ sent.old ++ sent_to station (lists message.entry)) }
 {
-    match SentOctets::of_message(alloc, message)? {
+    match SentOctets::of_message(alloc, &message)? {
         Some(octets) => sent.push(Answer {
             station,
             octets,
@@ -33,13 +34,13 @@ pub(crate) fn push_sent(
     }
 }
 
-/// The message alone, to a station; one without a written form isn't sent.
+/// The message alone, to a station; one without a written form isn't sent. Refused where memory is.
 pub fn sent_to(
     alloc: Global,
     station: StationNumber,
-    message: &S1apPdu,
+    message: S1apPdu,
 ) -> Result<Answers, AllocError>
-    ensures { IfOk result (λ sent. sent ≡ sent_to station (lists message.now)) }
+    ensures { IfOk result (λ sent. sent ≡ sent_to station (lists message.entry)) }
 {
     let mut sent = Answers::new(alloc);
     push_sent(alloc, &mut sent, station, message)?;
@@ -60,7 +61,7 @@ fn release(
         alloc,
         sent,
         place.station,
-        &release_command(place.id, place.enb_id, cause),
+        release_command(place.id, place.enb_id, cause),
     )
 }
 
@@ -81,7 +82,7 @@ pub(crate) fn released(
 fn sent_plainly(alloc: Global, place: Connection, nas: &[u8]) -> Result<Answers, AllocError>
     ensures { IfOk result (λ sent. sent ≡ sent_to place.station (downlink place nas.now)) }
 {
-    sent_to(alloc, place.station, &downlink(place, nas))
+    sent_to(alloc, place.station, downlink(place, nas))
 }
 
 /// A stranger's association, by its id, its station and its number there.

@@ -1,10 +1,10 @@
 -- The texts of answers, one after another.
 use Rattle.std.proofs.Common.{subst, ◌≡◌, ℕ, ◌+◌, ◌<◌, List, [], ◌∷◌, ◌++◌, length, Err, take, drop, get_or, refl, sym, ap, ◌∙◌, append_assoc, append-nil}
 use Rattle.std.proofs.lemmas.List.{take_more, take-append-drop}
-use Rattle.mme_core.specs.declared.out.Out.{Out}
+use Rattle.mme_answering.specs.declared.out.Out.{Out}
 use Rattle.trace_player.specs.declared.fault.PlayFault.{PlayFault}
 use Rattle.trace_player.specs.declared.fault.PlayFault.TheVariants.{Trace, Read, Write, NoMemory}
-use Rattle.trace_player.specs.Words.{answers_of, out_text}
+use Rattle.answer_lines.specs.Words.{answers_of, out_text}
 use Rattle.trace_player.specs.Acts.{IsPrefix, Puts}
 use Rattle.trace_player.specs.FrontLaws.{IsPrefix-of, IsPrefix-after, IsPrefix-more}
 

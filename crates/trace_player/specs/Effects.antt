@@ -11,7 +11,7 @@ use Rattle.mme_core.specs.declared.config.Config.{Config}
 use Rattle.mme_core.specs.declared.event.Event.{Event}
 use Rattle.mme_core.specs.declared.event.Event.TheVariants as event
 use Rattle.mme_core.specs.declared.event.StepFault.{StepFault}
-use Rattle.mme_core.specs.declared.out.Out.{Out}
+use Rattle.mme_answering.specs.declared.out.Out.{Out}
 use Rattle.trace_text.specs.Trace.{◌>>=◌}
 use Rattle.trace_text.specs.declared.line.Line.{Line}
 use Rattle.trace_text.specs.declared.line.Line.TheVariants.{Skip, Mme, Sub, Vec, Up, Lost, In, Tick, Data, Cancel, Show}
@@ -20,7 +20,8 @@ use Rattle.trace_text.specs.declared.fault.TraceFault.{TraceFault}
 use Rattle.trace_text.specs.declared.fault.TraceFault.TheVariants.{Order, Provision}
 use Rattle.trace_player.specs.declared.progress.Progress.{Progress}
 use Rattle.trace_player.specs.declared.progress.Progress.TheVariants.{Nothing, Provisioning, Running}
-use Rattle.trace_player.specs.Words.{reply_text, states_text}
+use Rattle.answer_lines.specs.Words.{states_text}
+use Rattle.trace_player.specs.Replies.{reply_text}
 
 -- what a line leaves and writes, or its fault
 abbrev pub Effect : Type 0

@@ -1,4 +1,3 @@
-pub mod Words
 pub mod Effects
 pub mod Text
 pub mod Faults
@@ -6,3 +5,6 @@ pub mod Acts
 pub mod TextLaws
 pub mod OctetLaws
 pub mod FrontLaws
+pub mod Replies
+-- what is written of an event's messages
+pub use Rattle.answer_lines.specs.Words

@@ -3,7 +3,7 @@
 ghost use Rattle.std.specs.Prelude.{◌≡◌, true, is_ok, IfOk, OnOk, IsErrOf};
 ghost use Rattle.mme_core.specs.World.{reply};
 ghost use Rattle.trace_player.specs.Effects.{effect_of, happened, left_by, ticks_passed, shown, states_of_imsi, ticked, states_shown};
-ghost use Rattle.trace_player.specs.Words.{reply_text};
+ghost use Rattle.trace_player.specs.Replies.{reply_text};
 ghost use Rattle.trace_player.specs.Acts.{Acts, GrowsBy, Puts};
 ghost use Rattle.trace_player.specs.declared.progress.Progress.TheVariants.{Running};
 

@@ -8,7 +8,7 @@ mod progress;
 mod watched;
 
 pub use acts::{act_on_line, states_of_imsi};
-pub use answers::{answer_owner, ecm_shown, emm_shown, esm_shown, write_whole};
+pub use answers::write_whole;
 pub use fault::{PlayFault, fault_in_line};
 pub use progress::{Progress, add, give, run, start};
 pub use watched::{MOST_TURNS, Watched};

@@ -1,6 +1,6 @@
 use Rattle.std.proofs.Common.{◌+◌, ◌++◌, take, sym, ap, arith}
 use Rattle.std.proofs.lemmas.List.{take_all}
-use Rattle.trace_player.specs.Words.{answers_of, out_text}
+use Rattle.answer_lines.specs.Words.{answers_of, out_text}
 use Rattle.script_player.specs.PrintLaws.{AddsComments-none, AddsComments-said, AddsComments-then}
 use Rattle.script_player.proofs.Sent.{answers_of-more}
 use Rattle.script_player.proofs.comments.push_answers.Goals as goal

@@ -1,5 +1,5 @@
 use Rattle.std.proofs.Common.{take}
-use Rattle.trace_player.specs.Words.{answers_of}
+use Rattle.answer_lines.specs.Words.{answers_of}
 use Rattle.script_player.specs.Printed.{AddsComments}
 use Rattle.script_player.proofs.comments.push_answers.Given as goal
 

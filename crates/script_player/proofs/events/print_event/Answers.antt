@@ -1,5 +1,5 @@
 use Rattle.std.proofs.Common.{ap}
-use Rattle.trace_player.specs.Words.{answers_of}
+use Rattle.answer_lines.specs.Words.{answers_of}
 use Rattle.script_player.specs.PrintLaws.{AddsComments-said}
 use Rattle.script_player.proofs.Played.{Prints-taken, Prints-refused}
 use Rattle.script_player.proofs.events.print_event.Goals as goal

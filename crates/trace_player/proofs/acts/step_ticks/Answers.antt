@@ -1,7 +1,7 @@
 use Rattle.std.proofs.Common.{ℕ, ◌++◌, List, sym, ap, ◌∙◌, arith, Bool}
 use Rattle.mme_core.specs.World.{World, reply}
 use Rattle.mme_core.specs.declared.event.Event.TheVariants as event
-use Rattle.trace_player.specs.Words.{reply_text}
+use Rattle.trace_player.specs.Replies.{reply_text}
 use Rattle.trace_player.specs.Effects.{ticked}
 use Rattle.trace_player.specs.OctetLaws.{Appends-then}
 use Rattle.trace_player.proofs.Answered.{Puts-after}

@@ -1,5 +1,5 @@
 use Rattle.std.proofs.Common.{◌+◌, ◌++◌, sym, take, arith}
-use Rattle.trace_player.specs.Words.{answers_of, out_text}
+use Rattle.answer_lines.specs.Words.{answers_of, out_text}
 use Rattle.trace_player.specs.OctetLaws.{Appends-then, Appends-same}
 use Rattle.trace_player.proofs.Answered.{answers_of-more, answers_of-front, Puts-after}
 use Rattle.trace_player.proofs.answers.write_all.Goals as goal

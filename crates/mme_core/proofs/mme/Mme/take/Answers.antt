@@ -2,7 +2,7 @@ use Rattle.std.proofs.Common.{sym, subst}
 use Rattle.ordered_lists.specs.Ordered.{Rising}
 use Rattle.stranger_machine.specs.Table.{known_id}
 use Rattle.mme_core.specs.FreshRuns.{AreInUse}
-use Rattle.mme_core.specs.Settled.{settled_strangers, settled_subscribers}
+use Rattle.mme_answering.specs.Settled.{settled_strangers, settled_subscribers}
 use Rattle.mme_core.specs.World.{World}
 use Rattle.mme_core.proofs.Taken.{kept}
 use Rattle.mme_core.proofs.mme.Mme.take.Goals as goal

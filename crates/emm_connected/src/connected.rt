@@ -1,0 +1,255 @@
+//! The rows of messages on an association, and of what ends one (TS 36.413 clause 8).
+
+ghost use Rattle.std.specs.Prelude.{◌≡◌, OnOk, Some, None};
+ghost use Rattle.mme_signalling.specs.Pdus.{cause_of_request, is_extended};
+ghost use Rattle.emm_connected.specs.Connected.{checked, connection_of, connections_gone, displaced, has_connection_id, has_pair, hopped, indicate, message_of, next_chaining_count, not_switched, on_connection, path_switch, station_gone, strike, struck, switched};
+ghost use Rattle.emm_state.specs.Does.{Does};
+ghost use Rattle.mme_vocabulary.specs.Events.{message_lists};
+
+use emm_serving::uplink;
+use emm_state::{Context, Draft, Repeat, Setting, StepStop, is_registered};
+use eps_keys::next_hop;
+use identity_slots::AssociationId;
+use mme_signalling::{
+    cause_of_request, error_indication, path_switch_acknowledge, path_switch_failure,
+};
+use mme_vocabulary::{Connection, RadioKeys, StationNumber, UeBody, UeMessage, is_listed};
+use per_bits::Listed;
+use s1ap_elements::{Cause, ListedAssociation, ProtocolCause, RadioNetworkCause};
+use std::alloc::{AllocError, Global};
+
+// Next hop chaining counts are below this (TS 33.401 clause 7.2.8.1).
+const CHAINING_COUNTS: u8 = 8;
+
+// The next hop chaining count behind this one: it goes round.
+fn next_chaining_count(count: u8) -> u8
+    ensures { result ≡ next_chaining_count count }
+{
+    (count % CHAINING_COUNTS + 1) % CHAINING_COUNTS
+}
+
+// The next hop of the chain (TS 33.401, A.4).
+fn hopped(context: &Context) -> RadioKeys
+    ensures { result ≡ hopped context.now }
+{
+    RadioKeys {
+        kenb: context.radio.kenb,
+        next_hop: next_hop(&context.kasme, &context.radio.next_hop),
+        chaining_count: next_chaining_count(context.radio.chaining_count),
+    }
+}
+
+// The connection that a path switch leads to.
+fn connection_of(message: &UeMessage<&[u8]>) -> Connection
+    ensures { result ≡ connection_of (message_lists message.now) }
+{
+    Connection {
+        id: message.mme_id,
+        station: message.station,
+        enb_id: message.enb_id,
+    }
+}
+
+fn has_connection_id(draft: &Draft, message: &UeMessage<&[u8]>) -> bool
+    ensures { result ≡ has_connection_id (message_lists message.now) draft.now }
+{
+    match draft.solo.connection {
+        Some(connection) => connection.id == message.mme_id,
+        None => false,
+    }
+}
+
+fn has_pair(draft: &Draft, message: &UeMessage<&[u8]>) -> bool
+    ensures { result ≡ has_pair (message_lists message.now) draft.now }
+{
+    match draft.solo.connection {
+        Some(connection) => {
+            connection.station == message.station && connection.enb_id == message.enb_id
+        }
+        None => false,
+    }
+}
+
+#[tactic(auto, unfolding(crate::specs::Connected::indicate))]
+fn indicate(
+    draft: &mut Draft,
+    alloc: Global,
+    cause: RadioNetworkCause,
+    message: &UeMessage<&[u8]>,
+) -> Result<(), AllocError>
+    ensures { OnOk result (draft.new ≡ indicate (Cause.RadioNetwork cause) (message_lists message.now) draft.old) }
+{
+    let answer = error_indication(message.mme_id, message.enb_id, Cause::RadioNetwork(cause));
+    draft.emit(alloc, message.station, answer, None)
+}
+
+#[tactic(auto, unfolding(crate::specs::Connected::not_switched))]
+fn not_switched(
+    draft: &mut Draft,
+    alloc: Global,
+    cause: Cause,
+    message: &UeMessage<&[u8]>,
+) -> Result<(), AllocError>
+    ensures { OnOk result (draft.new ≡ not_switched cause (message_lists message.now) draft.old) }
+{
+    let answer = path_switch_failure(message.mme_id, message.enb_id, cause);
+    draft.emit(alloc, message.station, answer, None)
+}
+
+// The connection moves, and the station is told the next hop.
+#[tactic(auto, unfolding(crate::specs::Connected::switched))]
+fn switched(
+    draft: &mut Draft,
+    alloc: Global,
+    message: &UeMessage<&[u8]>,
+    mut context: Context,
+) -> Result<(), AllocError>
+    ensures { OnOk result (draft.new ≡ switched (message_lists message.now) context draft.old) }
+{
+    let radio = hopped(&context);
+    let answer = path_switch_acknowledge(connection_of(message), radio);
+    context.radio = radio;
+    draft.solo.connection = Some(connection_of(message));
+    draft.solo.context = Some(context);
+    draft.emit(alloc, message.station, answer, None)
+}
+
+#[tactic(auto, unfolding(crate::specs::Connected::path_switch))]
+fn path_switch(
+    draft: &mut Draft,
+    alloc: Global,
+    message: &UeMessage<&[u8]>,
+) -> Result<(), AllocError>
+    ensures { OnOk result (draft.new ≡ path_switch (message_lists message.now) draft.old) }
+{
+    let unknown = Cause::RadioNetwork(RadioNetworkCause::UnknownMmeUeS1apId);
+    if !has_connection_id(draft, message) {
+        return not_switched(draft, alloc, unknown, message);
+    }
+    if !message.mme_id.is_of_slot() {
+        return not_switched(draft, alloc, unknown, message);
+    }
+    if !is_registered(draft.solo.phase) {
+        let not_compatible = Cause::Protocol(ProtocolCause::MessageNotCompatible);
+        return not_switched(draft, alloc, not_compatible, message);
+    }
+    match draft.solo.context {
+        Some(context) => switched(draft, alloc, message, context),
+        None => Ok(()),
+    }
+}
+
+#[tactic(auto, unfolding(crate::specs::Connected::on_connection))]
+fn on_connection(
+    draft: &mut Draft,
+    alloc: Global,
+    setting: &Setting,
+    message: &UeMessage<&[u8]>,
+) -> Result<(), StepStop>
+    ensures { Does result draft.new (on_connection (message_lists message.now).body setting.now draft.old) }
+{
+    match message.body {
+        UeBody::Uplink { nas, tai } => uplink(draft, alloc, setting, tai, nas),
+        UeBody::ReleaseRequest { cause } => Ok(draft.fall(alloc, cause_of_request(cause))?),
+        UeBody::ContextSetupFailure => {
+            let unspecified = Cause::RadioNetwork(RadioNetworkCause::Unspecified);
+            Ok(draft.fall(alloc, unspecified)?)
+        }
+        UeBody::ReleaseComplete | UeBody::PathSwitch | UeBody::Notice => Ok(()),
+    }
+}
+
+#[tactic(auto, unfolding(crate::specs::Connected::checked))]
+fn checked(
+    draft: &mut Draft,
+    alloc: Global,
+    setting: &Setting,
+    message: &UeMessage<&[u8]>,
+) -> Result<(), StepStop>
+    ensures { Does result draft.new (checked setting.now (message_lists message.now) draft.old) }
+{
+    if !has_connection_id(draft, message) {
+        return Ok(indicate(draft, alloc, RadioNetworkCause::UnknownMmeUeS1apId, message)?);
+    }
+    if has_pair(draft, message) {
+        on_connection(draft, alloc, setting, message)
+    } else {
+        Ok(indicate(
+            draft,
+            alloc,
+            RadioNetworkCause::UnknownPairUeS1apId,
+            message,
+        )?)
+    }
+}
+
+/// A message with the subscriber's id.
+#[tactic(auto, unfolding(crate::specs::Connected::message_of))]
+pub fn message_of(
+    draft: &mut Draft,
+    alloc: Global,
+    setting: &Setting,
+    message: &UeMessage<&[u8]>,
+) -> Result<(), StepStop>
+    ensures { Does result draft.new (message_of (message_lists message.now).body setting.now (message_lists message.now) draft.old) }
+{
+    match message.body {
+        UeBody::ReleaseComplete => Ok(()),
+        UeBody::PathSwitch => Ok(path_switch(draft, alloc, message)?),
+        UeBody::Uplink { nas: _, tai: _ }
+        | UeBody::ReleaseRequest { cause: _ }
+        | UeBody::ContextSetupFailure
+        | UeBody::Notice => checked(draft, alloc, setting, message),
+    }
+}
+
+/// A stranger came anew where an association was claimed.
+#[tactic(auto, unfolding(crate::specs::Connected::displaced))]
+pub fn displaced(draft: &mut Draft, id: AssociationId)
+    ensures { draft.new ≡ displaced id draft.old }
+{
+    if let Some(connection) = draft.solo.connection {
+        if connection.id == id {
+            draft.lose();
+        }
+    }
+}
+
+// The station is struck from the paging to repeat.
+#[tactic(auto, unfolding(crate::specs::Connected::strike))]
+fn strike(draft: &mut Draft, station: StationNumber)
+    ensures { draft.new ≡ strike station draft.old }
+{
+    if let Some(Repeat::Paging(stations)) = &mut draft.solo.repeat {
+        stations.remove(station);
+    }
+}
+
+/// A station was lost, set up anew or reset as a whole.
+#[tactic(auto, unfolding(crate::specs::Connected::station_gone))]
+pub fn station_gone(draft: &mut Draft, station: StationNumber)
+    ensures { draft.new ≡ station_gone station draft.old }
+{
+    strike(draft, station);
+    if let Some(connection) = draft.solo.connection {
+        if connection.station == station {
+            draft.lose();
+        }
+    }
+}
+
+/// A station reset a list of associations (TS 36.413 clause 8.7.1.2.2); no station is struck from the paging to repeat.
+#[tactic(auto, unfolding(crate::specs::Connected::connections_gone))]
+pub fn connections_gone(
+    draft: &mut Draft,
+    station: StationNumber,
+    items: &[Listed<ListedAssociation, 91, 0>],
+)
+    ensures { draft.new ≡ connections_gone station items.now draft.old }
+{
+    if let Some(connection) = draft.solo.connection {
+        if connection.station == station && is_listed(connection.id, connection.enb_id, items) {
+            draft.lose();
+        }
+    }
+}

@@ -1,0 +1,5 @@
+pub mod Calling
+pub mod Stepping
+pub mod Room
+pub mod Short
+pub mod Known

@@ -1,0 +1,115 @@
+-- A step that was prepared, of one and of some.
+use Rattle.std.proofs.Common.{◌≡◌, ℕ, zero, suc, ◌+◌, ◌<◌, ◌≤◌, List, [], ◌∷◌, ◌++◌, length, map, true, false, Option, Some, None, Result, Ok, Err, IfOk, refl, sym, subst, ◌∙◌, ap, arith}
+use Rattle.std.specs.Prelude.{slice_get, slice_set, option_map}
+use Rattle.std.specs.Option.{option_map_or}
+use Rattle.emm_state.specs.declared.solo.Solo.{Solo}
+use Rattle.emm_state.specs.declared.draft.Draft.{Draft}
+use Rattle.emm_machine.specs.Laws.{still_stays}
+use Rattle.mme_vocabulary.specs.Events.{Item, Tick}
+use Rattle.emm_machine.specs.Still.{still}
+use Rattle.emm_machine.specs.SubscriberView.{SubscriberView}
+use Rattle.emm_machine.specs.Ticks.{IsRunning, StaysRunning, countdowns}
+use Rattle.emm_machine.specs.TickLaws.{running_timed}
+use Rattle.ordered_lists.specs.Ordered.{Every}
+use Rattle.subscriber_table.specs.declared.stepped.Stepped.{Stepped}
+use Rattle.subscriber_table.specs.Laws.{all_give_as_due, all_give_as_touched, each_gives, quiet_sent, some_give, tick_is_of_all, timed_in_range, touched_below, touched_few, touched_is_of_all}
+use Rattle.subscriber_table.specs.Running.{is_due}
+use Rattle.subscriber_table.specs.Table.{IsCounting, IsStepped, due_slots, each_after, slots_stepped, step_at, subscriber_step, tick_settled}
+use Rattle.subscriber_table.specs.Touched.{touched_slots}
+use Rattle.mme_answering.specs.InUse.{AreInUse}
+use Rattle.mme_answering.specs.Settled.{AreFit, in_state, item_sent, sent_at, solo_at, with_solo, with_stepped}
+use Rattle.mme_routing.specs.Destinations.{for_all, for_one}
+use Rattle.mme_answering.specs.Sending.{each_sent, slot_out}
+use Rattle.mme_answering.proofs.Calling.{after_call, sends_call}
+
+-- ---- a step that was prepared
+
+-- whose countdowns run in time
+counting_after : StaysRunning → (w : SubscriberView) (item : Item) → IsRunning w.solo → IsCounting (subscriber_step w item).solo
+counting_after law w item h = timed_in_range (countdowns (subscriber_step w item).solo) (running_timed (subscriber_step w item).solo (law w.setting w.solo (item ∷ []) h))
+
+counting_if : StaysRunning → (slot : ℕ) (item : Item) (ws : List SubscriberView) (d : Draft) → AreInUse ws → option_map (λ w. subscriber_step w item) (slice_get ws slot) ≡ Some d → IsCounting d.solo
+counting_if law slot item [] d h at = absurd (cc)
+counting_if law zero item (w ∷ ws) d h at =
+    let is : subscriber_step w item ≡ d = cc in
+    subst (λ (e : Draft). IsCounting e.solo) is (counting_after law w item h.2)
+counting_if law (suc slot) item (w ∷ ws) d h at = counting_if law slot item ws d h.3 at
+
+pub counting_at : StaysRunning → (slot : ℕ) (item : Item) (ws : List SubscriberView) (d : Draft) → AreInUse ws → step_at slot item ws ≡ Some d → IsCounting d.solo
+counting_at law slot item ws d h at = counting_if law slot item ws d h at
+
+pub solo_is : (slot : ℕ) (item : Item) (ws : List SubscriberView) (d : Draft) → step_at slot item ws ≡ Some d → solo_at slot item ws ≡ Some d.solo
+solo_is slot item ws d at = ap (option_map (λ (e : Draft). e.solo)) at
+
+sent_if : (slot : ℕ) (item : Item) (o : Option SubscriberView) (d : Draft) → option_map (λ w. subscriber_step w item) o ≡ Some d
+    → map (slot_out slot) d.sent ≡ option_map_or (λ w. map (slot_out slot) (subscriber_step w item).sent) o []
+sent_if slot item None d at = absurd (cc)
+sent_if slot item (Some w) d at =
+    let is : subscriber_step w item ≡ d = cc in
+    ap (λ (e : Draft). map (slot_out slot) e.sent) (sym is)
+
+pub sent_is : (slot : ℕ) (item : Item) (ws : List SubscriberView) (d : Draft) → step_at slot item ws ≡ Some d → map (slot_out slot) d.sent ≡ sent_at slot item ws
+sent_is slot item ws d at = sent_if slot item (slice_get ws slot) d at
+
+-- ---- each is that of a subscriber, and they are as many as before
+
+fit_each : (m : ℕ) (xs : List Stepped) → Every (λ k. k < m) (slots_stepped xs) → Every (λ (x : Stepped). IsCounting x.solo) xs → AreFit m xs
+fit_each m [] h k = tt
+fit_each m (x ∷ xs) h k = ((h.0, k.0), fit_each m xs h.1 k.1)
+
+pub slots_many : (xs : List Stepped) → length (slots_stepped xs) ≡ length xs
+slots_many [] = refl
+slots_many (x ∷ xs) = ap suc (slots_many xs)
+
+pub touched_fit : (item : Item) (xs : List Stepped) (ws : List SubscriberView) → slots_stepped xs ≡ touched_slots item ws → Every (λ (x : Stepped). IsCounting x.solo) xs
+    → AreFit (length ws) xs × (length xs ≤ length ws)
+touched_fit item xs ws touched k =
+    let many = slots_many xs in
+    let few = subst (λ ks. length ks ≤ length ws) (sym touched) (touched_few item ws) in
+    (fit_each (length ws) xs (subst (Every (λ n. n < length ws)) (sym touched) (touched_below item ws)) k, omega arith)
+
+-- ---- one alone is called
+
+stepped_at : {P : Type 0} (item : Item) (s : Solo) (o : Option SubscriberView) → option_map (λ (d : Draft). d.solo) (option_map (λ v. subscriber_step v item) o) ≡ Some s
+    → ((w : SubscriberView) → o ≡ Some w → (subscriber_step w item).solo ≡ s → P) → P
+stepped_at item s None h k = absurd (cc)
+stepped_at item s (Some w) h k = let is : (subscriber_step w item).solo ≡ s = cc in k w refl is
+
+pub called_after : (slot : ℕ) (item : Item) (ws : List SubscriberView) (s : Solo) → solo_at slot item ws ≡ Some s → with_solo slot s ws ≡ each_after (for_one slot item) 0 ws
+called_after slot item ws s h = stepped_at item s (slice_get ws slot) h (λ w at is.
+    ap (λ (o : Option SubscriberView). option_map_or (λ v. slice_set ws slot (in_state s v)) o ws) at
+    ∙ ap (λ (t : Solo). slice_set ws slot (in_state t w)) (sym is) ∙ after_call slot item ws w at)
+
+pub called_sends : (slot : ℕ) (item : Item) (ws : List SubscriberView) (s : Solo) → solo_at slot item ws ≡ Some s → sent_at slot item ws ≡ each_sent (for_one slot item) 0 ws
+called_sends slot item ws s h = stepped_at item s (slice_get ws slot) h (λ w at is.
+    ap (λ (o : Option SubscriberView). option_map_or (λ v. map (slot_out slot) (subscriber_step v item).sent) o []) at ∙ sends_call slot item ws w at)
+
+-- ---- what some do is what all do: at a tick those who are due, at a notice of a station those whom it touches
+
+quiet_gives : (n : ℕ) (w : SubscriberView) → is_due (countdowns w.solo) ≡ false → item_sent Tick n w ≡ []
+quiet_gives n w e = ap (map (slot_out n)) (quiet_sent w e)
+
+still_gives : (item : Item) (n : ℕ) (w : SubscriberView) → still w.solo item ≡ true → item_sent item n w ≡ []
+still_gives item n w h = ap (λ (d : Draft). map (slot_out n) d.sent) (still_stays w.setting w.solo item h)
+
+each_gives_sent : (item : Item) (n : ℕ) (ws : List SubscriberView) → each_gives (item_sent item) n ws ≡ each_sent (for_all item) n ws
+each_gives_sent item n [] = refl
+each_gives_sent item n (w ∷ ws) = ap (λ os. item_sent item n w ++ os) (each_gives_sent item (n + 1) ws)
+
+pub due_send : (ws : List SubscriberView) → some_give (item_sent Tick) (due_slots ws) ws ≡ each_sent (for_all Tick) 0 ws
+due_send ws = all_give_as_due (item_sent Tick) ws quiet_gives ∙ each_gives_sent Tick 0 ws
+
+pub touched_send : (item : Item) (ws : List SubscriberView) → some_give (item_sent item) (touched_slots item ws) ws ≡ each_sent (for_all item) 0 ws
+touched_send item ws = all_give_as_touched item (item_sent item) ws (still_gives item) ∙ each_gives_sent item 0 ws
+
+pub ticks_all : (xs : List Stepped) (ws : List SubscriberView) → slots_stepped xs ≡ due_slots ws → Every (IsStepped Tick ws) xs → tick_settled xs ws ≡ each_after (for_all Tick) 0 ws
+ticks_all xs ws due h = tick_is_of_all xs ws due h
+
+pub touches_all : (item : Item) (xs : List Stepped) (ws : List SubscriberView) → slots_stepped xs ≡ touched_slots item ws → Every (IsStepped item ws) xs
+    → with_stepped xs ws ≡ each_after (for_all item) 0 ws
+touches_all item xs ws touched h = touched_is_of_all item xs ws touched h
+
+-- two facts of one answer
+pub ok_both : {T E : Type 0} (P Q R : T → Type 0) (r : Result T E) → ((x : T) → P x → Q x → R x) → IfOk r P → IfOk r Q → IfOk r R
+ok_both P Q R (Ok x) both p q = both x p q
+ok_both P Q R (Err e) both p q = tt

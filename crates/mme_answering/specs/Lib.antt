@@ -1,0 +1,5 @@
+pub mod Short
+pub mod Sending
+pub mod Settled
+pub mod InUse
+pub mod Laws

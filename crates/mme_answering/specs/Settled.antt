@@ -1,0 +1,114 @@
+-- What strangers and subscribers are once what was prepared for an event is settled.
+use Rattle.std.specs.Prelude.{◌≡◌, ◌+◌, ◌<◌, ◌≤◌, ◌^◌, ℕ, Bool, true, false, slice_get, List, [], length, map, option_map, Option, Some, None}
+use Rattle.std.specs.Option.{option_map_or}
+use Rattle.emm_state.specs.declared.draft.Draft.{Draft}
+use Rattle.emm_state.specs.declared.solo.Solo.{Solo}
+use Rattle.mme_vocabulary.specs.Events.{Item}
+use Rattle.emm_machine.specs.SubscriberView.{SubscriberView}
+use Rattle.ordered_lists.specs.Ordered.{Every}
+use Rattle.stranger_machine.specs.declared.table.Known.{Known}
+use Rattle.stranger_machine.specs.declared.turn.Notice.{Notice}
+use Rattle.stranger_machine.specs.declared.turn.Notice.TheVariants as notices
+use Rattle.stranger_machine.specs.Machine.{is_of_station, notes}
+use Rattle.stranger_machine.specs.Table.{noted, stranger_at, with_stranger}
+use Rattle.stranger_machine.specs.Turns.{after_of}
+use Rattle.subscriber_table.specs.declared.stepped.Stepped.{Stepped}
+use Rattle.subscriber_table.specs.Table.{IsCounting, due_slots, slots_stepped, step_at, subscriber_step, tick_settled}
+use Rattle.mme_answering.specs.declared.out.Out.{Out}
+use Rattle.mme_answering.specs.declared.prepared.Prepared.{Prepared}
+use Rattle.mme_answering.specs.declared.prepared.Prepared.TheVariants as prepared
+use Rattle.mme_routing.specs.declared.destination.Destination.{Destination as DestinationInCode}
+use Rattle.mme_routing.specs.declared.destination.Destination.TheVariants as code
+use Rattle.mme_routing.specs.Destinations.{Destination, Everyone}
+use Rattle.mme_answering.specs.Sending.{slot_out, stranger_out}
+pub use Rattle.subscriber_table.specs.Table.{in_state, with_solo, with_stepped}
+
+abbrev pub with_one : Option Stepped → List SubscriberView → List SubscriberView
+with_one None ws = ws
+with_one (Some x) ws = with_solo x.slot x.solo ws
+
+-- the subscribers, as they were prepared
+abbrev pub settled_subscribers : Prepared → List SubscriberView → List SubscriberView
+settled_subscribers prepared.Nobody ws = ws
+settled_subscribers (prepared.Subscriber x) ws = with_solo x.slot x.solo ws
+settled_subscribers (prepared.Stranger id after x) ws = with_one x ws
+settled_subscribers (prepared.Everyone notice xs) ws = with_stepped xs.items ws
+settled_subscribers (prepared.Tick xs) ws = tick_settled xs.items ws
+
+-- and the strangers
+abbrev pub settled_strangers : Prepared → List Known → List Known
+settled_strangers prepared.Nobody ks = ks
+settled_strangers (prepared.Subscriber x) ks = ks
+settled_strangers (prepared.Stranger id after x) ks = with_stranger id (after_of after (stranger_at id ks)) ks
+settled_strangers (prepared.Everyone notice xs) ks = noted notice ks
+settled_strangers (prepared.Tick xs) ks = noted notices.Tick ks
+
+-- and the clock of the tables of both
+abbrev pub settled_clock : Prepared → ℕ → ℕ
+settled_clock (prepared.Tick xs) clock = clock + 1
+settled_clock _ clock = clock
+
+-- it has one of the first n slots, and each of its countdowns that runs is in time
+abbrev pub IsFit : ℕ → Stepped → Type 0
+IsFit n x = (x.slot < n) × IsCounting x.solo
+
+abbrev pub AreFit : ℕ → List Stepped → Type 0
+AreFit n xs = Every (IsFit n) xs
+
+abbrev pub IsFitIf : ℕ → Option Stepped → Type 0
+IsFitIf n None = Unit {0}
+IsFitIf n (Some x) = IsFit n x
+
+-- each is that of a subscriber, at a tick they are those who are due, and any other notice is that of a station
+abbrev pub IsFor : Prepared → List SubscriberView → Type 0
+IsFor prepared.Nobody ws = Unit {0}
+IsFor (prepared.Subscriber x) ws = IsFit (length ws) x
+IsFor (prepared.Stranger id after x) ws = IsFitIf (length ws) x
+IsFor (prepared.Everyone notice xs) ws = AreFit (length ws) xs.items × (length xs.items ≤ length ws) × (is_of_station notice ≡ true)
+IsFor (prepared.Tick xs) ws = (slots_stepped xs.items ≡ due_slots ws) × Every (λ (x : Stepped). IsCounting x.solo) xs.items
+
+-- for how many steps room is made
+abbrev pub steps_of : Prepared → ℕ
+steps_of prepared.Nobody = 0
+steps_of (prepared.Subscriber x) = 1
+steps_of (prepared.Stranger id after x) = 1
+steps_of (prepared.Everyone notice xs) = length xs.items
+steps_of (prepared.Tick xs) = length xs.items
+
+-- ---- a tick
+
+-- a tick alone moves a clock, and only one below 2^62
+abbrev pub MayPass : Prepared → ℕ → Type 0
+MayPass (prepared.Tick xs) clock = clock < 2 ^ 62
+MayPass _ clock = Unit {0}
+
+-- and it moves no further than another
+abbrev pub IsInTime : Prepared → ℕ → ℕ → Type 0
+IsInTime p before after = MayPass p before × (settled_clock p before ≤ after)
+
+-- it doesn't go to everyone
+abbrev pub is_own : DestinationInCode → Bool
+is_own (code.Everyone notice) = false
+is_own _ = true
+
+-- a tick was prepared only where everyone was told of one
+abbrev pub IsPassing : Destination → Prepared → Type 0
+IsPassing d (prepared.Tick xs) = d ≡ Everyone notices.Tick
+IsPassing d _ = Unit {0}
+
+-- ---- what an item makes of those whom it is for
+
+-- the state of a slot after an item, and what it sends, if somebody has it
+abbrev pub solo_at : ℕ → Item → List SubscriberView → Option Solo
+solo_at slot item ws = option_map (λ (d : Draft). d.solo) (step_at slot item ws)
+
+abbrev pub sent_at : ℕ → Item → List SubscriberView → List Out
+sent_at slot item ws = option_map_or (λ w. map (slot_out slot) (subscriber_step w item).sent) (slice_get ws slot) []
+
+-- what a slot's subscriber sends at an item
+abbrev pub item_sent : Item → ℕ → SubscriberView → List Out
+item_sent item n w = map (slot_out n) (subscriber_step w item).sent
+
+-- what a stranger sends at a notice
+abbrev pub known_sent : Notice → Known → List Out
+known_sent notice k = map (stranger_out k.id) (notes k.id (Some k.stranger) notice).sent

@@ -1,0 +1,85 @@
+//! What an MME sends.
+
+ghost use Rattle.std.specs.Prelude.{◌≡◌, ◌++◌, ◌∷◌, [], OnOk, OnErr};
+ghost use Rattle.mme_answering.specs.Short.{AreShort};
+
+use identity_slots::{AssociationId, Slot};
+use mme_vocabulary::{SentOctets, StationNumber};
+use std::alloc::{AllocError, Global};
+use std::marker::Model;
+
+/// For whom a message is sent.
+#[derive(Clone, Copy, PartialEq, Eq)]
+pub enum Owner {
+    /// The station itself.
+    Station(StationNumber),
+    /// A phone that no subscriber is known for, by its id: 2^31, its station and its number there.
+    Stranger(AssociationId),
+    /// A subscriber, by slot.
+    Subscriber(Slot),
+}
+
+/// A message that is sent to a station.
+#[derive(Drop)]
+pub struct Out {
+    pub owner: Owner,
+    pub station: StationNumber,
+    pub octets: SentOctets,
+}
+
+/// What is sent at one event, in order: for stations, strangers and subscribers, no message longer than 16,388 octets; a contract
+/// sees the list.
+#[derive(Drop)]
+pub struct Outs {
+    items: Vec<Out>,
+}
+
+impl Model for Outs {
+    ghost use Rattle.std.specs.Prelude.{List};
+    ghost use Rattle.mme_answering.specs.declared.out.Out.{Out};
+
+    ghost Value = { List Out };
+
+    ghost view = { λ o. o.items.items };
+
+    ghost use Rattle.mme_answering.specs.Short.{AreShort};
+
+    ghost invariant = { λ o. AreShort o.items.items };
+}
+
+impl Outs {
+    /// Nothing; takes no memory.
+    pub fn new(alloc: Global) -> Outs
+        ensures { result ≡ [] }
+    {
+        Outs {
+            items: Vec::new(alloc),
+        }
+    }
+
+    /// One message more.
+    #[tactic(auto, using(crate::proofs::Short::short_push))]
+    pub fn push(&mut self, out: Out) -> Result<(), AllocError>
+        ensures ok { OnOk result (self.new ≡ self.old ++ out ∷ []) }
+        ensures err { OnErr result (self.new ≡ self.old) }
+    {
+        // The list keeps this of each message.
+        out.octets.is_short();
+        self.items.push(out)?;
+        Ok(())
+    }
+
+    /// The messages.
+    pub fn as_slice(&self) -> &[Out]
+        ensures { result.now ≡ self.now }
+    {
+        self.items.as_slice()
+    }
+
+    /// No message is long.
+    pub fn are_short(&self)
+        ensures { AreShort self.now }
+    {
+        let _ = &self.items;
+    }
+}

@@ -1,0 +1,18 @@
+//! What an event leads to, before it is taken.
+
+use identity_slots::AssociationId;
+use stranger_machine::{After, Notice};
+use subscriber_table::Stepped;
+
+/// What is to become of those whom an event goes to.
+#[derive(Drop)]
+pub enum Prepared {
+    Nobody,
+    Subscriber(Stepped),
+    /// A stranger, by its id, and the subscriber that it calls, if it calls one.
+    Stranger(AssociationId, After, Option<Stepped>),
+    /// All strangers, and each subscriber whom the notice doesn't leave as it is.
+    Everyone(Notice, Vec<Stepped>),
+    /// A tick for all strangers and all subscribers, of whom those who are due were prepared.
+    Tick(Vec<Stepped>),
+}

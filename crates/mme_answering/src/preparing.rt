@@ -1,0 +1,312 @@
+//! What strangers and subscribers do at an event, worked out before any of it is taken.
+
+ghost use Rattle.std.specs.Prelude.{◌≡◌, ◌<◌, ◌≤◌, ◌++◌, List, map, length, IfOk, OnOk, Some, true};
+ghost use Rattle.mme_vocabulary.specs.declared.stations.StationState.{StationState};
+ghost use Rattle.mme_vocabulary.specs.Events.{item_of};
+ghost use Rattle.mme_vocabulary.specs.Events as items;
+ghost use Rattle.ordered_lists.specs.Ordered.{Every};
+ghost use Rattle.stranger_machine.specs.declared.table.Known.{Known};
+ghost use Rattle.stranger_machine.specs.declared.turn.Notice.TheVariants as notices;
+ghost use Rattle.stranger_machine.specs.Machine.{is_of_station};
+ghost use Rattle.stranger_machine.specs.Table.{noted, stranger_at, with_stranger};
+ghost use Rattle.stranger_machine.specs.Turns.{after_of, call_of};
+ghost use Rattle.subscriber_table.specs.declared.stepped.Stepped.{Stepped};
+ghost use Rattle.subscriber_table.specs.Laws.{some_give};
+ghost use Rattle.subscriber_table.specs.Table.{IsCounting, IsStepped, each_after, slots_stepped};
+ghost use Rattle.subscriber_table.specs.Touched.{touched_slots};
+ghost use Rattle.mme_routing.specs.Destinations.{Destination as DestinationInSpecs, Everyone, for_all, for_one, if_called, item_at, item_of_notice, strangers_behind};
+ghost use Rattle.mme_routing.specs.Seen.{destination_of};
+ghost use Rattle.mme_answering.specs.InUse.{AreInUse};
+ghost use Rattle.mme_answering.specs.Settled.{AreFit, IsFitIf, IsFor, IsPassing, is_own, item_sent, sent_at, settled_strangers, settled_subscribers, solo_at, with_one, with_stepped};
+ghost use Rattle.mme_answering.specs.Sending.{each_known, each_sent, stranger_out, strangers_sent};
+
+use crate::out::{Outs, Owner};
+use crate::prepared::Prepared;
+use crate::sending::{send_all, send_due};
+use emm_machine::running_is_kept;
+use emm_state::Draft;
+use identity_slots::{AssociationId, Provision, Slot};
+use mme_routing::Destination;
+use mme_vocabulary::{EnbWorld, SoloEvent};
+use std::alloc::{AllocError, Global};
+use stranger_machine::{Call, Notice, Turn, begins, receives};
+use stranger_table::Strangers;
+use subscriber_table::{Stepped, Subscribers};
+
+// A subscriber's step, on a copy: its state after it; what it sends stands behind what is sent so far.
+fn prepare_step(
+    alloc: Global,
+    subscribers: &mut Subscribers,
+    slot: Slot,
+    event: &SoloEvent,
+    stations: &EnbWorld,
+    outs: &mut Outs,
+) -> Result<Stepped, AllocError>
+    requires slot { slot < length subscribers.old.subscribers }
+    requires in_use { AreInUse subscribers.old.subscribers }
+    ensures slot { IfOk result (λ x. x.slot ≡ slot) }
+    ensures after { IfOk result (λ x. solo_at slot (item_of event.now stations.now) subscribers.old.subscribers ≡ Some x.solo) }
+    ensures counting { IfOk result (λ x. IsCounting x.solo) }
+    ensures sends { OnOk result (outs.new ≡ outs.old ++ sent_at slot (item_of event.now stations.now) subscribers.old.subscribers) }
+    ensures same { subscribers.new ≡ subscribers.old }
+{
+    running_is_kept();
+    let Draft {
+        solo,
+        sent,
+        accepted: _,
+        unwritten: _,
+    } = subscribers.prepare(slot, event, stations)?;
+    send_all(alloc, outs, Owner::Subscriber(slot), &sent)?;
+    Ok(Stepped { slot, solo })
+}
+
+// The step of each of some slots; what they send stands behind what is sent so far.
+fn prepare_each(
+    alloc: Global,
+    subscribers: &mut Subscribers,
+    called: &[Slot],
+    event: &SoloEvent,
+    stations: &EnbWorld,
+    outs: &mut Outs,
+) -> Result<Vec<Stepped>, AllocError>
+    requires called { Every (λ k. k < length subscribers.old.subscribers) called.now }
+    requires in_use { AreInUse subscribers.old.subscribers }
+    ensures slots { IfOk result (λ xs. slots_stepped xs.items ≡ called.now) }
+    ensures stepped { IfOk result (λ xs. Every (IsStepped (item_of event.now stations.now) subscribers.old.subscribers) xs.items) }
+    ensures counting { IfOk result (λ xs. Every (λ (x : Stepped). IsCounting x.solo) xs.items) }
+    ensures sends { OnOk result (outs.new ≡ outs.old ++ some_give (item_sent (item_of event.now stations.now)) called.now subscribers.old.subscribers) }
+    ensures same { subscribers.new ≡ subscribers.old }
+{
+    let mut stepped = Vec::new(alloc);
+    for slot in called {
+        let one = prepare_step(alloc, subscribers, *slot, event, stations, outs)?;
+        stepped.push(one)?;
+    }
+    Ok(stepped)
+}
+
+// The step of one, if its slot is provisioned.
+fn prepare_one(
+    alloc: Global,
+    subscribers: &mut Subscribers,
+    slot: Slot,
+    event: &SoloEvent,
+    stations: &EnbWorld,
+    outs: &mut Outs,
+) -> Result<Option<Stepped>, AllocError>
+    requires { AreInUse subscribers.old.subscribers }
+    ensures after { IfOk result (λ x. with_one x subscribers.old.subscribers ≡ each_after (for_one slot (item_of event.now stations.now)) 0 subscribers.old.subscribers) }
+    ensures fits { IfOk result (λ x. IsFitIf (length subscribers.old.subscribers) x) }
+    ensures sends { OnOk result (outs.new ≡ outs.old ++ each_sent (for_one slot (item_of event.now stations.now)) 0 subscribers.old.subscribers) }
+    ensures same { subscribers.new ≡ subscribers.old }
+{
+    let place = slot.get() as usize;
+    if place >= subscribers.len() {
+        return Ok(None);
+    }
+    let one = prepare_step(alloc, subscribers, slot, event, stations, outs)?;
+    Ok(Some(one))
+}
+
+// The step of the one whom a stranger calls, if it calls.
+fn prepare_called(
+    alloc: Global,
+    subscribers: &mut Subscribers,
+    call: &Option<Call>,
+    stations: &EnbWorld,
+    outs: &mut Outs,
+) -> Result<Option<Stepped>, AllocError>
+    requires { AreInUse subscribers.old.subscribers }
+    ensures after { IfOk result (λ x. with_one x subscribers.old.subscribers ≡ each_after (if_called (call_of stations.now call.now)) 0 subscribers.old.subscribers) }
+    ensures fits { IfOk result (λ x. IsFitIf (length subscribers.old.subscribers) x) }
+    ensures sends { OnOk result (outs.new ≡ outs.old ++ each_sent (if_called (call_of stations.now call.now)) 0 subscribers.old.subscribers) }
+    ensures same { subscribers.new ≡ subscribers.old }
+{
+    match call {
+        Some(call) => {
+            let event = &call.event;
+            prepare_one(alloc, subscribers, call.slot, event, stations, outs)
+        }
+        None => Ok(None),
+    }
+}
+
+// What is to become of a stranger by its turn, and of the one whom it calls, if it calls.
+fn prepare_turn(
+    alloc: Global,
+    subscribers: &mut Subscribers,
+    id: AssociationId,
+    turn: Turn<'_>,
+    stations: &EnbWorld,
+    outs: &mut Outs,
+) -> Result<Prepared, AllocError>
+    requires { AreInUse subscribers.old.subscribers }
+    ensures sends { OnOk result (outs.new ≡ outs.old ++ (map (stranger_out id) turn.entry.sent ++ each_sent (if_called (call_of stations.now turn.entry.call)) 0 subscribers.old.subscribers)) }
+    ensures strangers { IfOk result (λ p. (ks : List Known) → settled_strangers p ks ≡ with_stranger id (after_of turn.entry.after (stranger_at id ks)) ks) }
+    ensures subscribers { IfOk result (λ p. settled_subscribers p subscribers.old.subscribers ≡ each_after (if_called (call_of stations.now turn.entry.call)) 0 subscribers.old.subscribers) }
+    ensures fits { IfOk result (λ p. IsFor p subscribers.old.subscribers) }
+    ensures passing { IfOk result (λ p. (d : DestinationInSpecs) → IsPassing d p) }
+    ensures same { subscribers.new ≡ subscribers.old }
+{
+    let Turn { after, sent, call } = turn;
+    send_all(alloc, outs, Owner::Stranger(id), &sent)?;
+    let called = prepare_called(alloc, subscribers, &call, stations, outs)?;
+    Ok(Prepared::Stranger(id, after, called))
+}
+
+// A tick of those alone, strangers and subscribers, who are due; and what all send.
+fn prepare_tick(
+    alloc: Global,
+    strangers: &Strangers,
+    subscribers: &mut Subscribers,
+    stations: &EnbWorld,
+    event: &SoloEvent,
+    outs: &mut Outs,
+) -> Result<Prepared, AllocError>
+    requires tick { item_of event.now stations.now ≡ items.Tick }
+    requires in_use { AreInUse subscribers.old.subscribers }
+    ensures sends { OnOk result (outs.new ≡ outs.old ++ (each_known notices.Tick strangers.now.strangers ++ each_sent (for_all items.Tick) 0 subscribers.old.subscribers)) }
+    ensures strangers { IfOk result (λ p. settled_strangers p strangers.now.strangers ≡ noted notices.Tick strangers.now.strangers) }
+    ensures subscribers { IfOk result (λ p. settled_subscribers p subscribers.old.subscribers ≡ each_after (for_all items.Tick) 0 subscribers.old.subscribers) }
+    ensures fits { IfOk result (λ p. IsFor p subscribers.old.subscribers) }
+    ensures passing { IfOk result (λ p. IsPassing (Everyone notices.Tick) p) }
+    ensures same { subscribers.new ≡ subscribers.old }
+{
+    send_due(alloc, strangers, outs)?;
+    let due = subscribers.due()?;
+    let called = due.as_slice();
+    let stepped = prepare_each(alloc, subscribers, called, event, stations, outs)?;
+    Ok(Prepared::Tick(stepped))
+}
+
+// What a notice of a station is to a subscriber.
+fn event_of(notice: &Notice) -> SoloEvent<'_>
+    requires { is_of_station notice.now ≡ true }
+    ensures { (stations : List StationState) → item_of result stations ≡ item_of_notice notice.entry.now }
+{
+    match notice {
+        Notice::Gone(station) => SoloEvent::StationGone(*station),
+        Notice::Listed(station, items) => SoloEvent::ConnectionsGone(*station, items.as_slice()),
+        Notice::Tick => unreachable!(),
+    }
+}
+
+// The slots of those whom a notice of a station may touch.
+fn touched_by(subscribers: &Subscribers, notice: &Notice) -> Result<Vec<Slot>, AllocError>
+    requires { is_of_station notice.now ≡ true }
+    ensures { IfOk result (λ touched. touched.items ≡ touched_slots (item_of_notice notice.now) subscribers.now.subscribers) }
+{
+    match notice {
+        Notice::Gone(station) => subscribers.concerned(*station),
+        Notice::Listed(station, items) => subscribers.listed(*station, items.as_slice()),
+        Notice::Tick => unreachable!(),
+    }
+}
+
+// What a notice of a station makes of those subscribers whom it touches, by the event that it is to them, and what they send;
+// strangers send nothing at it.
+fn prepare_all(
+    alloc: Global,
+    subscribers: &mut Subscribers,
+    stations: &EnbWorld,
+    notice: &Notice,
+    event: &SoloEvent,
+    outs: &mut Outs,
+) -> Result<Vec<Stepped>, AllocError>
+    requires station { is_of_station notice.now ≡ true }
+    requires event { item_of event.now stations.now ≡ item_of_notice notice.now }
+    requires in_use { AreInUse subscribers.old.subscribers }
+    ensures sends { OnOk result (outs.new ≡ outs.old ++ each_sent (for_all (item_of_notice notice.now)) 0 subscribers.old.subscribers) }
+    ensures subscribers { IfOk result (λ xs. with_stepped xs.items subscribers.old.subscribers ≡ each_after (for_all (item_of_notice notice.now)) 0 subscribers.old.subscribers) }
+    ensures fits { IfOk result (λ xs. AreFit (length subscribers.old.subscribers) xs.items × (length xs.items ≤ length subscribers.old.subscribers)) }
+    ensures same { subscribers.new ≡ subscribers.old }
+{
+    let touched = touched_by(subscribers, notice)?;
+    let called = touched.as_slice();
+    prepare_each(alloc, subscribers, called, event, stations, outs)
+}
+
+// What is to become of those whom an event goes to that isn't for everyone.
+fn prepare_own<'a>(
+    alloc: Global,
+    provision: &Provision,
+    strangers: &'a Strangers,
+    subscribers: &mut Subscribers,
+    stations: &EnbWorld,
+    destination: &Destination<'a>,
+    outs: &mut Outs,
+) -> Result<Prepared, AllocError>
+    requires own { is_own destination.now ≡ true }
+    requires in_use { AreInUse subscribers.old.subscribers }
+    ensures sends { OnOk result (outs.new ≡ outs.old ++ (strangers_sent provision.now.profiles (destination_of stations.now destination.now) strangers.entry.now.strangers
+        ++ each_sent (item_at (destination_of stations.now destination.now) provision.now.profiles (λ id. stranger_at id strangers.entry.now.strangers)) 0 subscribers.old.subscribers)) }
+    ensures strangers { IfOk result (λ p. settled_strangers p strangers.entry.now.strangers ≡ strangers_behind provision.now.profiles (destination_of stations.now destination.now) strangers.entry.now.strangers) }
+    ensures subscribers { IfOk result (λ p. settled_subscribers p subscribers.old.subscribers
+        ≡ each_after (item_at (destination_of stations.now destination.now) provision.now.profiles (λ id. stranger_at id strangers.entry.now.strangers)) 0 subscribers.old.subscribers) }
+    ensures fits { IfOk result (λ p. IsFor p subscribers.old.subscribers) }
+    ensures passing { IfOk result (λ p. IsPassing (destination_of stations.now destination.now) p) }
+    ensures same { subscribers.new ≡ subscribers.old }
+{
+    match destination {
+        Destination::Nobody => Ok(Prepared::Nobody),
+        Destination::Subscriber(slot, event) => {
+            match prepare_one(alloc, subscribers, *slot, event, stations, outs)? {
+                Some(stepped) => Ok(Prepared::Subscriber(stepped)),
+                None => Ok(Prepared::Nobody),
+            }
+        }
+        Destination::Beginner(id, entry) => {
+            let turn = begins(alloc, *id, strangers.find(*id), entry)?;
+            prepare_turn(alloc, subscribers, *id, turn, stations, outs)
+        }
+        Destination::Stranger(message) => {
+            let id = message.mme_id;
+            let turn = receives(alloc, provision, strangers.find(id), message)?;
+            prepare_turn(alloc, subscribers, id, turn, stations, outs)
+        }
+        Destination::Everyone(_) => unreachable!(),
+    }
+}
+
+/// What is to become of those whom an event goes to, worked out on copies; what they send stands behind what is sent so far.
+pub fn prepare<'a>(
+    alloc: Global,
+    provision: &Provision,
+    strangers: &'a Strangers,
+    subscribers: &mut Subscribers,
+    stations: &EnbWorld,
+    destination: Destination<'a>,
+    outs: &mut Outs,
+) -> Result<Prepared, AllocError>
+    requires in_use { AreInUse subscribers.old.subscribers }
+    ensures sends { OnOk result (outs.new ≡ outs.old ++ (strangers_sent provision.now.profiles (destination_of stations.now destination.entry) strangers.entry.now.strangers
+        ++ each_sent (item_at (destination_of stations.now destination.entry) provision.now.profiles (λ id. stranger_at id strangers.entry.now.strangers)) 0 subscribers.old.subscribers)) }
+    ensures strangers { IfOk result (λ p. settled_strangers p strangers.entry.now.strangers ≡ strangers_behind provision.now.profiles (destination_of stations.now destination.entry) strangers.entry.now.strangers) }
+    ensures subscribers { IfOk result (λ p. settled_subscribers p subscribers.old.subscribers
+        ≡ each_after (item_at (destination_of stations.now destination.entry) provision.now.profiles (λ id. stranger_at id strangers.entry.now.strangers)) 0 subscribers.old.subscribers) }
+    ensures fits { IfOk result (λ p. IsFor p subscribers.old.subscribers) }
+    ensures passing { IfOk result (λ p. IsPassing (destination_of stations.now destination.entry) p) }
+    ensures same { subscribers.new ≡ subscribers.old }
+{
+    match destination {
+        Destination::Everyone(Notice::Tick) => {
+            let event = &SoloEvent::Tick;
+            prepare_tick(alloc, strangers, subscribers, stations, event, outs)
+        }
+        Destination::Everyone(notice) => {
+            let event = &event_of(&notice);
+            let stepped = prepare_all(alloc, subscribers, stations, &notice, event, outs)?;
+            Ok(Prepared::Everyone(notice, stepped))
+        }
+        own => prepare_own(
+            alloc,
+            provision,
+            strangers,
+            subscribers,
+            stations,
+            &own,
+            outs,
+        ),
+    }
+}

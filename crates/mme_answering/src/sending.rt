@@ -1,0 +1,81 @@
+//! What owners send, behind what is sent so far.
+
+ghost use Rattle.std.specs.Prelude.{◌≡◌, ◌++◌, [], map, OnOk};
+ghost use Rattle.std.specs.Option.{option_map_or};
+ghost use Rattle.ordered_lists.specs.Ordered.{at};
+ghost use Rattle.stranger_machine.specs.Table.{known_id};
+ghost use Rattle.stranger_machine.specs.declared.turn.Notice.TheVariants.{Tick};
+ghost use Rattle.stranger_table.specs.Laws.{some_known_give};
+ghost use Rattle.mme_answering.specs.Settled.{known_sent};
+ghost use Rattle.mme_answering.specs.Sending.{each_known, owner_out};
+
+use crate::out::{Out, Outs, Owner};
+use identity_slots::AssociationId;
+use mme_vocabulary::Answers;
+use std::alloc::{AllocError, Global};
+use stranger_machine::Notice;
+use stranger_table::Strangers;
+
+/// What an owner's machine sends, behind what is sent so far.
+pub fn send_all(
+    alloc: Global,
+    outs: &mut Outs,
+    owner: Owner,
+    answers: &Answers,
+) -> Result<(), AllocError>
+    ensures { OnOk result (outs.new ≡ outs.old ++ map (owner_out owner) answers.now) }
+{
+    for answer in answers.as_slice() {
+        outs.push(Out {
+            owner,
+            station: answer.station,
+            octets: answer.octets.copy(alloc)?,
+        })?;
+    }
+    Ok(())
+}
+
+// What the stranger with an id sends at a tick, unless it is closed.
+fn send_one(
+    alloc: Global,
+    strangers: &Strangers,
+    id: AssociationId,
+    outs: &mut Outs,
+) -> Result<(), AllocError>
+    ensures { OnOk result (outs.new ≡ outs.old ++ option_map_or (known_sent Tick) (at known_id id strangers.now.strangers) []) }
+{
+    let Some(known) = strangers.find(id) else {
+        return Ok(());
+    };
+    let sent = known.sends(alloc, id, &Notice::Tick)?;
+    send_all(alloc, outs, Owner::Stranger(id), &sent)
+}
+
+// What the strangers with some ids send at a tick.
+fn send_some(
+    alloc: Global,
+    strangers: &Strangers,
+    ids: &[AssociationId],
+    outs: &mut Outs,
+) -> Result<(), AllocError>
+    ensures { OnOk result (outs.new ≡ outs.old ++ some_known_give (known_sent Tick) ids.now strangers.now.strangers) }
+{
+    for id in ids {
+        send_one(alloc, strangers, *id, outs)?;
+    }
+    Ok(())
+}
+
+/// What those strangers send at a tick whose T3470 it ends, by id, behind what is sent so far; the others send nothing.
+pub(crate) fn send_due(
+    alloc: Global,
+    strangers: &Strangers,
+    outs: &mut Outs,
+) -> Result<(), AllocError>
+    ensures { OnOk result (outs.new ≡ outs.old ++ each_known Tick strangers.now.strangers) }
+{
+    let due = strangers.due()?;
+    // (that their ids rise)
+    let _ = strangers.clock();
+    send_some(alloc, strangers, due.as_slice(), outs)
+}

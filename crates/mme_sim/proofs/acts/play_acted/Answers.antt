@@ -1,7 +1,0 @@
-use Rattle.mme_sim.proofs.Printing.{PrintsOn-remark}
-use Rattle.mme_sim.proofs.acts.play_acted.Goals as goal
-
-pub returns-in_ok-push_skipped-in-Skipped : goal.returns-in_ok-push_skipped-in-Skipped
-returns-in_ok-push_skipped-in-Skipped c =
-    PrintsOn-remark c.args.script.now.progress c.args.out.now.items c.push_skipped.new.out.items c.requires
-    c.in_ok-push_skipped-in-Skipped.ensures

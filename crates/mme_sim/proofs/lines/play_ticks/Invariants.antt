@@ -1,6 +1,0 @@
-use Rattle.std.proofs.Common.{[]}
-use Rattle.script_player.specs.Printed.{PrintsOn}
-use Rattle.mme_sim.proofs.lines.play_ticks.Given as goal
-
-abbrev pub invariant-loop-tick : goal.invariant-loop-tick
-invariant-loop-tick l = PrintsOn l.initial.script.progress l.initial.out.items l.script.progress l.out.items []

@@ -1,6 +1,0 @@
-use Rattle.std.proofs.Common.{[]}
-use Rattle.script_player.specs.Printed.{PrintsOn}
-use Rattle.mme_sim.proofs.turns.play_queue.Given as goal
-
-abbrev pub invariant-loop-turn : goal.invariant-loop-turn
-invariant-loop-turn l = PrintsOn l.initial.script.progress l.initial.out.items l.script.progress l.out.items []

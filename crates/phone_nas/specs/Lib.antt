@@ -1,0 +1,5 @@
+pub mod Sides
+pub mod Messages
+pub mod Protecting
+pub mod Answering
+pub mod Asking

@@ -1,0 +1,6 @@
+use Rattle.std.proofs.Common.{[]}
+use Rattle.script_player.specs.Printed.{PrintsOn}
+use Rattle.sim_lines.proofs.lines.play_ticks.Given as goal
+
+abbrev pub invariant-loop-tick : goal.invariant-loop-tick
+invariant-loop-tick l = PrintsOn l.initial.script.progress l.initial.out.items l.script.progress l.out.items []

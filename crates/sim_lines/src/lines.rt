@@ -1,0 +1,268 @@
+//! The lines that a script shares with a trace.
+
+ghost use Rattle.std.specs.Prelude.{◌≡◌, [], OnOk};
+ghost use Rattle.script_text.specs.Kept.{kept_line};
+ghost use Rattle.trace_text.specs.declared.line.Line.TheVariants.{Mme, Sub, Vec, Data, Cancel, Show};
+ghost use Rattle.script_player.specs.Printed.{IsBegun, PrintsOn, PrintsScriptLine, ReadsAs};
+ghost use Rattle.sim_lines.specs.Events.{IsEventLine};
+
+use crate::acts::play_act;
+use crate::script::Script;
+use crate::turns::play_answers;
+use identity_slots::{Profile, StationNumber, Vector};
+use nas_elements::Imsi;
+use script_player::{
+    is_begun, play_cancel, play_data, play_lost, play_mme, play_show, play_sub, play_tick, play_vec,
+};
+use script_text::ScriptAct;
+use std::alloc::{AllocError, Global};
+use trace_player::PlayFault;
+use trace_text::{Line, MmeLine, TraceFault};
+
+/// What a line does that is read as in a trace; `text` is the line of that number, as it was read.
+pub(crate) fn play_trace_line(
+    alloc: Global,
+    script: &mut Script,
+    number: u64,
+    line: Line,
+    text: &[u8],
+    out: &mut Vec<u8>,
+) -> Result<(), PlayFault>
+    requires { ReadsAs line text.now }
+    ensures { PrintsScriptLine number (kept_line line) script.old.progress out.old.items result script.new.progress out.new.items }
+{
+    match line {
+        Line::Skip => Ok(()),
+        Line::Mme(fields) => provide_network(alloc, script, number, &fields, text, out),
+        Line::Sub(profile) => provide_phone(script, number, profile, text, out),
+        Line::Vec(imsi, vector) => provide_vector(script, number, imsi, vector, text, out),
+        Line::Show(imsi) => answer_question(alloc, script, number, imsi, text, out),
+        Line::Up(_)
+        | Line::Lost(_)
+        | Line::In(_, _)
+        | Line::Tick(_)
+        | Line::Data(_)
+        | Line::Cancel(_) => play_event_line(alloc, script, number, line, text, out),
+    }
+}
+
+// ---- provisioning
+
+fn provide_network(
+    alloc: Global,
+    script: &mut Script,
+    number: u64,
+    fields: &MmeLine,
+    text: &[u8],
+    out: &mut Vec<u8>,
+) -> Result<(), PlayFault>
+    requires { ReadsAs (Mme fields.now) text.now }
+    ensures { PrintsScriptLine number (kept_line (Mme fields.now)) script.old.progress out.old.items result script.new.progress out.new.items }
+{
+    if script.acted {
+        return Err(PlayFault::Trace(number, TraceFault::Order));
+    }
+    match play_mme(alloc, &mut script.progress, number, fields, text, out) {
+        Ok(()) => {}
+        Err(fault) => return Err(fault),
+    }
+    script.crowd.set_network(fields.plmn);
+    Ok(())
+}
+
+fn provide_phone(
+    script: &mut Script,
+    number: u64,
+    profile: Profile,
+    text: &[u8],
+    out: &mut Vec<u8>,
+) -> Result<(), PlayFault>
+    requires { ReadsAs (Sub profile) text.now }
+    ensures { PrintsScriptLine number (kept_line (Sub profile)) script.old.progress out.old.items result script.new.progress out.new.items }
+{
+    if script.acted {
+        return Err(PlayFault::Trace(number, TraceFault::Order));
+    }
+    let imsi = profile.imsi;
+    match play_sub(&mut script.progress, number, profile, text, out) {
+        Ok(()) => {}
+        Err(fault) => return Err(fault),
+    }
+    match script.crowd.add_phone(imsi) {
+        Ok(()) => Ok(()),
+        Err(_) => Err(PlayFault::NoMemory),
+    }
+}
+
+fn provide_vector(
+    script: &mut Script,
+    number: u64,
+    imsi: Imsi,
+    vector: Vector,
+    text: &[u8],
+    out: &mut Vec<u8>,
+) -> Result<(), PlayFault>
+    requires { ReadsAs (Vec imsi vector) text.now }
+    ensures { PrintsScriptLine number (kept_line (Vec imsi vector)) script.old.progress out.old.items result script.new.progress out.new.items }
+{
+    if script.acted {
+        return Err(PlayFault::Trace(number, TraceFault::Order));
+    }
+    let Ok(of_phone) = vector.clone() else {
+        return Err(PlayFault::NoMemory);
+    };
+    match play_vec(&mut script.progress, number, imsi, vector, text, out) {
+        Ok(()) => {}
+        Err(fault) => return Err(fault),
+    }
+    match script.crowd.give_vector(imsi, of_phone) {
+        Ok(()) => Ok(()),
+        Err(_) => Err(PlayFault::NoMemory),
+    }
+}
+
+// ---- questions
+
+fn answer_question(
+    alloc: Global,
+    script: &mut Script,
+    number: u64,
+    imsi: Imsi,
+    text: &[u8],
+    out: &mut Vec<u8>,
+) -> Result<(), PlayFault>
+    requires { ReadsAs (Show imsi) text.now }
+    ensures { PrintsScriptLine number (kept_line (Show imsi)) script.old.progress out.old.items result script.new.progress out.new.items }
+{
+    if !is_begun(&script.progress) {
+        return Err(PlayFault::Trace(number, TraceFault::Order));
+    }
+    script.acted = true;
+    match play_show(alloc, &mut script.progress, imsi, text, out) {
+        Ok(true) => Ok(()),
+        Ok(false) => Err(PlayFault::Trace(number, TraceFault::Provision)),
+        Err(_) => Err(PlayFault::NoMemory),
+    }
+}
+
+// ---- events
+
+fn play_event_line(
+    alloc: Global,
+    script: &mut Script,
+    number: u64,
+    line: Line,
+    text: &[u8],
+    out: &mut Vec<u8>,
+) -> Result<(), PlayFault>
+    requires event { IsEventLine line }
+    requires says { ReadsAs line text.now }
+    ensures { PrintsScriptLine number (kept_line line) script.old.progress out.old.items result script.new.progress out.new.items }
+{
+    if !is_begun(&script.progress) {
+        return Err(PlayFault::Trace(number, TraceFault::Order));
+    }
+    script.acted = true;
+    match play_event(alloc, script, line, text, out) {
+        Ok(()) => Ok(()),
+        Err(_) => Err(PlayFault::NoMemory),
+    }
+}
+
+/// What comes from outside, and what stations and phones send at that.
+fn play_event(
+    alloc: Global,
+    script: &mut Script,
+    line: Line,
+    text: &[u8],
+    out: &mut Vec<u8>,
+) -> Result<(), AllocError>
+    requires begun { IsBegun script.old.progress }
+    requires event { IsEventLine line }
+    requires says { ReadsAs line text.now }
+    ensures { OnOk result (PrintsOn script.old.progress out.old.items script.new.progress out.new.items (kept_line line)) }
+{
+    match line {
+        Line::Up(station) => play_act(alloc, script, ScriptAct::Up(station), out),
+        Line::Lost(station) => play_loss(alloc, script, station, out),
+        Line::In(station, octets) => {
+            play_act(alloc, script, ScriptAct::Raw(station, octets), out)
+        }
+        Line::Tick(ticks) => play_ticks(alloc, script, ticks.get(), out),
+        Line::Data(imsi) => play_waiting(alloc, script, imsi, text, out),
+        Line::Cancel(imsi) => play_withdrawal(alloc, script, imsi, text, out),
+        Line::Skip | Line::Mme(_) | Line::Sub(_) | Line::Vec(_, _) | Line::Show(_) => {
+            unreachable!()
+        }
+    }
+}
+
+/// A station's connection is lost.
+fn play_loss(
+    alloc: Global,
+    script: &mut Script,
+    station: StationNumber,
+    out: &mut Vec<u8>,
+) -> Result<(), AllocError>
+    requires { IsBegun script.old.progress }
+    ensures { OnOk result (PrintsOn script.old.progress out.old.items script.new.progress out.new.items []) }
+{
+    let sent = play_lost(alloc, &mut script.progress, station, out)?;
+    script.crowd.lose(station);
+    play_answers(alloc, script, sent, out)?;
+    Ok(())
+}
+
+/// Seconds pass, one after another, up to the first that is refused.
+fn play_ticks(
+    alloc: Global,
+    script: &mut Script,
+    count: u32,
+    out: &mut Vec<u8>,
+) -> Result<(), AllocError>
+    requires { IsBegun script.old.progress }
+    ensures { OnOk result (PrintsOn script.old.progress out.old.items script.new.progress out.new.items []) }
+{
+    for _tick in 0..count {
+        let sent = play_tick(alloc, &mut script.progress, out)?;
+        if sent.is_none() {
+            return Ok(());
+        }
+        play_answers(alloc, script, sent, out)?;
+    }
+    Ok(())
+}
+
+/// Data waits for a subscriber.
+fn play_waiting(
+    alloc: Global,
+    script: &mut Script,
+    imsi: Imsi,
+    text: &[u8],
+    out: &mut Vec<u8>,
+) -> Result<(), AllocError>
+    requires begun { IsBegun script.old.progress }
+    requires says { ReadsAs (Data imsi) text.now }
+    ensures { OnOk result (PrintsOn script.old.progress out.old.items script.new.progress out.new.items (kept_line (Data imsi))) }
+{
+    let sent = play_data(alloc, &mut script.progress, imsi, text, out)?;
+    play_answers(alloc, script, sent, out)?;
+    Ok(())
+}
+
+/// A subscription is withdrawn.
+fn play_withdrawal(
+    alloc: Global,
+    script: &mut Script,
+    imsi: Imsi,
+    text: &[u8],
+    out: &mut Vec<u8>,
+) -> Result<(), AllocError>
+    requires begun { IsBegun script.old.progress }
+    requires says { ReadsAs (Cancel imsi) text.now }
+    ensures { OnOk result (PrintsOn script.old.progress out.old.items script.new.progress out.new.items (kept_line (Cancel imsi))) }
+{
+    let sent = play_cancel(alloc, &mut script.progress, imsi, text, out)?;
+    play_answers(alloc, script, sent, out)?;
+    Ok(())
+}
