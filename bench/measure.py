@@ -5,7 +5,7 @@
     measure.py [PROGRAM] --table
 
 PROGRAM is the built one of this repository where none is given. `--table` prints, behind the figures one by one, the table of
-bench/README.md. The words: attaches, growth, events, ticks, setups, instructions, stations, waiting, scripts. Times are those of the
+bench/README.md. The words: attaches, growth, events, ticks, setups, instructions, stations, waiting, scripts, days. Times are those of the
 processor, of one thread; the best of the rounds counts, and a run's start and provisioning, measured in the same rounds, are taken
 off. `instructions`, `stations` and `waiting` count them by valgrind, which no other work on the machine can change. Most are taken
 at 20, 2,048 and 32,768 subscribers. Ends with 1 where an answer is wrong.
@@ -28,7 +28,7 @@ FEW, MANY, MOST = COUNTS = (20, 2048, attaches.MOST)
 COLUMNS = ["{:,}".format(count) for count in COUNTS]  # of the table
 PROGRAM = os.path.join(os.path.dirname(os.path.abspath(__file__)), "..", "crates", "mme", "out", "mme")
 USUAL = ("attaches", "growth", "events", "ticks", "setups")
-OF_TABLE = ("instructions", "stations", "waiting", "growth", "events", "scripts")
+OF_TABLE = ("instructions", "stations", "waiting", "growth", "events", "days", "scripts")
 
 
 class Bench:
@@ -303,11 +303,37 @@ def simulated(bench):
             len(more), usage.ru_utime + usage.ru_stime, usage.ru_maxrss / 1000))
 
 
+def days(bench):
+    """Time and instructions of a phone's day, one phone after another: attach, release, service request, release, a tracking area
+    update from idle, detach. The trace is what `mme sim` owes for the script of these acts."""
+    for count in COUNTS:
+        lines, made = provided(count)
+        acts = [act % (phone.imsi, phone.slot) if "%d" in act else act % phone.imsi for phone in made for act in
+                ("attach %s 0 %d", "idle %s", "service %s 0 %d", "idle %s", "tau %s 0 %d", "detach %s")]
+        base, trace = (played(scripts.owed("\n".join(part) + "\n")) for part in (lines, lines + acts))
+        bench.checked("%d days" % count, trace)
+        least, most = bench.best([base.text(), trace.text()], max(bench.rounds, 2000 // count))
+        bench.figure("a phone's day, µs", count, "%.1f" % ((most - least) / count * 1e6))
+        print("days of %d phones: %.0f a second" % (count, count / (most - least)))
+        told(bench, "a phone's day", count, (bench.instructions(trace.text()) - bench.instructions(base.text())) / count)
+
+
+def played(output):
+    """The output of a simulation as a trace and its answers."""
+    trace = phones.Trace()
+    for line in output.splitlines():
+        if line.startswith("# "):
+            trace.answers.append(line[2:])
+        else:
+            trace.say(line)
+    return trace
+
+
 def main():
     parser = argparse.ArgumentParser(description=__doc__, formatter_class=argparse.RawDescriptionHelpFormatter)
     parser.add_argument("program", nargs="?", default=PROGRAM)
     parser.add_argument("--table", action="store_true", help="at the end print the table of bench/README.md; measures what it has")
-    parser.add_argument("--only", nargs="*", choices=[*USUAL, "instructions", "stations", "waiting", "scripts"])
+    parser.add_argument("--only", nargs="*", choices=[*USUAL, "instructions", "stations", "waiting", "scripts", "days"])
     parser.add_argument("--rounds", type=int, default=10)
     parser.add_argument("--ticks", type=int, default=3000)
     given = parser.parse_args()
@@ -316,7 +342,7 @@ def main():
     bench = Bench(given.program, given.rounds)
     for word in given.only or (OF_TABLE if given.table else USUAL):
         {"attaches": attaches_per_second, "growth": growth, "events": events, "setups": set_ups, "instructions": instructions,
-         "stations": stations, "waiting": waiting, "scripts": simulated,
+         "stations": stations, "waiting": waiting, "scripts": simulated, "days": days,
          "ticks": lambda bench: ticks(bench, given.ticks)}[word](bench)
         sys.stdout.flush()
     if given.table:

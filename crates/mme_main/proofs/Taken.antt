@@ -1,7 +1,8 @@
 -- What pieces of a trace leave and write, one after another.
-use Rattle.std.proofs.Common.{◌≡◌, ℕ, ◌+◌, ◌<◌, ◌≤◌, List, [], ◌∷◌, ◌++◌, length, Some, None, Result, Ok, Err, inl, inr, refl, sym, ap, ◌∙◌, append_assoc, append-nil, arith, ◌≢◌, subst, length-append}
+use Rattle.std.proofs.Common.{◌≡◌, ℕ, ◌+◌, ◌<◌, List, [], ◌∷◌, ◌++◌, length, Some, None, Result, Ok, Err, inl, inr, refl, sym, ap, ◌∙◌, append_assoc, append-nil, arith, subst, take, drop}
 use Rattle.std.specs.Prelude.{OnOk}
 use Rattle.std.proofs.lemmas.Grind.{common_steps}
+use Rattle.std.proofs.lemmas.List.{take-append-drop}
 use Rattle.trace_text.specs.declared.fault.TraceFault.{TraceFault}
 use Rattle.trace_text.specs.declared.fault.TraceFault.TheVariants.{TooLong}
 use Rattle.trace_player.specs.declared.fault.PlayFault.{PlayFault}
@@ -11,9 +12,10 @@ use Rattle.trace_player.specs.declared.progress.Progress.{Progress}
 use Rattle.trace_player.specs.Effects.{Effect}
 use Rattle.trace_player.specs.Text.{Played, prepended, played_text, play, then_play, line_effect, lines_of, breaks}
 use Rattle.trace_player.specs.Acts.{IsPrefix, Acts, effect_text}
+use Rattle.trace_lines.specs.Parts.{GoesOnBy, TakesPart}
 use Rattle.mme_main.specs.Play.{played_from, IsReady, TakesPiece, Finishes}
 use Rattle.trace_player.specs.FrontLaws.{IsPrefix-of, IsPrefix-after, IsPrefix-more}
-use Rattle.trace_player.specs.TextLaws.{breaks-append, breaks-other, unbroken_more, lines_of-at, lines_of-front, lines_of-last, lines_of-nil, line_of-long, play-cons, play-nil, prepended-then, prepended-ends}
+use Rattle.trace_player.specs.TextLaws.{breaks-append, lines_of-at, lines_of-front, lines_of-last, lines_of-nil, line_of-long, play-cons, play-nil, prepended-then, prepended-ends}
 
 -- ---- lines that are played
 
@@ -130,28 +132,45 @@ Takes-line_fault old new progress written NoMemory ready h = λ more. line-prefi
 Takes-line_fault old new progress written Write ready h = λ more. line-prefix old written ready h more
 Takes-line_fault old new progress written Read ready h = absurd h
 
--- ---- an octet of a line, as a piece
+-- ---- a part of a line, as a piece
 
-octet_joins : (progress : Progress) (line : ℕ) (pending joined : List ℕ) (octet : ℕ) → joined ≡ pending ++ octet ∷ []
-    → (more : List ℕ) → play progress line (lines_of (pending ++ octet ∷ more)) ≡ play progress line (lines_of (joined ++ more))
-octet_joins progress line pending joined octet e more =
-    ap (λ v. play progress line (lines_of v)) (sym (append_assoc pending (octet ∷ []) more) ∙ ap (λ v. v ++ more) (sym e))
+part_joins : (progress : Progress) (line : ℕ) (pending joined part : List ℕ) → joined ≡ pending ++ part
+    → (more : List ℕ) → play progress line (lines_of (pending ++ (part ++ more))) ≡ play progress line (lines_of (joined ++ more))
+part_joins progress line pending joined part e more =
+    ap (λ v. play progress line (lines_of v)) (sym (append_assoc pending part more) ∙ ap (λ v. v ++ more) (sym e))
 
-pub octet_too_many : (progress : Progress) (line : ℕ) (pending : List ℕ) (octet : ℕ) → breaks pending ≡ 0 → octet ≢ 10 → 40000 ≤ length pending
-    → (more : List ℕ) → play progress line (lines_of (pending ++ octet ∷ more)) ≡ played_text [] (Some (line, TooLong))
-octet_too_many progress line pending octet unbroken other long more =
-    octet_joins progress line pending (pending ++ octet ∷ []) octet refl more
-    ∙ line_too_long progress line (pending ++ octet ∷ []) (unbroken_more pending octet unbroken other) (grind (arith, common_steps)) more
-
-pub Takes-octet : (old new : Player) (octet : ℕ) → IsReady old → octet ≢ 10 → length old.pending.items < 40000
-    → new.progress ≡ old.progress → new.line ≡ old.line → new.pending.items ≡ old.pending.items ++ octet ∷ [] → TakesPiece old (octet ∷ []) (Ok tt) new []
-Takes-octet old new octet ready other short m l p = (
-  (λ more. octet_joins old.progress old.line old.pending.items new.pending.items octet p more
+pub Takes-part : (old new : Player) (part : List ℕ) → IsReady old → new.progress ≡ old.progress → new.line ≡ old.line
+    → GoesOnBy part old.pending.items new.pending.items → TakesPiece old part (Ok tt) new []
+Takes-part old new part ready m l goes_on = (
+  (λ more. part_joins old.progress old.line old.pending.items new.pending.items part goes_on.1 more
       ∙ ap (λ w. play w old.line (lines_of (new.pending.items ++ more))) (sym m)
       ∙ ap (λ n. play new.progress n (lines_of (new.pending.items ++ more))) (sym l)),
-  (ap breaks p ∙ unbroken_more old.pending.items octet ready.0 other, omega (arith, ap length p ∙ length-append old.pending.items (octet ∷ []))),
-  omega (arith, l, breaks-other octet other),
+  (ap breaks goes_on.1 ∙ omega (arith, breaks-append old.pending.items part, ready.0, goes_on.0), goes_on.2),
+  omega (arith, l, goes_on.0),
 )
+
+-- a part that makes the line too long
+part_too_long : (old new : Player) (part : List ℕ) → IsReady old → breaks part ≡ 0 → 40000 < length (old.pending.items ++ part)
+    → TakesPiece old part (Err (Trace old.line TooLong)) new []
+part_too_long old new part ready unbroken long = (
+  (λ more. part_joins old.progress old.line old.pending.items (old.pending.items ++ part) part refl more
+      ∙ line_too_long old.progress old.line (old.pending.items ++ part) (omega (arith, breaks-append old.pending.items part, ready.0, unbroken)) long more),
+  inl refl,
+)
+
+-- a piece that isn't taken
+pub Takes-part_fault : (old new : Player) (piece left : List ℕ) (fault : PlayFault) → IsReady old
+    → TakesPart old.line old.pending.items piece (Err fault) left → TakesPiece old piece (Err fault) new []
+Takes-part_fault old new piece left (Trace line fault) ready h =
+    let part = take h.2.0 piece in
+    let whole = Takes-piece old new [] _ piece (Err (Trace old.line TooLong)) (take-append-drop h.2.0 piece)
+    (Takes-stop old new [] part (drop h.2.0 piece) (Trace old.line TooLong) (part_too_long old new part ready h.2.1 h.2.2)) in (
+      (λ more. whole.0 more ∙ sym (ap (λ n. played_text [] (Some (n, fault))) h.0 ∙ ap (λ v. played_text [] (Some (old.line, v))) h.1)),
+      inl h.1,
+    )
+Takes-part_fault old new piece left NoMemory ready h = λ more. ((played_from old (piece ++ more)).text, refl)
+Takes-part_fault old new piece left Write ready h = absurd h
+Takes-part_fault old new piece left Read ready h = absurd h
 
 -- ---- the end
 

@@ -1,5 +1,5 @@
 -- What each call of the player and of the program says of the whole trace.
-use Rattle.std.specs.Prelude.{◌≡◌, ℕ, ◌+◌, ◌<◌, ◌≤◌, ◌⊎◌, ⊤, Bool, true, List, [], ◌++◌, length, Option, Some, None, Result, Ok, Err}
+use Rattle.std.specs.Prelude.{◌≡◌, ℕ, ◌+◌, ◌<◌, ◌≤◌, ◌⊎◌, ⊤, Bool, true, List, [], ◌++◌, length, take, Option, Some, None, Result, Ok, Err}
 use Rattle.std.specs.Io.KnownBytes.{Consumes, Appends}
 use Rattle.trace_text.specs.declared.fault.TraceFault.TheVariants.{TooLong}
 use Rattle.trace_player.specs.declared.fault.PlayFault.{PlayFault}
@@ -27,6 +27,11 @@ TakesPiece old piece (Err (Trace line fault)) new written =
 TakesPiece old piece (Err NoMemory) new written = (more : List ℕ) → IsPrefix written ((played_from old (piece ++ more)).text)
 TakesPiece old piece (Err Write) new written = (more : List ℕ) → IsPrefix written ((played_from old (piece ++ more)).text)
 TakesPiece old piece (Err Read) new written = ⊥
+
+-- what a player that takes the first octets of a piece, up to the end of the line, leaves and writes: how many they are
+abbrev pub TakesLine : Player → List ℕ → Result ℕ PlayFault → Player → List ℕ → Type 0
+TakesLine old piece (Ok count) new written = (0 < count) × (count ≤ length piece) × TakesPiece old (take count piece) (Ok tt) new written
+TakesLine old piece (Err fault) new written = TakesPiece old piece (Err fault) new written
 
 -- what a player writes at the end of the trace
 abbrev pub Finishes : Player → Result (Unit {0}) PlayFault → List ℕ → Type 0

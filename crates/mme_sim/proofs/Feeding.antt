@@ -1,5 +1,5 @@
 -- What pieces of a script leave and write, one after another.
-use Rattle.std.proofs.Common.{◌≡◌, ◌≢◌, ℕ, zero, suc, ◌+◌, ◌-◌, ◌<◌, List, [], ◌∷◌, ◌++◌, length, Result, Ok, Err, refl, sym, ap, subst, ◌∙◌, append_assoc, append-nil, arith, take, length-append}
+use Rattle.std.proofs.Common.{◌≡◌, ℕ, zero, suc, ◌+◌, ◌-◌, ◌<◌, List, [], ◌∷◌, ◌++◌, length, Result, Ok, Err, refl, sym, ap, subst, ◌∙◌, append_assoc, append-nil, arith, take}
 use Rattle.std.specs.Prelude.{OnOk}
 use Rattle.trace_text.specs.declared.line.Line.{Line}
 use Rattle.trace_text.specs.declared.fault.TraceFault.{TraceFault}
@@ -9,8 +9,9 @@ use Rattle.trace_player.specs.declared.fault.PlayFault.TheVariants.{Trace, Read,
 use Rattle.trace_player.specs.declared.progress.Progress.{Progress}
 use Rattle.trace_player.specs.Text.{lines_of, breaks}
 use Rattle.script_player.specs.Printed.{Speaks, Prints, PrintsScriptLine}
-use Rattle.trace_player.specs.TextLaws.{breaks-append, breaks-other, unbroken_more, lines_of-at, lines_of-last, lines_of-nil}
+use Rattle.trace_player.specs.TextLaws.{breaks-append, lines_of-at, lines_of-last, lines_of-nil}
 use Rattle.script_player.specs.PrintLaws.{kept_nil, kept_assoc, kept_in-append, Speaks-nil, Speaks-then}
+use Rattle.trace_lines.specs.Parts.{GoesOnBy, TakesPart}
 use Rattle.mme_sim.specs.declared.player.ScriptPlayer.{ScriptPlayer}
 use Rattle.mme_sim.specs.Simulated.{WritesLine, IsWaiting, kept_before, GoesOn, Feeds, Closes}
 
@@ -133,20 +134,30 @@ Feeds-stop old new written first second Read p = absurd p
 pub Feeds-none : (player : ScriptPlayer) → IsWaiting player → Feeds player [] (Ok tt) player []
 Feeds-none player ready = (Speaks-nil player.script.progress, (λ last more le. sym (ap (λ v. v ++ kept_before last player more) kept_none)), ready, omega arith)
 
-pub Feeds-octet : (old new : ScriptPlayer) (octet : ℕ) → IsWaiting old → octet ≢ 10 → length old.pending.items < 40000
-    → new.script.progress ≡ old.script.progress → new.line ≡ old.line → new.pending.items ≡ old.pending.items ++ octet ∷ [] → Feeds old (octet ∷ []) (Ok tt) new []
-Feeds-octet old new octet ready other short s l p = (
-  subst (λ (w : Progress). Speaks old.script.progress [] w) (sym s) (Speaks-nil old.script.progress),
-  (λ last more le.
-      ap (λ v. kept_in (take (last - old.line) (lines_of v))) (sym (append_assoc old.pending.items (octet ∷ []) more) ∙ ap (λ v. v ++ more) (sym p))
-      ∙ ap (λ n. kept_in (take (last - n) (lines_of (new.pending.items ++ more)))) (sym l)
-      ∙ sym (ap (λ v. v ++ kept_before last new more) kept_none)),
-  (ap breaks p ∙ unbroken_more old.pending.items octet ready.0 other, omega (arith, ap length p ∙ length-append old.pending.items (octet ∷ []))),
-  omega (arith, l, breaks-other octet other),
-)
-
 pub Feeds-piece : (old new : ScriptPlayer) (written piece same : List ℕ) (result : Result (Unit {0}) PlayFault) → piece ≡ same → Feeds old piece result new written → Feeds old same result new written
 Feeds-piece old new written piece same result e h = let P : List ℕ → Type 0 = λ v. Feeds old v result new written in subst P e h
+
+-- ---- a part of a line, as a piece
+
+pub Feeds-part : (old new : ScriptPlayer) (part : List ℕ) → IsWaiting old → new.script.progress ≡ old.script.progress → new.line ≡ old.line
+    → GoesOnBy part old.pending.items new.pending.items → Feeds old part (Ok tt) new []
+Feeds-part old new part ready s l goes_on = (
+  subst (λ (w : Progress). Speaks old.script.progress [] w) (sym s) (Speaks-nil old.script.progress),
+  (λ last more le.
+      ap (λ v. kept_in (take (last - old.line) (lines_of v))) (sym (append_assoc old.pending.items part more) ∙ ap (λ v. v ++ more) (sym goes_on.1))
+      ∙ ap (λ n. kept_in (take (last - n) (lines_of (new.pending.items ++ more)))) (sym l)
+      ∙ sym (ap (λ v. v ++ kept_before last new more) kept_none)),
+  (ap breaks goes_on.1 ∙ omega (arith, breaks-append old.pending.items part, ready.0, goes_on.0), goes_on.2),
+  omega (arith, l, goes_on.0),
+)
+
+-- a piece that isn't taken
+pub Feeds-part_fault : (old new : ScriptPlayer) (piece left : List ℕ) (fault : PlayFault)
+    → TakesPart old.line old.pending.items piece (Err fault) left → Feeds old piece (Err fault) new []
+Feeds-part_fault old new piece left (Trace line fault) h = Feeds-fault old new piece [] line fault h.0 refl
+Feeds-part_fault old new piece left NoMemory h = tt
+Feeds-part_fault old new piece left Write h = absurd h
+Feeds-part_fault old new piece left Read h = absurd h
 
 -- ---- the end
 

@@ -50,6 +50,11 @@ Feeds old piece (Err NoMemory) new written = ⊤
 Feeds old piece (Err Write) new written = ⊤
 Feeds old piece (Err Read) new written = ⊥
 
+-- what a simulation that takes the first octets of a piece, up to the end of the line, leaves and writes: how many they are
+abbrev pub FeedsLine : ScriptPlayer → List ℕ → Result ℕ PlayFault → ScriptPlayer → List ℕ → Type 0
+FeedsLine old piece (Ok count) new written = (0 < count) × (count ≤ length piece) × Feeds old (take count piece) (Ok tt) new written
+FeedsLine old piece (Err fault) new written = Feeds old piece (Err fault) new written
+
 -- what it writes at the end of the script
 abbrev pub Closes : ScriptPlayer → Result (Unit {0}) PlayFault → List ℕ → Type 0
 Closes old (Ok _) written =

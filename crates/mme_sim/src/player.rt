@@ -5,13 +5,13 @@ ghost use Rattle.script_text.specs.Kept.{kept_in};
 ghost use Rattle.trace_player.specs.declared.progress.Progress.TheVariants.{Nothing};
 ghost use Rattle.trace_player.specs.Acts.{GrowsBy};
 ghost use Rattle.trace_player.specs.Text.{breaks};
-ghost use Rattle.mme_sim.specs.Simulated.{IsWaiting, WritesLine, Feeds, Closes};
+ghost use Rattle.mme_sim.specs.Simulated.{IsWaiting, WritesLine, Feeds, FeedsLine, Closes};
 
 use sim_lines::{Script, play_script_line};
 use std::alloc::Global;
 use std::io::Write;
+use trace_lines::take_part;
 use trace_player::{PlayFault, Watched, write_whole};
-use trace_text::{LONGEST_LINE, TraceFault};
 
 /// How far a script has been played.
 #[derive(Drop)]
@@ -50,35 +50,36 @@ impl ScriptPlayer {
         ensures feeds { GrowsBy (W.contents writer.old.inner) (W.contents writer.new.inner) (Feeds self.old piece.now result self.new) }
         ensures write { IsErrOf result PlayFault.Write → writer.new.failed ≡ true }
     {
-        for octet in piece {
-            match self.take_octet(alloc, *octet, writer) {
-                Ok(()) => {}
+        let mut rest = piece;
+        while rest.len() > 0 {
+            match self.take_line(alloc, rest, writer) {
+                Ok(count) => rest = &rest[count..],
                 Err(fault) => return Err(fault),
             }
         }
         Ok(())
     }
 
-    fn take_octet<W: Write>(
+    /// Takes the piece up to the end of the line, which is played then, or all of it: so many octets.
+    fn take_line<W: Write>(
         &mut self,
         alloc: Global,
-        octet: u8,
+        piece: &[u8],
         writer: &mut Watched<W>,
-    ) -> Result<(), PlayFault>
+    ) -> Result<usize, PlayFault>
         requires ready { IsWaiting self.old }
-        requires counted { self.old.line + 1 < 2 ^ 64 }
-        ensures feeds { GrowsBy (W.contents writer.old.inner) (W.contents writer.new.inner) (Feeds self.old (octet ∷ []) result self.new) }
+        requires some { 0 < length piece.now }
+        requires counted { self.old.line + length piece.now < 2 ^ 64 }
+        ensures feeds { GrowsBy (W.contents writer.old.inner) (W.contents writer.new.inner) (FeedsLine self.old piece.now result self.new) }
         ensures write { IsErrOf result PlayFault.Write → writer.new.failed ≡ true }
     {
-        if octet == b'\n' {
-            return self.end_line(alloc, writer);
-        }
-        if self.pending.len() >= LONGEST_LINE {
-            return Err(PlayFault::Trace(self.line, TraceFault::TooLong));
-        }
-        match self.pending.push(octet) {
-            Ok(()) => Ok(()),
-            Err(_) => Err(PlayFault::NoMemory),
+        match take_part(&mut self.pending, self.line, piece) {
+            Ok(None) => Ok(piece.len()),
+            Ok(Some(end)) => match self.end_line(alloc, writer) {
+                Ok(()) => Ok(end + 1),
+                Err(fault) => Err(fault),
+            },
+            Err(fault) => Err(fault),
         }
     }
 

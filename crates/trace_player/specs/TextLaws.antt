@@ -1,5 +1,5 @@
 -- Texts that go on: their lines, and what is played of them.
-use Rattle.std.proofs.Common.{◌≡◌, ◌≢◌, ℕ, ◌+◌, ◌<◌, ◌≤◌, ◌==◌, Bool, true, false, cond, List, [], ◌∷◌, ◌++◌, length, Option, None, Err, refl, sym, ap, ◌∙◌, append_assoc, append-nil, arith, take, drop, get_or}
+use Rattle.std.proofs.Common.{◌≡◌, ℕ, ◌+◌, ◌<◌, ◌≤◌, ◌==◌, Bool, true, false, cond, List, [], ◌∷◌, ◌++◌, length, Option, None, Err, refl, sym, ap, ◌∙◌, append_assoc, append-nil, arith, take, drop, get_or}
 use Rattle.std.specs.List.{onto_first}
 use Rattle.std.proofs.lemmas.Bool.Decides.{nat_tests}
 use Rattle.std.proofs.lemmas.List.{take_more, take-append-drop}
@@ -26,15 +26,6 @@ counts-le false m n h = omega arith
 pub breaks-le : (xs : List ℕ) → breaks xs ≤ length xs
 breaks-le [] = omega arith
 breaks-le (x ∷ xs) = let h = counts-le (x == 10) (breaks xs) (length xs) (breaks-le xs) in omega (arith, h)
-
-other_than : (c : ℕ) → c ≢ 10 → (c == 10) ≡ false
-other_than c h = grind (arith, nat_tests)
-
-pub breaks-other : (c : ℕ) → c ≢ 10 → breaks (c ∷ []) ≡ 0
-breaks-other c h = rw (other_than c h) refl
-
-pub unbroken_more : (xs : List ℕ) (c : ℕ) → breaks xs ≡ 0 → c ≢ 10 → breaks (xs ++ c ∷ []) ≡ 0
-unbroken_more xs c h o = omega (arith, breaks-append xs (c ∷ []), breaks-other c o)
 
 pub split_at : (xs : List ℕ) (i x : ℕ) → i < length xs → x ≡ get_or xs i 0 → xs ≡ (take i xs ++ x ∷ []) ++ drop (i + 1) xs
 split_at xs i x h e =

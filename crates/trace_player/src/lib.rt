@@ -1,4 +1,4 @@
-//! What each line of a trace does to the MME, and the words of its answers.
+//! What each line of a trace does to the MME, and what is written for it.
 #![tactic(auto)]
 
 mod acts;

@@ -129,9 +129,11 @@ fn write_sent(
     ensures text { IfOk result (λ text. string_bytes text ≡ sent_text owner station octets.now) }
     ensures line { IfOk result (λ text. IsLineWithin (80 + 2 * length octets.now) (string_bytes text)) }
 {
-    let owner_part = write_owner(alloc, owner)?;
     let hex = write_octets(alloc, octets)?;
-    format!(in alloc; "{owner_part}{station} {hex}\n")
+    let mut line = write_owner(alloc, owner)?;
+    line.reserve(hex.len() + 5)?;
+    write!(line, "{station} {hex}\n")?;
+    Ok(line)
 }
 
 fn write_owner(alloc: Global, owner: AnswerOwner) -> Result<String, AllocError>

@@ -2,7 +2,7 @@ use Rattle.std.proofs.Common.{◌+◌, ◌++◌, take, sym, ap, arith}
 use Rattle.std.proofs.lemmas.List.{take_all}
 use Rattle.answer_lines.specs.Words.{answers_of, out_text}
 use Rattle.script_player.specs.PrintLaws.{AddsComments-none, AddsComments-said, AddsComments-then}
-use Rattle.script_player.proofs.Sent.{answers_of-more}
+use Rattle.answer_lines.specs.WordLaws.{answers_of-more}
 use Rattle.script_player.proofs.comments.push_answers.Goals as goal
 
 pub loop-message-init : goal.loop-message-init

@@ -1,50 +1,57 @@
-use Rattle.std.proofs.Common.{◌+◌, [], ◌∷◌, ◌++◌, take, drop, get_or, Ok, Err, refl, sym, arith, length-take}
-use Rattle.std.proofs.lemmas.List.{take_more}
+use Rattle.std.proofs.Common.{◌≡◌, ℕ, ◌-◌, List, [], ◌++◌, length, take, drop, Ok, Err, refl, sym, ap, ◌∙◌, append_assoc, append-nil, arith, length-append}
+use Rattle.std.specs.Prelude.{slice_range}
+use Rattle.std.proofs.lemmas.List.{take_all, take-append-drop, length-drop}
 use Rattle.trace_player.specs.OctetLaws.{Appends-nil, Appends-then}
-use Rattle.trace_player.specs.TextLaws.{breaks-le, split_at}
-use Rattle.mme_sim.proofs.Feeding.{Feeds-none, Feeds-then, Feeds-stop, Feeds-piece}
+use Rattle.trace_player.specs.TextLaws.{breaks-le, nil-from_length}
+use Rattle.mme_sim.proofs.Feeding.{Feeds-none, Feeds-then, Feeds-piece}
 use Rattle.mme_sim.proofs.player.ScriptPlayer.feed.Goals as goal
 
-pub take_octet-requires-clause-counted : goal.take_octet-requires-clause-counted
-take_octet-requires-clause-counted g c =
-    let few = breaks-le (take c.loop-octet.octet-index c.args.piece.now) in
-    omega (arith, few, length-take c.loop-octet.octet-index c.args.piece.now, c.loop-octet.invariant.2.3)
+-- a front and what is behind it
+rest_behind : (count : ℕ) (rest : List ℕ) → take count rest ++ slice_range rest count (length rest) ≡ rest
+rest_behind count rest =
+    ap (λ v. take count rest ++ v) (take_all (length rest - count) (drop count rest) (omega (arith, length-drop count rest))) ∙ take-append-drop count rest
+
+pub take_line-requires-clause-counted : goal.take_line-requires-clause-counted
+take_line-requires-clause-counted g c =
+    let before = c.loop-rest.invariant in
+    omega (arith, breaks-le before.0, ap length before.1, length-append before.0 c.loop-rest.rest.now, before.2.2.3)
 
 pub returns-in-Err-clause-feeds : goal.returns-in-Err-clause-feeds
 returns-in-Err-clause-feeds g c =
     let held = g.W.Write.contents in
-    let i = c.loop-octet.octet-index in
-    let piece = c.args.piece.now in
-    let x = get_or piece i 0 in
+    let rest = c.loop-rest.rest.now in
     let old = c.args.self.now in
-    let mid = c.loop-octet.self in
-    let new = c.take_octet.new.self in
-    let before = c.loop-octet.invariant in
+    let new = c.take_line.new.self in
+    let before = c.loop-rest.invariant in
     let added = c.in-Err.ensures.feeds in
-    let result = Err c.in-Err.fault in
-    let front = Feeds-then old mid new before.0 added.0 (take i piece) (x ∷ []) result before.2 added.2 in (
-      before.0 ++ added.0,
-      Appends-then (held c.args.writer.now.inner) (held c.loop-octet.writer.inner) (held c.take_octet.new.writer.inner) before.0 added.0 before.1 added.1,
-      Feeds-piece old new (before.0 ++ added.0) _ piece result (sym (split_at piece i x (omega arith) refl))
-          (Feeds-stop old new (before.0 ++ added.0) (take i piece ++ x ∷ []) (drop (i + 1) piece) c.in-Err.fault front),
+    let result = Err c.in-Err.fault in (
+      before.2.0 ++ added.0,
+      Appends-then (held c.args.writer.now.inner) (held c.loop-rest.writer.inner) (held c.take_line.new.writer.inner) before.2.0 added.0 before.2.1 added.1,
+      Feeds-piece old new (before.2.0 ++ added.0) _ c.args.piece.now result before.1
+          (Feeds-then old c.loop-rest.self new before.2.0 added.0 before.0 rest result before.2.2 added.2),
     )
 
-pub loop-octet-preserved : goal.loop-octet-preserved
-loop-octet-preserved g c =
+pub loop-rest-preserved : goal.loop-rest-preserved
+loop-rest-preserved g c =
     let held = g.W.Write.contents in
-    let i = c.loop-octet.octet-index in
-    let piece = c.args.piece.now in
-    let x = get_or piece i 0 in
-    let old = c.args.self.now in
-    let mid = c.loop-octet.self in
-    let new = c.take_octet.new.self in
-    let before = c.loop-octet.invariant in
-    let added = c.in-Ok.ensures.feeds in
-    let front = Feeds-then old mid new before.0 added.0 (take i piece) (x ∷ []) (Ok tt) before.2 added.2 in (
-      before.0 ++ added.0,
-      Appends-then (held c.args.writer.now.inner) (held c.loop-octet.writer.inner) (held c.take_octet.new.writer.inner) before.0 added.0 before.1 added.1,
-      Feeds-piece old new (before.0 ++ added.0) _ (take (i + 1) piece) (Ok tt) (sym (take_more piece i 0 (omega arith))) front,
+    let count = c.in-Ok.count in
+    let rest = c.loop-rest.rest.now in
+    let before = c.loop-rest.invariant in
+    let added = c.in-Ok.ensures.feeds in (
+      before.0 ++ take count rest,
+      append_assoc before.0 (take count rest) (slice_range rest count (length rest)) ∙ ap (λ v. before.0 ++ v) (rest_behind count rest) ∙ before.1,
+      (
+        before.2.0 ++ added.0,
+        Appends-then (held c.args.writer.now.inner) (held c.loop-rest.writer.inner) (held c.take_line.new.writer.inner) before.2.0 added.0 before.2.1 added.1,
+        Feeds-then c.args.self.now c.loop-rest.self c.take_line.new.self before.2.0 added.0 before.0 (take count rest) (Ok tt) before.2.2 added.2.2,
+      ),
     )
 
-pub loop-octet-init : goal.loop-octet-init
-loop-octet-init g c = ([], Appends-nil _, Feeds-none c.args.self.now c.requires.ready)
+pub loop-rest-init : goal.loop-rest-init
+loop-rest-init g c = ([], refl, ([], Appends-nil _, Feeds-none c.args.self.now c.requires.ready))
+
+pub returns-clause-feeds : goal.returns-clause-feeds
+returns-clause-feeds g c =
+    let before = c.loop-rest.invariant in
+    let all = sym (append-nil before.0) ∙ ap (λ v. before.0 ++ v) (sym (nil-from_length c.loop-rest.rest.now (omega arith))) ∙ before.1 in
+    (before.2.0, before.2.1, Feeds-piece c.args.self.now c.loop-rest.self before.2.0 before.0 c.args.piece.now (Ok tt) all before.2.2)

@@ -1,10 +1,10 @@
--- The texts of answers, one after another.
+-- The texts of messages that are sent, one after another.
 use Rattle.std.proofs.Common.{◌≡◌, ℕ, ◌+◌, ◌<◌, List, [], ◌∷◌, ◌++◌, length, take, get_or, refl, sym, ap, ◌∙◌, append_assoc, append-nil}
 use Rattle.std.proofs.lemmas.List.{take_more}
 use Rattle.mme_answering.specs.declared.out.Out.{Out}
 use Rattle.answer_lines.specs.Words.{answers_of, out_text}
 
-answers_of-append : (xs ys : List Out) → answers_of (xs ++ ys) ≡ answers_of xs ++ answers_of ys
+pub answers_of-append : (xs ys : List Out) → answers_of (xs ++ ys) ≡ answers_of xs ++ answers_of ys
 answers_of-append [] ys = refl
 answers_of-append (x ∷ xs) ys = ap (λ v. out_text x ++ v) (answers_of-append xs ys) ∙ sym (append_assoc (out_text x) (answers_of xs) (answers_of ys))
 
