@@ -26,16 +26,17 @@ impl Model for BitWriter {
 }
 
 impl BitWriter {
-    /// Nothing written yet; takes no memory.
+    /// Nothing written yet, with room for so many octets; more are written where memory grows.
     #[tactic(auto, unfolding(crate::specs::Bits::bits))]
-    pub fn new(alloc: Global) -> BitWriter
-        ensures { result ≡ [] }
+    pub fn with_room(alloc: Global, octets: usize) -> Result<BitWriter, PerError>
+        ensures ok { IfOk result (λ w. w ≡ []) }
+        ensures memory { OnErr result (result ≡ Err NoMemory) }
     {
-        BitWriter {
-            octets: Vec::new(alloc),
+        Ok(BitWriter {
+            octets: Vec::with_capacity(alloc, octets)?,
             current: 0,
             used: 0,
-        }
+        })
     }
 
     /// One bit.

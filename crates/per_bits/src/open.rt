@@ -23,6 +23,9 @@ const LONG_FIRST: u8 = 128;
 
 const FRAGMENT_FIRST: u8 = 192;
 
+// The octets for which a value has room at once; most are shorter, and a longer one grows.
+const SHORT_VALUE: usize = 64;
+
 /// Reads a length without a bound, below 16384 (X.691 clause 11.9); NotFewest for one below 128 in two octets, Fragmented for more.
 #[tactic(auto, unfolding(bit_streams::specs::Bits::length_at))]
 pub fn take_length(reader: &mut BitReader) -> Result<usize, PerFault>
@@ -91,7 +94,7 @@ pub fn read_complete<'a, T: Element<'a>>(alloc: Global, octets: &'a [u8]) -> Res
 pub fn write_complete<'a, T: Element<'a>>(alloc: Global, value: &T) -> Result<Vec<u8>, PerError>
     ensures { GivesWhole (λ v. v.items) result (complete_write T.format (T.view value.now)) }
 {
-    let mut writer = BitWriter::new(alloc);
+    let mut writer = BitWriter::with_room(alloc, SHORT_VALUE)?;
     value.write(alloc, &mut writer)?;
     writer.finish()
 }

@@ -104,7 +104,7 @@ pub fn put(call: Call) -> Answer {
 }
 
 fn written(call: Call) -> Result<Text, Stop> {
-    let mut writer = BitWriter::new(call.alloc);
+    let mut writer = BitWriter::with_room(call.alloc, 0)?;
     for step in call.fields {
         put_step(Step::of(call.alloc, step), &mut writer)?;
     }

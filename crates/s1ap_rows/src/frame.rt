@@ -22,6 +22,9 @@ const LAST_KIND: u64 = 2;
 
 const LAST_CODE: u64 = 255;
 
+// The octets before those of the message, at most: kind, code, criticality and the length in two.
+const LONGEST_HEAD: usize = 5;
+
 /// Kind, code, criticality and octets of a message.
 #[derive(Clone, Copy)]
 pub struct Frame<'a> {
@@ -66,7 +69,7 @@ pub fn frame_octets(
 ) -> Result<Vec<u8>, PerError>
     ensures { GivesWhole (λ v. v.items) result (write_whole (write_frame kind code (criticality_number criticality)) content.now) }
 {
-    let mut writer = BitWriter::new(alloc);
+    let mut writer = BitWriter::with_room(alloc, content.len().saturating_add(LONGEST_HEAD))?;
     writer.put_bit(false)?;
     put_number(0, LAST_KIND, kind as u64, &mut writer)?;
     put_number(0, LAST_CODE, code as u64, &mut writer)?;

@@ -14,6 +14,9 @@ use crate::fault::S1apFault;
 use per_bits::{BitReader, BitWriter, PerError, put_number};
 use std::alloc::Global;
 
+// The octets for which a message has room at once; most are shorter, and a longer one grows.
+const SHORT_MESSAGE: usize = 128;
+
 /// The rows of a message that is read. A value of this type is what was read of each row so far.
 pub trait Message<'a>: Drop {
     /// What a message has of its rows: for each row that is kept, its element beside what the rows behind it have.
@@ -83,7 +86,7 @@ pub fn write_message<'a, W: Written<'a>>(
     ensures { GivesWhole (λ v. v.items) result (write_whole (write_message W.rows) (W.lent elements.now)) }
 {
     let count = W::count(elements, 0);
-    let mut writer = BitWriter::new(alloc);
+    let mut writer = BitWriter::with_room(alloc, SHORT_MESSAGE)?;
     writer.put_bit(false)?;
     put_number(0, MOST_ELEMENTS, count, &mut writer)?;
     W::write(alloc, elements, &mut writer)?;
