@@ -11,7 +11,7 @@ ghost use Rattle.mme_signalling.specs.Hearing.{heard, heard_lists};
 ghost use Rattle.emm_state.specs.Does.{Does};
 
 use emm_state::{Asked, Context, Draft, NasTimer, Phase, Protection, Repeat, Setting, StepStop};
-use eps_keys::{kenb, nas_integrity_key, next_hop, same_octets};
+use eps_keys::{RadioKeyPair, first_radio_keys, nas_integrity_key, same_octets};
 use esm_machine::Requested;
 use identity_slots::{Tmsi, Vector};
 use mme_signalling::{
@@ -52,10 +52,10 @@ fn is_reject(nas: &[u8]) -> bool
 fn keys_of(kasme: &[u8; 32], count: u32) -> RadioKeys
     ensures { result ≡ keys_of kasme.now count }
 {
-    let kenb = kenb(kasme, count);
+    let RadioKeyPair { kenb, next_hop } = first_radio_keys(kasme, count);
     RadioKeys {
         kenb,
-        next_hop: next_hop(kasme, &kenb),
+        next_hop,
         chaining_count: 1,
     }
 }

@@ -7,3 +7,4 @@ pub mod Eia2
 pub mod Expanded
 pub mod Hmac
 pub mod Same
+pub mod Keyed
