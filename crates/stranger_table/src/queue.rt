@@ -1,6 +1,6 @@
 //! The queue of deadlines.
 
-ghost use Rattle.std.specs.Prelude.{◌≡◌, ◌<◌, ◌≤◌, ◌^◌, IfOk};
+ghost use Rattle.std.specs.Prelude.{◌≡◌, ◌<◌, ◌≤◌, ◌^◌, [], false, IfOk};
 ghost use Rattle.ordered_lists.specs.Ordered.{Rising};
 ghost use Rattle.stranger_table.specs.Queued.{alarm, front_ids, with_entry, without_entry, IsFree};
 
@@ -55,6 +55,16 @@ pub(crate) fn requeue(queue: &mut SortedList<Deadline>, was: Option<Deadline>, i
 {
     dequeue(queue, was);
     enqueue(queue, is);
+}
+
+/// Whether the first of the queue ends by a clock; where it doesn't, none does, and nothing is searched.
+pub(crate) fn is_first_due(queue: &SortedList<Deadline>, clock: u64) -> bool
+    ensures { result ≡ false → front_ids clock queue.now.items ≡ [] }
+{
+    match queue.first() {
+        Some(first) => first.deadline <= clock,
+        None => false,
+    }
 }
 
 /// The ids at the front of the queue, up to a clock.

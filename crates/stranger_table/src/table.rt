@@ -12,7 +12,7 @@ ghost use Rattle.stranger_machine.specs.declared.turn.Notice.TheVariants.{Tick};
 ghost use Rattle.stranger_table.specs.Table.{due_ids};
 
 use crate::places::id_is_small;
-use crate::queue::{Deadline, dequeue, due_at, requeue};
+use crate::queue::{Deadline, dequeue, due_at, is_first_due, requeue};
 use crate::sleeper::Sleeper;
 use crate::sleeping::Sleepers;
 use crate::ticking::tick_all;
@@ -106,7 +106,11 @@ impl Strangers {
     pub fn due(&self) -> Result<Vec<AssociationId>, AllocError>
         ensures { IfOk result (λ due. due.items ≡ due_ids self.now.strangers) }
     {
-        due_at(self.alloc, &self.queue, self.clock + 1)
+        let next = self.clock + 1;
+        if !is_first_due(&self.queue, next) {
+            return Ok(Vec::new(self.alloc));
+        }
+        due_at(self.alloc, &self.queue, next)
     }
 
     /// The stranger with an id is that from now on; refused, all are as they were.

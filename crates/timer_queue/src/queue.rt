@@ -1,6 +1,6 @@
 //! Timers as two lists of what runs: a queue in the order of the deadlines, and an index in the order of the timers.
 
-ghost use Rattle.std.specs.Prelude.{◌≡◌, ℕ, ◌+◌, ◌*◌, ◌<◌, ◌≤◌, ◌^◌, ◌↔◌, List, [], IfOk, OnOk, OnErr, Option, Err};
+ghost use Rattle.std.specs.Prelude.{◌≡◌, ℕ, ◌+◌, ◌*◌, ◌<◌, ◌≤◌, ◌^◌, ◌↔◌, List, [], IfOk, OnOk, OnErr, Option, Err, false};
 ghost use Rattle.timer_queue.specs.declared.queue.TickFault.TheVariants.{ClockSpent, NoMemory};
 ghost use Rattle.ordered_lists.specs.Ordered.{Rising, Every};
 ghost use Rattle.timer_queue.specs.Countdowns.{Countdowns, countdown_rank, ticks_left, started, stopped, due_of, aged};
@@ -80,6 +80,16 @@ fn due_at(
         least = moment(&entry) + 1;
     }
     Ok(due)
+}
+
+/// Whether the first of a queue ends by a clock; where it doesn't, none does, and nothing is searched.
+fn is_first_due(queue: &SortedList<Deadline>, clock: u64) -> bool
+    ensures { result ≡ false → leading clock queue.now.items ≡ [] }
+{
+    match queue.first() {
+        Some(first) => first.deadline <= clock,
+        None => false,
+    }
 }
 
 /// Takes what is due out of the queue and its index.
@@ -218,7 +228,11 @@ impl Timers {
     pub fn due(&self) -> Result<Vec<Expiry>, AllocError>
         ensures { IfOk result (λ due. due.items ≡ due_of self.now.running) }
     {
-        due_at(self.alloc, &self.queue, self.clock + 1)
+        let next = self.clock + 1;
+        if !is_first_due(&self.queue, next) {
+            return Ok(Vec::new(self.alloc));
+        }
+        due_at(self.alloc, &self.queue, next)
     }
 
     /// One tick, without telling what it ends. Takes no memory.
