@@ -20,6 +20,7 @@ use per_bits::Octets;
 use s1ap_elements::{Cause, NasCause, Tai};
 use std::alloc::{AllocError, Global};
 use std::marker::Model;
+use std::mem;
 
 /// The state of mobility management (TS 24.301 clause 5.1.3.4).
 #[derive(Clone, Copy, PartialEq, Eq, Debug)]
@@ -126,7 +127,7 @@ fn row(
     }
 }
 
-// The step of a state, on a copy.
+// The step of a state, on a copy that is boxed once.
 #[tactic(auto, unfolding(crate::specs::Steps::solo_step))]
 fn drafted(
     alloc: Global,
@@ -134,18 +135,18 @@ fn drafted(
     solo: &Solo,
     event: &SoloEvent,
     world: &EnbWorld,
-) -> Result<Draft, AllocError>
-    ensures { IfOk result (λ d. d ≡ solo_step setting.now solo.now (item_of event.now world.now)) }
+) -> Result<Box<Draft>, AllocError>
+    ensures { IfOk result (λ d. d.value ≡ solo_step setting.now solo.now (item_of event.now world.now)) }
 {
     let mut draft = Draft::from_state(alloc, solo)?;
     match row(&mut draft, alloc, setting, event, world) {
-        Ok(()) => Ok(draft),
+        Ok(()) => Ok(Box::new(alloc, draft)?),
         Err(StepStop::NoMemory) => Err(AllocError),
         Err(StepStop::Spent) => {
             let mut draft = Draft::from_state(alloc, solo)?;
             draft.fall(alloc, Cause::Nas(NasCause::Unspecified))?;
             draft.wipe();
-            Ok(draft)
+            Ok(Box::new(alloc, draft)?)
         }
     }
 }
@@ -193,17 +194,23 @@ impl Subscriber {
         })
     }
 
-    /// What an event would leave and send; nothing changes.
-    pub fn prepare(&self, event: &SoloEvent, world: &EnbWorld) -> Result<Draft, AllocError>
-        ensures { IfOk result (λ d. d ≡ solo_step self.now.setting self.now.solo (item_of event.now world.now)) }
+    /// What an event would leave and send, in a box, so that it stands in one place until it is settled; nothing changes.
+    pub fn prepare(&self, event: &SoloEvent, world: &EnbWorld) -> Result<Box<Draft>, AllocError>
+        ensures { IfOk result (λ d. d.value ≡ solo_step self.now.setting self.now.solo (item_of event.now world.now)) }
     {
         drafted(self.alloc, &self.setting, &self.solo, event, world)
     }
 
-    /// The state is this one, of a step that was prepared; takes no memory.
-    pub fn settle(&mut self, solo: Solo)
-        ensures { self.new ≡ record self.old { solo = solo } }
+    /// The state is that of a step that was prepared; takes no memory.
+    pub fn settle(&mut self, draft: Box<Draft>)
+        ensures { self.new ≡ record self.old { solo = draft.value.solo } }
     {
+        let Draft {
+            solo,
+            sent: _,
+            accepted: _,
+            unwritten: _,
+        } = Box::into_inner(draft);
         self.solo = solo;
     }
 
@@ -213,13 +220,9 @@ impl Subscriber {
         ensures state { OnOk result (self.new ≡ record self.old { solo = (solo_step self.old.setting self.old.solo (item_of event.now world.now)).solo }) }
         ensures err { OnErr result (self.new ≡ self.old) }
     {
-        let Draft {
-            solo,
-            sent,
-            accepted: _,
-            unwritten: _,
-        } = self.prepare(event, world)?;
-        self.settle(solo);
+        let mut draft = self.prepare(event, world)?;
+        let sent = mem::replace(&mut draft.sent, Answers::new(self.alloc));
+        self.settle(draft);
         Ok(sent)
     }
 

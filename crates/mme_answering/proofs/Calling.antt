@@ -89,7 +89,3 @@ past_after slot n items (w ∷ ws) le only =
 
 pub call_past : (slot : ℕ) (item : Item) (ws : List SubscriberView) → length ws ≤ slot → (each_after (for_one slot item) 0 ws ≡ ws) × (each_sent (for_one slot item) 0 ws ≡ [])
 call_past slot item ws le = past_after slot 0 (for_one slot item) ws (omega arith) (λ m ne. item_other slot m item ne)
-
-pub each_after_length : (items : ℕ → Item) (n : ℕ) (ws : List SubscriberView) → length (each_after items n ws) ≡ length ws
-each_after_length items n [] = refl
-each_after_length items n (w ∷ ws) = ap suc (each_after_length items (n + 1) ws)

@@ -11,7 +11,7 @@ use Rattle.emm_machine.specs.SubscriberView.{SubscriberView}
 use Rattle.emm_machine.specs.Ticks.{IsRunning, StaysRunning, countdowns}
 use Rattle.emm_machine.specs.TickLaws.{running_timed}
 use Rattle.ordered_lists.specs.Ordered.{Every}
-use Rattle.subscriber_table.specs.declared.stepped.Stepped.{Stepped}
+use Rattle.subscriber_table.specs.SteppedView.{SteppedView}
 use Rattle.subscriber_table.specs.Laws.{all_give_as_due, all_give_as_touched, each_gives, quiet_sent, some_give, tick_is_of_all, timed_in_range, touched_below, touched_few, touched_is_of_all}
 use Rattle.subscriber_table.specs.Running.{is_due}
 use Rattle.subscriber_table.specs.Table.{IsCounting, IsStepped, due_slots, each_after, slots_stepped, step_at, subscriber_step, tick_settled}
@@ -38,30 +38,17 @@ counting_if law (suc slot) item (w ∷ ws) d h at = counting_if law slot item ws
 pub counting_at : StaysRunning → (slot : ℕ) (item : Item) (ws : List SubscriberView) (d : Draft) → AreInUse ws → step_at slot item ws ≡ Some d → IsCounting d.solo
 counting_at law slot item ws d h at = counting_if law slot item ws d h at
 
-pub solo_is : (slot : ℕ) (item : Item) (ws : List SubscriberView) (d : Draft) → step_at slot item ws ≡ Some d → solo_at slot item ws ≡ Some d.solo
-solo_is slot item ws d at = ap (option_map (λ (e : Draft). e.solo)) at
-
-sent_if : (slot : ℕ) (item : Item) (o : Option SubscriberView) (d : Draft) → option_map (λ w. subscriber_step w item) o ≡ Some d
-    → map (slot_out slot) d.sent ≡ option_map_or (λ w. map (slot_out slot) (subscriber_step w item).sent) o []
-sent_if slot item None d at = absurd (cc)
-sent_if slot item (Some w) d at =
-    let is : subscriber_step w item ≡ d = cc in
-    ap (λ (e : Draft). map (slot_out slot) e.sent) (sym is)
-
-pub sent_is : (slot : ℕ) (item : Item) (ws : List SubscriberView) (d : Draft) → step_at slot item ws ≡ Some d → map (slot_out slot) d.sent ≡ sent_at slot item ws
-sent_is slot item ws d at = sent_if slot item (slice_get ws slot) d at
-
 -- ---- each is that of a subscriber, and they are as many as before
 
-fit_each : (m : ℕ) (xs : List Stepped) → Every (λ k. k < m) (slots_stepped xs) → Every (λ (x : Stepped). IsCounting x.solo) xs → AreFit m xs
+fit_each : (m : ℕ) (xs : List SteppedView) → Every (λ k. k < m) (slots_stepped xs) → Every (λ (x : SteppedView). IsCounting x.solo) xs → AreFit m xs
 fit_each m [] h k = tt
 fit_each m (x ∷ xs) h k = ((h.0, k.0), fit_each m xs h.1 k.1)
 
-pub slots_many : (xs : List Stepped) → length (slots_stepped xs) ≡ length xs
+pub slots_many : (xs : List SteppedView) → length (slots_stepped xs) ≡ length xs
 slots_many [] = refl
 slots_many (x ∷ xs) = ap suc (slots_many xs)
 
-pub touched_fit : (item : Item) (xs : List Stepped) (ws : List SubscriberView) → slots_stepped xs ≡ touched_slots item ws → Every (λ (x : Stepped). IsCounting x.solo) xs
+pub touched_fit : (item : Item) (xs : List SteppedView) (ws : List SubscriberView) → slots_stepped xs ≡ touched_slots item ws → Every (λ (x : SteppedView). IsCounting x.solo) xs
     → AreFit (length ws) xs × (length xs ≤ length ws)
 touched_fit item xs ws touched k =
     let many = slots_many xs in
@@ -102,10 +89,10 @@ due_send ws = all_give_as_due (item_sent Tick) ws quiet_gives ∙ each_gives_sen
 pub touched_send : (item : Item) (ws : List SubscriberView) → some_give (item_sent item) (touched_slots item ws) ws ≡ each_sent (for_all item) 0 ws
 touched_send item ws = all_give_as_touched item (item_sent item) ws (still_gives item) ∙ each_gives_sent item 0 ws
 
-pub ticks_all : (xs : List Stepped) (ws : List SubscriberView) → slots_stepped xs ≡ due_slots ws → Every (IsStepped Tick ws) xs → tick_settled xs ws ≡ each_after (for_all Tick) 0 ws
+pub ticks_all : (xs : List SteppedView) (ws : List SubscriberView) → slots_stepped xs ≡ due_slots ws → Every (IsStepped Tick ws) xs → tick_settled xs ws ≡ each_after (for_all Tick) 0 ws
 ticks_all xs ws due h = tick_is_of_all xs ws due h
 
-pub touches_all : (item : Item) (xs : List Stepped) (ws : List SubscriberView) → slots_stepped xs ≡ touched_slots item ws → Every (IsStepped item ws) xs
+pub touches_all : (item : Item) (xs : List SteppedView) (ws : List SubscriberView) → slots_stepped xs ≡ touched_slots item ws → Every (IsStepped item ws) xs
     → with_stepped xs ws ≡ each_after (for_all item) 0 ws
 touches_all item xs ws touched h = touched_is_of_all item xs ws touched h
 

@@ -10,7 +10,7 @@ use Rattle.emm_state.specs.Actions.{untouched}
 use Rattle.mme_vocabulary.specs.Events.{Item, Nothing}
 use Rattle.emm_machine.specs.Steps.{row, solo_step}
 use Rattle.emm_machine.specs.SubscriberView.{SubscriberView}
-use Rattle.subscriber_table.specs.declared.stepped.Stepped.{Stepped}
+use Rattle.subscriber_table.specs.SteppedView.{SteppedView}
 use Rattle.subscriber_table.specs.Table.{one_less, subscriber_after, tick_settled}
 use Rattle.mme_routing.specs.Destinations.{for_one}
 use Rattle.mme_answering.specs.declared.prepared.Prepared.{Prepared}
@@ -40,7 +40,7 @@ solo_many_if n s ws (Some w) = length-set ws n (in_state s w)
 solo_many : (n : ℕ) (s : Solo) (ws : List SubscriberView) → length (with_solo n s ws) ≡ length ws
 solo_many n s ws = solo_many_if n s ws (slice_get ws n)
 
-stepped_many : (xs : List Stepped) (ws : List SubscriberView) → length (with_stepped xs ws) ≡ length ws
+stepped_many : (xs : List SteppedView) (ws : List SubscriberView) → length (with_stepped xs ws) ≡ length ws
 stepped_many [] ws = refl
 stepped_many (x ∷ xs) ws = stepped_many xs (with_solo x.slot x.solo ws) ∙ solo_many x.slot x.solo ws
 
@@ -48,10 +48,10 @@ less_many : (ws : List SubscriberView) → length (map one_less ws) ≡ length w
 less_many [] = refl
 less_many (w ∷ ws) = ap suc (less_many ws)
 
-ticked_many : (xs : List Stepped) (ws : List SubscriberView) → length (tick_settled xs ws) ≡ length ws
+ticked_many : (xs : List SteppedView) (ws : List SubscriberView) → length (tick_settled xs ws) ≡ length ws
 ticked_many xs ws = stepped_many xs (map one_less ws) ∙ less_many ws
 
-one_many : (x : Option Stepped) (ws : List SubscriberView) → length (with_one x ws) ≡ length ws
+one_many : (x : Option SteppedView) (ws : List SubscriberView) → length (with_one x ws) ≡ length ws
 one_many None ws = refl
 one_many (Some x) ws = solo_many x.slot x.solo ws
 

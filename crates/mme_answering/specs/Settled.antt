@@ -12,7 +12,7 @@ use Rattle.stranger_machine.specs.declared.turn.Notice.TheVariants as notices
 use Rattle.stranger_machine.specs.Machine.{is_of_station, notes}
 use Rattle.stranger_machine.specs.Table.{noted, stranger_at, with_stranger}
 use Rattle.stranger_machine.specs.Turns.{after_of}
-use Rattle.subscriber_table.specs.declared.stepped.Stepped.{Stepped}
+use Rattle.subscriber_table.specs.SteppedView.{SteppedView}
 use Rattle.subscriber_table.specs.Table.{IsCounting, due_slots, slots_stepped, step_at, subscriber_step, tick_settled}
 use Rattle.mme_answering.specs.declared.out.Out.{Out}
 use Rattle.mme_answering.specs.declared.prepared.Prepared.{Prepared}
@@ -23,7 +23,7 @@ use Rattle.mme_routing.specs.Destinations.{Destination, Everyone}
 use Rattle.mme_answering.specs.Sending.{slot_out, stranger_out}
 pub use Rattle.subscriber_table.specs.Table.{in_state, with_solo, with_stepped}
 
-abbrev pub with_one : Option Stepped → List SubscriberView → List SubscriberView
+abbrev pub with_one : Option SteppedView → List SubscriberView → List SubscriberView
 with_one None ws = ws
 with_one (Some x) ws = with_solo x.slot x.solo ws
 
@@ -49,13 +49,13 @@ settled_clock (prepared.Tick xs) clock = clock + 1
 settled_clock _ clock = clock
 
 -- it has one of the first n slots, and each of its countdowns that runs is in time
-abbrev pub IsFit : ℕ → Stepped → Type 0
+abbrev pub IsFit : ℕ → SteppedView → Type 0
 IsFit n x = (x.slot < n) × IsCounting x.solo
 
-abbrev pub AreFit : ℕ → List Stepped → Type 0
+abbrev pub AreFit : ℕ → List SteppedView → Type 0
 AreFit n xs = Every (IsFit n) xs
 
-abbrev pub IsFitIf : ℕ → Option Stepped → Type 0
+abbrev pub IsFitIf : ℕ → Option SteppedView → Type 0
 IsFitIf n None = Unit {0}
 IsFitIf n (Some x) = IsFit n x
 
@@ -65,7 +65,7 @@ IsFor prepared.Nobody ws = Unit {0}
 IsFor (prepared.Subscriber x) ws = IsFit (length ws) x
 IsFor (prepared.Stranger id after x) ws = IsFitIf (length ws) x
 IsFor (prepared.Everyone notice xs) ws = AreFit (length ws) xs.items × (length xs.items ≤ length ws) × (is_of_station notice ≡ true)
-IsFor (prepared.Tick xs) ws = (slots_stepped xs.items ≡ due_slots ws) × Every (λ (x : Stepped). IsCounting x.solo) xs.items
+IsFor (prepared.Tick xs) ws = (slots_stepped xs.items ≡ due_slots ws) × Every (λ (x : SteppedView). IsCounting x.solo) xs.items
 
 -- for how many steps room is made
 abbrev pub steps_of : Prepared → ℕ

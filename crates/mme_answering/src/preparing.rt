@@ -24,11 +24,11 @@ use crate::out::{Outs, Owner};
 use crate::prepared::Prepared;
 use crate::sending::{send_all, send_due};
 use emm_machine::running_is_kept;
-use emm_state::Draft;
 use identity_slots::{AssociationId, Provision, Slot};
 use mme_routing::Destination;
-use mme_vocabulary::{EnbWorld, SoloEvent};
+use mme_vocabulary::{Answers, EnbWorld, SoloEvent};
 use std::alloc::{AllocError, Global};
+use std::mem;
 use stranger_machine::{Call, Notice, Turn, begins, receives};
 use stranger_table::Strangers;
 use subscriber_table::{Stepped, Subscribers};
@@ -51,14 +51,10 @@ fn prepare_step(
     ensures same { subscribers.new ≡ subscribers.old }
 {
     running_is_kept();
-    let Draft {
-        solo,
-        sent,
-        accepted: _,
-        unwritten: _,
-    } = subscribers.prepare(slot, event, stations)?;
-    send_all(alloc, outs, Owner::Subscriber(slot), &sent)?;
-    Ok(Stepped { slot, solo })
+    let mut draft = subscribers.prepare(slot, event, stations)?;
+    let sent = mem::replace(&mut draft.sent, Answers::new(alloc));
+    send_all(outs, Owner::Subscriber(slot), sent)?;
+    Ok(Stepped::new(slot, draft))
 }
 
 // The step of each of some slots; what they send stands behind what is sent so far.
@@ -150,7 +146,7 @@ fn prepare_turn(
     ensures same { subscribers.new ≡ subscribers.old }
 {
     let Turn { after, sent, call } = turn;
-    send_all(alloc, outs, Owner::Stranger(id), &sent)?;
+    send_all(outs, Owner::Stranger(id), sent)?;
     let called = prepare_called(alloc, subscribers, &call, stations, outs)?;
     Ok(Prepared::Stranger(id, after, called))
 }

@@ -1,6 +1,6 @@
 //! What owners send, behind what is sent so far.
 
-ghost use Rattle.std.specs.Prelude.{◌≡◌, ◌++◌, [], map, OnOk};
+ghost use Rattle.std.specs.Prelude.{◌≡◌, ◌++◌, ◌∷◌, [], map, OnOk};
 ghost use Rattle.std.specs.Option.{option_map_or};
 ghost use Rattle.ordered_lists.specs.Ordered.{at};
 ghost use Rattle.stranger_machine.specs.Table.{known_id};
@@ -11,26 +11,33 @@ ghost use Rattle.mme_answering.specs.Sending.{each_known, owner_out};
 
 use crate::out::{Out, Outs, Owner};
 use identity_slots::AssociationId;
-use mme_vocabulary::Answers;
+use mme_vocabulary::{Answer, Answers};
 use std::alloc::{AllocError, Global};
 use stranger_machine::Notice;
 use stranger_table::Strangers;
 
-/// What an owner's machine sends, behind what is sent so far.
-pub fn send_all(
-    alloc: Global,
-    outs: &mut Outs,
-    owner: Owner,
-    answers: &Answers,
-) -> Result<(), AllocError>
-    ensures { OnOk result (outs.new ≡ outs.old ++ map (owner_out owner) answers.now) }
+// One answer more, as it is sent for an owner.
+fn send_answer(outs: &mut Outs, owner: &Owner, answer: Answer) -> Result<(), AllocError>
+    ensures { OnOk result (outs.new ≡ outs.old ++ owner_out owner.now answer ∷ []) }
 {
-    for answer in answers.as_slice() {
-        outs.push(Out {
-            owner,
-            station: answer.station,
-            octets: answer.octets.copy(alloc)?,
-        })?;
+    let Answer {
+        station,
+        octets,
+        under: _,
+    } = answer;
+    outs.push(Out {
+        owner: *owner,
+        station,
+        octets,
+    })
+}
+
+/// What an owner's machine sends, behind what is sent so far; its octets are moved.
+pub fn send_all(outs: &mut Outs, owner: Owner, answers: Answers) -> Result<(), AllocError>
+    ensures { OnOk result (outs.new ≡ outs.old ++ map (owner_out owner) answers) }
+{
+    for answer in answers.into_vec() {
+        send_answer(outs, &owner, answer)?;
     }
     Ok(())
 }
@@ -48,7 +55,7 @@ fn send_one(
         return Ok(());
     };
     let sent = known.sends(alloc, id, &Notice::Tick)?;
-    send_all(alloc, outs, Owner::Stranger(id), &sent)
+    send_all(outs, Owner::Stranger(id), sent)
 }
 
 // What the strangers with some ids send at a tick.

@@ -16,7 +16,7 @@ fn settle_everyone(subscribers: &mut Subscribers, stepped: Vec<Stepped>)
     ensures subscribers { subscribers.new.subscribers ≡ with_stepped stepped.items subscribers.old.subscribers }
 {
     for one in stepped {
-        subscribers.settle(one.slot, one.solo);
+        subscribers.settle(one);
     }
 }
 
@@ -53,11 +53,11 @@ pub fn settle(
     subscribers.reserve(steps_of(&prepared))?;
     match prepared {
         Prepared::Nobody => {}
-        Prepared::Subscriber(called) => subscribers.settle(called.slot, called.solo),
+        Prepared::Subscriber(called) => subscribers.settle(called),
         Prepared::Stranger(id, after, called) => {
             strangers.settle(id, after)?;
             if let Some(called) = called {
-                subscribers.settle(called.slot, called.solo);
+                subscribers.settle(called);
             }
         }
         Prepared::Everyone(notice, stepped) => {

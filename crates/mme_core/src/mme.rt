@@ -418,7 +418,7 @@ impl Surroundings {
             state,
             clock,
         };
-        let mut outs = station_outs(self.alloc, moves.station, &sent)?;
+        let mut outs = station_outs(self.alloc, moves.station, sent)?;
         let prepared = self.prepared(subscribers, destination, &mut outs)?;
         Ok(Ready {
             moves,

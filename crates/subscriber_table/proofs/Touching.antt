@@ -11,7 +11,7 @@ use Rattle.emm_machine.specs.Still.{is_elsewhere, is_unlisted, pages}
 use Rattle.emm_machine.specs.SubscriberView.{SubscriberView}
 use Rattle.emm_machine.specs.Ticks.{solo_aged}
 use Rattle.ordered_lists.specs.Ordered.{Every}
-use Rattle.subscriber_table.specs.declared.stepped.Stepped.{Stepped}
+use Rattle.subscriber_table.specs.SteppedView.{SteppedView}
 use Rattle.subscriber_table.specs.Changed.{changed_at}
 use Rattle.subscriber_table.specs.Laws.{due_below, where_map, with_solo_is}
 use Rattle.subscriber_table.specs.Table.{due_slots, in_state, one_less, slots_stepped, tick_settled, with_solo, with_stepped}
@@ -32,7 +32,7 @@ changed_there (suc k) s (w ∷ ws) = ap (λ cs. whereabouts w.solo ∷ cs) (chan
 pub settled_there : (k : ℕ) (s : Solo) (ws : List SubscriberView) → all_whereabouts (with_solo k s ws) ≡ slice_set (all_whereabouts ws) k (whereabouts s)
 settled_there k s ws = ap all_whereabouts (with_solo_is k s ws) ∙ changed_there k s ws ∙ sym (set_is k (whereabouts s) (all_whereabouts ws))
 
-stepped_there : (xs : List Stepped) (ws : List SubscriberView) → all_whereabouts (with_stepped xs ws) ≡ with_whereabouts xs (all_whereabouts ws)
+stepped_there : (xs : List SteppedView) (ws : List SubscriberView) → all_whereabouts (with_stepped xs ws) ≡ with_whereabouts xs (all_whereabouts ws)
 stepped_there [] ws = refl
 stepped_there (x ∷ xs) ws = stepped_there xs (with_solo x.slot x.solo ws) ∙ ap (with_whereabouts xs) (settled_there x.slot x.solo ws)
 
@@ -41,10 +41,10 @@ unfolding solo_aged
 less_there [] = refl
 less_there (w ∷ ws) = ap (λ cs. whereabouts w.solo ∷ cs) (less_there ws)
 
-pub ticked_there : (xs : List Stepped) (ws : List SubscriberView) → all_whereabouts (tick_settled xs ws) ≡ with_whereabouts xs (all_whereabouts ws)
+pub ticked_there : (xs : List SteppedView) (ws : List SubscriberView) → all_whereabouts (tick_settled xs ws) ≡ with_whereabouts xs (all_whereabouts ws)
 ticked_there xs ws = stepped_there xs (map one_less ws) ∙ ap (with_whereabouts xs) (less_there ws)
 
-every_slot : (P : ℕ → Type 0) (xs : List Stepped) → Every P (slots_stepped xs) → Every (λ (x : Stepped). P x.slot) xs
+every_slot : (P : ℕ → Type 0) (xs : List SteppedView) → Every P (slots_stepped xs) → Every (λ (x : SteppedView). P x.slot) xs
 every_slot P [] h = tt
 every_slot P (x ∷ xs) h = (h.0, every_slot P xs h.1)
 
@@ -53,7 +53,7 @@ there_length [] = refl
 there_length (w ∷ ws) = ap suc (there_length ws)
 
 -- the phones of those who are due have a place
-pub places_below : (xs : List Stepped) (ws : List SubscriberView) (cs : List Whereabouts) → cs ≡ all_whereabouts ws → slots_stepped xs ≡ due_slots ws → Every (λ (x : Stepped). x.slot < length cs) xs
+pub places_below : (xs : List SteppedView) (ws : List SubscriberView) (cs : List Whereabouts) → cs ≡ all_whereabouts ws → slots_stepped xs ≡ due_slots ws → Every (λ (x : SteppedView). x.slot < length cs) xs
 places_below xs ws cs same due =
     let many : length ws ≡ length cs = sym (ap length same ∙ there_length ws) in
     every_slot (λ k. k < length cs) xs (subst (λ n. Every (λ k. k < n) (slots_stepped xs)) many (subst (Every (λ k. k < length ws)) (sym due) (due_below ws)))

@@ -1,5 +1,5 @@
 -- Records and what is seen of them: a record that is woken, one that has a new state, and a tick that touches the due ones alone.
-use Rattle.std.proofs.Common.{◌≡◌, ℕ, zero, suc, ◌+◌, ◌-◌, ◌^◌, ◌<◌, ◌≤◌, List, [], ◌∷◌, ◌++◌, length, refl, sym, ◌∙◌, ap, subst, arith}
+use Rattle.std.proofs.Common.{◌≡◌, ℕ, zero, suc, ◌+◌, ◌-◌, ◌^◌, ◌<◌, ◌≤◌, List, [], ◌∷◌, ◌++◌, length, refl, sym, ◌∙◌, ap, subst, arith, Box, Global}
 use Rattle.std.specs.Prelude.{nat_le, slice_get, Option, Some, None, Bool, true, false, map, option_map}
 use Rattle.std.proofs.lemmas.Bool.Decides.{nat_tests}
 use Rattle.std.proofs.lemmas.List.{length_push, map-append}
@@ -18,7 +18,7 @@ use Rattle.timer_queue.specs.declared.timer.Kind.TheVariants.{Procedure, Reachab
 use Rattle.timer_queue.specs.Countdowns.{Countdown, aged, due_of}
 use Rattle.timer_queue.specs.declared.timer.Timer.{Timer}
 use Rattle.subscriber_table.specs.declared.records.Record.{Record}
-use Rattle.subscriber_table.specs.declared.stepped.Stepped.{Stepped}
+use Rattle.subscriber_table.specs.SteppedView.{SteppedView}
 use Rattle.subscriber_table.specs.Changed.{changed_at, cleared}
 use Rattle.subscriber_table.specs.Laws.{due_below, due_no, with_solo_is}
 use Rattle.subscriber_table.specs.Matching.{AreOff, Match, cleared_all, match_changed, off_changed}
@@ -294,7 +294,7 @@ timed_all [] = tt
 timed_all (w ∷ ws) = (timed_later w (is_due (countdowns w.solo)) refl, timed_all ws)
 
 -- those who were prepared are changed one by one
-kept_along : (c : ℕ) (xs : List Stepped) (bs : List Bool) (rs : List Record) (ws : List SubscriberView) → Every (λ (x : Stepped). IsCounting x.solo) xs
+kept_along : (c : ℕ) (xs : List SteppedView) (bs : List Bool) (rs : List Record) (ws : List SubscriberView) → Every (λ (x : SteppedView). IsCounting x.solo) xs
     → Match (IsKept c) bs rs ws → Match (IsKept c) (cleared (slots_stepped xs) bs) (with_records c xs rs) (with_stepped xs ws)
 kept_along c [] bs rs ws k m = m
 kept_along c (x ∷ xs) bs rs ws k m =
@@ -302,11 +302,11 @@ kept_along c (x ∷ xs) bs rs ws k m =
     kept_along c xs (changed_at x.slot (λ _. false) bs) (changed_at x.slot (renewed c x.solo) rs) (with_solo x.slot x.solo ws) k.1
     (subst (Match (IsKept c) (changed_at x.slot (λ _. false) bs) (changed_at x.slot (renewed c x.solo) rs)) (sym (with_solo_is x.slot x.solo ws)) own)
 
-abbrev replaced : List Stepped → List (Option ℕ × Option ℕ) → List (Option ℕ × Option ℕ)
+abbrev replaced : List SteppedView → List (Option ℕ × Option ℕ) → List (Option ℕ × Option ℕ)
 replaced [] ps = ps
 replaced (x ∷ xs) ps = replaced xs (changed_at x.slot (λ _. countdowns x.solo) ps)
 
-timed_along : (xs : List Stepped) (bs : List Bool) (ps : List (Option ℕ × Option ℕ)) (ws : List SubscriberView)
+timed_along : (xs : List SteppedView) (bs : List Bool) (ps : List (Option ℕ × Option ℕ)) (ws : List SubscriberView)
     → Match IsTimed bs ps ws → Match IsTimed (cleared (slots_stepped xs) bs) (replaced xs ps) (with_stepped xs ws)
 timed_along [] bs ps ws m = m
 timed_along (x ∷ xs) bs ps ws m =
@@ -314,7 +314,7 @@ timed_along (x ∷ xs) bs ps ws m =
     timed_along xs (changed_at x.slot (λ _. false) bs) (changed_at x.slot (λ _. countdowns x.solo) ps) (with_solo x.slot x.solo ws)
     (subst (Match IsTimed (changed_at x.slot (λ _. false) bs) (changed_at x.slot (λ _. countdowns x.solo) ps)) (sym (with_solo_is x.slot x.solo ws)) own)
 
-queued_along : (n : ℕ) (xs : List Stepped) (ps : List (Option ℕ × Option ℕ)) → Every (λ (x : Stepped). x.slot < n) xs → length ps ≡ n → n ≤ 2 ^ 32 → all_retimed xs (running_from 0 ps) ≡ running_from 0 (replaced xs ps)
+queued_along : (n : ℕ) (xs : List SteppedView) (ps : List (Option ℕ × Option ℕ)) → Every (λ (x : SteppedView). x.slot < n) xs → length ps ≡ n → n ≤ 2 ^ 32 → all_retimed xs (running_from 0 ps) ≡ running_from 0 (replaced xs ps)
 queued_along n [] ps h e small = refl
 queued_along n (x ∷ xs) ps h e small =
     let lt : x.slot < n = h.0 in
@@ -322,16 +322,16 @@ queued_along n (x ∷ xs) ps h e small =
     ap (all_retimed xs) (both_retimed_is x.slot (countdowns x.solo) ps (omega arith) (omega arith))
     ∙ queued_along n xs (changed_at x.slot (λ _. countdowns x.solo) ps) h.1 (omega arith) small
 
-every_slot : (P : ℕ → Type 0) (xs : List Stepped) → Every P (slots_stepped xs) → Every (λ (x : Stepped). P x.slot) xs
+every_slot : (P : ℕ → Type 0) (xs : List SteppedView) → Every P (slots_stepped xs) → Every (λ (x : SteppedView). P x.slot) xs
 every_slot P [] h = tt
 every_slot P (x ∷ xs) h = (h.0, every_slot P xs h.1)
 
 -- the slots that are due are those of subscribers
-pub slots_below : (c : ℕ) (xs : List Stepped) (rs : List Record) → slots_stepped xs ≡ due_slots (views c rs) → Every (λ (x : Stepped). x.slot < length rs) xs
+pub slots_below : (c : ℕ) (xs : List SteppedView) (rs : List Record) → slots_stepped xs ≡ due_slots (views c rs) → Every (λ (x : SteppedView). x.slot < length rs) xs
 slots_below c xs rs e =
     every_slot (λ k. k < length rs) xs (subst (λ n. Every (λ k. k < n) (slots_stepped xs)) (views_length c rs) (subst (Every (λ k. k < length (views c rs))) (sym e) (due_below (views c rs))))
 
-with_records_length : (c : ℕ) (xs : List Stepped) (rs : List Record) → length (with_records c xs rs) ≡ length rs
+with_records_length : (c : ℕ) (xs : List SteppedView) (rs : List Record) → length (with_records c xs rs) ≡ length rs
 with_records_length c [] rs = refl
 with_records_length c (x ∷ xs) rs = with_records_length c xs (changed_at x.slot (renewed c x.solo) rs) ∙ changed_length x.slot (renewed c x.solo) rs
 
@@ -339,7 +339,7 @@ counted_length : (ps : List (Option ℕ × Option ℕ)) → length (map both_lef
 counted_length [] = refl
 counted_length (p ∷ ps) = ap suc (counted_length ps)
 
-pub all_ticked : (c : ℕ) (xs : List Stepped) (running after : List Countdown) (rs new : List Record) → IsSubscriberTable c running rs → slots_stepped xs ≡ due_slots (views c rs) → Every (λ (x : Stepped). IsCounting x.solo) xs
+pub all_ticked : (c : ℕ) (xs : List SteppedView) (running after : List Countdown) (rs new : List Record) → IsSubscriberTable c running rs → slots_stepped xs ≡ due_slots (views c rs) → Every (λ (x : SteppedView). IsCounting x.solo) xs
     → new ≡ with_records (c + 1) xs rs → after ≡ all_retimed xs (aged running) → IsSubscriberTableOf (c + 1) after new (tick_settled xs (views c rs))
 all_ticked c xs running after rs new t due k e g =
     let ws = views c rs in
@@ -407,9 +407,9 @@ fresh_read c k running rs r t lt e = fresh_slot c k rs r t.fresh lt e
 pub step_seen : (c k : ℕ) (rs : List Record) (r : Record) (item : Item) → k < length rs → r ≡ get_or rs k r → step_at k item (views c rs) ≡ Some (subscriber_step (view_at c r) item)
 step_seen c k rs r item lt e = ap (option_map (λ w. subscriber_step w item)) (view_slot c k rs r lt e)
 
-pub ok_some : {T E : Type 0} (res : Result T E) (x : T) (o : Option T) → IfOk res (λ d. d ≡ x) → o ≡ Some x → IfOk res (λ d. o ≡ Some d)
-ok_some (Ok d) x o h e = e ∙ ap Some (sym h)
-ok_some (Err f) x o h e = tt
+pub boxed_some : {T E : Type 0} (res : Result (Box T Global) E) (x : T) (o : Option T) → IfOk res (λ b. b.value ≡ x) → o ≡ Some x → IfOk res (λ b. o ≡ Some b.value)
+boxed_some (Ok b) x o h e = e ∙ ap Some (sym h)
+boxed_some (Err f) x o h e = tt
 
 -- a write of what is made of the record that was read
 pub set_changed : {X : Type 0} (f : X → X) (xs : List X) (k : ℕ) (x z : X) → k < length xs → x ≡ get_or xs k x → z ≡ f x → set xs k z ≡ changed_at k f xs

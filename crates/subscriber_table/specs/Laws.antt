@@ -17,7 +17,7 @@ use Rattle.emm_machine.specs.Ticks.{AreAbove, AreTimed, IsAbove, IsTimed, countd
 use Rattle.emm_machine.specs.TickLaws.{quiet_tick}
 use Rattle.ordered_lists.specs.Ordered.{Every}
 use Rattle.connection_table.specs.Whereabouts.{slots_where}
-use Rattle.subscriber_table.specs.declared.stepped.Stepped.{Stepped}
+use Rattle.subscriber_table.specs.SteppedView.{SteppedView}
 use Rattle.subscriber_table.specs.Changed.{changed_at, cleared}
 use Rattle.subscriber_table.specs.Matching.{AreOff, Match, changed_by_none, cleared_all, match_changed}
 use Rattle.subscriber_table.specs.Running.{AreInRange, IsInRange, is_due, is_last}
@@ -154,7 +154,7 @@ own_setting : (b : Bool) (z t : SubscriberView) → IsDone b z t → z.setting �
 own_setting true z t h = h
 own_setting false z t h = ap (λ (v : SubscriberView). v.setting) h
 
-done_along : (item : Item) (ws : List SubscriberView) (xs : List Stepped) (bs : List Bool) (zs : List SubscriberView) → Every (IsStepped item ws) xs
+done_along : (item : Item) (ws : List SubscriberView) (xs : List SteppedView) (bs : List Bool) (zs : List SubscriberView) → Every (IsStepped item ws) xs
     → Match IsDone bs zs (all_after item 0 ws) → Match IsDone (cleared (slots_stepped xs) bs) (with_stepped xs zs) (all_after item 0 ws)
 done_along item ws [] bs zs h m = m
 done_along item ws (x ∷ xs) bs zs h m =
@@ -176,14 +176,14 @@ done_all (b ∷ bs) (z ∷ zs) (t ∷ ts) off m =
     ap (λ v. v ∷ zs) own ∙ ap (λ vs. t ∷ vs) (done_all bs zs ts off.1 m.1)
 
 -- where those who are due were prepared for the tick, each is as after it
-pub tick_is_of_all : (xs : List Stepped) (ws : List SubscriberView) → slots_stepped xs ≡ due_slots ws → Every (IsStepped Tick ws) xs → tick_settled xs ws ≡ each_after (λ _. Tick) 0 ws
+pub tick_is_of_all : (xs : List SteppedView) (ws : List SubscriberView) → slots_stepped xs ≡ due_slots ws → Every (IsStepped Tick ws) xs → tick_settled xs ws ≡ each_after (λ _. Tick) 0 ws
 tick_is_of_all xs ws due h =
     let bs = map is_due (all_countdowns ws) in
     let off : AreOff (cleared (slots_stepped xs) bs) = subst (λ ks. AreOff (cleared ks bs)) (sym due) (cleared_all is_due (all_countdowns ws)) in
     done_all (cleared (slots_stepped xs) bs) (tick_settled xs ws) (all_after Tick 0 ws) off (done_along Tick ws xs bs (map one_less ws) h (done_quiet 0 ws))
 
 -- where those whom an item touches were prepared for it, each is as after it
-pub touched_is_of_all : (item : Item) (xs : List Stepped) (ws : List SubscriberView) → slots_stepped xs ≡ touched_slots item ws → Every (IsStepped item ws) xs → with_stepped xs ws ≡ each_after (λ _. item) 0 ws
+pub touched_is_of_all : (item : Item) (xs : List SteppedView) (ws : List SubscriberView) → slots_stepped xs ≡ touched_slots item ws → Every (IsStepped item ws) xs → with_stepped xs ws ≡ each_after (λ _. item) 0 ws
 touched_is_of_all item xs ws touched h =
     let bs = map (λ (w : SubscriberView). not (still w.solo item)) ws in
     let off : AreOff (cleared (slots_stepped xs) bs) = subst (λ ks. AreOff (cleared ks bs)) (sym touched) (cleared_all (λ (w : SubscriberView). not (still w.solo item)) ws) in

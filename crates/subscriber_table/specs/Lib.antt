@@ -3,5 +3,6 @@ pub mod Laws
 pub mod Matching
 pub mod Records
 pub mod Running
+pub mod SteppedView
 pub mod Table
 pub mod Touched

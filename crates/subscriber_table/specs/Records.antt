@@ -7,7 +7,7 @@ use Rattle.emm_machine.specs.Ticks.{AreAbove, countdowns, ticks_after}
 use Rattle.ordered_lists.specs.Ordered.{Every}
 use Rattle.timer_queue.specs.Countdowns.{Countdown}
 use Rattle.subscriber_table.specs.declared.records.Record.{Record}
-use Rattle.subscriber_table.specs.declared.stepped.Stepped.{Stepped}
+use Rattle.subscriber_table.specs.SteppedView.{SteppedView}
 use Rattle.subscriber_table.specs.Changed.{changed_at}
 use Rattle.subscriber_table.specs.Running.{both_retimed, running_from}
 use Rattle.subscriber_table.specs.Table.{AreCounting, all_countdowns, in_state}
@@ -35,12 +35,12 @@ woken clock r = record { subscriber = view_at clock r; touched = clock }
 abbrev pub renewed : ℕ → Solo → Record → Record
 renewed clock solo r = record { subscriber = in_state solo r.subscriber; touched = clock }
 
-abbrev pub with_records : ℕ → List Stepped → List Record → List Record
+abbrev pub with_records : ℕ → List SteppedView → List Record → List Record
 with_records clock [] rs = rs
 with_records clock (x ∷ xs) rs = with_records clock xs (changed_at x.slot (renewed clock x.solo) rs)
 
 -- the countdowns that run, where those of each slot are what was prepared
-abbrev pub all_retimed : List Stepped → List Countdown → List Countdown
+abbrev pub all_retimed : List SteppedView → List Countdown → List Countdown
 all_retimed [] cs = cs
 all_retimed (x ∷ xs) cs = all_retimed xs (both_retimed x.slot (countdowns x.solo) cs)
 

@@ -8,7 +8,7 @@ use Rattle.emm_machine.specs.Steps.{solo_step}
 use Rattle.emm_machine.specs.SubscriberView.{SubscriberView}
 use Rattle.emm_machine.specs.Ticks.{countdowns, solo_aged}
 use Rattle.ordered_lists.specs.Ordered.{Every}
-use Rattle.subscriber_table.specs.declared.stepped.Stepped.{Stepped}
+use Rattle.subscriber_table.specs.SteppedView.{SteppedView}
 use Rattle.subscriber_table.specs.Running.{AreInRange, due_from}
 
 pub record SubscriberTable : Type 0 where
@@ -42,7 +42,7 @@ abbrev pub with_solo : ℕ → Solo → List SubscriberView → List SubscriberV
 with_solo n s ws = option_map_or (λ w. slice_set ws n (in_state s w)) (slice_get ws n) ws
 
 -- each in the state that it was prepared for
-abbrev pub with_stepped : List Stepped → List SubscriberView → List SubscriberView
+abbrev pub with_stepped : List SteppedView → List SubscriberView → List SubscriberView
 with_stepped [] ws = ws
 with_stepped (x ∷ xs) ws = with_stepped xs (with_solo x.slot x.solo ws)
 
@@ -64,16 +64,16 @@ AreCounting ws = Every (λ w. IsCounting w.solo) ws
 
 -- ---- a tick
 
-abbrev pub slots_stepped : List Stepped → List ℕ
+abbrev pub slots_stepped : List SteppedView → List ℕ
 slots_stepped xs = map (λ x. x.slot) xs
 
 abbrev pub one_less : SubscriberView → SubscriberView
 one_less w = record { setting = w.setting; solo = solo_aged 1 w.solo }
 
 -- those who were prepared have their state, and each of the others counts down by one
-abbrev pub tick_settled : List Stepped → List SubscriberView → List SubscriberView
+abbrev pub tick_settled : List SteppedView → List SubscriberView → List SubscriberView
 tick_settled xs ws = with_stepped xs (map one_less ws)
 
 -- it was prepared for an item
-abbrev pub IsStepped : Item → List SubscriberView → Stepped → Type 0
+abbrev pub IsStepped : Item → List SubscriberView → SteppedView → Type 0
 IsStepped item ws x = option_map (λ (d : Draft). d.solo) (step_at x.slot item ws) ≡ Some x.solo

@@ -6,7 +6,7 @@ use Rattle.connection_table.specs.Whereabouts.{slots_where}
 use Rattle.emm_state.specs.declared.solo.Solo.{Solo}
 use Rattle.emm_machine.specs.Still.{pages, still}
 use Rattle.emm_machine.specs.SubscriberView.{SubscriberView}
-use Rattle.subscriber_table.specs.declared.stepped.Stepped.{Stepped}
+use Rattle.subscriber_table.specs.SteppedView.{SteppedView}
 
 -- the slots of those whom an item doesn't leave as they are, as far as a look tells
 abbrev pub touched_slots : Item → List SubscriberView → List ℕ
@@ -20,6 +20,6 @@ abbrev pub all_whereabouts : List SubscriberView → List Whereabouts
 all_whereabouts ws = map (λ (w : SubscriberView). whereabouts w.solo) ws
 
 -- each phone is where the state says that was prepared
-abbrev pub with_whereabouts : List Stepped → List Whereabouts → List Whereabouts
+abbrev pub with_whereabouts : List SteppedView → List Whereabouts → List Whereabouts
 with_whereabouts [] cs = cs
 with_whereabouts (x ∷ xs) cs = with_whereabouts xs (slice_set cs x.slot (whereabouts x.solo))

@@ -4,7 +4,7 @@ ghost use Rattle.std.specs.Prelude.{◌≡◌};
 ghost use Rattle.subscriber_table.specs.Records.{renewed, woken, IsFresh};
 
 use emm_machine::Subscriber;
-use emm_state::Solo;
+use emm_state::Draft;
 
 /// A subscriber as it was when the clock was `touched`.
 #[derive(Drop)]
@@ -23,11 +23,11 @@ impl Record {
         self.touched = clock;
     }
 
-    /// The state is this one now; takes no memory.
-    pub fn renew(&mut self, clock: u64, solo: Solo)
-        ensures { self.new ≡ renewed clock solo self.old }
+    /// The state is that of this step now; takes no memory.
+    pub fn renew(&mut self, clock: u64, draft: Box<Draft>)
+        ensures { self.new ≡ renewed clock draft.value.solo self.old }
     {
-        self.subscriber.settle(solo);
+        self.subscriber.settle(draft);
         self.touched = clock;
     }
 }

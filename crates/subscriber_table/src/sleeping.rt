@@ -18,7 +18,7 @@ use crate::stepped::Stepped;
 use crate::timing::retime;
 use connection_table::Connections;
 use emm_machine::{States, Subscriber};
-use emm_state::{Draft, Solo};
+use emm_state::Draft;
 use identity_slots::Slot;
 use mme_vocabulary::{EnbWorld, SoloEvent};
 use std::alloc::{AllocError, Global};
@@ -26,17 +26,18 @@ use std::marker::Model;
 use timer_queue::Timers;
 
 // One has a new state, and the queue its countdowns.
-fn settle_one(records: &mut Vec<Record>, timers: &mut Timers, slot: Slot, solo: Solo)
-    requires slot { slot < length records.old.items }
+fn settle_one(records: &mut Vec<Record>, timers: &mut Timers, stepped: Stepped)
+    requires slot { stepped.slot < length records.old.items }
     requires room { 2 ≤ timers.old.room }
-    requires counting { IsCounting solo }
-    ensures records { records.new.items ≡ changed_at slot (renewed timers.old.clock solo) records.old.items }
+    requires counting { IsCounting stepped.solo }
+    ensures records { records.new.items ≡ changed_at stepped.slot (renewed timers.old.clock stepped.solo) records.old.items }
     ensures clock { timers.new.clock ≡ timers.old.clock }
-    ensures running { timers.new.running ≡ both_retimed slot (countdowns solo) timers.old.running }
+    ensures running { timers.new.running ≡ both_retimed stepped.slot (countdowns stepped.solo) timers.old.running }
     ensures room { timers.old.room ≤ timers.new.room + 2 }
 {
+    let slot = stepped.slot();
     let place = slot.get() as usize;
-    records[place].renew(timers.clock(), solo);
+    records[place].renew(timers.clock(), stepped.into_draft());
     retime(timers, slot.get(), records[place].subscriber.countdowns());
 }
 
@@ -51,7 +52,7 @@ fn settle_all(records: &mut Vec<Record>, timers: &mut Timers, stepped: Vec<Stepp
     ensures room { timers.old.room ≤ timers.new.room + 2 * length stepped.items }
 {
     for one in stepped {
-        settle_one(records, timers, one.slot, one.solo);
+        settle_one(records, timers, one);
     }
 }
 
@@ -150,9 +151,9 @@ impl Sleepers {
         slot: Slot,
         event: &SoloEvent,
         world: &EnbWorld,
-    ) -> Result<Draft, AllocError>
+    ) -> Result<Box<Draft>, AllocError>
         requires { slot < length self.old.subscribers }
-        ensures step { IfOk result (λ d. step_at slot (item_of event.now world.now) self.old.subscribers ≡ Some d) }
+        ensures step { IfOk result (λ d. step_at slot (item_of event.now world.now) self.old.subscribers ≡ Some d.value) }
         ensures same { self.new ≡ self.old }
     {
         let clock = self.timers.clock();
@@ -180,16 +181,16 @@ impl Sleepers {
         self.timers.reserve(2 * steps)
     }
 
-    /// The state of a slot is this one, of a step that was prepared, where there is room. Takes no memory.
-    pub fn settle(&mut self, slot: Slot, solo: Solo)
-        requires slot { slot < length self.old.subscribers }
+    /// The state of a slot is the one that was prepared, where there is room. Takes no memory.
+    pub fn settle(&mut self, stepped: Stepped)
+        requires slot { stepped.slot < length self.old.subscribers }
         requires room { 0 < self.old.room }
-        requires counting { IsCounting solo }
+        requires counting { IsCounting stepped.solo }
         ensures clock { self.new.clock ≡ self.old.clock }
-        ensures subscribers { self.new.subscribers ≡ with_solo slot solo self.old.subscribers }
+        ensures subscribers { self.new.subscribers ≡ with_solo stepped.slot stepped.solo self.old.subscribers }
         ensures room { self.old.room ≤ self.new.room + 1 }
     {
-        settle_one(&mut self.records, &mut self.timers, slot, solo);
+        settle_one(&mut self.records, &mut self.timers, stepped);
     }
 
     /// One tick: those who are due have the state that was prepared, all others have a tick less. Only those who are due are

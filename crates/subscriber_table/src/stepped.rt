@@ -1,11 +1,52 @@
 //! A state that was prepared.
 
-use emm_state::Solo;
-use identity_slots::Slot;
+ghost use Rattle.std.specs.Prelude.{◌≡◌};
 
-/// The state of a subscriber after an event, which is not its own yet.
+use emm_state::{Draft, Solo};
+use identity_slots::Slot;
+use std::marker::Model;
+
+/// The state of a subscriber after an event, which is not its own yet; a contract sees its slot and the state.
 #[derive(Drop)]
 pub struct Stepped {
-    pub slot: Slot,
-    pub solo: Solo,
+    slot: Slot,
+    draft: Box<Draft>,
+}
+
+impl Model for Stepped {
+    ghost use Rattle.subscriber_table.specs.SteppedView.{SteppedView};
+
+    ghost Value = { SteppedView };
+
+    ghost view = { λ s. record { slot = s.slot; solo = s.draft.value.solo } };
+}
+
+impl Stepped {
+    /// The state of a slot after a step that was prepared.
+    pub fn new(slot: Slot, draft: Box<Draft>) -> Stepped
+        ensures { result ≡ record { slot = slot; solo = draft.value.solo } }
+    {
+        Stepped { slot, draft }
+    }
+
+    /// The slot.
+    pub(crate) fn slot(&self) -> Slot
+        ensures { result ≡ self.now.slot }
+    {
+        self.slot
+    }
+
+    /// The state.
+    pub(crate) fn solo(&self) -> &Solo
+        ensures { result.now ≡ self.now.solo }
+    {
+        &self.draft.solo
+    }
+
+    /// The step that was prepared.
+    pub(crate) fn into_draft(self) -> Box<Draft>
+        ensures { result.value.solo ≡ self.solo }
+    {
+        self.draft
+    }
 }

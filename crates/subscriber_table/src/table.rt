@@ -15,7 +15,7 @@ use crate::stepped::Stepped;
 use crate::whereabouts::{place, place_all};
 use connection_table::Connections;
 use emm_machine::{States, Subscriber};
-use emm_state::{Draft, Solo};
+use emm_state::Draft;
 use identity_slots::Slot;
 use mme_vocabulary::{EnbWorld, SoloEvent, StationNumber};
 use per_bits::Listed;
@@ -99,9 +99,9 @@ impl Subscribers {
         slot: Slot,
         event: &SoloEvent,
         world: &EnbWorld,
-    ) -> Result<Draft, AllocError>
+    ) -> Result<Box<Draft>, AllocError>
         requires { slot < length self.old.subscribers }
-        ensures step { IfOk result (λ d. step_at slot (item_of event.now world.now) self.old.subscribers ≡ Some d) }
+        ensures step { IfOk result (λ d. step_at slot (item_of event.now world.now) self.old.subscribers ≡ Some d.value) }
         ensures same { self.new ≡ self.old }
     {
         self.sleepers.prepare(slot, event, world)
@@ -145,17 +145,17 @@ impl Subscribers {
         self.sleepers.reserve(steps)
     }
 
-    /// The state of a slot is this one, of a step that was prepared, where there is room. Takes no memory.
-    pub fn settle(&mut self, slot: Slot, solo: Solo)
-        requires slot { slot < length self.old.subscribers }
+    /// The state of a slot is the one that was prepared, where there is room. Takes no memory.
+    pub fn settle(&mut self, stepped: Stepped)
+        requires slot { stepped.slot < length self.old.subscribers }
         requires room { 0 < self.old.room }
-        requires counting { IsCounting solo }
+        requires counting { IsCounting stepped.solo }
         ensures clock { self.new.clock ≡ self.old.clock }
-        ensures subscribers { self.new.subscribers ≡ with_solo slot solo self.old.subscribers }
+        ensures subscribers { self.new.subscribers ≡ with_solo stepped.slot stepped.solo self.old.subscribers }
         ensures room { self.old.room ≤ self.new.room + 1 }
     {
-        place(&mut self.connections, slot, &solo);
-        self.sleepers.settle(slot, solo);
+        place(&mut self.connections, stepped.slot(), stepped.solo());
+        self.sleepers.settle(stepped);
     }
 
     /// One tick: those who are due have the state that was prepared, all others have a tick less. Only those who are due are

@@ -38,6 +38,6 @@ pub(crate) fn place_all(connections: &mut Connections, stepped: &[Stepped])
     ensures { connections.new ≡ with_whereabouts stepped.now connections.old }
 {
     for one in stepped {
-        place(connections, one.slot, &one.solo);
+        place(connections, one.slot(), one.solo());
     }
 }

@@ -1,7 +1,7 @@
 use Rattle.std.proofs.Common.{◌≡◌, ◌<◌, ◌++◌, drop, length}
 use Rattle.mme_vocabulary.specs.Events.{item_of}
 use Rattle.ordered_lists.specs.Ordered.{Every}
-use Rattle.subscriber_table.specs.declared.stepped.Stepped.{Stepped}
+use Rattle.subscriber_table.specs.SteppedView.{SteppedView}
 use Rattle.subscriber_table.specs.Laws.{some_give}
 use Rattle.subscriber_table.specs.Table.{IsCounting, IsStepped, slots_stepped}
 use Rattle.mme_answering.specs.Settled.{item_sent}
@@ -18,6 +18,6 @@ invariant-loop-slot l =
       below : Every (λ k. k < length ws) rest;
       slots : slots_stepped l.stepped.items ++ rest ≡ l.called;
       stepped : Every (IsStepped item ws) l.stepped.items;
-      counting : Every (λ (x : Stepped). IsCounting x.solo) l.stepped.items;
+      counting : Every (λ (x : SteppedView). IsCounting x.solo) l.stepped.items;
       sends : l.outs ++ some_give (item_sent item) rest ws ≡ l.fn.outs ++ some_give (item_sent item) l.called ws;
     }

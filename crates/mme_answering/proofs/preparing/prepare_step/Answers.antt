@@ -1,7 +1,13 @@
+use Rattle.std.proofs.Common.{sym, subst}
 use Rattle.mme_vocabulary.specs.Events.{item_of}
+use Rattle.emm_state.specs.declared.draft.Draft.{Draft}
+use Rattle.subscriber_table.specs.SteppedView.{SteppedView}
+use Rattle.subscriber_table.specs.Table.{IsCounting}
 use Rattle.mme_answering.proofs.Stepping.{counting_at}
 use Rattle.mme_answering.proofs.preparing.prepare_step.Goals as goal
 
 pub returns-clause-counting : goal.returns-clause-counting
 returns-clause-counting c =
-    counting_at c.running_is_kept.ensures.run c.args.slot (item_of c.args.event.now c.args.stations.now) c.args.subscribers.now.subscribers c.in_ok-solo.field-0 c.requires.in_use c.in_ok-solo.ensures.step
+    subst (λ (v : SteppedView). IsCounting v.solo) (sym c.new-2.ensures)
+    (subst (λ (d : Draft). IsCounting d.solo) (sym c.deref_mut.ensures.value)
+    (counting_at c.running_is_kept.ensures.run c.args.slot (item_of c.args.event.now c.args.stations.now) c.args.subscribers.now.subscribers c.in_ok-draft.draft.value c.requires.in_use c.in_ok-draft.ensures.step))

@@ -1,7 +1,7 @@
 use Rattle.std.proofs.Common.{◌<◌, ◌∷◌, ◌∙◌, sym, ap, subst, arith, length}
 use Rattle.std.specs.Vec.Iter.{into_iter_items}
 use Rattle.ordered_lists.specs.Ordered.{Every}
-use Rattle.subscriber_table.specs.declared.stepped.Stepped.{Stepped}
+use Rattle.subscriber_table.specs.SteppedView.{SteppedView}
 use Rattle.subscriber_table.specs.Changed.{changed_at}
 use Rattle.subscriber_table.specs.Records.{all_retimed, renewed, with_records}
 use Rattle.subscriber_table.specs.Table.{IsCounting}
@@ -19,13 +19,13 @@ loop-one-preserved c =
     let clock = c.args.timers.now.clock in
     let longer = ap length c.settle_one.ensures.records ∙ changed_length one.slot (renewed c.loop-one.timers.clock one.solo) before in
     let shorter = ap length cut in
-    let slots : Every (λ (x : Stepped). x.slot < length before) (one ∷ rest) = subst (Every (λ (x : Stepped). x.slot < length before)) cut inv.slots in
-    let counting : Every (λ (x : Stepped). IsCounting x.solo) (one ∷ rest) = subst (Every (λ (x : Stepped). IsCounting x.solo)) cut inv.counting in
+    let slots : Every (λ (x : SteppedView). x.slot < length before) (one ∷ rest) = subst (Every (λ (x : SteppedView). x.slot < length before)) cut inv.slots in
+    let counting : Every (λ (x : SteppedView). IsCounting x.solo) (one ∷ rest) = subst (Every (λ (x : SteppedView). IsCounting x.solo)) cut inv.counting in
     let less = steps.1 in
     let room = c.settle_one.ensures.room in
     record {
       count = omega (arith, inv.count);
-      slots = subst (λ n. Every (λ (x : Stepped). x.slot < n) rest) (sym longer) slots.1;
+      slots = subst (λ n. Every (λ (x : SteppedView). x.slot < n) rest) (sym longer) slots.1;
       counting = counting.1;
       clock = c.settle_one.ensures.clock ∙ inv.clock;
       room = omega (arith, inv.room);

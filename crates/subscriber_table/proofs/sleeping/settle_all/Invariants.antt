@@ -1,7 +1,7 @@
 use Rattle.std.proofs.Common.{◌≡◌, ◌+◌, ◌*◌, ◌<◌, ◌≤◌, length}
 use Rattle.std.specs.Vec.Iter.{into_iter_items, into_iter_len}
 use Rattle.ordered_lists.specs.Ordered.{Every}
-use Rattle.subscriber_table.specs.declared.stepped.Stepped.{Stepped}
+use Rattle.subscriber_table.specs.SteppedView.{SteppedView}
 use Rattle.subscriber_table.specs.Records.{all_retimed, with_records}
 use Rattle.subscriber_table.specs.Table.{IsCounting}
 use Rattle.subscriber_table.proofs.sleeping.settle_all.Given as goal
@@ -12,8 +12,8 @@ invariant-loop-one l =
     let rest = into_iter_items l.one-iterator in
     record {
       count : into_iter_len l.one-iterator ≡ length rest;
-      slots : Every (λ (x : Stepped). x.slot < length l.records.items) rest;
-      counting : Every (λ (x : Stepped). IsCounting x.solo) rest;
+      slots : Every (λ (x : SteppedView). x.slot < length l.records.items) rest;
+      counting : Every (λ (x : SteppedView). IsCounting x.solo) rest;
       clock : l.timers.clock ≡ l.fn.timers.clock;
       room : l.fn.timers.room + 2 * length rest ≤ l.timers.room + 2 * length l.fn.stepped.items;
       records : with_records l.fn.timers.clock rest l.records.items ≡ with_records l.fn.timers.clock l.fn.stepped.items l.fn.records.items;

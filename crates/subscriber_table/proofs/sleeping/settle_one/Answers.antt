@@ -7,6 +7,9 @@ pub returns-clause-records : goal.returns-clause-records
 returns-clause-records c =
     let rs = c.args.records.now.items in
     let r = c.index_mut.result.now in
-    ap (λ n. set rs n c.renew.new.self) c.get-place.ensures.value
-    ∙ set_changed (renewed c.args.timers.now.clock c.args.solo) rs c.args.slot r c.renew.new.self c.requires.slot
-    (c.index_mut.ensures.value ∙ ap (λ n. get_or rs n r) c.get-place.ensures.value) (c.renew.ensures ∙ ap (λ n. renewed n c.args.solo r) c.clock.ensures.clock)
+    let at = c.get-place.ensures.value ∙ c.slot-slot.ensures in
+    let x = c.args.stepped in
+    ap (λ n. set rs n c.renew.new.self) at
+    ∙ set_changed (renewed c.args.timers.now.clock x.solo) rs x.slot r c.renew.new.self c.requires.slot
+    (c.index_mut.ensures.value ∙ ap (λ n. get_or rs n r) at)
+    (c.renew.ensures ∙ ap (λ n. renewed n c.into_draft.result.value.solo r) c.clock.ensures.clock ∙ ap (λ s. renewed c.args.timers.now.clock s r) c.into_draft.ensures)

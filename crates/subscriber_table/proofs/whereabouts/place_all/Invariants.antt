@@ -1,6 +1,6 @@
 use Rattle.std.proofs.Common.{◌≡◌, ◌<◌, drop, length}
 use Rattle.ordered_lists.specs.Ordered.{Every}
-use Rattle.subscriber_table.specs.declared.stepped.Stepped.{Stepped}
+use Rattle.subscriber_table.specs.SteppedView.{SteppedView}
 use Rattle.subscriber_table.specs.Touched.{with_whereabouts}
 use Rattle.subscriber_table.proofs.whereabouts.place_all.Given as goal
 
@@ -9,6 +9,6 @@ abbrev pub invariant-loop-one : goal.invariant-loop-one
 invariant-loop-one l =
     let rest = drop l.one-index l.stepped in
     record {
-      below : Every (λ (x : Stepped). x.slot < length l.connections) rest;
+      below : Every (λ (x : SteppedView). x.slot < length l.connections) rest;
       all : with_whereabouts rest l.connections ≡ with_whereabouts l.stepped l.fn.connections;
     }

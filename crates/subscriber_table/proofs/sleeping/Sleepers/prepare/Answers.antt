@@ -5,7 +5,7 @@ use Rattle.subscriber_table.specs.declared.records.Record.{Record}
 use Rattle.subscriber_table.specs.Changed.{changed_at}
 use Rattle.subscriber_table.specs.Records.{views, woken}
 use Rattle.subscriber_table.specs.Table.{SubscriberTable, step_at, subscriber_step}
-use Rattle.subscriber_table.proofs.Waking.{IsSubscriberTableOf, awake, ok_some, set_changed, step_seen, views_length}
+use Rattle.subscriber_table.proofs.Waking.{IsSubscriberTableOf, awake, boxed_some, set_changed, step_seen, views_length}
 use Rattle.subscriber_table.proofs.sleeping.Sleepers.prepare.Goals as goal
 
 within : (c : goal.After-prepare) → c.args.slot < length c.self.inside.records.items
@@ -44,7 +44,7 @@ returns-clause-step c =
     c.index.ensures ∙ get_or-set_same rs c.get-place.result c.wake.new.self c.index.result.now (omega arith) ∙ written c in
     let step = ap (step_at c.args.slot item) (sym seen) ∙ step_seen clock c.args.slot rs c.index_mut.result.now item lt (read c)
     ∙ ap (λ (r : Record). Some (subscriber_step r.subscriber item)) (sym own) in
-    ok_some c.prepare.result (subscriber_step c.index.result.now.subscriber item) (step_at c.args.slot item c.args.self.now.subscribers) c.prepare.ensures step
+    boxed_some c.prepare.result (subscriber_step c.index.result.now.subscriber item) (step_at c.args.slot item c.args.self.now.subscribers) c.prepare.ensures step
 
 pub returns-clause-same : goal.returns-clause-same
 returns-clause-same c =

@@ -7,5 +7,7 @@ use Rattle.subscriber_table.proofs.table.Subscribers.settle.Goals as goal
 pub invariant_of-self : goal.invariant_of-self
 invariant_of-self c =
     let ws = c.self.inside.sleepers.subscribers in
-    c.place.ensures ∙ ap (λ cs. slice_set cs c.args.slot (whereabouts c.args.solo)) c.self.invariant
-    ∙ sym (settled_there c.args.slot c.args.solo ws) ∙ ap all_whereabouts (sym c.settle.ensures.subscribers)
+    let x = c.args.stepped in
+    c.place.ensures ∙ ap (λ n. slice_set c.self.inside.connections n (whereabouts c.solo.result.now)) c.slot.ensures
+    ∙ ap (λ s. slice_set c.self.inside.connections x.slot (whereabouts s)) c.solo.ensures ∙ ap (λ cs. slice_set cs x.slot (whereabouts x.solo)) c.self.invariant
+    ∙ sym (settled_there x.slot x.solo ws) ∙ ap all_whereabouts (sym c.settle.ensures.subscribers)

@@ -1,6 +1,6 @@
 use Rattle.std.proofs.Common.{◌<◌, length, sym, ◌∙◌, ap, subst}
 use Rattle.ordered_lists.specs.Ordered.{Every}
-use Rattle.subscriber_table.specs.declared.stepped.Stepped.{Stepped}
+use Rattle.subscriber_table.specs.SteppedView.{SteppedView}
 use Rattle.subscriber_table.specs.Table.{SubscriberTable, due_slots}
 use Rattle.subscriber_table.specs.Touched.{all_whereabouts, with_whereabouts}
 use Rattle.subscriber_table.proofs.Touching.{places_below, ticked_there}
@@ -9,7 +9,7 @@ use Rattle.subscriber_table.proofs.table.Subscribers.tick.Goals as goal
 pub place_all-requires : goal.place_all-requires
 place_all-requires c =
     let seen = ap (λ (v : SubscriberTable). due_slots v.subscribers) c.self.view_is in
-    subst (Every (λ (x : Stepped). x.slot < length c.self.inside.connections)) (sym c.as_slice.ensures.value)
+    subst (Every (λ (x : SteppedView). x.slot < length c.self.inside.connections)) (sym c.as_slice.ensures.value)
     (places_below c.args.stepped.items c.self.inside.sleepers.subscribers c.self.inside.connections c.self.invariant (c.requires.due ∙ sym seen))
 
 pub invariant_of-self : goal.invariant_of-self
