@@ -44,6 +44,7 @@ impl<R: Read> Watched<R> {
         ensures bytes { ReadConsumes (R.remaining self.old.inner) (R.remaining self.new.inner) result buf.new }
         ensures failed { MatchResult result (λ _. self.new.failed ≡ self.old.failed) (λ _. self.new.failed ≡ true) }
         ensures ended { IfOk result (λ n. n ≡ 0 → 0 < length buf.old → self.new.ended ≡ true) }
+        ensures stays { self.old.ended ≡ true → self.new.ended ≡ true }
         ensures calls { self.new.calls ≡ min (self.old.calls + 1) (2 ^ 64 - 1) }
     {
         self.calls = self.calls.saturating_add(1);
@@ -68,6 +69,7 @@ impl<W: Write> Watched<W> {
         ensures bound { WritesAtMost result buf.now }
         ensures bytes { WriteAppends (W.contents self.old.inner) (W.contents self.new.inner) result buf.now }
         ensures failed { MatchResult result (λ n. n ≡ 0 → 0 < length buf.now → self.new.failed ≡ true) (λ _. self.new.failed ≡ true) }
+        ensures ended { self.new.ended ≡ self.old.ended }
         ensures calls { self.new.calls ≡ min (self.old.calls + 1) (2 ^ 64 - 1) }
     {
         self.calls = self.calls.saturating_add(1);
@@ -89,6 +91,7 @@ impl<W: Write> Watched<W> {
     pub fn flush(&mut self) -> io::Result<()>
         ensures bytes { Keeps (W.contents self.old.inner) (W.contents self.new.inner) }
         ensures failed { MatchResult result (λ _. self.new.failed ≡ self.old.failed) (λ _. self.new.failed ≡ true) }
+        ensures ended { self.new.ended ≡ self.old.ended }
         ensures calls { self.new.calls ≡ min (self.old.calls + 1) (2 ^ 64 - 1) }
     {
         self.calls = self.calls.saturating_add(1);

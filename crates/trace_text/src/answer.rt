@@ -7,6 +7,9 @@ ghost use Rattle.trace_text.specs.Trace.{answer_text, sent_text, refused_text, s
 use nas_elements::Imsi;
 use std::alloc::{AllocError, Global};
 
+// The octets of a line of a message that is sent, without those of the message, at most: two words, an owner, a station, spaces and LF.
+const LONGEST_FRONT: usize = 32;
+
 /// For whom a message is sent.
 #[derive(Clone, Copy)]
 pub enum AnswerOwner {
@@ -130,21 +133,23 @@ fn write_sent(
     ensures line { IfOk result (λ text. IsLineWithin (80 + 2 * length octets.now) (string_bytes text)) }
 {
     let hex = write_octets(alloc, octets)?;
-    let mut line = write_owner(alloc, owner)?;
-    line.reserve(hex.len() + 5)?;
+    let mut line = write_owner(alloc, owner, hex.len().saturating_add(LONGEST_FRONT))?;
     write!(line, "{station} {hex}\n")?;
     Ok(line)
 }
 
-fn write_owner(alloc: Global, owner: AnswerOwner) -> Result<String, AllocError>
+// The front of a line, which has room for so many octets in all.
+fn write_owner(alloc: Global, owner: AnswerOwner, room: usize) -> Result<String, AllocError>
     ensures text { IfOk result (λ text. string_bytes text ≡ owner_text owner) }
     ensures part { IfOk result (λ text. IsPartWithin 20 (string_bytes text)) }
 {
+    let mut line = String::with_capacity(alloc, room)?;
     match owner {
-        AnswerOwner::Station(station) => format!(in alloc; "out e{station} "),
-        AnswerOwner::Stranger(station, phone) => format!(in alloc; "out x{station}.{phone} "),
-        AnswerOwner::Subscriber(slot) => format!(in alloc; "out s{slot} "),
+        AnswerOwner::Station(station) => write!(line, "out e{station} ")?,
+        AnswerOwner::Stranger(station, phone) => write!(line, "out x{station}.{phone} ")?,
+        AnswerOwner::Subscriber(slot) => write!(line, "out s{slot} ")?,
     }
+    Ok(line)
 }
 
 #[tactic(auto, unfolding(crate::specs::Trace::state_text))]

@@ -12,6 +12,7 @@ use crate::fields::{
 };
 use crate::values::{ApnLabel, BitRate, TraceOctets, TraceTicks};
 use identity_slots::{Profile, StationNumber, Vector};
+use memchr::memchr;
 use nas_elements::Imsi;
 use std::alloc::{AllocError, Global};
 
@@ -62,6 +63,9 @@ pub struct MmeLine {
 /// The most octets of a line, without its LF.
 pub const LONGEST_LINE: usize = 40000;
 
+/// As many words as a good line of a trace has at most: room for them is taken at once.
+const USUAL_WORDS: usize = 8;
+
 /// What a line says, given without its LF, or its first fault: TooLong, UnknownWord, FieldCount,
 /// and then BadNumber or BadHex of the leftmost field that has one. Only NoMemory may stand in place of that.
 #[tactic(auto, unfolding(crate::specs::Trace::line_of))]
@@ -84,7 +88,14 @@ pub fn parse_line(alloc: Global, line: &[u8]) -> Result<Line, TraceFault>
 pub fn split_words(alloc: Global, line: &[u8]) -> Result<Vec<&[u8]>, AllocError>
     ensures { IfOk result (λ v. map (λ w. w.now) v.items ≡ slice_split (λ c. c == 32) line.now) }
 {
-    line.split(|c| *c == b' ').collect(alloc)
+    let mut words = Vec::with_capacity(alloc, USUAL_WORDS)?;
+    let mut rest = line;
+    while let Some(at) = memchr(b' ', rest) {
+        words.push(&rest[..at])?;
+        rest = &rest[at + 1..];
+    }
+    words.push(rest)?;
+    Ok(words)
 }
 
 /// What a line says by its words, where it is neither empty nor a comment; faults as in `parse_line`.

@@ -1,15 +1,10 @@
-use Rattle.std.proofs.Common.{◌≡◌, ℕ, ◌-◌, List, [], ◌++◌, length, take, drop, Ok, Err, refl, sym, ap, ◌∙◌, append_assoc, append-nil, arith, length-append}
+use Rattle.std.proofs.Common.{◌-◌, [], ◌++◌, length, take, Ok, Err, refl, sym, ap, ◌∙◌, append_assoc, append-nil, arith, length-append}
 use Rattle.std.specs.Prelude.{slice_range}
-use Rattle.std.proofs.lemmas.List.{take_all, take-append-drop, length-drop}
+use Rattle.trace_lines.specs.PartLaws.{rest_behind}
 use Rattle.trace_player.specs.OctetLaws.{Appends-nil, Appends-then}
 use Rattle.trace_player.specs.TextLaws.{breaks-le, nil-from_length}
 use Rattle.mme_main.proofs.Taken.{Takes-none, Takes-then, Takes-piece}
 use Rattle.mme_main.proofs.player.Player.feed.Goals as goal
-
--- a front and what is behind it
-rest_behind : (count : ℕ) (rest : List ℕ) → take count rest ++ slice_range rest count (length rest) ≡ rest
-rest_behind count rest =
-    ap (λ v. take count rest ++ v) (take_all (length rest - count) (drop count rest) (omega (arith, length-drop count rest))) ∙ take-append-drop count rest
 
 pub take_line-requires-clause-counted : goal.take_line-requires-clause-counted
 take_line-requires-clause-counted g c =
