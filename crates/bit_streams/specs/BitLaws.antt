@@ -323,3 +323,16 @@ pad-is octets used current lt =
 
 pub pad_now : (now : List Bool) (octets : List ℕ) (used current : ℕ) → octet_bits octets ++ bits used current ≡ now → used < 8 → bits ((8 - used) % 8) 0 ≡ pad (length now)
 pad_now now octets used current e lt = pad-is octets used current lt ∙ ap (λ (l : List Bool). pad (length l)) e
+
+-- where the last octet isn't full
+pub pad_here : (now : List Bool) (octets : List ℕ) (used current : ℕ) → octet_bits octets ++ bits used current ≡ now → used < 8 → 0 < used → bits (8 - used) 0 ≡ pad (length now)
+pad_here now octets used current e lt some =
+    let same : 8 - used ≡ (8 - used) % 8 = omega (arith, lt, some) in
+    ap (λ k. bits k 0) same ∙ pad_now now octets used current e lt
+
+-- and where it is
+pub no_pad : (now : List Bool) (octets : List ℕ) (used current : ℕ) → octet_bits octets ++ bits used current ≡ now → used ≡ 0 → now ≡ now ++ pad (length now)
+no_pad now octets used current e none =
+    let l = ap length e in
+    let whole : padding (length now) ≡ 0 = omega (arith, l, none, length-append (octet_bits octets) (bits used current), length-octet_bits octets, length-bits used current) in
+    sym (append-nil now) ∙ ap (λ (bs : List Bool). now ++ bs) (sym (ap (λ k. replicate k false) whole))

@@ -1,5 +1,5 @@
 -- Values one after the other: which bits spell them, and what reading so many gives.
-use Rattle.std.specs.Prelude.{◌≡◌, ℕ, zero, suc, ◌+◌, List, [], ◌∷◌, ◌++◌, Bool, length, Result, Ok, Err}
+use Rattle.std.specs.Prelude.{◌≡◌, ℕ, zero, suc, ◌+◌, List, [], ◌∷◌, ◌++◌, Bool, length, Result, Ok}
 use Rattle.bit_streams.specs.declared.fault.PerFault.{PerFault}
 use Rattle.bit_streams.specs.Bits.{Place, ◌>>=◌}
 

@@ -7,3 +7,4 @@ pub mod Exact
 pub mod OctetLaws
 pub mod Times
 pub mod WholeOctets
+pub mod PlaceLaws

@@ -1,11 +1,11 @@
 -- Alignment and octets are read exactly where they are spelled.
-use Rattle.std.proofs.Common.{◌≡◌, ℕ, zero, suc, ◌+◌, ◌*◌, ◌^◌, ◌<◌, ◌≤◌, Bool, true, false, cond, eqb, List, [], ◌++◌, length, take, drop, replicate, Ok, Err, refl, sym, ap, subst, ◌∙◌, arith}
+use Rattle.std.proofs.Common.{◌≡◌, ℕ, zero, suc, ◌+◌, ◌*◌, ◌^◌, ◌<◌, Bool, true, false, cond, eqb, List, [], ◌++◌, length, take, drop, replicate, Ok, Err, refl, sym, ap, subst, ◌∙◌, arith}
 use Rattle.std.proofs.lemmas.Bool.{eqb-true, eq-eqb}
 use Rattle.std.proofs.lemmas.List.{append-nil, length-replicate, length-take-le, length-drop, take-append-drop, nil_from_length}
 use Rattle.std.proofs.lemmas.Nat.{pow_pos}
 use Rattle.bit_streams.specs.declared.fault.PerFault.TheVariants.{Padding, Trailing}
 use Rattle.bit_streams.specs.Bits.{value, bits, octet_bits, octets_of_bits, Place, padding, pad, IsBytes, ◌>>=◌, take_at, align_at, whole_octets_at, aligned_octets_at, end_at}
-use Rattle.bit_streams.specs.BitLaws.{bind_ok, where_ok, okay, value_below, value-bits, bits-value, length-bits, bits-zero, length-octet_bits, octets-back}
+use Rattle.bit_streams.specs.BitLaws.{bind_ok, where_ok, okay, value_below, value-bits, bits-value, bits-zero, length-octet_bits, octets-back}
 use Rattle.bit_streams.specs.Exact.{Exact, IsBits, exact_take, Bind, exact_bind, Nothing, exact_ok, Never, exact_err, exact_same, Cond, exact_cond}
 
 abbrev pub IsPad : Unit {0} → ℕ → List Bool → Type 0
@@ -59,7 +59,7 @@ unfolding octets_of_bits
 length-octets_of zero bs = refl
 length-octets_of (suc n) bs = ap suc (length-octets_of n (drop 8 bs))
 
-bytes-octets_of : (n : ℕ) (bs : List Bool) → length bs ≡ 8 * n → IsBytes (octets_of_bits n bs)
+pub bytes-octets_of : (n : ℕ) (bs : List Bool) → length bs ≡ 8 * n → IsBytes (octets_of_bits n bs)
 unfolding octets_of_bits
 bytes-octets_of zero bs len i = omega arith
 bytes-octets_of (suc n) bs len zero = let l : length (take 8 bs) ≡ 8 = length-take-le 8 bs (omega (arith, len)) in subst (λ k. value (take 8 bs) < 2 ^ k) l (value_below (take 8 bs))

@@ -1,6 +1,6 @@
 //! Writing bits into octets.
 
-ghost use Rattle.std.specs.Prelude.{◌≡◌, ◌+◌, ◌-◌, ◌*◌, ◌^◌, ◌<◌, ◌≤◌, ◌++◌, ◌∷◌, [], List, Bool, true, false, length, eqb, ◌%◌, IfOk, OnOk, OnErr, Err};
+ghost use Rattle.std.specs.Prelude.{◌≡◌, ◌+◌, ◌-◌, ◌*◌, ◌/◌, ◌^◌, ◌<◌, ◌≤◌, ◌++◌, ◌∷◌, [], List, Bool, true, false, length, take, drop, eqb, ◌%◌, IfOk, OnOk, OnErr, Err};
 ghost use Rattle.bit_streams.specs.declared.fault.PerError.TheVariants.{NoMemory};
 ghost use Rattle.bit_streams.specs.Bits.{bits, octet_bits, pad, IsBytes, padded};
 
@@ -104,8 +104,23 @@ impl BitWriter {
         ensures ok { OnOk result (self.new ≡ self.old ++ pad (length self.old)) }
         ensures memory { OnErr result (result ≡ Err NoMemory) }
     {
-        let left = (8 - self.used) % 8;
-        self.put_bits(left, 0)
+        let used = self.used;
+        if used == 0 {
+            return Ok(());
+        }
+        self.put_bits(8 - used, 0)
+    }
+
+    /// One octet, behind the bits so far.
+    pub fn put_octet(&mut self, octet: u8) -> Result<(), PerError>
+        ensures ok { OnOk result (self.new ≡ self.old ++ bits 8 octet) }
+        ensures memory { OnErr result (result ≡ Err NoMemory) }
+    {
+        if self.used == 0 {
+            self.octets.push(octet)?;
+            return Ok(());
+        }
+        self.put_bits(8, octet as u64)
     }
 
     /// Octets, behind the bits so far.
@@ -151,6 +166,33 @@ impl BitWriter {
     {
         self.align()?;
         Ok(self.octets)
+    }
+}
+
+impl BitWriter {
+    /// How many whole octets were written.
+    pub fn octets(&self) -> usize
+        ensures { result ≡ length self.now / 8 }
+    {
+        self.octets.len()
+    }
+
+    /// Another octet in the place of one that was written.
+    pub fn set_octet(&mut self, place: usize, octet: u8)
+        requires { 8 * place + 8 ≤ length self.old }
+        ensures { self.new ≡ take (8 * place) self.old ++ (bits 8 octet ++ drop (8 * place + 8) self.old) }
+    {
+        self.octets[place] = octet;
+    }
+
+    /// One octet more before those from this place on, which moves them.
+    pub fn insert_octet(&mut self, place: usize, octet: u8) -> Result<(), PerError>
+        requires { 8 * place ≤ length self.old }
+        ensures ok { OnOk result (self.new ≡ take (8 * place) self.old ++ (bits 8 octet ++ drop (8 * place) self.old)) }
+        ensures memory { OnErr result (result ≡ Err NoMemory) }
+    {
+        self.octets.insert(place, octet)?;
+        Ok(())
     }
 }
 

@@ -1,2 +1,4 @@
 pub mod WrittenLaws
 pub mod Passing
+pub mod PlaceLaws
+pub mod OpenLaws

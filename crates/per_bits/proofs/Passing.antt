@@ -1,4 +1,5 @@
 -- Reading past so many values, and writing each of several, as loops do.
+use Rattle.std.specs.Prelude.{OnErr, OnOk}
 use Rattle.std.proofs.Common.{get_or, ◌≡◌, ℕ, suc, ◌-◌, ◌+◌, ◌≤◌, ◌<◌, Bool, true, false, List, [], ◌∷◌, ◌++◌, length, drop, map, Result, Ok, Err, refl, sym, ap, ◌∙◌, arith}
 use Rattle.std.proofs.lemmas.List.{drop_more, drop_all}
 use mir.Val.{bool_byte}
@@ -7,6 +8,7 @@ use Rattle.bit_streams.specs.declared.fault.PerError.{PerError}
 use Rattle.bit_streams.specs.declared.fault.PerError.TheVariants as errors
 use Rattle.bit_streams.specs.Bits.{Place, ◌>>=◌, Fails, open_at, bit_at}
 use Rattle.bit_streams.specs.Each.{times}
+use Rattle.per_numbers.specs.Writing.{Wrote}
 use Rattle.per_bits.specs.Reading.{whole_at, inside_at}
 use Rattle.per_bits.specs.Spelling.{trues}
 use Rattle.per_bits.specs.Writing.{write_each}
@@ -106,3 +108,9 @@ write_done w view xs i out total le so_far =
 pub fails_then : {A B : Type 0} (e : PerError) (r : Result A PerFault) (f : A → Result B PerFault) → Fails e r → Fails e (r >>= f)
 fails_then errors.NoMemory r f h = tt
 fails_then (errors.Fault d) r f h = rw h refl
+
+-- what was written, where nothing but memory can be wanting
+pub wrote_if : {X : Type 0} (new : List Bool) (write : Result (List Bool) PerFault) (r : Result X PerError) → OnOk r (write ≡ Ok new) → OnErr r (r ≡ Err errors.NoMemory) → Wrote r new write
+wrote_if new write (Ok x) wrote refused = wrote
+wrote_if new write (Err errors.NoMemory) wrote refused = tt
+wrote_if new write (Err (errors.Fault f)) wrote refused = absurd cc

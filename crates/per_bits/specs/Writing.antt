@@ -1,5 +1,5 @@
 -- Writing behind the bits so far.
-use Rattle.std.specs.Prelude.{ℕ, suc, ◌-◌, ◌&&◌, Bool, false, if◌then◌else◌, nat_lt, ◌==◌, List, [], ◌∷◌, ◌++◌, length, Option, Some, None, Result, Ok, Err, ◌⊎◌, is_some}
+use Rattle.std.specs.Prelude.{ℕ, suc, ◌+◌, ◌-◌, ◌*◌, ◌/◌, ◌&&◌, Bool, false, if◌then◌else◌, nat_lt, ◌==◌, List, [], ◌∷◌, ◌++◌, length, take, drop, Option, Some, None, Result, Ok, Err, ◌⊎◌, is_some}
 use Rattle.std.proofs.Common.{inl, inr}
 use Rattle.bit_streams.specs.declared.fault.PerFault.{PerFault}
 use Rattle.bit_streams.specs.declared.fault.PerFault.TheVariants.{Range}
@@ -20,6 +20,12 @@ write_aligned os out = if all_below 256 os then Ok (out ++ (pad (length out) ++ 
 
 unfoldable pub write_length : ℕ → List Bool → Result (List Bool) PerFault
 write_length n out = if nat_lt n 16384 then Ok (out ++ (pad (length out) ++ octet_bits (length_octets n))) else Err Range
+
+-- the octet at a place becomes the length of the whole octets behind it (clause 11.9)
+unfoldable pub count_behind : ℕ → List Bool → Result (List Bool) PerFault
+count_behind place out =
+    let n = length out / 8 - place - 1 in
+    if nat_lt n 16384 then Ok (take (8 * place) out ++ (octet_bits (length_octets n) ++ drop (8 * place + 8) out)) else Err Range
 
 unfoldable pub write_string : List ℕ → List Bool → Result (List Bool) PerFault
 write_string os out = do

@@ -137,7 +137,7 @@ enumerated_adds n (inl i) out new e =
 enumerated_adds n (inr i) out new e = absurd cc
 
 -- as a whole octet string
-padded-bits : (bs : List Bool) → octet_bits (padded bs) ≡ bs ++ pad (length bs)
+pub padded-bits : (bs : List Bool) → octet_bits (padded bs) ≡ bs ++ pad (length bs)
 unfolding padded
 padded-bits bs =
     let len : length (bs ++ pad (length bs)) ≡ 8 * ((length bs + 7) / 8) = omega (arith, length-append bs (pad (length bs)), length-replicate (padding (length bs)) false) in

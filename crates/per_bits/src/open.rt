@@ -1,15 +1,14 @@
 //! Lengths without a bound, and open types.
 
-ghost use Rattle.std.specs.Prelude.{◌≡◌, ◌<◌, ◌^◌, ◌≤◌, ◌+◌, map, IfOk};
+ghost use Rattle.std.specs.Prelude.{◌≡◌, ◌<◌, ◌^◌, ◌≤◌, ◌+◌, ◌*◌, length, map, IfOk};
 ghost use Rattle.bit_streams.specs.Bits.{Answers, Gives, length_at, open_at, number_bits_at};
 ghost use Rattle.per_bits.specs.Formats.{open_type};
 ghost use Rattle.per_bits.specs.Reading.{read_at, whole_at, small_number_at, complete_at, GivesWhole, inside_at};
 ghost use Rattle.per_bits.specs.Spelling.{length_octets};
-ghost use Rattle.per_bits.specs.Writing.{write_at, write_length, write_string, complete_write};
+ghost use Rattle.per_bits.specs.Writing.{count_behind, write_at, write_length, write_string, complete_write};
 ghost use Rattle.per_numbers.specs.Writing.{Wrote};
 
 use crate::element::Element;
-use crate::strings::put_open;
 use bit_streams::{BitReader, BitWriter, PerError, PerFault};
 use per_numbers::offset_of;
 use std::alloc::Global;
@@ -73,7 +72,7 @@ pub fn put_length(length: usize, writer: &mut BitWriter) -> Result<(), PerError>
     }
     writer.align()?;
     if length < SHORT_END {
-        writer.put_octets(&[length as u8])
+        writer.put_octet(length as u8)
     } else {
         writer.put_octets(&[LONG_FIRST + (length / 256) as u8, (length % 256) as u8])
     }
@@ -111,7 +110,7 @@ pub fn read_open<'a, T: Element<'a>>(
     Ok(value)
 }
 
-/// Writes a value as an open type.
+/// Writes a value as an open type, where it stands: an octet is left for its length, which may become two (X.691 clause 11.2).
 pub fn write_open<'a, T: Element<'a>>(
     alloc: Global,
     value: &T,
@@ -119,8 +118,30 @@ pub fn write_open<'a, T: Element<'a>>(
 ) -> Result<(), PerError>
     ensures { Wrote result writer.new (write_at (open_type T.format) (T.view value.now) writer.old) }
 {
-    let octets = write_complete::<T>(alloc, value)?;
-    put_open(&octets, writer)
+    writer.align()?;
+    let place = writer.octets();
+    writer.put_octet(0)?;
+    value.write(alloc, writer)?;
+    writer.align()?;
+    count_behind(place, writer)
+}
+
+// The octet at a place becomes the length of those behind it, up to 16383, which is one octet or two; more is Range.
+#[tactic(auto, unfolding(crate::specs::Writing::count_behind))]
+fn count_behind(place: usize, writer: &mut BitWriter) -> Result<(), PerError>
+    requires { 8 * place + 8 ≤ length writer.old }
+    ensures { Wrote result writer.new (count_behind place writer.old) }
+{
+    let length = writer.octets() - place - 1;
+    if LONG_END <= length {
+        return Err(PerError::Fault(PerFault::Range));
+    }
+    if length < SHORT_END {
+        writer.set_octet(place, length as u8);
+        return Ok(());
+    }
+    writer.set_octet(place, LONG_FIRST + (length / 256) as u8);
+    writer.insert_octet(place + 1, (length % 256) as u8)
 }
 
 /// Reads a normally small number (X.691 clause 11.6) from 0 to 63; a first bit of 1 is Range.

@@ -9,8 +9,8 @@ use crate::chunk::Chunk;
 use crate::finding::home;
 use crate::keyed::Keyed;
 
-/// Keeps an empty chunk where more are wanted; else gives it back, and with it one of those that are too many. One is kept
-/// in any case where that takes no memory, so that a list that goes from none to one and back takes memory once.
+/// Keeps an empty chunk where more are wanted; else gives it back, and with it one of those that are too many. One more than
+/// is wanted is kept where that takes no memory, so that a list whose last chunk goes and comes takes memory for it once.
 fn keep<T: Keyed>(spares: &mut Vec<Chunk<T>>, chunk: Chunk<T>, enough: usize)
     requires chunk { IsEmpty chunk }
     requires empty { Every IsEmpty spares.old.items }
@@ -19,7 +19,7 @@ fn keep<T: Keyed>(spares: &mut Vec<Chunk<T>>, chunk: Chunk<T>, enough: usize)
     ensures kept { min enough (vec_len spares.old + 1) ≤ vec_len spares.new }
     ensures held { vec_capacity spares.old ≤ vec_capacity spares.new }
 {
-    let most = enough.max(1).min(spares.capacity());
+    let most = enough.saturating_add(1).min(spares.capacity());
     if spares.len() < most {
         let _ = spares.push(chunk);
     } else if most < spares.len() {

@@ -1,9 +1,16 @@
-use Rattle.std.proofs.Common.{◌∙◌, ◌++◌, ap, List, Bool}
+use Rattle.std.proofs.Common.{◌∙◌, ◌++◌, ap, List, Bool, arith}
 use Rattle.std.proofs.lemmas.Result.{on_ok_weaker}
-use Rattle.bit_streams.specs.BitLaws.{pad_now}
+use Rattle.bit_streams.specs.BitLaws.{no_pad, pad_here}
 use Rattle.bit_streams.proofs.writer.BitWriter.align.Goals as goal
+
+pub returns-then-used-eq0-clause-ok : goal.returns-then-used-eq0-clause-ok
+returns-then-used-eq0-clause-ok c =
+    let w = c.self.inside in
+    no_pad c.args.self.now w.octets.items w.used w.current c.self.view_is c.if-used-eq0.true
 
 pub returns-clause-ok : goal.returns-clause-ok
 returns-clause-ok c =
     let w = c.self.inside in
-    on_ok_weaker c.put_bits.result (λ h. h ∙ (ap (λ (l : List Bool). c.args.self.now ++ l) (pad_now c.args.self.now w.octets.items w.used w.current c.self.view_is c.self.invariant.0))) c.put_bits.ensures.ok
+    let f = c.if-used-eq0.false in
+    let padding_is = pad_here c.args.self.now w.octets.items w.used w.current c.self.view_is c.self.invariant.0 (omega (arith, f)) in
+    on_ok_weaker c.put_bits.result (λ h. h ∙ (ap (λ (l : List Bool). c.args.self.now ++ l) padding_is)) c.put_bits.ensures.ok
