@@ -27,9 +27,13 @@ row s Tick d = tick s d
 row s (Data stations) d = Some (data_waits s stations d)
 row s Cancel d = cancelled d.solo.phase d
 
--- the item's row, or where a downlink count is spent the end of the registration in its place
+-- the end of the registration, where a downlink count is spent
+abbrev pub spent : Solo → Draft
+spent solo = wipe (fall (Nas Unspecified) (untouched solo))
+
+-- the item's row, or that end in its place
 unfoldable pub solo_step : Setting → Solo → Item → Draft
-solo_step s solo item = unwrap_or (row s item (untouched solo)) (wipe (fall (Nas Unspecified) (untouched solo)))
+solo_step s solo item = unwrap_or (row s item (untouched solo)) (spent solo)
 
 -- the state after a list of items
 abbrev pub solo_after : Setting → Solo → List Item → Solo

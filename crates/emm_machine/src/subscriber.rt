@@ -3,7 +3,7 @@
 ghost use Rattle.std.specs.Prelude.{◌≡◌, IfOk, OnErr, OnOk, length};
 ghost use Rattle.emm_state.specs.Does.{Does};
 ghost use Rattle.mme_vocabulary.specs.Events.{item_of};
-ghost use Rattle.emm_machine.specs.Steps.{row, solo_step};
+ghost use Rattle.emm_machine.specs.Steps.{row, solo_step, spent};
 ghost use Rattle.emm_machine.specs.Ticks.{AreAbove, countdowns, ticks_after};
 ghost use Rattle.emm_machine.specs.Words.{ecm_of, emm_of, fresh_solo, pages_in, states_of};
 
@@ -140,15 +140,20 @@ fn drafted(
 {
     let mut draft = Draft::from_state(alloc, solo)?;
     match row(&mut draft, alloc, setting, event, world) {
-        Ok(()) => Ok(Box::new(alloc, draft)?),
+        Ok(()) => Ok(draft),
         Err(StepStop::NoMemory) => Err(AllocError),
-        Err(StepStop::Spent) => {
-            let mut draft = Draft::from_state(alloc, solo)?;
-            draft.fall(alloc, Cause::Nas(NasCause::Unspecified))?;
-            draft.wipe();
-            Ok(Box::new(alloc, draft)?)
-        }
+        Err(StepStop::Spent) => spent(alloc, solo),
     }
+}
+
+// Where a downlink count is spent the registration ends.
+fn spent(alloc: Global, solo: &Solo) -> Result<Box<Draft>, AllocError>
+    ensures { IfOk result (λ d. d.value ≡ spent solo.now) }
+{
+    let mut draft = Draft::from_state(alloc, solo)?;
+    draft.fall(alloc, Cause::Nas(NasCause::Unspecified))?;
+    draft.wipe();
+    Ok(draft)
 }
 
 /// A subscriber; a contract sees what never changes of it, and the state of its machine.

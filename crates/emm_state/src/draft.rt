@@ -18,16 +18,20 @@ pub struct Draft {
 }
 
 impl Draft {
-    /// A step from a state, of which nothing is done yet.
-    pub fn from_state(alloc: Global, solo: &Solo) -> Result<Draft, AllocError>
-        ensures { IfOk result (λ d. d ≡ untouched solo.now) }
+    /// A step from a state, of which nothing is done yet, in a box.
+    pub fn from_state(alloc: Global, solo: &Solo) -> Result<Box<Draft>, AllocError>
+        ensures { IfOk result (λ d. d.value ≡ untouched solo.now) }
     {
-        Ok(Draft {
-            solo: solo.copy(alloc)?,
-            sent: Answers::new(alloc),
-            accepted: None,
-            unwritten: false,
-        })
+        let repeat = solo.repeat_copy(alloc)?;
+        Ok(Box::new(
+            alloc,
+            Draft {
+                solo: solo.with_repeat(repeat),
+                sent: Answers::new(alloc),
+                accepted: None,
+                unwritten: false,
+            },
+        )?)
     }
 }
 

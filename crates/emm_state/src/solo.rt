@@ -34,7 +34,7 @@ pub enum Phase {
     Detaching,
 }
 
-/// A security context with the place of the vector that it was made of. The radio keys are zero until a message gave them.
+/// A security context with the place of the vector that it was made of. KeNB is zero until a message's count gave it.
 #[derive(Clone, Copy)]
 pub struct Context {
     pub place: usize,
@@ -255,15 +255,21 @@ pub struct Solo {
 }
 
 impl Solo {
-    /// The same state once more.
-    pub fn copy(&self, alloc: Global) -> Result<Solo, AllocError>
-        ensures { IfOk result (λ s. s ≡ self.now) }
+    /// What is sent when the countdown has expired, once more.
+    pub(crate) fn repeat_copy(&self, alloc: Global) -> Result<Option<Repeat>, AllocError>
+        ensures { IfOk result (λ r. r ≡ self.now.repeat) }
     {
-        let repeat = match &self.repeat {
-            Some(repeat) => Some(repeat.copy(alloc)?),
-            None => None,
-        };
-        Ok(Solo {
+        match &self.repeat {
+            Some(repeat) => Ok(Some(repeat.copy(alloc)?)),
+            None => Ok(None),
+        }
+    }
+
+    /// The same state with this to be sent again.
+    pub(crate) fn with_repeat(&self, repeat: Option<Repeat>) -> Solo
+        ensures { result ≡ record self.now { repeat = repeat } }
+    {
+        Solo {
             phase: self.phase,
             connection: self.connection,
             context: self.context,
@@ -277,6 +283,14 @@ impl Solo {
             repeat,
             procedure: self.procedure,
             reachable: self.reachable,
-        })
+        }
+    }
+
+    /// The same state once more.
+    pub fn copy(&self, alloc: Global) -> Result<Solo, AllocError>
+        ensures { IfOk result (λ s. s ≡ self.now) }
+    {
+        let repeat = self.repeat_copy(alloc)?;
+        Ok(self.with_repeat(repeat))
     }
 }
