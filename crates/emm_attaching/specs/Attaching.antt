@@ -7,7 +7,7 @@ use Rattle.s1ap_elements.specs.declared.cause.NasCause.TheVariants.{Authenticati
 use Rattle.s1ap_elements.specs.declared.phone.Tai.{Tai}
 use Rattle.nas_elements.specs.Capability.{has_eia2}
 use Rattle.nas_messages.specs.declared.protection.SecurityHeader.TheVariants.{IntegrityProtectedCiphered, NewContext, NewContextCiphered}
-use Rattle.eps_keys.specs.Hmac.{kenb, nas_integrity_key, next_hop}
+use Rattle.eps_keys.specs.Hmac.{kenb, nas_integrity_key}
 use Rattle.eps_keys.specs.Same.{same_octets}
 use Rattle.nas_security.specs.Accepting.{Acceptance, accepted}
 use Rattle.esm_machine.specs.declared.request.Requested.{Requested}
@@ -80,7 +80,7 @@ attach s combined capability esm tai d =
 -- ---- authentication (TS 24.301 clause 5.4.2)
 
 abbrev pub no_keys : RadioKeys
-no_keys = record { kenb = replicate 32 0; next_hop = replicate 32 0; chaining_count = 0 }
+no_keys = record { kenb = replicate 32 0; next_hop = None; chaining_count = 0 }
 
 -- the vector in use becomes a context
 unfoldable pub new_context : ℕ → Vector → Draft → Draft
@@ -196,9 +196,9 @@ took x count d = record d {
   solo = record d.solo { context = Some x };
 }
 
--- the radio keys of a count: KeNB, and the next hop of the first place in its chain (TS 33.401, A.3 and A.4)
+-- the radio keys of a count: KeNB, whose chain stands at its first hop, of which no station is told (TS 33.401 clause 7.2.8.1, A.3)
 abbrev pub keys_of : List ℕ → ℕ → RadioKeys
-keys_of kasme count = record { kenb = kenb kasme count; next_hop = next_hop kasme (kenb kasme count); chaining_count = 1 }
+keys_of kasme count = record { kenb = kenb kasme count; next_hop = None; chaining_count = 1 }
 
 -- and the radio keys follow from it
 unfoldable pub keyed : Context → ℕ → Draft → Draft

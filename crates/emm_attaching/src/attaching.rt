@@ -11,7 +11,7 @@ ghost use Rattle.mme_signalling.specs.Hearing.{heard, heard_lists};
 ghost use Rattle.emm_state.specs.Does.{Does};
 
 use emm_state::{Asked, Context, Draft, NasTimer, Phase, Protection, Repeat, Setting, StepStop};
-use eps_keys::{RadioKeyPair, first_radio_keys, nas_integrity_key, same_octets};
+use eps_keys::{kenb, nas_integrity_key, same_octets};
 use esm_machine::Requested;
 use identity_slots::{Tmsi, Vector};
 use mme_signalling::{
@@ -48,14 +48,13 @@ fn is_reject(nas: &[u8]) -> bool
     matches!(hear(nas), Heard::SecurityReject)
 }
 
-// The radio keys of a count (TS 33.401, A.3 and A.4).
+// The radio keys of a count (TS 33.401, A.3): no station was told a next hop yet.
 fn keys_of(kasme: &[u8; 32], count: u32) -> RadioKeys
     ensures { result ≡ keys_of kasme.now count }
 {
-    let RadioKeyPair { kenb, next_hop } = first_radio_keys(kasme, count);
     RadioKeys {
-        kenb,
-        next_hop,
+        kenb: kenb(kasme, count),
+        next_hop: None,
         chaining_count: 1,
     }
 }
@@ -169,7 +168,7 @@ fn new_context(draft: &mut Draft, place: usize, vector: &Vector)
         kasme: vector.kasme,
         radio: RadioKeys {
             kenb: [0; 32],
-            next_hop: [0; 32],
+            next_hop: None,
             chaining_count: 0,
         },
     });

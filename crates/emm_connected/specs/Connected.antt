@@ -1,5 +1,5 @@
 -- The rows of messages on an association (TS 36.413 clause 8), and of what ends one.
-use Rattle.std.specs.Prelude.{ℕ, ◌+◌, ◌%◌, ◌==◌, ◌&&◌, Bool, false, not, if◌then◌else◌, List, filter, Option, Some, None}
+use Rattle.std.specs.Prelude.{ℕ, ◌+◌, ◌%◌, ◌==◌, ◌&&◌, Bool, false, not, if◌then◌else◌, List, filter, Option, Some, None, unwrap_or}
 use Rattle.std.specs.Option.{option_map_or}
 use Rattle.s1ap_elements.specs.declared.cause.Cause.{Cause}
 use Rattle.s1ap_elements.specs.declared.cause.Cause.TheVariants as causes
@@ -43,9 +43,18 @@ not_switched cause m d = emit m.station (path_switch_failure m.mme_id m.enb_id c
 abbrev pub next_chaining_count : ℕ → ℕ
 next_chaining_count n = (n + 1) % 8
 
--- the next hop of the chain
+-- the next hop that stands: the one that a station was told last, else the first of the chain, which is of KeNB (TS 33.401, A.4)
+abbrev pub standing_hop : List ℕ → RadioKeys → List ℕ
+standing_hop kasme keys = unwrap_or keys.next_hop (next_hop kasme keys.kenb)
+
+-- the next hop behind it, which a path switch takes
+abbrev pub hop_behind : Context → List ℕ
+hop_behind x = next_hop x.kasme (standing_hop x.kasme x.radio)
+
+-- the radio keys with that hop
 abbrev pub hopped : Context → RadioKeys
-hopped x = record { kenb = x.radio.kenb; next_hop = next_hop x.kasme x.radio.next_hop; chaining_count = next_chaining_count x.radio.chaining_count }
+hopped x =
+    record { kenb = x.radio.kenb; next_hop = Some (hop_behind x); chaining_count = next_chaining_count x.radio.chaining_count }
 
 -- the connection that a path switch leads to
 abbrev pub connection_of : UeMessage (List ℕ) → Connection
@@ -54,9 +63,9 @@ connection_of m = record { id = m.mme_id; station = m.station; enb_id = m.enb_id
 -- the connection moves, and the station is told the next hop
 unfoldable pub switched : UeMessage (List ℕ) → Context → Draft → Draft
 switched m x d =
-    let keys : RadioKeys = hopped x in
-    emit m.station (path_switch_acknowledge (connection_of m) keys) None (record d {
-      solo = record d.solo { connection = Some (connection_of m); context = Some (record x { radio = keys }) };
+    let count = next_chaining_count x.radio.chaining_count in
+    emit m.station (path_switch_acknowledge (connection_of m) (hop_behind x) count) None (record d {
+      solo = record d.solo { connection = Some (connection_of m); context = Some (record x { radio = hopped x }) };
     })
 
 -- PATH SWITCH REQUEST: of a stranger's id none is taken

@@ -2,7 +2,7 @@
 
 ghost use Rattle.std.specs.Prelude.{◌≡◌, OnOk, Some, None};
 ghost use Rattle.mme_signalling.specs.Pdus.{cause_of_request, is_extended};
-ghost use Rattle.emm_connected.specs.Connected.{checked, connection_of, connections_gone, displaced, has_connection_id, has_pair, hopped, indicate, message_of, next_chaining_count, not_switched, on_connection, path_switch, station_gone, strike, struck, switched};
+ghost use Rattle.emm_connected.specs.Connected.{checked, connection_of, connections_gone, displaced, has_connection_id, has_pair, hop_behind, indicate, message_of, next_chaining_count, not_switched, on_connection, path_switch, standing_hop, station_gone, strike, struck, switched};
 ghost use Rattle.emm_state.specs.Does.{Does};
 ghost use Rattle.mme_vocabulary.specs.Events.{message_lists};
 
@@ -28,15 +28,22 @@ fn next_chaining_count(count: u8) -> u8
     (count % CHAINING_COUNTS + 1) % CHAINING_COUNTS
 }
 
-// The next hop of the chain (TS 33.401, A.4).
-fn hopped(context: &Context) -> RadioKeys
-    ensures { result ≡ hopped context.now }
+// The next hop that stands: the one that a station was told last, else the first of the chain (TS 33.401, A.4).
+fn standing_hop(kasme: &[u8; 32], radio: &RadioKeys) -> [u8; 32]
+    ensures { result ≡ standing_hop kasme.now radio.now }
 {
-    RadioKeys {
-        kenb: context.radio.kenb,
-        next_hop: next_hop(&context.kasme, &context.radio.next_hop),
-        chaining_count: next_chaining_count(context.radio.chaining_count),
+    match radio.next_hop {
+        Some(told) => told,
+        None => next_hop(kasme, &radio.kenb),
     }
+}
+
+// The next hop behind the one that stands.
+fn hop_behind(context: &Context) -> [u8; 32]
+    ensures { result ≡ hop_behind context.now }
+{
+    let standing = standing_hop(&context.kasme, &context.radio);
+    next_hop(&context.kasme, &standing)
 }
 
 // The connection that a path switch leads to.
@@ -106,9 +113,11 @@ fn switched(
 ) -> Result<(), AllocError>
     ensures { OnOk result (draft.new ≡ switched (message_lists message.now) context draft.old) }
 {
-    let radio = hopped(&context);
-    let answer = path_switch_acknowledge(connection_of(message), radio);
-    context.radio = radio;
+    let hop = hop_behind(&context);
+    let count = next_chaining_count(context.radio.chaining_count);
+    let answer = path_switch_acknowledge(connection_of(message), hop, count);
+    context.radio.next_hop = Some(hop);
+    context.radio.chaining_count = count;
     draft.solo.connection = Some(connection_of(message));
     draft.solo.context = Some(context);
     draft.emit(alloc, message.station, answer, None)

@@ -1,5 +1,5 @@
 -- Each row keeps a state sound, and what it sends is under its mark and without a radio key but for the proved; so does the step.
-use Rattle.std.proofs.Common.{◌≡◌, ℕ, suc, ◌-◌, Bool, true, false, not, List, [], ◌∷◌, Option, Some, None, IsSome, is_some, Result, Ok, Err, unwrap_or, slice_get, refl, sym, subst, ap, ◌∙◌, true≢false, ◌≤◌, ◌<◌, ◌^◌, le_refl}
+use Rattle.std.proofs.Common.{◌≡◌, ℕ, zero, suc, ◌+◌, ◌-◌, ◌%◌, arith, Bool, true, false, not, List, [], ◌∷◌, Option, Some, None, IsSome, is_some, Result, Ok, Err, unwrap_or, slice_get, refl, sym, subst, ap, ◌∙◌, true≢false, ◌≤◌, ◌<◌, ◌^◌, le_refl}
 use Rattle.std.specs.Option.{option_map_or}
 use Rattle.std.proofs.lemmas.List.Elements.{All-nil}
 use Rattle.std.proofs.lemmas.Option.{same_Some}
@@ -20,6 +20,7 @@ use Rattle.s1ap_elements.specs.declared.cause.Cause.{Cause}
 use Rattle.s1ap_elements.specs.declared.phone.Tai.{Tai}
 use Rattle.s1ap_messages.specs.declared.pdu.Pdu.{Pdu}
 use Rattle.mme_vocabulary.specs.declared.connection.Connection.{Connection}
+use Rattle.mme_vocabulary.specs.declared.connection.RadioKeys.{RadioKeys}
 use Rattle.mme_vocabulary.specs.declared.event.Entry.{Entry}
 use Rattle.mme_vocabulary.specs.declared.event.UeBody.{UeBody}
 use Rattle.mme_vocabulary.specs.declared.event.UeBody.TheVariants as bodies
@@ -53,7 +54,7 @@ use Rattle.emm_machine.specs.Connected as connected
 use Rattle.emm_machine.specs.Idle as idle
 use Rattle.emm_machine.specs.Serving as serving
 use Rattle.emm_machine.specs.Steps as steps
-use Rattle.emm_promises.specs.Sound.{HasChallenge, HasConnection, HasContext, IsCountedIdle, IsDerived, IsOfVector, IsPlainRepeat, IsSound, is_past_proof, moved_on}
+use Rattle.emm_promises.specs.Sound.{HasChallenge, HasConnection, HasContext, IsCountedIdle, IsDerived, IsOfVector, IsPlainRepeat, IsSound, is_past_proof, keys_after}
 use Rattle.emm_promises.proofs.Forms.{plain_attach_reject, plain_authentication_reject, plain_authentication_request, plain_detach_accept, plain_emm_status, plain_service_reject, plain_update_reject}
 use Rattle.emm_promises.proofs.Saying.{HasKey, IsBare, IsDone, IsKnown, IsLater, IsLinked, IsProven, IsReady, Proved, Whatever, Whenever, anyhow, at_some, bare_wipe, by, connected_of, context_recounted, done, done_if, done_set_up, done_start, either, either_by, idle_fall, idle_wipe, keyed_context, known_context, known_recounted, linked_connect, linked_connect_on, ready_emit, ready_protect, ready_seal, ready_send, ready_took, registered_past, rises_above, said_keyless, said_more, sealed_then, some, sound_fall, sound_forgotten, sound_lost, sound_protect, sound_recounted, sound_refuse, sound_start, sound_turn_away, spends_key, spends_whatever, then, true_of}
 
@@ -82,9 +83,19 @@ proven : (s : Setting) (solo : Solo) → is_past_proof solo.phase ≡ true → I
 proven s solo past linked h =
     record { context = keyed_context solo.phase s.vectors solo.context past h.context; connection = linked; reachable = h.reachable; repeat = h.repeat }
 
+-- one more path switch
+moved_once_more : (moves : ℕ) (x : Context) (count : ℕ) → connected.hopped (record x { radio = keys_after moves x.kasme count }) ≡ keys_after (suc moves) x.kasme count
+moved_once_more zero x count = refl
+moved_once_more (suc moves) x count =
+    let round : ((suc moves + 1) % 8 + 1) % 8 ≡ (suc (suc moves) + 1) % 8 = omega arith in
+    ap (λ (n : ℕ). record (keys_after (suc (suc moves)) x.kasme count) { chaining_count = n }) round
+
 -- a context that moves on stays derived
 moved_derived : (x : Context) → IsDerived x → IsDerived (record x { radio = connected.hopped x })
-moved_derived x derived = (derived.0, derived.1, suc derived.2, derived.3, derived.4, ap (moved_on x.kasme) derived.5)
+moved_derived x derived =
+    let count = derived.0 in
+    let moves = derived.2 in
+    (count, derived.1, suc moves, derived.3, derived.4, ap (λ (keys : RadioKeys). connected.hopped (record x { radio = keys })) derived.5 ∙ moved_once_more moves x count)
 
 later_context : (phase : Phase) (vectors : List Vector) (x : Context) (v : Vector) → is_past_proof phase ≡ true → IsOfVector vectors x v → IsDerived x
     → HasContext phase vectors (Some x)

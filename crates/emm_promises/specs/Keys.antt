@@ -30,7 +30,8 @@ IsForConnection k _ = Unit {0}
 -- KeNB of the context, or its next hop with its place in the chain
 abbrev pub HasKeyOf : Context → Pdu (List ℕ) → Type 0
 HasKeyOf x (pdu.ContextSetupRequest m) = m.key ≡ x.radio.kenb
-HasKeyOf x (pdu.PathSwitchAcknowledge m) = (m.context.next_hop ≡ x.radio.next_hop) × (m.context.chaining_count ≡ x.radio.chaining_count)
+HasKeyOf x (pdu.PathSwitchAcknowledge m) =
+    (x.radio.next_hop ≡ Some m.context.next_hop) × (m.context.chaining_count ≡ x.radio.chaining_count)
 HasKeyOf x _ = Unit {0}
 
 -- by the state after the step that sent it

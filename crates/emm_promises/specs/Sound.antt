@@ -2,7 +2,7 @@
 -- phase says whether there are a connection and a context.
 use Rattle.std.specs.Prelude.{◌≡◌, ℕ, zero, suc, ◌+◌, ◌≤◌, ◌/◌, ◌%◌, ◌==◌, ◌&&◌, Bool, true, false, List, [], ◌∷◌, slice_get, Option, Some, None, IsSome, is_some}
 use Rattle.nas_messages.specs.Protection.{header_of}
-use Rattle.eps_keys.specs.Hmac.{nas_integrity_key, next_hop}
+use Rattle.eps_keys.specs.Hmac.{kenb, nas_integrity_key, next_hop}
 use Rattle.identity_slots.specs.declared.profile.Vector.{Vector}
 use Rattle.mme_vocabulary.specs.Events.{Item}
 use Rattle.mme_vocabulary.specs.declared.connection.Connection.{Connection}
@@ -15,9 +15,7 @@ use Rattle.emm_state.specs.declared.solo.Protection.TheVariants.{Plain}
 use Rattle.emm_state.specs.declared.solo.Repeat.{Repeat}
 use Rattle.emm_state.specs.declared.solo.Repeat.TheVariants as repeats
 use Rattle.emm_state.specs.declared.solo.Solo.{Solo}
-use Rattle.emm_machine.specs.Attaching.{keys_of}
 use Rattle.emm_machine.specs.Steps.{solo_after}
-use Rattle.emm_machine.specs.Connected.{next_chaining_count}
 
 -- ---- the context
 
@@ -28,14 +26,21 @@ pub record IsOfVector (vectors : List Vector) (x : Context) (v : Vector) : Type 
   pub kasme : x.kasme ≡ v.kasme
   pub ksi : x.security.ksi ≡ x.place % 7
 
--- the radio keys after one path switch (TS 33.401 clause 7.2.8.4.2)
-abbrev pub moved_on : List ℕ → RadioKeys → RadioKeys
-moved_on kasme keys = record { kenb = keys.kenb; next_hop = next_hop kasme keys.next_hop; chaining_count = next_chaining_count keys.chaining_count }
+-- the hop of a number in the chain of KeNB, which stands before the first (TS 33.401, A.4)
+abbrev pub hop_at : ℕ → List ℕ → List ℕ → List ℕ
+hop_at zero kasme kenb = kenb
+hop_at (suc n) kasme kenb = next_hop kasme (hop_at n kasme kenb)
 
--- the radio keys of a count after so many path switches (TS 33.401 clauses A.3, A.4)
+-- the hop that a station was told last, after so many path switches: none is told the first (TS 33.401 clause 7.2.8.4.2)
+abbrev pub told_after : ℕ → List ℕ → List ℕ → Option (List ℕ)
+told_after zero kasme kenb = None
+told_after (suc moves) kasme kenb = Some (hop_at (suc (suc moves)) kasme kenb)
+
+-- the radio keys of a count after so many path switches: the chaining count is the number of the hop that stands, modulo 8
+-- (TS 33.401 clause 7.2.8.1, A.3)
 abbrev pub keys_after : ℕ → List ℕ → ℕ → RadioKeys
-keys_after zero kasme count = keys_of kasme count
-keys_after (suc moves) kasme count = moved_on kasme (keys_after moves kasme count)
+keys_after moves kasme count =
+    record { kenb = kenb kasme count; next_hop = told_after moves kasme (kenb kasme count); chaining_count = (moves + 1) % 8 }
 
 -- the radio keys come of the context's KASME and of a count up to the last that it accepted
 abbrev pub IsDerived : Context → Type 0

@@ -14,7 +14,6 @@ use Rattle.s1ap_elements.specs.declared.cause.NasCause.TheVariants.{NormalReleas
 use Rattle.s1ap_elements.specs.declared.phone.Tai.{Tai}
 use Rattle.s1ap_messages.specs.declared.pdu.Pdu.{Pdu}
 use Rattle.mme_vocabulary.specs.declared.connection.Connection.{Connection}
-use Rattle.mme_vocabulary.specs.declared.connection.RadioKeys.{RadioKeys}
 use Rattle.mme_vocabulary.specs.declared.network.Network.{Network}
 use Rattle.mme_vocabulary.specs.declared.octets.Mark.{Mark}
 use Rattle.mme_signalling.specs.Pdus.{context_setup, downlink, error_indication, is_extended, paging, path_switch_acknowledge, path_switch_failure, release_command}
@@ -30,7 +29,7 @@ use Rattle.emm_state.specs.Does.{◌>>=◌}
 use Rattle.emm_machine.specs.Attaching.{took}
 use Rattle.written_messages.specs.KeyLaws.{brief_mac}
 use Rattle.written_messages.specs.NasLaws.{brief_none, brief_protected, brief_within}
-use Rattle.written_messages.specs.Ranges.{ConnectionInRange, IsBrief, IsBriefIf, IsWritten, KeysInRange, NetworkInRange, ProfileInRange, TaiInRange}
+use Rattle.written_messages.specs.Ranges.{ConnectionInRange, IsBrief, IsBriefIf, IsWritten, NetworkInRange, ProfileInRange, TaiInRange}
 use Rattle.emm_written.specs.InRange.{ConnectionInRangeIf, ContextInRange, ContextInRangeIf, RepeatInRange, SettingInRange, SoloInRange}
 
 -- what written_messages' law says of each message
@@ -39,7 +38,7 @@ pub record AreWritten : Type 0 where
   pub release : (id enb_id : ℕ) (c : Cause) → id < 2 ^ 32 → enb_id < 2 ^ 24 → is_extended c ≡ false → IsWritten (release_command id enb_id c)
   pub indication : (id enb_id : ℕ) (c : Cause) → id < 2 ^ 32 → enb_id < 2 ^ 24 → is_extended c ≡ false → IsWritten (error_indication id enb_id c)
   pub not_switched : (id enb_id : ℕ) (c : Cause) → id < 2 ^ 32 → enb_id < 2 ^ 24 → is_extended c ≡ false → IsWritten (path_switch_failure id enb_id c)
-  pub switched : (k : Connection) (keys : RadioKeys) → ConnectionInRange k → KeysInRange keys → IsWritten (path_switch_acknowledge k keys)
+  pub switched : (k : Connection) (hop : List ℕ) (count : ℕ) → ConnectionInRange k → AreBytes 32 hop → count < 8 → IsWritten (path_switch_acknowledge k hop count)
   pub page : (n : Network) (imsi : List ℕ) (tmsi : ℕ) (tai : Tai) → NetworkInRange n → TaiInRange tai → IsWritten (paging n imsi tmsi tai)
   pub set_up : (n : Network) (p : Profile) (capability : List ℕ) (k : Connection) (kenb : List ℕ) (nas : Option (List ℕ)) → NetworkInRange n → ProfileInRange p → ConnectionInRange k
       → AreBytes 32 kenb → IsBriefIf 15000 nas → IsWritten (context_setup n p capability k kenb nas)

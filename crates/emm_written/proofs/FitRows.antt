@@ -8,7 +8,6 @@ use Rattle.esm_machine.specs.declared.request.Requested.TheVariants.{Unreadable,
 use Rattle.esm_machine.specs.declared.bearer.BearerState.TheVariants.{Active}
 use Rattle.esm_machine.specs.Reading.{is_accept}
 use Rattle.esm_machine.specs.Sessions.{Session, transaction_of}
-use Rattle.eps_keys.specs.Hmac.{kenb}
 use Rattle.identity_slots.specs.declared.profile.Vector.{Vector}
 use Rattle.identity_slots.specs.Ids.{is_of_slot}
 use Rattle.nas_security.specs.declared.fault.SecurityFault.{SecurityFault}
@@ -75,13 +74,16 @@ counted : (x : Context) (count : ℕ) → ContextInRange x → ContextInRange (c
 counted x count h = record { integrity = h.integrity; radio = h.radio }
 
 keys_in_range : (kasme : List ℕ) (count : ℕ) → KeysInRange (keys_of kasme count)
-keys_in_range kasme count = record { kenb = kenb_bytes kasme count; next_hop = next_hop_bytes kasme (kenb kasme count); chaining_count = omega arith }
+keys_in_range kasme count = record { kenb = kenb_bytes kasme count; next_hop = tt; chaining_count = omega arith }
 
 no_keys_in_range : KeysInRange no_keys
-no_keys_in_range = record { kenb = refl; next_hop = refl; chaining_count = omega arith }
+no_keys_in_range = record { kenb = refl; next_hop = tt; chaining_count = omega arith }
+
+pub hop_bytes : (x : Context) → AreBytes 32 (connected.hop_behind x)
+hop_bytes x = next_hop_bytes x.kasme (connected.standing_hop x.kasme x.radio)
 
 hopped_in_range : (x : Context) → ContextInRange x → KeysInRange (connected.hopped x)
-hopped_in_range x h = record { kenb = h.radio.kenb; next_hop = next_hop_bytes x.kasme x.radio.next_hop; chaining_count = omega arith }
+hopped_in_range x h = record { kenb = h.radio.kenb; next_hop = hop_bytes x; chaining_count = omega arith }
 
 -- a bearer that is accepted keeps its request
 either_low : (b : Bool) (x y : Session) → transaction_of x.request < 256 → transaction_of y.request < 256 → transaction_of (cond b x y).request < 256
@@ -369,7 +371,7 @@ module _ (written : AreWritten) (spelled : DecodedIsSpelled) (esm_spelled : Deco
   fit_switched {d} m x known message h =
       let moved : ContextInRange (record x { radio = connected.hopped x }) = record { integrity = known.integrity; radio = hopped_in_range x known } in
       let ids : ConnectionInRange (connected.connection_of m) = record { id = message.mme_id; enb_id = message.enb_id } in
-      fit_emit m.station _ None (written.switched (connected.connection_of m) (connected.hopped x) ids (hopped_in_range x known))
+      fit_emit m.station _ None (written.switched (connected.connection_of m) (connected.hop_behind x) (connected.next_chaining_count x.radio.chaining_count) ids (hop_bytes x) (omega arith))
       (record { solo = with_context (record d.solo { connection = Some (connected.connection_of m) }) _ moved (connected_in d.solo (Some (connected.connection_of m)) ids h.solo); sent = h.sent })
 
   fit_not_switched : {d : Draft} (cause : Cause) (m : UeMessage (List ℕ)) → is_extended cause ≡ false → MessageInRange m → IsFit d → IsFit (connected.not_switched cause m d)

@@ -21,16 +21,16 @@ use Rattle.emm_state.specs.declared.draft.Sealed.{Sealed}
 use Rattle.emm_state.specs.declared.solo.Context.{Context}
 use Rattle.emm_state.specs.Actions.{association_counted, disconnected, emit, is_at, leave_old, mac_of, next_id, protect, refuse, release, seal, sealed_under, send, set_up, turn_away}
 use Rattle.emm_state.specs.Does.{◌>>=◌}
-use Rattle.emm_machine.specs.Connected.{connection_of, hopped, indicate, not_switched, switched}
+use Rattle.emm_machine.specs.Connected.{connection_of, hop_behind, hopped, indicate, next_chaining_count, not_switched, switched}
 use Rattle.emm_machine.specs.Idle.{emit_each, page}
 use Rattle.emm_machine.specs.Steps.{solo_after, solo_step}
-use Rattle.written_messages.specs.KeyLaws.{brief_mac, next_hop_bytes}
+use Rattle.written_messages.specs.KeyLaws.{brief_mac}
 use Rattle.written_messages.specs.NasLaws.{brief_authentication_request, brief_none, brief_protected, brief_within}
-use Rattle.written_messages.specs.Ranges.{ConnectionInRange, IsBrief, IsBriefIf, IsWritten, KeysInRange}
+use Rattle.written_messages.specs.Ranges.{ConnectionInRange, IsBrief, IsBriefIf, IsWritten}
 use Rattle.emm_written.specs.InRange.{ContextInRange, EachInRange, SoloInRange}
 use Rattle.emm_written.specs.Whole.{IndicateIsWhole, LeaveIsWhole, NotSwitchedIsWhole, PageIsWhole, ProtectIsWhole, RefuseIsWhole, ReleaseIsWhole, SendIsWhole, SendsWhole, SetUpIsWhole, SwitchedIsWhole, TheProvedWereChallenged, TurnAwayIsWhole}
 use Rattle.emm_written.proofs.FitActions.{AreWritten, connection_at, id_in_range, known_in}
-use Rattle.emm_written.proofs.FitRows.{fit_step, stays_in_range}
+use Rattle.emm_written.proofs.FitRows.{fit_step, hop_bytes, stays_in_range}
 use Rattle.emm_written.proofs.Heard.{DecodedEsmIsSpelled, DecodedIsSpelled}
 
 -- ---- at a connection that is there
@@ -112,9 +112,9 @@ module _ (written : AreWritten) where
   pub switched_whole : SwitchedIsWhole
   unfolding switched
   switched_whole d m x fits known =
-      let keys : KeysInRange (hopped x) = record { kenb = known.radio.kenb; next_hop = next_hop_bytes x.kasme x.radio.next_hop; chaining_count = omega arith } in
-      emit_whole (record d { solo = record d.solo { connection = Some (connection_of m); context = Some (record x { radio = hopped x }) } }) m.station (path_switch_acknowledge (connection_of m) (hopped x)) None
-      (written.switched (connection_of m) (hopped x) (record { id = fits.mme_id; enb_id = fits.enb_id }) keys)
+      let count = next_chaining_count x.radio.chaining_count in
+      emit_whole (record d { solo = record d.solo { connection = Some (connection_of m); context = Some (record x { radio = hopped x }) } }) m.station (path_switch_acknowledge (connection_of m) (hop_behind x) count) None
+      (written.switched (connection_of m) (hop_behind x) count (record { id = fits.mme_id; enb_id = fits.enb_id }) (hop_bytes x) (omega arith))
 
   -- to each station in turn
   each_whole : (message : Pdu (List ℕ)) (octets : List ℕ) → encoded message ≡ Some octets → (stations : List ℕ) (d : Draft)

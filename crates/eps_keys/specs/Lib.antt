@@ -7,4 +7,3 @@ pub mod Eia2
 pub mod Expanded
 pub mod Hmac
 pub mod Same
-pub mod Keyed

@@ -216,9 +216,9 @@ impl Block {
     }
 }
 
-/// The first rounds, and below the others: each half is small enough to be inlined (FIPS 197 clause 5.1).
+// The first rounds, and below the others.
 #[inline(always)]
-pub fn first_half(keys: &RoundKeys, block: Block) -> Block
+fn first_half(keys: &RoundKeys, block: Block) -> Block
     ensures { rounds (drop 6 keys.now) result ≡ cipher keys.now block }
 {
     block
@@ -230,9 +230,9 @@ pub fn first_half(keys: &RoundKeys, block: Block) -> Block
         .round_at(keys, 5)
 }
 
-/// The other rounds, on what the first gave.
+// The other rounds, on what the first gave.
 #[inline(always)]
-pub fn second_half(keys: &RoundKeys, state: Block) -> Block
+fn second_half(keys: &RoundKeys, state: Block) -> Block
     ensures { result ≡ rounds (drop 6 keys.now) state }
 {
     state

@@ -16,7 +16,7 @@ mod tables;
 mod words;
 
 pub use aes::aes_encrypt;
-pub use derive::{RadioKeyPair, first_radio_keys, hmac_sha256, kenb, nas_integrity_key, next_hop};
+pub use derive::{hmac_sha256, kenb, nas_integrity_key, next_hop};
 pub use direction::DirectionBit;
 pub use equal::same_octets;
 pub use laws::same_is_equal;

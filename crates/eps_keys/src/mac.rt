@@ -4,7 +4,7 @@ ghost use Rattle.std.specs.Prelude.{◌≡◌, ◌*◌, ◌<◌, ◌≤◌, ◌+
 ghost use Rattle.eps_keys.specs.Cmac.{cmac, cmac_from, masked_last, padded_block};
 ghost use Rattle.eps_keys.specs.Eia2.{eia2, eia2_prefix};
 
-use crate::aes::{Block, RoundKeys, cipher, first_half, key_expansion, second_half};
+use crate::aes::{Block, RoundKeys, cipher, key_expansion};
 use crate::direction::DirectionBit;
 use crate::words::word_at;
 use std::marker::Model;
@@ -82,13 +82,10 @@ impl MacKey {
         let before = message.len().saturating_sub(1) / 16;
         let mut x = start;
         for n in 0..before {
-            x = second_half(
-                &self.keys,
-                first_half(&self.keys, x.xor(Block::at(message, 16 * n))),
-            );
+            x = cipher(&self.keys, x.xor(Block::at(message, 16 * n)));
         }
         let last = self.masked_last(&message[16 * before..]);
-        second_half(&self.keys, first_half(&self.keys, x.xor(last)))
+        cipher(&self.keys, x.xor(last))
     }
 
     /// The CMAC of a message of any length: all its 16 octets (RFC 4493, 2.4).

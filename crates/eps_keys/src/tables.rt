@@ -164,3 +164,6 @@ pub const MIX_3: [u32; 256] = [
     0x8c8c8f03, 0xa1a1f859, 0x89898009, 0x0d0d171a, 0xbfbfda65, 0xe6e631d7, 0x4242c684, 0x6868b8d0,
     0x4141c382, 0x9999b029, 0x2d2d775a, 0x0f0f111e, 0xb0b0cb7b, 0x5454fca8, 0xbbbbd66d, 0x16163a2c,
 ];
+
+/// What the substituted octet of each row gives, by the row: the four tables side by side, so that one address serves for all.
+pub const MIX: [[u32; 256]; 4] = [MIX_0, MIX_1, MIX_2, MIX_3];

@@ -6,7 +6,7 @@ ghost use Rattle.eps_keys.specs.Cmac.{octet_moved_left};
 ghost use Rattle.eps_keys.specs.Field.{substitute};
 ghost use Rattle.eps_keys.specs.Words.{octet, octets};
 
-use crate::tables::{MIX_0, MIX_1, MIX_2, MIX_3, SUBSTITUTION};
+use crate::tables::{MIX, SUBSTITUTION};
 
 #[inline(always)]
 fn substitute(x: usize) -> u8
@@ -29,28 +29,28 @@ pub fn xor_words(left: u32, right: u32) -> u32
 fn row_0(word: u32) -> u32
     ensures { octets result ≡ row_0 (substitute (octet 0 word)) }
 {
-    MIX_0[(word >> 24) as usize % 256]
+    MIX[0][(word >> 24) as usize % 256]
 }
 
 #[inline(always)]
 fn row_1(word: u32) -> u32
     ensures { octets result ≡ row_1 (substitute (octet 1 word)) }
 {
-    MIX_1[(word >> 16) as usize % 256]
+    MIX[1][(word >> 16) as usize % 256]
 }
 
 #[inline(always)]
 fn row_2(word: u32) -> u32
     ensures { octets result ≡ row_2 (substitute (octet 2 word)) }
 {
-    MIX_2[(word >> 8) as usize % 256]
+    MIX[2][(word >> 8) as usize % 256]
 }
 
 #[inline(always)]
 fn row_3(word: u32) -> u32
     ensures { octets result ≡ row_3 (substitute (octet 3 word)) }
 {
-    MIX_3[word as usize % 256]
+    MIX[3][word as usize % 256]
 }
 
 /// The mixed column of one octet of each of four words, substituted first (FIPS 197 clauses 5.1.1, 5.1.3).

@@ -20,7 +20,6 @@ use Rattle.nas_elements.specs.Digits.{imsi_text}
 use Rattle.identity_slots.specs.declared.profile.Profile.{Profile}
 use Rattle.mme_vocabulary.specs.declared.network.Network.{Network}
 use Rattle.mme_vocabulary.specs.declared.connection.Connection.{Connection}
-use Rattle.mme_vocabulary.specs.declared.connection.RadioKeys.{RadioKeys}
 
 unfoldable pub downlink : Connection → List ℕ → Pdu (List ℕ)
 downlink k nas = pdu.DownlinkNasTransport (record { mme_id = k.id; enb_id = k.enb_id; nas = nas })
@@ -46,9 +45,10 @@ error_indication id enb_id cause = pdu.ErrorIndication (record { mme_id = Some i
 unfoldable pub path_switch_failure : ℕ → ℕ → Cause → Pdu (List ℕ)
 path_switch_failure id enb_id cause = pdu.PathSwitchFailure (record { mme_id = id; enb_id = enb_id; cause = cause })
 
-unfoldable pub path_switch_acknowledge : Connection → RadioKeys → Pdu (List ℕ)
-path_switch_acknowledge k keys =
-    pdu.PathSwitchAcknowledge (record { mme_id = k.id; enb_id = k.enb_id; context = record { chaining_count = keys.chaining_count; next_hop = keys.next_hop } })
+-- with the next hop and its chaining count
+unfoldable pub path_switch_acknowledge : Connection → List ℕ → ℕ → Pdu (List ℕ)
+path_switch_acknowledge k hop count =
+    pdu.PathSwitchAcknowledge (record { mme_id = k.id; enb_id = k.enb_id; context = record { chaining_count = count; next_hop = hop } })
 
 -- QCI 9 at priority 15, which takes from nobody and from which nothing is taken
 abbrev pub qos : Qos

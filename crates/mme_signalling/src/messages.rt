@@ -150,8 +150,7 @@ pub fn attach_accept(
     requires { length esm.now < 2 ^ 16 }
     ensures { IfOk result (λ o. o.items ≡ attach_accept network.now grant esm.now) }
 {
-    let mut guti_octets = Vec::new(alloc);
-    guti(network, grant.tmsi).write(&mut guti_octets)?;
+    let guti_octets = guti(network, grant.tmsi).octets();
     let areas = tai_list(grant.tai);
     let guti = guti_octets.as_slice();
     let not_available = [EmmCause::CsDomainNotAvailable.code()];
@@ -192,10 +191,8 @@ fn accept_octets<'a>(
 pub fn update_accept(alloc: Global, network: &Network, grant: Grant) -> Result<Vec<u8>, AllocError>
     ensures { IfOk result (λ o. o.items ≡ update_accept network.now grant) }
 {
-    let mut guti_octets = Vec::new(alloc);
-    guti(network, grant.tmsi).write(&mut guti_octets)?;
-    let mut areas = Vec::new(alloc);
-    tai_list(grant.tai).write(&mut areas)?;
+    let guti_octets = guti(network, grant.tmsi).octets();
+    let areas = tai_list(grant.tai).octets();
     let (guti, areas) = (guti_octets.as_slice(), areas.as_slice());
     let timer = PERIODIC_UPDATE.as_slice();
     let not_available = [EmmCause::CsDomainNotAvailable.code()];

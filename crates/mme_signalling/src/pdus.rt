@@ -5,7 +5,7 @@ ghost use Rattle.s1ap_messages.specs.Pdus.{lists};
 ghost use Rattle.mme_signalling.specs.Pdus.{algorithm_bits, cause_of_request, context_setup, downlink, error_indication, index_bits, is_extended, number_from, paging, path_switch_acknowledge, path_switch_failure, qos, release_command, ue_index};
 
 use identity_slots::{AssociationId, Profile, Tmsi};
-use mme_vocabulary::{Connection, Network, RadioKeys};
+use mme_vocabulary::{Connection, Network};
 use nas_elements::{Imsi, UeCapability};
 use per_bits::{BitField, Items, Listed, Octets, Whole};
 use s1ap_elements::{
@@ -111,18 +111,22 @@ pub fn path_switch_failure<'a>(mme_id: AssociationId, enb_id: EnbUeId, cause: Ca
     })
 }
 
-/// PATH SWITCH REQUEST ACKNOWLEDGE with the next hop (TS 36.413 clause 8.4.4.2).
+/// PATH SWITCH REQUEST ACKNOWLEDGE with the next hop of 32 octets and its chaining count, 0 to 7 (TS 36.413 clause 8.4.4.2).
 #[tactic(auto, unfolding(crate::specs::Pdus::path_switch_acknowledge))]
-pub fn path_switch_acknowledge<'a>(connection: Connection, radio: RadioKeys) -> S1apPdu<'a>
-    requires { radio.chaining_count < 8 }
-    ensures { lists result ≡ path_switch_acknowledge connection radio }
+pub fn path_switch_acknowledge<'a>(
+    connection: Connection,
+    next_hop: [u8; 32],
+    chaining_count: u8,
+) -> S1apPdu<'a>
+    requires { chaining_count < 8 }
+    ensures { lists result ≡ path_switch_acknowledge connection next_hop chaining_count }
 {
     Pdu::PathSwitchAcknowledge(PathSwitchAcknowledge {
         mme_id: mme_ue_id(connection.id),
         enb_id: connection.enb_id,
         context: SecurityContext {
-            chaining_count: whole::<0, 7>(u64::from(radio.chaining_count)),
-            next_hop: Octets::new(radio.next_hop),
+            chaining_count: whole::<0, 7>(u64::from(chaining_count)),
+            next_hop: Octets::new(next_hop),
         },
     })
 }

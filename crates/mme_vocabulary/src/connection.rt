@@ -15,7 +15,9 @@ pub struct Connection {
 #[derive(Clone, Copy)]
 pub struct RadioKeys {
     pub kenb: [u8; 32],
-    pub next_hop: [u8; 32],
+    /// The next hop that a station was told last; none before the first path switch, when that of KeNB stands, the first of the
+    /// chain, which no station is told (clause A.4).
+    pub next_hop: Option<[u8; 32]>,
     /// The next hop chaining count, 0 to 7.
     pub chaining_count: u8,
 }

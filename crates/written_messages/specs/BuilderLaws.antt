@@ -19,12 +19,11 @@ use Rattle.s1ap_elements.specs.declared.cause.MiscCause.TheVariants as misc
 use Rattle.s1ap_elements.specs.declared.phone.Tai.{Tai}
 use Rattle.identity_slots.specs.declared.profile.Profile.{Profile}
 use Rattle.mme_vocabulary.specs.declared.connection.Connection.{Connection}
-use Rattle.mme_vocabulary.specs.declared.connection.RadioKeys.{RadioKeys}
 use Rattle.mme_vocabulary.specs.declared.network.Network.{Network}
 use Rattle.mme_signalling.specs.Pdus.{context_setup, downlink, error_indication, is_extended, paging, path_switch_acknowledge, path_switch_failure, release_command}
 use Rattle.written_sizes.specs.SizeLaws.{number_allowed}
 use Rattle.written_sizes.specs.Sizes.{IsShortMessage, in_range, most_octets, most_of_optional}
-use Rattle.written_messages.specs.Ranges.{ConnectionInRange, IsBrief, IsBriefIf, KeysInRange, NetworkInRange, ProfileInRange, TaiInRange}
+use Rattle.written_messages.specs.Ranges.{ConnectionInRange, IsBrief, IsBriefIf, NetworkInRange, ProfileInRange, TaiInRange}
 
 -- ---- parts
 
@@ -89,13 +88,12 @@ short_error_indication id enb_id c low less known =
     let size : most_octets cause (typed_cause c) ≡ 22 = cause_size c in
     record { ranges = mme_then id _ low (enb_then enb_id _ less (then_done _ (cause_in_range c known))); size = omega (arith, size) }
 
-pub short_path_switch_acknowledge : (k : Connection) (keys : RadioKeys) → ConnectionInRange k → KeysInRange keys → IsShortMessage (path_switch_acknowledge k keys)
+pub short_path_switch_acknowledge : (k : Connection) (hop : List ℕ) (count : ℕ) → ConnectionInRange k → AreBytes 32 hop → count < 8 → IsShortMessage (path_switch_acknowledge k hop count)
 unfolding path_switch_acknowledge
-short_path_switch_acknowledge k keys ids fits =
-    let count = fits.chaining_count in
-    let long : length keys.next_hop ≡ 32 = bytes_long 32 keys.next_hop fits.next_hop in
+short_path_switch_acknowledge k hop count ids key low =
+    let long : length hop ≡ 32 = bytes_long 32 hop key in
     record {
-      ranges = mme_then k.id _ ids.id (enb_then k.enb_id _ ids.enb_id (then_done _ (number_then 7 keys.chaining_count _ (omega (arith, count)) (omega arith) (then_done _ fits.next_hop))));
+      ranges = mme_then k.id _ ids.id (enb_then k.enb_id _ ids.enb_id (then_done _ (number_then 7 count _ (omega (arith, low)) (omega arith) (then_done _ key))));
       size = omega (arith, long);
     }
 

@@ -20,6 +20,11 @@ pub record IsBrief (most : ℕ) (os : List ℕ) : Type 0 where
   pub few : length os ≤ most
   pub octets : all_below 256 os ≡ true
 
+-- so many octets, where there are some
+abbrev pub AreBytesIf : ℕ → Option (List ℕ) → Type 0
+AreBytesIf n None = Unit {0}
+AreBytesIf n (Some os) = AreBytes n os
+
 abbrev pub IsBriefIf : ℕ → Option (List ℕ) → Type 0
 IsBriefIf most None = Unit {0}
 IsBriefIf most (Some os) = IsBrief most os
@@ -32,7 +37,7 @@ pub record ConnectionInRange (k : Connection) : Type 0 where
 -- keys of 256 bits, and the next hop chaining count (TS 36.413 clauses 9.2.1.41, 9.2.1.26)
 pub record KeysInRange (keys : RadioKeys) : Type 0 where
   pub kenb : AreBytes 32 keys.kenb
-  pub next_hop : AreBytes 32 keys.next_hop
+  pub next_hop : AreBytesIf 32 keys.next_hop
   pub chaining_count : keys.chaining_count < 8
 
 -- (TS 36.413 clauses 9.2.3.8, 9.2.3.7)

@@ -15,13 +15,12 @@ ghost use Rattle.esm_machine.specs.Sessions.{Session, transaction_of};
 ghost use Rattle.identity_slots.specs.declared.profile.Profile.{Profile};
 ghost use Rattle.identity_slots.specs.declared.profile.Vector.{Vector};
 ghost use Rattle.mme_vocabulary.specs.declared.connection.Connection.{Connection};
-ghost use Rattle.mme_vocabulary.specs.declared.connection.RadioKeys.{RadioKeys};
 ghost use Rattle.mme_vocabulary.specs.declared.network.Network.{Network};
 ghost use Rattle.mme_signalling.specs.declared.cause.EmmCause.{EmmCause};
 ghost use Rattle.mme_signalling.specs.declared.messages.Grant.{Grant};
 ghost use Rattle.mme_signalling.specs.Messages.{attach_accept, attach_reject, authentication_reject, authentication_request, detach_accept, emm_status, network_detach, security_mode_command, service_reject, update_accept, update_reject};
 ghost use Rattle.mme_signalling.specs.Pdus.{context_setup, downlink, error_indication, is_extended, paging, path_switch_acknowledge, path_switch_failure, release_command};
-ghost use Rattle.written_messages.specs.Ranges.{ConnectionInRange, IsBrief, IsBriefIf, IsWritten, KeysInRange, NetworkInRange, ProfileInRange, TaiInRange, VectorInRange};
+ghost use Rattle.written_messages.specs.Ranges.{ConnectionInRange, IsBrief, IsBriefIf, IsWritten, NetworkInRange, ProfileInRange, TaiInRange, VectorInRange};
 
 use written_sizes::short_messages_are_written;
 
@@ -35,8 +34,8 @@ pub fn phone_messages_are_written()
         → IsWritten (error_indication id enb_id c) }
     ensures not_switched { (id enb_id : ℕ) (c : Cause) → id < 2 ^ 32 → enb_id < 2 ^ 24 → is_extended c ≡ false
         → IsWritten (path_switch_failure id enb_id c) }
-    ensures switched { (k : Connection) (keys : RadioKeys) → ConnectionInRange k → KeysInRange keys
-        → IsWritten (path_switch_acknowledge k keys) }
+    ensures switched { (k : Connection) (hop : List ℕ) (count : ℕ) → ConnectionInRange k → AreBytes 32 hop → count < 8
+        → IsWritten (path_switch_acknowledge k hop count) }
     ensures page { (n : Network) (imsi : List ℕ) (tmsi : ℕ) (tai : Tai) → NetworkInRange n → TaiInRange tai
         → IsWritten (paging n imsi tmsi tai) }
     ensures set_up { (n : Network) (p : Profile) (capability : List ℕ) (k : Connection) (kenb : List ℕ) (nas : Option (List ℕ))

@@ -14,7 +14,7 @@ pub returns-clause-not_switched : goal.returns-clause-not_switched
 returns-clause-not_switched c id enb_id cause low less known = c.short_messages_are_written.ensures.written _ (short_path_switch_failure id enb_id cause low less known)
 
 pub returns-clause-switched : goal.returns-clause-switched
-returns-clause-switched c k keys ids fits = c.short_messages_are_written.ensures.written _ (short_path_switch_acknowledge k keys ids fits)
+returns-clause-switched c k hop count ids key low = c.short_messages_are_written.ensures.written _ (short_path_switch_acknowledge k hop count ids key low)
 
 pub returns-clause-page : goal.returns-clause-page
 returns-clause-page c n imsi tmsi tai network area = c.short_messages_are_written.ensures.written _ (short_paging n imsi tmsi tai network area)

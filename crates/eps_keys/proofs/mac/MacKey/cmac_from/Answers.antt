@@ -10,7 +10,7 @@ loop-n-init c = chain_first c.args.self.now c.args.start c.args.message.now
 pub loop-n-preserved : goal.loop-n-preserved
 loop-n-preserved c =
     let key = c.args.self.now in
-    c.second_half-x.ensures ∙ c.first_half.ensures ∙ aes_by key _ c.xor.result c.self.inside.keys c.self.invariant.keys c.self.view_is
+    c.cipher-x.ensures ∙ aes_by key _ c.xor.result c.self.inside.keys c.self.invariant.keys c.self.view_is
     ∙ ap (aes key) (c.xor.ensures ∙ ap (λ (x : List ℕ). xor_blocks x c.at.result) c.loop-n.invariant
     ∙ ap (xor_blocks (chain key c.args.start c.args.message.now c.loop-n.n)) c.at.ensures)
     ∙ chain_next key c.args.start c.args.message.now c.loop-n.n
@@ -21,7 +21,7 @@ returns c =
     let m = c.args.message.now in
     let end : c.loop-n.n ≡ blocks_before m = omega (arith, c.saturating_sub-before.ensures, c.loop-n-test.false, c.loop-n.auto.n-end) in
     let before : c.saturating_sub-before.result / 16 ≡ blocks_before m = ap (λ (n : ℕ). n / 16) c.saturating_sub-before.ensures in
-    c.second_half.ensures ∙ c.first_half-2.ensures ∙ aes_by key _ c.xor-2.result c.self.inside.keys c.self.invariant.keys c.self.view_is
+    c.cipher.ensures ∙ aes_by key _ c.xor-2.result c.self.inside.keys c.self.invariant.keys c.self.view_is
     ∙ ap (aes key) c.xor-2.ensures
     ∙ cmac_from_by key c.args.start m c.loop-n.x c.masked_last-last.result
     (c.loop-n.invariant ∙ ap (chain key c.args.start m) end)
