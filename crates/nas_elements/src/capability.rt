@@ -1,6 +1,6 @@
 //! The UE security capability (TS 24.301 clause 9.9.3.34).
 
-ghost use Rattle.std.specs.Prelude.{◌≡◌, ◌++◌, slice_index, OnOk, ok_or};
+ghost use Rattle.std.specs.Prelude.{◌≡◌, ◌++◌, slice_index, OnErr, OnOk, ok_or};
 ghost use Rattle.nas_elements.specs.Capability.{capability_of, has_eia2, replayed};
 
 use crate::fault::NasFault;
@@ -112,9 +112,10 @@ impl UeCapability {
         }
     }
 
-    /// Appends its octets.
+    /// Appends its octets; refused, `out` is as before.
     pub fn write(&self, out: &mut Vec<u8>) -> Result<(), AllocError>
-        ensures { OnOk result (out.new.items ≡ out.old.items ++ self.now) }
+        ensures ok { OnOk result (out.new.items ≡ out.old.items ++ self.now) }
+        ensures err { OnErr result (out.new.items ≡ out.old.items) }
     {
         out.extend_from_slice(self.as_slice())
     }

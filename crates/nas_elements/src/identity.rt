@@ -1,6 +1,6 @@
 //! Who a phone is, and where it is.
 
-ghost use Rattle.std.specs.Prelude.{◌≡◌, ◌++◌, OnOk, ok_or};
+ghost use Rattle.std.specs.Prelude.{◌≡◌, ◌++◌, OnErr, OnOk, ok_or};
 ghost use Rattle.nas_elements.specs.Identities.{guti_octets, guti_of, identity_octets, identity_of, plmn_from_s1ap, plmn_of, tai_list_octets, tai_list_of};
 
 use crate::fault::NasFault;
@@ -73,9 +73,10 @@ impl Plmn {
         })
     }
 
-    /// Appends its three octets.
+    /// Appends its three octets; refused, `out` is as before.
     pub fn write(&self, out: &mut Vec<u8>) -> Result<(), AllocError>
-        ensures { OnOk result (out.new.items ≡ out.old.items ++ self.now.octets) }
+        ensures ok { OnOk result (out.new.items ≡ out.old.items ++ self.now.octets) }
+        ensures err { OnErr result (out.new.items ≡ out.old.items) }
     {
         out.extend_from_slice(&self.octets)
     }
@@ -107,14 +108,22 @@ impl TaiList {
         })
     }
 
-    /// Appends its six octets.
+    /// Its six octets.
     #[tactic(auto, unfolding(crate::specs::Identities::tai_list_octets))]
-    pub fn write(&self, out: &mut Vec<u8>) -> Result<(), AllocError>
-        ensures { OnOk result (out.new.items ≡ out.old.items ++ tai_list_octets self.now) }
+    pub fn octets(&self) -> [u8; 6]
+        ensures { result ≡ tai_list_octets self.now }
     {
-        out.push(0)?;
-        self.plmn.write(out)?;
-        out.extend_from_slice(&self.tac)
+        let [a, b, c] = self.plmn.octets;
+        let [d, e] = self.tac;
+        [0, a, b, c, d, e]
+    }
+
+    /// Appends its six octets; refused, `out` is as before.
+    pub fn write(&self, out: &mut Vec<u8>) -> Result<(), AllocError>
+        ensures ok { OnOk result (out.new.items ≡ out.old.items ++ tai_list_octets self.now) }
+        ensures err { OnErr result (out.new.items ≡ out.old.items) }
+    {
+        out.extend_from_slice(&self.octets())
     }
 }
 
@@ -146,16 +155,23 @@ impl Guti {
         })
     }
 
-    /// Appends its eleven octets.
+    /// Its eleven octets.
     #[tactic(auto, unfolding(crate::specs::Identities::guti_octets))]
-    pub fn write(&self, out: &mut Vec<u8>) -> Result<(), AllocError>
-        ensures { OnOk result (out.new.items ≡ out.old.items ++ guti_octets self.now) }
+    pub fn octets(&self) -> [u8; 11]
+        ensures { result ≡ guti_octets self.now }
     {
-        out.push(0xf6)?;
-        self.plmn.write(out)?;
-        out.extend_from_slice(&self.group)?;
-        out.push(self.code)?;
-        out.extend_from_slice(&self.tmsi.to_be_bytes())
+        let [a, b, c] = self.plmn.octets;
+        let [d, e] = self.group;
+        let [f, g, h, i] = self.tmsi.to_be_bytes();
+        [0xf6, a, b, c, d, e, self.code, f, g, h, i]
+    }
+
+    /// Appends its eleven octets; refused, `out` is as before.
+    pub fn write(&self, out: &mut Vec<u8>) -> Result<(), AllocError>
+        ensures ok { OnOk result (out.new.items ≡ out.old.items ++ guti_octets self.now) }
+        ensures err { OnErr result (out.new.items ≡ out.old.items) }
+    {
+        out.extend_from_slice(&self.octets())
     }
 }
 
@@ -180,9 +196,10 @@ impl MobileIdentity {
         None
     }
 
-    /// Appends its octets: eight of an IMSI, eleven of a GUTI.
+    /// Appends its octets: eight of an IMSI, eleven of a GUTI; refused, `out` is as before.
     pub fn write(&self, out: &mut Vec<u8>) -> Result<(), AllocError>
-        ensures { OnOk result (out.new.items ≡ out.old.items ++ identity_octets self.now) }
+        ensures ok { OnOk result (out.new.items ≡ out.old.items ++ identity_octets self.now) }
+        ensures err { OnErr result (out.new.items ≡ out.old.items) }
     {
         match self {
             MobileIdentity::Imsi(imsi) => imsi.write(out),

@@ -1,6 +1,6 @@
 //! IMSIs (TS 23.003 clause 2.2).
 
-ghost use Rattle.std.specs.Prelude.{◌≡◌, ◌+◌, ◌*◌, ◌<◌, ◌≤◌, ◌++◌, length, map, OnOk, ok_or, true};
+ghost use Rattle.std.specs.Prelude.{◌≡◌, ◌+◌, ◌*◌, ◌<◌, ◌≤◌, ◌++◌, length, map, OnErr, OnOk, ok_or, true};
 ghost use Rattle.nas_elements.specs.Digits.{are_digits, imsi_checked, imsi_octets, imsi_of, imsi_of_text, imsi_text, is_digit, is_digit_text, is_imsi};
 ghost use Rattle.std.specs.List.{list_all};
 
@@ -158,9 +158,10 @@ impl Imsi {
         ]
     }
 
-    /// Appends its eight octets.
+    /// Appends its eight octets; refused, `out` is as before.
     pub fn write(&self, out: &mut Vec<u8>) -> Result<(), AllocError>
-        ensures { OnOk result (out.new.items ≡ out.old.items ++ imsi_octets self.now) }
+        ensures ok { OnOk result (out.new.items ≡ out.old.items ++ imsi_octets self.now) }
+        ensures err { OnErr result (out.new.items ≡ out.old.items) }
     {
         out.extend_from_slice(&self.octets())
     }

@@ -8,6 +8,7 @@ ghost use Rattle.nas_messages.specs.Formats.{row_of};
 ghost use Rattle.nas_messages.specs.Messages.{IsWritable, encoded_emm, lists};
 ghost use Rattle.nas_messages.specs.declared.emm_types.Emm.TheVariants as messages;
 
+use crate::USUAL_ROOM;
 use crate::emm_types::{
     AreaUpdateAccept, AreaUpdateRequest, AttachAccept, AttachReject, AttachRequest,
     AuthenticationRequest, DetachRequest, EmmMessage, SecurityModeCommand,
@@ -154,7 +155,7 @@ pub fn encode_emm(alloc: Global, message: &EmmMessage) -> Result<Vec<u8>, AllocE
     requires { IsWritable (lists message.now) }
     ensures { IfOk result (λ octets. octets.items ≡ encoded_emm (lists message.now)) }
 {
-    let mut octets = Vec::new(alloc);
+    let mut octets = Vec::with_capacity(alloc, USUAL_ROOM)?;
     put_emm(&mut octets, message)?;
     Ok(octets)
 }

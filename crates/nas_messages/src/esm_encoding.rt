@@ -4,6 +4,7 @@ ghost use Rattle.std.specs.Prelude.{◌≡◌, ◌++◌, OnOk, IfOk};
 ghost use Rattle.nas_messages.specs.EsmMessages.{BodyFits, IsWritableEsm, body_lists, encoded_esm, esm_lists, typed_body, written_body};
 ghost use Rattle.nas_messages.specs.declared.esm_types.EsmBody.TheVariants as bodies;
 
+use crate::USUAL_ROOM;
 use crate::esm_types::{ActivateRequest, EsmBody, EsmMessage};
 use nas_elements::{Domain, identifier, put_element, put_fixed, put_label, put_octet};
 use std::alloc::{AllocError, Global};
@@ -64,7 +65,7 @@ pub fn encode_esm(alloc: Global, message: &EsmMessage) -> Result<Vec<u8>, AllocE
     requires { IsWritableEsm (esm_lists message.now) }
     ensures { IfOk result (λ octets. octets.items ≡ encoded_esm (esm_lists message.now)) }
 {
-    let mut octets = Vec::new(alloc);
+    let mut octets = Vec::with_capacity(alloc, USUAL_ROOM)?;
     put_octet(&mut octets, message.bearer * 16 + 2)?;
     put_octet(&mut octets, message.transaction)?;
     put_body(&mut octets, &message.body)?;

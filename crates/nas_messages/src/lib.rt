@@ -12,6 +12,9 @@ mod laws;
 mod protection;
 mod simple;
 
+// The octets that a message is given room for at once, so that it isn't moved while it is written; a longer one gets more then.
+const USUAL_ROOM: usize = 64;
+
 pub use emm_decoding::decode_emm;
 pub use emm_encoding::encode_emm;
 pub use emm_types::{

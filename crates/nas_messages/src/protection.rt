@@ -5,6 +5,9 @@ ghost use Rattle.nas_messages.specs.Protection.{header_code, header_of, protecte
 
 use std::alloc::{AllocError, Global};
 
+// The octets before the message: the security header type with the protocol discriminator, the MAC and the sequence number.
+const HEADER_LENGTH: usize = 6;
+
 /// The security header type of a protected message (TS 24.301 clause 9.3.1).
 #[derive(Clone, Copy)]
 pub enum SecurityHeader {
@@ -85,10 +88,10 @@ pub fn split_protected<'a>(octets: &'a [u8]) -> Option<Protected<&'a [u8]>>
 pub fn join_protected(alloc: Global, protected: &Protected<&[u8]>) -> Result<Vec<u8>, AllocError>
     ensures { IfOk result (λ octets. octets.items ≡ protected_form (unlent protected.now)) }
 {
-    let mut octets = Vec::new(alloc);
-    octets.push(protected.header.code() * 16 + 7)?;
-    octets.extend_from_slice(&protected.mac)?;
-    octets.push(protected.sequence)?;
+    let [a, b, c, d] = protected.mac;
+    let first = protected.header.code() * 16 + 7;
+    let mut octets = Vec::with_capacity(alloc, HEADER_LENGTH + protected.message.len())?;
+    octets.extend_from_slice(&[first, a, b, c, d, protected.sequence])?;
     octets.extend_from_slice(protected.message)?;
     Ok(octets)
 }
