@@ -132,6 +132,46 @@ Takes-line_fault old new progress written NoMemory ready h = λ more. line-prefi
 Takes-line_fault old new progress written Write ready h = λ more. line-prefix old written ready h more
 Takes-line_fault old new progress written Read ready h = absurd h
 
+-- ---- a line that lies whole in a piece
+
+whole_line : (old : Player) (text : List ℕ) → old.pending.items ≡ [] → breaks text ≡ 0 → (more : List ℕ)
+    → played_from old ((text ++ 10 ∷ []) ++ more) ≡ then_play old.line (line_effect old.progress text) (λ new. play new (old.line + 1) (lines_of more))
+whole_line old text none unbroken more =
+    ap (λ v. play old.progress old.line (lines_of v)) (ap (λ w. w ++ ((text ++ 10 ∷ []) ++ more)) none ∙ append_assoc text (10 ∷ []) more)
+    ∙ line_played old.progress old.line text unbroken more
+
+-- one that is done
+pub Takes-whole : (old new : Player) (written text : List ℕ) → old.pending.items ≡ [] → breaks text ≡ 0 → line_effect old.progress text ≡ Ok (new.progress, written)
+    → new.line ≡ old.line + 1 → new.pending.items ≡ [] → TakesPiece old (text ++ 10 ∷ []) (Ok tt) new written
+Takes-whole old new written text none unbroken h l p = (
+  (λ more. whole_line old text none unbroken more
+      ∙ effect_then old.line (line_effect old.progress text) (Ok (new.progress, written)) (λ w. play w (old.line + 1) (lines_of more)) h
+      ∙ ap (λ n. prepended written (play new.progress n (lines_of more))) (sym l)
+      ∙ ap (λ v. prepended written (play new.progress new.line (lines_of (v ++ more)))) (sym p)),
+  (ap breaks p, omega (arith, ap length p)),
+  omega (arith, l, unbroken, breaks-append text (10 ∷ [])),
+)
+
+whole-prefix : (old : Player) (written text : List ℕ) → old.pending.items ≡ [] → breaks text ≡ 0 → IsPrefix written (effect_text (line_effect old.progress text))
+    → (more : List ℕ) → IsPrefix written ((played_from old ((text ++ 10 ∷ []) ++ more)).text)
+whole-prefix old written text none unbroken p more =
+    let rest : Progress → Played = λ w. play w (old.line + 1) (lines_of more) in
+    IsPrefix-of written _ _ (sym (ap (λ v. v.text) (whole_line old text none unbroken more)))
+    (effect-prefix old.line (line_effect old.progress text) rest written p)
+
+-- one that is not
+pub Takes-whole_fault : (old new : Player) (progress : Progress) (written text : List ℕ) (fault : PlayFault) → old.pending.items ≡ [] → breaks text ≡ 0
+    → Acts old.line (line_effect old.progress text) (Err fault) progress written → TakesPiece old (text ++ 10 ∷ []) (Err fault) new written
+Takes-whole_fault old new progress written text (Trace number fault) none unbroken h = (
+  (λ more. whole_line old text none unbroken more
+      ∙ effect_then old.line (line_effect old.progress text) (Err fault) (λ w. play w (old.line + 1) (lines_of more)) h.0
+      ∙ ends-at old.line number written fault h.1 h.2),
+  inr (omega (arith, h.1, unbroken, breaks-append text (10 ∷ []))),
+)
+Takes-whole_fault old new progress written text NoMemory none unbroken h = λ more. whole-prefix old written text none unbroken h more
+Takes-whole_fault old new progress written text Write none unbroken h = λ more. whole-prefix old written text none unbroken h more
+Takes-whole_fault old new progress written text Read none unbroken h = absurd h
+
 -- ---- a part of a line, as a piece
 
 part_joins : (progress : Progress) (line : ℕ) (pending joined part : List ℕ) → joined ≡ pending ++ part

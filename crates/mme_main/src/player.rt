@@ -4,11 +4,12 @@ ghost use Rattle.std.specs.Prelude.{◌≡◌, ◌<◌, ◌+◌, ◌∷◌, [], 
 ghost use Rattle.trace_player.specs.declared.progress.Progress.TheVariants.{Nothing};
 ghost use Rattle.trace_player.specs.Text.{line_effect};
 ghost use Rattle.trace_player.specs.Acts.{Acts, GrowsBy};
+ghost use Rattle.trace_lines.specs.Parts.{LiesWhole};
 ghost use Rattle.mme_main.specs.Play.{TakesPiece, TakesLine, Finishes, IsReady};
 
 use std::alloc::Global;
 use std::io::Write;
-use trace_lines::take_part;
+use trace_lines::{take_part, whole_line};
 use trace_player::{PlayFault, Progress, Watched, act_on_line, fault_in_line};
 use trace_text::parse_line;
 
@@ -72,6 +73,47 @@ impl Player {
         ensures takes { GrowsBy (W.contents writer.old.inner) (W.contents writer.new.inner) (TakesLine self.old piece.now result self.new) }
         ensures write { IsErrOf result PlayFault.Write → writer.new.failed ≡ true }
     {
+        match whole_line(self.pending.as_slice(), piece) {
+            Some(end) => self.take_whole(alloc, piece, end, writer),
+            None => self.go_on(alloc, piece, writer),
+        }
+    }
+
+    /// Plays the line that ends there, where it lies in the piece: so many octets.
+    fn take_whole<W: Write>(
+        &mut self,
+        alloc: Global,
+        piece: &[u8],
+        end: usize,
+        writer: &mut Watched<W>,
+    ) -> Result<usize, PlayFault>
+        requires whole { LiesWhole self.old.pending.items piece.now end }
+        requires counted { self.old.line + length piece.now < 2 ^ 64 }
+        ensures takes { GrowsBy (W.contents writer.old.inner) (W.contents writer.new.inner) (TakesLine self.old piece.now result self.new) }
+        ensures write { IsErrOf result PlayFault.Write → writer.new.failed ≡ true }
+    {
+        match play_line(alloc, &mut self.progress, self.line, &piece[..end], writer) {
+            Ok(()) => {
+                self.next_line();
+                Ok(end + 1)
+            }
+            Err(fault) => Err(fault),
+        }
+    }
+
+    /// Takes the piece up to the end of the line that has begun before or ends after it: so many octets.
+    fn go_on<W: Write>(
+        &mut self,
+        alloc: Global,
+        piece: &[u8],
+        writer: &mut Watched<W>,
+    ) -> Result<usize, PlayFault>
+        requires ready { IsReady self.old }
+        requires some { 0 < length piece.now }
+        requires counted { self.old.line + length piece.now < 2 ^ 64 }
+        ensures takes { GrowsBy (W.contents writer.old.inner) (W.contents writer.new.inner) (TakesLine self.old piece.now result self.new) }
+        ensures write { IsErrOf result PlayFault.Write → writer.new.failed ≡ true }
+    {
         match take_part(&mut self.pending, self.line, piece) {
             Ok(None) => Ok(piece.len()),
             Ok(Some(end)) => match self.end_line(alloc, writer) {
@@ -114,12 +156,22 @@ impl Player {
         let text = self.pending.as_slice();
         match play_line(alloc, &mut self.progress, number, text, writer) {
             Ok(()) => {
-                self.line += 1;
-                self.pending.clear();
+                self.next_line();
                 Ok(())
             }
             Err(fault) => Err(fault),
         }
+    }
+
+    /// The line is done, and nothing of the next one has come.
+    fn next_line(&mut self)
+        requires { self.old.line + 1 < 2 ^ 64 }
+        ensures progress { self.new.progress ≡ self.old.progress }
+        ensures line { self.new.line ≡ self.old.line + 1 }
+        ensures pending { self.new.pending.items ≡ [] }
+    {
+        self.line += 1;
+        self.pending.clear();
     }
 }
 

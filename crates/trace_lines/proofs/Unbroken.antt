@@ -1,12 +1,12 @@
 -- What the search for an LF says of the octets before it.
-use Rattle.std.proofs.Common.{◌≡◌, ℕ, zero, suc, ◌<◌, ◌≤◌, ◌==◌, Bool, true, false, List, [], ◌∷◌, ◌++◌, length, take, Option, Some, None, Ok, refl, sym, ap, ◌∙◌, arith}
-use Rattle.std.specs.Prelude.{slice_index}
+use Rattle.std.proofs.Common.{◌≡◌, ℕ, zero, suc, ◌<◌, ◌≤◌, ◌==◌, Bool, true, false, List, [], ◌∷◌, ◌++◌, length, take, Option, Some, None, Ok, inr, refl, sym, ap, ◌∙◌, arith}
+use Rattle.std.specs.Prelude.{slice_index, ◌⊎◌, IfSome, IfNone}
 use Rattle.std.specs.Option.{unwrap_or}
 use Rattle.std.proofs.lemmas.Bool.Decides.{nat_tests}
 use Rattle.std.proofs.lemmas.List.{take_all}
 use Rattle.memchr.specs.Find.{IsFirstByte, is_byte}
 use Rattle.trace_player.specs.Text.{breaks}
-use Rattle.trace_lines.specs.Parts.{TakesPart}
+use Rattle.trace_lines.specs.Parts.{LiesWhole, TakesPart}
 
 is_false : (b : Bool) → ¬ (b ≡ true) → b ≡ false
 is_false true h = absurd (h refl)
@@ -35,3 +35,18 @@ TakesPart-found number old piece new None none e short =
     (ap breaks (sym whole) ∙ part_unbroken piece None none, e ∙ ap (λ v. old ++ v) whole, short)
 TakesPart-found number old piece new (Some end) first e short =
     (first.0.high, is_lf (slice_index piece end) first.1, (part_unbroken piece (Some end) first, e, short))
+
+nothing : (line : List ℕ) → length line ≡ 0 → line ≡ []
+nothing [] h = refl
+nothing (x ∷ xs) h = absurd (omega (arith, h))
+
+-- the first LF ends a line of which nothing has come
+pub LiesWhole-found : (line piece : List ℕ) (found : Option ℕ) → length line ≡ 0 → IsFirstByte (is_byte 10) piece found → IfSome found (λ end. LiesWhole line piece end)
+LiesWhole-found line piece None e none = tt
+LiesWhole-found line piece (Some end) e first =
+    (nothing line e, first.0.high, is_lf (slice_index piece end) first.1, part_unbroken piece (Some end) first)
+
+-- and without an LF there is none
+pub LiesWhole-none : (line piece : List ℕ) (found : Option ℕ) → IsFirstByte (is_byte 10) piece found → IfNone found ((0 < length line) ⊎ (breaks piece ≡ 0))
+LiesWhole-none line piece None none = inr (ap breaks (sym (take_all (length piece) piece (omega arith))) ∙ part_unbroken piece None none)
+LiesWhole-none line piece (Some end) first = tt

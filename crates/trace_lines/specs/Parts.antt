@@ -1,5 +1,5 @@
 -- What the line that is under way takes of a piece of the text.
-use Rattle.std.specs.Prelude.{◌≡◌, ℕ, ◌<◌, ◌≤◌, List, ◌++◌, length, take, slice_index, Option, Some, None, Result, Ok, Err}
+use Rattle.std.specs.Prelude.{◌≡◌, ℕ, ◌<◌, ◌≤◌, List, [], ◌++◌, length, take, slice_index, Option, Some, None, Result, Ok, Err}
 use Rattle.trace_text.specs.declared.fault.TraceFault.TheVariants.{TooLong}
 use Rattle.trace_player.specs.declared.fault.PlayFault.{PlayFault}
 use Rattle.trace_player.specs.declared.fault.PlayFault.TheVariants.{Trace, Read, Write, NoMemory}
@@ -19,3 +19,7 @@ TakesPart number old piece (Err (Trace line fault)) new =
 TakesPart number old piece (Err NoMemory) new = new ≡ old
 TakesPart number old piece (Err Read) new = ⊥
 TakesPart number old piece (Err Write) new = ⊥
+
+-- of the line that is under way nothing has come, and the piece has all of it, up to an LF
+abbrev pub LiesWhole : List ℕ → List ℕ → ℕ → Type 0
+LiesWhole line piece end = (line ≡ []) × (end < length piece) × (slice_index piece end ≡ 10) × (breaks (take end piece) ≡ 0)

@@ -1,8 +1,9 @@
 //! The line of a trace or of a script that is under way, as its octets come in pieces.
 #![tactic(auto)]
 
-ghost use Rattle.std.specs.Prelude.{◌≤◌, length};
-ghost use Rattle.trace_lines.specs.Parts.{TakesPart};
+ghost use Rattle.std.specs.Prelude.{◌≡◌, ◌⊎◌, ◌<◌, ◌≤◌, length, IfSome, IfNone};
+ghost use Rattle.trace_player.specs.Text.{breaks};
+ghost use Rattle.trace_lines.specs.Parts.{LiesWhole, TakesPart};
 
 use memchr::memchr;
 use trace_player::PlayFault;
@@ -24,4 +25,15 @@ pub fn take_part(line: &mut Vec<u8>, number: u64, piece: &[u8]) -> Result<Option
         Ok(()) => Ok(end),
         Err(_) => Err(PlayFault::NoMemory),
     }
+}
+
+/// Where the LF stands that ends the line which is under way, where the piece has all of that line: nothing of it has come before.
+pub fn whole_line(line: &[u8], piece: &[u8]) -> Option<usize>
+    ensures some { IfSome result (λ end. LiesWhole line.now piece.now end) }
+    ensures none { IfNone result ((0 < length line.now) ⊎ (breaks piece.now ≡ 0)) }
+{
+    if !line.is_empty() {
+        return None;
+    }
+    memchr(b'\n', piece)
 }

@@ -45,10 +45,10 @@ fn write_one<W: Write>(
     ensures put { GrowsBy (W.contents writer.old.inner) (W.contents writer.new.inner) (Puts (answer_text answer.now) result) }
     ensures write { IsErrOf result PlayFault.Write → writer.new.failed ≡ true }
 {
-    let Ok(text) = write_answer(alloc, answer) else {
+    let Ok(line) = write_answer(alloc, answer) else {
         return Err(PlayFault::NoMemory);
     };
-    if !write_whole(writer, text.as_bytes()) {
+    if !write_whole(writer, line.as_slice()) {
         return Err(PlayFault::Write);
     }
     Ok(())

@@ -1,8 +1,11 @@
 //! How far a trace has got: what is provisioned, and the MME that is made of it.
 
-ghost use Rattle.std.specs.Prelude.{◌≡◌, ◌≢◌, [], Err, IfErr, OnErr};
+ghost use Rattle.std.specs.Prelude.{◌≡◌, ◌≢◌, [], Err, IfErr, OnErr, OnOk};
 ghost use Rattle.trace_player.specs.Effects.{subscriber_added, config_of, vector_given, running, configured};
-ghost use Rattle.trace_player.specs.Acts.{Acts, Runs};
+ghost use Rattle.trace_player.specs.Acts.{Acts, Runs, RunsAs};
+ghost use Rattle.trace_player.specs.declared.progress.Progress.TheVariants.{Provisioning};
+ghost use Rattle.identity_slots.specs.Provisioned.{Provisioned};
+ghost use Rattle.mme_core.specs.declared.config.Config.{Config};
 ghost use Rattle.trace_player.specs.Faults.{in_provision};
 
 use crate::fault::PlayFault;
@@ -128,16 +131,26 @@ pub fn run(alloc: Global, progress: &mut Progress, number: u64) -> Result<(), Pl
     match progress {
         Progress::Nothing => Err(PlayFault::Trace(number, TraceFault::Order)),
         Progress::Running(_) => Ok(()),
-        Progress::Provisioning(_, _) => match mem::replace(progress, Progress::Nothing) {
-            Progress::Provisioning(config, provision) => match Mme::new(alloc, config, provision) {
-                Ok(mme) => {
-                    reach(progress, Progress::Running(mme));
-                    Ok(())
-                }
-                Err(_) => Err(PlayFault::NoMemory),
-            },
-            Progress::Nothing | Progress::Running(_) => unreachable!(),
+        Progress::Provisioning(_, _) => set_out(alloc, progress),
+    }
+}
+
+/// Makes the MME of what is provisioned, and NoMemory is its only fault. It stands apart, so that room for an MME is made ready
+/// once, and not at each line.
+fn set_out(alloc: Global, progress: &mut Progress) -> Result<(), PlayFault>
+    requires { (config : Config) × (provisioned : Provisioned) × (progress.old ≡ Provisioning config provisioned) }
+    ensures ok { OnOk result (RunsAs (running progress.old) progress.new) }
+    ensures err { IfErr result (λ fault. fault ≡ PlayFault.NoMemory) }
+{
+    match mem::replace(progress, Progress::Nothing) {
+        Progress::Provisioning(config, provision) => match Mme::new(alloc, config, provision) {
+            Ok(mme) => {
+                reach(progress, Progress::Running(mme));
+                Ok(())
+            }
+            Err(_) => Err(PlayFault::NoMemory),
         },
+        Progress::Nothing | Progress::Running(_) => unreachable!(),
     }
 }
 

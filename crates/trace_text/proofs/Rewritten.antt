@@ -77,7 +77,7 @@ number_again least most n text h e =
 
 -- ---- octets
 
-hex_read : (r : Result (List ℕ) FromHexError) (xs : List ℕ) → hex_of r ≡ Ok xs → r ≡ Ok xs
+pub hex_read : (r : Result (List ℕ) FromHexError) (xs : List ℕ) → hex_of r ≡ Ok xs → r ≡ Ok xs
 hex_read (Ok ys) xs e = let same : ys ≡ xs = cc e in ap Ok same
 hex_read (Err f) xs e = absurd (cc e)
 

@@ -21,7 +21,7 @@ spaceless rest at first =
     rw (get_or-take at rest k 0 low) (false_from_ne_true _ (first.0.before k (omega arith) low)))
 
 -- the first word of a text stands before its first space, and the others are the words of what stands behind it
-first_word : (rest : List ℕ) (at : ℕ) → IsFirstByte (is_byte 32) rest (Some at) → slice_split (λ c. c == 32) rest ≡ take at rest ∷ slice_split (λ c. c == 32) (drop (at + 1) rest)
+pub first_word : (rest : List ℕ) (at : ℕ) → IsFirstByte (is_byte 32) rest (Some at) → slice_split (λ c. c == 32) rest ≡ take at rest ∷ slice_split (λ c. c == 32) (drop (at + 1) rest)
 first_word rest at first =
     ap (slice_split (λ c. c == 32)) (sym (take-append-drop at rest) ∙ ap (λ v. take at rest ++ v) (drop_more rest at 0 first.0.high))
     ∙ slice_split_at (λ c. c == 32) (take at rest) (get_or rest at 0) (drop (at + 1) rest) (spaceless rest at first) first.1

@@ -104,7 +104,7 @@ unbroken_field t f h k = unbroken_append t (32 ∷ f) h (word_unbroken f k)
 
 -- ---- a line into its words
 
-split_word : (w : List ℕ) → is_word w ≡ true → slice_split (λ c. c == 32) w ≡ w ∷ []
+pub split_word : (w : List ℕ) → is_word w ≡ true → slice_split (λ c. c == 32) w ≡ w ∷ []
 split_word [] h = refl
 split_word (c ∷ cs) h =
     let p = word_parts c cs h in

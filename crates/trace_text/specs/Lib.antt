@@ -1,3 +1,4 @@
 pub mod Fields
 pub mod Trace
 pub mod Lines
+pub mod Rooms

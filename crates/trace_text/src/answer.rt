@@ -1,9 +1,12 @@
 //! The lines of a trace's answers.
 
-ghost use Rattle.std.specs.Prelude.{◌≡◌, ◌+◌, ◌*◌, length, IfOk, string_bytes};
+ghost use Rattle.std.specs.Prelude.{◌≡◌, ◌+◌, ◌*◌, ◌++◌, length, IfOk, OnOk, string_bytes};
+ghost use Rattle.std.specs.Fmt.{decimal};
+ghost use Rattle.hex.specs.Hex.{encode_lower};
 ghost use Rattle.trace_text.specs.Lines.{IsLineWithin, IsPartWithin, octets_said};
 ghost use Rattle.trace_text.specs.Trace.{answer_text, sent_text, refused_text, state_text, owner_text, octets_text, emm_word, ecm_word, esm_word};
 
+use itoa::Buffer;
 use nas_elements::Imsi;
 use std::alloc::{AllocError, Global};
 
@@ -103,9 +106,9 @@ pub enum AnswerLine<'a> {
 
 /// The line of an answer, with the LF that ends it. It has no other LF, and is longer than its octets in hex by at most 80
 /// octets.
-pub fn write_answer(alloc: Global, answer: &AnswerLine<'_>) -> Result<String, AllocError>
-    ensures text { IfOk result (λ text. string_bytes text ≡ answer_text answer.now) }
-    ensures line { IfOk result (λ text. IsLineWithin (80 + 2 * octets_said answer.now) (string_bytes text)) }
+pub fn write_answer(alloc: Global, answer: &AnswerLine<'_>) -> Result<Vec<u8>, AllocError>
+    ensures text { IfOk result (λ line. line.items ≡ answer_text answer.now) }
+    ensures line { IfOk result (λ line. IsLineWithin (80 + 2 * octets_said answer.now) line.items) }
 {
     match answer {
         AnswerLine::Sent(owner, station, octets) => write_sent(alloc, *owner, *station, octets),
@@ -115,11 +118,12 @@ pub fn write_answer(alloc: Global, answer: &AnswerLine<'_>) -> Result<String, Al
 }
 
 #[tactic(auto, unfolding(crate::specs::Trace::refused_text))]
-fn write_refused(alloc: Global, fault: u8) -> Result<String, AllocError>
-    ensures text { IfOk result (λ text. string_bytes text ≡ refused_text fault) }
-    ensures line { IfOk result (λ text. IsLineWithin 80 (string_bytes text)) }
+fn write_refused(alloc: Global, fault: u8) -> Result<Vec<u8>, AllocError>
+    ensures text { IfOk result (λ line. line.items ≡ refused_text fault) }
+    ensures line { IfOk result (λ line. IsLineWithin 80 line.items) }
 {
-    format!(in alloc; "refused {fault}\n")
+    let text = format!(in alloc; "refused {fault}\n")?;
+    Ok(text.into_bytes())
 }
 
 #[tactic(auto, unfolding(crate::specs::Trace::sent_text))]
@@ -128,28 +132,71 @@ fn write_sent(
     owner: AnswerOwner,
     station: u8,
     octets: &[u8],
-) -> Result<String, AllocError>
-    ensures text { IfOk result (λ text. string_bytes text ≡ sent_text owner station octets.now) }
-    ensures line { IfOk result (λ text. IsLineWithin (80 + 2 * length octets.now) (string_bytes text)) }
+) -> Result<Vec<u8>, AllocError>
+    ensures text { IfOk result (λ line. line.items ≡ sent_text owner station octets.now) }
+    ensures line { IfOk result (λ line. IsLineWithin (80 + 2 * length octets.now) line.items) }
 {
-    let hex = write_octets(alloc, octets)?;
-    let mut line = write_owner(alloc, owner, hex.len().saturating_add(LONGEST_FRONT))?;
-    write!(line, "{station} {hex}\n")?;
+    let room = octets.len().saturating_mul(2).saturating_add(LONGEST_FRONT);
+    let mut line = Vec::with_capacity(alloc, room)?;
+    push_owner(&mut line, owner)?;
+    push_number(&mut line, u32::from(station))?;
+    line.push(b' ')?;
+    push_octets(&mut line, octets)?;
+    line.push(b'\n')?;
     Ok(line)
 }
 
-// The front of a line, which has room for so many octets in all.
-fn write_owner(alloc: Global, owner: AnswerOwner, room: usize) -> Result<String, AllocError>
-    ensures text { IfOk result (λ text. string_bytes text ≡ owner_text owner) }
-    ensures part { IfOk result (λ text. IsPartWithin 20 (string_bytes text)) }
+/// Appends the word `out` and for whom a message is, each with the space behind it.
+fn push_owner(line: &mut Vec<u8>, owner: AnswerOwner) -> Result<(), AllocError>
+    ensures text { OnOk result (line.new.items ≡ line.old.items ++ owner_text owner) }
+    ensures part { OnOk result (IsPartWithin 20 (owner_text owner)) }
 {
-    let mut line = String::with_capacity(alloc, room)?;
     match owner {
-        AnswerOwner::Station(station) => write!(line, "out e{station} ")?,
-        AnswerOwner::Stranger(station, phone) => write!(line, "out x{station}.{phone} ")?,
-        AnswerOwner::Subscriber(slot) => write!(line, "out s{slot} ")?,
+        AnswerOwner::Station(station) => push_named(line, b"out e", u32::from(station))?,
+        AnswerOwner::Stranger(station, phone) => {
+            push_named(line, b"out x", u32::from(station))?;
+            push_named(line, b".", phone)?;
+        }
+        AnswerOwner::Subscriber(slot) => push_named(line, b"out s", slot)?,
     }
-    Ok(line)
+    line.push(b' ')?;
+    Ok(())
+}
+
+/// Appends a mark and a number behind it.
+fn push_named(line: &mut Vec<u8>, mark: &[u8], number: u32) -> Result<(), AllocError>
+    ensures { OnOk result (line.new.items ≡ line.old.items ++ mark.now ++ decimal number) }
+{
+    line.extend_from_slice(mark)?;
+    push_number(line, number)
+}
+
+/// Appends a number in decimal digits.
+fn push_number(line: &mut Vec<u8>, number: u32) -> Result<(), AllocError>
+    ensures { OnOk result (line.new.items ≡ line.old.items ++ decimal number) }
+{
+    let mut buffer = Buffer::new();
+    line.extend_from_slice(buffer.format(number).as_bytes())
+}
+
+/// Appends octets in lower case, or `-` for none.
+fn push_octets(line: &mut Vec<u8>, octets: &[u8]) -> Result<(), AllocError>
+    ensures { OnOk result (line.new.items ≡ line.old.items ++ octets_text octets.now) }
+{
+    if octets.is_empty() {
+        line.push(b'-')?;
+        return Ok(());
+    }
+    push_hex(line, octets)
+}
+
+/// Appends the hex digits of octets, which are written where they stand then.
+fn push_hex(line: &mut Vec<u8>, octets: &[u8]) -> Result<(), AllocError>
+    ensures { OnOk result (line.new.items ≡ line.old.items ++ encode_lower octets.now) }
+{
+    let start = line.len();
+    line.resize(start.saturating_add(octets.len().saturating_mul(2)), 0)?;
+    hex::encode_to_slice(octets, &mut line.as_mut_slice()[start..]).map_err(|_| AllocError)
 }
 
 #[tactic(auto, unfolding(crate::specs::Trace::state_text))]
@@ -159,14 +206,15 @@ fn write_state(
     emm: EmmWord,
     ecm: EcmWord,
     esm: EsmWord,
-) -> Result<String, AllocError>
-    ensures text { IfOk result (λ text. string_bytes text ≡ state_text imsi.now emm ecm esm) }
-    ensures line { IfOk result (λ text. IsLineWithin 80 (string_bytes text)) }
+) -> Result<Vec<u8>, AllocError>
+    ensures text { IfOk result (λ line. line.items ≡ state_text imsi.now emm ecm esm) }
+    ensures line { IfOk result (λ line. IsLineWithin 80 line.items) }
 {
     let digits = imsi.digits();
     let imsi = digits.as_str();
     let (emm, ecm, esm) = (emm.word(), ecm.word(), esm.word());
-    format!(in alloc; "state {imsi} {emm} {ecm} {esm}\n")
+    let text = format!(in alloc; "state {imsi} {emm} {ecm} {esm}\n")?;
+    Ok(text.into_bytes())
 }
 
 pub(crate) fn write_octets(alloc: Global, octets: &[u8]) -> Result<String, AllocError>

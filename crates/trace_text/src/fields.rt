@@ -133,10 +133,10 @@ pub fn octets(alloc: Global, text: &[u8]) -> Result<TraceOctets, TraceFault>
         return Err(TraceFault::BadHex);
     }
     if text == b"-".as_slice() {
-        return Ok(TraceOctets::new(Vec::new(alloc)));
+        return Ok(TraceOctets::none());
     }
-    match hex::decode(alloc, text) {
-        Ok(bytes) => Ok(TraceOctets::new(bytes)),
+    match TraceOctets::from_hex(alloc, text) {
+        Ok(octets) => Ok(octets),
         Err(FromHexError::OutOfMemory) => Err(TraceFault::NoMemory),
         Err(_) => Err(TraceFault::BadHex),
     }

@@ -1,10 +1,10 @@
 //! One line of a trace.
 
-ghost use Rattle.std.specs.Prelude.{◌≡◌, ◌⊎◌, ◌==◌, map, IfOk, Ok, Err};
+ghost use Rattle.std.specs.Prelude.{◌≡◌, ◌⊎◌, ◌==◌, map, IfOk, IfSome, Ok, Err};
 ghost use Rattle.std.specs.List.{slice_split};
 ghost use Rattle.std.specs.Result.{result_map_both};
 ghost use Rattle.trace_text.specs.Trace.{line_of, mme_of, sub_of, vec_of, read_mme, read_sub, read_vec, read_up, read_lost, read_in, read_tick, read_data, read_cancel, read_show, read_event, read_words};
-ghost use Rattle.trace_text.specs.declared.line.Line.TheVariants.{Up, Lost, Data, Cancel, Show};
+ghost use Rattle.trace_text.specs.declared.line.Line.TheVariants.{Up, Lost, In, Data, Cancel, Show};
 
 use crate::fault::TraceFault;
 use crate::fields::{
@@ -78,6 +78,37 @@ pub fn parse_line(alloc: Global, line: &[u8]) -> Result<Line, TraceFault>
     if line.is_empty() || line[0] == b'#' {
         return Ok(Line::Skip);
     }
+    match good_in(alloc, line) {
+        Ok(Some((from, octets))) => Ok(Line::In(from, octets)),
+        Ok(None) => parse_any(alloc, line),
+        Err(_) => Err(TraceFault::NoMemory),
+    }
+}
+
+/// What a good line `in E OCTETS` says, as most lines are; it needs no list of words. Nothing is said of any other line.
+fn good_in(alloc: Global, line: &[u8]) -> Result<Option<(StationNumber, TraceOctets)>, AllocError>
+    ensures { IfOk result (λ good. IfSome good (λ fields. read_words (slice_split (λ c. c == 32) line.now) ≡ Ok (In fields.0 fields.1))) }
+{
+    let Some(fields) = line.strip_prefix(b"in ".as_slice()) else {
+        return Ok(None);
+    };
+    let Some(at) = memchr(b' ', fields) else {
+        return Ok(None);
+    };
+    let Ok(from) = station(&fields[..at]) else {
+        return Ok(None);
+    };
+    match octets(alloc, &fields[at + 1..]) {
+        Ok(sent) => Ok(Some((from, sent))),
+        Err(TraceFault::NoMemory) => Err(AllocError),
+        Err(_) => Ok(None),
+    }
+}
+
+/// What a line says by its words, where it is neither too long, nor empty, nor a comment.
+fn parse_any(alloc: Global, line: &[u8]) -> Result<Line, TraceFault>
+    ensures { (result ≡ Err TraceFault.NoMemory) ⊎ (result ≡ read_words (slice_split (λ c. c == 32) line.now)) }
+{
     match split_words(alloc, line) {
         Ok(words) => parse_words(alloc, words.as_slice()),
         Err(_) => Err(TraceFault::NoMemory),

@@ -1,9 +1,12 @@
 //! What stands in the fields of a line.
 
-ghost use Rattle.std.specs.Prelude.{◌≡◌, ◌<◌, ◌≤◌, ◌↔◌, IsSome, IfSome, IfOk, IsTrue, if◌then◌else◌};
+ghost use Rattle.std.specs.Prelude.{◌≡◌, ◌⊎◌, ◌<◌, ◌≤◌, ◌↔◌, [], Ok, Err, IsSome, IfSome, IfOk, IfErr, IsTrue, if◌then◌else◌};
+ghost use Rattle.hex.specs.Hex.{decode_of};
+ghost use Rattle.hex.specs.declared.error.FromHexError.TheVariants.{OutOfMemory};
 ghost use Rattle.std.specs.List.{list_all};
 ghost use Rattle.trace_text.specs.Fields.{is_apn_label, is_label_octet};
 
+use hex::FromHexError;
 use std::alloc::{AllocError, Global};
 use std::marker::Model;
 
@@ -87,33 +90,73 @@ impl TraceTicks {
     }
 }
 
+/// So many octets of a message lie in the value itself, as most messages do; more lie in memory of their own.
+const USUAL_OCTETS: usize = 96;
+
+/// Where the octets of a message lie.
+#[derive(Drop)]
+enum Room {
+    /// In the value: so many of these.
+    Own([u8; USUAL_OCTETS], usize),
+    /// In memory.
+    Apart(Vec<u8>),
+}
+
 /// The octets of a message; a contract sees their list.
 #[derive(Drop)]
 pub struct TraceOctets {
-    octets: Vec<u8>,
+    room: Room,
 }
 
 impl Model for TraceOctets {
     ghost use Rattle.std.specs.Prelude.{ℕ, List};
+    ghost use Rattle.trace_text.specs.Rooms.{octets_in, FitsRoom};
 
     ghost Value = { List ℕ };
 
-    ghost view = { λ o. o.octets.items };
+    ghost view = { λ o. octets_in o.room };
+
+    ghost invariant = { λ o. FitsRoom o.room };
 }
 
 impl TraceOctets {
-    /// These octets.
-    pub fn new(octets: Vec<u8>) -> TraceOctets
-        ensures { result ≡ octets.items }
+    /// No octets.
+    pub(crate) fn none() -> TraceOctets
+        ensures { result ≡ [] }
     {
-        TraceOctets { octets }
+        TraceOctets {
+            room: Room::Own([0u8; USUAL_OCTETS], 0),
+        }
+    }
+
+    /// The octets that a text in hex stands for, or what is wrong with it; OutOfMemory may stand in place of both. Takes memory
+    /// for more octets than lie in the value.
+    pub(crate) fn from_hex(alloc: Global, text: &[u8]) -> Result<TraceOctets, FromHexError>
+        ensures ok { IfOk result (λ octets. decode_of text.now ≡ Ok octets) }
+        ensures err { IfErr result (λ e. (e ≡ OutOfMemory) ⊎ (decode_of text.now ≡ Err e)) }
+    {
+        let count = text.len() / 2;
+        if count > USUAL_OCTETS {
+            let octets = hex::decode(alloc, text)?;
+            return Ok(TraceOctets {
+                room: Room::Apart(octets),
+            });
+        }
+        let mut octets = [0u8; USUAL_OCTETS];
+        hex::decode_to_slice(text, &mut octets[..count])?;
+        Ok(TraceOctets {
+            room: Room::Own(octets, count),
+        })
     }
 
     /// The octets.
     pub fn as_slice(&self) -> &[u8]
         ensures { result.now ≡ self.now }
     {
-        self.octets.as_slice()
+        match &self.room {
+            Room::Own(octets, count) => &octets[..*count],
+            Room::Apart(octets) => octets.as_slice(),
+        }
     }
 }
 

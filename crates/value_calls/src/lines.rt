@@ -58,7 +58,10 @@ fn range_answer(call: Call) -> Answer {
 /// The line of an answer, whose LF is shown as `\n`.
 fn shown(call: Call, answer: &AnswerLine) -> Answer {
     let line = write_answer(call.alloc, answer)?;
-    match line.as_str().strip_suffix("\n") {
+    match str::from_utf8(line.as_slice())
+        .ok()
+        .and_then(|text| text.strip_suffix("\n"))
+    {
         Some(text) => Ok(call.text(text).word("\\n")),
         None => call.word_answer("no LF"),
     }

@@ -8,9 +8,9 @@ pub returns : goal.returns
 returns c =
     let answer = c.args.answer.now in
     let text = answer_text answer in
-    let is = c.in_ok-text.ensures.text in (
+    let is = c.in_ok-line.ensures.text in (
       35 ∷ 32 ∷ text,
-      c.in_ok-push_marked.ensures ∙ ap (λ (v : List ℕ). c.args.out.now.items ++ 35 ∷ 32 ∷ v) (c.as_bytes.ensures.value ∙ is),
+      c.in_ok-push_marked.ensures ∙ ap (λ (v : List ℕ). c.args.out.now.items ++ 35 ∷ 32 ∷ v) (c.as_slice.ensures.value ∙ is),
       AreComments-answer c.comments_are_not_kept.ensures (80 + 2 * octets_said answer) text (omega (arith, c.requires))
-          (subst (λ (v : List ℕ). IsLineWithin (80 + 2 * octets_said answer) v) is c.in_ok-text.ensures.line),
+          (subst (λ (v : List ℕ). IsLineWithin (80 + 2 * octets_said answer) v) is c.in_ok-line.ensures.line),
     )

@@ -6,6 +6,6 @@ use Rattle.trace_player.proofs.answers.write_one.Goals as goal
 pub returns-then-not-write_whole-clause-put : goal.returns-then-not-write_whole-clause-put
 returns-then-not-write_whole-clause-put g c =
     let some = c.write_whole.ensures.some in
-    let octets = c.as_bytes.result.now in
+    let octets = c.as_slice.result.now in
     let text = answer_text c.args.answer.now in
-    (take some.0 octets, some.1, IsPrefix-take some.0 octets text (IsPrefix-of octets octets text (c.as_bytes.ensures.value ∙ c.in-Ok.ensures.text) (IsPrefix-all octets)))
+    (take some.0 octets, some.1, IsPrefix-take some.0 octets text (IsPrefix-of octets octets text (c.as_slice.ensures.value ∙ c.in-Ok.ensures.text) (IsPrefix-all octets)))

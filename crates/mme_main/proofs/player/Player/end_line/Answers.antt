@@ -1,4 +1,4 @@
-use Rattle.std.proofs.Common.{◌+◌, Err, refl}
+use Rattle.std.proofs.Common.{Err}
 use Rattle.mme_main.specs.declared.player.Player.{Player}
 use Rattle.mme_main.proofs.Taken.{Acts-text, Takes-line, Takes-line_fault}
 use Rattle.mme_main.proofs.player.Player.end_line.Goals as goal
@@ -6,9 +6,9 @@ use Rattle.mme_main.proofs.player.Player.end_line.Goals as goal
 pub returns-in-Ok-clause-takes : goal.returns-in-Ok-clause-takes
 returns-in-Ok-clause-takes g c =
     let old = c.args.self.now in
-    let new : Player = record { progress = c.play_line.new.progress; line = old.line + 1; pending = c.clear.new.self } in
-    let acts = rw c.as_slice-text.ensures.value at c.in-Ok.ensures.acts in
-    (acts.0, acts.1, Takes-line old new acts.0 c.requires.ready acts.2 refl c.clear.ensures.items)
+    let new = c.next_line.new.self in
+    let acts = rw (c.as_slice-text.ensures.value, ← c.next_line.ensures.progress) at c.in-Ok.ensures.acts in
+    (acts.0, acts.1, Takes-line old new acts.0 c.requires.ready acts.2 c.next_line.ensures.line c.next_line.ensures.pending)
 
 pub returns-in-Err-clause-takes : goal.returns-in-Err-clause-takes
 returns-in-Err-clause-takes g c =

@@ -4,7 +4,7 @@ use Rattle.trace_player.specs.OctetLaws.{Appends-nil}
 use Rattle.trace_player.specs.TextLaws.{split_at}
 use Rattle.mme_main.specs.declared.player.Player.{Player}
 use Rattle.mme_main.proofs.Taken.{Takes-part, Takes-part_fault, Takes-then, Takes-stop, Takes-piece}
-use Rattle.mme_main.proofs.player.Player.take_line.Goals as goal
+use Rattle.mme_main.proofs.player.Player.go_on.Goals as goal
 
 pub end_line-requires-clause-ready : goal.end_line-requires-clause-ready
 end_line-requires-clause-ready g c =
