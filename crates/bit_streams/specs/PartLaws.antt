@@ -137,6 +137,16 @@ later_part begun current left some part after more le room below parts =
     let whole : bits left current ++ more ≡ bits some part ++ (bits (left - some) after ++ more) = rw parts (append_assoc (bits some part) (bits (left - some) after) more) in
     front_part some part (8 * begun - left) (8 * begun - (left - some)) _ _ below whole (omega arith)
 
+-- a whole octet, which leaves none of its bits
+pub fresh_octet : (octets : List ℕ) (begun current left : ℕ) → left ≡ 0 → begun < length octets → IsBytes octets
+    → number_bits_at 8 (record { at = 8 * begun - left; rest = bits left current ++ octet_bits (drop begun octets) })
+    ≡ Ok (get_or octets begun 0, record { at = 8 * (begun + 1) - left; rest = bits left current ++ octet_bits (drop (begun + 1) octets) })
+unfolding bits
+fresh_octet octets begun current left e lt bytes =
+    let octet = get_or octets begun 0 in
+    let k = fresh_part octets begun current left 8 octet current e lt (omega arith) (bytes begun) (sym (append-nil (bits 8 octet))) in
+    rw e (rw e at k)
+
 -- ---- writing
 
 pub joined_fits : (used some current part : ℕ) → used + some ≤ 8 → current < 2 ^ used → part < 2 ^ some → (current * 2 ^ some + part < 2 ^ (used + some)) × (current * 2 ^ some + part < 256)
@@ -165,14 +175,30 @@ put_full octets used current count number room part rest joined eight e parts =
     append-nil (octet_bits (octets ++ joined ∷ [])) ∙ sym (flat_map_more (bits 8) [] octets joined) ∙ ap (λ (l : List Bool). octet_bits octets ++ l) octet in
     rw (text, parts) (simp append_assoc)
 
-pub put_more : (now after whole : List Bool) (k n m p : ℕ) → after ++ bits m p ≡ now ++ bits k n → now ++ bits k n ≡ whole → after ++ bits m p ≡ whole
-put_more now after whole k n m p e so_far = e ∙ so_far
-
 -- octets behind whole octets
 pub put_whole : (octets more : List ℕ) (used current : ℕ) → used ≡ 0 → octet_bits (octets ++ more) ++ bits used current ≡ (octet_bits octets ++ bits used current) ++ octet_bits more
 unfolding bits
 put_whole octets more used current none =
     rw (none, append-nil (octet_bits (octets ++ more)), append-nil (octet_bits octets)) (flat_map-append (bits 8) octets more)
+
+-- a whole octet behind whole octets
+pub put_eight : (octets : List ℕ) (used current count number octet rest : ℕ) → used ≡ 0 → bits count number ≡ bits 8 octet ++ bits (count - 8) rest
+    → (octet_bits (octets ++ octet ∷ []) ++ bits used current) ++ bits (count - 8) rest ≡ (octet_bits octets ++ bits used current) ++ bits count number
+put_eight octets used current count number octet rest none parts =
+    rw (put_whole octets (octet ∷ []) used current none, parts) (simp (append_assoc, append-nil))
+
+-- the last octet is filled up with zeros
+pub put_last : (octets : List ℕ) (used current joined : ℕ) → used < 8 → bits (used + (8 - used)) joined ≡ bits used current ++ bits (8 - used) 0
+    → octet_bits (octets ++ joined ∷ []) ++ bits 0 0 ≡ (octet_bits octets ++ bits used current) ++ bits (8 - used) 0
+unfolding bits
+put_last octets used current joined few e =
+    let eight : used + (8 - used) ≡ 8 = omega arith in
+    let octet : bits 8 joined ≡ bits used current ++ bits (8 - used) 0 = ap (λ k. bits k joined) (sym eight) ∙ e in
+    append-nil (octet_bits (octets ++ joined ∷ [])) ∙ sym (flat_map_more (bits 8) [] octets joined) ∙ ap (λ (l : List Bool). octet_bits octets ++ l) octet
+    ∙ sym (append_assoc (octet_bits octets) (bits used current) (bits (8 - used) 0))
+
+pub put_more : (now after whole : List Bool) (k n m p : ℕ) → after ++ bits m p ≡ now ++ bits k n → now ++ bits k n ≡ whole → after ++ bits m p ≡ whole
+put_more now after whole k n m p e so_far = e ∙ so_far
 
 pub IsBytes-append : (xs ys : List ℕ) → IsBytes xs → IsBytes ys → IsBytes (xs ++ ys)
 IsBytes-append [] ys h k i = k i

@@ -41,6 +41,7 @@ impl<'a> BitReader<'a> {
     }
 
     /// The next bit; none left is Truncated.
+    #[inline(always)]
     pub fn take_bit(&mut self) -> Result<bool, PerFault>
         ensures { Answers (λ b. b) result self.new (bit_at self.old) }
     {
@@ -61,6 +62,7 @@ impl<'a> BitReader<'a> {
     }
 
     /// The number that the next `count` bits stand for, the first of them the highest; at most 64.
+    #[inline(always)]
     pub fn take_bits(&mut self, count: u8) -> Result<u64, PerFault>
         requires { count ≤ 64 }
         ensures { Answers (λ n. n) result self.new (number_bits_at count self.old) }
@@ -76,6 +78,7 @@ impl<'a> BitReader<'a> {
     }
 
     // bits of one octet, at most so many: how many, and the number that they stand for
+    #[inline(always)]
     fn take_part(&mut self, most: u8) -> Result<(u8, u8), PerFault>
         requires { 0 < most }
         ensures { TakesPart most result self.old self.new }
@@ -84,12 +87,15 @@ impl<'a> BitReader<'a> {
             if self.begun == self.octets.len() {
                 return Err(PerFault::Truncated);
             }
-            let some = most.min(8);
-            let (part, current) = split(self.octets[self.begun], 8, some);
-            self.current = current;
-            self.left = 8 - some;
+            let octet = self.octets[self.begun];
             self.begun += 1;
-            return Ok((some, part));
+            if most >= 8 {
+                return Ok((8, octet));
+            }
+            let (part, current) = split(octet, 8, most);
+            self.current = current;
+            self.left = 8 - most;
+            return Ok((most, part));
         }
         let some = most.min(self.left);
         let (part, current) = split(self.current, self.left, some);
@@ -99,6 +105,7 @@ impl<'a> BitReader<'a> {
     }
 
     /// Up to the next octet: the bits until there are 0, else Padding.
+    #[inline(always)]
     pub fn align(&mut self) -> Result<(), PerFault>
         ensures { Answers (λ _. tt) result self.new (align_at self.old) }
     {

@@ -40,6 +40,7 @@ impl BitWriter {
     }
 
     /// One bit.
+    #[inline(always)]
     pub fn put_bit(&mut self, bit: bool) -> Result<(), PerError>
         ensures ok { OnOk result (self.new ≡ self.old ++ bit ∷ []) }
         ensures memory { OnErr result (result ≡ Err NoMemory) }
@@ -57,7 +58,23 @@ impl BitWriter {
     }
 
     /// A number in `count` bits, at most 64, the highest first.
+    #[inline(always)]
     pub fn put_bits(&mut self, count: u8, number: u64) -> Result<(), PerError>
+        requires count { count ≤ 64 }
+        requires fits { number < 2 ^ count }
+        ensures ok { OnOk result (self.new ≡ self.old ++ bits count number) }
+        ensures memory { OnErr result (result ≡ Err NoMemory) }
+    {
+        if count < 8 - self.used {
+            self.current = joined(self.current, self.used, number as u8, count);
+            self.used += count;
+            return Ok(());
+        }
+        self.put_parts(count, number)
+    }
+
+    // a number part by part, each up to the end of an octet
+    fn put_parts(&mut self, count: u8, number: u64) -> Result<(), PerError>
         requires count { count ≤ 64 }
         requires fits { number < 2 ^ count }
         ensures ok { OnOk result (self.new ≡ self.old ++ bits count number) }
@@ -83,6 +100,11 @@ impl BitWriter {
         ensures fits { IfOk result (λ p. p.1 < 2 ^ p.0) }
         ensures memory { OnErr result (result ≡ Err NoMemory) }
     {
+        if self.used == 0 && count >= 8 {
+            let (octet, rest) = split_number(number, count, 8);
+            self.octets.push(octet)?;
+            return Ok((count - 8, rest));
+        }
         let room = 8 - self.used;
         if count < room {
             self.current = joined(self.current, self.used, number as u8, count);
@@ -100,6 +122,7 @@ impl BitWriter {
 
 impl BitWriter {
     /// Zero bits up to the next octet.
+    #[inline(always)]
     pub fn align(&mut self) -> Result<(), PerError>
         ensures ok { OnOk result (self.new ≡ self.old ++ pad (length self.old)) }
         ensures memory { OnErr result (result ≡ Err NoMemory) }
@@ -108,10 +131,14 @@ impl BitWriter {
         if used == 0 {
             return Ok(());
         }
-        self.put_bits(8 - used, 0)
+        self.octets.push(joined(self.current, used, 0, 8 - used))?;
+        self.current = 0;
+        self.used = 0;
+        Ok(())
     }
 
     /// One octet, behind the bits so far.
+    #[inline(always)]
     pub fn put_octet(&mut self, octet: u8) -> Result<(), PerError>
         ensures ok { OnOk result (self.new ≡ self.old ++ bits 8 octet) }
         ensures memory { OnErr result (result ≡ Err NoMemory) }

@@ -48,6 +48,7 @@ impl<const LO: u64, const HI: u64> Whole<LO, HI> {
 
     /// Reads a number; takes no memory.
     #[tactic(auto, unfolding(crate::specs::Reading::number_at))]
+    #[inline(always)]
     pub fn read(reader: &mut BitReader) -> Result<Self, PerFault>
         ensures { Answers (λ n. n) result reader.new (number_at LO HI reader.old) }
     {
@@ -58,6 +59,7 @@ impl<const LO: u64, const HI: u64> Whole<LO, HI> {
 
 /// Writes a number of `lo..hi` (X.691 clause 11.5); one outside is Range.
 #[tactic(auto, unfolding(crate::specs::Writing::write_number))]
+#[inline(always)]
 pub fn put_number(lo: u64, hi: u64, number: u64, writer: &mut BitWriter) -> Result<(), PerError>
     ensures { Wrote result writer.new (write_number lo hi number writer.old) }
 {
@@ -69,6 +71,7 @@ pub fn put_number(lo: u64, hi: u64, number: u64, writer: &mut BitWriter) -> Resu
 
 /// Writes the offset of a number in a range whose last offset is `span`.
 #[tactic(auto, unfolding(crate::specs::Numbers::offset_bits))]
+#[inline(always)]
 fn put_offset(span: u64, offset: u64, writer: &mut BitWriter) -> Result<(), PerError>
     requires { offset ≤ span }
     ensures { Wrote result writer.new (Ok (writer.old ++ offset_bits span offset (length writer.old))) }
@@ -88,17 +91,34 @@ fn put_offset(span: u64, offset: u64, writer: &mut BitWriter) -> Result<(), PerE
 }
 
 /// Writes a number in so many octets from the next octet on.
+#[inline(always)]
 fn put_in_octets(count: u8, number: u64, writer: &mut BitWriter) -> Result<(), PerError>
     requires count { count ≤ 8 }
     requires fits { number < 2 ^ (8 * count) }
     ensures { Wrote result writer.new (Ok (writer.old ++ (pad (length writer.old) ++ bits (8 * count) number))) }
 {
     writer.align()?;
-    writer.put_bits(8 * count, number)
+    match count {
+        1 => writer.put_octet(number as u8),
+        2 => put_two(number, writer),
+        _ => writer.put_bits(8 * count, number),
+    }
+}
+
+/// Writes a number in two octets, behind the bits so far.
+#[inline(always)]
+fn put_two(number: u64, writer: &mut BitWriter) -> Result<(), PerError>
+    requires { number < 2 ^ 16 }
+    ensures { Wrote result writer.new (Ok (writer.old ++ bits 16 number)) }
+{
+    writer.put_octet((number / 256) as u8)?;
+    writer.put_octet((number % 256) as u8)?;
+    Ok(())
 }
 
 /// The number of bits for numbers up to one below 256.
 #[tactic(auto, unfolding(crate::specs::Numbers::width_of))]
+#[inline(always)]
 fn width(most: u64) -> u8
     requires { most < 256 }
     ensures exact { result ≡ width_of most }
@@ -127,6 +147,7 @@ fn width(most: u64) -> u8
 }
 
 #[tactic(auto, unfolding(crate::specs::Reading::small_at))]
+#[inline(always)]
 fn small(span: u64, bits: u8, reader: &mut BitReader) -> Result<u64, PerFault>
     requires { bits ≤ 64 }
     ensures exact { Answers (λ n. n) result reader.new (small_at span bits reader.old) }
@@ -141,6 +162,7 @@ fn small(span: u64, bits: u8, reader: &mut BitReader) -> Result<u64, PerFault>
 }
 
 // a number in so many bits from the next octet on
+#[inline(always)]
 fn aligned(span: u64, bits: u8, reader: &mut BitReader) -> Result<u64, PerFault>
     requires { bits ≤ 64 }
     ensures exact { Answers (λ n. n) result reader.new (aligned_small_at span bits reader.old) }
@@ -152,6 +174,7 @@ fn aligned(span: u64, bits: u8, reader: &mut BitReader) -> Result<u64, PerFault>
 
 /// Reads the offset of a number in a range whose last offset is `span` (X.691 clause 11.5); takes no memory.
 #[tactic(auto, unfolding(crate::specs::Reading::offset_at))]
+#[inline(always)]
 pub fn offset_of(span: u64, reader: &mut BitReader) -> Result<u64, PerFault>
     ensures exact { Answers (λ n. n) result reader.new (offset_at span reader.old) }
     ensures within { IfOk result (λ n. n ≤ span) }
@@ -168,6 +191,7 @@ pub fn offset_of(span: u64, reader: &mut BitReader) -> Result<u64, PerFault>
 }
 
 #[tactic(auto, unfolding(crate::specs::Numbers::octets_for))]
+#[inline(always)]
 fn octets_of(n: u64) -> u8
     ensures exact { result ≡ octets_for n }
     ensures some { 1 ≤ result }

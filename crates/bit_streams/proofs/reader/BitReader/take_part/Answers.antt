@@ -1,7 +1,7 @@
 use Rattle.std.proofs.Common.{◌<◌, ◌≤◌, length, refl, ap, sym, ◌∙◌, arith, drop}
 use Rattle.bit_streams.specs.Bits.{Place, octet_bits}
 use Rattle.bit_streams.specs.BitLaws.{no_bit}
-use Rattle.bit_streams.specs.PartLaws.{fresh_part, later_part}
+use Rattle.bit_streams.specs.PartLaws.{fresh_octet, fresh_part, later_part}
 use Rattle.bit_streams.proofs.reader.BitReader.take_part.Goals as goal
 
 pub returns-then-self : goal.returns-then-self
@@ -9,18 +9,29 @@ returns-then-self c =
     let r = c.self.inside in
     (refl, sym (ap (λ (p : Place). p.rest) c.self.view_is) ∙ no_bit r.octets.now r.begun r.current r.left c.if-self-eq0.true c.if-self.true)
 
+pub returns-then-most-ge8 : goal.returns-then-most-ge8
+returns-then-most-ge8 c =
+    let r = c.self.inside in
+    let i = c.self.invariant in
+    let lt : r.begun < length r.octets.now = omega (arith, i.0, c.if-self.false) in (
+      omega arith,
+      c.if-most-ge8.true,
+      omega arith,
+      rw (← c.self.view_is) (fresh_octet r.octets.now r.begun r.current r.left c.if-self-eq0.true lt i.4),
+    )
+
 pub returns-then-self-eq0 : goal.returns-then-self-eq0
 returns-then-self-eq0 c =
     let r = c.self.inside in
     let i = c.self.invariant in
     let lt : r.begun < length r.octets.now = omega (arith, i.0, c.if-self.false) in
-    let m = c.min-some.ensures in
+    let few = c.if-most-ge8.false in
     let most = c.requires in
     let s = c.split-part.ensures in
-    let some = c.min-some.result in
-    let le : some ≤ 8 = omega (arith, m) in (
-      omega (arith, m, most),
-      omega (arith, m),
+    let some = c.args.most in
+    let le : some ≤ 8 = omega (arith, few) in (
+      most,
+      omega arith,
       le,
       rw (← c.self.view_is) (fresh_part r.octets.now r.begun r.current r.left some c.split-part.result.0 c.split-part.result.1 c.if-self-eq0.true lt le s.part s.parts),
     )
@@ -29,11 +40,11 @@ pub returns : goal.returns
 returns c =
     let r = c.self.inside in
     let i = c.self.invariant in
-    let m = c.min-some-2.ensures in
+    let m = c.min-some.ensures in
     let most = c.requires in
     let none = c.if-self-eq0.false in
     let s = c.split-part-2.ensures in
-    let some = c.min-some-2.result in
+    let some = c.min-some.result in
     let le : some ≤ r.left = omega (arith, m) in (
       omega (arith, m, most, none),
       omega (arith, m),

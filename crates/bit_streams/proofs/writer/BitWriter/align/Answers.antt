@@ -1,6 +1,7 @@
-use Rattle.std.proofs.Common.{◌∙◌, ◌++◌, ap, List, Bool, arith}
-use Rattle.std.proofs.lemmas.Result.{on_ok_weaker}
+use Rattle.std.proofs.Common.{◌++◌, ap, List, Bool, arith, length}
+use Rattle.bit_streams.specs.Bits.{pad}
 use Rattle.bit_streams.specs.BitLaws.{no_pad, pad_here}
+use Rattle.bit_streams.specs.PartLaws.{put_last}
 use Rattle.bit_streams.proofs.writer.BitWriter.align.Goals as goal
 
 pub returns-then-used-eq0-clause-ok : goal.returns-then-used-eq0-clause-ok
@@ -13,4 +14,4 @@ returns-clause-ok c =
     let w = c.self.inside in
     let f = c.if-used-eq0.false in
     let padding_is = pad_here c.args.self.now w.octets.items w.used w.current c.self.view_is c.self.invariant.0 (omega (arith, f)) in
-    on_ok_weaker c.put_bits.result (λ h. h ∙ (ap (λ (l : List Bool). c.args.self.now ++ l) padding_is)) c.put_bits.ensures.ok
+    rw (c.in_ok-push.ensures.items, put_last w.octets.items w.used w.current c.joined.result c.self.invariant.0 c.joined.ensures.bits, padding_is) (ap (λ (l : List Bool). l ++ pad (length c.args.self.now)) c.self.view_is)

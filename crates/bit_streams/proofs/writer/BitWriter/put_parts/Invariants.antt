@@ -1,6 +1,6 @@
 use Rattle.std.proofs.Common.{◌≡◌, ◌++◌, ◌<◌, ◌≤◌, ◌^◌}
 use Rattle.bit_streams.specs.Bits.{bits}
-use Rattle.bit_streams.proofs.writer.BitWriter.put_bits.Given as goal
+use Rattle.bit_streams.proofs.writer.BitWriter.put_parts.Given as goal
 
 abbrev pub invariant-loop-wanted : goal.invariant-loop-wanted
 invariant-loop-wanted l = record {

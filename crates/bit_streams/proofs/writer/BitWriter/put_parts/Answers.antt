@@ -1,6 +1,6 @@
 use Rattle.std.proofs.Common.{arith}
 use Rattle.bit_streams.specs.BitLaws.{put-end}
-use Rattle.bit_streams.proofs.writer.BitWriter.put_bits.Goals as goal
+use Rattle.bit_streams.proofs.writer.BitWriter.put_parts.Goals as goal
 
 pub returns-clause-ok : goal.returns-clause-ok
 returns-clause-ok c =
