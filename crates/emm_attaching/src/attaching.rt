@@ -11,7 +11,7 @@ ghost use Rattle.mme_signalling.specs.Hearing.{heard, heard_lists};
 ghost use Rattle.emm_state.specs.Does.{Does};
 
 use emm_state::{Asked, Context, Draft, NasTimer, Phase, Protection, Repeat, Setting, StepStop};
-use eps_keys::{kenb, nas_integrity_key, same_octets};
+use eps_keys::{KeySchedule, same_octets};
 use esm_machine::Requested;
 use identity_slots::{Tmsi, Vector};
 use mme_signalling::{
@@ -49,11 +49,11 @@ fn is_reject(nas: &[u8]) -> bool
 }
 
 // The radio keys of a count (TS 33.401, A.3): no station was told a next hop yet.
-fn keys_of(kasme: &[u8; 32], count: u32) -> RadioKeys
+fn keys_of(schedule: &mut KeySchedule, kasme: &[u8; 32], count: u32) -> RadioKeys
     ensures { result ≡ keys_of kasme.now count }
 {
     RadioKeys {
-        kenb: kenb(kasme, count),
+        kenb: schedule.kenb(kasme, count),
         next_hop: None,
         chaining_count: 1,
     }
@@ -161,7 +161,7 @@ fn new_context(draft: &mut Draft, place: usize, vector: &Vector)
     ensures { draft.new ≡ new_context place vector.now draft.old }
 {
     draft.solo.phase = Phase::SecurityMode;
-    let integrity = Eia2::new(&nas_integrity_key(&vector.kasme));
+    let integrity = Eia2::new(&draft.solo.schedule.nas_integrity_key(&vector.kasme));
     draft.solo.context = Some(Context {
         place,
         security: EpsSecurityContext::new(integrity, (place % 7) as u8, 0, None),
@@ -409,7 +409,7 @@ pub fn keyed(draft: &mut Draft, mut context: Context, count: u32) -> [u8; 32]
     ensures kenb { result ≡ kenb context.kasme count }
     ensures keyed { draft.new ≡ keyed context count draft.old }
 {
-    context.radio = keys_of(&context.kasme, count);
+    context.radio = keys_of(&mut draft.solo.schedule, &context.kasme, count);
     took(draft, context, count);
     context.radio.kenb
 }

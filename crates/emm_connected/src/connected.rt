@@ -8,7 +8,7 @@ ghost use Rattle.mme_vocabulary.specs.Events.{message_lists};
 
 use emm_serving::uplink;
 use emm_state::{Context, Draft, Repeat, Setting, StepStop, is_registered};
-use eps_keys::next_hop;
+use eps_keys::KeySchedule;
 use identity_slots::AssociationId;
 use mme_signalling::{
     cause_of_request, error_indication, path_switch_acknowledge, path_switch_failure,
@@ -29,21 +29,21 @@ fn next_chaining_count(count: u8) -> u8
 }
 
 // The next hop that stands: the one that a station was told last, else the first of the chain (TS 33.401, A.4).
-fn standing_hop(kasme: &[u8; 32], radio: &RadioKeys) -> [u8; 32]
+fn standing_hop(schedule: &mut KeySchedule, kasme: &[u8; 32], radio: &RadioKeys) -> [u8; 32]
     ensures { result ≡ standing_hop kasme.now radio.now }
 {
     match radio.next_hop {
         Some(told) => told,
-        None => next_hop(kasme, &radio.kenb),
+        None => schedule.next_hop(kasme, &radio.kenb),
     }
 }
 
 // The next hop behind the one that stands.
-fn hop_behind(context: &Context) -> [u8; 32]
+fn hop_behind(schedule: &mut KeySchedule, context: &Context) -> [u8; 32]
     ensures { result ≡ hop_behind context.now }
 {
-    let standing = standing_hop(&context.kasme, &context.radio);
-    next_hop(&context.kasme, &standing)
+    let standing = standing_hop(schedule, &context.kasme, &context.radio);
+    schedule.next_hop(&context.kasme, &standing)
 }
 
 // The connection that a path switch leads to.
@@ -113,7 +113,7 @@ fn switched(
 ) -> Result<(), AllocError>
     ensures { OnOk result (draft.new ≡ switched (message_lists message.now) context draft.old) }
 {
-    let hop = hop_behind(&context);
+    let hop = hop_behind(&mut draft.solo.schedule, &context);
     let count = next_chaining_count(context.radio.chaining_count);
     let answer = path_switch_acknowledge(connection_of(message), hop, count);
     context.radio.next_hop = Some(hop);

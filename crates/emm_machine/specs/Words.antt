@@ -55,6 +55,7 @@ fresh_solo = record {
   phase = phases.Deregistered;
   connection = None;
   context = None;
+  schedule = tt;
   associations = 0;
   tmsis = 0;
   tmsi = None;

@@ -12,6 +12,7 @@ use emm_connected::{connections_gone, displaced, message_of, station_gone};
 use emm_idle::{cancelled, data_waits, tick};
 use emm_serving::{claim, initial};
 use emm_state::{Asked, Counter, Draft, Phase, Repeat, Setting, Solo, StepStop};
+use eps_keys::KeySchedule;
 use esm_machine::{Bearer, BearerState};
 use identity_slots::{Profile, Slot, Vectors};
 use mme_vocabulary::{Answers, Connection, EnbWorld, SharedNetwork, SoloEvent, StationNumber};
@@ -73,6 +74,7 @@ fn fresh_solo() -> Solo
         phase: Phase::Deregistered,
         connection: None,
         context: None,
+        schedule: KeySchedule::new(),
         associations: Counter::new(),
         tmsis: Counter::new(),
         tmsi: None,

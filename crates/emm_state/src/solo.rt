@@ -5,6 +5,7 @@ ghost use Rattle.std.specs.List.{list_any};
 ghost use Rattle.identity_slots.specs.Ids.{next_counter, id_of_slot};
 ghost use Rattle.emm_state.specs.Timers.{repeats_of, ticks_of};
 
+use eps_keys::KeySchedule;
 use esm_machine::Bearer;
 use identity_slots::{AssociationId, Slot, Tmsi};
 use mme_vocabulary::{Connection, NasOctets, RadioKeys, StationNumber};
@@ -239,6 +240,8 @@ pub struct Solo {
     pub phase: Phase,
     pub connection: Option<Connection>,
     pub context: Option<Context>,
+    /// The masked blocks of the last KASME, hashed; a contract sees nothing of it.
+    pub schedule: KeySchedule,
     pub associations: Counter,
     pub tmsis: Counter,
     pub tmsi: Option<Tmsi>,
@@ -273,6 +276,7 @@ impl Solo {
             phase: self.phase,
             connection: self.connection,
             context: self.context,
+            schedule: self.schedule.copy(),
             associations: self.associations,
             tmsis: self.tmsis,
             tmsi: self.tmsi,

@@ -6,4 +6,5 @@ pub mod Cmac
 pub mod Eia2
 pub mod Expanded
 pub mod Hmac
+pub mod Hashed
 pub mod Same

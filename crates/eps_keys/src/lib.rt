@@ -12,6 +12,7 @@ mod direction;
 mod equal;
 mod laws;
 mod mac;
+mod schedule;
 mod tables;
 mod words;
 
@@ -21,3 +22,4 @@ pub use direction::DirectionBit;
 pub use equal::same_octets;
 pub use laws::same_is_equal;
 pub use mac::{MacKey, cmac, eia2};
+pub use schedule::KeySchedule;
