@@ -12,7 +12,7 @@ use crate::seats::{
     ENB_IDS, Seat, id_bench, ids_bench, ids_of, make_room, move_seat, page_of, radio_bench,
     radio_of,
 };
-use crate::whereabouts::Whereabouts;
+use crate::whereabouts::{Whereabouts, is_same};
 use identity_slots::{AssociationId, Slot, StationNumber};
 use per_bits::Listed;
 use s1ap_elements::{EnbUeId, ListedAssociation};
@@ -76,13 +76,16 @@ impl Connections {
         Ok(())
     }
 
-    /// The phone of a slot is there from now on. Takes no memory.
+    /// The phone of a slot is there from now on. Takes no memory. Where it was there before, nothing is searched.
     pub fn set(&mut self, slot: Slot, whereabouts: Whereabouts)
         requires { slot < length self.old }
         ensures { self.new ≡ slice_set self.old slot whereabouts }
     {
         let place = slot.get() as usize;
         let old = self.by_slot[place];
+        if is_same(&old, &whereabouts) {
+            return;
+        }
         move_seat(
             &mut self.by_radio,
             slot,

@@ -162,7 +162,9 @@ fn spent(alloc: Global, solo: &Solo) -> Result<Box<Draft>, AllocError>
 #[derive(Drop)]
 pub struct Subscriber {
     setting: Setting,
-    solo: Solo,
+    // The box of the step that was settled last, so that a state is settled where it stands. What the box has beside the state
+    // means nothing.
+    state: Box<Draft>,
     alloc: Global,
 }
 
@@ -171,7 +173,7 @@ impl Model for Subscriber {
 
     ghost Value = { SubscriberView };
 
-    ghost view = { λ s. record { setting = s.setting; solo = s.solo } };
+    ghost view = { λ s. record { setting = s.setting; solo = s.state.value.solo } };
 }
 
 impl Subscriber {
@@ -196,7 +198,7 @@ impl Subscriber {
         };
         Ok(Subscriber {
             setting,
-            solo: fresh_solo(),
+            state: Draft::of(alloc, fresh_solo())?,
             alloc,
         })
     }
@@ -205,20 +207,15 @@ impl Subscriber {
     pub fn prepare(&self, event: &SoloEvent, world: &EnbWorld) -> Result<Box<Draft>, AllocError>
         ensures { IfOk result (λ d. d.value ≡ solo_step self.now.setting self.now.solo (item_of event.now world.now)) }
     {
-        drafted(self.alloc, &self.setting, &self.solo, event, world)
+        drafted(self.alloc, &self.setting, &self.state.solo, event, world)
     }
 
-    /// The state is that of a step that was prepared; takes no memory.
+    /// The state is that of a step that was prepared, whose box is kept; takes no memory. What was sent is to be taken out before,
+    /// since it would stay in memory with the box.
     pub fn settle(&mut self, draft: Box<Draft>)
         ensures { self.new ≡ record self.old { solo = draft.value.solo } }
     {
-        let Draft {
-            solo,
-            sent: _,
-            accepted: _,
-            unwritten: _,
-        } = Box::into_inner(draft);
-        self.solo = solo;
+        self.state = draft;
     }
 
     /// One event: what is sent. Where memory is refused nothing changes.
@@ -239,14 +236,14 @@ impl Subscriber {
         requires { AreAbove ticks (countdowns self.old.solo) }
         ensures { self.new ≡ record self.old { solo = ticks_after self.old.setting ticks self.old.solo } }
     {
-        age(&mut self.solo, ticks);
+        age(&mut self.state.solo, ticks);
     }
 
     /// The connection: its association, station and number there.
     pub fn connection(&self) -> Option<Connection>
         ensures { result ≡ self.now.solo.connection }
     {
-        self.solo.connection
+        self.state.solo.connection
     }
 
     /// The ticks left of a procedure, and until a phone that is idle is taken to be gone.
@@ -254,11 +251,11 @@ impl Subscriber {
     pub fn countdowns(&self) -> (Option<u32>, Option<u32>)
         ensures { result ≡ countdowns self.now.solo }
     {
-        let procedure = match self.solo.procedure {
+        let procedure = match self.state.solo.procedure {
             Some(countdown) => Some(countdown.left),
             None => None,
         };
-        (procedure, self.solo.reachable)
+        (procedure, self.state.solo.reachable)
     }
 
     /// The states.
@@ -266,13 +263,13 @@ impl Subscriber {
         ensures { result ≡ states_of self.now.solo }
     {
         States {
-            emm: emm_of(self.solo.phase),
-            ecm: if self.solo.connection.is_some() {
+            emm: emm_of(self.state.solo.phase),
+            ecm: if self.state.solo.connection.is_some() {
                 EcmState::Connected
             } else {
                 EcmState::Idle
             },
-            esm: self.solo.bearer.state(),
+            esm: self.state.solo.bearer.state(),
         }
     }
 
@@ -280,7 +277,7 @@ impl Subscriber {
     pub fn pages_at(&self, station: StationNumber) -> bool
         ensures { result ≡ pages_in self.now.solo.repeat station }
     {
-        match &self.solo.repeat {
+        match &self.state.solo.repeat {
             Some(Repeat::Paging(stations)) => stations.contain(station),
             Some(Repeat::Nas(_, _)) | None => false,
         }
@@ -292,7 +289,7 @@ impl Subscriber {
     {
         Ok(Subscriber {
             setting: self.setting.clone()?,
-            solo: self.solo.copy(self.alloc)?,
+            state: Draft::from_state(self.alloc, &self.state.solo)?,
             alloc: self.alloc,
         })
     }

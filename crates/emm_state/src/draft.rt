@@ -18,20 +18,27 @@ pub struct Draft {
 }
 
 impl Draft {
-    /// A step from a state, of which nothing is done yet, in a box.
-    pub fn from_state(alloc: Global, solo: &Solo) -> Result<Box<Draft>, AllocError>
-        ensures { IfOk result (λ d. d.value ≡ untouched solo.now) }
+    /// A step from a state that is given, of which nothing is done yet, in a box.
+    pub fn of(alloc: Global, solo: Solo) -> Result<Box<Draft>, AllocError>
+        ensures { IfOk result (λ d. d.value ≡ untouched solo) }
     {
-        let repeat = solo.repeat_copy(alloc)?;
         Ok(Box::new(
             alloc,
             Draft {
-                solo: solo.with_repeat(repeat),
+                solo,
                 sent: Answers::new(alloc),
                 accepted: None,
                 unwritten: false,
             },
         )?)
+    }
+
+    /// A step from a copy of a state, of which nothing is done yet, in a box.
+    pub fn from_state(alloc: Global, solo: &Solo) -> Result<Box<Draft>, AllocError>
+        ensures { IfOk result (λ d. d.value ≡ untouched solo.now) }
+    {
+        let repeat = solo.repeat_copy(alloc)?;
+        Draft::of(alloc, solo.with_repeat(repeat))
     }
 }
 

@@ -1,9 +1,11 @@
 -- What a change, a tick and a look make of the list that stands for the slots.
 use Rattle.std.proofs.Common.{◌≡◌, ℕ, zero, suc, ◌+◌, ◌-◌, ◌*◌, ◌^◌, ◌<◌, ◌≤◌, List, [], ◌∷◌, length, refl, sym, ◌∙◌, ap, subst, arith}
 use Rattle.std.specs.Prelude.{nat_le, ◌==◌, ◌||◌, Option, Some, None, Bool, true, false, cond, option_map, map}
+use Rattle.std.specs.Option.{option_eq}
+use Rattle.std.proofs.Math.Dec.{eqb}
 use Rattle.std.proofs.lemmas.Bool.Decides.{nat_tests}
-use Rattle.ordered_lists.specs.Ordered.{put, without, at, AllOver}
-use Rattle.ordered_lists.specs.Laws.{at_over, without_over}
+use Rattle.ordered_lists.specs.Ordered.{put, without, at, AllOver, Rising}
+use Rattle.ordered_lists.specs.Laws.{at-put, at-without, at_over, without_absent, without_over}
 use Rattle.timer_queue.specs.declared.timer.Kind.{Kind}
 use Rattle.timer_queue.specs.declared.timer.Kind.TheVariants.{Procedure, Reachable}
 use Rattle.timer_queue.specs.declared.timer.Timer.{Timer}
@@ -225,7 +227,7 @@ without_at slot n (suc j) k (p ∷ ps) e lt small =
     ∙ ap (with_countdown n Procedure p.0) (without_with r n Reachable p.1 rest (rank_rises n slot Reachable k (omega arith) (omega arith)) ∙ ap (with_countdown n Reachable p.1) (without_at slot (n + 1) j k ps (omega arith) (omega arith) (omega arith)))
 
 -- what one of the slots has left
-abbrev left_at : ℕ → Kind → List (Option ℕ × Option ℕ) → Option ℕ
+abbrev pub left_at : ℕ → Kind → List (Option ℕ × Option ℕ) → Option ℕ
 left_at j k [] = None
 left_at zero k (p ∷ ps) = part_of k p
 left_at (suc j) k (p ∷ ps) = left_at j k ps
@@ -281,6 +283,50 @@ pub changed_length : {X : Type 0} (j : ℕ) (f : X → X) (xs : List X) → leng
 changed_length j f [] = refl
 changed_length zero f (x ∷ xs) = refl
 changed_length (suc j) f (x ∷ xs) = ap suc (changed_length j f xs)
+
+-- ---- a countdown that is known
+
+none_there : (o : Option Countdown) → left_in o ≡ None → o ≡ None
+none_there None e = refl
+none_there (Some c) e = absurd (cc)
+
+-- one that is so already stays
+pub retimed_same : (slot : ℕ) (k : Kind) (o : Option ℕ) (cs : List Countdown) → ticks_left (Subscriber slot) k cs ≡ o → retimed slot k o cs ≡ cs
+retimed_same slot k None cs e =
+    let r = rank (timer_of (Subscriber slot) k) in
+    without_absent countdown_rank r cs (none_there (at countdown_rank r cs) e)
+retimed_same slot k (Some t) cs e =
+    let same : (t == t) ≡ true = grind (arith, nat_tests) in
+    ap (λ b. cond b cs (started (Subscriber slot) k t cs)) (ap (is_this t) e ∙ same)
+
+-- one is compared with the other
+pub same_left : (o p : Option ℕ) → option_eq eqb o p ≡ true → o ≡ p
+same_left None None e = refl
+same_left None (Some b) e = absurd (cc)
+same_left (Some a) None e = absurd (cc)
+same_left (Some a) (Some b) e = let same : a ≡ b = grind (arith, nat_tests) in ap Some same
+
+-- where a slot's procedure is timed anew, the queue has its other countdown as it had
+kinds_apart : (slot : ℕ) → slot < 2 ^ 32 → (rank (timer_of (Subscriber slot) Procedure) == rank (timer_of (Subscriber slot) Reachable)) ≡ false
+kinds_apart slot small = let lt = procedure_first slot small in grind (arith, nat_tests)
+
+started_beside : (slot t : ℕ) (cs : List Countdown) → slot < 2 ^ 32 → Rising countdown_rank cs
+    → ticks_left (Subscriber slot) Reachable (started (Subscriber slot) Procedure t cs) ≡ ticks_left (Subscriber slot) Reachable cs
+started_beside slot t cs small h =
+    let r = rank (timer_of (Subscriber slot) Reachable) in
+    let x : Countdown = record { timer = timer_of (Subscriber slot) Procedure; ticks = t } in
+    ap left_in (at-put countdown_rank r x cs h ∙ ap (λ b. cond b (Some x) (at countdown_rank r cs)) (kinds_apart slot small))
+
+pub retimed_beside : (slot : ℕ) (o : Option ℕ) (cs : List Countdown) → slot < 2 ^ 32 → Rising countdown_rank cs
+    → ticks_left (Subscriber slot) Reachable (retimed slot Procedure o cs) ≡ ticks_left (Subscriber slot) Reachable cs
+retimed_beside slot None cs small h =
+    let r = rank (timer_of (Subscriber slot) Reachable) in
+    ap left_in (at-without countdown_rank (rank (timer_of (Subscriber slot) Procedure)) r cs h ∙ ap (λ b. cond b None (at countdown_rank r cs)) (kinds_apart slot small))
+retimed_beside slot (Some t) cs small h =
+    elim (is_this t (ticks_left (Subscriber slot) Procedure cs)) as (λ b. ticks_left (Subscriber slot) Reachable (cond b cs (started (Subscriber slot) Procedure t cs)) ≡ ticks_left (Subscriber slot) Reachable cs) [
+      | true ↦ refl
+      | false ↦ started_beside slot t cs small h
+    ]
 
 -- a slot's two countdowns are these from now on
 pub both_retimed_is : (j : ℕ) (q : Option ℕ × Option ℕ) (ps : List (Option ℕ × Option ℕ)) → j < length ps → length ps ≤ 2 ^ 32

@@ -14,8 +14,10 @@ use Rattle.emm_machine.specs.Words.{states_of}
 use Rattle.emm_machine.specs.Ticks.{AreAbove, IsAbove, both_less, countdowns, less, solo_aged, ticks_after}
 use Rattle.emm_machine.specs.TickLaws.{countdowns_aged, quiet_tick, ticks_are_aged, ticks_more}
 use Rattle.ordered_lists.specs.Ordered.{Every}
+use Rattle.timer_queue.specs.declared.timer.Kind.{Kind}
 use Rattle.timer_queue.specs.declared.timer.Kind.TheVariants.{Procedure, Reachable}
-use Rattle.timer_queue.specs.Countdowns.{Countdown, aged, due_of}
+use Rattle.timer_queue.specs.declared.timer.TimerOwner.TheVariants.{Subscriber}
+use Rattle.timer_queue.specs.Countdowns.{Countdown, aged, due_of, ticks_left}
 use Rattle.timer_queue.specs.declared.timer.Timer.{Timer}
 use Rattle.subscriber_table.specs.declared.records.Record.{Record}
 use Rattle.subscriber_table.specs.SteppedView.{SteppedView}
@@ -23,9 +25,9 @@ use Rattle.subscriber_table.specs.Changed.{changed_at, cleared}
 use Rattle.subscriber_table.specs.Laws.{due_below, due_no, with_solo_is}
 use Rattle.subscriber_table.specs.Matching.{AreOff, Match, cleared_all, match_changed, off_changed}
 use Rattle.subscriber_table.specs.Records.{AreFresh, IsFresh, IsSubscriberTable, all_retimed, renewed, view_at, views, with_records, woken}
-use Rattle.subscriber_table.specs.Running.{AreInRange, IsInRange, both_retimed, both_left_by_tick, left_by_tick, is_due, running_from, slots_once, with_countdown, AreOfSlots}
+use Rattle.subscriber_table.specs.Running.{AreInRange, IsInRange, both_retimed, both_left_by_tick, left_by_tick, is_due, part_of, running_from, slots_once, with_countdown, AreOfSlots, AreQueued}
 use Rattle.subscriber_table.specs.Table.{AreCounting, IsCounting, all_countdowns, due_slots, in_state, one_less, slots_stepped, step_at, subscriber_step, tick_settled, with_solo, with_stepped}
-use Rattle.subscriber_table.proofs.Queueing.{aged_is, both_retimed_is, changed_length, due_of_slots, once_is}
+use Rattle.subscriber_table.proofs.Queueing.{aged_is, both_retimed_is, changed_length, due_of_slots, left_at, left_is, once_is}
 
 -- ---- one record
 
@@ -380,6 +382,26 @@ fresh_at c (suc k) (x ∷ rs) r f e = fresh_at c k rs r f.1 e
 
 fresh_slot : (c k : ℕ) (rs : List Record) (r : Record) → AreFresh c rs → k < length rs → r ≡ get_or rs k r → IsFresh c r
 fresh_slot c k rs r f lt e = fresh_at c k rs r f (slice_get_read rs (length rs) k r refl lt e)
+
+-- the queue has the countdowns of a record as it is now
+left_seen : (j : ℕ) (k : Kind) (ws : List SubscriberView) (w : SubscriberView) → slice_get ws j ≡ Some w → left_at j k (all_countdowns ws) ≡ part_of k (countdowns w.solo)
+left_seen j k [] w e = absurd (cc)
+left_seen zero k (v ∷ ws) w e = let same : v ≡ w = cc in ap (λ (x : SubscriberView). part_of k (countdowns x.solo)) same
+left_seen (suc j) k (v ∷ ws) w e = left_seen j k ws w e
+
+queued_as : (c slot : ℕ) (k : Kind) (running : List Countdown) (rs : List Record) (r : Record) → IsSubscriberTable c running rs → slot < length rs → r ≡ get_or rs slot r
+    → ticks_left (Subscriber slot) k running ≡ part_of k (countdowns (view_at c r).solo)
+queued_as c slot k running rs r t lt e =
+    let ws = views c rs in
+    let many = views_length c rs in
+    let more = countdowns_length ws in
+    let few = t.few in
+    ap (ticks_left (Subscriber slot) k) t.timed ∙ left_is slot 0 slot k (all_countdowns ws) (omega arith) (omega arith) (omega arith)
+    ∙ left_seen slot k ws (view_at c r) (view_slot c slot rs r lt e)
+
+pub queued_read : (c slot : ℕ) (running : List Countdown) (rs : List Record) (r : Record) → IsSubscriberTable c running rs → slot < length rs → r ≡ get_or rs slot r
+    → AreQueued slot (countdowns (view_at c r).solo) running
+queued_read c slot running rs r t lt e = (queued_as c slot Procedure running rs r t lt e, queued_as c slot Reachable running rs r t lt e)
 
 seen_aged : (c : ℕ) (r : Record) → IsFresh c r → (view_at c r).solo ≡ solo_aged (c - r.touched) r.subscriber.solo
 seen_aged c r f = ticks_are_aged r.subscriber.setting (c - r.touched) r.subscriber.solo f.above

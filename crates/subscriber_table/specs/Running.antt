@@ -1,5 +1,5 @@
 -- Countdowns of slots: two of each, of a procedure and of an idle phone, as what each slot has left and as the queue has them.
-use Rattle.std.specs.Prelude.{ℕ, ◌+◌, ◌-◌, ◌<◌, ◌≤◌, nat_le, ◌==◌, ◌||◌, Bool, false, List, [], ◌∷◌, Option, Some, None, if◌then◌else◌}
+use Rattle.std.specs.Prelude.{◌≡◌, ℕ, ◌+◌, ◌-◌, ◌<◌, ◌≤◌, nat_le, ◌==◌, ◌||◌, Bool, false, List, [], ◌∷◌, Option, Some, None, if◌then◌else◌}
 use Rattle.connection_table.specs.Whereabouts.{slots_where}
 use Rattle.timer_queue.specs.declared.timer.Kind.{Kind}
 use Rattle.timer_queue.specs.declared.timer.Kind.TheVariants.{Procedure, Reachable}
@@ -31,6 +31,10 @@ retimed slot kind (Some ticks) cs = if is_this ticks (ticks_left (Subscriber slo
 
 abbrev pub both_retimed : ℕ → Option ℕ × Option ℕ → List Countdown → List Countdown
 both_retimed slot p cs = retimed slot Reachable p.1 (retimed slot Procedure p.0 cs)
+
+-- the queue has these of a slot
+abbrev pub AreQueued : ℕ → Option ℕ × Option ℕ → List Countdown → Type 0
+AreQueued slot p cs = (ticks_left (Subscriber slot) Procedure cs ≡ p.0) × (ticks_left (Subscriber slot) Reachable cs ≡ p.1)
 
 -- ---- as the slots have them
 

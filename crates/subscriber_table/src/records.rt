@@ -1,7 +1,8 @@
 //! Subscribers as they were when they were last touched.
 
 ghost use Rattle.std.specs.Prelude.{◌≡◌};
-ghost use Rattle.subscriber_table.specs.Records.{renewed, woken, IsFresh};
+ghost use Rattle.emm_machine.specs.Ticks.{countdowns};
+ghost use Rattle.subscriber_table.specs.Records.{renewed, view_at, woken, IsFresh};
 
 use emm_machine::Subscriber;
 use emm_state::Draft;
@@ -29,5 +30,17 @@ impl Record {
     {
         self.subscriber.settle(draft);
         self.touched = clock;
+    }
+
+    /// The state is that of this step now; answers the countdowns that it had until now. Takes no memory.
+    pub fn replace(&mut self, clock: u64, draft: Box<Draft>) -> (Option<u32>, Option<u32>)
+        requires { IsFresh clock self.old }
+        ensures state { self.new ≡ renewed clock draft.value.solo self.old }
+        ensures before { result ≡ countdowns (view_at clock self.old).solo }
+    {
+        self.wake(clock);
+        let before = self.subscriber.countdowns();
+        self.renew(clock, draft);
+        before
     }
 }

@@ -9,13 +9,13 @@ ghost use Rattle.emm_machine.specs.Words.{states_of};
 ghost use Rattle.ordered_lists.specs.Ordered.{Every};
 ghost use Rattle.subscriber_table.specs.Changed.{changed_at};
 ghost use Rattle.subscriber_table.specs.Running.{both_retimed};
-ghost use Rattle.subscriber_table.specs.Records.{all_retimed, renewed, with_records};
+ghost use Rattle.subscriber_table.specs.Records.{all_retimed, renewed, with_records, IsSubscriberTable};
 ghost use Rattle.subscriber_table.specs.Table.{due_slots, slots_stepped, step_at, tick_settled, with_solo, AreCounting, IsCounting};
 
 use crate::due::slots_of;
 use crate::records::Record;
 use crate::stepped::Stepped;
-use crate::timing::retime;
+use crate::timing::{retime, retime_found};
 use connection_table::Connections;
 use emm_machine::{States, Subscriber};
 use emm_state::Draft;
@@ -25,8 +25,9 @@ use std::alloc::{AllocError, Global};
 use std::marker::Model;
 use timer_queue::Timers;
 
-// One has a new state, and the queue its countdowns.
+// One has a new state, and the queue its countdowns, where it has those of each now. A countdown that stays isn't looked for.
 fn settle_one(records: &mut Vec<Record>, timers: &mut Timers, stepped: Stepped)
+    requires table { IsSubscriberTable timers.old.clock timers.old.running records.old.items }
     requires slot { stepped.slot < length records.old.items }
     requires room { 2 ≤ timers.old.room }
     requires counting { IsCounting stepped.solo }
@@ -37,11 +38,28 @@ fn settle_one(records: &mut Vec<Record>, timers: &mut Timers, stepped: Stepped)
 {
     let slot = stepped.slot();
     let place = slot.get() as usize;
-    records[place].renew(timers.clock(), stepped.into_draft());
-    retime(timers, slot.get(), records[place].subscriber.countdowns());
+    let before = records[place].replace(timers.clock(), stepped.into_draft());
+    let left = records[place].subscriber.countdowns();
+    retime(timers, slot.get(), before, left);
 }
 
-// Each has the state that it was prepared for.
+// One who was due has a new state, and the queue its countdowns. It has no longer those that the tick has ended.
+fn settle_due(records: &mut Vec<Record>, timers: &mut Timers, due: Stepped)
+    requires slot { due.slot < length records.old.items }
+    requires room { 2 ≤ timers.old.room }
+    requires counting { IsCounting due.solo }
+    ensures records { records.new.items ≡ changed_at due.slot (renewed timers.old.clock due.solo) records.old.items }
+    ensures clock { timers.new.clock ≡ timers.old.clock }
+    ensures running { timers.new.running ≡ both_retimed due.slot (countdowns due.solo) timers.old.running }
+    ensures room { timers.old.room ≤ timers.new.room + 2 }
+{
+    let slot = due.slot();
+    let place = slot.get() as usize;
+    records[place].renew(timers.clock(), due.into_draft());
+    retime_found(timers, slot.get(), records[place].subscriber.countdowns());
+}
+
+// Each who was due has the state that it was prepared for.
 fn settle_all(records: &mut Vec<Record>, timers: &mut Timers, stepped: Vec<Stepped>)
     requires slots { Every (λ x. x.slot < length records.old.items) stepped.items }
     requires room { 2 * length stepped.items ≤ timers.old.room }
@@ -52,7 +70,7 @@ fn settle_all(records: &mut Vec<Record>, timers: &mut Timers, stepped: Vec<Stepp
     ensures room { timers.old.room ≤ timers.new.room + 2 * length stepped.items }
 {
     for one in stepped {
-        settle_one(records, timers, one);
+        settle_due(records, timers, one);
     }
 }
 

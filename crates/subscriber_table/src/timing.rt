@@ -1,38 +1,76 @@
 //! The countdowns of slots in the queue of deadlines.
 
-ghost use Rattle.std.specs.Prelude.{◌≡◌, ◌+◌, ◌≤◌, IfOk};
-ghost use Rattle.subscriber_table.specs.Running.{both_retimed, retimed, AreInRange, IsInRange};
+ghost use Rattle.std.specs.Prelude.{◌≡◌, ◌+◌, ◌≤◌};
+ghost use Rattle.timer_queue.specs.declared.timer.TimerOwner.TheVariants.{Subscriber};
+ghost use Rattle.timer_queue.specs.Countdowns.{ticks_left};
+ghost use Rattle.subscriber_table.specs.Running.{both_retimed, retimed, AreInRange, AreQueued, IsInRange};
 
 use timer_queue::{Kind, TimerOwner, Timers};
 
-// A slot's countdown is as it is to be; takes no memory. One that is so already stays in its place.
-fn retime_one(timers: &mut Timers, slot: u32, kind: Kind, left: Option<u32>)
+// So many ticks, if it runs.
+fn ticks(left: Option<u32>) -> Option<u64>
+    ensures { result ≡ left }
+{
+    match left {
+        Some(left) => Some(u64::from(left)),
+        None => None,
+    }
+}
+
+// A slot's countdown is as it is to be, where it is known what it was; takes no memory. One that is so already stays in its place,
+// and nothing is searched.
+fn retime_one(timers: &mut Timers, slot: u32, kind: Kind, before: Option<u64>, left: Option<u32>)
     requires range { IsInRange left }
+    requires known { ticks_left (Subscriber slot) kind timers.old.running ≡ before }
     requires room { 1 ≤ timers.old.room }
     ensures clock { timers.new.clock ≡ timers.old.clock }
     ensures running { timers.new.running ≡ retimed slot kind left timers.old.running }
     ensures room { timers.old.room ≤ timers.new.room + 1 }
 {
     let owner = TimerOwner::Subscriber(slot);
-    let Some(left) = left else {
-        timers.stop(owner, kind);
+    let left = ticks(left);
+    if before == left {
         return;
-    };
-    let ticks = u64::from(left);
-    if timers.left(owner, kind) != Some(ticks) {
-        timers.start_reserved(owner, kind, ticks);
+    }
+    match left {
+        Some(left) => timers.start_reserved(owner, kind, left),
+        None => timers.stop(owner, kind),
     }
 }
 
-/// A slot's countdowns, the procedure's and the reachable one, are as they are to be; takes no memory.
-pub(crate) fn retime(timers: &mut Timers, slot: u32, left: (Option<u32>, Option<u32>))
+/// A slot's countdowns, the procedure's and the reachable one, are as they are to be, where it is known what they were; takes no
+/// memory.
+pub(crate) fn retime(
+    timers: &mut Timers,
+    slot: u32,
+    before: (Option<u32>, Option<u32>),
+    left: (Option<u32>, Option<u32>),
+)
+    requires range { AreInRange left }
+    requires known { AreQueued slot before timers.old.running }
+    requires room { 2 ≤ timers.old.room }
+    ensures clock { timers.new.clock ≡ timers.old.clock }
+    ensures running { timers.new.running ≡ both_retimed slot left timers.old.running }
+    ensures room { timers.old.room ≤ timers.new.room + 2 }
+{
+    // (that they stand in order)
+    let _ = timers.clock();
+    let (procedure, reachable) = left;
+    retime_one(timers, slot, Kind::Procedure, ticks(before.0), procedure);
+    retime_one(timers, slot, Kind::Reachable, ticks(before.1), reachable);
+}
+
+/// A slot's countdowns are as they are to be, where those that it has are looked up; takes no memory.
+pub(crate) fn retime_found(timers: &mut Timers, slot: u32, left: (Option<u32>, Option<u32>))
     requires range { AreInRange left }
     requires room { 2 ≤ timers.old.room }
     ensures clock { timers.new.clock ≡ timers.old.clock }
     ensures running { timers.new.running ≡ both_retimed slot left timers.old.running }
     ensures room { timers.old.room ≤ timers.new.room + 2 }
 {
-    let (procedure, reachable) = left;
-    retime_one(timers, slot, Kind::Procedure, procedure);
-    retime_one(timers, slot, Kind::Reachable, reachable);
+    let of_slot = TimerOwner::Subscriber(slot);
+    let procedure = timers.left(of_slot, Kind::Procedure);
+    retime_one(timers, slot, Kind::Procedure, procedure, left.0);
+    let reachable = timers.left(of_slot, Kind::Reachable);
+    retime_one(timers, slot, Kind::Reachable, reachable, left.1);
 }

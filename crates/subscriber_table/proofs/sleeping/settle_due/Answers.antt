@@ -1,0 +1,15 @@
+use Rattle.std.proofs.Common.{◌∙◌, ap, get_or, set}
+use Rattle.subscriber_table.specs.Records.{renewed}
+use Rattle.subscriber_table.proofs.Waking.{set_changed}
+use Rattle.subscriber_table.proofs.sleeping.settle_due.Goals as goal
+
+pub returns-clause-records : goal.returns-clause-records
+returns-clause-records c =
+    let rs = c.args.records.now.items in
+    let r = c.index_mut.result.now in
+    let at = c.get-place.ensures.value ∙ c.slot-slot.ensures in
+    let x = c.args.due in
+    ap (λ n. set rs n c.renew.new.self) at
+    ∙ set_changed (renewed c.args.timers.now.clock x.solo) rs x.slot r c.renew.new.self c.requires.slot
+    (c.index_mut.ensures.value ∙ ap (λ n. get_or rs n r) at)
+    (c.renew.ensures ∙ ap (λ n. renewed n c.into_draft.result.value.solo r) c.clock.ensures.clock ∙ ap (λ s. renewed c.args.timers.now.clock s r) c.into_draft.ensures)
