@@ -55,6 +55,15 @@ event_fault s TickEvent = if nat_lt s.clock (2 ^ 62) then None else Some ClockSp
 event_fault s (DataEvent imsi) = if_known (slot_of_imsi imsi s.profiles)
 event_fault s (CancelEvent imsi) = if_known (slot_of_imsi imsi s.profiles)
 
+-- the slot of the IMSI that an event names, if it names one that is provisioned
+abbrev pub slot_named : Sight → Event → Option ℕ
+slot_named s (UpEvent e) = None
+slot_named s (LostEvent e) = None
+slot_named s (InEvent e octets) = None
+slot_named s TickEvent = None
+slot_named s (DataEvent imsi) = slot_of_imsi imsi s.profiles
+slot_named s (CancelEvent imsi) = slot_of_imsi imsi s.profiles
+
 -- ---- what an event that is not refused makes of the station that it is of, and where it goes
 
 -- the station that an event is of

@@ -17,7 +17,7 @@ ghost use Rattle.mme_core.specs.GuardedRuns.{IsGuardedRun};
 ghost use Rattle.mme_core.specs.Faults.{HasEachFault};
 ghost use Rattle.mme_core.specs.Ready.{ready_world, world_of};
 ghost use Rattle.mme_answering.specs.Short.{AreShort};
-ghost use Rattle.mme_core.specs.World.{clock_after, each_after, each_sent, event_fault, events_taken, fresh_world, happens, replies, replies_given, reply, strangers_in, strangers_sent, world_after, world_run};
+ghost use Rattle.mme_core.specs.World.{clock_after, each_after, each_sent, event_fault, events_taken, fresh_world, happens, replies, replies_given, reply, slot_named, strangers_in, strangers_sent, world_after, world_run};
 
 use crate::config::Config;
 use crate::event::{Event, StepFault};
@@ -269,8 +269,19 @@ impl Surroundings {
         self.provision.slot_of_imsi(imsi)
     }
 
-    // Why an event is refused, want of memory apart.
-    fn fault_of(&self, event: &Event<'_>) -> Option<StepFault>
+    // The slot of the IMSI that an event names, if it names one that is provisioned. It is looked up once for each event.
+    fn slot_named(&self, event: &Event<'_>) -> Option<Slot>
+        ensures { result ≡ slot_named self.now.sight event.now }
+    {
+        match event {
+            Event::Data(imsi) | Event::Cancel(imsi) => self.slot_of_imsi(*imsi),
+            Event::Up(_) | Event::Lost(_) | Event::In(_, _) | Event::Tick => None,
+        }
+    }
+
+    // Why an event is refused, want of memory apart, where that is the slot that it names.
+    fn fault_of(&self, event: &Event<'_>, named: &Option<Slot>) -> Option<StepFault>
+        requires { named.now ≡ slot_named self.now.sight event.now }
         ensures { result ≡ event_fault self.now.sight event.now }
     {
         match event {
@@ -284,15 +295,20 @@ impl Surroundings {
             },
             Event::Tick if self.clock >= LAST_TICK => Some(StepFault::ClockSpent),
             Event::Tick => None,
-            Event::Data(imsi) | Event::Cancel(imsi) => match self.slot_of_imsi(*imsi) {
+            Event::Data(_) | Event::Cancel(_) => match named {
                 Some(_) => None,
                 None => Some(StepFault::UnknownImsi),
             },
         }
     }
 
-    // What comes of an event that isn't refused.
-    fn outcome<'a>(&'a self, event: &'a Event<'_>) -> Result<Outcome<'a>, AllocError>
+    // What comes of an event that isn't refused, where that is the slot that it names.
+    fn outcome<'a>(
+        &'a self,
+        event: &'a Event<'_>,
+        named: &Option<Slot>,
+    ) -> Result<Outcome<'a>, AllocError>
+        requires { named.now ≡ slot_named self.now.sight event.now }
         ensures { IfOk result (λ h. seen_outcome self.entry.now.sight.stations h ≡ happens self.entry.now.sight event.entry.now) }
     {
         match event {
@@ -322,19 +338,19 @@ impl Surroundings {
                 sent: Answers::new(self.alloc),
                 destination: Destination::Everyone(Notice::Tick),
             }),
-            Event::Data(imsi) => match self.slot_of_imsi(*imsi) {
+            Event::Data(_) => match named {
                 Some(slot) => Ok(Outcome {
                     state: None,
                     sent: Answers::new(self.alloc),
-                    destination: Destination::Subscriber(slot, SoloEvent::Data),
+                    destination: Destination::Subscriber(*slot, SoloEvent::Data),
                 }),
                 None => Ok(Outcome::answered(Answers::new(self.alloc))),
             },
-            Event::Cancel(imsi) => match self.slot_of_imsi(*imsi) {
+            Event::Cancel(_) => match named {
                 Some(slot) => Ok(Outcome {
                     state: None,
                     sent: Answers::new(self.alloc),
-                    destination: Destination::Subscriber(slot, SoloEvent::Cancel),
+                    destination: Destination::Subscriber(*slot, SoloEvent::Cancel),
                 }),
                 None => Ok(Outcome::answered(Answers::new(self.alloc))),
             },
@@ -404,7 +420,8 @@ impl Surroundings {
         in_use_is_kept();
         soundness_is_kept();
         running_is_kept();
-        if let Some(fault) = self.fault_of(event) {
+        let named = self.slot_named(event);
+        if let Some(fault) = self.fault_of(event, &named) {
             return Err(fault);
         }
         let clock = self.clock_after(event);
@@ -412,7 +429,7 @@ impl Surroundings {
             state,
             sent,
             destination,
-        } = self.outcome(event)?;
+        } = self.outcome(event, &named)?;
         let moves = Moves {
             station: event.station(),
             state,

@@ -54,24 +54,24 @@ unfolding happens
 returns-in-Some c =
     let s = c.args.self.now.sight in
     rw c.in-Data.is (ap (with_sent (to.Subscriber c.in-Some.slot (items.Data s.stations))) c.new-in-Some.ensures
-    ∙ ap (λ (o : Option ℕ). goes_to (to_slot o (items.Data s.stations))) (sym c.in-Some.is ∙ c.slot_of_imsi.ensures))
+    ∙ ap (λ (o : Option ℕ). goes_to (to_slot o (items.Data s.stations))) (sym c.in-Some.is ∙ rw c.in-Data.is at c.requires))
 
 pub returns-in-None : goal.returns-in-None
 unfolding happens
 returns-in-None c =
     let s = c.args.self.now.sight in
     rw c.in-Data.is (c.answered.ensures s.stations ∙ ap answered c.new-in-None.ensures
-    ∙ ap (λ (o : Option ℕ). goes_to (to_slot o (items.Data s.stations))) (sym c.in-None.is ∙ c.slot_of_imsi.ensures))
+    ∙ ap (λ (o : Option ℕ). goes_to (to_slot o (items.Data s.stations))) (sym c.in-None.is ∙ rw c.in-Data.is at c.requires))
 
-pub returns-in-Some-slot_of_imsi : goal.returns-in-Some-slot_of_imsi
+pub returns-in-Some-named : goal.returns-in-Some-named
 unfolding happens
-returns-in-Some-slot_of_imsi c =
-    rw c.in-Cancel.is (ap (with_sent (to.Subscriber c.in-Some-slot_of_imsi.slot items.Cancel)) c.new-in-Some-slot_of_imsi.ensures
-    ∙ ap (λ (o : Option ℕ). goes_to (to_slot o items.Cancel)) (sym c.in-Some-slot_of_imsi.is ∙ c.slot_of_imsi-in-Cancel.ensures))
+returns-in-Some-named c =
+    rw c.in-Cancel.is (ap (with_sent (to.Subscriber c.in-Some-named.slot items.Cancel)) c.new-in-Some-named.ensures
+    ∙ ap (λ (o : Option ℕ). goes_to (to_slot o items.Cancel)) (sym c.in-Some-named.is ∙ rw c.in-Cancel.is at c.requires))
 
-pub returns-in-None-slot_of_imsi : goal.returns-in-None-slot_of_imsi
+pub returns-in-None-named : goal.returns-in-None-named
 unfolding happens
-returns-in-None-slot_of_imsi c =
+returns-in-None-named c =
     let s = c.args.self.now.sight in
-    rw c.in-Cancel.is (c.answered-in-None-slot_of_imsi.ensures s.stations ∙ ap answered c.new-in-None-slot_of_imsi.ensures
-    ∙ ap (λ (o : Option ℕ). goes_to (to_slot o items.Cancel)) (sym c.in-None-slot_of_imsi.is ∙ c.slot_of_imsi-in-Cancel.ensures))
+    rw c.in-Cancel.is (c.answered-in-None-named.ensures s.stations ∙ ap answered c.new-in-None-named.ensures
+    ∙ ap (λ (o : Option ℕ). goes_to (to_slot o items.Cancel)) (sym c.in-None-named.is ∙ rw c.in-Cancel.is at c.requires))
