@@ -111,9 +111,10 @@ end_at s = do
   a ← align_at s
   if length a.1.rest == 0 then Ok a else Err Trailing
 
--- some of the next bits, at most so many: how many, and the number that they stand for
+-- some of the next bits, at most so many: how many, and the number that they stand for; all, where they lie in one octet
 abbrev pub TakesPart : ℕ → Result (ℕ × ℕ) PerFault → Place → Place → Type 0
 TakesPart most (Ok p) old new = (1 ≤ p.0) × (p.0 ≤ most) × (p.0 ≤ 8) × (number_bits_at p.0 old ≡ Ok (p.1, new))
+    × (most ≤ 8 - old.at % 8 → p.0 ≡ most)
 TakesPart most (Err f) old new = (f ≡ Truncated) × (old.rest ≡ [])
 
 -- ---- lengths without a bound, and open types

@@ -1,6 +1,6 @@
 //! Reading bits from octets.
 
-ghost use Rattle.std.specs.Prelude.{eqb, ◌≡◌, ◌%◌, ◌+◌, ◌-◌, ◌*◌, ◌^◌, ◌<◌, ◌≤◌, ◌++◌, ◌∷◌, length, drop, take};
+ghost use Rattle.std.specs.Prelude.{true, eqb, ◌↔◌, ◌≡◌, ◌%◌, ◌+◌, ◌-◌, ◌*◌, ◌^◌, ◌<◌, ◌≤◌, ◌++◌, ◌∷◌, length, drop, take};
 ghost use Rattle.bit_streams.specs.Bits.{TakesPart, Place, Answers, start, bits, value, octet_bits, take_at, align_at, bit_at, number_bits_at, aligned_octets_at, whole_octets_at, IsBytes, end_at};
 
 use crate::fault::PerFault;
@@ -64,6 +64,25 @@ impl<'a> BitReader<'a> {
     /// The number that the next `count` bits stand for, the first of them the highest; at most 64.
     #[inline(always)]
     pub fn take_bits(&mut self, count: u8) -> Result<u64, PerFault>
+        requires { count ≤ 64 }
+        ensures { Answers (λ n. n) result self.new (number_bits_at count self.old) }
+    {
+        if self.is_in_one_octet(count) {
+            let (_, part) = self.take_part(count)?;
+            return Ok(u64::from(part));
+        }
+        self.take_parts(count)
+    }
+
+    // whether so many bits, one at least, would lie in one octet
+    #[inline(always)]
+    fn is_in_one_octet(&self, count: u8) -> bool
+        ensures { (result ≡ true) ↔ ((0 < count) × (count ≤ 8 - self.now.at % 8)) }
+    {
+        0 < count && (count <= self.left || self.left == 0 && count <= 8)
+    }
+
+    fn take_parts(&mut self, count: u8) -> Result<u64, PerFault>
         requires { count ≤ 64 }
         ensures { Answers (λ n. n) result self.new (number_bits_at count self.old) }
     {

@@ -27,6 +27,7 @@ const SHORT_VALUE: usize = 64;
 
 /// Reads a length without a bound, below 16384 (X.691 clause 11.9); NotFewest for one below 128 in two octets, Fragmented for more.
 #[tactic(auto, unfolding(bit_streams::specs::Bits::length_at))]
+#[inline(always)]
 pub fn take_length(reader: &mut BitReader) -> Result<usize, PerFault>
     ensures { Answers (λ n. n) result reader.new (length_at reader.old) }
 {
@@ -48,6 +49,7 @@ pub fn take_length(reader: &mut BitReader) -> Result<usize, PerFault>
 
 /// Reads the octets of an open type (X.691 clause 11.2), lent by the encoding; longer than what is left is Truncated.
 #[tactic(auto, unfolding(bit_streams::specs::Bits::open_at))]
+#[inline(always)]
 pub fn take_open<'a>(reader: &mut BitReader<'a>) -> Result<&'a [u8], PerFault>
     ensures { Answers (λ s. s.now) result reader.new (open_at reader.old) }
 {
@@ -55,6 +57,7 @@ pub fn take_open<'a>(reader: &mut BitReader<'a>) -> Result<&'a [u8], PerFault>
     reader.take_octets(length)
 }
 
+#[inline(always)]
 fn take_octet(reader: &mut BitReader) -> Result<u8, PerFault>
     ensures { Answers (λ n. n) result reader.new (number_bits_at 8 reader.old) }
 {

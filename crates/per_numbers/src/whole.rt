@@ -1,7 +1,7 @@
 //! Whole numbers in a range.
 
 ghost use Rattle.std.specs.Prelude.{ℕ, ◌↔◌, IsSome, IfSome, ◌≡◌, ◌≤◌, ◌<◌, ◌^◌, ◌*◌, ◌-◌, ◌+◌, ◌++◌, length, Ok, IfOk};
-ghost use Rattle.bit_streams.specs.Bits.{Answers, bits, pad};
+ghost use Rattle.bit_streams.specs.Bits.{Answers, bits, pad, number_bits_at};
 ghost use Rattle.per_numbers.specs.Reading.{number_at, offset_at, small_at, aligned_small_at, large_at};
 ghost use Rattle.per_numbers.specs.Numbers.{width_of, octets_for, offset_bits};
 ghost use Rattle.per_numbers.specs.Writing.{write_number, Wrote};
@@ -146,6 +146,20 @@ fn width(most: u64) -> u8
     }
 }
 
+// a number of so many bits; sixteen are taken eight by eight, as they mostly are whole octets
+#[inline(always)]
+fn number_of(bits: u8, reader: &mut BitReader) -> Result<u64, PerFault>
+    requires { bits ≤ 64 }
+    ensures { Answers (λ n. n) result reader.new (number_bits_at bits reader.old) }
+{
+    if bits != 16 {
+        return reader.take_bits(bits);
+    }
+    let high = reader.take_bits(8)?;
+    let low = reader.take_bits(8)?;
+    Ok(high * 256 + low)
+}
+
 #[tactic(auto, unfolding(crate::specs::Reading::small_at))]
 #[inline(always)]
 fn small(span: u64, bits: u8, reader: &mut BitReader) -> Result<u64, PerFault>
@@ -153,7 +167,7 @@ fn small(span: u64, bits: u8, reader: &mut BitReader) -> Result<u64, PerFault>
     ensures exact { Answers (λ n. n) result reader.new (small_at span bits reader.old) }
     ensures within { IfOk result (λ n. n ≤ span) }
 {
-    let offset = reader.take_bits(bits)?;
+    let offset = number_of(bits, reader)?;
     if offset <= span {
         Ok(offset)
     } else {
@@ -217,6 +231,7 @@ fn octets_of(n: u64) -> u8
 }
 
 #[tactic(auto, unfolding(crate::specs::Reading::large_at))]
+#[inline(always)]
 fn large(span: u64, reader: &mut BitReader) -> Result<u64, PerFault>
     ensures exact { Answers (λ n. n) result reader.new (large_at span reader.old) }
     ensures within { IfOk result (λ n. n ≤ span) }

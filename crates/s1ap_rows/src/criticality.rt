@@ -53,6 +53,7 @@ impl Criticality {
 
 /// Takes a criticality (TS 36.413 clause 9.3.7).
 #[tactic(auto, unfolding(per_numbers::specs::Reading::number_at))]
+#[inline(always)]
 pub fn take_criticality(reader: &mut BitReader) -> Result<Criticality, PerFault>
     ensures { Answers criticality_number result reader.new (number_at 0 2 reader.old) }
 {

@@ -1,4 +1,4 @@
-use Rattle.std.proofs.Common.{◌<◌, ◌≤◌, length, refl, ap, sym, ◌∙◌, arith, drop}
+use Rattle.std.proofs.Common.{◌<◌, ◌≤◌, ◌*◌, ◌%◌, ◌-◌, ◌≡◌, length, refl, ap, sym, ◌∙◌, arith, drop}
 use Rattle.bit_streams.specs.Bits.{Place, octet_bits}
 use Rattle.bit_streams.specs.BitLaws.{no_bit}
 use Rattle.bit_streams.specs.PartLaws.{fresh_octet, fresh_part, later_part}
@@ -18,6 +18,7 @@ returns-then-most-ge8 c =
       c.if-most-ge8.true,
       omega arith,
       rw (← c.self.view_is) (fresh_octet r.octets.now r.begun r.current r.left c.if-self-eq0.true lt i.4),
+      (λ whole. omega (arith, whole, c.if-most-ge8.true)),
     )
 
 pub returns-then-self-eq0 : goal.returns-then-self-eq0
@@ -34,6 +35,7 @@ returns-then-self-eq0 c =
       omega arith,
       le,
       rw (← c.self.view_is) (fresh_part r.octets.now r.begun r.current r.left some c.split-part.result.0 c.split-part.result.1 c.if-self-eq0.true lt le s.part s.parts),
+      (λ _. refl),
     )
 
 pub returns : goal.returns
@@ -50,4 +52,6 @@ returns c =
       omega (arith, m),
       (let few = i.1 in omega (arith, m, few)),
       rw (← c.self.view_is) (later_part r.begun r.current r.left some c.split-part-2.result.0 c.split-part-2.result.1 (octet_bits (drop r.begun r.octets.now)) le i.2 s.part s.parts),
+      (λ whole. let at : 8 * r.begun - r.left ≡ c.args.self.now.at = ap (λ (p : Place). p.at) c.self.view_is in
+          omega (arith, m, whole, at, none, i.1, i.2)),
     )

@@ -1,7 +1,7 @@
 use Rattle.std.proofs.Common.{◌≡◌, ◌-◌, ◌^◌, ◌<◌, ◌≤◌}
 use Rattle.bit_streams.specs.Bits.{number_bits_at}
 use Rattle.bit_streams.specs.PartLaws.{behind}
-use Rattle.bit_streams.proofs.reader.BitReader.take_bits.Given as goal
+use Rattle.bit_streams.proofs.reader.BitReader.take_parts.Given as goal
 
 abbrev pub invariant-loop-wanted : goal.invariant-loop-wanted
 invariant-loop-wanted l = record {
