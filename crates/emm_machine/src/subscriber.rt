@@ -64,7 +64,7 @@ fn emm_of(phase: Phase) -> EmmState
 }
 
 #[tactic(auto, unfolding(nas_elements::specs::Capability::capability_of))]
-fn fresh_solo() -> Solo
+fn fresh_solo(alloc: Global) -> Solo
     ensures { result ≡ fresh_solo }
 {
     let Ok(capability) = UeCapability::read(&[0, 0]) else {
@@ -74,7 +74,7 @@ fn fresh_solo() -> Solo
         phase: Phase::Deregistered,
         connection: None,
         context: None,
-        schedule: KeySchedule::new(),
+        schedule: KeySchedule::new(alloc),
         associations: Counter::new(),
         tmsis: Counter::new(),
         tmsi: None,
@@ -129,10 +129,11 @@ fn row(
     }
 }
 
-// The step of a state, on a copy that is boxed once.
+// The step of a state, on a copy in a box, which is the spare one if there is one.
 #[tactic(auto, unfolding(crate::specs::Steps::solo_step))]
 fn drafted(
     alloc: Global,
+    spare: Option<Box<Draft>>,
     setting: &Setting,
     solo: &Solo,
     event: &SoloEvent,
@@ -140,7 +141,7 @@ fn drafted(
 ) -> Result<Box<Draft>, AllocError>
     ensures { IfOk result (λ d. d.value ≡ solo_step setting.now solo.now (item_of event.now world.now)) }
 {
-    let mut draft = Draft::from_state(alloc, solo)?;
+    let mut draft = Draft::from_state(alloc, spare, solo)?;
     match row(&mut draft, alloc, setting, event, world) {
         Ok(()) => Ok(draft),
         Err(StepStop::NoMemory) => Err(AllocError),
@@ -152,7 +153,7 @@ fn drafted(
 fn spent(alloc: Global, solo: &Solo) -> Result<Box<Draft>, AllocError>
     ensures { IfOk result (λ d. d.value ≡ spent solo.now) }
 {
-    let mut draft = Draft::from_state(alloc, solo)?;
+    let mut draft = Draft::from_state(alloc, None, solo)?;
     draft.fall(alloc, Cause::Nas(NasCause::Unspecified))?;
     draft.wipe();
     Ok(draft)
@@ -198,24 +199,37 @@ impl Subscriber {
         };
         Ok(Subscriber {
             setting,
-            state: Draft::of(alloc, fresh_solo())?,
+            state: Draft::of(alloc, fresh_solo(alloc))?,
             alloc,
         })
     }
 
-    /// What an event would leave and send, in a box, so that it stands in one place until it is settled; nothing changes.
-    pub fn prepare(&self, event: &SoloEvent, world: &EnbWorld) -> Result<Box<Draft>, AllocError>
+    /// What an event would leave and send, in a box, so that it stands in one place until it is settled: in the spare one, where
+    /// there is one. Nothing changes.
+    pub fn prepare(
+        &self,
+        spare: Option<Box<Draft>>,
+        event: &SoloEvent,
+        world: &EnbWorld,
+    ) -> Result<Box<Draft>, AllocError>
         ensures { IfOk result (λ d. d.value ≡ solo_step self.now.setting self.now.solo (item_of event.now world.now)) }
     {
-        drafted(self.alloc, &self.setting, &self.state.solo, event, world)
+        drafted(
+            self.alloc,
+            spare,
+            &self.setting,
+            &self.state.solo,
+            event,
+            world,
+        )
     }
 
-    /// The state is that of a step that was prepared, whose box is kept; takes no memory. What was sent is to be taken out before,
-    /// since it would stay in memory with the box.
-    pub fn settle(&mut self, draft: Box<Draft>)
+    /// The state is that of a step that was prepared, whose box is kept; answers the box that was kept until now. Takes no memory.
+    /// What was sent is to be taken out before, since it would stay in memory with the box.
+    pub fn settle(&mut self, draft: Box<Draft>) -> Box<Draft>
         ensures { self.new ≡ record self.old { solo = draft.value.solo } }
     {
-        self.state = draft;
+        mem::replace(&mut self.state, draft)
     }
 
     /// One event: what is sent. Where memory is refused nothing changes.
@@ -224,7 +238,7 @@ impl Subscriber {
         ensures state { OnOk result (self.new ≡ record self.old { solo = (solo_step self.old.setting self.old.solo (item_of event.now world.now)).solo }) }
         ensures err { OnErr result (self.new ≡ self.old) }
     {
-        let mut draft = self.prepare(event, world)?;
+        let mut draft = self.prepare(None, event, world)?;
         let sent = mem::replace(&mut draft.sent, Answers::new(self.alloc));
         self.settle(draft);
         Ok(sent)
@@ -289,7 +303,7 @@ impl Subscriber {
     {
         Ok(Subscriber {
             setting: self.setting.clone()?,
-            state: Draft::from_state(self.alloc, &self.state.solo)?,
+            state: Draft::from_state(self.alloc, None, &self.state.solo)?,
             alloc: self.alloc,
         })
     }

@@ -3,7 +3,7 @@
 ghost use Rattle.std.specs.Prelude.{◌≡◌, IfOk};
 ghost use Rattle.emm_state.specs.Actions.{untouched};
 
-use crate::solo::Solo;
+use crate::solo::{Repeat, Solo};
 use mme_vocabulary::{Answers, Mark, NasOctets};
 use std::alloc::{AllocError, Global};
 
@@ -33,12 +33,32 @@ impl Draft {
         )?)
     }
 
-    /// A step from a copy of a state, of which nothing is done yet, in a box.
-    pub fn from_state(alloc: Global, solo: &Solo) -> Result<Box<Draft>, AllocError>
+    /// A step from a copy of a state, of which nothing is done yet: in the spare box, where there is one, else in a new one.
+    pub fn from_state(
+        alloc: Global,
+        spare: Option<Box<Draft>>,
+        solo: &Solo,
+    ) -> Result<Box<Draft>, AllocError>
         ensures { IfOk result (λ d. d.value ≡ untouched solo.now) }
     {
         let repeat = solo.repeat_copy(alloc)?;
-        Draft::of(alloc, solo.with_repeat(repeat))
+        match spare {
+            Some(mut draft) => {
+                draft.begin(alloc, solo, repeat);
+                Ok(draft)
+            }
+            None => Draft::of(alloc, solo.with_repeat(repeat)),
+        }
+    }
+
+    // a step from the same state with this to be sent again, where another step stood
+    fn begin(&mut self, alloc: Global, solo: &Solo, repeat: Option<Repeat>)
+        ensures { self.new ≡ untouched (record solo.now { repeat = repeat }) }
+    {
+        self.solo.begin(solo, repeat);
+        self.sent = Answers::new(alloc);
+        self.accepted = None;
+        self.unwritten = false;
     }
 }
 

@@ -290,6 +290,26 @@ impl Solo {
         }
     }
 
+    /// The same state as another one, with this to be sent again.
+    pub(crate) fn begin(&mut self, other: &Solo, repeat: Option<Repeat>)
+        ensures { self.new ≡ record other.now { repeat = repeat } }
+    {
+        self.phase = other.phase;
+        self.connection = other.connection;
+        self.context = other.context;
+        self.schedule = other.schedule.copy();
+        self.associations = other.associations;
+        self.tmsis = other.tmsis;
+        self.tmsi = other.tmsi;
+        self.next_vector = other.next_vector;
+        self.tai = other.tai;
+        self.asked = other.asked;
+        self.bearer = other.bearer;
+        self.repeat = repeat;
+        self.procedure = other.procedure;
+        self.reachable = other.reachable;
+    }
+
     /// The same state once more.
     pub fn copy(&self, alloc: Global) -> Result<Solo, AllocError>
         ensures { IfOk result (λ s. s ≡ self.now) }

@@ -1,9 +1,10 @@
 //! Keys and integrity of EPS NAS signalling: AES-128, CMAC, 128-EIA2, HMAC-SHA-256 and the key
 //! derivations.
 //!
-//! No call takes memory or is refused. Each is proved equal to its function on whole lists in
-//! `specs/`. Nothing is promised of time: AES looks octets up in tables at places that depend on
-//! the key and the message. [`same_octets`] alone is written without a branch on an octet.
+//! No call is refused, and none takes memory but what a [`KeySchedule`] keeps, which keeps nothing
+//! where there is none. Each is proved equal to its function on whole lists in `specs/`. Nothing is
+//! promised of time: AES looks octets up in tables at places that depend on the key and the
+//! message. [`same_octets`] alone is written without a branch on an octet.
 #![tactic(auto)]
 
 mod aes;

@@ -24,23 +24,28 @@ impl Record {
         self.touched = clock;
     }
 
-    /// The state is that of this step now; takes no memory.
-    pub fn renew(&mut self, clock: u64, draft: Box<Draft>)
+    /// The state is that of this step now; answers the box of the one before. Takes no memory.
+    pub fn renew(&mut self, clock: u64, draft: Box<Draft>) -> Box<Draft>
         ensures { self.new ≡ renewed clock draft.value.solo self.old }
     {
-        self.subscriber.settle(draft);
         self.touched = clock;
+        self.subscriber.settle(draft)
     }
 
-    /// The state is that of this step now; answers the countdowns that it had until now. Takes no memory.
-    pub fn replace(&mut self, clock: u64, draft: Box<Draft>) -> (Option<u32>, Option<u32>)
+    /// The state is that of this step now; answers the countdowns that it had until now, and the box of the step before. Takes no
+    /// memory.
+    pub fn replace(
+        &mut self,
+        clock: u64,
+        draft: Box<Draft>,
+    ) -> ((Option<u32>, Option<u32>), Box<Draft>)
         requires { IsFresh clock self.old }
         ensures state { self.new ≡ renewed clock draft.value.solo self.old }
-        ensures before { result ≡ countdowns (view_at clock self.old).solo }
+        ensures before { result.0 ≡ countdowns (view_at clock self.old).solo }
     {
         self.wake(clock);
         let before = self.subscriber.countdowns();
-        self.renew(clock, draft);
-        before
+        let spare = self.renew(clock, draft);
+        (before, spare)
     }
 }

@@ -26,7 +26,13 @@ use std::marker::Model;
 use timer_queue::Timers;
 
 // One has a new state, and the queue its countdowns, where it has those of each now. A countdown that stays isn't looked for.
-fn settle_one(records: &mut Vec<Record>, timers: &mut Timers, stepped: Stepped)
+// The box of the step before is the spare one.
+fn settle_one(
+    records: &mut Vec<Record>,
+    timers: &mut Timers,
+    spare: &mut Option<Box<Draft>>,
+    stepped: Stepped,
+)
     requires table { IsSubscriberTable timers.old.clock timers.old.running records.old.items }
     requires slot { stepped.slot < length records.old.items }
     requires room { 2 ≤ timers.old.room }
@@ -38,9 +44,10 @@ fn settle_one(records: &mut Vec<Record>, timers: &mut Timers, stepped: Stepped)
 {
     let slot = stepped.slot();
     let place = slot.get() as usize;
-    let before = records[place].replace(timers.clock(), stepped.into_draft());
+    let (before, kept) = records[place].replace(timers.clock(), stepped.into_draft());
     let left = records[place].subscriber.countdowns();
     retime(timers, slot.get(), before, left);
+    *spare = Some(kept);
 }
 
 // One who was due has a new state, and the queue its countdowns. It has no longer those that the tick has ended.
@@ -79,6 +86,8 @@ fn settle_all(records: &mut Vec<Record>, timers: &mut Timers, stepped: Vec<Stepp
 pub(crate) struct Sleepers {
     records: Vec<Record>,
     timers: Timers,
+    // the box of a step that another has replaced, for the next one; what it has means nothing
+    spare: Option<Box<Draft>>,
     alloc: Global,
 }
 
@@ -105,6 +114,7 @@ impl Sleepers {
         Sleepers {
             records: Vec::new(alloc),
             timers: Timers::new(alloc, clock),
+            spare: None,
             alloc,
         }
     }
@@ -177,7 +187,8 @@ impl Sleepers {
         let clock = self.timers.clock();
         let place = slot.get() as usize;
         self.records[place].wake(clock);
-        self.records[place].subscriber.prepare(event, world)
+        let spare = self.spare.take();
+        self.records[place].subscriber.prepare(spare, event, world)
     }
 
     /// The slots of those who have a countdown that the next tick ends, by rising slot. Only the front of the queue is looked at.
@@ -208,7 +219,8 @@ impl Sleepers {
         ensures subscribers { self.new.subscribers ≡ with_solo stepped.slot stepped.solo self.old.subscribers }
         ensures room { self.old.room ≤ self.new.room + 1 }
     {
-        settle_one(&mut self.records, &mut self.timers, stepped);
+        let spare = &mut self.spare;
+        settle_one(&mut self.records, &mut self.timers, spare, stepped);
     }
 
     /// One tick: those who are due have the state that was prepared, all others have a tick less. Only those who are due are
