@@ -1,5 +1,5 @@
 -- Bits in two parts: the number of both is that of the first, and behind it that of the second.
-use Rattle.std.proofs.Common.{◌≡◌, ℕ, zero, suc, ◌+◌, ◌-◌, ◌*◌, ◌/◌, ◌^◌, ◌%◌, ◌<◌, ◌≤◌, Bool, true, false, List, [], ◌∷◌, ◌++◌, length, take, drop, get_or, Result, Ok, Err, refl, sym, ap, subst, ◌∙◌, arith, append_assoc, inl, inr}
+use Rattle.std.proofs.Common.{◌≡◌, ℕ, zero, suc, ◌+◌, ◌-◌, ◌*◌, ◌/◌, ◌^◌, ◌%◌, ◌<◌, ◌≤◌, Bool, true, false, eqb, List, [], ◌∷◌, ◌++◌, length, take, drop, get_or, Result, Ok, Err, refl, sym, ap, subst, ◌∙◌, arith, append_assoc, inl, inr}
 use Rattle.std.proofs.lemmas.Bool.{lt-ltb, le-ltb, cases_lt}
 use Rattle.std.proofs.lemmas.List.{length-append, length-drop, drop-drop, drop-take, take-take, take-append-drop, length-take-le, drop_more, append-nil, flat_map_more}
 use Rattle.std.proofs.lemmas.List.{take_at as take_front, drop_at as drop_front}
@@ -36,6 +36,13 @@ bits-split left some current le lt =
     let low : current % 2 ^ k < 2 ^ k = mod-lt current (pow_pos k) in
     let back : current / 2 ^ k * 2 ^ k + current % 2 ^ k ≡ current = let e = div-add-mod current (2 ^ k) in omega (arith, e) in
     (sym (ap (λ j. bits j current) sum) ∙ ap (bits (some + k)) (sym back) ∙ bits-join some k (current / 2 ^ k) (current % 2 ^ k) high low, high, low)
+
+-- a number of one bit
+pub bit-is : (n : ℕ) → n < 2 → bits 1 n ≡ eqb n 1 ∷ []
+unfolding bits
+bit-is zero lt = refl
+bit-is (suc zero) lt = refl
+bit-is (suc (suc n)) lt = absurd (omega (arith, lt))
 
 -- ---- reading
 

@@ -1,5 +1,5 @@
 -- Octets one after the other are the octets at once.
-use Rattle.std.proofs.Common.{◌≡◌, ℕ, zero, suc, ◌-◌, ◌+◌, ◌*◌, ◌/◌, ◌^◌, ◌<◌, Bool, true, false, cond, ltb, eqb, ◌&&◌, List, [], ◌∷◌, ◌++◌, length, take, drop, Result, Ok, Err, refl, sym, ap, subst, ◌∙◌, arith, inl, inr}
+use Rattle.std.proofs.Common.{◌≡◌, ℕ, zero, suc, ◌-◌, ◌+◌, ◌*◌, ◌/◌, ◌^◌, ◌<◌, ◌≤◌, Bool, true, false, cond, ltb, eqb, ◌&&◌, List, [], ◌∷◌, ◌++◌, length, take, drop, Result, Ok, Err, refl, sym, ap, subst, ◌∙◌, append_assoc, arith, inl, inr}
 use Rattle.std.proofs.lemmas.Bool.{lt-ltb, cases_lt, ltb-false, eq-eqb, and_from}
 use Rattle.bit_streams.specs.Octet.{all_below}
 use Rattle.std.proofs.lemmas.List.{length-drop, drop-take, drop-drop, take-take, length-take-le, length-append, length-replicate, append-nil, take-append-drop}
@@ -204,3 +204,24 @@ length-string os more last = omega (arith, length-append (octet_bits os) (bits m
 pub no_bits_more : (os : List ℕ) (more last : ℕ) → more ≡ 0 → octet_bits os ≡ octet_bits os ++ bits more last
 unfolding bits
 no_bits_more os more last e = rw e (sym (append-nil (octet_bits os)))
+
+-- ---- bits, eight at a time
+
+in_front : (front some : List Bool) (read : Result (List Bool × Place) PerFault) → with_front front (read >>= λ x. okay {A = List Bool × Place} (some ++ x.0, x.1)) ≡ with_front (front ++ some) read
+in_front front some (Ok x) = ap (λ (l : List Bool). okay {A = List Bool × Place} (l, x.1)) (sym (append_assoc front some x.0))
+in_front front some (Err f) = refl
+
+pub eight_read : (front : List Bool) (left octet : ℕ) (s t : Place) (total : Result (List Bool × Place) PerFault) → 8 ≤ left → number_bits_at 8 s ≡ Ok (octet, t)
+    → with_front front (take_at left s) ≡ total → with_front (front ++ bits 8 octet) (take_at (left - 8) t) ≡ total
+eight_read front left octet s t total le e so_far =
+    let sum : 8 + (left - 8) ≡ left = omega arith in
+    let parts : take_at left s ≡ (take_at (left - 8) t >>= λ y. okay {A = List Bool × Place} (bits 8 octet ++ y.0, y.1)) =
+    ap (λ k. take_at k s) (sym sum) ∙ take-parts 8 (left - 8) s ∙ rw (field_ok 8 s octet t e) refl in
+    sym (in_front front (bits 8 octet) (take_at (left - 8) t)) ∙ ap (with_front front) (sym parts) ∙ so_far
+
+pub eight_fault : (front : List Bool) (left : ℕ) (s : Place) (f : PerFault) (total : Result (List Bool × Place) PerFault) → 8 ≤ left → number_bits_at 8 s ≡ Err f
+    → with_front front (take_at left s) ≡ total → total ≡ Err f
+eight_fault front left s f total le e so_far =
+    let sum : 8 + (left - 8) ≡ left = omega arith in
+    let none : take_at left s ≡ Err f = ap (λ k. take_at k s) (sym sum) ∙ take-parts 8 (left - 8) s ∙ rw (field_err 8 s f e) refl in
+    sym so_far ∙ ap (with_front front) none

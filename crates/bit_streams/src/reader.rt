@@ -189,6 +189,19 @@ impl<'a> BitReader<'a> {
     pub fn fill_bits(&mut self, out: &mut [bool]) -> Result<(), PerFault>
         ensures { Answers (λ _. out.new) result self.new (take_at (length out.old) self.old) }
     {
+        let mut at = 0;
+        while at + 8 <= out.len() {
+            let octet = self.take_bits(8)? as u8;
+            out[at..at + 8].copy_from_slice(&bits_of(octet));
+            at += 8;
+        }
+        self.fill_each_bit(&mut out[at..])
+    }
+
+    // where they fill no octet
+    fn fill_each_bit(&mut self, out: &mut [bool]) -> Result<(), PerFault>
+        ensures { Answers (λ _. out.new) result self.new (take_at (length out.old) self.old) }
+    {
         for bit in out {
             *bit = self.take_bit()?;
         }
@@ -209,8 +222,22 @@ impl<'a> BitReader<'a> {
     }
 }
 
+/// The bits of an octet.
+fn bits_of(octet: u8) -> [bool; 8]
+    ensures { result ≡ bits 8 octet }
+{
+    let (first, rest) = split_bit(octet, 8);
+    let (second, rest) = split_bit(rest, 7);
+    let (third, rest) = split_bit(rest, 6);
+    let (fourth, rest) = split_bit(rest, 5);
+    let (fifth, rest) = split_bit(rest, 4);
+    let (sixth, rest) = split_bit(rest, 3);
+    let (seventh, rest) = split_bit(rest, 2);
+    let last = rest == 1;
+    [first, second, third, fourth, fifth, sixth, seventh, last]
+}
+
 /// The first of the bits of a number, and the number of the others.
-#[tactic(auto, unfolding(crate::specs::Bits::bits))]
 fn split_bit(current: u8, left: u8) -> (bool, u8)
     requires some { 0 < left }
     requires octet { left ≤ 8 }
@@ -218,12 +245,8 @@ fn split_bit(current: u8, left: u8) -> (bool, u8)
     ensures parts { bits left current ≡ result.0 ∷ bits (left - 1) result.1 }
     ensures fits { result.1 < 2 ^ (left - 1) }
 {
-    let half = 1u8 << (left - 1);
-    if half <= current {
-        (true, current - half)
-    } else {
-        (false, current)
-    }
+    let (part, behind) = split(current, left, 1);
+    (part == 1, behind)
 }
 
 /// The first bits of a number of `left` bits, and the others, each as a number.

@@ -1,4 +1,4 @@
-use Rattle.std.proofs.Common.{◌<◌, ◌≤◌, ◌*◌, ◌%◌, ◌-◌, ◌≡◌, length, refl, ap, sym, ◌∙◌, arith, drop}
+use Rattle.std.proofs.Common.{◌<◌, ◌≤◌, ◌*◌, ◌-◌, ◌≡◌, length, refl, ap, sym, ◌∙◌, arith, drop}
 use Rattle.bit_streams.specs.Bits.{Place, octet_bits}
 use Rattle.bit_streams.specs.BitLaws.{no_bit}
 use Rattle.bit_streams.specs.PartLaws.{fresh_octet, fresh_part, later_part}
