@@ -15,6 +15,7 @@ use nas_security::{Eia2, EpsSecurityContext};
 use s1ap_elements::Tai;
 use std::alloc::{AllocError, Global};
 use std::marker::Model;
+use std::slice;
 
 /// What the machine is about (TS 24.301 clause 5.1.3.4).
 #[derive(Clone, Copy, PartialEq, Eq, Debug)]
@@ -257,6 +258,13 @@ pub struct Solo {
     pub reachable: Option<u32>,
 }
 
+// A security context, of some 340 octets, is copied where it is to stand.
+fn copy_context(to: &mut Option<Context>, from: &Option<Context>)
+    ensures { to.new ≡ from.now }
+{
+    slice::from_mut(to).copy_from_slice(slice::from_ref(from));
+}
+
 impl Solo {
     /// What is sent when the countdown has expired, once more.
     pub(crate) fn repeat_copy(&self, alloc: Global) -> Result<Option<Repeat>, AllocError>
@@ -296,7 +304,7 @@ impl Solo {
     {
         self.phase = other.phase;
         self.connection = other.connection;
-        self.context = other.context;
+        copy_context(&mut self.context, &other.context);
         self.schedule = other.schedule.copy();
         self.associations = other.associations;
         self.tmsis = other.tmsis;
