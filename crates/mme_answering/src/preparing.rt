@@ -1,4 +1,6 @@
 //! What strangers and subscribers do at an event, worked out before any of it is taken.
+//!
+//! A call that isn't one of each step stands out of line (`inline(never)`), so that a step doesn't clear its locals.
 
 ghost use Rattle.std.specs.Prelude.{◌≡◌, ◌<◌, ◌≤◌, ◌++◌, List, map, length, IfOk, OnOk, Some, true};
 ghost use Rattle.mme_vocabulary.specs.declared.stations.StationState.{StationState};
@@ -58,6 +60,7 @@ fn prepare_step(
 }
 
 // The step of each of some slots; what they send stands behind what is sent so far.
+#[inline(never)]
 fn prepare_each(
     alloc: Global,
     subscribers: &mut Subscribers,
@@ -106,6 +109,7 @@ fn prepare_one(
 }
 
 // The step of the one whom a stranger calls, if it calls.
+#[inline(never)]
 fn prepare_called(
     alloc: Global,
     subscribers: &mut Subscribers,
@@ -129,6 +133,7 @@ fn prepare_called(
 }
 
 // What is to become of a stranger by its turn, and of the one whom it calls, if it calls.
+#[inline(never)]
 fn prepare_turn(
     alloc: Global,
     subscribers: &mut Subscribers,
@@ -152,6 +157,7 @@ fn prepare_turn(
 }
 
 // A tick of those alone, strangers and subscribers, who are due; and what all send.
+#[inline(never)]
 fn prepare_tick(
     alloc: Global,
     strangers: &Strangers,
@@ -202,6 +208,7 @@ fn touched_by(subscribers: &Subscribers, notice: &Notice) -> Result<Vec<Slot>, A
 
 // What a notice of a station makes of those subscribers whom it touches, by the event that it is to them, and what they send;
 // strangers send nothing at it.
+#[inline(never)]
 fn prepare_all(
     alloc: Global,
     subscribers: &mut Subscribers,
@@ -224,6 +231,7 @@ fn prepare_all(
 }
 
 // What is to become of those whom an event goes to that isn't for everyone.
+#[inline(never)]
 fn prepare_own<'a>(
     alloc: Global,
     provision: &Provision,
