@@ -13,6 +13,9 @@ use trace_player::{PlayFault, Watched};
 /// The first word of each command line, as usage texts show it.
 const NAME: &str = "mme";
 
+/// The octets that are kept back, at most, before they are written.
+const KEPT_BACK: usize = 65_536;
+
 fn main(rt: HostRuntime) -> ExitCode {
     let alloc = rt.alloc();
     let args = match env::args(&rt) {
@@ -70,7 +73,7 @@ fn done(rt: &HostRuntime, choice: Choice<'_>) -> ExitCode {
 
 /// Plays or simulates what the reader gives to standard output, in large pieces.
 fn run<R: Read + Drop>(rt: &HostRuntime, choice: Choice<'_>, reader: R) -> ExitCode {
-    let Ok(writer) = BufWriter::new(rt.alloc(), rt.stdout()) else {
+    let Ok(writer) = BufWriter::with_capacity(rt.alloc(), KEPT_BACK, rt.stdout()) else {
         return out_of_memory(rt);
     };
     let mut reader = Watched::new(reader);

@@ -22,6 +22,8 @@ pub struct Player {
     pub line: u64,
     /// The octets of that line that have come.
     pub pending: Vec<u8>,
+    /// The room of the last answer's line.
+    pub room: Vec<u8>,
 }
 
 impl Player {
@@ -35,6 +37,7 @@ impl Player {
             progress: Progress::Nothing,
             line: 1,
             pending: Vec::new(alloc),
+            room: Vec::new(alloc),
         }
     }
 
@@ -92,7 +95,14 @@ impl Player {
         ensures takes { GrowsBy (W.contents writer.old.inner) (W.contents writer.new.inner) (TakesLine self.old piece.now result self.new) }
         ensures write { IsErrOf result PlayFault.Write → writer.new.failed ≡ true }
     {
-        match play_line(alloc, &mut self.progress, self.line, &piece[..end], writer) {
+        match play_line(
+            alloc,
+            &mut self.progress,
+            self.line,
+            &piece[..end],
+            &mut self.room,
+            writer,
+        ) {
             Ok(()) => {
                 self.next_line();
                 Ok(end + 1)
@@ -154,7 +164,8 @@ impl Player {
     {
         let number = self.line;
         let text = self.pending.as_slice();
-        match play_line(alloc, &mut self.progress, number, text, writer) {
+        let room = &mut self.room;
+        match play_line(alloc, &mut self.progress, number, text, room, writer) {
             Ok(()) => {
                 self.next_line();
                 Ok(())
@@ -175,19 +186,20 @@ impl Player {
     }
 }
 
-/// One line, given without its LF.
+/// One line, given without its LF. The room is that of the last answer's line, used again.
 fn play_line<W: Write>(
     alloc: Global,
     progress: &mut Progress,
     number: u64,
     text: &[u8],
+    room: &mut Vec<u8>,
     writer: &mut Watched<W>,
 ) -> Result<(), PlayFault>
     ensures acts { GrowsBy (W.contents writer.old.inner) (W.contents writer.new.inner) (Acts number (line_effect progress.old text.now) result progress.new) }
     ensures write { IsErrOf result PlayFault.Write → writer.new.failed ≡ true }
 {
     match parse_line(alloc, text) {
-        Ok(line) => act_on_line(alloc, progress, number, line, writer),
+        Ok(line) => act_on_line(alloc, progress, number, line, room, writer),
         Err(fault) => Err(fault_in_line(number, fault)),
     }
 }

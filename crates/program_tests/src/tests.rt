@@ -250,6 +250,7 @@ fn plays_to_end_of_clock(alloc: Global, config: Config) -> bool {
                 progress: Progress::Running(mme),
                 line: 1,
                 pending: Vec::new(alloc),
+                room: Vec::new(alloc),
             };
             ends_clock(alloc, &mut player)
         }

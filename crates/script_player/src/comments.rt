@@ -81,7 +81,7 @@ fn push_answer(alloc: Global, answer: &AnswerLine<'_>, out: &mut Vec<u8>) -> Res
     ensures { OnOk result (AddsComments out.old.items out.new.items (answer_text answer.now)) }
 {
     comments_are_not_kept();
-    let line = write_answer(alloc, answer)?;
+    let line = write_answer(Vec::new(alloc), answer)?;
     push_marked(line.as_slice(), out)?;
     Ok(())
 }

@@ -20,14 +20,15 @@ use trace_text::{Line, TraceFault};
 
 /// Does what the line of that number says, and writes its answers. Order or Provision where what came before doesn't allow the
 /// line, and then nothing is written; Write where the writer failed and NoMemory where a growth of memory was refused, and then a
-/// front of its answers is. Takes memory for what is provisioned, for the MME, which the first event or question makes, and for
-/// each answer.
+/// front of its answers is. Takes memory for what is provisioned, for the MME, which the first event or question makes, for what
+/// an event sends, and for an answer that `room` is too small for: the room of the last line, used again.
 #[tactic(auto, unfolding(crate::specs::Effects::effect_of))]
 pub fn act_on_line<W: Write>(
     alloc: Global,
     progress: &mut Progress,
     number: u64,
     line: Line,
+    room: &mut Vec<u8>,
     writer: &mut Watched<W>,
 ) -> Result<(), PlayFault>
     ensures acts { GrowsBy (W.contents writer.old.inner) (W.contents writer.new.inner) (Acts number (effect_of progress.old line) result progress.new) }
@@ -40,20 +41,27 @@ pub fn act_on_line<W: Write>(
         Line::Vec(imsi, vector) => give(progress, number, imsi, vector),
         Line::Up(station) => {
             let event = Event::Up(station);
-            play_event(alloc, progress, number, &event, writer)
+            play_event(alloc, progress, number, &event, room, writer)
         }
         Line::Lost(station) => {
             let event = Event::Lost(station);
-            play_event(alloc, progress, number, &event, writer)
+            play_event(alloc, progress, number, &event, room, writer)
         }
         Line::In(station, octets) => {
             let event = Event::In(station, octets.as_slice());
-            play_event(alloc, progress, number, &event, writer)
+            play_event(alloc, progress, number, &event, room, writer)
         }
-        Line::Tick(ticks) => play_ticks(alloc, progress, number, ticks.get(), writer),
-        Line::Data(imsi) => play_event(alloc, progress, number, &Event::Data(imsi), writer),
-        Line::Cancel(imsi) => play_event(alloc, progress, number, &Event::Cancel(imsi), writer),
-        Line::Show(imsi) => show(alloc, progress, number, imsi, writer),
+        Line::Tick(ticks) => play_ticks(alloc, progress, number, ticks.get(), room, writer),
+        Line::Data(imsi) => play_event(alloc, progress, number, &Event::Data(imsi), room, writer),
+        Line::Cancel(imsi) => play_event(
+            alloc,
+            progress,
+            number,
+            &Event::Cancel(imsi),
+            room,
+            writer,
+        ),
+        Line::Show(imsi) => show(alloc, progress, number, imsi, room, writer),
     }
 }
 
@@ -63,6 +71,7 @@ fn play_event<W: Write>(
     progress: &mut Progress,
     number: u64,
     event: &Event<'_>,
+    room: &mut Vec<u8>,
     writer: &mut Watched<W>,
 ) -> Result<(), PlayFault>
     ensures acts { GrowsBy (W.contents writer.old.inner) (W.contents writer.new.inner) (Acts number (happened progress.old event.now) result progress.new) }
@@ -70,7 +79,7 @@ fn play_event<W: Write>(
 {
     run(alloc, progress, number)?;
     match progress {
-        Progress::Running(mme) => match step_event(alloc, mme, event, writer) {
+        Progress::Running(mme) => match step_event(alloc, mme, event, room, writer) {
             Ok(_) => Ok(()),
             Err(fault) => Err(fault),
         },
@@ -84,6 +93,7 @@ fn play_ticks<W: Write>(
     progress: &mut Progress,
     number: u64,
     count: u32,
+    room: &mut Vec<u8>,
     writer: &mut Watched<W>,
 ) -> Result<(), PlayFault>
     ensures acts { GrowsBy (W.contents writer.old.inner) (W.contents writer.new.inner) (Acts number (ticks_passed progress.old count) result progress.new) }
@@ -91,7 +101,7 @@ fn play_ticks<W: Write>(
 {
     run(alloc, progress, number)?;
     match progress {
-        Progress::Running(mme) => step_ticks(alloc, mme, count, writer),
+        Progress::Running(mme) => step_ticks(alloc, mme, count, room, writer),
         Progress::Nothing | Progress::Provisioning(_, _) => unreachable!(),
     }
 }
@@ -102,6 +112,7 @@ fn show<W: Write>(
     progress: &mut Progress,
     number: u64,
     imsi: Imsi,
+    room: &mut Vec<u8>,
     writer: &mut Watched<W>,
 ) -> Result<(), PlayFault>
     ensures acts { GrowsBy (W.contents writer.old.inner) (W.contents writer.new.inner) (Acts number (shown progress.old imsi) result progress.new) }
@@ -109,7 +120,7 @@ fn show<W: Write>(
 {
     run(alloc, progress, number)?;
     match progress {
-        Progress::Running(mme) => show_states(alloc, mme, number, imsi, writer),
+        Progress::Running(mme) => show_states(alloc, mme, number, imsi, room, writer),
         Progress::Nothing | Progress::Provisioning(_, _) => unreachable!(),
     }
 }
@@ -119,6 +130,7 @@ fn step_event<W: Write>(
     alloc: Global,
     mme: &mut Mme,
     event: &Event<'_>,
+    room: &mut Vec<u8>,
     writer: &mut Watched<W>,
 ) -> Result<bool, PlayFault>
     ensures put { GrowsBy (W.contents writer.old.inner) (W.contents writer.new.inner) (Puts (reply_text (reply mme.old event.now)) result) }
@@ -127,15 +139,15 @@ fn step_event<W: Write>(
     ensures write { IsErrOf result PlayFault.Write → writer.new.failed ≡ true }
 {
     match mme.step(event) {
-        Ok(outs) => match write_all(alloc, outs.as_slice(), writer) {
+        Ok(outs) => match write_all(alloc, outs.as_slice(), room, writer) {
             Ok(()) => Ok(true),
             Err(fault) => Err(fault),
         },
         Err(StepFault::NoMemory) => Err(PlayFault::NoMemory),
-        Err(StepFault::NotUp) => write_refusal(alloc, 1, writer),
-        Err(StepFault::AlreadyUp) => write_refusal(alloc, 2, writer),
-        Err(StepFault::ClockSpent) => write_refusal(alloc, 3, writer),
-        Err(StepFault::UnknownImsi) => write_refusal(alloc, 5, writer),
+        Err(StepFault::NotUp) => write_refusal(alloc, 1, room, writer),
+        Err(StepFault::AlreadyUp) => write_refusal(alloc, 2, room, writer),
+        Err(StepFault::ClockSpent) => write_refusal(alloc, 3, room, writer),
+        Err(StepFault::UnknownImsi) => write_refusal(alloc, 5, room, writer),
     }
 }
 
@@ -144,6 +156,7 @@ fn step_ticks<W: Write>(
     alloc: Global,
     mme: &mut Mme,
     count: u32,
+    room: &mut Vec<u8>,
     writer: &mut Watched<W>,
 ) -> Result<(), PlayFault>
     ensures put { GrowsBy (W.contents writer.old.inner) (W.contents writer.new.inner) (Puts (ticked count mme.old).1 result) }
@@ -151,7 +164,7 @@ fn step_ticks<W: Write>(
     ensures write { IsErrOf result PlayFault.Write → writer.new.failed ≡ true }
 {
     for _tick in 0..count {
-        match step_event(alloc, mme, &Event::Tick, writer) {
+        match step_event(alloc, mme, &Event::Tick, room, writer) {
             Ok(true) => {}
             Ok(false) => return Ok(()),
             Err(fault) => return Err(fault),
@@ -165,13 +178,14 @@ fn show_states<W: Write>(
     mme: &Mme,
     number: u64,
     imsi: Imsi,
+    room: &mut Vec<u8>,
     writer: &mut Watched<W>,
 ) -> Result<(), PlayFault>
     ensures acts { GrowsBy (W.contents writer.old.inner) (W.contents writer.new.inner) (Acts number (states_shown imsi mme.now (states_of_imsi imsi mme.now)) result (Running mme.now)) }
     ensures write { IsErrOf result PlayFault.Write → writer.new.failed ≡ true }
 {
     match states_of_imsi(mme, imsi) {
-        Some(states) => write_states(alloc, imsi, states, writer),
+        Some(states) => write_states(alloc, imsi, states, room, writer),
         None => Err(PlayFault::Trace(number, TraceFault::Provision)),
     }
 }

@@ -14,6 +14,7 @@ use mme_core::Out;
 use nas_elements::Imsi;
 use std::alloc::Global;
 use std::io::Write;
+use std::mem;
 use trace_text::{AnswerLine, write_answer};
 
 /// Writes these octets; at `false` the writer failed, and has the first of them.
@@ -36,35 +37,38 @@ pub fn write_whole<W: Write>(writer: &mut Watched<W>, octets: &[u8]) -> bool
     true
 }
 
-/// Writes the line of one answer.
+/// Writes the line of one answer. It is made in the room of the last line, used again.
 fn write_one<W: Write>(
     alloc: Global,
     answer: &AnswerLine<'_>,
+    room: &mut Vec<u8>,
     writer: &mut Watched<W>,
 ) -> Result<(), PlayFault>
     ensures put { GrowsBy (W.contents writer.old.inner) (W.contents writer.new.inner) (Puts (answer_text answer.now) result) }
     ensures write { IsErrOf result PlayFault.Write → writer.new.failed ≡ true }
 {
-    let Ok(line) = write_answer(alloc, answer) else {
+    let Ok(line) = write_answer(mem::replace(room, Vec::new(alloc)), answer) else {
         return Err(PlayFault::NoMemory);
     };
-    if !write_whole(writer, line.as_slice()) {
+    *room = line;
+    if !write_whole(writer, room.as_slice()) {
         return Err(PlayFault::Write);
     }
     Ok(())
 }
 
-/// Writes the lines of the answers of an event.
+/// Writes the lines of the answers of an event, each in the room of the last line, used again.
 pub(crate) fn write_all<W: Write>(
     alloc: Global,
     outs: &[Out],
+    room: &mut Vec<u8>,
     writer: &mut Watched<W>,
 ) -> Result<(), PlayFault>
     ensures put { GrowsBy (W.contents writer.old.inner) (W.contents writer.new.inner) (Puts (answers_of outs.now) result) }
     ensures write { IsErrOf result PlayFault.Write → writer.new.failed ≡ true }
 {
     for out in outs {
-        match write_out(alloc, out, writer) {
+        match write_out(alloc, out, room, writer) {
             Ok(()) => {}
             Err(fault) => return Err(fault),
         }
@@ -72,38 +76,45 @@ pub(crate) fn write_all<W: Write>(
     Ok(())
 }
 
-fn write_out<W: Write>(alloc: Global, out: &Out, writer: &mut Watched<W>) -> Result<(), PlayFault>
+fn write_out<W: Write>(
+    alloc: Global,
+    out: &Out,
+    room: &mut Vec<u8>,
+    writer: &mut Watched<W>,
+) -> Result<(), PlayFault>
     ensures put { GrowsBy (W.contents writer.old.inner) (W.contents writer.new.inner) (Puts (out_text out.now) result) }
     ensures write { IsErrOf result PlayFault.Write → writer.new.failed ≡ true }
 {
-    write_one(alloc, &sent_line(out), writer)
+    write_one(alloc, &sent_line(out), room, writer)
 }
 
-/// Writes the line of a refusal; `false`, since the event was not taken.
+/// Writes the line of a refusal, in the room of the last line, used again; `false`, since the event was not taken.
 pub(crate) fn write_refusal<W: Write>(
     alloc: Global,
     number: u8,
+    room: &mut Vec<u8>,
     writer: &mut Watched<W>,
 ) -> Result<bool, PlayFault>
     ensures put { GrowsBy (W.contents writer.old.inner) (W.contents writer.new.inner) (Puts (refused_text number) result) }
     ensures taken { IfOk result (λ taken. taken ≡ false) }
     ensures write { IsErrOf result PlayFault.Write → writer.new.failed ≡ true }
 {
-    match write_one(alloc, &AnswerLine::Refused(number), writer) {
+    match write_one(alloc, &AnswerLine::Refused(number), room, writer) {
         Ok(()) => Ok(false),
         Err(fault) => Err(fault),
     }
 }
 
-/// Writes the line of a subscriber's states.
+/// Writes the line of a subscriber's states, in the room of the last line, used again.
 pub(crate) fn write_states<W: Write>(
     alloc: Global,
     imsi: Imsi,
     states: States,
+    room: &mut Vec<u8>,
     writer: &mut Watched<W>,
 ) -> Result<(), PlayFault>
     ensures put { GrowsBy (W.contents writer.old.inner) (W.contents writer.new.inner) (Puts (states_text imsi states) result) }
     ensures write { IsErrOf result PlayFault.Write → writer.new.failed ≡ true }
 {
-    write_one(alloc, &states_line(imsi, states), writer)
+    write_one(alloc, &states_line(imsi, states), room, writer)
 }

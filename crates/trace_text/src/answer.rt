@@ -4,7 +4,7 @@ ghost use Rattle.std.specs.Prelude.{◌≡◌, ◌+◌, ◌*◌, ◌++◌, lengt
 ghost use Rattle.std.specs.Fmt.{decimal};
 ghost use Rattle.hex.specs.Hex.{encode_lower};
 ghost use Rattle.trace_text.specs.Lines.{IsLineWithin, IsPartWithin, octets_said};
-ghost use Rattle.trace_text.specs.Trace.{answer_text, sent_text, refused_text, state_text, owner_text, octets_text, emm_word, ecm_word, esm_word};
+ghost use Rattle.trace_text.specs.Trace.{◌␣◌, answer_text, sent_text, refused_text, state_text, owner_text, octets_text, emm_word, ecm_word, esm_word};
 
 use itoa::Buffer;
 use nas_elements::Imsi;
@@ -12,6 +12,9 @@ use std::alloc::{AllocError, Global};
 
 // The octets of a line of a message that is sent, without those of the message, at most: two words, an owner, a station, spaces and LF.
 const LONGEST_FRONT: usize = 32;
+
+// The octets of a line of states, at most: its word, 15 digits, the longest of the words, spaces and LF.
+const LONGEST_STATE: usize = 74;
 
 /// For whom a message is sent.
 #[derive(Clone, Copy)]
@@ -104,46 +107,59 @@ pub enum AnswerLine<'a> {
     State(Imsi, EmmWord, EcmWord, EsmWord),
 }
 
-/// The line of an answer, with the LF that ends it. It has no other LF, and is longer than its octets in hex by at most 80
-/// octets.
-pub fn write_answer(alloc: Global, answer: &AnswerLine<'_>) -> Result<Vec<u8>, AllocError>
+/// The line of an answer, with the LF that ends it, in the room of a Vec that is given: what that held is dropped. It has no other
+/// LF, and is longer than its octets in hex by at most 80 octets. Where the room is too small and no more is given, it is dropped.
+pub fn write_answer(room: Vec<u8>, answer: &AnswerLine<'_>) -> Result<Vec<u8>, AllocError>
     ensures text { IfOk result (λ line. line.items ≡ answer_text answer.now) }
     ensures line { IfOk result (λ line. IsLineWithin (80 + 2 * octets_said answer.now) line.items) }
 {
+    let mut line = room;
+    line.clear();
+    push_answer(&mut line, answer)?;
+    Ok(line)
+}
+
+/// Appends the line of an answer.
+fn push_answer(line: &mut Vec<u8>, answer: &AnswerLine<'_>) -> Result<(), AllocError>
+    ensures text { OnOk result (line.new.items ≡ line.old.items ++ answer_text answer.now) }
+    ensures line { OnOk result (IsLineWithin (80 + 2 * octets_said answer.now) (answer_text answer.now)) }
+{
     match answer {
-        AnswerLine::Sent(owner, station, octets) => write_sent(alloc, *owner, *station, octets),
-        AnswerLine::Refused(fault) => write_refused(alloc, *fault),
-        AnswerLine::State(imsi, emm, ecm, esm) => write_state(alloc, imsi, *emm, *ecm, *esm),
+        AnswerLine::Sent(owner, station, octets) => push_sent(line, *owner, *station, octets),
+        AnswerLine::Refused(fault) => push_refused(line, *fault),
+        AnswerLine::State(imsi, emm, ecm, esm) => push_state(line, imsi, *emm, *ecm, *esm),
     }
 }
 
+/// Appends the line of a refusal.
 #[tactic(auto, unfolding(crate::specs::Trace::refused_text))]
-fn write_refused(alloc: Global, fault: u8) -> Result<Vec<u8>, AllocError>
-    ensures text { IfOk result (λ line. line.items ≡ refused_text fault) }
-    ensures line { IfOk result (λ line. IsLineWithin 80 line.items) }
+fn push_refused(line: &mut Vec<u8>, fault: u8) -> Result<(), AllocError>
+    ensures text { OnOk result (line.new.items ≡ line.old.items ++ refused_text fault) }
+    ensures line { OnOk result (IsLineWithin 80 (refused_text fault)) }
 {
-    let text = format!(in alloc; "refused {fault}\n")?;
-    Ok(text.into_bytes())
+    push_named(line, b"refused ", u32::from(fault))?;
+    line.push(b'\n')?;
+    Ok(())
 }
 
+/// Appends the line of a message that is sent.
 #[tactic(auto, unfolding(crate::specs::Trace::sent_text))]
-fn write_sent(
-    alloc: Global,
+fn push_sent(
+    line: &mut Vec<u8>,
     owner: AnswerOwner,
     station: u8,
     octets: &[u8],
-) -> Result<Vec<u8>, AllocError>
-    ensures text { IfOk result (λ line. line.items ≡ sent_text owner station octets.now) }
-    ensures line { IfOk result (λ line. IsLineWithin (80 + 2 * length octets.now) line.items) }
+) -> Result<(), AllocError>
+    ensures text { OnOk result (line.new.items ≡ line.old.items ++ sent_text owner station octets.now) }
+    ensures line { OnOk result (IsLineWithin (80 + 2 * length octets.now) (sent_text owner station octets.now)) }
 {
-    let room = octets.len().saturating_mul(2).saturating_add(LONGEST_FRONT);
-    let mut line = Vec::with_capacity(alloc, room)?;
-    push_owner(&mut line, owner)?;
-    push_number(&mut line, u32::from(station))?;
+    line.reserve(octets.len().saturating_mul(2).saturating_add(LONGEST_FRONT))?;
+    push_owner(line, owner)?;
+    push_number(line, u32::from(station))?;
     line.push(b' ')?;
-    push_octets(&mut line, octets)?;
+    push_octets(line, octets)?;
     line.push(b'\n')?;
-    Ok(line)
+    Ok(())
 }
 
 /// Appends the word `out` and for whom a message is, each with the space behind it.
@@ -199,22 +215,36 @@ fn push_hex(line: &mut Vec<u8>, octets: &[u8]) -> Result<(), AllocError>
     hex::encode_to_slice(octets, &mut line.as_mut_slice()[start..]).map_err(|_| AllocError)
 }
 
+/// Appends the line of a subscriber's states.
 #[tactic(auto, unfolding(crate::specs::Trace::state_text))]
-fn write_state(
-    alloc: Global,
+fn push_state(
+    line: &mut Vec<u8>,
     imsi: &Imsi,
     emm: EmmWord,
     ecm: EcmWord,
     esm: EsmWord,
-) -> Result<Vec<u8>, AllocError>
-    ensures text { IfOk result (λ line. line.items ≡ state_text imsi.now emm ecm esm) }
-    ensures line { IfOk result (λ line. IsLineWithin 80 line.items) }
+) -> Result<(), AllocError>
+    ensures text { OnOk result (line.new.items ≡ line.old.items ++ state_text imsi.now emm ecm esm) }
+    ensures line { OnOk result (IsLineWithin 80 (state_text imsi.now emm ecm esm)) }
 {
+    line.reserve(LONGEST_STATE)?;
     let digits = imsi.digits();
-    let imsi = digits.as_str();
     let (emm, ecm, esm) = (emm.word(), ecm.word(), esm.word());
-    let text = format!(in alloc; "state {imsi} {emm} {ecm} {esm}\n")?;
-    Ok(text.into_bytes())
+    line.extend_from_slice(b"state")?;
+    push_field(line, digits.as_str())?;
+    push_field(line, emm)?;
+    push_field(line, ecm)?;
+    push_field(line, esm)?;
+    line.push(b'\n')?;
+    Ok(())
+}
+
+/// Appends a space and a field.
+fn push_field(line: &mut Vec<u8>, field: &str) -> Result<(), AllocError>
+    ensures { OnOk result (line.new.items ≡ line.old.items ␣ field.now) }
+{
+    line.push(b' ')?;
+    line.extend_from_slice(field.as_bytes())
 }
 
 pub(crate) fn write_octets(alloc: Global, octets: &[u8]) -> Result<String, AllocError>

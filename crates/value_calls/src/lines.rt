@@ -57,7 +57,7 @@ fn range_answer(call: Call) -> Answer {
 
 /// The line of an answer, whose LF is shown as `\n`.
 fn shown(call: Call, answer: &AnswerLine) -> Answer {
-    let line = write_answer(call.alloc, answer)?;
+    let line = write_answer(Vec::new(call.alloc), answer)?;
     match str::from_utf8(line.as_slice())
         .ok()
         .and_then(|text| text.strip_suffix("\n"))

@@ -9,14 +9,14 @@ use Rattle.mme_main.proofs.player.Player.go_on.Goals as goal
 pub end_line-requires-clause-ready : goal.end_line-requires-clause-ready
 end_line-requires-clause-ready g c =
     let old = c.args.self.now in
-    let mid : Player = record { progress = old.progress; line = old.line; pending = c.take_part.new.line } in
+    let mid : Player = record { progress = old.progress; line = old.line; pending = c.take_part.new.line; room = old.room } in
     let found = rw c.in-Ok-Some.field-0-is at c.in-Ok-Some.ensures in
     (Takes-part old mid _ c.requires.ready refl refl found.2).1
 
 pub returns-in-Ok-None-clause-takes : goal.returns-in-Ok-None-clause-takes
 returns-in-Ok-None-clause-takes g c =
     let old = c.args.self.now in
-    let new : Player = record { progress = old.progress; line = old.line; pending = c.take_part.new.line } in
+    let new : Player = record { progress = old.progress; line = old.line; pending = c.take_part.new.line; room = old.room } in
     let piece = c.args.piece.now in
     let taken = Takes-part old new piece c.requires.ready refl refl (rw c.in-Ok-None.field-0-is at c.in-Ok-None.ensures) in
     ([], Appends-nil _, (c.requires.some, omega arith, Takes-piece old new [] piece _ (Ok tt) (sym (take_all (length piece) piece (omega arith))) taken))
@@ -24,7 +24,7 @@ returns-in-Ok-None-clause-takes g c =
 pub returns-in-Ok-clause-takes : goal.returns-in-Ok-clause-takes
 returns-in-Ok-clause-takes g c =
     let old = c.args.self.now in
-    let mid : Player = record { progress = old.progress; line = old.line; pending = c.take_part.new.line } in
+    let mid : Player = record { progress = old.progress; line = old.line; pending = c.take_part.new.line; room = old.room } in
     let new = c.end_line.new.self in
     let piece = c.args.piece.now in
     let end = c.in-Ok-Some.end in
@@ -38,7 +38,7 @@ returns-in-Ok-clause-takes g c =
 pub returns-in-Err-end_line-clause-takes : goal.returns-in-Err-end_line-clause-takes
 returns-in-Err-end_line-clause-takes g c =
     let old = c.args.self.now in
-    let mid : Player = record { progress = old.progress; line = old.line; pending = c.take_part.new.line } in
+    let mid : Player = record { progress = old.progress; line = old.line; pending = c.take_part.new.line; room = old.room } in
     let new = c.end_line.new.self in
     let piece = c.args.piece.now in
     let end = c.in-Ok-Some.end in
@@ -56,5 +56,5 @@ returns-in-Err-end_line-clause-takes g c =
 pub returns-in-Err-clause-takes : goal.returns-in-Err-clause-takes
 returns-in-Err-clause-takes g c =
     let old = c.args.self.now in
-    let new : Player = record { progress = old.progress; line = old.line; pending = c.take_part.new.line } in
+    let new : Player = record { progress = old.progress; line = old.line; pending = c.take_part.new.line; room = old.room } in
     ([], Appends-nil _, Takes-part_fault old new c.args.piece.now c.take_part.new.line.items c.in-Err.fault c.requires.ready c.in-Err.ensures)

@@ -22,7 +22,7 @@ pub returns-in-Err-clause-takes : goal.returns-in-Err-clause-takes
 returns-in-Err-clause-takes g c =
     let old = c.args.self.now in
     let progress = c.play_line.new.progress in
-    let new : Player = record { progress = progress; line = old.line; pending = old.pending } in
+    let new : Player = record { progress = progress; line = old.line; pending = old.pending; room = c.play_line.new.room } in
     let piece = c.args.piece.now in
     let end = c.args.end in
     let whole = c.requires.whole in
