@@ -101,6 +101,8 @@ fn put_in_octets(count: u8, number: u64, writer: &mut BitWriter) -> Result<(), P
     match count {
         1 => writer.put_octet(number as u8),
         2 => put_two(number, writer),
+        3 => put_three(number, writer),
+        4 => put_four(number, writer),
         _ => writer.put_bits(8 * count, number),
     }
 }
@@ -114,6 +116,27 @@ fn put_two(number: u64, writer: &mut BitWriter) -> Result<(), PerError>
     writer.put_octet((number / 256) as u8)?;
     writer.put_octet((number % 256) as u8)?;
     Ok(())
+}
+
+/// Writes a number in three octets, behind the bits so far.
+#[inline(always)]
+fn put_three(number: u64, writer: &mut BitWriter) -> Result<(), PerError>
+    requires { number < 2 ^ 24 }
+    ensures { Wrote result writer.new (Ok (writer.old ++ bits 24 number)) }
+{
+    put_two(number / 256, writer)?;
+    writer.put_octet((number % 256) as u8)?;
+    Ok(())
+}
+
+/// Writes a number in four octets, behind the bits so far.
+#[inline(always)]
+fn put_four(number: u64, writer: &mut BitWriter) -> Result<(), PerError>
+    requires { number < 2 ^ 32 }
+    ensures { Wrote result writer.new (Ok (writer.old ++ bits 32 number)) }
+{
+    put_two(number / 65536, writer)?;
+    put_two(number % 65536, writer)
 }
 
 /// The number of bits for numbers up to one below 256.
@@ -146,18 +169,46 @@ fn width(most: u64) -> u8
     }
 }
 
-// a number of so many bits; sixteen are taken eight by eight, as they mostly are whole octets
+// a number of so many bits; up to four octets are taken one by one, as they mostly are whole octets
 #[inline(always)]
 fn number_of(bits: u8, reader: &mut BitReader) -> Result<u64, PerFault>
     requires { bits ≤ 64 }
     ensures { Answers (λ n. n) result reader.new (number_bits_at bits reader.old) }
 {
-    if bits != 16 {
-        return reader.take_bits(bits);
+    match bits {
+        16 => two_octets(reader),
+        24 => three_octets(reader),
+        32 => four_octets(reader),
+        _ => reader.take_bits(bits),
     }
+}
+
+#[inline(always)]
+fn two_octets(reader: &mut BitReader) -> Result<u64, PerFault>
+    ensures exact { Answers (λ n. n) result reader.new (number_bits_at 16 reader.old) }
+    ensures within { IfOk result (λ n. n < 65536) }
+{
     let high = reader.take_bits(8)?;
     let low = reader.take_bits(8)?;
     Ok(high * 256 + low)
+}
+
+#[inline(always)]
+fn three_octets(reader: &mut BitReader) -> Result<u64, PerFault>
+    ensures { Answers (λ n. n) result reader.new (number_bits_at 24 reader.old) }
+{
+    let high = two_octets(reader)?;
+    let low = reader.take_bits(8)?;
+    Ok(high * 256 + low)
+}
+
+#[inline(always)]
+fn four_octets(reader: &mut BitReader) -> Result<u64, PerFault>
+    ensures { Answers (λ n. n) result reader.new (number_bits_at 32 reader.old) }
+{
+    let high = two_octets(reader)?;
+    let low = two_octets(reader)?;
+    Ok(high * 65536 + low)
 }
 
 #[tactic(auto, unfolding(crate::specs::Reading::small_at))]
@@ -239,7 +290,7 @@ fn large(span: u64, reader: &mut BitReader) -> Result<u64, PerFault>
     let most = (octets_of(span) - 1) as u64;
     let count = small(most, width(most), reader)?;
     reader.align()?;
-    let offset = reader.take_bits(8 * (count as u8 + 1))?;
+    let offset = number_of(8 * (count as u8 + 1), reader)?;
     if offset > span {
         return Err(PerFault::Range);
     }
