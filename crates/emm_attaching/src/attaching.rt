@@ -1,6 +1,6 @@
 //! The rows of an attach: its request, authentication and security mode, and its acceptance (TS 24.301 clause 5.5.1).
 
-ghost use Rattle.std.specs.Prelude.{◌≡◌, ◌<◌, ◌^◌, OnOk, Some, None, length, Ok, Err};
+ghost use Rattle.std.specs.Prelude.{◌≡◌, ◌<◌, ◌^◌, OnOk, Some, None, length, replicate, Ok, Err};
 ghost use Rattle.nas_security.specs.Accepting.{accepted, seen_acceptance};
 ghost use Rattle.eps_keys.specs.Hmac.{kenb};
 ghost use Rattle.identity_slots.specs.Ids.{id_of_slot, next_counter};
@@ -9,6 +9,7 @@ ghost use Rattle.emm_attaching.specs.Attaching.{accept, activating, ask_informat
 ghost use Rattle.mme_signalling.specs.Causes.{cause_of_fault};
 ghost use Rattle.mme_signalling.specs.Hearing.{heard, heard_lists};
 ghost use Rattle.emm_state.specs.Does.{Does};
+ghost use Rattle.emm_state.specs.declared.solo.Context.{Context};
 
 use emm_state::{Asked, Context, Draft, NasTimer, Phase, Protection, Repeat, Setting, StepStop};
 use eps_keys::{KeySchedule, same_octets};
@@ -391,41 +392,32 @@ fn ask_information(draft: &mut Draft, alloc: Global) -> Result<(), StepStop>
     Ok(())
 }
 
-/// An uplink message was accepted under the count by this context.
-#[tactic(auto, unfolding(crate::specs::Attaching::took))]
-pub fn took(draft: &mut Draft, context: Context, count: u32)
-    ensures { draft.new ≡ took context count draft.old }
+/// An uplink message was accepted under the count by the context that stands, and the radio keys follow from it; KeNB is returned.
+/// Where no context stands, nothing changes, and zeros are returned.
+#[tactic(auto, unfolding(crate::specs::Attaching::keyed, crate::specs::Attaching::took))]
+pub fn keyed(draft: &mut Draft, count: u32) -> [u8; 32]
+    ensures kenb { (x : Context) → draft.old.solo.context ≡ Some x → result ≡ kenb x.kasme count }
+    ensures keyed { (x : Context) → draft.old.solo.context ≡ Some x → draft.new ≡ keyed x count draft.old }
+    ensures none { draft.old.solo.context ≡ None → (result ≡ replicate 32 0) × (draft.new ≡ draft.old) }
 {
-    draft.accepted = Some(Mark {
-        place: context.place,
-        count,
-    });
-    draft.solo.context = Some(context);
+    match &mut draft.solo.context {
+        Some(context) => {
+            let place = context.place;
+            let radio = keys_of(&mut draft.solo.schedule, &context.kasme, count);
+            context.radio = radio;
+            draft.accepted = Some(Mark { place, count });
+            radio.kenb
+        }
+        None => [0; 32],
+    }
 }
 
-/// The same, and the radio keys follow from the count; KeNB is returned.
-#[tactic(auto, unfolding(crate::specs::Attaching::keyed))]
-pub fn keyed(draft: &mut Draft, mut context: Context, count: u32) -> [u8; 32]
-    ensures kenb { result ≡ kenb context.kasme count }
-    ensures keyed { draft.new ≡ keyed context count draft.old }
+// SECURITY MODE COMPLETE, accepted by the context that stands.
+#[tactic(auto, unfolding(crate::specs::Attaching::secured, crate::specs::Attaching::keyed, crate::specs::Attaching::took))]
+fn secured(draft: &mut Draft, alloc: Global, setting: &Setting, count: u32) -> Result<(), StepStop>
+    ensures { (x : Context) → draft.old.solo.context ≡ Some x → Does result draft.new (secured setting.now x count draft.old) }
 {
-    context.radio = keys_of(&mut draft.solo.schedule, &context.kasme, count);
-    took(draft, context, count);
-    context.radio.kenb
-}
-
-// SECURITY MODE COMPLETE.
-#[tactic(auto, unfolding(crate::specs::Attaching::secured))]
-fn secured(
-    draft: &mut Draft,
-    alloc: Global,
-    setting: &Setting,
-    context: Context,
-    count: u32,
-) -> Result<(), StepStop>
-    ensures { Does result draft.new (secured setting.now context count draft.old) }
-{
-    let kenb = keyed(draft, context, count);
+    let kenb = keyed(draft, count);
     if draft.solo.bearer.asks_information() {
         ask_information(draft, alloc)
     } else {
@@ -445,7 +437,7 @@ fn not_secured(draft: &mut Draft, alloc: Global, nas: &[u8]) -> Result<(), Alloc
 }
 
 /// NAS while security mode is set: under the header of the new context, or a plain refusal.
-#[tactic(auto, unfolding(crate::specs::Attaching::in_security_mode, crate::specs::Attaching::secured_by))]
+#[tactic(auto, unfolding(crate::specs::Attaching::in_security_mode, crate::specs::Attaching::secured_by, crate::specs::Attaching::secured, crate::specs::Attaching::keyed, crate::specs::Attaching::took))]
 pub fn in_security_mode(
     draft: &mut Draft,
     alloc: Global,
@@ -454,21 +446,24 @@ pub fn in_security_mode(
 ) -> Result<(), StepStop>
     ensures { Does result draft.new (in_security_mode setting.now nas.now draft.old) }
 {
-    let Some(mut context) = draft.solo.context else {
-        return Ok(not_secured(draft, alloc, nas)?);
-    };
-    match context
-        .security
-        .accept(nas, &[SecurityHeader::NewContextCiphered])
-    {
-        Ok((count, message)) => {
-            if is_complete(message) {
-                secured(draft, alloc, setting, context, count)
-            } else {
-                took(draft, context, count);
-                Ok(())
+    match &mut draft.solo.context {
+        None => Ok(not_secured(draft, alloc, nas)?),
+        Some(context) => {
+            let place = context.place;
+            match context
+                .security
+                .accept(nas, &[SecurityHeader::NewContextCiphered])
+            {
+                Ok((count, message)) => {
+                    draft.accepted = Some(Mark { place, count });
+                    if is_complete(message) {
+                        secured(draft, alloc, setting, count)
+                    } else {
+                        Ok(())
+                    }
+                }
+                Err(_) => Ok(not_secured(draft, alloc, nas)?),
             }
         }
-        Err(_) => Ok(not_secured(draft, alloc, nas)?),
     }
 }

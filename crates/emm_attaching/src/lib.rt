@@ -5,5 +5,5 @@
 mod attaching;
 
 pub use attaching::{
-    accept, attach, detach_plainly, given_tmsi, in_authenticating, in_security_mode, keyed, took,
+    accept, attach, detach_plainly, given_tmsi, in_authenticating, in_security_mode, keyed,
 };

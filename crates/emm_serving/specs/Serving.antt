@@ -78,6 +78,10 @@ active phase d =
     let e = ended d in
     record e { solo = record e.solo { phase = phase; reachable = None } }
 
+-- a context that has counted the request serves it
+unfoldable pub served : Setting → Context → Entry (List ℕ) → ℕ → Draft → Draft
+served s x m count d = set_up s (kenb x.kasme count) None None (keyed x count (active Registered (connect s.slot m.station m.enb_id d)))
+
 unfoldable pub served_by : Result ℕ SecurityFault → Setting → Context → Entry (List ℕ) → Draft → Draft
 served_by (Ok count) s x m d =
     set_up s (kenb x.kasme count) None None (keyed (counted_up x count) count (active Registered (connect s.slot m.station m.enb_id d)))

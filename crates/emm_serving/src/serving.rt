@@ -5,12 +5,13 @@ ghost use Rattle.nas_security.specs.Accepting.{short_accepted};
 ghost use Rattle.emm_state.specs.Actions.{mac_of, refuse};
 ghost use Rattle.mme_signalling.specs.Messages.{service_reject, update_reject};
 ghost use Rattle.emm_state.specs.Does.{Does};
+ghost use Rattle.emm_state.specs.declared.solo.Context.{Context};
 ghost use Rattle.mme_signalling.specs.Hearing.{heard_lists};
-ghost use Rattle.emm_serving.specs.Serving.{accepted_by_context, active, attach_completed, awaits_attach_complete, awaits_detach_accept, awaits_information, awaits_update_complete, claim, claimed, detach, detach_answered, detached_by, entered, in_later, information_came, initial, initial_detach, initial_update, is_deregistered, may_update, reacted, registered, served_by, service, status_protected, inner_message, inner_message_by, inner_emm, inner_esm, update, update_completed, update_grant, updated_by, updating, uplink};
+ghost use Rattle.emm_serving.specs.Serving.{accepted_by_context, active, attach_completed, awaits_attach_complete, awaits_detach_accept, awaits_information, awaits_update_complete, claim, claimed, detach, detach_answered, detached_by, entered, in_later, information_came, initial, initial_detach, initial_update, is_deregistered, may_update, reacted, registered, served, served_by, service, status_protected, inner_message, inner_message_by, inner_emm, inner_esm, update, update_completed, update_grant, updated_by, updating, uplink};
 ghost use Rattle.mme_vocabulary.specs.Events.{entry_lists};
 
 use emm_attaching::{
-    accept, attach, detach_plainly, given_tmsi, in_authenticating, in_security_mode, keyed, took,
+    accept, attach, detach_plainly, given_tmsi, in_authenticating, in_security_mode, keyed,
 };
 use emm_state::{Draft, NasTimer, Phase, Protection, Repeat, Setting, StepStop, is_registered};
 use esm_machine::Reaction;
@@ -19,7 +20,7 @@ use mme_signalling::{
     EmmCause, Grant, Heard, cause_of_fault, detach_accept, emm_status, hear, initial_octets,
     is_esm, service_reject, update_accept, update_reject,
 };
-use mme_vocabulary::{Entry, NasOctets};
+use mme_vocabulary::{Entry, Mark, NasOctets};
 use nas_messages::SecurityHeader;
 use s1ap_elements::{Cause, NasCause, Tai};
 use std::alloc::{AllocError, Global};
@@ -113,6 +114,24 @@ fn refuse_update(
     )
 }
 
+// SERVICE REQUEST, accepted under the count by the context that stands.
+#[tactic(auto, unfolding(crate::specs::Serving::served, emm_attaching::specs::Attaching::keyed, emm_attaching::specs::Attaching::took, crate::specs::Serving::active, emm_state::specs::Actions::ended))]
+fn serve(
+    draft: &mut Draft,
+    alloc: Global,
+    setting: &Setting,
+    entry: &Entry<&[u8]>,
+    count: u32,
+) -> Result<(), AllocError>
+    ensures { (x : Context) → draft.old.solo.context ≡ Some x
+        → OnOk result (draft.new ≡ served setting.now x (entry_lists entry.now) count draft.old) }
+{
+    draft.connect(alloc, setting.slot, entry.station, entry.enb_id)?;
+    active(draft, Phase::Registered);
+    let kenb = keyed(draft, count);
+    draft.set_up_alone(alloc, setting, kenb)
+}
+
 /// SERVICE REQUEST.
 #[tactic(auto, unfolding(crate::specs::Serving::service, crate::specs::Serving::served_by))]
 fn service(
@@ -127,16 +146,13 @@ fn service(
     if !is_registered(draft.solo.phase) {
         return refuse_service(draft, alloc, setting, entry, EmmCause::ImplicitlyDetached);
     }
-    let Some(mut context) = draft.solo.context else {
-        return refuse_service(draft, alloc, setting, entry, EmmCause::IdentityNotDerived);
-    };
-    let Ok(count) = context.security.accept_short(octets) else {
-        return refuse_service(draft, alloc, setting, entry, EmmCause::IdentityNotDerived);
-    };
-    draft.connect(alloc, setting.slot, entry.station, entry.enb_id)?;
-    active(draft, Phase::Registered);
-    let kenb = keyed(draft, context, count);
-    draft.set_up_alone(alloc, setting, kenb)
+    match &mut draft.solo.context {
+        None => refuse_service(draft, alloc, setting, entry, EmmCause::IdentityNotDerived),
+        Some(context) => match context.security.accept_short(octets) {
+            Ok(count) => serve(draft, alloc, setting, entry, count),
+            Err(_) => refuse_service(draft, alloc, setting, entry, EmmCause::IdentityNotDerived),
+        },
+    }
 }
 
 #[tactic(auto, unfolding(crate::specs::Serving::updating))]
@@ -197,15 +213,21 @@ fn initial_update(
     if !is_registered(draft.solo.phase) {
         return Ok(refuse_update(draft, alloc, setting, entry, EmmCause::ImplicitlyDetached)?);
     }
-    let Some(mut context) = draft.solo.context else {
-        return Ok(refuse_update(draft, alloc, setting, entry, EmmCause::IdentityNotDerived)?);
-    };
-    let Ok((count, _)) = context.security.accept(entry.nas, &IN_USE) else {
-        return Ok(refuse_update(draft, alloc, setting, entry, EmmCause::IdentityNotDerived)?);
-    };
-    draft.connect(alloc, setting.slot, entry.station, entry.enb_id)?;
-    took(draft, context, count);
-    update(draft, alloc, setting, entry.tai, combined, true)
+    let refusal = EmmCause::IdentityNotDerived;
+    match &mut draft.solo.context {
+        None => Ok(refuse_update(draft, alloc, setting, entry, refusal)?),
+        Some(context) => {
+            let place = context.place;
+            match context.security.accept(entry.nas, &IN_USE) {
+                Ok((count, _)) => {
+                    draft.accepted = Some(Mark { place, count });
+                    draft.connect(alloc, setting.slot, entry.station, entry.enb_id)?;
+                    update(draft, alloc, setting, entry.tai, combined, true)
+                }
+                Err(_) => Ok(refuse_update(draft, alloc, setting, entry, refusal)?),
+            }
+        }
+    }
 }
 
 #[tactic(auto, unfolding(crate::specs::Serving::detach_answered))]
@@ -250,15 +272,20 @@ fn initial_detach(
         draft.connect(alloc, slot, station, enb_id)?;
         return Ok(detach_plainly(draft, alloc, switch_off)?);
     }
-    let Some(mut context) = draft.solo.context else {
-        return Ok(draft.turn_away(alloc, slot, station, enb_id)?);
-    };
-    let Ok((count, _)) = context.security.accept(entry.nas, &IN_USE) else {
-        return Ok(draft.turn_away(alloc, slot, station, enb_id)?);
-    };
-    draft.connect(alloc, slot, station, enb_id)?;
-    took(draft, context, count);
-    detach(draft, alloc, switch_off)
+    match &mut draft.solo.context {
+        None => Ok(draft.turn_away(alloc, slot, station, enb_id)?),
+        Some(context) => {
+            let place = context.place;
+            match context.security.accept(entry.nas, &IN_USE) {
+                Ok((count, _)) => {
+                    draft.accepted = Some(Mark { place, count });
+                    draft.connect(alloc, slot, station, enb_id)?;
+                    detach(draft, alloc, switch_off)
+                }
+                Err(_) => Ok(draft.turn_away(alloc, slot, station, enb_id)?),
+            }
+        }
+    }
 }
 
 #[tactic(auto, unfolding(crate::specs::Serving::entered))]
@@ -526,7 +553,7 @@ fn inner_message(
     inner_emm(draft, alloc, setting, tai, &message)
 }
 
-#[tactic(auto, unfolding(crate::specs::Serving::in_later, crate::specs::Serving::inner_message_by))]
+#[tactic(auto, unfolding(crate::specs::Serving::in_later, crate::specs::Serving::inner_message_by, emm_attaching::specs::Attaching::took))]
 fn in_later(
     draft: &mut Draft,
     alloc: Global,
@@ -536,14 +563,19 @@ fn in_later(
 ) -> Result<(), StepStop>
     ensures { Does result draft.new (in_later setting.now tai nas.now draft.old) }
 {
-    let Some(mut context) = draft.solo.context else {
-        return Ok(());
-    };
-    let Ok((count, message)) = context.security.accept(nas, &IN_USE) else {
-        return Ok(());
-    };
-    took(draft, context, count);
-    inner_message(draft, alloc, setting, tai, message)
+    match &mut draft.solo.context {
+        None => Ok(()),
+        Some(context) => {
+            let place = context.place;
+            match context.security.accept(nas, &IN_USE) {
+                Ok((count, message)) => {
+                    draft.accepted = Some(Mark { place, count });
+                    inner_message(draft, alloc, setting, tai, message)
+                }
+                Err(_) => Ok(()),
+            }
+        }
+    }
 }
 
 /// What an UPLINK NAS TRANSPORT of a known phone does, by its phase (TS 24.301 clause 4.4.4.3). Refused where memory is, or where the

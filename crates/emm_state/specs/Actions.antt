@@ -152,6 +152,10 @@ start timer repeat d = record d {
 abbrev pub mac_of : Context → Mac
 mac_of x = eia2 x.security.integrity
 
+-- a step with this context
+abbrev pub with_context : Context → Draft → Draft
+with_context x d = record d { solo = record d.solo { context = Some x } }
+
 abbrev pub sealed_under : SecurityHeader → List ℕ → Draft → Context → Option (Sealed × Draft)
 sealed_under header nas d x =
     let n = x.security.down_next in

@@ -4,12 +4,13 @@ ghost use Rattle.std.specs.Prelude.{◌≡◌, ◌<◌, ◌^◌, IfOk, OnOk, Som
 ghost use Rattle.s1ap_messages.specs.Pdus.{encoded, lists};
 ghost use Rattle.s1ap_elements.specs.declared.cause.Cause.TheVariants as causes;
 ghost use Rattle.s1ap_elements.specs.declared.cause.NasCause.TheVariants as nas_causes;
-ghost use Rattle.emm_state.specs.Actions.{connect, connect_on, association_counted, disconnected, emit, ended, fall, is_registered, leave_old, lost, next_id, protect, refuse, release, resting, seal, send, set_up, set_up_with, start, turn_away, wipe};
+ghost use Rattle.emm_state.specs.Actions.{connect, connect_on, association_counted, disconnected, emit, ended, fall, is_registered, leave_old, lost, next_id, protect, refuse, release, resting, seal, sealed_under, send, set_up, set_up_with, start, turn_away, wipe, with_context};
 ghost use Rattle.emm_state.specs.Does.{Does, Makes};
+ghost use Rattle.emm_state.specs.declared.draft.Draft.{Draft};
 
 use crate::draft::{Draft, Sealed, StepStop};
 use crate::setting::Setting;
-use crate::solo::{Countdown, NasTimer, Phase, Repeat};
+use crate::solo::{Context, Countdown, NasTimer, Phase, Repeat};
 use esm_machine::Bearer;
 use identity_slots::{AssociationId, Slot};
 use mme_signalling::{context_setup, downlink, release_command};
@@ -45,9 +46,35 @@ pub fn is_registered(phase: Phase) -> bool
     }
 }
 
+impl Context {
+    // The protected form of a NAS message under the next downlink count, which is counted where the context stands.
+    fn seal(
+        &mut self,
+        alloc: Global,
+        header: SecurityHeader,
+        nas: &[u8],
+    ) -> Result<Sealed, StepStop>
+        ensures { (d : Draft) → Makes result (with_context self.new d) (sealed_under header nas.now d self.old) }
+    {
+        let under = Mark {
+            place: self.place,
+            count: self.security.down_next(),
+        };
+        match self.security.protect(alloc, header, nas) {
+            Ok(form) => Ok(Sealed {
+                form: NasOctets::new(form),
+                under: Some(under),
+            }),
+            Err(SecurityFault::NoMemory) => Err(StepStop::NoMemory),
+            Err(_) => Err(StepStop::Spent),
+        }
+    }
+}
+
 impl Draft {
     /// The message goes to the station, and its NAS message under a mark where it is protected. It is lent, so that it can go to several.
     #[tactic(auto, unfolding(crate::specs::Actions::emit))]
+    #[inline(always)]
     pub fn emit_lent(
         &mut self,
         alloc: Global,
@@ -69,6 +96,7 @@ impl Draft {
     }
 
     /// The same of a message that goes to one station, and ends here.
+    #[inline(never)]
     pub fn emit(
         &mut self,
         alloc: Global,
@@ -299,26 +327,13 @@ impl Draft {
     ) -> Result<Sealed, StepStop>
         ensures { Makes result self.new (seal header nas.now self.old) }
     {
-        let Some(mut context) = self.solo.context else {
-            return Ok(Sealed {
+        match &mut self.solo.context {
+            Some(context) => context.seal(alloc, header, nas),
+            None => Ok(Sealed {
                 form: NasOctets::new(Vec::new(alloc)),
                 under: None,
-            });
-        };
-        let under = Mark {
-            place: context.place,
-            count: context.security.down_next(),
-        };
-        let form = match context.security.protect(alloc, header, nas) {
-            Ok(form) => form,
-            Err(SecurityFault::NoMemory) => return Err(StepStop::NoMemory),
-            Err(_) => return Err(StepStop::Spent),
-        };
-        self.solo.context = Some(context);
-        Ok(Sealed {
-            form: NasOctets::new(form),
-            under: Some(under),
-        })
+            }),
+        }
     }
 
     /// NAS to the phone, protected, in DOWNLINK NAS TRANSPORT.
