@@ -1,7 +1,7 @@
 //! Reading bits from octets.
 
 ghost use Rattle.std.specs.Prelude.{true, eqb, ◌↔◌, ◌≡◌, ◌%◌, ◌+◌, ◌-◌, ◌*◌, ◌^◌, ◌<◌, ◌≤◌, ◌++◌, ◌∷◌, length, drop, take};
-ghost use Rattle.bit_streams.specs.Bits.{TakesPart, Place, Answers, start, bits, value, octet_bits, take_at, align_at, bit_at, number_bits_at, aligned_octets_at, whole_octets_at, IsBytes, end_at};
+ghost use Rattle.bit_streams.specs.Bits.{TakesPart, Place, Answers, start, bits, value, octet_bits, align_at, bit_at, number_bits_at, aligned_octets_at, whole_octets_at, IsBytes, end_at};
 
 use crate::fault::PerFault;
 use std::marker::Model;
@@ -164,6 +164,7 @@ impl<'a> BitReader<'a> {
     }
 
     /// Fills octets from the next bits, not aligned; nothing is said of them where this is refused.
+    #[inline(always)]
     pub fn fill(&mut self, out: &mut [u8]) -> Result<(), PerFault>
         ensures { Answers (λ _. out.new) result self.new (whole_octets_at (length out.old) self.old) }
     {
@@ -185,29 +186,6 @@ impl<'a> BitReader<'a> {
         Ok(())
     }
 
-    /// Fills bits from the next bits; nothing is said of them where this is refused.
-    pub fn fill_bits(&mut self, out: &mut [bool]) -> Result<(), PerFault>
-        ensures { Answers (λ _. out.new) result self.new (take_at (length out.old) self.old) }
-    {
-        let mut at = 0;
-        while at + 8 <= out.len() {
-            let octet = self.take_bits(8)? as u8;
-            out[at..at + 8].copy_from_slice(&bits_of(octet));
-            at += 8;
-        }
-        self.fill_each_bit(&mut out[at..])
-    }
-
-    // where they fill no octet
-    fn fill_each_bit(&mut self, out: &mut [bool]) -> Result<(), PerFault>
-        ensures { Answers (λ _. out.new) result self.new (take_at (length out.old) self.old) }
-    {
-        for bit in out {
-            *bit = self.take_bit()?;
-        }
-        Ok(())
-    }
-
     // at an octet
     fn whole_octets(&mut self, count: usize) -> Result<&'a [u8], PerFault>
         requires { self.old.at % 8 ≡ 0 }
@@ -220,21 +198,6 @@ impl<'a> BitReader<'a> {
         self.begun += count;
         Ok(&rest[..count])
     }
-}
-
-/// The bits of an octet.
-fn bits_of(octet: u8) -> [bool; 8]
-    ensures { result ≡ bits 8 octet }
-{
-    let (first, rest) = split_bit(octet, 8);
-    let (second, rest) = split_bit(rest, 7);
-    let (third, rest) = split_bit(rest, 6);
-    let (fourth, rest) = split_bit(rest, 5);
-    let (fifth, rest) = split_bit(rest, 4);
-    let (sixth, rest) = split_bit(rest, 3);
-    let (seventh, rest) = split_bit(rest, 2);
-    let last = rest == 1;
-    [first, second, third, fourth, fifth, sixth, seventh, last]
 }
 
 /// The first of the bits of a number, and the number of the others.

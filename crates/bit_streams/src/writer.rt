@@ -151,6 +151,7 @@ impl BitWriter {
     }
 
     /// Octets, behind the bits so far.
+    #[inline(always)]
     pub fn put_octets(&mut self, octets: &[u8]) -> Result<(), PerError>
         ensures ok { OnOk result (self.new ≡ self.old ++ octet_bits octets.now) }
         ensures memory { OnErr result (result ≡ Err NoMemory) }
@@ -175,17 +176,6 @@ impl BitWriter {
 }
 
 impl BitWriter {
-    /// Bits, behind the bits so far.
-    pub fn put_each_bit(&mut self, bits: &[bool]) -> Result<(), PerError>
-        ensures ok { OnOk result (self.new ≡ self.old ++ bits.now) }
-        ensures memory { OnErr result (result ≡ Err NoMemory) }
-    {
-        for bit in bits {
-            self.put_bit(*bit)?;
-        }
-        Ok(())
-    }
-
     /// The octets, the last of them filled up with zero bits.
     pub fn finish(mut self) -> Result<Vec<u8>, PerError>
         ensures ok { IfOk result (λ v. v.items ≡ padded self) }

@@ -54,7 +54,7 @@ fn cell_id(macro_id: BitField<20>) -> CellId
     ensures { result ≡ macro_id ++ cell_number }
 {
     let mut bits = CELL;
-    bits[..20].copy_from_slice(macro_id.as_slice());
+    bits[..20].copy_from_slice(&macro_id.bits());
     BitField::new(bits)
 }
 

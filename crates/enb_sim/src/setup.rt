@@ -38,7 +38,7 @@ fn is_writable(profile: StationProfile)
     ensures { IsWritableMessage (setup_pdu profile) }
 {
     let _plmn = profile.plmn;
-    let _macro_id = profile.macro_id;
+    let _macro_id = profile.macro_id.bits();
     let _tac = profile.tac;
 }
 

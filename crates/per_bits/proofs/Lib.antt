@@ -1,4 +1,6 @@
 pub mod WrittenLaws
 pub mod Passing
 pub mod PlaceLaws
+pub mod Placed
 pub mod OpenLaws
+pub mod FieldLaws

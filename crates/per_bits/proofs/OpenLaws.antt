@@ -1,5 +1,5 @@
 -- A value that is written behind an octet, which then counts it, stands there as an open type.
-use Rattle.std.proofs.Common.{◌≡◌, ℕ, ◌+◌, ◌-◌, ◌*◌, ◌/◌, ◌%◌, ◌<◌, ◌≤◌, ◌&&◌, Bool, true, false, cond, ltb, List, [], ◌∷◌, ◌++◌, length, take, drop, replicate, Ok, Err, refl, sym, ap, ◌∙◌, append_assoc, arith}
+use Rattle.std.proofs.Common.{◌≡◌, ℕ, ◌+◌, ◌-◌, ◌*◌, ◌/◌, ◌%◌, ◌<◌, ◌≤◌, ◌&&◌, Bool, true, false, cond, ltb, List, [], ◌∷◌, ◌++◌, length, take, drop, replicate, Result, Ok, Err, refl, sym, ap, subst, ◌∙◌, append_assoc, arith}
 use Rattle.std.proofs.lemmas.Bool.{le-ltb, lt-ltb}
 use Rattle.std.proofs.lemmas.List.{append-nil, length-append, length-replicate, take_at, drop_at}
 use Rattle.bit_streams.specs.declared.fault.PerFault.{PerFault}
@@ -7,17 +7,18 @@ use Rattle.bit_streams.specs.declared.fault.PerFault.TheVariants.{Range}
 use Rattle.bit_streams.specs.declared.fault.PerError.{PerError}
 use Rattle.bit_streams.specs.declared.fault.PerError.TheVariants as errors
 use Rattle.bit_streams.specs.Octet.{all_below}
-use Rattle.bit_streams.specs.Bits.{Fails, bits, octet_bits, pad, padded, padding}
+use Rattle.bit_streams.specs.Bits.{◌>>=◌, Fails, bits, octet_bits, pad, padded, padding}
 use Rattle.bit_streams.specs.BitLaws.{length-bits, length-octet_bits}
 use Rattle.bit_streams.specs.OctetLaws.{bytes-octets_of}
 use Rattle.bit_streams.specs.WholeOctets.{bytes-below}
-use Rattle.per_bits.specs.Formats.{Format, Value, open_type}
+use Rattle.per_numbers.specs.Writing.{Wrote}
 use Rattle.per_bits.specs.Spelling.{length_octets}
-use Rattle.per_bits.specs.Writing.{count_behind, write_at}
+use Rattle.per_bits.specs.Writing.{count_behind, write_string, write_whole}
 use Rattle.per_bits.specs.WritingLaws.{padded-bits}
-use Rattle.per_bits.specs.Written.{string_fits, string_form, writable, written}
-use Rattle.per_bits.proofs.PlaceLaws.{pad_same, written_same}
-use Rattle.per_bits.proofs.WrittenLaws.{put_if, writes}
+use Rattle.per_bits.specs.Written.{string_fits, string_form}
+use Rattle.per_bits.proofs.PlaceLaws.{pad_same}
+use Rattle.per_bits.proofs.WrittenLaws.{put_if, inside_written}
+use Rattle.per_bits.proofs.Placed.{Placed, refused, was_put}
 
 -- ---- the length of what stands behind
 
@@ -54,14 +55,6 @@ both_hold : (b c : Bool) → c ≡ true → (b && c) ≡ b
 both_hold true c e = e
 both_hold false c e = refl
 
-pub fault_is : (b : Bool) (out xs : List Bool) (f : PerFault) → put_if b out xs ≡ Err f → (b ≡ false) × (f ≡ Range)
-fault_is true out xs f e = absurd cc
-fault_is false out xs f e = (refl, cc)
-
-pub put_is : (b : Bool) (out xs new : List Bool) → put_if b out xs ≡ Ok new → (b ≡ true) × (out ++ xs ≡ new)
-put_is true out xs new e = (refl, cc)
-put_is false out xs new e = absurd cc
-
 -- the octets of a string behind their length, from the next octet on
 string_parts : (os : List ℕ) (old : List Bool) → old ++ string_form os (length old) ≡ (old ++ pad (length old)) ++ (octet_bits (length_octets (length os)) ++ octet_bits os)
 string_parts os old =
@@ -72,13 +65,17 @@ string_parts os old =
     let none : pad (length old + length (front ++ counted)) ≡ [] = ap (λ k. replicate k false) whole in
     ap (λ (l : List Bool). old ++ ((front ++ counted) ++ (l ++ octet_bits os))) none ∙ ap (λ (l : List Bool). old ++ l) (append_assoc front counted (octet_bits os)) ∙ sym (append_assoc old front (counted ++ octet_bits os))
 
-open_is : (f : Format) (v : Value f) (old : List Bool) → writable f v ≡ true
-    → write_at (open_type f) v old ≡ cond (ltb (length (padded (written f v 0))) 16384)
-    (Ok ((old ++ pad (length old)) ++ (octet_bits (length_octets (length (padded (written f v 0)))) ++ octet_bits (padded (written f v 0))))) (Err Range)
-open_is f v old fits =
-    let os : List ℕ = padded (written f v 0) in
-    writes (open_type f) v old ∙ ap (λ b. put_if (b && string_fits os) old (string_form os (length old))) fits
-    ∙ ap (λ b. put_if b old (string_form os (length old))) (both_hold (ltb (length os) 16384) (all_below 256 os) (padded_below (written f v 0)))
+-- a value that is written in octets of its own, as an open type
+abbrev pub write_inside : {A : Type 0} → (A → List Bool → Result (List Bool) PerFault) → A → List Bool → Result (List Bool) PerFault
+write_inside w a old = write_whole w a >>= λ os. write_string os old
+
+open_is : {A : Type 0} (w : A → List Bool → Result (List Bool) PerFault) (a : A) (p : Placed (w a)) (old : List Bool) → p.fits ≡ true
+    → write_inside w a old ≡ cond (ltb (length (padded (p.text 0))) 16384)
+    (Ok ((old ++ pad (length old)) ++ (octet_bits (length_octets (length (padded (p.text 0)))) ++ octet_bits (padded (p.text 0))))) (Err Range)
+open_is w a p old fits =
+    let os : List ℕ = padded (p.text 0) in
+    inside_written w a p.fits (p.text 0) old (p.puts []) ∙ ap (λ b. put_if (b && string_fits os) old (string_form os (length old))) fits
+    ∙ ap (λ b. put_if b old (string_form os (length old))) (both_hold (ltb (length os) 16384) (all_below 256 os) (padded_below (p.text 0)))
     ∙ ap (λ (l : List Bool). cond (ltb (length os) 16384) (Ok l) (Err Range)) (string_parts os old)
 
 counted_is : (front : List Bool) (os : List ℕ) (place : ℕ) → length front ≡ 8 * place
@@ -93,41 +90,63 @@ counted_is front os place len =
     let behind : drop (8 * place + 8) (one ++ octet_bits os) ≡ octet_bits os = drop_at one (octet_bits os) (8 * place + 8) size in
     rw (many, before, behind) refl
 
--- the value as it stands behind its octet, and the bits up to the next octet
-pub open_written : (f : Format) (v : Value f) (old whole counted : List Bool) (place : ℕ) → place ≡ length (old ++ pad (length old)) / 8
-    → write_at f v ((old ++ pad (length old)) ++ bits 8 0) ≡ Ok whole → counted ≡ whole ++ pad (length whole) → write_at (open_type f) v old ≡ count_behind place counted
-open_written f v old whole counted place at e ends =
+-- the value as it stands behind an octet that was left for its length, and the bits up to the next octet
+pub record Behind (w : List Bool → Result (List Bool) PerFault) (old counted : List Bool) (place : ℕ) : Type 0 where
+  pub one : List Bool
+  pub whole : List Bool
+  pub front : List Bool
+  pub aligned : front ≡ old ++ pad (length old)
+  pub at : place ≡ length front / 8
+  pub left : one ≡ front ++ bits 8 0
+  pub put : w one ≡ Ok whole
+  pub ends : counted ≡ whole ++ pad (length whole)
+
+-- such a value, with what stands before it written out
+record Parts (w : List Bool → Result (List Bool) PerFault) (p : Placed w) (old counted : List Bool) (place : ℕ) : Type 0 where
+  size : length (old ++ pad (length old)) ≡ 8 * place
+  fits : p.fits ≡ true
+  all : counted ≡ ((old ++ pad (length old)) ++ bits 8 0) ++ octet_bits (padded (p.text 0))
+
+parts_of : (w : List Bool → Result (List Bool) PerFault) (p : Placed w) (old counted : List Bool) (place : ℕ) → Behind w old counted place → Parts w p old counted place
+parts_of w p old counted place b =
     let front : List Bool = old ++ pad (length old) in
     let one : List Bool = front ++ bits 8 0 in
-    let text : List Bool = written f v 0 in
+    let text : List Bool = p.text 0 in
+    let whole : List Bool = b.whole in
+    let at : place ≡ length front / 8 = b.at ∙ ap (λ (l : List Bool). length l / 8) b.aligned in
+    let left : b.one ≡ one = b.left ∙ ap (λ (l : List Bool). l ++ bits 8 0) b.aligned in
     let size : length front ≡ 8 * place = omega (arith, at, length-append old (pad (length old)), length-replicate (padding (length old)) false) in
     let behind : length one % 8 ≡ 0 = omega (arith, size, length-append front (bits 8 0), length-bits 8 0) in
-    let k = put_is (writable f v) one (written f v (length one)) whole (sym (writes f v one) ∙ e) in
-    let same : whole ≡ one ++ text = sym k.1 ∙ ap (λ (l : List Bool). one ++ l) (written_same f v (length one) 0 behind) in
+    let k = was_put w p one whole (sym (ap w left) ∙ b.put) in
+    let same : whole ≡ one ++ text = sym k.1 ∙ ap (λ (l : List Bool). one ++ l) (p.same (length one) 0 behind) in
     let gap : pad (length whole) ≡ pad (length text) = pad_same (length whole) (length text) (let l = ap length same in omega (arith, l, behind, length-append one text)) in
     let all : counted ≡ one ++ octet_bits (padded text) =
-    ends ∙ ap (λ (l : List Bool). whole ++ l) gap ∙ ap (λ (l : List Bool). l ++ pad (length text)) same ∙ append_assoc one text (pad (length text)) ∙ ap (λ (l : List Bool). one ++ l) (sym (padded-bits text)) in
-    open_is f v old k.0 ∙ sym (ap (count_behind place) all ∙ counted_is front (padded text) place size)
-
-pub open_refused : (f : Format) (v : Value f) (old one : List Bool) (fault : PerFault) → write_at f v one ≡ Err fault → write_at (open_type f) v old ≡ Err fault
-open_refused f v old one fault e =
-    let k = fault_is (writable f v) one (written f v (length one)) fault (sym (writes f v one) ∙ e) in
-    let os : List ℕ = padded (written f v 0) in
-    writes (open_type f) v old ∙ ap (λ b. put_if (b && string_fits os) old (string_form os (length old))) k.0 ∙ ap (λ r. Err r) (sym k.1)
-
-pub open_fails : (f : Format) (v : Value f) (old one : List Bool) (e : PerError) → Fails e (write_at f v one) → Fails e (write_at (open_type f) v old)
-open_fails f v old one errors.NoMemory h = tt
-open_fails f v old one (errors.Fault fault) h = open_refused f v old one fault h
+    b.ends ∙ ap (λ (l : List Bool). whole ++ l) gap ∙ ap (λ (l : List Bool). l ++ pad (length text)) same ∙ append_assoc one text (pad (length text)) ∙ ap (λ (l : List Bool). one ++ l) (sym (padded-bits text)) in
+    record { size = size; fits = k.0; all = all }
 
 -- the octet that counts was written
-pub open_room : (f : Format) (v : Value f) (front whole counted : List Bool) (place : ℕ) → place ≡ length front / 8 → length front % 8 ≡ 0
-    → write_at f v (front ++ bits 8 0) ≡ Ok whole → counted ≡ whole ++ pad (length whole) → 8 * place + 8 ≤ length counted
-open_room f v front whole counted place at even e ends =
+pub open_room : (w : List Bool → Result (List Bool) PerFault) (p : Placed w) (old counted : List Bool) (place : ℕ) → Behind w old counted place → 8 * place + 8 ≤ length counted
+open_room w p old counted place b =
+    let front : List Bool = old ++ pad (length old) in
     let one : List Bool = front ++ bits 8 0 in
-    let k = put_is (writable f v) one (written f v (length one)) whole (sym (writes f v one) ∙ e) in
-    let l = ap length k.1 in
-    let m = ap length ends in
-    omega (arith, at, even, l, m, length-append front (bits 8 0), length-bits 8 0, length-append one (written f v (length one)), length-append whole (pad (length whole)))
+    let k = parts_of w p old counted place b in
+    let l = ap length k.all in
+    omega (arith, k.size, l, length-append front (bits 8 0), length-bits 8 0, length-append one (octet_bits (padded (p.text 0))))
 
-pub aligned_even : (old : List Bool) → length (old ++ pad (length old)) % 8 ≡ 0
-aligned_even old = omega (arith, length-append old (pad (length old)), length-replicate (padding (length old)) false)
+pub open_written : {A X : Type 0} (w : A → List Bool → Result (List Bool) PerFault) (a : A) (p : Placed (w a)) (old counted new : List Bool) (place : ℕ) (r : Result X PerError) → Behind (w a) old counted place
+    → Wrote r new (count_behind place counted) → Wrote r new (write_inside w a old)
+open_written w a p old counted new place r b h =
+    let front : List Bool = old ++ pad (length old) in
+    let k = parts_of (w a) p old counted place b in
+    let same : write_inside w a old ≡ count_behind place counted = open_is w a p old k.fits ∙ sym (ap (count_behind place) k.all ∙ counted_is front (padded (p.text 0)) place k.size) in
+    subst (λ (q : Result (List Bool) PerFault). Wrote r new q) (sym same) h
+
+open_refused : {A : Type 0} (w : A → List Bool → Result (List Bool) PerFault) (a : A) (p : Placed (w a)) (old one : List Bool) (fault : PerFault) → w a one ≡ Err fault → write_inside w a old ≡ Err fault
+open_refused w a p old one fault e =
+    let k = refused (w a) p one fault e in
+    let os : List ℕ = padded (p.text 0) in
+    inside_written w a p.fits (p.text 0) old (p.puts []) ∙ ap (λ b. put_if (b && string_fits os) old (string_form os (length old))) k.0 ∙ ap (λ r. Err r) (sym k.1)
+
+pub open_fails : {A : Type 0} (w : A → List Bool → Result (List Bool) PerFault) (a : A) (p : Placed (w a)) (old one : List Bool) (e : PerError) → Fails e (w a one) → Fails e (write_inside w a old)
+open_fails w a p old one errors.NoMemory h = tt
+open_fails w a p old one (errors.Fault fault) h = open_refused w a p old one fault h

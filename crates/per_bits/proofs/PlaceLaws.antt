@@ -18,12 +18,12 @@ pub pad_same : IsSame pad
 pad_same a b h = ap (λ r. replicate ((8 - r) % 8) false) h
 
 -- one part behind another
-two : (x y : ℕ → List Bool) → IsSame x → IsSame y → IsSame (λ at. x at ++ y (at + length (x at)))
+pub two : (x y : ℕ → List Bool) → IsSame x → IsSame y → IsSame (λ at. x at ++ y (at + length (x at)))
 two x y hx hy a b h =
     ap (λ (l : List Bool). l ++ y (a + length l)) (hx a b h) ∙ ap (λ (l : List Bool). x b ++ l) (hy (a + length (x b)) (b + length (x b)) (further a b (length (x b)) h))
 
 -- behind some bits that stand anywhere
-after : (xs : List Bool) (y : ℕ → List Bool) → IsSame y → IsSame (λ at. xs ++ y (at + length xs))
+pub after : (xs : List Bool) (y : ℕ → List Bool) → IsSame y → IsSame (λ at. xs ++ y (at + length xs))
 after xs y hy a b h = ap (λ (l : List Bool). xs ++ l) (hy (a + length xs) (b + length xs) (further a b (length xs) h))
 
 whole_same : (lo hi n : ℕ) → IsSame (whole lo hi n)

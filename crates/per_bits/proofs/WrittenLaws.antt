@@ -19,7 +19,7 @@ put_if b out xs = cond b (Ok (out ++ xs)) (Err Range)
 place : (ys : ℕ → List Bool) (out xs : List Bool) → (out ++ xs) ++ ys (length (out ++ xs)) ≡ out ++ (xs ++ ys (length out + length xs))
 place ys out xs = ap (λ n. (out ++ xs) ++ ys n) (length-append out xs) ∙ append_assoc out xs (ys (length out + length xs))
 
-behind : (b : Bool) (ys : ℕ → List Bool) (out xs : List Bool) → put_if b (out ++ xs) (ys (length (out ++ xs))) ≡ put_if b out (xs ++ ys (length out + length xs))
+pub behind : (b : Bool) (ys : ℕ → List Bool) (out xs : List Bool) → put_if b (out ++ xs) (ys (length (out ++ xs))) ≡ put_if b out (xs ++ ys (length out + length xs))
 behind true ys out xs = ap (λ (l : List Bool). Ok l) (place ys out xs)
 behind false ys out xs = refl
 
@@ -29,7 +29,7 @@ in_turn : (a b : Bool) (out xs : List Bool) (ys : ℕ → List Bool) (k : List B
 in_turn true b out xs ys k h = h (out ++ xs) ∙ behind b ys out xs
 in_turn false b out xs ys k h = refl
 
-both : (a b : Bool) (out xs : List Bool) (ys : ℕ → List Bool) (r : Result (List Bool) PerFault) (k : List Bool → Result (List Bool) PerFault) → r ≡ put_if a out xs
+pub both : (a b : Bool) (out xs : List Bool) (ys : ℕ → List Bool) (r : Result (List Bool) PerFault) (k : List Bool → Result (List Bool) PerFault) → r ≡ put_if a out xs
     → ((mid : List Bool) → k mid ≡ put_if b mid (ys (length mid))) → (r >>= k) ≡ put_if (a && b) out (xs ++ ys (length out + length xs))
 both a b out xs ys r k e h = ap (λ (q : Result (List Bool) PerFault). q >>= k) e ∙ in_turn a b out xs ys k h
 
@@ -102,9 +102,9 @@ string_if : (b : Bool) (os : List ℕ) (out : List Bool) → (cond b (Ok os) (Er
 string_if true os out = string_written os out
 string_if false os out = refl
 
-open_written : {A : Type 0} (w : A → List Bool → Result (List Bool) PerFault) (a : A) (b : Bool) (xs out : List Bool) → w a [] ≡ put_if b [] xs
+pub inside_written : {A : Type 0} (w : A → List Bool → Result (List Bool) PerFault) (a : A) (b : Bool) (xs out : List Bool) → w a [] ≡ put_if b [] xs
     → (write_whole w a >>= λ os. write_string os out) ≡ put_if (b && string_fits (padded xs)) out (string_form (padded xs) (length out))
-open_written w a b xs out e = ap (λ (q : Result (List ℕ) PerFault). q >>= λ os. write_string os out) (whole_written w a b xs e) ∙ string_if b (padded xs) out
+inside_written w a b xs out e = ap (λ (q : Result (List ℕ) PerFault). q >>= λ os. write_string os out) (whole_written w a b xs e) ∙ string_if b (padded xs) out
 
 mutual
   pub writes : (f : Format) (v : Value f) (out : List Bool) → write_at f v out ≡ put_if (writable f v) out (written f v (length out))
@@ -119,7 +119,7 @@ mutual
   writes (items lo hi f) vs out =
       both (number_fits lo hi (length vs)) (each_fits (writable f) vs) out (whole lo hi (length vs) (length out)) (each_form (written f) vs) (write_number lo hi (length vs) out) (write_each (write_at f) vs) (number_written lo hi (length vs) out)
       (each_written (write_at f) (writable f) (written f) (writes f) vs)
-  writes (open_type f) v out = open_written (write_at f) v (writable f v) (written f v 0) out (writes f v [])
+  writes (open_type f) v out = inside_written (write_at f) v (writable f v) (written f v 0) out (writes f v [])
   writes (plain fs) v out = writes_fields fs v (out ++ presence fs v) ∙ behind (writable_fields fs v) (written_fields fs v) out (presence fs v)
   writes (sequence fs) v out = writes_fields fs v (out ++ false ∷ presence fs v) ∙ behind (writable_fields fs v) (written_fields fs v) out (false ∷ presence fs v)
   writes (choice alts) v out =

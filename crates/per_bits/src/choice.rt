@@ -15,6 +15,7 @@ use std::alloc::Global;
 
 /// The index of an alternative, the last of which has index `last`; an extension bit of 1 is Alternative.
 #[tactic(auto, unfolding(per_numbers::specs::Reading::number_at))]
+#[inline(always)]
 pub fn take_choice(last: u64, reader: &mut BitReader) -> Result<u64, PerFault>
     ensures exact { Answers (λ n. n) result reader.new (closed_at Alternative (number_at 0 last) reader.old) }
     ensures within { IfOk result (λ n. n ≤ last) }
@@ -27,6 +28,7 @@ pub fn take_choice(last: u64, reader: &mut BitReader) -> Result<u64, PerFault>
 }
 
 /// Writes the index of an alternative, the last of which has index `last`; a greater one is Range.
+#[inline(always)]
 pub fn put_choice(last: u64, index: u64, writer: &mut BitWriter) -> Result<(), PerError>
     ensures { Wrote result writer.new (write_number 0 last index (writer.old ++ false ∷ [])) }
 {

@@ -59,6 +59,7 @@ impl<'a, const N: usize> Element<'a> for Octets<N> {
     ghost view = { λ o. o };
 
     #[tactic(auto, unfolding(crate::specs::Reading::octets_at, bit_streams::specs::Bits::aligned_octets_at))]
+    #[inline(always)]
     fn read(_alloc: Global, reader: &mut BitReader<'a>) -> Result<Self, PerError> {
         let mut octets = [0; N];
         if N >= 3 {
@@ -69,6 +70,7 @@ impl<'a, const N: usize> Element<'a> for Octets<N> {
     }
 
     #[tactic(auto, unfolding(crate::specs::Writing::write_octets))]
+    #[inline(always)]
     fn write(&self, _alloc: Global, writer: &mut BitWriter) -> Result<(), PerError> {
         if N < 3 {
             writer.put_octets(&self.octets)

@@ -67,6 +67,7 @@ fn take_octet(reader: &mut BitReader) -> Result<u8, PerFault>
 
 /// Writes a length without a bound (X.691 clause 11.9); 16384 and more is Range.
 #[tactic(auto, unfolding(crate::specs::Writing::write_length))]
+#[inline(always)]
 pub fn put_length(length: usize, writer: &mut BitWriter) -> Result<(), PerError>
     ensures { Wrote result writer.new (write_length length writer.old) }
 {
@@ -129,9 +130,10 @@ pub fn write_open<'a, T: Element<'a>>(
     count_behind(place, writer)
 }
 
-// The octet at a place becomes the length of those behind it, up to 16383, which is one octet or two; more is Range.
+/// The octet at a place becomes the length of those behind it, up to 16383, which is one octet or two (X.691 clause 11.9); more is Range.
 #[tactic(auto, unfolding(crate::specs::Writing::count_behind))]
-fn count_behind(place: usize, writer: &mut BitWriter) -> Result<(), PerError>
+#[inline(always)]
+pub fn count_behind(place: usize, writer: &mut BitWriter) -> Result<(), PerError>
     requires { 8 * place + 8 ≤ length writer.old }
     ensures { Wrote result writer.new (count_behind place writer.old) }
 {

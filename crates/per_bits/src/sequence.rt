@@ -36,6 +36,7 @@ pub fn take_three_flags(reader: &mut BitReader) -> Result<(bool, bool, bool), Pe
 }
 
 /// Writes the presence bits of a SEQUENCE: nothing of later releases.
+#[inline(always)]
 pub fn put_flags(writer: &mut BitWriter) -> Result<(), PerError>
     ensures ok { OnOk result (writer.new ≡ writer.old ++ false ∷ false ∷ []) }
     ensures memory { OnErr result (result ≡ Err NoMemory) }
@@ -45,6 +46,7 @@ pub fn put_flags(writer: &mut BitWriter) -> Result<(), PerError>
 }
 
 /// Writes the presence bits of a SEQUENCE one part of which may lack.
+#[inline(always)]
 pub fn put_three_flags(present: bool, writer: &mut BitWriter) -> Result<(), PerError>
     ensures ok { OnOk result (writer.new ≡ writer.old ++ false ∷ present ∷ false ∷ []) }
     ensures memory { OnErr result (result ≡ Err NoMemory) }

@@ -37,6 +37,7 @@ impl<'a> Element<'a> for OctetString<'a> {
 
 /// Writes octets from the next octet on.
 #[tactic(auto, unfolding(crate::specs::Writing::write_aligned))]
+#[inline(always)]
 pub fn put_aligned(octets: &[u8], writer: &mut BitWriter) -> Result<(), PerError>
     ensures { Wrote result writer.new (write_aligned octets.now writer.old) }
 {
@@ -47,6 +48,7 @@ pub fn put_aligned(octets: &[u8], writer: &mut BitWriter) -> Result<(), PerError
 
 /// Writes a length and its octets, as an open type has them (X.691 clause 11.2); 16384 octets and more is Range.
 #[tactic(auto, unfolding(crate::specs::Writing::write_string))]
+#[inline(always)]
 pub fn put_open(octets: &[u8], writer: &mut BitWriter) -> Result<(), PerError>
     ensures { Wrote result writer.new (write_string octets.now writer.old) }
 {

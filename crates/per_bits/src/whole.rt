@@ -17,11 +17,13 @@ impl<'a, const LO: u64, const HI: u64> Element<'a> for Whole<LO, HI> {
 
     ghost view = { λ n. n };
 
+    #[inline(always)]
     fn read(_alloc: Global, reader: &mut BitReader<'a>) -> Result<Self, PerError> {
         let number = Whole::<LO, HI>::read(reader)?;
         Ok(number)
     }
 
+    #[inline(always)]
     fn write(&self, _alloc: Global, writer: &mut BitWriter) -> Result<(), PerError> {
         put_number(LO, HI, self.get(), writer)
     }

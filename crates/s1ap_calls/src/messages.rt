@@ -132,7 +132,7 @@ fn error_indication(call: Call, m: &ErrorIndication) -> Text {
 fn paging(call: Call, m: &Paging<&[u8]>) -> Text {
     let text = call
         .text("Paging")
-        .bits(" index ", m.ue_index.as_slice())
+        .bits(" index ", &m.ue_index.bits())
         .named(" domain ", &m.domain);
     let mut text = match m.paging_id {
         UePagingId::STmsi(id) => text

@@ -52,7 +52,7 @@ pub fn with_reset_type(text: Text, reset_type: &ResetType) -> Text {
 pub fn with_place(text: Text, tai: &Tai, cell: &EutranCgi) -> Text {
     with_area(text, tai)
         .octets(" cell ", cell.plmn.as_slice())
-        .bits(" ", cell.cell.as_slice())
+        .bits(" ", &cell.cell.bits())
 }
 
 /// A text and a tracking area.
@@ -63,15 +63,15 @@ pub fn with_area(text: Text, tai: &Tai) -> Text {
 
 /// A text and the algorithms of a phone.
 pub fn with_algorithms(text: Text, capabilities: &SecurityCapabilities) -> Text {
-    text.bits(" encryption ", capabilities.encryption.as_slice())
-        .bits(" integrity ", capabilities.integrity.as_slice())
+    text.bits(" encryption ", &capabilities.encryption.bits())
+        .bits(" integrity ", &capabilities.integrity.bits())
 }
 
 /// A text and the number of a station.
 pub fn with_station(text: Text, id: &EnbId) -> Text {
     match id {
-        EnbId::Macro(number) => text.bits(" macro ", number.as_slice()),
-        EnbId::Home(number) => text.bits(" home ", number.as_slice()),
+        EnbId::Macro(number) => text.bits(" macro ", &number.bits()),
+        EnbId::Home(number) => text.bits(" home ", &number.bits()),
     }
 }
 

@@ -61,7 +61,7 @@ impl<T: Shown> Shown for Option<T> {
 /// The bits, the last and the one before.
 impl Shown for BitField<20> {
     fn shown(&self, text: Text) -> Text {
-        text.bits("", self.as_slice())
+        text.bits("", &self.bits())
             .with(" last ", &self.bit(19))
             .with(" before ", &self.bit(18))
     }
