@@ -2,22 +2,20 @@
 
 ghost use Rattle.std.specs.Prelude.{◌≡◌, ◌≤◌, length, IfOk};
 ghost use Rattle.per_bits.specs.Reading.{GivesWhole};
-ghost use Rattle.per_bits.specs.Writing.{write_whole};
 ghost use Rattle.s1ap_rows.specs.Answers.{Encodes};
 ghost use Rattle.s1ap_messages.specs.Pdus.{lists, typed, encoded, longest};
-ghost use Rattle.s1ap_messages.specs.Profile.{rows_of, kind_of, code_of, criticality_of};
-ghost use Rattle.s1ap_rows.specs.Writing.{write_message};
+ghost use Rattle.s1ap_messages.specs.Profile.{kind_of, code_of, criticality_of};
 ghost use Rattle.s1ap_messages.specs.Typed.{encode_typed};
 
 use crate::message_type::MessageType;
-use crate::pdu::{Pdu, S1apPdu, Written};
+use crate::pdu::{Encoded, Pdu, S1apPdu};
 use crate::{context, interface, movement, setup, transport};
 use per_bits::PerError;
-use s1ap_rows::{Criticality, EncodeFault, frame_octets};
+use s1ap_rows::{Criticality, EncodeFault};
 use std::alloc::Global;
 
-fn write_content(alloc: Global, message: &S1apPdu) -> Written
-    ensures { GivesWhole (λ v. v.items) result (write_whole (write_message (rows_of (typed (lists message.now)).0)) (typed (lists message.now)).1) }
+fn message_octets(alloc: Global, message: &S1apPdu) -> Encoded
+    ensures { GivesWhole (λ v. v.items) result (encode_typed (typed (lists message.now))) }
 {
     match message {
         Pdu::SetupRequest(m) => setup::write_setup_request(alloc, m),
@@ -138,21 +136,6 @@ impl MessageType {
             _ => Criticality::Reject,
         }
     }
-}
-
-#[tactic(auto, unfolding(crate::specs::Typed::encode_typed))]
-fn message_octets(alloc: Global, message: &S1apPdu) -> Written
-    ensures { GivesWhole (λ v. v.items) result (encode_typed (typed (lists message.now))) }
-{
-    let message_type = message.message_type();
-    let content = write_content(alloc, message)?;
-    frame_octets(
-        alloc,
-        message_type.kind(),
-        message_type.code(),
-        message_type.criticality(),
-        &content,
-    )
 }
 
 /// The octets of a message: its rows in their order, with the criticalities of the standard's table. There are at most 16,388.

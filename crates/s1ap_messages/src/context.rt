@@ -1,20 +1,22 @@
 //! Messages by which associations begin and end.
+#![tactic(auto, unfolding(crate::specs::Typed::encode_typed))]
 
 ghost use Rattle.per_bits.specs.Reading.{GivesWhole};
-ghost use Rattle.per_bits.specs.Writing.{write_whole};
 ghost use Rattle.s1ap_messages.specs.Pdus.{context_setup_request_lists, typed_context_setup_request, typed_context_setup_response, typed_context_setup_failure, typed_release_request, typed_release_command, typed_release_complete};
-ghost use Rattle.s1ap_messages.specs.Profile.{context_setup_request, context_setup_response, context_setup_failure, release_request, release_command, release_complete};
-ghost use Rattle.s1ap_rows.specs.Writing.{write_message};
+ghost use Rattle.s1ap_messages.specs.Typed.{encode_typed, typed_of};
+ghost use Rattle.s1ap_messages.specs.declared.message_type.MessageType.TheVariants as message;
 
+use crate::message_type::MessageType;
+use crate::octets::octets_of;
 use crate::pdu::{
-    ContextSetupFailure, ContextSetupRequest, ContextSetupResponse, ReleaseCommand,
-    ReleaseComplete, ReleaseRequest, Written,
+    ContextSetupFailure, ContextSetupRequest, ContextSetupResponse, Encoded, ReleaseCommand,
+    ReleaseComplete, ReleaseRequest,
 };
 use s1ap_elements::{
     Ambr, Cause, EnbUeId, ErabsSetup, ErabsToBeSetup, MmeUeId, SecurityCapabilities, SecurityKey,
     UeS1apIds,
 };
-use s1ap_rows::{IGNORE, Needed, REJECT, SixRows, ThreeRows, TwoRows, write_message};
+use s1ap_rows::{IGNORE, Needed, REJECT, SixRows, ThreeRows, TwoRows};
 use std::alloc::Global;
 
 /// The rows of INITIAL CONTEXT SETUP REQUEST (TS 36.413 clause 9.1.4.1).
@@ -27,14 +29,15 @@ pub type ContextSetupRequestRows<'a> = SixRows<
     Needed<73, REJECT, SecurityKey>,
 >;
 
-/// Writes the elements of INITIAL CONTEXT SETUP REQUEST (TS 36.413 clause 9.1.4.1).
-#[tactic(auto, using(s1ap_elements::specs::BearerLaws::erabs_seen))]
-pub fn write_context_setup_request(alloc: Global, m: &ContextSetupRequest<&[u8]>) -> Written
+/// The octets of INITIAL CONTEXT SETUP REQUEST (TS 36.413 clause 9.1.4.1).
+#[tactic(auto, using(s1ap_elements::specs::BearerLaws::erabs_seen), unfolding(crate::specs::Typed::encode_typed))]
+pub fn write_context_setup_request(alloc: Global, m: &ContextSetupRequest<&[u8]>) -> Encoded
     ensures { GivesWhole (λ v. v.items) result
-        (write_whole (write_message context_setup_request) (typed_context_setup_request (context_setup_request_lists m.now))) }
+        (encode_typed (typed_of message.ContextSetupRequest (typed_context_setup_request (context_setup_request_lists m.now)))) }
 {
-    write_message::<ContextSetupRequestRows>(
+    octets_of::<ContextSetupRequestRows>(
         alloc,
+        MessageType::ContextSetupRequest,
         &lent!(
             &m.mme_id,
             &m.enb_id,
@@ -53,11 +56,15 @@ pub type ContextSetupResponseRows<'a> = ThreeRows<
     Needed<51, IGNORE, ErabsSetup<'a>>,
 >;
 
-/// Writes the elements of INITIAL CONTEXT SETUP RESPONSE (TS 36.413 clause 9.1.4.3).
-pub fn write_context_setup_response(alloc: Global, m: &ContextSetupResponse) -> Written
-    ensures { GivesWhole (λ v. v.items) result (write_whole (write_message context_setup_response) (typed_context_setup_response m.now)) }
+/// The octets of INITIAL CONTEXT SETUP RESPONSE (TS 36.413 clause 9.1.4.3).
+pub fn write_context_setup_response(alloc: Global, m: &ContextSetupResponse) -> Encoded
+    ensures { GivesWhole (λ v. v.items) result (encode_typed (typed_of message.ContextSetupResponse (typed_context_setup_response m.now))) }
 {
-    write_message::<ContextSetupResponseRows>(alloc, &lent!(&m.mme_id, &m.enb_id, &m.erabs))
+    octets_of::<ContextSetupResponseRows>(
+        alloc,
+        MessageType::ContextSetupResponse,
+        &lent!(&m.mme_id, &m.enb_id, &m.erabs),
+    )
 }
 
 /// The rows of INITIAL CONTEXT SETUP FAILURE (TS 36.413 clause 9.1.4.4).
@@ -67,11 +74,15 @@ pub type ContextSetupFailureRows = ThreeRows<
     Needed<2, IGNORE, Cause>,
 >;
 
-/// Writes the elements of INITIAL CONTEXT SETUP FAILURE (TS 36.413 clause 9.1.4.4).
-pub fn write_context_setup_failure(alloc: Global, m: &ContextSetupFailure) -> Written
-    ensures { GivesWhole (λ v. v.items) result (write_whole (write_message context_setup_failure) (typed_context_setup_failure m.now)) }
+/// The octets of INITIAL CONTEXT SETUP FAILURE (TS 36.413 clause 9.1.4.4).
+pub fn write_context_setup_failure(alloc: Global, m: &ContextSetupFailure) -> Encoded
+    ensures { GivesWhole (λ v. v.items) result (encode_typed (typed_of message.ContextSetupFailure (typed_context_setup_failure m.now))) }
 {
-    write_message::<ContextSetupFailureRows>(alloc, &lent!(&m.mme_id, &m.enb_id, &m.cause))
+    octets_of::<ContextSetupFailureRows>(
+        alloc,
+        MessageType::ContextSetupFailure,
+        &lent!(&m.mme_id, &m.enb_id, &m.cause),
+    )
 }
 
 /// The rows of UE CONTEXT RELEASE REQUEST (TS 36.413 clause 9.1.4.5).
@@ -81,29 +92,37 @@ pub type ReleaseRequestRows = ThreeRows<
     Needed<2, IGNORE, Cause>,
 >;
 
-/// Writes the elements of UE CONTEXT RELEASE REQUEST (TS 36.413 clause 9.1.4.5).
-pub fn write_release_request(alloc: Global, m: &ReleaseRequest) -> Written
-    ensures { GivesWhole (λ v. v.items) result (write_whole (write_message release_request) (typed_release_request m.now)) }
+/// The octets of UE CONTEXT RELEASE REQUEST (TS 36.413 clause 9.1.4.5).
+pub fn write_release_request(alloc: Global, m: &ReleaseRequest) -> Encoded
+    ensures { GivesWhole (λ v. v.items) result (encode_typed (typed_of message.ReleaseRequest (typed_release_request m.now))) }
 {
-    write_message::<ReleaseRequestRows>(alloc, &lent!(&m.mme_id, &m.enb_id, &m.cause))
+    octets_of::<ReleaseRequestRows>(
+        alloc,
+        MessageType::ReleaseRequest,
+        &lent!(&m.mme_id, &m.enb_id, &m.cause),
+    )
 }
 
 /// The rows of UE CONTEXT RELEASE COMMAND (TS 36.413 clause 9.1.4.6).
 pub type ReleaseCommandRows = TwoRows<Needed<99, REJECT, UeS1apIds>, Needed<2, IGNORE, Cause>>;
 
-/// Writes the elements of UE CONTEXT RELEASE COMMAND (TS 36.413 clause 9.1.4.6).
-pub fn write_release_command(alloc: Global, m: &ReleaseCommand) -> Written
-    ensures { GivesWhole (λ v. v.items) result (write_whole (write_message release_command) (typed_release_command m.now)) }
+/// The octets of UE CONTEXT RELEASE COMMAND (TS 36.413 clause 9.1.4.6).
+pub fn write_release_command(alloc: Global, m: &ReleaseCommand) -> Encoded
+    ensures { GivesWhole (λ v. v.items) result (encode_typed (typed_of message.ReleaseCommand (typed_release_command m.now))) }
 {
-    write_message::<ReleaseCommandRows>(alloc, &lent!(&m.ids, &m.cause))
+    octets_of::<ReleaseCommandRows>(alloc, MessageType::ReleaseCommand, &lent!(&m.ids, &m.cause))
 }
 
 /// The rows of UE CONTEXT RELEASE COMPLETE (TS 36.413 clause 9.1.4.7).
 pub type ReleaseCompleteRows = TwoRows<Needed<0, IGNORE, MmeUeId>, Needed<8, IGNORE, EnbUeId>>;
 
-/// Writes the elements of UE CONTEXT RELEASE COMPLETE (TS 36.413 clause 9.1.4.7).
-pub fn write_release_complete(alloc: Global, m: &ReleaseComplete) -> Written
-    ensures { GivesWhole (λ v. v.items) result (write_whole (write_message release_complete) (typed_release_complete m.now)) }
+/// The octets of UE CONTEXT RELEASE COMPLETE (TS 36.413 clause 9.1.4.7).
+pub fn write_release_complete(alloc: Global, m: &ReleaseComplete) -> Encoded
+    ensures { GivesWhole (λ v. v.items) result (encode_typed (typed_of message.ReleaseComplete (typed_release_complete m.now))) }
 {
-    write_message::<ReleaseCompleteRows>(alloc, &lent!(&m.mme_id, &m.enb_id))
+    octets_of::<ReleaseCompleteRows>(
+        alloc,
+        MessageType::ReleaseComplete,
+        &lent!(&m.mme_id, &m.enb_id),
+    )
 }

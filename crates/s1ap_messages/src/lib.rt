@@ -16,6 +16,7 @@ mod interface;
 mod laws;
 mod message_type;
 mod movement;
+mod octets;
 mod pdu;
 pub mod rows;
 mod setup;

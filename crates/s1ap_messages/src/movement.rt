@@ -1,17 +1,19 @@
 //! Messages that look for phones and follow them.
+#![tactic(auto, unfolding(crate::specs::Typed::encode_typed))]
 
 ghost use Rattle.per_bits.specs.Reading.{GivesWhole};
-ghost use Rattle.per_bits.specs.Writing.{write_whole};
 ghost use Rattle.s1ap_messages.specs.Pdus.{paging_lists, typed_paging, typed_path_switch_request, typed_path_switch_acknowledge, typed_path_switch_failure};
-ghost use Rattle.s1ap_messages.specs.Profile.{paging, path_switch_request, path_switch_acknowledge, path_switch_failure};
-ghost use Rattle.s1ap_rows.specs.Writing.{write_message};
+ghost use Rattle.s1ap_messages.specs.Typed.{encode_typed, typed_of};
+ghost use Rattle.s1ap_messages.specs.declared.message_type.MessageType.TheVariants as message;
 
-use crate::pdu::{Paging, PathSwitchAcknowledge, PathSwitchFailure, PathSwitchRequest, Written};
+use crate::message_type::MessageType;
+use crate::octets::octets_of;
+use crate::pdu::{Encoded, Paging, PathSwitchAcknowledge, PathSwitchFailure, PathSwitchRequest};
 use s1ap_elements::{
     Cause, CnDomain, EnbUeId, ErabsToBeSwitched, EutranCgi, MmeUeId, SecurityCapabilities,
     SecurityContext, Tai, TaiList, UeIndex, UePagingId,
 };
-use s1ap_rows::{FourRows, IGNORE, Needed, REJECT, SixRows, ThreeRows, write_message};
+use s1ap_rows::{FourRows, IGNORE, Needed, REJECT, SixRows, ThreeRows};
 use std::alloc::Global;
 
 /// The rows of PAGING (TS 36.413 clause 9.1.6).
@@ -22,12 +24,13 @@ pub type PagingRows<'a> = FourRows<
     Needed<46, IGNORE, TaiList>,
 >;
 
-/// Writes the elements of PAGING (TS 36.413 clause 9.1.6).
-pub fn write_paging(alloc: Global, m: &Paging<&[u8]>) -> Written
-    ensures { GivesWhole (λ v. v.items) result (write_whole (write_message paging) (typed_paging (paging_lists m.now))) }
+/// The octets of PAGING (TS 36.413 clause 9.1.6).
+pub fn write_paging(alloc: Global, m: &Paging<&[u8]>) -> Encoded
+    ensures { GivesWhole (λ v. v.items) result (encode_typed (typed_of message.Paging (typed_paging (paging_lists m.now)))) }
 {
-    write_message::<PagingRows>(
+    octets_of::<PagingRows>(
         alloc,
+        MessageType::Paging,
         &lent!(&m.ue_index, &m.paging_id, &m.domain, &m.tai_list),
     )
 }
@@ -42,12 +45,13 @@ pub type PathSwitchRequestRows<'a> = SixRows<
     Needed<107, IGNORE, SecurityCapabilities>,
 >;
 
-/// Writes the elements of PATH SWITCH REQUEST (TS 36.413 clause 9.1.5.8).
-pub fn write_path_switch_request(alloc: Global, m: &PathSwitchRequest) -> Written
-    ensures { GivesWhole (λ v. v.items) result (write_whole (write_message path_switch_request) (typed_path_switch_request m.now)) }
+/// The octets of PATH SWITCH REQUEST (TS 36.413 clause 9.1.5.8).
+pub fn write_path_switch_request(alloc: Global, m: &PathSwitchRequest) -> Encoded
+    ensures { GivesWhole (λ v. v.items) result (encode_typed (typed_of message.PathSwitchRequest (typed_path_switch_request m.now))) }
 {
-    write_message::<PathSwitchRequestRows>(
+    octets_of::<PathSwitchRequestRows>(
         alloc,
+        MessageType::PathSwitchRequest,
         &lent!(
             &m.enb_id,
             &m.erabs,
@@ -66,11 +70,15 @@ pub type PathSwitchAcknowledgeRows = ThreeRows<
     Needed<40, REJECT, SecurityContext>,
 >;
 
-/// Writes the elements of PATH SWITCH REQUEST ACKNOWLEDGE (TS 36.413 clause 9.1.5.9).
-pub fn write_path_switch_acknowledge(alloc: Global, m: &PathSwitchAcknowledge) -> Written
-    ensures { GivesWhole (λ v. v.items) result (write_whole (write_message path_switch_acknowledge) (typed_path_switch_acknowledge m.now)) }
+/// The octets of PATH SWITCH REQUEST ACKNOWLEDGE (TS 36.413 clause 9.1.5.9).
+pub fn write_path_switch_acknowledge(alloc: Global, m: &PathSwitchAcknowledge) -> Encoded
+    ensures { GivesWhole (λ v. v.items) result (encode_typed (typed_of message.PathSwitchAcknowledge (typed_path_switch_acknowledge m.now))) }
 {
-    write_message::<PathSwitchAcknowledgeRows>(alloc, &lent!(&m.mme_id, &m.enb_id, &m.context))
+    octets_of::<PathSwitchAcknowledgeRows>(
+        alloc,
+        MessageType::PathSwitchAcknowledge,
+        &lent!(&m.mme_id, &m.enb_id, &m.context),
+    )
 }
 
 /// The rows of PATH SWITCH REQUEST FAILURE (TS 36.413 clause 9.1.5.10).
@@ -80,9 +88,13 @@ pub type PathSwitchFailureRows = ThreeRows<
     Needed<2, IGNORE, Cause>,
 >;
 
-/// Writes the elements of PATH SWITCH REQUEST FAILURE (TS 36.413 clause 9.1.5.10).
-pub fn write_path_switch_failure(alloc: Global, m: &PathSwitchFailure) -> Written
-    ensures { GivesWhole (λ v. v.items) result (write_whole (write_message path_switch_failure) (typed_path_switch_failure m.now)) }
+/// The octets of PATH SWITCH REQUEST FAILURE (TS 36.413 clause 9.1.5.10).
+pub fn write_path_switch_failure(alloc: Global, m: &PathSwitchFailure) -> Encoded
+    ensures { GivesWhole (λ v. v.items) result (encode_typed (typed_of message.PathSwitchFailure (typed_path_switch_failure m.now))) }
 {
-    write_message::<PathSwitchFailureRows>(alloc, &lent!(&m.mme_id, &m.enb_id, &m.cause))
+    octets_of::<PathSwitchFailureRows>(
+        alloc,
+        MessageType::PathSwitchFailure,
+        &lent!(&m.mme_id, &m.enb_id, &m.cause),
+    )
 }

@@ -220,5 +220,5 @@ pub enum Pdu<'a, B: Drop> {
 /// A message that lends its octets from where it was read.
 pub type S1apPdu<'a> = Pdu<'a, &'a [u8]>;
 
-/// What writing a message's elements answers.
-pub type Written = Result<Vec<u8>, PerError>;
+/// What writing a message answers.
+pub type Encoded = Result<Vec<u8>, PerError>;

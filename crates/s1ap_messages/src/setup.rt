@@ -1,19 +1,19 @@
 //! Messages by which stations come up.
+#![tactic(auto, unfolding(crate::specs::Typed::encode_typed))]
 
 ghost use Rattle.per_bits.specs.Reading.{GivesWhole};
-ghost use Rattle.per_bits.specs.Writing.{write_whole};
 ghost use Rattle.s1ap_messages.specs.Pdus.{setup_request_lists, typed_setup_request, typed_setup_response, typed_setup_failure};
-ghost use Rattle.s1ap_messages.specs.Profile.{setup_request, setup_response, setup_failure};
-ghost use Rattle.s1ap_rows.specs.Writing.{write_message};
+ghost use Rattle.s1ap_messages.specs.Typed.{encode_typed, typed_of};
+ghost use Rattle.s1ap_messages.specs.declared.message_type.MessageType.TheVariants as message;
 
-use crate::pdu::{SetupFailure, SetupRequest, SetupResponse, Written};
+use crate::message_type::MessageType;
+use crate::octets::octets_of;
+use crate::pdu::{Encoded, SetupFailure, SetupRequest, SetupResponse};
 use s1ap_elements::{
     Cause, GlobalEnbId, Name, PagingDrx, RelativeCapacity, ServedGummeis, SupportedTas,
     name_of_octets,
 };
-use s1ap_rows::{
-    FourRows, IGNORE, Needed, OneRow, Optional, REJECT, ThreeRows, Unkept, write_message,
-};
+use s1ap_rows::{FourRows, IGNORE, Needed, OneRow, Optional, REJECT, ThreeRows, Unkept};
 use std::alloc::Global;
 
 /// The rows of S1 SETUP REQUEST (TS 36.413 clause 9.1.8.4).
@@ -24,13 +24,14 @@ pub type SetupRequestRows<'a> = FourRows<
     Needed<137, IGNORE, PagingDrx>,
 >;
 
-/// Writes the elements of S1 SETUP REQUEST (TS 36.413 clause 9.1.8.4).
-pub fn write_setup_request(alloc: Global, m: &SetupRequest<&[u8]>) -> Written
+/// The octets of S1 SETUP REQUEST (TS 36.413 clause 9.1.8.4).
+pub fn write_setup_request(alloc: Global, m: &SetupRequest<&[u8]>) -> Encoded
     ensures { GivesWhole (λ v. v.items) result
-        (write_whole (write_message setup_request) (typed_setup_request (setup_request_lists m.now))) }
+        (encode_typed (typed_of message.SetupRequest (typed_setup_request (setup_request_lists m.now)))) }
 {
-    write_message::<SetupRequestRows>(
+    octets_of::<SetupRequestRows>(
         alloc,
+        MessageType::SetupRequest,
         &lent!(
             &m.station,
             &name_of_octets(m.name),
@@ -47,19 +48,23 @@ pub type SetupResponseRows<'a> = ThreeRows<
     Needed<87, IGNORE, RelativeCapacity>,
 >;
 
-/// Writes the elements of S1 SETUP RESPONSE (TS 36.413 clause 9.1.8.5).
-pub fn write_setup_response(alloc: Global, m: &SetupResponse) -> Written
-    ensures { GivesWhole (λ v. v.items) result (write_whole (write_message setup_response) (typed_setup_response m.now)) }
+/// The octets of S1 SETUP RESPONSE (TS 36.413 clause 9.1.8.5).
+pub fn write_setup_response(alloc: Global, m: &SetupResponse) -> Encoded
+    ensures { GivesWhole (λ v. v.items) result (encode_typed (typed_of message.SetupResponse (typed_setup_response m.now))) }
 {
-    write_message::<SetupResponseRows>(alloc, &lent!(&m.served_gummeis, &m.capacity))
+    octets_of::<SetupResponseRows>(
+        alloc,
+        MessageType::SetupResponse,
+        &lent!(&m.served_gummeis, &m.capacity),
+    )
 }
 
 /// The rows of S1 SETUP FAILURE (TS 36.413 clause 9.1.8.6).
 pub type SetupFailureRows = OneRow<Needed<2, IGNORE, Cause>>;
 
-/// Writes the elements of S1 SETUP FAILURE (TS 36.413 clause 9.1.8.6).
-pub fn write_setup_failure(alloc: Global, m: &SetupFailure) -> Written
-    ensures { GivesWhole (λ v. v.items) result (write_whole (write_message setup_failure) (typed_setup_failure m.now)) }
+/// The octets of S1 SETUP FAILURE (TS 36.413 clause 9.1.8.6).
+pub fn write_setup_failure(alloc: Global, m: &SetupFailure) -> Encoded
+    ensures { GivesWhole (λ v. v.items) result (encode_typed (typed_of message.SetupFailure (typed_setup_failure m.now))) }
 {
-    write_message::<SetupFailureRows>(alloc, &lent!(&m.cause))
+    octets_of::<SetupFailureRows>(alloc, MessageType::SetupFailure, &lent!(&m.cause))
 }

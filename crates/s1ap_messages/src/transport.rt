@@ -1,20 +1,20 @@
 //! Messages that carry what phones and the MME say.
+#![tactic(auto, unfolding(crate::specs::Typed::encode_typed))]
 
 ghost use Rattle.per_bits.specs.Reading.{GivesWhole};
-ghost use Rattle.per_bits.specs.Writing.{write_whole};
 ghost use Rattle.s1ap_messages.specs.Pdus.{initial_ue_message_lists, typed_initial_ue_message, downlink_nas_transport_lists, typed_downlink_nas_transport, uplink_nas_transport_lists, typed_uplink_nas_transport, nas_non_delivery_lists, typed_nas_non_delivery, capability_info_lists, typed_capability_info};
-ghost use Rattle.s1ap_messages.specs.Profile.{initial_ue_message, downlink_nas_transport, uplink_nas_transport, nas_non_delivery, capability_info};
-ghost use Rattle.s1ap_rows.specs.Writing.{write_message};
+ghost use Rattle.s1ap_messages.specs.Typed.{encode_typed, typed_of};
+ghost use Rattle.s1ap_messages.specs.declared.message_type.MessageType.TheVariants as message;
 
+use crate::message_type::MessageType;
+use crate::octets::octets_of;
 use crate::pdu::{
-    CapabilityInfo, DownlinkNasTransport, InitialUeMessage, NasNonDelivery, UplinkNasTransport,
-    Written,
+    CapabilityInfo, DownlinkNasTransport, Encoded, InitialUeMessage, NasNonDelivery,
+    UplinkNasTransport,
 };
 use per_bits::OctetString;
 use s1ap_elements::{Cause, EnbUeId, EutranCgi, MmeUeId, RrcCause, STmsi, Tai};
-use s1ap_rows::{
-    FiveRows, FourRows, IGNORE, Needed, Optional, REJECT, SixRows, ThreeRows, write_message,
-};
+use s1ap_rows::{FiveRows, FourRows, IGNORE, Needed, Optional, REJECT, SixRows, ThreeRows};
 use std::alloc::Global;
 
 /// The rows of INITIAL UE MESSAGE (TS 36.413 clause 9.1.7.1).
@@ -27,13 +27,14 @@ pub type InitialUeMessageRows<'a> = SixRows<
     Optional<96, REJECT, STmsi>,
 >;
 
-/// Writes the elements of INITIAL UE MESSAGE (TS 36.413 clause 9.1.7.1).
-pub fn write_initial_ue_message(alloc: Global, m: &InitialUeMessage<&[u8]>) -> Written
+/// The octets of INITIAL UE MESSAGE (TS 36.413 clause 9.1.7.1).
+pub fn write_initial_ue_message(alloc: Global, m: &InitialUeMessage<&[u8]>) -> Encoded
     ensures { GivesWhole (λ v. v.items) result
-        (write_whole (write_message initial_ue_message) (typed_initial_ue_message (initial_ue_message_lists m.now))) }
+        (encode_typed (typed_of message.InitialUeMessage (typed_initial_ue_message (initial_ue_message_lists m.now)))) }
 {
-    write_message::<InitialUeMessageRows>(
+    octets_of::<InitialUeMessageRows>(
         alloc,
+        MessageType::InitialUeMessage,
         &lent!(
             &m.enb_id,
             &OctetString { octets: m.nas },
@@ -52,13 +53,14 @@ pub type DownlinkNasTransportRows<'a> = ThreeRows<
     Needed<26, REJECT, OctetString<'a>>,
 >;
 
-/// Writes the elements of DOWNLINK NAS TRANSPORT (TS 36.413 clause 9.1.7.2).
-pub fn write_downlink_nas_transport(alloc: Global, m: &DownlinkNasTransport<&[u8]>) -> Written
+/// The octets of DOWNLINK NAS TRANSPORT (TS 36.413 clause 9.1.7.2).
+pub fn write_downlink_nas_transport(alloc: Global, m: &DownlinkNasTransport<&[u8]>) -> Encoded
     ensures { GivesWhole (λ v. v.items) result
-        (write_whole (write_message downlink_nas_transport) (typed_downlink_nas_transport (downlink_nas_transport_lists m.now))) }
+        (encode_typed (typed_of message.DownlinkNasTransport (typed_downlink_nas_transport (downlink_nas_transport_lists m.now)))) }
 {
-    write_message::<DownlinkNasTransportRows>(
+    octets_of::<DownlinkNasTransportRows>(
         alloc,
+        MessageType::DownlinkNasTransport,
         &lent!(&m.mme_id, &m.enb_id, &OctetString { octets: m.nas }),
     )
 }
@@ -72,13 +74,14 @@ pub type UplinkNasTransportRows<'a> = FiveRows<
     Needed<67, IGNORE, Tai>,
 >;
 
-/// Writes the elements of UPLINK NAS TRANSPORT (TS 36.413 clause 9.1.7.3).
-pub fn write_uplink_nas_transport(alloc: Global, m: &UplinkNasTransport<&[u8]>) -> Written
+/// The octets of UPLINK NAS TRANSPORT (TS 36.413 clause 9.1.7.3).
+pub fn write_uplink_nas_transport(alloc: Global, m: &UplinkNasTransport<&[u8]>) -> Encoded
     ensures { GivesWhole (λ v. v.items) result
-        (write_whole (write_message uplink_nas_transport) (typed_uplink_nas_transport (uplink_nas_transport_lists m.now))) }
+        (encode_typed (typed_of message.UplinkNasTransport (typed_uplink_nas_transport (uplink_nas_transport_lists m.now)))) }
 {
-    write_message::<UplinkNasTransportRows>(
+    octets_of::<UplinkNasTransportRows>(
         alloc,
+        MessageType::UplinkNasTransport,
         &lent!(
             &m.mme_id,
             &m.enb_id,
@@ -97,13 +100,14 @@ pub type NasNonDeliveryRows<'a> = FourRows<
     Needed<2, IGNORE, Cause>,
 >;
 
-/// Writes the elements of NAS NON DELIVERY INDICATION (TS 36.413 clause 9.1.7.4).
-pub fn write_nas_non_delivery(alloc: Global, m: &NasNonDelivery<&[u8]>) -> Written
+/// The octets of NAS NON DELIVERY INDICATION (TS 36.413 clause 9.1.7.4).
+pub fn write_nas_non_delivery(alloc: Global, m: &NasNonDelivery<&[u8]>) -> Encoded
     ensures { GivesWhole (λ v. v.items) result
-        (write_whole (write_message nas_non_delivery) (typed_nas_non_delivery (nas_non_delivery_lists m.now))) }
+        (encode_typed (typed_of message.NasNonDelivery (typed_nas_non_delivery (nas_non_delivery_lists m.now)))) }
 {
-    write_message::<NasNonDeliveryRows>(
+    octets_of::<NasNonDeliveryRows>(
         alloc,
+        MessageType::NasNonDelivery,
         &lent!(
             &m.mme_id,
             &m.enb_id,
@@ -120,13 +124,14 @@ pub type CapabilityInfoRows<'a> = ThreeRows<
     Needed<74, IGNORE, OctetString<'a>>,
 >;
 
-/// Writes the elements of UE CAPABILITY INFO INDICATION (TS 36.413 clause 9.1.10).
-pub fn write_capability_info(alloc: Global, m: &CapabilityInfo<&[u8]>) -> Written
+/// The octets of UE CAPABILITY INFO INDICATION (TS 36.413 clause 9.1.10).
+pub fn write_capability_info(alloc: Global, m: &CapabilityInfo<&[u8]>) -> Encoded
     ensures { GivesWhole (λ v. v.items) result
-        (write_whole (write_message capability_info) (typed_capability_info (capability_info_lists m.now))) }
+        (encode_typed (typed_of message.CapabilityInfo (typed_capability_info (capability_info_lists m.now)))) }
 {
-    write_message::<CapabilityInfoRows>(
+    octets_of::<CapabilityInfoRows>(
         alloc,
+        MessageType::CapabilityInfo,
         &lent!(
             &m.mme_id,
             &m.enb_id,

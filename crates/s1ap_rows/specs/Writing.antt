@@ -57,3 +57,18 @@ abbrev pub write_pdu : ℕ → ℕ → ℕ → (rs : Rows) → Kept rs → Resul
 write_pdu kind code c rs v = do
   os ← write_whole (write_message rs) v
   write_whole (write_frame kind code c) os
+
+-- ---- the same where it is to stand
+
+-- what stands before the octets of a message
+abbrev pub write_head : ℕ → ℕ → ℕ → List Bool → Result (List Bool) PerFault
+write_head kind code c out = do
+  a ← write_number 0 2 kind (out ++ false ∷ [])
+  b ← write_number 0 255 code a
+  write_number 0 2 c b
+
+-- the octets of a message behind their length
+abbrev pub write_content : (rs : Rows) → Kept rs → List Bool → Result (List Bool) PerFault
+write_content rs v out = do
+  os ← write_whole (write_message rs) v
+  write_string os out

@@ -11,8 +11,8 @@ mod row;
 
 pub use criticality::{Criticality, IGNORE, REJECT};
 pub use fault::{EncodeFault, S1apFault};
-pub use frame::{Frame, frame_octets, read_frame};
-pub use message::{Message, Written, read_message, write_message};
+pub use frame::{Frame, read_frame};
+pub use message::{Message, Written, read_message, write_pdu};
 pub use row::{
     End, FiveRows, FourRows, Needed, OneRow, Optional, Row, SixRows, ThreeRows, TwoRows, Unkept,
 };

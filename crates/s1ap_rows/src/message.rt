@@ -2,16 +2,18 @@
 
 ghost use Rattle.std.specs.Prelude.{◌≡◌, ◌≤◌, ◌+◌};
 ghost use Rattle.per_bits.specs.Reading.{GivesWhole};
-ghost use Rattle.per_bits.specs.Writing.{write_whole};
 ghost use Rattle.per_numbers.specs.Writing.{Wrote};
 ghost use Rattle.s1ap_rows.specs.Rows.{Rows, Slots, Kept, row_count, no_slots};
 ghost use Rattle.s1ap_rows.specs.Reading.{put_at, kept_of, message_at};
-ghost use Rattle.s1ap_rows.specs.Writing.{count_of, write_rows, write_message};
+ghost use Rattle.s1ap_rows.specs.Writing.{count_of, write_rows, write_message, write_content, write_pdu};
+ghost use Rattle.s1ap_rows.specs.Criticalities.{criticality_number};
 ghost use Rattle.s1ap_rows.specs.Answers.{Answers, Reads};
 
+use crate::criticality::Criticality;
 use crate::engine::{MOST_ELEMENTS, fill_message};
 use crate::fault::S1apFault;
-use per_bits::{BitReader, BitWriter, PerError, put_number};
+use crate::frame::{LONGEST_HEAD, put_head};
+use per_bits::{BitReader, BitWriter, PerError, count_behind, put_number};
 use std::alloc::Global;
 
 // The octets for which a message has room at once; most are shorter, and a longer one grows.
@@ -77,18 +79,54 @@ pub fn read_message<'a, M: Message<'a>>(
     message.elements()
 }
 
-/// The octets of a message: how many elements there are, and id, criticality and value of each.
-pub fn write_message<'a, W: Written<'a>>(
+// A message: how many elements there are, and id, criticality and value of each.
+fn put_message<'a, W: Written<'a>>(
     alloc: Global,
+    elements: &W::Lent,
+    writer: &mut BitWriter,
+) -> Result<(), PerError>
+    requires { row_count W.rows ≤ 65535 }
+    ensures { Wrote result writer.new (write_message W.rows (W.lent elements.now) writer.old) }
+{
+    let count = W::count(elements, 0);
+    writer.put_bit(false)?;
+    put_number(0, MOST_ELEMENTS, count, writer)?;
+    W::write(alloc, elements, writer)
+}
+
+// The octets of a message behind their length, written where they stand: an octet is left for the length, which may become two.
+fn put_content<'a, W: Written<'a>>(
+    alloc: Global,
+    elements: &W::Lent,
+    writer: &mut BitWriter,
+) -> Result<(), PerError>
+    requires { row_count W.rows ≤ 65535 }
+    ensures { Wrote result writer.new (write_content W.rows (W.lent elements.now) writer.old) }
+{
+    writer.align()?;
+    let place = writer.octets();
+    writer.put_octet(0)?;
+    put_message::<W>(alloc, elements, writer)?;
+    writer.align()?;
+    count_behind(place, writer)
+}
+
+/// The octets of a message in its frame (TS 36.413 clause 9.3): kind, code and criticality, then as an open type how many
+/// elements there are, and id, criticality and value of each.
+///
+/// Range where a value is not writable, where the elements take more than 16383 octets, and for a kind above 2.
+pub fn write_pdu<'a, W: Written<'a>>(
+    alloc: Global,
+    kind: u8,
+    code: u8,
+    criticality: Criticality,
     elements: &W::Lent,
 ) -> Result<Vec<u8>, PerError>
     requires { row_count W.rows ≤ 65535 }
-    ensures { GivesWhole (λ v. v.items) result (write_whole (write_message W.rows) (W.lent elements.now)) }
+    ensures { GivesWhole (λ v. v.items) result (write_pdu kind code (criticality_number criticality) W.rows (W.lent elements.now)) }
 {
-    let count = W::count(elements, 0);
-    let mut writer = BitWriter::with_room(alloc, SHORT_MESSAGE)?;
-    writer.put_bit(false)?;
-    put_number(0, MOST_ELEMENTS, count, &mut writer)?;
-    W::write(alloc, elements, &mut writer)?;
+    let mut writer = BitWriter::with_room(alloc, SHORT_MESSAGE + LONGEST_HEAD)?;
+    put_head(kind, code, criticality, &mut writer)?;
+    put_content::<W>(alloc, elements, &mut writer)?;
     writer.finish()
 }

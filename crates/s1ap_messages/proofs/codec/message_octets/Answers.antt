@@ -1,4 +1,4 @@
-use Rattle.s1ap_messages.proofs.codec.write_content.Goals as goal
+use Rattle.s1ap_messages.proofs.codec.message_octets.Goals as goal
 
 pub returns-in-SetupRequest : goal.returns-in-SetupRequest
 returns-in-SetupRequest c = rw c.in-SetupRequest.is c.write_setup_request.ensures
