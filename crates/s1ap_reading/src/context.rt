@@ -19,6 +19,7 @@ use std::alloc::Global;
 
 /// Reads INITIAL CONTEXT SETUP REQUEST from the octets of its elements (TS 36.413 clause 9.1.4.1).
 #[tactic(auto, using(s1ap_elements::specs::BearerLaws::erabs_seen), unfolding(s1ap_messages::specs::Typed::read_typed))]
+#[inline(never)]
 pub fn read_context_setup_request<'a>(alloc: Global, octets: &'a [u8]) -> Decoded<'a>
     ensures { Answers (λ m. typed (lists m)) result (read_typed message.ContextSetupRequest octets.now) }
 {
@@ -39,6 +40,7 @@ pub fn read_context_setup_request<'a>(alloc: Global, octets: &'a [u8]) -> Decode
 
 /// Reads INITIAL CONTEXT SETUP RESPONSE from the octets of its elements (TS 36.413 clause 9.1.4.3).
 #[tactic(auto, unfolding(s1ap_messages::specs::Typed::read_typed))]
+#[inline(never)]
 pub fn read_context_setup_response<'a>(alloc: Global, octets: &'a [u8]) -> Decoded<'a>
     ensures { Answers (λ m. typed (lists m)) result (read_typed message.ContextSetupResponse octets.now) }
 {
@@ -56,6 +58,7 @@ pub fn read_context_setup_response<'a>(alloc: Global, octets: &'a [u8]) -> Decod
 
 /// Reads INITIAL CONTEXT SETUP FAILURE from the octets of its elements (TS 36.413 clause 9.1.4.4).
 #[tactic(auto, unfolding(s1ap_messages::specs::Typed::read_typed))]
+#[inline(never)]
 pub fn read_context_setup_failure<'a>(alloc: Global, octets: &'a [u8]) -> Decoded<'a>
     ensures { Answers (λ m. typed (lists m)) result (read_typed message.ContextSetupFailure octets.now) }
 {
@@ -71,6 +74,7 @@ pub fn read_context_setup_failure<'a>(alloc: Global, octets: &'a [u8]) -> Decode
 
 /// Reads UE CONTEXT RELEASE REQUEST from the octets of its elements (TS 36.413 clause 9.1.4.5).
 #[tactic(auto, unfolding(s1ap_messages::specs::Typed::read_typed))]
+#[inline(never)]
 pub fn read_release_request<'a>(alloc: Global, octets: &'a [u8]) -> Decoded<'a>
     ensures { Answers (λ m. typed (lists m)) result (read_typed message.ReleaseRequest octets.now) }
 {
@@ -86,6 +90,7 @@ pub fn read_release_request<'a>(alloc: Global, octets: &'a [u8]) -> Decoded<'a>
 
 /// Reads UE CONTEXT RELEASE COMMAND from the octets of its elements (TS 36.413 clause 9.1.4.6).
 #[tactic(auto, unfolding(s1ap_messages::specs::Typed::read_typed))]
+#[inline(never)]
 pub fn read_release_command<'a>(alloc: Global, octets: &'a [u8]) -> Decoded<'a>
     ensures { Answers (λ m. typed (lists m)) result (read_typed message.ReleaseCommand octets.now) }
 {
@@ -97,6 +102,7 @@ pub fn read_release_command<'a>(alloc: Global, octets: &'a [u8]) -> Decoded<'a>
 
 /// Reads UE CONTEXT RELEASE COMPLETE from the octets of its elements (TS 36.413 clause 9.1.4.7).
 #[tactic(auto, unfolding(s1ap_messages::specs::Typed::read_typed))]
+#[inline(never)]
 pub fn read_release_complete<'a>(alloc: Global, octets: &'a [u8]) -> Decoded<'a>
     ensures { Answers (λ m. typed (lists m)) result (read_typed message.ReleaseComplete octets.now) }
 {

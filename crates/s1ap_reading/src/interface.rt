@@ -13,6 +13,7 @@ use std::alloc::Global;
 
 /// Reads RESET from the octets of its elements (TS 36.413 clause 9.1.8.1).
 #[tactic(auto, unfolding(s1ap_messages::specs::Typed::read_typed))]
+#[inline(never)]
 pub fn read_reset<'a>(alloc: Global, octets: &'a [u8]) -> Decoded<'a>
     ensures { Answers (λ m. typed (lists m)) result (read_typed message.Reset octets.now) }
 {
@@ -24,6 +25,7 @@ pub fn read_reset<'a>(alloc: Global, octets: &'a [u8]) -> Decoded<'a>
 
 /// Reads RESET ACKNOWLEDGE from the octets of its elements (TS 36.413 clause 9.1.8.2).
 #[tactic(auto, unfolding(s1ap_messages::specs::Typed::read_typed))]
+#[inline(never)]
 pub fn read_reset_acknowledge<'a>(alloc: Global, octets: &'a [u8]) -> Decoded<'a>
     ensures { Answers (λ m. typed (lists m)) result (read_typed message.ResetAcknowledge octets.now) }
 {
@@ -35,6 +37,7 @@ pub fn read_reset_acknowledge<'a>(alloc: Global, octets: &'a [u8]) -> Decoded<'a
 
 /// Reads ERROR INDICATION from the octets of its elements (TS 36.413 clause 9.1.8.3).
 #[tactic(auto, unfolding(s1ap_messages::specs::Typed::read_typed))]
+#[inline(never)]
 pub fn read_error_indication<'a>(alloc: Global, octets: &'a [u8]) -> Decoded<'a>
     ensures { Answers (λ m. typed (lists m)) result (read_typed message.ErrorIndication octets.now) }
 {

@@ -1,4 +1,6 @@
 //! S1AP messages from octets (TS 36.413 clause 9): what is read of each message's rows, which stand in `s1ap_messages`.
+//!
+//! Each message is read out of line (`inline(never)`), so that what it has is put together once, where it is answered.
 #![tactic(auto)]
 
 // The elements that are read of a message's rows, as pairs: the first, and the others.

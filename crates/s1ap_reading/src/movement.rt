@@ -15,6 +15,7 @@ use std::alloc::Global;
 
 /// Reads PAGING from the octets of its elements (TS 36.413 clause 9.1.6).
 #[tactic(auto, unfolding(s1ap_messages::specs::Typed::read_typed))]
+#[inline(never)]
 pub fn read_paging<'a>(alloc: Global, octets: &'a [u8]) -> Decoded<'a>
     ensures { Answers (λ m. typed (lists m)) result (read_typed message.Paging octets.now) }
 {
@@ -31,6 +32,7 @@ pub fn read_paging<'a>(alloc: Global, octets: &'a [u8]) -> Decoded<'a>
 
 /// Reads PATH SWITCH REQUEST from the octets of its elements (TS 36.413 clause 9.1.5.8).
 #[tactic(auto, unfolding(s1ap_messages::specs::Typed::read_typed))]
+#[inline(never)]
 pub fn read_path_switch_request<'a>(alloc: Global, octets: &'a [u8]) -> Decoded<'a>
     ensures { Answers (λ m. typed (lists m)) result (read_typed message.PathSwitchRequest octets.now) }
 {
@@ -51,6 +53,7 @@ pub fn read_path_switch_request<'a>(alloc: Global, octets: &'a [u8]) -> Decoded<
 
 /// Reads PATH SWITCH REQUEST ACKNOWLEDGE from the octets of its elements (TS 36.413 clause 9.1.5.9).
 #[tactic(auto, unfolding(s1ap_messages::specs::Typed::read_typed))]
+#[inline(never)]
 pub fn read_path_switch_acknowledge<'a>(alloc: Global, octets: &'a [u8]) -> Decoded<'a>
     ensures { Answers (λ m. typed (lists m)) result (read_typed message.PathSwitchAcknowledge octets.now) }
 {
@@ -68,6 +71,7 @@ pub fn read_path_switch_acknowledge<'a>(alloc: Global, octets: &'a [u8]) -> Deco
 
 /// Reads PATH SWITCH REQUEST FAILURE from the octets of its elements (TS 36.413 clause 9.1.5.10).
 #[tactic(auto, unfolding(s1ap_messages::specs::Typed::read_typed))]
+#[inline(never)]
 pub fn read_path_switch_failure<'a>(alloc: Global, octets: &'a [u8]) -> Decoded<'a>
     ensures { Answers (λ m. typed (lists m)) result (read_typed message.PathSwitchFailure octets.now) }
 {

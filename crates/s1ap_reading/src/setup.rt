@@ -14,6 +14,7 @@ use std::alloc::Global;
 
 /// Reads S1 SETUP REQUEST from the octets of its elements (TS 36.413 clause 9.1.8.4).
 #[tactic(auto, unfolding(s1ap_messages::specs::Typed::read_typed))]
+#[inline(never)]
 pub fn read_setup_request<'a>(alloc: Global, octets: &'a [u8]) -> Decoded<'a>
     ensures { Answers (λ m. typed (lists m)) result (read_typed message.SetupRequest octets.now) }
 {
@@ -32,6 +33,7 @@ pub fn read_setup_request<'a>(alloc: Global, octets: &'a [u8]) -> Decoded<'a>
 
 /// Reads S1 SETUP RESPONSE from the octets of its elements (TS 36.413 clause 9.1.8.5).
 #[tactic(auto, unfolding(s1ap_messages::specs::Typed::read_typed))]
+#[inline(never)]
 pub fn read_setup_response<'a>(alloc: Global, octets: &'a [u8]) -> Decoded<'a>
     ensures { Answers (λ m. typed (lists m)) result (read_typed message.SetupResponse octets.now) }
 {
@@ -46,6 +48,7 @@ pub fn read_setup_response<'a>(alloc: Global, octets: &'a [u8]) -> Decoded<'a>
 
 /// Reads S1 SETUP FAILURE from the octets of its elements (TS 36.413 clause 9.1.8.6).
 #[tactic(auto, unfolding(s1ap_messages::specs::Typed::read_typed))]
+#[inline(never)]
 pub fn read_setup_failure<'a>(alloc: Global, octets: &'a [u8]) -> Decoded<'a>
     ensures { Answers (λ m. typed (lists m)) result (read_typed message.SetupFailure octets.now) }
 {

@@ -18,6 +18,7 @@ use std::alloc::Global;
 
 /// Reads INITIAL UE MESSAGE from the octets of its elements (TS 36.413 clause 9.1.7.1).
 #[tactic(auto, unfolding(s1ap_messages::specs::Typed::read_typed))]
+#[inline(never)]
 pub fn read_initial_ue_message<'a>(alloc: Global, octets: &'a [u8]) -> Decoded<'a>
     ensures { Answers (λ m. typed (lists m)) result (read_typed message.InitialUeMessage octets.now) }
 {
@@ -38,6 +39,7 @@ pub fn read_initial_ue_message<'a>(alloc: Global, octets: &'a [u8]) -> Decoded<'
 
 /// Reads DOWNLINK NAS TRANSPORT from the octets of its elements (TS 36.413 clause 9.1.7.2).
 #[tactic(auto, unfolding(s1ap_messages::specs::Typed::read_typed))]
+#[inline(never)]
 pub fn read_downlink_nas_transport<'a>(alloc: Global, octets: &'a [u8]) -> Decoded<'a>
     ensures { Answers (λ m. typed (lists m)) result (read_typed message.DownlinkNasTransport octets.now) }
 {
@@ -53,6 +55,7 @@ pub fn read_downlink_nas_transport<'a>(alloc: Global, octets: &'a [u8]) -> Decod
 
 /// Reads UPLINK NAS TRANSPORT from the octets of its elements (TS 36.413 clause 9.1.7.3).
 #[tactic(auto, unfolding(s1ap_messages::specs::Typed::read_typed))]
+#[inline(never)]
 pub fn read_uplink_nas_transport<'a>(alloc: Global, octets: &'a [u8]) -> Decoded<'a>
     ensures { Answers (λ m. typed (lists m)) result (read_typed message.UplinkNasTransport octets.now) }
 {
@@ -72,6 +75,7 @@ pub fn read_uplink_nas_transport<'a>(alloc: Global, octets: &'a [u8]) -> Decoded
 
 /// Reads NAS NON DELIVERY INDICATION from the octets of its elements (TS 36.413 clause 9.1.7.4).
 #[tactic(auto, unfolding(s1ap_messages::specs::Typed::read_typed))]
+#[inline(never)]
 pub fn read_nas_non_delivery<'a>(alloc: Global, octets: &'a [u8]) -> Decoded<'a>
     ensures { Answers (λ m. typed (lists m)) result (read_typed message.NasNonDelivery octets.now) }
 {
@@ -88,6 +92,7 @@ pub fn read_nas_non_delivery<'a>(alloc: Global, octets: &'a [u8]) -> Decoded<'a>
 
 /// Reads UE CAPABILITY INFO INDICATION from the octets of its elements (TS 36.413 clause 9.1.10).
 #[tactic(auto, unfolding(s1ap_messages::specs::Typed::read_typed))]
+#[inline(never)]
 pub fn read_capability_info<'a>(alloc: Global, octets: &'a [u8]) -> Decoded<'a>
     ensures { Answers (λ m. typed (lists m)) result (read_typed message.CapabilityInfo octets.now) }
 {

@@ -19,6 +19,7 @@ fn ticks(left: Option<u32>) -> Option<u64>
 
 // A slot's countdown is as it is to be, where it is known what it was; takes no memory. One that is so already stays in its place,
 // and nothing is searched.
+#[inline(always)]
 fn retime_one(timers: &mut Timers, slot: u32, kind: Kind, before: Option<u64>, left: Option<u32>)
     requires range { IsInRange left }
     requires known { ticks_left (Subscriber slot) kind timers.old.running ≡ before }
