@@ -90,7 +90,7 @@ fn put_offset(span: u64, offset: u64, writer: &mut BitWriter) -> Result<(), PerE
     }
 }
 
-/// Writes a number in so many octets from the next octet on.
+/// Writes a number in so many octets from the next octet on; what takes more than two is seldom met and stands by itself.
 #[inline(always)]
 fn put_in_octets(count: u8, number: u64, writer: &mut BitWriter) -> Result<(), PerError>
     requires count { count ≤ 8 }
@@ -101,6 +101,18 @@ fn put_in_octets(count: u8, number: u64, writer: &mut BitWriter) -> Result<(), P
     match count {
         1 => writer.put_octet(number as u8),
         2 => put_two(number, writer),
+        _ => put_more(count, number, writer),
+    }
+}
+
+/// Writes a number in so many octets, behind the bits so far.
+#[inline(never)]
+fn put_more(count: u8, number: u64, writer: &mut BitWriter) -> Result<(), PerError>
+    requires count { count ≤ 8 }
+    requires fits { number < 2 ^ (8 * count) }
+    ensures { Wrote result writer.new (Ok (writer.old ++ bits (8 * count) number)) }
+{
+    match count {
         3 => put_three(number, writer),
         4 => put_four(number, writer),
         _ => writer.put_bits(8 * count, number),
@@ -169,7 +181,7 @@ fn width(most: u64) -> u8
     }
 }
 
-// a number of so many bits; up to four octets are taken one by one, as they mostly are whole octets
+// a number of so many bits; two octets are taken one by one, as they mostly are whole octets
 #[inline(always)]
 fn number_of(bits: u8, reader: &mut BitReader) -> Result<u64, PerFault>
     requires { bits ≤ 64 }
@@ -177,9 +189,21 @@ fn number_of(bits: u8, reader: &mut BitReader) -> Result<u64, PerFault>
 {
     match bits {
         16 => two_octets(reader),
-        24 => three_octets(reader),
-        32 => four_octets(reader),
         _ => reader.take_bits(bits),
+    }
+}
+
+// a number in so many octets; by itself, as a range wide enough to have it is seldom met
+#[inline(never)]
+fn octets_as_number(count: u8, reader: &mut BitReader) -> Result<u64, PerFault>
+    requires { count ≤ 8 }
+    ensures { Answers (λ n. n) result reader.new (number_bits_at (8 * count) reader.old) }
+{
+    match count {
+        2 => two_octets(reader),
+        3 => three_octets(reader),
+        4 => four_octets(reader),
+        _ => reader.take_bits(8 * count),
     }
 }
 
@@ -290,7 +314,7 @@ fn large(span: u64, reader: &mut BitReader) -> Result<u64, PerFault>
     let most = (octets_of(span) - 1) as u64;
     let count = small(most, width(most), reader)?;
     reader.align()?;
-    let offset = number_of(8 * (count as u8 + 1), reader)?;
+    let offset = octets_as_number(count as u8 + 1, reader)?;
     if offset > span {
         return Err(PerFault::Range);
     }
