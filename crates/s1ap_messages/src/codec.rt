@@ -42,37 +42,6 @@ fn message_octets(alloc: Global, message: &S1apPdu) -> Encoded
     }
 }
 
-impl<'a> S1apPdu<'a> {
-    /// Which message it is.
-    pub fn message_type(&self) -> MessageType
-        ensures { result ≡ (typed (lists self.now)).0 }
-    {
-        match self {
-            Pdu::SetupRequest(_) => MessageType::SetupRequest,
-            Pdu::SetupResponse(_) => MessageType::SetupResponse,
-            Pdu::SetupFailure(_) => MessageType::SetupFailure,
-            Pdu::InitialUeMessage(_) => MessageType::InitialUeMessage,
-            Pdu::DownlinkNasTransport(_) => MessageType::DownlinkNasTransport,
-            Pdu::UplinkNasTransport(_) => MessageType::UplinkNasTransport,
-            Pdu::NasNonDelivery(_) => MessageType::NasNonDelivery,
-            Pdu::CapabilityInfo(_) => MessageType::CapabilityInfo,
-            Pdu::ContextSetupRequest(_) => MessageType::ContextSetupRequest,
-            Pdu::ContextSetupResponse(_) => MessageType::ContextSetupResponse,
-            Pdu::ContextSetupFailure(_) => MessageType::ContextSetupFailure,
-            Pdu::ReleaseRequest(_) => MessageType::ReleaseRequest,
-            Pdu::ReleaseCommand(_) => MessageType::ReleaseCommand,
-            Pdu::ReleaseComplete(_) => MessageType::ReleaseComplete,
-            Pdu::Paging(_) => MessageType::Paging,
-            Pdu::PathSwitchRequest(_) => MessageType::PathSwitchRequest,
-            Pdu::PathSwitchAcknowledge(_) => MessageType::PathSwitchAcknowledge,
-            Pdu::PathSwitchFailure(_) => MessageType::PathSwitchFailure,
-            Pdu::Reset(_) => MessageType::Reset,
-            Pdu::ResetAcknowledge(_) => MessageType::ResetAcknowledge,
-            Pdu::ErrorIndication(_) => MessageType::ErrorIndication,
-        }
-    }
-}
-
 impl MessageType {
     /// 0 where it begins a procedure, 1 for a successful and 2 for an unsuccessful outcome.
     pub fn kind(self) -> u8
