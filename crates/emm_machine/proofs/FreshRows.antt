@@ -165,7 +165,7 @@ module _ {b : Solo} where
 
   fresh_served_by : {d : Draft} (r : Result ℕ SecurityFault) (s : Setting) (x : Context) (m : Entry (List ℕ)) → d.solo.context ≡ Some x
       → ((count : ℕ) → r ≡ Ok count → next_up x ≤ count) → IsFresh b d → IsFresh b (serving.served_by r s x m d)
-  unfolding serving.served_by serving.active ended
+  unfolding serving.served_by serving.served serving.active ended
   fresh_served_by {d} (Ok count) s x m is high h =
       fresh_set_up s _ None (fresh_keyed x count (connect_context s.slot m.station m.enb_id d ∙ is) (high count refl)
       (quiet (fresh_in Registered refl tt (fresh_connect s.slot m.station m.enb_id h)) refl))

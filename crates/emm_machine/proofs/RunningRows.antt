@@ -271,7 +271,7 @@ runs_in_security_mode {d} s nas h = at_some (Whenever Runs) d.solo.context (λ x
 -- ---- a phone that is known
 
 runs_served_by : {d : Draft} (r : Result ℕ SecurityFault) (s : Setting) (x : Context) (m : Entry (List ℕ)) → Runs d → Runs (serving.served_by r s x m d)
-unfolding serving.served_by serving.active ended attaching.keyed attaching.took
+unfolding serving.served_by serving.served serving.active ended attaching.keyed attaching.took
 runs_served_by (Ok count) s x m h = kept_set_up s _ None None (record { holds = (tt, tt) })
 runs_served_by (Err fault) s x m h = kept_refuse s.slot m.station m.enb_id _ h
 

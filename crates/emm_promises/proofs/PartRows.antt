@@ -105,7 +105,7 @@ module _ {b : Solo} where
 
   here_served_by : {d : Draft} (s : Setting) (r : Result ℕ SecurityFault) (x : Context) (m : Entry (List ℕ)) → part_of b.phase ≡ Past → d.solo.context ≡ Some x → IsHere b d
       → IsHere b (serving.served_by r s x m d)
-  unfolding serving.served_by serving.active ended attaching.keyed attaching.took
+  unfolding serving.served_by serving.served serving.active ended attaching.keyed attaching.took
   here_served_by s (Ok count) x m past is h =
       let c = here_connect s.slot m.station m.enb_id h in
       here_set_up s (kenb x.kasme count) None None (record { part = sym past; next = c.next; place = sym (ap place_of is) ∙ h.place })

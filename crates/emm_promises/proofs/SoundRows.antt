@@ -315,7 +315,7 @@ module _ (whole : WholeIsFresh) {s : Setting} where
 
   done_served_by : {d : Draft} (r : Result ℕ SecurityFault) (x : Context) (m : Entry (List ℕ)) → d.solo.context ≡ Some x → IsReady s (IsSound s) d
       → IsDone s (serving.served_by r s x m d)
-  unfolding serving.served_by serving.active ended attaching.keyed attaching.took
+  unfolding serving.served_by serving.served serving.active ended attaching.keyed attaching.took
   done_served_by {d} (Ok count) x m is h =
       let known : IsKnown s.vectors (Some x) = subst (IsKnown s.vectors) is h.known in
       let of = known.1 in

@@ -83,8 +83,7 @@ unfoldable pub served : Setting → Context → Entry (List ℕ) → ℕ → Dra
 served s x m count d = set_up s (kenb x.kasme count) None None (keyed x count (active Registered (connect s.slot m.station m.enb_id d)))
 
 unfoldable pub served_by : Result ℕ SecurityFault → Setting → Context → Entry (List ℕ) → Draft → Draft
-served_by (Ok count) s x m d =
-    set_up s (kenb x.kasme count) None None (keyed (counted_up x count) count (active Registered (connect s.slot m.station m.enb_id d)))
+served_by (Ok count) s x m d = served s (counted_up x count) m count d
 served_by (Err fault) s x m d = refuse s.slot m.station m.enb_id (service_reject IdentityNotDerived) d
 
 -- SERVICE REQUEST: refused where the phone isn't registered or isn't proved

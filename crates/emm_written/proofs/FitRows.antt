@@ -224,7 +224,7 @@ module _ (written : AreWritten) (spelled : DecodedIsSpelled) (esm_spelled : Deco
   fit_active phase h = let r = h.solo in record { solo = record { connection = r.connection; context = r.context; tai = r.tai; capability = r.capability; transaction = r.transaction; repeat = tt }; sent = h.sent }
 
   fit_served_by : {d : Draft} (r : Result ℕ SecurityFault) (x : Context) (m : Entry (List ℕ)) → ContextInRange x → EntryInRange m → IsFit d → IsFit (serving.served_by r s x m d)
-  unfolding serving.served_by
+  unfolding serving.served_by serving.served
   fit_served_by (Ok count) x m known entry h =
       fit_set_up written s _ None None setting (kenb_bytes x.kasme count) tt (fit_keyed _ count (counted x count known) (fit_active _ (fit_connect written s m.station m.enb_id setting entry.enb_id h)))
   fit_served_by (Err fault) x m known entry h = fit_refuse written s m.station m.enb_id _ setting entry.enb_id (brief_service_reject _) h
