@@ -224,12 +224,15 @@ impl Subscriber {
         )
     }
 
-    /// The state is that of a step that was prepared, whose box is kept; answers the box that was kept until now. Takes no memory.
-    /// What was sent is to be taken out before, since it would stay in memory with the box.
+    /// The state is that of a step that was prepared, whose box is kept; answers the box that was kept until now, with the state
+    /// until now and the room for what is sent. Takes no memory.
     pub fn settle(&mut self, draft: Box<Draft>) -> Box<Draft>
-        ensures { self.new ≡ record self.old { solo = draft.value.solo } }
+        ensures state { self.new ≡ record self.old { solo = draft.value.solo } }
+        ensures spare { result.value.solo ≡ self.old.solo }
     {
-        mem::replace(&mut self.state, draft)
+        let mut spare = mem::replace(&mut self.state, draft);
+        mem::swap(&mut spare.sent, &mut self.state.sent);
+        spare
     }
 
     /// One event: what is sent. Where memory is refused nothing changes.

@@ -4,12 +4,12 @@
 
 ghost use Rattle.std.specs.Prelude.{◌≡◌, ◌<◌, ◌≤◌, ◌++◌, List, map, length, IfOk, OnOk, Some, true};
 ghost use Rattle.mme_vocabulary.specs.declared.stations.StationState.{StationState};
-ghost use Rattle.mme_vocabulary.specs.Events.{item_of};
+ghost use Rattle.mme_vocabulary.specs.Events.{entry_lists, item_of, message_lists};
 ghost use Rattle.mme_vocabulary.specs.Events as items;
 ghost use Rattle.ordered_lists.specs.Ordered.{Every};
 ghost use Rattle.stranger_machine.specs.declared.table.Known.{Known};
 ghost use Rattle.stranger_machine.specs.declared.turn.Notice.TheVariants as notices;
-ghost use Rattle.stranger_machine.specs.Machine.{is_of_station};
+ghost use Rattle.stranger_machine.specs.Machine.{begins, is_of_station, receives};
 ghost use Rattle.stranger_machine.specs.Table.{noted, stranger_at, with_stranger};
 ghost use Rattle.stranger_machine.specs.Turns.{after_of, call_of};
 ghost use Rattle.subscriber_table.specs.declared.stepped.Stepped.{Stepped};
@@ -28,9 +28,8 @@ use crate::sending::{send_all, send_due};
 use emm_machine::running_is_kept;
 use identity_slots::{AssociationId, Provision, Slot};
 use mme_routing::Destination;
-use mme_vocabulary::{Answers, EnbWorld, SoloEvent};
+use mme_vocabulary::{EnbWorld, Entry, SoloEvent, UeMessage};
 use std::alloc::{AllocError, Global};
-use std::mem;
 use stranger_machine::{Call, Notice, Turn, begins, receives};
 use stranger_table::Strangers;
 use subscriber_table::{Stepped, Subscribers};
@@ -54,8 +53,7 @@ fn prepare_step(
 {
     running_is_kept();
     let mut draft = subscribers.prepare(slot, event, stations)?;
-    let sent = mem::replace(&mut draft.sent, Answers::new(alloc));
-    send_all(outs, Owner::Subscriber(slot), sent)?;
+    send_all(outs, Owner::Subscriber(slot), &mut draft.sent)?;
     Ok(Stepped::new(slot, draft))
 }
 
@@ -150,8 +148,12 @@ fn prepare_turn(
     ensures passing { IfOk result (λ p. (d : DestinationInSpecs) → IsPassing d p) }
     ensures same { subscribers.new ≡ subscribers.old }
 {
-    let Turn { after, sent, call } = turn;
-    send_all(outs, Owner::Stranger(id), sent)?;
+    let Turn {
+        after,
+        mut sent,
+        call,
+    } = turn;
+    send_all(outs, Owner::Stranger(id), &mut sent)?;
     let called = prepare_called(alloc, subscribers, &call, stations, outs)?;
     Ok(Prepared::Stranger(id, after, called))
 }
@@ -230,8 +232,60 @@ fn prepare_all(
     prepare_each(alloc, subscribers, called, event, stations, outs)
 }
 
-// What is to become of those whom an event goes to that isn't for everyone.
+// What is to become of the stranger who begins with a message.
 #[inline(never)]
+fn prepare_beginner(
+    alloc: Global,
+    strangers: &Strangers,
+    subscribers: &mut Subscribers,
+    id: AssociationId,
+    entry: &Entry<&[u8]>,
+    stations: &EnbWorld,
+    outs: &mut Outs,
+) -> Result<Prepared, AllocError>
+    requires { AreInUse subscribers.old.subscribers }
+    ensures sends { OnOk result (outs.new ≡ outs.old ++ (map (stranger_out id) (begins id (stranger_at id strangers.now.strangers) (entry_lists entry.now)).sent
+        ++ each_sent (if_called (begins id (stranger_at id strangers.now.strangers) (entry_lists entry.now)).call) 0 subscribers.old.subscribers)) }
+    ensures strangers { IfOk result (λ p. settled_strangers p strangers.now.strangers
+        ≡ with_stranger id (begins id (stranger_at id strangers.now.strangers) (entry_lists entry.now)).stranger strangers.now.strangers) }
+    ensures subscribers { IfOk result (λ p. settled_subscribers p subscribers.old.subscribers
+        ≡ each_after (if_called (begins id (stranger_at id strangers.now.strangers) (entry_lists entry.now)).call) 0 subscribers.old.subscribers) }
+    ensures fits { IfOk result (λ p. IsFor p subscribers.old.subscribers) }
+    ensures passing { IfOk result (λ p. (d : DestinationInSpecs) → IsPassing d p) }
+    ensures same { subscribers.new ≡ subscribers.old }
+{
+    let turn = begins(alloc, id, strangers.find(id), entry)?;
+    prepare_turn(alloc, subscribers, id, turn, stations, outs)
+}
+
+// What is to become of the stranger whom a message is for.
+#[inline(never)]
+fn prepare_stranger(
+    alloc: Global,
+    provision: &Provision,
+    strangers: &Strangers,
+    subscribers: &mut Subscribers,
+    message: &UeMessage<&[u8]>,
+    stations: &EnbWorld,
+    outs: &mut Outs,
+) -> Result<Prepared, AllocError>
+    requires { AreInUse subscribers.old.subscribers }
+    ensures sends { OnOk result (outs.new ≡ outs.old ++ (map (stranger_out message.now.mme_id) (receives provision.now.profiles (stranger_at message.now.mme_id strangers.now.strangers) (message_lists message.now)).sent
+        ++ each_sent (if_called (receives provision.now.profiles (stranger_at message.now.mme_id strangers.now.strangers) (message_lists message.now)).call) 0 subscribers.old.subscribers)) }
+    ensures strangers { IfOk result (λ p. settled_strangers p strangers.now.strangers
+        ≡ with_stranger message.now.mme_id (receives provision.now.profiles (stranger_at message.now.mme_id strangers.now.strangers) (message_lists message.now)).stranger strangers.now.strangers) }
+    ensures subscribers { IfOk result (λ p. settled_subscribers p subscribers.old.subscribers
+        ≡ each_after (if_called (receives provision.now.profiles (stranger_at message.now.mme_id strangers.now.strangers) (message_lists message.now)).call) 0 subscribers.old.subscribers) }
+    ensures fits { IfOk result (λ p. IsFor p subscribers.old.subscribers) }
+    ensures passing { IfOk result (λ p. (d : DestinationInSpecs) → IsPassing d p) }
+    ensures same { subscribers.new ≡ subscribers.old }
+{
+    let id = message.mme_id;
+    let turn = receives(alloc, provision, strangers.find(id), message)?;
+    prepare_turn(alloc, subscribers, id, turn, stations, outs)
+}
+
+// What is to become of those whom an event goes to that isn't for everyone.
 fn prepare_own<'a>(
     alloc: Global,
     provision: &Provision,
@@ -261,13 +315,18 @@ fn prepare_own<'a>(
             }
         }
         Destination::Beginner(id, entry) => {
-            let turn = begins(alloc, *id, strangers.find(*id), entry)?;
-            prepare_turn(alloc, subscribers, *id, turn, stations, outs)
+            prepare_beginner(alloc, strangers, subscribers, *id, entry, stations, outs)
         }
         Destination::Stranger(message) => {
-            let id = message.mme_id;
-            let turn = receives(alloc, provision, strangers.find(id), message)?;
-            prepare_turn(alloc, subscribers, id, turn, stations, outs)
+            prepare_stranger(
+                alloc,
+                provision,
+                strangers,
+                subscribers,
+                message,
+                stations,
+                outs,
+            )
         }
         Destination::Everyone(_) => unreachable!(),
     }

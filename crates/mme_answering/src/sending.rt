@@ -32,11 +32,12 @@ fn send_answer(outs: &mut Outs, owner: &Owner, answer: Answer) -> Result<(), All
     })
 }
 
-/// What an owner's machine sends, behind what is sent so far; its octets are moved.
-pub fn send_all(outs: &mut Outs, owner: Owner, answers: Answers) -> Result<(), AllocError>
-    ensures { OnOk result (outs.new ≡ outs.old ++ map (owner_out owner) answers) }
+/// What an owner's machine sends, behind what is sent so far; its octets are moved, and the room for the answers stays.
+pub fn send_all(outs: &mut Outs, owner: Owner, answers: &mut Answers) -> Result<(), AllocError>
+    ensures sent { OnOk result (outs.new ≡ outs.old ++ map (owner_out owner) answers.old) }
+    ensures emptied { OnOk result (answers.new ≡ []) }
 {
-    for answer in answers.into_vec() {
+    while let Some(answer) = answers.take_first() {
         send_answer(outs, &owner, answer)?;
     }
     Ok(())
@@ -54,8 +55,8 @@ fn send_one(
     let Some(known) = strangers.find(id) else {
         return Ok(());
     };
-    let sent = known.sends(alloc, id, &Notice::Tick)?;
-    send_all(outs, Owner::Stranger(id), sent)
+    let mut sent = known.sends(alloc, id, &Notice::Tick)?;
+    send_all(outs, Owner::Stranger(id), &mut sent)
 }
 
 // What the strangers with some ids send at a tick.

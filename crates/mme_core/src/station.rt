@@ -12,13 +12,13 @@ use std::alloc::{AllocError, Global};
 pub(crate) fn station_outs(
     alloc: Global,
     station: Option<StationNumber>,
-    sent: Answers,
+    mut sent: Answers,
 ) -> Result<Outs, AllocError>
     ensures { IfOk result (λ outs. outs ≡ station_sent station sent) }
 {
     let mut outs = Outs::new(alloc);
     if let Some(station) = station {
-        send_all(&mut outs, Owner::Station(station), sent)?;
+        send_all(&mut outs, Owner::Station(station), &mut sent)?;
     }
     Ok(outs)
 }

@@ -1,6 +1,6 @@
 //! Octets of messages on the heap, and the messages that a step sends; contracts see lists.
 
-ghost use Rattle.std.specs.Prelude.{◌≡◌, ◌≤◌, ◌++◌, ◌∷◌, [], ℕ, List, length, IfOk, OnOk, OnErr};
+ghost use Rattle.std.specs.Prelude.{◌≡◌, ◌≤◌, ◌++◌, ◌∷◌, [], ℕ, List, drop, length, slice_get, IfOk, OnOk, OnErr};
 ghost use Rattle.s1ap_messages.specs.Pdus.{encoded, lists, longest};
 
 use identity_slots::StationNumber;
@@ -140,6 +140,7 @@ impl Answers {
     }
 
     /// One message more; refused, there are as many as before.
+    #[inline(always)]
     pub fn push(&mut self, answer: Answer) -> Result<(), AllocError>
         ensures ok { OnOk result (self.new ≡ self.old ++ answer ∷ []) }
         ensures err { OnErr result (self.new ≡ self.old) }
@@ -155,10 +156,21 @@ impl Answers {
         self.items.as_slice()
     }
 
-    /// The messages, to be sent on.
-    pub fn into_vec(self) -> Vec<Answer>
-        ensures { result.items ≡ self }
+    /// The first message, if there is one, which is taken out; the room for it stays.
+    pub fn take_first(&mut self) -> Option<Answer>
+        ensures item { result ≡ slice_get self.old 0 }
+        ensures rest { self.new ≡ drop 1 self.old }
     {
-        self.items
+        if self.items.is_empty() {
+            return None;
+        }
+        Some(self.items.remove(0))
+    }
+
+    /// Nothing any more; the room for what there was stays.
+    pub fn clear(&mut self)
+        ensures { self.new ≡ [] }
+    {
+        self.items.clear();
     }
 }

@@ -24,16 +24,17 @@ impl Record {
         self.touched = clock;
     }
 
-    /// The state is that of this step now; answers the box of the one before. Takes no memory.
+    /// The state is that of this step now; answers the box of the one before, with its state. Takes no memory.
     pub fn renew(&mut self, clock: u64, draft: Box<Draft>) -> Box<Draft>
-        ensures { self.new ≡ renewed clock draft.value.solo self.old }
+        ensures state { self.new ≡ renewed clock draft.value.solo self.old }
+        ensures spare { result.value.solo ≡ self.old.subscriber.solo }
     {
         self.touched = clock;
         self.subscriber.settle(draft)
     }
 
-    /// The state is that of this step now; answers the countdowns that it had until now, and the box of the step before. Takes no
-    /// memory.
+    /// The state is that of this step now; answers the countdowns that it had until now, and the box of the step before, with the
+    /// state as it was until now. Takes no memory.
     pub fn replace(
         &mut self,
         clock: u64,
@@ -42,6 +43,7 @@ impl Record {
         requires { IsFresh clock self.old }
         ensures state { self.new ≡ renewed clock draft.value.solo self.old }
         ensures before { result.0 ≡ countdowns (view_at clock self.old).solo }
+        ensures spare { result.1.value.solo ≡ (view_at clock self.old).solo }
     {
         self.wake(clock);
         let before = self.subscriber.countdowns();

@@ -8,6 +8,6 @@ use Rattle.mme_answering.proofs.preparing.prepare_step.Goals as goal
 
 pub returns-clause-counting : goal.returns-clause-counting
 returns-clause-counting c =
-    subst (λ (v : SteppedView). IsCounting v.solo) (sym c.new-2.ensures)
+    subst (λ (v : SteppedView). IsCounting v.solo) (sym c.new.ensures)
     (subst (λ (d : Draft). IsCounting d.solo) (sym c.deref_mut.ensures.value)
     (counting_at c.running_is_kept.ensures.run c.args.slot (item_of c.args.event.now c.args.stations.now) c.args.subscribers.now.subscribers c.in_ok-draft.draft.value c.requires.in_use c.in_ok-draft.ensures.step))

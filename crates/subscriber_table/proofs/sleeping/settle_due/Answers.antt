@@ -12,4 +12,4 @@ returns-clause-records c =
     ap (λ n. set rs n c.renew.new.self) at
     ∙ set_changed (renewed c.args.timers.now.clock x.solo) rs x.slot r c.renew.new.self c.requires.slot
     (c.index_mut.ensures.value ∙ ap (λ n. get_or rs n r) at)
-    (c.renew.ensures ∙ ap (λ n. renewed n c.into_draft.result.value.solo r) c.clock.ensures.clock ∙ ap (λ s. renewed c.args.timers.now.clock s r) c.into_draft.ensures)
+    (c.renew.ensures.state ∙ ap (λ n. renewed n c.into_draft.result.value.solo r) c.clock.ensures.clock ∙ ap (λ s. renewed c.args.timers.now.clock s r) c.into_draft.ensures)
