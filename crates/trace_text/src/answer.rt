@@ -180,6 +180,7 @@ fn push_owner(line: &mut Vec<u8>, owner: AnswerOwner) -> Result<(), AllocError>
 }
 
 /// Appends a mark and a number behind it.
+#[inline(always)]
 fn push_named(line: &mut Vec<u8>, mark: &[u8], number: u32) -> Result<(), AllocError>
     ensures { OnOk result (line.new.items ≡ line.old.items ++ mark.now ++ decimal number) }
 {
@@ -187,7 +188,8 @@ fn push_named(line: &mut Vec<u8>, mark: &[u8], number: u32) -> Result<(), AllocE
     push_number(line, number)
 }
 
-/// Appends a number in decimal digits.
+/// Appends a number in decimal digits; out of line, since the digits have a buffer of their own.
+#[inline(never)]
 fn push_number(line: &mut Vec<u8>, number: u32) -> Result<(), AllocError>
     ensures { OnOk result (line.new.items ≡ line.old.items ++ decimal number) }
 {
