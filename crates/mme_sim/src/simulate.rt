@@ -10,6 +10,9 @@ use std::alloc::Global;
 use std::io::{Read, Write};
 use trace_player::{MOST_TURNS, PlayFault, Watched};
 
+// The octets of a script that are read at once, at most.
+const PIECE: usize = 4096;
+
 /// Simulates the script that the reader gives: what comes of each line is written, as a trace with its answers, before the next
 /// line is played. What has been written is flushed before each read after the first.
 pub fn run_sim<R: Read, W: Write>(
@@ -43,7 +46,7 @@ fn simulate_pieces<R: Read, W: Write>(
         → (reader.new.failed ≡ true) ⊎ (MOST_TURNS ≤ reader.new.calls) }
     ensures write { IsErrOf result PlayFault.Write → writer.new.failed ≡ true }
 {
-    let mut chunk = [0u8; 4096];
+    let mut chunk = [0u8; PIECE];
     for turn in 0..MOST_TURNS {
         let Ok(count) = reader.read(&mut chunk) else {
             return Err(PlayFault::Read);
