@@ -15,7 +15,7 @@ use Rattle.s1ap_rows.specs.Criticalities.{criticality_number}
 use Rattle.s1ap_messages.specs.Pdus.{longest}
 use Rattle.s1ap_messages.specs.Profile.{code_of, criticality_of, kind_of, rows_of}
 use Rattle.s1ap_messages.specs.Typed.{Typed, encode_typed}
-use Rattle.s1ap_rows.specs.Writing.{write_frame, write_message}
+use Rattle.s1ap_rows.specs.Writing.{write_frame, write_head, write_message}
 
 -- ---- how much each part adds
 
@@ -74,13 +74,13 @@ string_adds os out new at h =
 
 frame_adds : (kind code c : ℕ) (os : List ℕ) (new : List Bool) → write_frame kind code c os [] ≡ Ok new → length new ≤ 8 * longest
 frame_adds kind code c os new h =
-    let a = bind_ok (write_number 0 2 kind (false ∷ [])) (λ a. write_number 0 255 code a >>= λ b. write_number 0 2 c b >>= λ d. write_string os d) new h in
-    let b = bind_ok (write_number 0 255 code a.0) (λ b. write_number 0 2 c b >>= λ d. write_string os d) new a.2 in
-    let d = bind_ok (write_number 0 2 c b.0) (λ d. write_string os d) new b.2 in
+    let head = bind_ok (write_head kind code c []) (write_string os) new h in
+    let a = bind_ok (write_number 0 2 kind (false ∷ [])) (λ a. write_number 0 255 code a >>= λ b. write_number 0 2 c b) head.0 head.1 in
+    let b = bind_ok (write_number 0 255 code a.0) (write_number 0 2 c) head.0 a.2 in
     let at_a : length a.0 ≡ 3 = number_adds 0 2 kind (false ∷ []) a.0 a.1 ∙ ap (λ m. 1 + m) (two_bits kind 1) in
     let at_b : length b.0 ≡ 16 = number_adds 0 255 code a.0 b.0 b.1 ∙ ap (λ m. length a.0 + m) (octet code (length a.0)) ∙ ap (λ m. m + (length (pad m) + 8)) at_a in
-    let at_d : length d.0 ≡ 18 = number_adds 0 2 c b.0 d.0 d.1 ∙ ap (λ m. length b.0 + m) (two_bits c (length b.0)) ∙ ap (λ m. m + 2) at_b in
-    string_adds os d.0 new at_d d.2
+    let at_head : length head.0 ≡ 18 = number_adds 0 2 c b.0 head.0 b.2 ∙ ap (λ m. length b.0 + m) (two_bits c (length b.0)) ∙ ap (λ m. m + 2) at_b in
+    string_adds os head.0 new at_head head.2
 
 -- ---- the message
 

@@ -57,13 +57,6 @@ chain : {B : Type 0} (r : Out) (k : List Bool → Out) (l : List Bool → Result
 chain (Ok a) k l = refl
 chain (Err e) k l = refl
 
-three : (r : Out) (k l s : List Bool → Out) → ((r >>= λ a. k a >>= l) >>= s) ≡ (r >>= λ a. k a >>= λ b. l b >>= s)
-three (Ok a) k l s = chain (k a) l s
-three (Err e) k l s = refl
-
-frame_is : (kind code c : ℕ) (os : List ℕ) → write_frame kind code c os [] ≡ (write_head kind code c [] >>= λ d. write_string os d)
-frame_is kind code c os = sym (three (write_number 0 2 kind (false ∷ [])) (write_number 0 255 code) (write_number 0 2 c) (write_string os))
-
 abbrev range : Whole
 range = Err Range
 
@@ -82,7 +75,7 @@ abbrev in_place : ℕ → ℕ → ℕ → Out → Whole
 in_place kind code c r = write_head kind code c [] >>= λ d. close (close r >>= λ os. write_string os d)
 
 apart_is : (kind code c : ℕ) (b : Bool) (xs : List Bool) → apart kind code c (put_if b [] xs) ≡ in_place kind code c (put_if b [] xs)
-apart_is kind code c true xs = ap close (frame_is kind code c (padded xs)) ∙ chain (write_head kind code c []) (write_string (padded xs)) (λ bs. Ok (padded bs))
+apart_is kind code c true xs = chain (write_head kind code c []) (write_string (padded xs)) (λ bs. Ok (padded bs))
 apart_is kind code c false xs =
     let h = head_placed kind code c in
     sym (ap (λ (r : Out). r >>= λ d. range) (h.puts []) ∙ range_after h.fits [] (h.text 0))

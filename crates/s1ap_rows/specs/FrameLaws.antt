@@ -16,7 +16,7 @@ use Rattle.per_bits.specs.FormatLaws.{exact, exact_pair, exact_closed, exact_num
 use Rattle.per_bits.specs.WritingLaws.{Adds, written, whole_written}
 use Rattle.s1ap_rows.specs.Spelling.{body, Frame, SpellsFrame}
 use Rattle.s1ap_rows.specs.Reading.{frame_at}
-use Rattle.s1ap_rows.specs.Writing.{write_frame}
+use Rattle.s1ap_rows.specs.Writing.{write_frame, write_head}
 
 -- ---- reading
 
@@ -41,11 +41,11 @@ body_same a b d new code c os p q r = rw (append-nil a, p, q, r) refl
 frame_adds : (fr : Frame) (out new : List Bool) → write_framed fr out ≡ Ok new → Adds SpellsFrame fr out new
 frame_adds fr out new h =
     let kind = fr.0 in let code = fr.1.0 in let c = fr.1.1.0 in let os = fr.1.1.1.0 in
-    let a = bind_ok (write_number 0 2 kind (out ++ false ∷ [])) (λ a. write_number 0 255 code a >>= λ b. write_number 0 2 c b >>= λ d. write_string os d) new h in
-    let b = bind_ok (write_number 0 255 code a.0) (λ b. write_number 0 2 c b >>= λ d. write_string os d) new a.2 in
-    let d = bind_ok (write_number 0 2 c b.0) (λ d. write_string os d) new b.2 in
+    let head = bind_ok (write_head kind code c out) (write_string os) new h in
+    let a = bind_ok (write_number 0 2 kind (out ++ false ∷ [])) (λ a. write_number 0 255 code a >>= λ b. write_number 0 2 c b) head.0 head.1 in
+    let b = bind_ok (write_number 0 255 code a.0) (write_number 0 2 c) head.0 a.2 in
     let p = written (closed (number 0 2)) kind out a.0 a.1 in
-    let q = written body fr.1 a.0 new (body_same a.0 b.0 d.0 new code c os b.1 d.1 d.2) in
+    let q = written body fr.1 a.0 new (body_same a.0 b.0 head.0 new code c os b.1 b.2 head.2) in
     let at : length a.0 ≡ length out + length p.bits = ap length p.parts ∙ length-append out p.bits in
     record {
       bits = p.bits ++ q.bits;

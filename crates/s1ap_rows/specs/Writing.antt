@@ -45,13 +45,18 @@ write_message rs v out = do
   counted ← write_number 0 65535 (count_of rs v 0) (out ++ false ∷ [])
   write_rows rs v counted
 
+-- what stands before the octets of a message: its kind, its procedure's code and its criticality
+abbrev pub write_head : ℕ → ℕ → ℕ → List Bool → Result (List Bool) PerFault
+write_head kind code c out = do
+  a ← write_number 0 2 kind (out ++ false ∷ [])
+  b ← write_number 0 255 code a
+  write_number 0 2 c b
+
 -- the frame around a message
 abbrev pub write_frame : ℕ → ℕ → ℕ → List ℕ → List Bool → Result (List Bool) PerFault
 write_frame kind code c os out = do
-  a ← write_number 0 2 kind (out ++ false ∷ [])
-  b ← write_number 0 255 code a
-  d ← write_number 0 2 c b
-  write_string os d
+  head ← write_head kind code c out
+  write_string os head
 
 abbrev pub write_pdu : ℕ → ℕ → ℕ → (rs : Rows) → Kept rs → Result (List ℕ) PerFault
 write_pdu kind code c rs v = do
@@ -59,13 +64,6 @@ write_pdu kind code c rs v = do
   write_whole (write_frame kind code c) os
 
 -- ---- the same where it is to stand
-
--- what stands before the octets of a message
-abbrev pub write_head : ℕ → ℕ → ℕ → List Bool → Result (List Bool) PerFault
-write_head kind code c out = do
-  a ← write_number 0 2 kind (out ++ false ∷ [])
-  b ← write_number 0 255 code a
-  write_number 0 2 c b
 
 -- the octets of a message behind their length
 abbrev pub write_content : (rs : Rows) → Kept rs → List Bool → Result (List Bool) PerFault
