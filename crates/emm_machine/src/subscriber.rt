@@ -225,7 +225,8 @@ impl Subscriber {
     }
 
     /// The state is that of a step that was prepared, whose box is kept; answers the box that was kept until now, with the state
-    /// until now and the room for what is sent. Takes no memory.
+    /// until now and the room for what is sent. Takes no memory. What was sent is to be taken out before, since it would stay in
+    /// memory with that box.
     pub fn settle(&mut self, draft: Box<Draft>) -> Box<Draft>
         ensures state { self.new ≡ record self.old { solo = draft.value.solo } }
         ensures spare { result.value.solo ≡ self.old.solo }
