@@ -1,6 +1,6 @@
 //! Where a phone is.
 
-ghost use Rattle.std.specs.Prelude.{◌≡◌, true};
+ghost use Rattle.std.specs.Prelude.{◌≡◌, ◌↔◌, true};
 
 use mme_vocabulary::Connection;
 
@@ -13,7 +13,7 @@ pub struct Whereabouts {
 
 // Whether it is the same connection, or none is either.
 fn is_same_connection(old: &Option<Connection>, new: &Option<Connection>) -> bool
-    ensures { result ≡ true → old.now ≡ new.now }
+    ensures { (result ≡ true) ↔ (old.now ≡ new.now) }
 {
     match old {
         Some(old) => match new {
@@ -28,7 +28,7 @@ fn is_same_connection(old: &Option<Connection>, new: &Option<Connection>) -> boo
 
 /// Whether a phone stays where it was.
 pub(crate) fn is_same(old: &Whereabouts, new: &Whereabouts) -> bool
-    ensures { result ≡ true → old.now ≡ new.now }
+    ensures { (result ≡ true) ↔ (old.now ≡ new.now) }
 {
     old.is_paged == new.is_paged && is_same_connection(&old.connection, &new.connection)
 }
