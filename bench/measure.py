@@ -5,9 +5,9 @@
     measure.py [PROGRAM] --table
 
 PROGRAM is the built one of this repository where none is given. `--table` prints, behind the figures one by one, the table of
-bench/README.md. The words: attaches, growth, events, ticks, setups, instructions, stations, waiting, scripts, days. Times are those of the
+bench/README.md. The words: attaches, growth, events, ticks, setups, instructions, stations, waiting, due, scripts, days. Times are those of the
 processor, of one thread; the best of the rounds counts, and a run's start and provisioning, measured in the same rounds, are taken
-off. `instructions`, `stations` and `waiting` count them by valgrind, which no other work on the machine can change. Most are taken
+off. `instructions`, `stations`, `waiting` and `due` count them by valgrind, which no other work on the machine can change. Most are taken
 at 20, 2,048 and 32,768 subscribers. Ends with 1 where an answer is wrong.
 """
 import argparse
@@ -28,7 +28,7 @@ FEW, MANY, MOST = COUNTS = (20, 2048, attaches.MOST)
 COLUMNS = ["{:,}".format(count) for count in COUNTS]  # of the table
 PROGRAM = os.path.join(os.path.dirname(os.path.abspath(__file__)), "..", "crates", "mme", "out", "mme")
 USUAL = ("attaches", "growth", "events", "ticks", "setups")
-OF_TABLE = ("instructions", "stations", "waiting", "growth", "events", "days", "scripts")
+OF_TABLE = ("instructions", "stations", "waiting", "due", "growth", "events", "days", "scripts")
 
 
 class Bench:
@@ -232,6 +232,32 @@ def waiting(bench):
             told(bench, "a tick for each whom it asks again", count, (asked - ticked) / count)
 
 
+def challenged(count, alone):
+    """The text of a trace in which so many phones are challenged and don't answer, up to a second in which none is due, behind which
+    the first challenge is sent again: that of the phone in the middle, a second before the others', or of all at once."""
+    trace, station, made = attaches.provisioned(count)
+    early = made[count // 2:count // 2 + 1] if alone else []
+    for phone in early:
+        phone.asks_to_attach(station, 1 + phone.slot)
+    if early:
+        trace.say("tick 1")
+    for phone in made:
+        if phone not in early:
+            phone.asks_to_attach(station, 1 + phone.slot)
+    trace.say("tick 3" if early else "tick 4")
+    return trace.text()
+
+
+def due(bench):
+    """Instructions of a challenge that is sent again because its countdown ends, with so many countdowns that run: of one phone alone,
+    and for each phone where all end at once."""
+    for what, alone in (("of one phone alone", True), ("where all are due at once, for each", False)):
+        for count in COUNTS:
+            before = challenged(count, alone)
+            begun, quiet, whole = (bench.instructions(before + "tick 1\n" * ticks) for ticks in range(3))
+            told(bench, "a challenge again, " + what, count, (whole - 2 * quiet + begun) / (1 if alone else count))
+
+
 def instructions(bench):
     """Instructions of an attach, of an event of one subscriber and of a tick, with so many subscribers."""
     for count in COUNTS:
@@ -333,7 +359,7 @@ def main():
     parser = argparse.ArgumentParser(description=__doc__, formatter_class=argparse.RawDescriptionHelpFormatter)
     parser.add_argument("program", nargs="?", default=PROGRAM)
     parser.add_argument("--table", action="store_true", help="at the end print the table of bench/README.md; measures what it has")
-    parser.add_argument("--only", nargs="*", choices=[*USUAL, "instructions", "stations", "waiting", "scripts", "days"])
+    parser.add_argument("--only", nargs="*", choices=[*USUAL, "instructions", "stations", "waiting", "due", "scripts", "days"])
     parser.add_argument("--rounds", type=int, default=10)
     parser.add_argument("--ticks", type=int, default=3000)
     given = parser.parse_args()
@@ -342,7 +368,7 @@ def main():
     bench = Bench(given.program, given.rounds)
     for word in given.only or (OF_TABLE if given.table else USUAL):
         {"attaches": attaches_per_second, "growth": growth, "events": events, "setups": set_ups, "instructions": instructions,
-         "stations": stations, "waiting": waiting, "scripts": simulated, "days": days,
+         "stations": stations, "waiting": waiting, "due": due, "scripts": simulated, "days": days,
          "ticks": lambda bench: ticks(bench, given.ticks)}[word](bench)
         sys.stdout.flush()
     if given.table:
