@@ -1,9 +1,8 @@
 -- Different IMSIs have different numbers.
-use Rattle.std.proofs.Common.{◌≡◌, ℕ, zero, suc, ◌+◌, ◌*◌, ◌<◌, length, List, [], ◌∷◌, true, false, Option, Some, refl, sym, ◌∙◌, ap, arith}
-use Rattle.std.specs.Prelude.{slice_index, Bool, cond}
-use Rattle.std.specs.Int.{from_be_bytes, w64}
+use Rattle.std.proofs.Common.{◌≡◌, ℕ, zero, suc, ◌+◌, ◌*◌, ◌<◌, length, List, true, false, Some, refl, sym, ◌∙◌, ap, arith}
+use Rattle.std.specs.Prelude.{Bool, cond}
 use Rattle.std.proofs.lemmas.Nat.{be_bytes_8}
-use Rattle.nas_elements.specs.Digits.{is_imsi, imsi_octets, imsi_of, imsi_type}
+use Rattle.nas_elements.specs.Digits.{is_imsi, imsi_octets, imsi_of}
 use Rattle.nas_elements.specs.DigitLaws.{small, imsi_again}
 use Rattle.identity_slots.specs.Provisioned.{AreOctetNumbers, ImsisApart, imsi_number}
 

@@ -1,5 +1,4 @@
 -- A stranger that is lent, as it is now.
-use Rattle.std.specs.Prelude.{ℕ}
 use Rattle.stranger_machine.specs.declared.state.Stranger.{Stranger}
 use Rattle.stranger_machine.specs.declared.table.LentStranger.{LentStranger}
 use Rattle.stranger_machine.specs.Ticks.{stranger_aged}

@@ -1,12 +1,12 @@
 -- What a notice of a station makes of a stranger: it is closed, or left as it is, and sends nothing.
-use Rattle.std.proofs.Common.{◌≡◌, ℕ, [], Bool, true, false, Option, Some, None, refl, ◌∙◌, ap}
+use Rattle.std.proofs.Common.{◌≡◌, ℕ, [], Bool, true, false, Option, Some, refl, ◌∙◌, ap}
 use Rattle.std.specs.Prelude.{◌==◌, ◌&&◌, if◌then◌else◌, is_some, not}
 use Rattle.identity_slots.specs.Ids.{number_in, station_in}
-use Rattle.mme_vocabulary.specs.Listed.{ToReset, is_listed}
+use Rattle.mme_vocabulary.specs.Listed.{is_listed}
 use Rattle.stranger_machine.specs.declared.state.Stranger.{Stranger}
 use Rattle.stranger_machine.specs.declared.turn.Notice.{Notice}
 use Rattle.stranger_machine.specs.declared.turn.Notice.TheVariants.{Tick, Gone, Listed}
-use Rattle.stranger_machine.specs.Machine.{closes, is_meant, is_of_station, loses, noted_station, notes, unlists}
+use Rattle.stranger_machine.specs.Machine.{closes, is_of_station, loses, noted_station, notes, unlists}
 use Rattle.stranger_machine.specs.Table.{stays_open}
 use Rattle.stranger_machine.specs.Turns.{Turn, closing, stays}
 

@@ -1,10 +1,9 @@
 -- What a tick makes of those whose T3470 it ends.
 use Rattle.std.proofs.Common.{◌≡◌, ℕ, ◌+◌, ◌-◌, ◌<◌, ◌≤◌, List, [], ◌∷◌, Bool, true, false, Option, Some, None, refl, sym, ◌∙◌, ap, subst, arith}
-use Rattle.std.specs.Prelude.{◌==◌, nat_lt, nat_le, not, if◌then◌else◌, cond, option_map, is_some, unwrap_or}
+use Rattle.std.specs.Prelude.{◌==◌, nat_lt, nat_le, not, cond, option_map, is_some, unwrap_or}
 use Rattle.std.proofs.lemmas.Bool.Decides.{nat_tests}
 use borrow.Author.Tests.{eqb-true}
-use Rattle.ordered_lists.specs.Ordered.{add, at, put, without, AllOver, Rising, Every}
-use Rattle.ordered_lists.specs.Laws.{at_key}
+use Rattle.ordered_lists.specs.Ordered.{at, put, without, AllOver, Rising}
 use Rattle.ordered_lists.specs.Indexed.{every-without, put_is_add, without-add}
 use Rattle.stranger_machine.specs.declared.state.Stranger.{Stranger}
 use Rattle.stranger_machine.specs.declared.state.Stranger.TheVariants.{Waiting, Held}
@@ -13,13 +12,12 @@ use Rattle.stranger_machine.specs.declared.turn.Notice.TheVariants.{Tick}
 use Rattle.stranger_machine.specs.Machine.{notes}
 use Rattle.stranger_machine.specs.Table.{known_if, noted}
 use Rattle.stranger_machine.specs.TickLaws.{aged_again, quiet_notice}
-use Rattle.stranger_machine.specs.Ticks.{IsAsleep, ends_in, is_ending, stranger_aged}
+use Rattle.stranger_machine.specs.Ticks.{IsAsleep, is_ending, stranger_aged}
 use Rattle.stranger_machine.specs.Turns.{Turn}
-use Rattle.stranger_table.specs.declared.queue.Deadline.{Deadline}
 use Rattle.stranger_table.specs.declared.sleeper.Sleeper.{Sleeper}
 use Rattle.stranger_table.specs.Ended.{AreAround, IsAround, IsEnding, all_ended, is_met, met_ids, row_if, sleeper_ended, sleeper_ticked, stays_ticked, touched_at}
 use Rattle.stranger_table.specs.Queued.{deadline_in, deadline_of}
-use Rattle.stranger_table.specs.Rows.{AreSleeping, IsSleeping, Row, all_now, known_now, row_id, sleeper_now, with_row}
+use Rattle.stranger_table.specs.Rows.{AreSleeping, IsSleeping, Row, all_now, row_id, sleeper_now, with_row}
 use Rattle.stranger_table.specs.Table.{due_ids}
 use Rattle.stranger_table.proofs.Now.{every_put, touched_now}
 

@@ -1,5 +1,5 @@
 -- The front of the queue.
-use Rattle.std.proofs.Common.{◌≡◌, ℕ, ◌+◌, ◌-◌, ◌*◌, ◌^◌, ◌<◌, ◌≤◌, List, [], ◌∷◌, ◌++◌, length, Bool, true, false, Option, Some, None, refl, sym, ◌∙◌, ap, subst, arith, append_assoc, append-nil}
+use Rattle.std.proofs.Common.{◌≡◌, ℕ, ◌+◌, ◌-◌, ◌*◌, ◌^◌, ◌<◌, ◌≤◌, List, [], ◌∷◌, ◌++◌, length, Bool, true, false, Some, None, refl, sym, ◌∙◌, ap, subst, arith, append_assoc, append-nil}
 use Rattle.std.specs.Prelude.{nat_lt, nat_le, if◌then◌else◌, cond}
 use Rattle.std.proofs.lemmas.Bool.Decides.{nat_tests}
 use Rattle.ordered_lists.specs.Ordered.{add, AllOver, Rising, Every}
@@ -8,7 +8,7 @@ use Rattle.stranger_machine.specs.declared.state.Stranger.{Stranger}
 use Rattle.stranger_machine.specs.declared.state.Stranger.TheVariants.{Waiting, Held}
 use Rattle.stranger_machine.specs.Ticks.{IsAsleep, ends_in}
 use Rattle.stranger_table.specs.declared.queue.Deadline.{Deadline}
-use Rattle.stranger_table.specs.Ended.{AreAround, IsAround, is_met, met_ids}
+use Rattle.stranger_table.specs.Ended.{AreAround, is_met, met_ids}
 use Rattle.stranger_table.specs.Queued.{alarm, deadline_in, deadline_of, front_ids, queued, with_entry}
 use Rattle.stranger_table.specs.Rows.{AreRows, Row, row_id}
 use Rattle.stranger_table.proofs.Queueing.{IfEntry, every_with}

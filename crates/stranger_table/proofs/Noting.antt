@@ -2,8 +2,7 @@
 use Rattle.std.proofs.Common.{◌≡◌, ℕ, ◌+◌, ◌<◌, ◌≤◌, List, [], ◌∷◌, Bool, true, false, Option, Some, None, refl, sym, ◌∙◌, ap, subst, arith}
 use Rattle.std.specs.Prelude.{◌==◌, nat_lt, if◌then◌else◌, cond, not, option_map, IsSome}
 use Rattle.std.proofs.lemmas.Bool.Decides.{nat_tests}
-use Rattle.ordered_lists.specs.Ordered.{AllOver, Rising, at, put, without}
-use Rattle.ordered_lists.specs.Laws.{over_more}
+use Rattle.ordered_lists.specs.Ordered.{AllOver, Rising, at, without}
 use Rattle.sorted_list.specs.Sorted.{lowest_from}
 use Rattle.identity_slots.specs.Ids.{station_in}
 use Rattle.stranger_machine.specs.declared.state.Stranger.{Stranger}
@@ -11,7 +10,7 @@ use Rattle.stranger_machine.specs.declared.table.Known.{Known}
 use Rattle.stranger_machine.specs.declared.turn.Notice.{Notice}
 use Rattle.stranger_machine.specs.Machine.{closes, is_of_station, noted_station, notes}
 use Rattle.stranger_machine.specs.StationLaws.{others_stay, station_notes}
-use Rattle.stranger_machine.specs.Table.{known_id, known_if, noted, stranger_at, with_stranger}
+use Rattle.stranger_machine.specs.Table.{known_id, known_if, noted, stranger_at}
 use Rattle.stranger_machine.specs.Turns.{Turn, closing, stays}
 
 -- those whose ids are at least the number have taken it

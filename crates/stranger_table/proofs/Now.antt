@@ -1,18 +1,17 @@
 -- What a change of what is kept makes of the strangers as they are now.
-use Rattle.std.proofs.Common.{◌≡◌, ℕ, ◌+◌, ◌-◌, ◌<◌, ◌≤◌, ◌^◌, List, [], ◌∷◌, map, Option, Some, None, refl, sym, ◌∙◌, ap, subst, arith}
-use Rattle.std.specs.Prelude.{nat_lt, ◌==◌, Bool, true, false, cond, option_map}
-use Rattle.std.proofs.lemmas.Bool.Decides.{nat_tests}
+use Rattle.std.proofs.Common.{◌≡◌, ℕ, ◌+◌, ◌-◌, ◌<◌, ◌≤◌, ◌^◌, List, [], ◌∷◌, Option, Some, None, refl, sym, ◌∙◌, ap, subst, arith}
+use Rattle.std.specs.Prelude.{nat_lt, Bool, true, false, cond, option_map}
 use Rattle.ordered_lists.specs.Ordered.{add, at, put, without, Rising, Every}
 use Rattle.ordered_lists.specs.Indexed.{every-add, every-without, every_at, at-map, map-add, map-without, put_is_add, rising-map}
 use Rattle.sorted_list.specs.Sorted.{lowest_from}
 use Rattle.stranger_machine.specs.declared.state.Stranger.{Stranger}
 use Rattle.stranger_machine.specs.declared.state.Stranger.TheVariants.{Waiting, Held}
 use Rattle.stranger_machine.specs.declared.table.Known.{Known}
-use Rattle.stranger_machine.specs.Table.{known_id, stranger_at, with_stranger}
+use Rattle.stranger_machine.specs.Table.{known_id, stranger_at}
 use Rattle.stranger_machine.specs.TickLaws.{aged_none}
 use Rattle.stranger_machine.specs.Ticks.{IsAsleep, stranger_aged}
 use Rattle.stranger_table.specs.declared.sleeper.Sleeper.{Sleeper}
-use Rattle.stranger_table.specs.Rows.{AreRows, AreSleeping, IsSleeping, Row, all_now, known_now, row_id, sleeper_at, sleeper_now, with_row}
+use Rattle.stranger_table.specs.Rows.{AreSleeping, IsSleeping, Row, all_now, known_now, row_id, sleeper_at, sleeper_now}
 
 pub rising_now : (clock : ℕ) (rs : List Row) → Rising row_id rs → Rising known_id (all_now clock rs)
 rising_now clock rs h = rising-map (known_now clock) known_id rs h

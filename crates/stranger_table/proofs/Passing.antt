@@ -1,8 +1,8 @@
 -- What a tick makes of the rows where one stranger takes it.
-use Rattle.std.proofs.Common.{◌≡◌, ℕ, List, Bool, true, false, Option, Some, None, refl, sym, ◌∙◌, ap, subst}
+use Rattle.std.proofs.Common.{◌≡◌, ℕ, List, true, false, Some, None, sym, ◌∙◌, ap, subst}
 use Rattle.std.specs.Prelude.{option_map}
 use Rattle.slab.specs.Slab.{Slab, Updates}
-use Rattle.ordered_lists.specs.Ordered.{at, put, without, Rising}
+use Rattle.ordered_lists.specs.Ordered.{at, without}
 use Rattle.stranger_table.specs.declared.places.StrangerPlace.{StrangerPlace}
 use Rattle.stranger_table.specs.declared.sleeper.Sleeper.{Sleeper}
 use Rattle.stranger_table.specs.Ended.{IsEnding, IsEndingIf, ended_at, ended_if, sleeper_ended, sleeper_ticked, stays_ticked}

@@ -1,6 +1,6 @@
 -- What always holds of a table holds where one stranger goes, is another, or takes the tick that ends its T3470.
-use Rattle.std.proofs.Common.{◌≡◌, ℕ, ◌+◌, ◌-◌, ◌<◌, ◌≤◌, ◌^◌, List, [], ◌∷◌, length, Bool, true, false, Option, Some, None, refl, sym, ◌∙◌, ap, subst, arith}
-use Rattle.std.specs.Prelude.{◌==◌, nat_le, if◌then◌else◌, option_map}
+use Rattle.std.proofs.Common.{◌≡◌, ℕ, ◌-◌, ◌<◌, ◌≤◌, ◌^◌, List, [], ◌∷◌, length, Bool, true, false, Option, Some, None, refl, sym, ◌∙◌, ap, subst, arith}
+use Rattle.std.specs.Prelude.{◌==◌, if◌then◌else◌, option_map}
 use Rattle.std.proofs.lemmas.Bool.Decides.{nat_tests}
 use Rattle.ordered_lists.specs.Ordered.{at, put, without, Rising, Every}
 use Rattle.ordered_lists.specs.Laws.{at-put, rising-put, rising-without}
@@ -14,7 +14,7 @@ use Rattle.stranger_table.specs.declared.queue.Deadline.{Deadline}
 use Rattle.stranger_table.specs.declared.sleeper.Sleeper.{Sleeper}
 use Rattle.stranger_table.specs.Ended.{AreAround, AreStrangers, IsAround, IsEndingIf, all_ended, ended_at, ended_if, is_met, sleeper_ended, touched_at}
 use Rattle.stranger_table.specs.Queued.{IsFree, alarm, deadline_at, deadline_if, deadline_in, deadline_of, front_ids, queued, with_entry, without_entry}
-use Rattle.stranger_table.specs.Rows.{AreRows, AreSleeping, IsSleeping, Row, row_id, sleeper_at, sleeper_now, with_row}
+use Rattle.stranger_table.specs.Rows.{AreRows, IsSleeping, Row, row_id, sleeper_at, sleeper_now, with_row}
 use Rattle.stranger_table.proofs.Ending.{IsOver, around_step, ended_step, is_over, met_ending}
 use Rattle.stranger_table.proofs.Fronts.{front_is_met, front_later, front_none, front_now, small_queued}
 use Rattle.stranger_table.proofs.Now.{every_put, just_awake}

@@ -1,8 +1,5 @@
 use Rattle.std.proofs.Common.{rules, refl}
-use Rattle.nas_security.specs.Accepting.{accepted, seen_acceptance}
 use Rattle.emm_attaching.specs.Attaching.{in_security_mode, keyed, secured, secured_by, took}
-use Rattle.emm_state.specs.Does.{Does}
-use Rattle.emm_state.specs.declared.solo.Context.{Context}
 use Rattle.emm_attaching.proofs.attaching.in_security_mode.Goals as goal
 
 -- src/attaching.rt:455:1

@@ -1,4 +1,4 @@
-use Rattle.std.proofs.Common.{rules, refl, Some}
+use Rattle.std.proofs.Common.{rules, Some}
 use Rattle.emm_attaching.specs.Attaching.{counted_up, took}
 use Rattle.emm_serving.specs.Serving.{initial_detach, detached_by}
 use Rattle.emm_serving.proofs.Connecting.{connect_beside}

@@ -1,9 +1,8 @@
-use Rattle.std.proofs.Common.{◌≡◌, ◌∙◌, Some, ap, sym, rules}
-use Rattle.emm_state.specs.Actions.{connect, ended}
+use Rattle.std.proofs.Common.{◌∙◌, Some, ap, sym}
+use Rattle.emm_state.specs.Actions.{ended}
 use Rattle.emm_state.specs.declared.draft.Draft.{Draft}
 use Rattle.emm_attaching.specs.Attaching.{keyed}
 use Rattle.emm_serving.specs.Serving.{active, served}
-use Rattle.mme_vocabulary.specs.Events.{entry_lists}
 use Rattle.emm_serving.proofs.Connecting.{connect_keeps}
 use Rattle.emm_serving.proofs.serving.serve.Goals as goal
 

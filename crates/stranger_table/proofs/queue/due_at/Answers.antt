@@ -1,5 +1,5 @@
 use Rattle.std.proofs.Common.{sym, ◌∙◌, arith}
-use Rattle.stranger_table.proofs.Fronts.{alarm_fits, walk_begins, walk_goes, walk_shorter, walk_stops, walk_ends}
+use Rattle.stranger_table.proofs.Fronts.{walk_begins, walk_goes, walk_shorter, walk_stops, walk_ends}
 use Rattle.stranger_table.proofs.queue.due_at.Goals as goal
 use Rattle.stranger_table.proofs.queue.due_at.Goals.{in-Some+then-entry-clock, in_default}
 

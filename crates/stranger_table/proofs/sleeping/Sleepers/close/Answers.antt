@@ -3,7 +3,7 @@ use Rattle.std.specs.Prelude.{option_map, None}
 use Rattle.ordered_lists.specs.Ordered.{at, without}
 use Rattle.ordered_lists.specs.Laws.{without_absent}
 use Rattle.stranger_table.specs.Kept.{IsTable, row_at, rows_of, place_id}
-use Rattle.stranger_table.specs.Rows.{Row, row_id}
+use Rattle.stranger_table.specs.Rows.{row_id}
 use Rattle.stranger_table.proofs.Kept.{at_rows, closed_rows, closed_table, there_some}
 use Rattle.stranger_table.proofs.sleeping.Sleepers.close.Goals as goal
 

@@ -1,10 +1,9 @@
 use Rattle.std.proofs.Common.{sym, ◌∙◌, ap, subst}
-use Rattle.std.specs.Prelude.{Some, None}
 use Rattle.ordered_lists.specs.Ordered.{at}
 use Rattle.ordered_lists.specs.Laws.{at_key}
 use Rattle.stranger_table.specs.Ended.{IsEndingIf, ended_at, sleeper_ended}
 use Rattle.stranger_table.specs.Kept.{place_id, row_at, rows_of}
-use Rattle.stranger_table.specs.Rows.{Row, sleeper_at, with_row}
+use Rattle.stranger_table.specs.Rows.{sleeper_at, with_row}
 use Rattle.stranger_table.proofs.Passing.{ended_none, ended_there, ending_there, place_none, place_sleeper}
 use Rattle.stranger_table.proofs.sleeping.Sleepers.end.Goals as goal
 

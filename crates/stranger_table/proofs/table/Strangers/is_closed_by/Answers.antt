@@ -1,6 +1,5 @@
-use Rattle.std.proofs.Common.{◌≡◌, sym, ◌∙◌, ap, subst}
-use Rattle.std.specs.Prelude.{Option, None, IsSome, not, option_map}
-use Rattle.stranger_machine.specs.declared.state.Stranger.{Stranger}
+use Rattle.std.proofs.Common.{◌≡◌, sym, ◌∙◌, ap}
+use Rattle.std.specs.Prelude.{None, option_map}
 use Rattle.stranger_machine.specs.StationLaws.{station_open}
 use Rattle.stranger_machine.specs.Table.{stranger_at}
 use Rattle.stranger_table.specs.Rows.{sleeper_now}

@@ -1,5 +1,4 @@
 use Rattle.std.proofs.Common.{◌+◌, ◌∙◌, ◌≤◌, refl, sym, ap, subst, arith}
-use Rattle.std.specs.Prelude.{option_map}
 use Rattle.sorted_list.specs.Sorted.{lowest_from}
 use Rattle.identity_slots.specs.Ids.{station_in}
 use Rattle.stranger_machine.specs.Machine.{closes, noted_station}

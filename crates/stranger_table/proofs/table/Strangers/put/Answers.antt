@@ -1,9 +1,9 @@
-use Rattle.std.proofs.Common.{◌≡◌, ◌≤◌, ◌<◌, ◌∙◌, refl, sym, ap, subst, arith}
+use Rattle.std.proofs.Common.{◌∙◌, refl, sym, ap, subst}
 use Rattle.ordered_lists.specs.Ordered.{put}
 use Rattle.stranger_machine.specs.declared.table.Known.{Known}
 use Rattle.stranger_machine.specs.Table.{known_id}
-use Rattle.stranger_table.specs.Ended.{AreStrangers, touched_at}
-use Rattle.stranger_table.specs.Queued.{IsFree, deadline_at, deadline_of, with_entry, without_entry}
+use Rattle.stranger_table.specs.Ended.{touched_at}
+use Rattle.stranger_table.specs.Queued.{IsFree, deadline_of, with_entry, without_entry}
 use Rattle.stranger_table.specs.Rows.{all_now}
 use Rattle.stranger_table.specs.Table.{StrangerTable}
 use Rattle.stranger_table.proofs.Now.{put_now, touched_small}
