@@ -1,263 +1,200 @@
-//! AES-128 (FIPS 197): the cipher, on blocks of four words.
+//! AES-128 (FIPS 197) of one block, a vector of sixteen octets.
+//!
+//! Between rounds the state is kept moved, each octet as two elements of the field of 16, and so are the round keys, which also
+//! hold the constant of the substitution: no round moves the state there and back.
 
-ghost use Rattle.std.specs.Prelude.{◌≡◌, ℕ, ◌+◌, ◌<◌, ◌≤◌, List, ◌++◌, length, take, drop};
-ghost use Rattle.eps_keys.specs.Cmac.{next_subkey};
-ghost use Rattle.eps_keys.specs.Words.{octets};
-ghost use Rattle.eps_keys.specs.Aes.{aes, zeros, cipher, key_expansion, last_round, next_key, round, rounds, xor_blocks};
+ghost use Rattle.std.specs.Prelude.{◌≡◌, List, ℕ, map};
+ghost use Rattle.eps_keys.specs.Aes.{aes, last_round, next_key, round, xor_blocks};
+ghost use Rattle.eps_keys.specs.Lanes.{IsOctets, masked, moved, moved_key};
 
-use crate::words::{
-    joined, mixed_column, moved_left, rotated_and_substituted, substituted_column, word_at,
-    xor_words,
+use crate::lanes::{
+    FIRST, FIRST_DOUBLED, FIRST_MOVED, SECOND, SECOND_DOUBLED, SECOND_MOVED, look_up, moved, split,
+    sub_bytes,
 };
 use std::marker::Model;
+use std::simd::prelude::*;
 
-/// A block of 16 octets, which contracts see: its four columns, from the left.
-#[derive(Clone, Copy)]
-pub struct Block {
-    a: u32,
-    b: u32,
-    c: u32,
-    d: u32,
+// The state before the first round.
+#[inline(always)]
+fn keyed(block: u8x16, key: u8x16) -> u8x16
+    ensures { result ≡ map moved (xor_blocks block key) }
+{
+    moved(block ^ key)
 }
 
-impl Model for Block {
+// A round before the last.
+#[inline(always)]
+fn round(state: u8x16, key: u8x16) -> u8x16
+    ensures { (s k : List ℕ) → IsOctets s → IsOctets k → state ≡ map moved s → key ≡ map moved_key k
+        → result ≡ map moved (round s k) }
+{
+    let parts = split(state);
+    let once = look_up(u8x16::from_array(FIRST_MOVED), parts.first)
+        ^ look_up(u8x16::from_array(SECOND_MOVED), parts.second);
+    let twice = look_up(u8x16::from_array(FIRST_DOUBLED), parts.first)
+        ^ look_up(u8x16::from_array(SECOND_DOUBLED), parts.second);
+    let thrice = once ^ twice;
+    let own: u8x16 = twice.swizzle([0, 5, 10, 15, 4, 9, 14, 3, 8, 13, 2, 7, 12, 1, 6, 11]);
+    let second: u8x16 = thrice.swizzle([5, 10, 15, 0, 9, 14, 3, 4, 13, 2, 7, 8, 1, 6, 11, 12]);
+    let third: u8x16 = once.swizzle([10, 15, 0, 5, 14, 3, 4, 9, 2, 7, 8, 13, 6, 11, 12, 1]);
+    let fourth: u8x16 = once.swizzle([15, 0, 5, 10, 3, 4, 9, 14, 7, 8, 13, 2, 11, 12, 1, 6]);
+    (own ^ second) ^ ((third ^ fourth) ^ key)
+}
+
+// The last round.
+#[inline(always)]
+fn last_round(state: u8x16, key: u8x16) -> u8x16
+    ensures { (s k : List ℕ) → IsOctets s → IsOctets k → state ≡ map moved s → key ≡ map masked k
+        → result ≡ last_round s k }
+{
+    let parts = split(state);
+    let substituted = look_up(u8x16::from_array(FIRST), parts.first)
+        ^ look_up(u8x16::from_array(SECOND), parts.second);
+    let shifted: u8x16 = substituted.swizzle([
+        0, 5, 10, 15, 4, 9, 14, 3, 8, 13, 2, 7, 12, 1, 6, 11,
+    ]);
+    shifted ^ key
+}
+
+// The round key after this one (FIPS 197 clause 5.2).
+#[inline(always)]
+fn next_key(key: u8x16, constant: u8) -> u8x16
+    ensures { result ≡ next_key constant key }
+{
+    let substituted = sub_bytes(key);
+    let turned: u8x16 = substituted.swizzle([
+        13, 14, 15, 12, 13, 14, 15, 12, 13, 14, 15, 12, 13, 14, 15, 12,
+    ]);
+    let constants = u8x16::from_array([
+        constant, 0, 0, 0, constant, 0, 0, 0, constant, 0, 0, 0, constant, 0, 0, 0,
+    ]);
+    let word_1: u8x16 = key.swizzle([0, 1, 2, 3, 0, 1, 2, 3, 0, 1, 2, 3, 0, 1, 2, 3]);
+    let word_2: u8x16 = key.swizzle([4, 5, 6, 7, 4, 5, 6, 7, 4, 5, 6, 7, 4, 5, 6, 7]);
+    let word_3: u8x16 = key.swizzle([8, 9, 10, 11, 8, 9, 10, 11, 8, 9, 10, 11, 8, 9, 10, 11]);
+    let word_4: u8x16 = key.swizzle([
+        12, 13, 14, 15, 12, 13, 14, 15, 12, 13, 14, 15, 12, 13, 14, 15,
+    ]);
+    let first = (word_1 ^ turned) ^ constants;
+    let second = word_2 ^ first;
+    let third = word_3 ^ second;
+    let fourth = word_4 ^ third;
+    let front: u8x16 = first.shuffle(
+        second,
+        [0, 1, 2, 3, 20, 21, 22, 23, 0, 1, 2, 3, 20, 21, 22, 23],
+    );
+    let back: u8x16 = third.shuffle(
+        fourth,
+        [0, 1, 2, 3, 20, 21, 22, 23, 0, 1, 2, 3, 20, 21, 22, 23],
+    );
+    front.shuffle(
+        back,
+        [0, 1, 2, 3, 4, 5, 6, 7, 16, 17, 18, 19, 20, 21, 22, 23],
+    )
+}
+
+// A key of a round as it is kept.
+#[inline(always)]
+fn moved_key(key: u8x16) -> u8x16
+    ensures { result ≡ map moved_key key }
+{
+    moved(masked(key))
+}
+
+// The key of the last round as it is kept.
+#[inline(always)]
+fn masked(key: u8x16) -> u8x16
+    ensures { result ≡ map masked key }
+{
+    key ^ u8x16::splat(0x63)
+}
+
+/// A key of 16 octets for many blocks, which contracts see as its octets: kept with its round keys (FIPS 197 clause 5.2).
+#[derive(Clone, Copy)]
+pub struct RoundKeys {
+    key: u8x16,
+    key_1: u8x16,
+    key_2: u8x16,
+    key_3: u8x16,
+    key_4: u8x16,
+    key_5: u8x16,
+    key_6: u8x16,
+    key_7: u8x16,
+    key_8: u8x16,
+    key_9: u8x16,
+    last: u8x16,
+}
+
+impl Model for RoundKeys {
     ghost use Rattle.std.specs.Prelude.{ℕ, List};
 
     ghost Value = { List ℕ };
 
-    ghost use Rattle.eps_keys.specs.Restored.{AreWords, restored, view_of, words_of};
+    ghost use Rattle.eps_keys.specs.RoundKeys.{AreRoundKeys, key_of, restored, round_keys};
 
-    ghost view = { view_of };
+    ghost view = { key_of };
 
-    ghost invariant = { AreWords };
+    ghost invariant = { AreRoundKeys };
 
-    ghost inverse = { words_of };
+    ghost inverse = { round_keys };
 
     ghost inverse_ok = { restored };
 }
 
-impl Block {
-    /// The block of zeros.
-    #[inline(always)]
-    pub fn zero() -> Self
-        ensures { result ≡ zeros }
+impl RoundKeys {
+    /// The key, expanded once.
+    pub fn new(key: &[u8; 16]) -> Self
+        ensures { result ≡ key.now }
     {
-        Block {
-            a: 0,
-            b: 0,
-            c: 0,
-            d: 0,
+        let key = u8x16::from_array(*key);
+        let key_1 = next_key(key, 1);
+        let key_2 = next_key(key_1, 2);
+        let key_3 = next_key(key_2, 4);
+        let key_4 = next_key(key_3, 8);
+        let key_5 = next_key(key_4, 16);
+        let key_6 = next_key(key_5, 32);
+        let key_7 = next_key(key_6, 64);
+        let key_8 = next_key(key_7, 128);
+        let key_9 = next_key(key_8, 0x1b);
+        let key_10 = next_key(key_9, 0x36);
+        RoundKeys {
+            key,
+            key_1: moved_key(key_1),
+            key_2: moved_key(key_2),
+            key_3: moved_key(key_3),
+            key_4: moved_key(key_4),
+            key_5: moved_key(key_5),
+            key_6: moved_key(key_6),
+            key_7: moved_key(key_7),
+            key_8: moved_key(key_8),
+            key_9: moved_key(key_9),
+            last: masked(key_10),
         }
     }
 
-    /// The block of four words, the first octet the highest of the first.
-    #[inline(always)]
-    pub fn of_words(a: u32, b: u32, c: u32, d: u32) -> Self
-        ensures { result ≡ octets a ++ octets b ++ octets c ++ octets d }
+    /// A block of 16 octets encrypted under the key (FIPS 197 clause 5.1).
+    pub fn encrypt(&self, block: u8x16) -> u8x16
+        ensures { result ≡ aes self.now block }
     {
-        Block { a, b, c, d }
-    }
-
-    /// The block at a place of a message.
-    #[inline(always)]
-    pub fn at(message: &[u8], i: usize) -> Self
-        requires { i + 16 ≤ length message.now }
-        ensures { result ≡ take 16 (drop i message.now) }
-    {
-        Block {
-            a: word_at(message, i),
-            b: word_at(message, i + 4),
-            c: word_at(message, i + 8),
-            d: word_at(message, i + 12),
-        }
-    }
-
-    /// The block of sixteen octets.
-    pub fn from_octets(octets: &[u8; 16]) -> Self
-        ensures { result ≡ octets.now }
-    {
-        Block::at(octets, 0)
-    }
-
-    /// Its sixteen octets.
-    #[inline(always)]
-    pub fn octets(self) -> [u8; 16]
-        ensures { result ≡ self }
-    {
-        let [a, b, c, d] = self.a.to_be_bytes();
-        let [e, f, g, h] = self.b.to_be_bytes();
-        let [i, j, k, l] = self.c.to_be_bytes();
-        let [m, n, o, p] = self.d.to_be_bytes();
-        [a, b, c, d, e, f, g, h, i, j, k, l, m, n, o, p]
-    }
-
-    /// Its first four octets.
-    #[inline(always)]
-    pub fn first_octets(self) -> [u8; 4]
-        ensures { result ≡ take 4 self }
-    {
-        self.a.to_be_bytes()
-    }
-
-    /// Both, octet by octet by exclusive or.
-    #[inline(always)]
-    pub fn xor(self, other: Block) -> Self
-        ensures { result ≡ xor_blocks self other }
-    {
-        Block {
-            a: self.a ^ other.a,
-            b: self.b ^ other.b,
-            c: self.c ^ other.c,
-            d: self.d ^ other.d,
-        }
-    }
-
-    /// The subkey of CMAC after this one (RFC 4493, 2.3).
-    #[inline(always)]
-    pub fn next_subkey(self) -> Self
-        ensures { result ≡ next_subkey self }
-    {
-        let moved_left = Block {
-            a: moved_left(self.a, self.b),
-            b: moved_left(self.b, self.c),
-            c: moved_left(self.c, self.d),
-            d: moved_left(self.d, 0),
-        };
-        if self.a < 0x8000_0000 {
-            return moved_left;
-        }
-        moved_left.xor(Block::of_words(0, 0, 0, 0x87))
-    }
-
-    #[inline(always)]
-    fn round(self, key: &Block) -> Self
-        ensures { result ≡ round self key.now }
-    {
-        Block {
-            a: mixed_column(self.a, self.b, self.c, self.d) ^ key.a,
-            b: mixed_column(self.b, self.c, self.d, self.a) ^ key.b,
-            c: mixed_column(self.c, self.d, self.a, self.b) ^ key.c,
-            d: mixed_column(self.d, self.a, self.b, self.c) ^ key.d,
-        }
-    }
-
-    #[inline(always)]
-    fn last_round(self, key: &Block) -> Self
-        ensures { result ≡ last_round self key.now }
-    {
-        Block {
-            a: substituted_column(self.a, self.b, self.c, self.d) ^ key.a,
-            b: substituted_column(self.b, self.c, self.d, self.a) ^ key.b,
-            c: substituted_column(self.c, self.d, self.a, self.b) ^ key.c,
-            d: substituted_column(self.d, self.a, self.b, self.c) ^ key.d,
-        }
-    }
-
-    #[inline(always)]
-    fn next_key(self, constant: u8) -> Self
-        ensures { result ≡ next_key constant self }
-    {
-        let a = xor_words(
-            xor_words(self.a, rotated_and_substituted(self.d)),
-            joined(constant, 0, 0, 0),
-        );
-        let b = xor_words(self.b, a);
-        let c = xor_words(self.c, b);
-        let d = xor_words(self.d, c);
-        Block { a, b, c, d }
+        let state_0 = keyed(block, self.key);
+        let state_1 = round(state_0, self.key_1);
+        let state_2 = round(state_1, self.key_2);
+        let state_3 = round(state_2, self.key_3);
+        let state_4 = round(state_3, self.key_4);
+        let state_5 = round(state_4, self.key_5);
+        let state_6 = round(state_5, self.key_6);
+        let state_7 = round(state_6, self.key_7);
+        let state_8 = round(state_7, self.key_8);
+        let state_9 = round(state_8, self.key_9);
+        last_round(state_9, self.last)
     }
 }
 
-/// A key and the ten round keys after it (FIPS 197, 5.2).
-pub type RoundKeys = [Block; 11];
-
-/// The round keys of a key (FIPS 197 clause 5.2).
-pub fn key_expansion(key: Block) -> RoundKeys
-    ensures { result ≡ key_expansion key }
-{
-    let key_1 = key.next_key(1);
-    let key_2 = key_1.next_key(2);
-    let key_3 = key_2.next_key(4);
-    let key_4 = key_3.next_key(8);
-    let key_5 = key_4.next_key(16);
-    let key_6 = key_5.next_key(32);
-    let key_7 = key_6.next_key(64);
-    let key_8 = key_7.next_key(128);
-    let key_9 = key_8.next_key(0x1b);
-    let key_10 = key_9.next_key(0x36);
-    [
-        key, key_1, key_2, key_3, key_4, key_5, key_6, key_7, key_8, key_9, key_10,
-    ]
-}
-
-impl Block {
-    // Before the first round.
-    #[inline(always)]
-    fn keyed(self, keys: &RoundKeys) -> Self
-        ensures { rounds (drop 1 keys.now) result ≡ cipher keys.now self }
-    {
-        self.xor(keys[0])
-    }
-
-    // A round before the last.
-    #[inline(always)]
-    fn round_at(self, keys: &RoundKeys, i: usize) -> Self
-        requires { i < 10 }
-        ensures { rounds (drop (i + 1) keys.now) result ≡ rounds (drop i keys.now) self }
-    {
-        self.round(&keys[i])
-    }
-
-    #[inline(always)]
-    fn last_round_at(self, keys: &RoundKeys) -> Self
-        ensures { result ≡ rounds (drop 10 keys.now) self }
-    {
-        self.last_round(&keys[10])
-    }
-}
-
-// The first rounds, and below the others.
-#[inline(always)]
-fn first_half(keys: &RoundKeys, block: Block) -> Block
-    ensures { rounds (drop 6 keys.now) result ≡ cipher keys.now block }
-{
-    block
-        .keyed(keys)
-        .round_at(keys, 1)
-        .round_at(keys, 2)
-        .round_at(keys, 3)
-        .round_at(keys, 4)
-        .round_at(keys, 5)
-}
-
-// The other rounds, on what the first gave.
-#[inline(always)]
-fn second_half(keys: &RoundKeys, state: Block) -> Block
-    ensures { result ≡ rounds (drop 6 keys.now) state }
-{
-    state
-        .round_at(keys, 6)
-        .round_at(keys, 7)
-        .round_at(keys, 8)
-        .round_at(keys, 9)
-        .last_round_at(keys)
-}
-
-/// The block under the key whose round keys these are (FIPS 197 clause 5.1).
-pub fn cipher(keys: &RoundKeys, block: Block) -> Block
-    ensures { result ≡ cipher keys.now block }
-{
-    second_half(keys, first_half(keys, block))
-}
-
-/// One block of 16 octets encrypted by AES-128 under a key of 16 octets (FIPS 197, 5.1).
-/// Its time may depend on the key and the block, by what its tables' look-ups find in caches.
+/// One block of 16 octets encrypted by AES-128 under a key of 16 octets (FIPS 197 clause 5.1).
+/// Neither the key nor the block chooses an address or a branch.
 pub fn aes_encrypt(key: &[u8; 16], block: &[u8; 16]) -> [u8; 16]
     ensures { result ≡ aes key.now block.now }
 {
-    cipher(
-        &key_expansion(Block::from_octets(key)),
-        Block::from_octets(block),
-    )
-    .octets()
+    RoundKeys::new(key)
+        .encrypt(u8x16::from_array(*block))
+        .to_array()
 }

@@ -2,20 +2,20 @@
 //! derivations.
 //!
 //! No call is refused, and none takes memory but what a [`KeySchedule`] keeps, which keeps nothing
-//! where there is none. Each is proved equal to its function on whole lists in `specs/`. Nothing is
-//! promised of time: AES looks octets up in tables at places that depend on the key and the
-//! message. [`same_octets`] alone is written without a branch on an octet.
+//! where there is none. Each is proved equal to its function on whole lists in `specs/`. No proof speaks of time, but AES, CMAC
+//! and [`same_octets`] have no branch and no address in memory that depends on a key or an octet of a message: only lengths
+//! steer them.
 #![tactic(auto)]
 
 mod aes;
+mod block;
 mod derive;
 mod direction;
 mod equal;
+mod lanes;
 mod laws;
 mod mac;
 mod schedule;
-mod tables;
-mod words;
 
 pub use aes::aes_encrypt;
 pub use derive::{hmac_sha256, kenb, nas_integrity_key, next_hop};
