@@ -181,10 +181,10 @@ entries_are_in_range spelled os e m is =
     let r = message_ranged (pdu.InitialUeMessage m) os (spelled (pdu.InitialUeMessage m) os is) in
     record { enb_id = enb_id_of m.enb_id r.0; nas = bytes_below m.nas r.1.0; tai = tai_of m.tai r.1.1.0 }
 
-in_range_of : (e mme_id enb_id : ℕ) (body : UeBody (List ℕ)) (m : UeMessage (List ℕ)) → Some (ue_message e mme_id enb_id body) ≡ Some m → Ranged mme_ue_id mme_id → Ranged enb_ue_id enb_id
+in_range_of : (e mme enb : ℕ) (body : UeBody (List ℕ)) (m : UeMessage (List ℕ)) → Some (ue_message e mme enb body) ≡ Some m → Ranged mme_ue_id mme → Ranged enb_ue_id enb
     → BodyInRange body → MessageInRange m
-in_range_of e mme_id enb_id body m is a b fits =
-    subst MessageInRange (same_Some (ue_message e mme_id enb_id body) m is) (record { mme_id = mme_id_of mme_id a; enb_id = enb_id_of enb_id b; body = fits })
+in_range_of e mme enb body m is a b fits =
+    subst MessageInRange (same_Some (ue_message e mme enb body) m is) (record { mme_id = mme_id_of mme a; enb_id = enb_id_of enb b; body = fits })
 
 told_in_range : (os : List ℕ) (e : ℕ) (p : Pdu (List ℕ)) (m : UeMessage (List ℕ)) → RowsRanged (rows_of (typed p).0) (typed p).1 → ue_message_in e p ≡ Some m → MessageInRange m
 told_in_range os e (pdu.UplinkNasTransport x) m r is = in_range_of e x.mme_id x.enb_id _ m is r.0 r.1.0 (bytes_below x.nas r.1.1.0, tai_of x.tai r.1.1.1.1.0)
