@@ -15,7 +15,7 @@ import s1ap
 del sys.path[0]
 
 KINDS = ("initiating", "successful", "unsuccessful")
-MACHINES = ("mme_signalling", "emm_state", "emm_attaching", "emm_serving", "emm_connected", "emm_idle", "emm_machine", "stranger_machine", "mme_naming", "mme_routing")
+MACHINES = ("mme_signalling", "emm_state", "emm_attach", "emm_uplink", "emm_association", "emm_network", "emm_machine", "stranger_machine", "mme_naming", "mme_routing")
 
 
 def text_of(path):
@@ -122,7 +122,7 @@ def code_rows():
     """The rows of each message in the code, by its type."""
     found = {}
     marks = {"Needed": "", "Optional": "?", "Unkept": "-"}
-    for name, rows in re.findall(r"type (\w+)Rows(?:<'a>)? =\s*(.*?);", texts_of("s1ap_messages"), re.S):
+    for name, rows in re.findall(r"type (\w+)Rows(?:<'a>)? =\s*(.*?);", texts_of("s1ap_pdus"), re.S):
         rows = re.findall(r"(Needed|Optional|Unkept)<(\d+), (REJECT|IGNORE),", rows)
         found[name] = ", ".join(named + criticality[0].lower() + marks[mark] for mark, named, criticality in rows)
     return found
@@ -130,12 +130,12 @@ def code_rows():
 
 def s1ap_messages():
     """Name: code, outcome, criticality, elements and clause of each message."""
-    profile = text_of("s1ap_messages/specs/Profile.antt")
+    profile = text_of("s1ap_pdus/specs/Profile.antt")
     rows, terms = cases(profile, "rows_of"), definitions(profile)
     codes, kinds = cases(profile, "code_of"), cases(profile, "kind_of")
     criticalities, written = cases(profile, "criticality_of"), code_rows()
     clauses = dict((name, clause) for clause, name in re.findall(
-        r"TS 36\.413 clause ([\d.]+)\)\.\n(?:#\[.*\]\n)?(?:pub struct |    )(\w+)", text_of("s1ap_messages/src/pdu.rt")))
+        r"TS 36\.413 clause ([\d.]+)\)\.\n(?:#\[.*\]\n)?(?:pub struct |    )(\w+)", text_of("s1ap_pdus/src/pdu.rt")))
     found = {}
     for name, code in codes.items():
         elements = element_rows(terms[rows[name]])
@@ -201,11 +201,11 @@ def s1ap_elements():
     known = definitions(text_of("s1ap_elements/specs/Formats.antt"))
     known["octet_string"] = "octet_string"
     forms, types = {}, {}
-    for name, term in definitions(text_of("s1ap_messages/specs/Profile.antt")).items():
+    for name, term in definitions(text_of("s1ap_pdus/specs/Profile.antt")).items():
         while isinstance(term, list) and term[0] == "ie":
             forms.setdefault(term[1], set()).add(form(term[4], known))
             term = term[5]
-    for named, kind in re.findall(r"(?:Needed|Optional|Unkept)<(\d+), \w+, (\w+)", texts_of("s1ap_messages")):
+    for named, kind in re.findall(r"(?:Needed|Optional|Unkept)<(\d+), \w+, (\w+)", texts_of("s1ap_pdus")):
         types.setdefault(named, set()).add(kind)
     return {named: (" and ".join(sorted(types[named])), " and ".join(sorted(forms[named]))) for named in forms}
 
@@ -387,11 +387,11 @@ LIMITS = {
     "NAS COUNTs of a context and direction": ("nas_security/src/counts.rt", r"COUNT_LIMIT: u32 = (.*);"),
     "ticks of the clock": ("mme_core/src/mme.rt", r"LAST_TICK: u64 = (.*);"),
     "octets of a string or an open type": ("per_bits/src/open.rt", r"LONG_END: usize = (.*);"),
-    "octets of an S1AP message that is sent": ("s1ap_messages/specs/Pdus.antt", r"longest = (\d+)"),
-    "octets of a trace's line": ("trace_text/src/line.rt", r"LONGEST_LINE: usize = (.*);"),
-    "ticks of a trace's line": ("trace_text/src/fields.rt", r"number\(text, 1, (1_000_000)\)"),
-    "bits a second of an aggregate bit rate": ("trace_text/src/fields.rt", r"number\(text, 1, (10_000_000_000)\)"),
-    "octets of an access point name": ("trace_text/src/values.rt", r"text\.len\(\) > (\d+)"),
+    "octets of an S1AP message that is sent": ("s1ap_pdus/specs/Pdus.antt", r"longest = (\d+)"),
+    "octets of a trace's line": ("trace_words/src/line.rt", r"LONGEST_LINE: usize = (.*);"),
+    "ticks of a trace's line": ("trace_words/src/fields.rt", r"number\(text, 1, (1_000_000)\)"),
+    "bits a second of an aggregate bit rate": ("trace_words/src/fields.rt", r"number\(text, 1, (10_000_000_000)\)"),
+    "octets of an access point name": ("trace_words/src/values.rt", r"text\.len\(\) > (\d+)"),
     "reads of a run": ("trace_player/src/watched.rt", r"MOST_TURNS: u64 = (.*);"),
 }
 BELOW = {"octets of a string or an open type"}  # the code has the first that isn't

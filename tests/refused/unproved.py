@@ -16,7 +16,7 @@ from shimmed import HERE, SECONDS, TOP, Ran
 # The allocation that is refused where none is to be.
 NONE = 1999999999
 NAME = "refused_calls"
-USES = ("trace_text mme_core answer_lines trace_player per_bits nas_elements identity_slots mme_vocabulary emm_machine timer_queue "
+USES = ("trace_words mme_core trace_answers trace_player per_bits nas_elements identity_slots mme_types emm_machine timer_queue "
         "association_table sorted_list s1ap_elements")
 
 

@@ -8,7 +8,7 @@ use Rattle.per_bits.specs.Written.{each_fits, number_fits, optional_fits}
 use Rattle.s1ap_elements.specs.declared.phone.ListedAssociation.{ListedAssociation}
 use Rattle.s1ap_elements.specs.Formats.{associations_reset, enb_ue_id, listed_association, mme_ue_id}
 use Rattle.s1ap_elements.specs.Phones.{typed_associations_reset, typed_listed_association}
-use Rattle.mme_vocabulary.specs.Listed.{ToReset}
+use Rattle.mme_types.specs.Listed.{ToReset}
 use Rattle.mme_routing.specs.Resets.{items_reset, part_acknowledge}
 use Rattle.written_sizes.specs.SizeLaws.{number_allowed}
 use Rattle.written_sizes.specs.Sizes.{IsShortMessage, in_range, most_octets, most_of_each, most_of_optional}
@@ -40,12 +40,12 @@ enb_few None = omega arith
 enb_few (Some id) = omega arith
 
 item_fits : (a : ListedAssociation) → AssociationInRange a → in_range (item 91 1 listed_association) (typed_listed_association a, tt) ≡ true
-item_fits a h = then_done _ (and_from _ _ (mme_fits a.mme_id h.mme_id) (then_done _ (enb_fits a.enb_id h.enb_id)))
+item_fits a h = then_done _ (and_from _ _ (mme_fits a.mme_ue_id h.mme_ue_id) (then_done _ (enb_fits a.enb_ue_id h.enb_ue_id)))
 
 item_few : (a : ListedAssociation) → most_octets (item 91 1 listed_association) (typed_listed_association a, tt) ≤ 48
 item_few a =
-    let mme : most_of_optional (most_octets mme_ue_id) a.mme_id ≤ 10 = mme_few a.mme_id in
-    let enb : most_of_optional (most_octets enb_ue_id) a.enb_id ≤ 10 = enb_few a.enb_id in
+    let mme : most_of_optional (most_octets mme_ue_id) a.mme_ue_id ≤ 10 = mme_few a.mme_ue_id in
+    let enb : most_of_optional (most_octets enb_ue_id) a.enb_ue_id ≤ 10 = enb_few a.enb_ue_id in
     omega (arith, mme, enb)
 
 -- ---- all items

@@ -14,15 +14,15 @@ use Rattle.s1ap_elements.specs.declared.station.SupportedTa.{SupportedTa}
 use Rattle.s1ap_rows.specs.declared.criticality.Criticality.TheVariants.{Reject, Ignore, Notify}
 use Rattle.s1ap_rows.specs.declared.fault.S1apFault.{S1apFault}
 use Rattle.s1ap_rows.specs.declared.fault.S1apFault.TheVariants.{Syntax, UnknownProcedure, MissingElement, RefusedElement, RepeatedElement, NoMemory}
-use Rattle.s1ap_messages.specs.declared.pdu.Pdu.{Pdu}
-use Rattle.s1ap_messages.specs.Pdus.{encoded}
-use Rattle.mme_vocabulary.specs.declared.connection.Connection.{Connection}
-use Rattle.mme_vocabulary.specs.declared.event.UeBody.TheVariants as bodies
-use Rattle.mme_vocabulary.specs.declared.network.Network.{Network}
-use Rattle.mme_vocabulary.specs.declared.octets.Answer.{Answer}
-use Rattle.mme_vocabulary.specs.Answers.{answer_of}
-use Rattle.mme_vocabulary.specs.declared.stations.StationState.TheVariants.{Ready, Up}
-use Rattle.mme_vocabulary.specs.Listed.{ToReset}
+use Rattle.s1ap_pdus.specs.declared.pdu.Pdu.{Pdu}
+use Rattle.s1ap_pdus.specs.Pdus.{encoded}
+use Rattle.mme_types.specs.declared.connection.Connection.{Connection}
+use Rattle.mme_types.specs.declared.event.UeBody.TheVariants as bodies
+use Rattle.mme_types.specs.declared.network.Network.{Network}
+use Rattle.mme_types.specs.declared.octets.Answer.{Answer}
+use Rattle.mme_types.specs.Answers.{answer_of}
+use Rattle.mme_types.specs.declared.stations.StationState.TheVariants.{Ready, Up}
+use Rattle.mme_types.specs.Listed.{ToReset}
 use Rattle.mme_signalling.specs.Pdus.{downlink, error_indication, is_extended, path_switch_failure, release_command}
 use Rattle.stranger_machine.specs.Machine.{unknown}
 use Rattle.stranger_machine.specs.Turns.{identity_asked, identity_request, refused, released, sent_to}
@@ -133,27 +133,27 @@ module _ (short : ShortIsWritten) where
 -- what written_messages' law says
 pub record TellsPhones : Type 0 where
   pub nas : (k : Connection) (nas : List ℕ) → ConnectionInRange k → IsBrief 15000 nas → IsWritten (downlink k nas)
-  pub release : (id enb_id : ℕ) (c : Cause) → id < 2 ^ 32 → enb_id < 2 ^ 24 → is_extended c ≡ false → IsWritten (release_command id enb_id c)
-  pub indication : (id enb_id : ℕ) (c : Cause) → id < 2 ^ 32 → enb_id < 2 ^ 24 → is_extended c ≡ false → IsWritten (error_indication id enb_id c)
-  pub not_switched : (id enb_id : ℕ) (c : Cause) → id < 2 ^ 32 → enb_id < 2 ^ 24 → is_extended c ≡ false → IsWritten (path_switch_failure id enb_id c)
+  pub release : (id enb_ue_id : ℕ) (c : Cause) → id < 2 ^ 32 → enb_ue_id < 2 ^ 24 → is_extended c ≡ false → IsWritten (release_command id enb_ue_id c)
+  pub indication : (id enb_ue_id : ℕ) (c : Cause) → id < 2 ^ 32 → enb_ue_id < 2 ^ 24 → is_extended c ≡ false → IsWritten (error_indication id enb_ue_id c)
+  pub not_switched : (id enb_ue_id : ℕ) (c : Cause) → id < 2 ^ 32 → enb_ue_id < 2 ^ 24 → is_extended c ≡ false → IsWritten (path_switch_failure id enb_ue_id c)
 
 module _ (tells : TellsPhones) where
   pub unknown_is_answered : UnknownIsAnswered
   unfolding unknown
-  unknown_is_answered m bodies.ReleaseComplete low less = refl
-  unknown_is_answered m bodies.PathSwitch low less = answers m.station _ (tells.not_switched m.mme_id m.enb_id (RadioNetwork UnknownMmeUeS1apId) low less refl)
-  unknown_is_answered m _ low less = answers m.station _ (tells.indication m.mme_id m.enb_id (RadioNetwork UnknownMmeUeS1apId) low less refl)
+  unknown_is_answered m bodies.UeContextReleaseComplete low less = refl
+  unknown_is_answered m bodies.PathSwitch low less = answers m.station _ (tells.not_switched m.mme_ue_id m.enb_ue_id (RadioNetwork UnknownMmeUeS1apId) low less refl)
+  unknown_is_answered m _ low less = answers m.station _ (tells.indication m.mme_ue_id m.enb_ue_id (RadioNetwork UnknownMmeUeS1apId) low less refl)
 
   -- ---- strangers
 
   pub released_is_sent : ReleasedIsSent
   unfolding released
-  released_is_sent k cause ids known = answers k.station _ (tells.release k.id k.enb_id cause ids.id ids.enb_id known)
+  released_is_sent k cause ids known = answers k.station _ (tells.release k.id k.enb_ue_id cause ids.id ids.enb_ue_id known)
 
   pub refused_is_sent : RefusedIsSent
   unfolding refused released
   refused_is_sent k nas ids brief =
-      both k.station (downlink k nas) (release_command k.id k.enb_id (Nas NormalRelease)) (tells.nas k nas ids brief) (tells.release k.id k.enb_id (Nas NormalRelease) ids.id ids.enb_id refl)
+      both k.station (downlink k nas) (release_command k.id k.enb_ue_id (Nas NormalRelease)) (tells.nas k nas ids brief) (tells.release k.id k.enb_ue_id (Nas NormalRelease) ids.id ids.enb_ue_id refl)
 
   pub identity_asked_is_sent : IdentityAskedIsSent
   unfolding identity_asked identity_request

@@ -9,20 +9,20 @@ use Rattle.s1ap_elements.specs.declared.phone.ResetAll.{ResetAll}
 use Rattle.s1ap_elements.specs.declared.phone.ResetType.TheVariants.{All, Part}
 use Rattle.s1ap_elements.specs.declared.station.SupportedTa.{SupportedTa}
 use Rattle.s1ap_rows.specs.declared.fault.S1apFault.{S1apFault}
-use Rattle.s1ap_messages.specs.declared.pdu.Pdu.{Pdu}
-use Rattle.s1ap_messages.specs.declared.pdu.Pdu.TheVariants as pdu
-use Rattle.s1ap_messages.specs.declared.pdu.Reset.{Reset}
-use Rattle.s1ap_messages.specs.Pdus.{decoded, encoded}
+use Rattle.s1ap_pdus.specs.declared.pdu.Pdu.{Pdu}
+use Rattle.s1ap_pdus.specs.declared.pdu.Pdu.TheVariants as pdu
+use Rattle.s1ap_pdus.specs.declared.pdu.Reset.{Reset}
+use Rattle.s1ap_pdus.specs.Pdus.{decoded, encoded}
 use Rattle.identity_slots.specs.declared.profile.Profile.{Profile}
-use Rattle.mme_vocabulary.specs.declared.connection.Connection.{Connection}
-use Rattle.mme_vocabulary.specs.declared.event.UeBody.{UeBody}
-use Rattle.mme_vocabulary.specs.declared.event.UeBody.TheVariants as bodies
-use Rattle.mme_vocabulary.specs.declared.event.UeMessage.{UeMessage}
-use Rattle.mme_vocabulary.specs.declared.network.Network.{Network}
-use Rattle.mme_vocabulary.specs.declared.octets.Answer.{Answer}
-use Rattle.mme_vocabulary.specs.declared.stations.StationState.{StationState}
-use Rattle.mme_vocabulary.specs.declared.stations.StationState.TheVariants.{Ready}
-use Rattle.mme_vocabulary.specs.Listed.{ToReset}
+use Rattle.mme_types.specs.declared.connection.Connection.{Connection}
+use Rattle.mme_types.specs.declared.event.UeBody.{UeBody}
+use Rattle.mme_types.specs.declared.event.UeBody.TheVariants as bodies
+use Rattle.mme_types.specs.declared.event.UeMessage.{UeMessage}
+use Rattle.mme_types.specs.declared.network.Network.{Network}
+use Rattle.mme_types.specs.declared.octets.Answer.{Answer}
+use Rattle.mme_types.specs.declared.stations.StationState.{StationState}
+use Rattle.mme_types.specs.declared.stations.StationState.TheVariants.{Ready}
+use Rattle.mme_types.specs.Listed.{ToReset}
 use Rattle.mme_signalling.specs.Pdus.{downlink, error_indication, is_extended, path_switch_failure, release_command}
 use Rattle.stranger_machine.specs.Machine.{unknown}
 use Rattle.stranger_machine.specs.Turns.{identity_asked, identity_request, refused, released}
@@ -75,27 +75,27 @@ IncompatibleIsAnswered = (e : ℕ) → AnswersWith e (indication (Protocol Messa
 
 -- all but UE CONTEXT RELEASE COMPLETE are answered (TS 36.413 clauses 10.6 and 8.4.4.3)
 abbrev pub IsUnknownAnswered : UeMessage (List ℕ) → UeBody (List ℕ) → Type 0
-IsUnknownAnswered m bodies.ReleaseComplete = unknown bodies.ReleaseComplete m ≡ []
+IsUnknownAnswered m bodies.UeContextReleaseComplete = unknown bodies.UeContextReleaseComplete m ≡ []
 IsUnknownAnswered m bodies.PathSwitch =
-    AnswersWith m.station (path_switch_failure m.mme_id m.enb_id (RadioNetwork UnknownMmeUeS1apId)) (unknown bodies.PathSwitch m)
+    AnswersWith m.station (path_switch_failure m.mme_ue_id m.enb_ue_id (RadioNetwork UnknownMmeUeS1apId)) (unknown bodies.PathSwitch m)
 IsUnknownAnswered m body =
-    AnswersWith m.station (error_indication m.mme_id m.enb_id (RadioNetwork UnknownMmeUeS1apId)) (unknown body m)
+    AnswersWith m.station (error_indication m.mme_ue_id m.enb_ue_id (RadioNetwork UnknownMmeUeS1apId)) (unknown body m)
 
 abbrev pub UnknownIsAnswered : Type 0
 UnknownIsAnswered =
-    (m : UeMessage (List ℕ)) (body : UeBody (List ℕ)) → m.mme_id < 2 ^ 32 → m.enb_id < 2 ^ 24 → IsUnknownAnswered m body
+    (m : UeMessage (List ℕ)) (body : UeBody (List ℕ)) → m.mme_ue_id < 2 ^ 32 → m.enb_ue_id < 2 ^ 24 → IsUnknownAnswered m body
 
 -- ---- strangers
 
 abbrev pub ReleasedIsSent : Type 0
 ReleasedIsSent =
     (k : Connection) (cause : Cause) → ConnectionInRange k → is_extended cause ≡ false
-    → AnswersWith k.station (release_command k.id k.enb_id cause) (released k cause)
+    → AnswersWith k.station (release_command k.id k.enb_ue_id cause) (released k cause)
 
 abbrev pub RefusedIsSent : Type 0
 RefusedIsSent =
     (k : Connection) (nas : List ℕ) → ConnectionInRange k → IsBrief 15000 nas
-    → AnswersWithBoth k.station (downlink k nas) (release_command k.id k.enb_id (Nas NormalRelease)) (refused k nas)
+    → AnswersWithBoth k.station (downlink k nas) (release_command k.id k.enb_ue_id (Nas NormalRelease)) (refused k nas)
 
 abbrev pub IdentityAskedIsSent : Type 0
 IdentityAskedIsSent = (k : Connection) → ConnectionInRange k → AnswersWith k.station (downlink k identity_request) (identity_asked k)

@@ -2,7 +2,7 @@
 use Rattle.std.specs.Prelude.{ℕ, ◌^◌, ◌<◌, ◌≤◌, length, Option, Some, None}
 use Rattle.std.specs.List.{AllByRecursion}
 use Rattle.s1ap_elements.specs.declared.phone.ListedAssociation.{ListedAssociation}
-use Rattle.mme_vocabulary.specs.Listed.{ToReset}
+use Rattle.mme_types.specs.Listed.{ToReset}
 
 -- an id, where it is given
 abbrev pub IsBelow : ℕ → Option ℕ → Type 0
@@ -10,8 +10,8 @@ IsBelow bound None = Unit {0}
 IsBelow bound (Some id) = id < bound
 
 pub record AssociationInRange (a : ListedAssociation) : Type 0 where
-  pub mme_id : IsBelow (2 ^ 32) a.mme_id
-  pub enb_id : IsBelow (2 ^ 24) a.enb_id
+  pub mme_ue_id : IsBelow (2 ^ 32) a.mme_ue_id
+  pub enb_ue_id : IsBelow (2 ^ 24) a.enb_ue_id
 
 pub record ListInRange (items : ToReset) : Type 0 where
   pub some : 1 ≤ length items

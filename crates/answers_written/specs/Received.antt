@@ -1,13 +1,13 @@
 -- What a station's octets tell of phones is in range: the ids, the NAS octets and the tracking area, and the lists of a RESET.
 use Rattle.std.specs.Prelude.{◌≡◌, ℕ, List, Some, Ok}
 use Rattle.s1ap_elements.specs.declared.phone.ResetType.TheVariants.{Part}
-use Rattle.s1ap_messages.specs.declared.pdu.InitialUeMessage.{InitialUeMessage}
-use Rattle.s1ap_messages.specs.declared.pdu.Pdu.{Pdu}
-use Rattle.s1ap_messages.specs.declared.pdu.Pdu.TheVariants as pdu
-use Rattle.s1ap_messages.specs.declared.pdu.Reset.{Reset}
-use Rattle.s1ap_messages.specs.Pdus.{decoded}
-use Rattle.mme_vocabulary.specs.declared.event.UeMessage.{UeMessage}
-use Rattle.mme_vocabulary.specs.Listed.{ToReset}
+use Rattle.s1ap_pdus.specs.declared.pdu.InitialUeMessage.{InitialUeMessage}
+use Rattle.s1ap_pdus.specs.declared.pdu.Pdu.{Pdu}
+use Rattle.s1ap_pdus.specs.declared.pdu.Pdu.TheVariants as pdu
+use Rattle.s1ap_pdus.specs.declared.pdu.Reset.{Reset}
+use Rattle.s1ap_pdus.specs.Pdus.{decoded}
+use Rattle.mme_types.specs.declared.event.UeMessage.{UeMessage}
+use Rattle.mme_types.specs.Listed.{ToReset}
 use Rattle.mme_routing.specs.Outcomes.{entry_of, ue_message_in}
 use Rattle.emm_written.specs.InRange.{EntryInRange, MessageInRange}
 use Rattle.answers_written.specs.Ranges.{ListInRange}

@@ -3,7 +3,7 @@
 ghost use Rattle.answers_written.specs.Answered.{FaultIsAnswered, IdentityAskedIsSent, IncompatibleIsAnswered, PartResetIsAnswered, RefusedIsSent, ReleasedIsSent, ResetIsAnswered, SetupIsAnswered, UnknownIsAnswered};
 ghost use Rattle.answers_written.specs.Received.{EntriesAreInRange, MessagesAreInRange, ResetsAreInRange};
 
-use s1ap_messages::decoded_exactly;
+use s1ap_pdus::decoded_exactly;
 use written_messages::phone_messages_are_written;
 use written_sizes::short_messages_are_written;
 

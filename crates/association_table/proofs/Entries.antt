@@ -89,7 +89,7 @@ some_is o h e = subst IsSome (sym e) refl
 
 -- an opening
 pub open_entries : (s t : Slab Held) (a : Association) (key : ℕ) (ps : List SlabPlace) → get s key ≡ None → Every (λ p. IsSome (get s p.key)) ps
-    → Updates s t key (Some (record { owner = a.owner; station = a.station; enb_id = a.enb_id }))
+    → Updates s t key (Some (record { owner = a.owner; station = a.station; enb_ue_id = a.enb_ue_id }))
     → entries_of t (add place_id (record { id = a.id; key = key }) ps) ≡ opened a (entries_of s ps)
 open_entries s t a key ps n h u =
     map-add (entry_at t) association_id (record { id = a.id; key = key }) ps
@@ -97,7 +97,7 @@ open_entries s t a key ps n h u =
     ∙ ap (add association_id a) (same_entries s t key ps u.others (vacant_none s key ps n h))
 
 pub open_kept : (s t : Slab Held) (a : Association) (key : ℕ) (ps : List SlabPlace) (seats chairs : List Seat) → IsTable s ps seats chairs → IsId a → found a.id (entries_of s ps) ≡ None → get s key ≡ None
-    → Updates s t key (Some (record { owner = a.owner; station = a.station; enb_id = a.enb_id }))
+    → Updates s t key (Some (record { owner = a.owner; station = a.station; enb_ue_id = a.enb_ue_id }))
     → IsTable t (add place_id (record { id = a.id; key = key }) ps) (add seat_rank (seat_of station_bench a) seats) (add seat_rank (seat_of number_bench a) chairs)
 open_kept s t a key ps seats chairs k i f n u =
     let p : SlabPlace = record { id = a.id; key = key } in

@@ -151,10 +151,10 @@ gathers_one test a es gs h f t before q =
 
 -- an item with an id, and maybe an eNB UE id
 abbrev named : ℕ → Option ℕ → Listed
-named id n = record { id = Some id; enb_id = n }
+named id n = record { id = Some id; enb_ue_id = n }
 
 other_matched : (e id : ℕ) (n : Option ℕ) (z : Association) → (z.id == id) ≡ false → is_matched e (named id n) z ≡ false
-other_matched e id n z isnt = ap (λ b. (z.station == e) && (b && agrees n z.enb_id)) isnt ∙ and_false (z.station == e)
+other_matched e id n z isnt = ap (λ b. (z.station == e) && (b && agrees n z.enb_ue_id)) isnt ∙ and_false (z.station == e)
 
 pub none_matched : (e id : ℕ) (n : Option ℕ) (es : List Association) → found id es ≡ None → Every (λ z. is_matched e (named id n) z ≡ false) es
 none_matched e id n [] q = tt
@@ -187,11 +187,11 @@ one_matched e id n a es h q so_is =
 pub known_is : (id : ℕ) (a : Association) (es : List Association) → found id es ≡ Some a → found a.id es ≡ Some a
 known_is id a es q = ap (λ i. found i es) (at_key association_id id a es q) ∙ q
 
-pub own_matched : (e id : ℕ) (n : Option ℕ) (a : Association) (es : List Association) → found id es ≡ Some a → is_matched e (named id n) a ≡ (a.station == e && agrees n a.enb_id)
+pub own_matched : (e id : ℕ) (n : Option ℕ) (a : Association) (es : List Association) → found id es ≡ Some a → is_matched e (named id n) a ≡ (a.station == e && agrees n a.enb_ue_id)
 own_matched e id n a es q =
     let own = at_key association_id id a es q in
     let so_is : (a.id == id) ≡ true = grind (arith, nat_tests) in
-    ap (λ b. (a.station == e) && (b && agrees n a.enb_id)) so_is
+    ap (λ b. (a.station == e) && (b && agrees n a.enb_ue_id)) so_is
 
 -- ---- by an eNB UE id
 
@@ -303,12 +303,12 @@ number_ends e n m es old gs q so before p =
 
 -- ---- an item, and items
 
-none_empty : (e : ℕ) (es : List Association) → Every (λ z. is_matched e (record { id = None; enb_id = None }) z ≡ false) es
+none_empty : (e : ℕ) (es : List Association) → Every (λ z. is_matched e (record { id = None; enb_ue_id = None }) z ≡ false) es
 none_empty e [] = tt
 none_empty e (z ∷ zs) = (and_false (z.station == e), none_empty e zs)
 
-pub gathers_empty : (e : ℕ) (es gs : List Association) → Gathers (is_matched e (record { id = None; enb_id = None })) es gs gs
-gathers_empty e es gs = gathers_none (is_matched e (record { id = None; enb_id = None })) es gs (none_empty e es)
+pub gathers_empty : (e : ℕ) (es gs : List Association) → Gathers (is_matched e (record { id = None; enb_ue_id = None })) es gs gs
+gathers_empty e es gs = gathers_none (is_matched e (record { id = None; enb_ue_id = None })) es gs (none_empty e es)
 
 pub none_listed : (e : ℕ) (es : List Association) → filter (is_listed e []) es ≡ []
 none_listed e [] = refl
@@ -339,19 +339,19 @@ gathers_next e xs x es gs hs so q = so (is_listed e xs) q
 
 -- an item that names the number means what it means alone
 abbrev alone : ℕ → Listed
-alone n = record { id = None; enb_id = Some n }
+alone n = record { id = None; enb_ue_id = Some n }
 
-named_means_by : (e n : ℕ) (z : Association) (id number : Option ℕ) → gives_alone n (record { id = id; enb_id = number }) ≡ true → is_matched e (alone n) z ≡ true → matches z (record { id = id; enb_id = number }) ≡ true
+named_means_by : (e n : ℕ) (z : Association) (id number : Option ℕ) → gives_alone n (record { id = id; enb_ue_id = number }) ≡ true → is_matched e (alone n) z ≡ true → matches z (record { id = id; enb_ue_id = number }) ≡ true
 named_means_by e n z (Some id) number q s = absurd (cc)
 named_means_by e n z None None q s = absurd (cc)
 named_means_by e n z None (Some number) q s =
     let same : n ≡ number = eqb-true n number q in
-    let own : (z.enb_id == n) ≡ true = grind (arith, nat_tests) in
-    ap (λ m. z.enb_id == m) (sym same) ∙ own
+    let own : (z.enb_ue_id == n) ≡ true = grind (arith, nat_tests) in
+    ap (λ m. z.enb_ue_id == m) (sym same) ∙ own
 
 named_any_by : (e n : ℕ) (z : Association) (x : Listed) (xs : List Listed) (b : Bool) → gives_alone n x ≡ b → (b || list_any (gives_alone n) xs) ≡ true → is_matched e (alone n) z ≡ true
     → (list_any (gives_alone n) xs ≡ true → list_any (matches z) xs ≡ true) → list_any (matches z) (x ∷ xs) ≡ true
-named_any_by e n z x xs true t r s ih = ap (λ b. b || list_any (matches z) xs) (named_means_by e n z x.id x.enb_id t s)
+named_any_by e n z x xs true t r s ih = ap (λ b. b || list_any (matches z) xs) (named_means_by e n z x.id x.enb_ue_id t s)
 named_any_by e n z x xs false t r s ih = ap (λ b. matches z x || b) (ih r) ∙ or_true (matches z x)
 
 named_any : (e n : ℕ) (z : Association) (xs : List Listed) → list_any (gives_alone n) xs ≡ true → is_matched e (alone n) z ≡ true → list_any (matches z) xs ≡ true

@@ -222,25 +222,25 @@ pub add_over : (a : Association) (es : List Association) → AllOver association
 add_over a [] h = refl
 add_over a (y ∷ ys) h = let lt : a.id < y.id = h.0 in grind (arith, nat_tests)
 
-moved_by : (id station enb_id : ℕ) (a y : Association) (ys : List Association) (b : Bool) → (y.id == id) ≡ b → AllOver association_id y.id ys → cond b (Some y) (found id ys) ≡ Some a
-    → (found id ys ≡ Some a → opened (record { id = id; owner = a.owner; station = station; enb_id = enb_id }) (closed id ys) ≡ moved id station enb_id ys)
-    → opened (record { id = id; owner = a.owner; station = station; enb_id = enb_id }) (cond b ys (y ∷ closed id ys))
-    ≡ cond b (record { id = id; owner = y.owner; station = station; enb_id = enb_id } ∷ ys) (y ∷ moved id station enb_id ys)
-moved_by id station enb_id a y ys true s over q ih =
+moved_by : (id station enb_ue_id : ℕ) (a y : Association) (ys : List Association) (b : Bool) → (y.id == id) ≡ b → AllOver association_id y.id ys → cond b (Some y) (found id ys) ≡ Some a
+    → (found id ys ≡ Some a → opened (record { id = id; owner = a.owner; station = station; enb_ue_id = enb_ue_id }) (closed id ys) ≡ moved id station enb_ue_id ys)
+    → opened (record { id = id; owner = a.owner; station = station; enb_ue_id = enb_ue_id }) (cond b ys (y ∷ closed id ys))
+    ≡ cond b (record { id = id; owner = y.owner; station = station; enb_ue_id = enb_ue_id } ∷ ys) (y ∷ moved id station enb_ue_id ys)
+moved_by id station enb_ue_id a y ys true s over q ih =
     let same : y ≡ a = cc in
     let at_id : y.id ≡ id = grind (arith, nat_tests) in
-    ap (λ (z : Association). opened (record { id = id; owner = z.owner; station = station; enb_id = enb_id }) ys) (sym same)
-    ∙ add_over (record { id = id; owner = y.owner; station = station; enb_id = enb_id }) ys (subst (λ i. AllOver association_id i ys) at_id over)
-moved_by id station enb_id a y ys false s over q ih =
+    ap (λ (z : Association). opened (record { id = id; owner = z.owner; station = station; enb_ue_id = enb_ue_id }) ys) (sym same)
+    ∙ add_over (record { id = id; owner = y.owner; station = station; enb_ue_id = enb_ue_id }) ys (subst (λ i. AllOver association_id i ys) at_id over)
+moved_by id station enb_ue_id a y ys false s over q ih =
     let lt : y.id < id = found_over id y.id a ys over q in
     let rest = ih q in
     let under : nat_lt y.id id ≡ true = grind (arith, nat_tests) in
     rw under (ap (λ zs. y ∷ zs) rest)
 
-pub moved_is : (id station enb_id : ℕ) (a : Association) (es : List Association) → Rising association_id es → found id es ≡ Some a
-    → opened (record { id = id; owner = a.owner; station = station; enb_id = enb_id }) (closed id es) ≡ moved id station enb_id es
-moved_is id station enb_id a [] h q = absurd (cc)
-moved_is id station enb_id a (y ∷ ys) h q = moved_by id station enb_id a y ys (y.id == id) refl h.0 q (moved_is id station enb_id a ys h.1)
+pub moved_is : (id station enb_ue_id : ℕ) (a : Association) (es : List Association) → Rising association_id es → found id es ≡ Some a
+    → opened (record { id = id; owner = a.owner; station = station; enb_ue_id = enb_ue_id }) (closed id es) ≡ moved id station enb_ue_id es
+moved_is id station enb_ue_id a [] h q = absurd (cc)
+moved_is id station enb_ue_id a (y ∷ ys) h q = moved_by id station enb_ue_id a y ys (y.id == id) refl h.0 q (moved_is id station enb_ue_id a ys h.1)
 
 -- ---- the answer of the search
 

@@ -12,7 +12,7 @@ is_matched e item a = a.station == e && matches a item
 
 -- an association of the station with the eNB UE id
 abbrev pub is_numbered : ℕ → ℕ → Association → Bool
-is_numbered e n a = a.station == e && a.enb_id == n
+is_numbered e n a = a.station == e && a.enb_ue_id == n
 
 -- the first of them whose id is at least the number
 abbrev pub first_numbered : ℕ → ℕ → ℕ → List Association → Option Association
@@ -33,7 +33,7 @@ GathersNext e items item es old new = old ≡ filter (is_listed e items) es → 
 
 -- an item that gives this eNB UE id alone
 abbrev pub gives_alone : ℕ → Listed → Bool
-gives_alone n item = not (is_some item.id) && (is_some item.enb_id && agrees item.enb_id n)
+gives_alone n item = not (is_some item.id) && (is_some item.enb_ue_id && agrees item.enb_ue_id n)
 
 -- the entries without those
 abbrev pub closed_all : List Association → List Association → List Association

@@ -15,12 +15,12 @@ abbrev pub place_key : SlabPlace → ℕ
 place_key p = p.key
 
 abbrev pub or_blank : Option Held → Held
-or_blank None = record { owner = Stranger; station = 0; enb_id = 0 }
+or_blank None = record { owner = Stranger; station = 0; enb_ue_id = 0 }
 or_blank (Some h) = h
 
 -- the association at a place
 abbrev pub with_id : ℕ → Held → Association
-with_id id h = record { id = id; owner = h.owner; station = h.station; enb_id = h.enb_id }
+with_id id h = record { id = id; owner = h.owner; station = h.station; enb_ue_id = h.enb_ue_id }
 
 abbrev pub entry_at : Slab Held → SlabPlace → Association
 entry_at s p = with_id p.id (or_blank (get s p.key))
@@ -36,7 +36,7 @@ abbrev pub bench_at : ℕ → ℕ → ℕ
 bench_at e n = e * 2 ^ 32 + n
 
 abbrev pub number_bench : Association → ℕ
-number_bench a = bench_at a.station a.enb_id
+number_bench a = bench_at a.station a.enb_ue_id
 
 abbrev pub seat_of : (Association → ℕ) → Association → Seat
 seat_of bench a = record { bench = bench a; id = a.id }
@@ -51,7 +51,7 @@ abbrev pub seats_of : (Association → ℕ) → List Association → List Seat
 seats_of bench es = map (seat_of bench) (ordered (seating bench) es)
 
 abbrev pub IsId : Association → Type 0
-IsId a = (a.id < 2 ^ 32) × (a.enb_id < 2 ^ 32)
+IsId a = (a.id < 2 ^ 32) × (a.enb_ue_id < 2 ^ 32)
 
 pub record IsTable (s : Slab Held) (by_id : List SlabPlace) (by_station by_number : List Seat) : Type 0 where
   pub rising : Rising place_id by_id

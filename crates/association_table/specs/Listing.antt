@@ -11,7 +11,7 @@ agrees (Some given) id = id == given
 
 -- an item that gives an id, and whose ids are the association's
 abbrev pub matches : Association → Listed → Bool
-matches a item = (is_some item.id || is_some item.enb_id) && (agrees item.id a.id && agrees item.enb_id a.enb_id)
+matches a item = (is_some item.id || is_some item.enb_ue_id) && (agrees item.id a.id && agrees item.enb_ue_id a.enb_ue_id)
 
 -- an association of the station that some item matches
 abbrev pub is_listed : ℕ → List Listed → Association → Bool

@@ -23,7 +23,7 @@ pub struct Association {
     /// The number of the station.
     pub station: u8,
     /// eNB UE S1AP ID (TS 36.413 clause 9.2.3.4).
-    pub enb_id: u32,
+    pub enb_ue_id: u32,
 }
 
 impl Keyed for Association {
@@ -40,7 +40,7 @@ pub struct Listed {
     /// MME UE S1AP ID.
     pub id: Option<u32>,
     /// eNB UE S1AP ID.
-    pub enb_id: Option<u32>,
+    pub enb_ue_id: Option<u32>,
 }
 
 /// Why an association was not opened, in the order of the checks.

@@ -22,10 +22,10 @@ fn agrees(given: Option<u32>, id: u32) -> bool
 }
 
 /// Whether an association is of a station, and has the eNB UE id that may be given.
-fn belongs(association: Association, station: u8, enb_id: Option<u32>) -> bool
-    ensures { result ≡ (association.station == station && agrees enb_id association.enb_id) }
+fn belongs(association: Association, station: u8, enb_ue_id: Option<u32>) -> bool
+    ensures { result ≡ (association.station == station && agrees enb_ue_id association.enb_ue_id) }
 {
-    association.station == station && agrees(enb_id, association.enb_id)
+    association.station == station && agrees(enb_ue_id, association.enb_ue_id)
 }
 
 /// Puts an association among those that were gathered, once.
@@ -46,15 +46,15 @@ fn gather_id(
     associations: &Associations,
     station: u8,
     id: u32,
-    enb_id: Option<u32>,
+    enb_ue_id: Option<u32>,
     gathered: &mut SortedList<Association>,
 ) -> Result<(), AllocError>
-    ensures { OnOk result (Gathers (is_matched station (record { id = Some id; enb_id = enb_id })) associations.now.entries gathered.old.items gathered.new.items) }
+    ensures { OnOk result (Gathers (is_matched station (record { id = Some id; enb_ue_id = enb_ue_id })) associations.now.entries gathered.old.items gathered.new.items) }
 {
     let Some(association) = associations.find(id) else {
         return Ok(());
     };
-    if belongs(association, station, enb_id) {
+    if belongs(association, station, enb_ue_id) {
         gather(association, gathered)?;
     }
     Ok(())
@@ -64,13 +64,13 @@ fn gather_id(
 fn gather_number(
     associations: &Associations,
     station: u8,
-    enb_id: u32,
+    enb_ue_id: u32,
     gathered: &mut SortedList<Association>,
 ) -> Result<(), AllocError>
-    ensures { OnOk result (Gathers (is_numbered station enb_id) associations.now.entries gathered.old.items gathered.new.items) }
+    ensures { OnOk result (Gathers (is_numbered station enb_ue_id) associations.now.entries gathered.old.items gathered.new.items) }
 {
     let mut least = 0;
-    while let Some(association) = associations.first_numbered(station, enb_id, least) {
+    while let Some(association) = associations.first_numbered(station, enb_ue_id, least) {
         gather(association, gathered)?;
         least = u64::from(association_id(association)) + 1;
     }
@@ -78,17 +78,17 @@ fn gather_number(
 }
 
 /// Whether an item gives this eNB UE id alone.
-fn gives_alone(item: Listed, enb_id: u32) -> bool
-    ensures { result ≡ gives_alone enb_id item }
+fn gives_alone(item: Listed, enb_ue_id: u32) -> bool
+    ensures { result ≡ gives_alone enb_ue_id item }
 {
-    item.id.is_none() && item.enb_id.is_some() && agrees(item.enb_id, enb_id)
+    item.id.is_none() && item.enb_ue_id.is_some() && agrees(item.enb_ue_id, enb_ue_id)
 }
 
 /// Whether one of these items gives this eNB UE id alone: then its associations were gathered.
-fn is_given_alone(enb_id: u32, items: &[Listed]) -> bool
-    ensures { result ≡ list_any (gives_alone enb_id) items.now }
+fn is_given_alone(enb_ue_id: u32, items: &[Listed]) -> bool
+    ensures { result ≡ list_any (gives_alone enb_ue_id) items.now }
 {
-    items.iter().any(|item| gives_alone(*item, enb_id))
+    items.iter().any(|item| gives_alone(*item, enb_ue_id))
 }
 
 /// Gathers the associations of a station with an eNB UE id, unless one of the items before gives it alone.
@@ -96,15 +96,15 @@ fn gather_unnamed(
     associations: &Associations,
     station: u8,
     before: &[Listed],
-    enb_id: u32,
+    enb_ue_id: u32,
     gathered: &mut SortedList<Association>,
 ) -> Result<(), AllocError>
-    ensures { OnOk result (GathersNext station before.now (record { id = None; enb_id = Some enb_id }) associations.now.entries gathered.old.items gathered.new.items) }
+    ensures { OnOk result (GathersNext station before.now (record { id = None; enb_ue_id = Some enb_ue_id }) associations.now.entries gathered.old.items gathered.new.items) }
 {
-    if is_given_alone(enb_id, before) {
+    if is_given_alone(enb_ue_id, before) {
         return Ok(());
     }
-    gather_number(associations, station, enb_id, gathered)
+    gather_number(associations, station, enb_ue_id, gathered)
 }
 
 /// Gathers what an item means, where what those before it mean was gathered.
@@ -118,10 +118,10 @@ fn gather_item(
     ensures { OnOk result (GathersNext station before.now item associations.now.entries gathered.old.items gathered.new.items) }
 {
     if let Some(id) = item.id {
-        return gather_id(associations, station, id, item.enb_id, gathered);
+        return gather_id(associations, station, id, item.enb_ue_id, gathered);
     }
-    match item.enb_id {
-        Some(enb_id) => gather_unnamed(associations, station, before, enb_id, gathered),
+    match item.enb_ue_id {
+        Some(enb_ue_id) => gather_unnamed(associations, station, before, enb_ue_id, gathered),
         None => Ok(()),
     }
 }

@@ -12,7 +12,7 @@ use sorted_list::{Keyed, SortedList};
 pub(crate) struct Held {
     pub(crate) owner: AssociationOwner,
     pub(crate) station: u8,
-    pub(crate) enb_id: u32,
+    pub(crate) enb_ue_id: u32,
 }
 
 /// Where the slab holds the association with an id.
@@ -38,11 +38,11 @@ pub(crate) struct Seat {
 }
 
 /// The bench of an eNB UE id of a station: the station above the 32 bits of the id.
-pub(crate) fn bench_at(station: u8, enb_id: u32) -> u64
-    ensures bench { result ≡ bench_at station enb_id }
-    ensures small { enb_id < 2 ^ 32 }
+pub(crate) fn bench_at(station: u8, enb_ue_id: u32) -> u64
+    ensures bench { result ≡ bench_at station enb_ue_id }
+    ensures small { enb_ue_id < 2 ^ 32 }
 {
-    u64::from(station) * 0x1_0000_0000 + u64::from(enb_id)
+    u64::from(station) * 0x1_0000_0000 + u64::from(enb_ue_id)
 }
 
 /// Where an association sits among those of its station.
@@ -58,10 +58,10 @@ pub(crate) fn station_seat(association: Association) -> Seat
 /// Where an association sits among those of its eNB UE id.
 pub(crate) fn number_seat(association: Association) -> Seat
     ensures seat { result ≡ seat_of number_bench association }
-    ensures small { association.enb_id < 2 ^ 32 }
+    ensures small { association.enb_ue_id < 2 ^ 32 }
 {
     Seat {
-        bench: bench_at(association.station, association.enb_id),
+        bench: bench_at(association.station, association.enb_ue_id),
         id: association.id,
     }
 }

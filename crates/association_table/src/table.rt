@@ -75,7 +75,7 @@ impl Associations {
                 id,
                 owner: held.owner,
                 station: held.station,
-                enb_id: held.enb_id,
+                enb_ue_id: held.enb_ue_id,
             }),
             None => None,
         }
@@ -125,7 +125,7 @@ impl Associations {
         let key = self.slab.insert_reserved(Held {
             owner: association.owner,
             station: association.station,
-            enb_id: association.enb_id,
+            enb_ue_id: association.enb_ue_id,
         });
         self.by_id.insert_reserved(SlabPlace { id, key });
         self.by_station.insert_reserved(station_seat);
@@ -133,8 +133,8 @@ impl Associations {
     }
 
     /// Moves an association to another station and eNB UE id; Unknown where there is none. Takes no memory.
-    pub fn move_to(&mut self, id: u32, station: u8, enb_id: u32) -> Result<(), MoveFault>
-        ensures entries { OnOk result (self.new.entries ≡ moved id station enb_id self.old.entries) }
+    pub fn move_to(&mut self, id: u32, station: u8, enb_ue_id: u32) -> Result<(), MoveFault>
+        ensures entries { OnOk result (self.new.entries ≡ moved id station enb_ue_id self.old.entries) }
         ensures known { IsSome (found id self.old.entries) → IsOk result }
         ensures unknown { found id self.old.entries ≡ None → result ≡ Err Unknown }
         ensures err { OnErr result (self.new ≡ self.old) }
@@ -148,7 +148,7 @@ impl Associations {
             id,
             owner: association.owner,
             station,
-            enb_id,
+            enb_ue_id,
         });
         Ok(())
     }
@@ -192,12 +192,17 @@ impl Associations {
     }
 
     /// The association of a station with an eNB UE id, and with the lowest id of at least `least`.
-    pub(crate) fn first_numbered(&self, station: u8, enb_id: u32, least: u64) -> Option<Association>
+    pub(crate) fn first_numbered(
+        &self,
+        station: u8,
+        enb_ue_id: u32,
+        least: u64,
+    ) -> Option<Association>
         requires { least ≤ 2 ^ 32 }
-        ensures value { result ≡ first_numbered station enb_id least self.now.entries }
+        ensures value { result ≡ first_numbered station enb_ue_id least self.now.entries }
         ensures order { Rising association_id self.now.entries }
     {
-        match first_seat(&self.by_number, bench_at(station, enb_id), least) {
+        match first_seat(&self.by_number, bench_at(station, enb_ue_id), least) {
             Some(id) => self.find(id),
             None => None,
         }

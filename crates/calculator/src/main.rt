@@ -4,11 +4,11 @@
 
 mod usage;
 
-use call_text::{Answer, Call, Fault};
+use calc_tables::Desk;
+use calc_text::{Answer, Call, Fault};
 use std::alloc::Global;
 use std::io::{BufRead, BufReader, ErrorKind};
 use std::{env, io};
-use table_calls::Desk;
 use usage::USAGE;
 
 fn main(rt: HostRuntime) -> io::Result<()> {
@@ -53,7 +53,7 @@ fn answer(alloc: Global, desk: &mut Desk, line: &str) -> Result<String, Fault> {
     let words: Vec<&str> = line.split(" ").collect(alloc)?;
     let call = Call::new(alloc, &words);
     let text = match line.strip_prefix("line ") {
-        Some(text) => value_calls::line_answer(call, text.as_bytes())?,
+        Some(text) => calc_values::line_answer(call, text.as_bytes())?,
         None => object_answer(desk, call)?,
     };
     Ok(text.done()?)
@@ -68,8 +68,8 @@ fn object_answer(desk: &mut Desk, call: Call) -> Answer {
 }
 
 fn plain_answer(call: Call) -> Answer {
-    match s1ap_calls::answer(call) {
-        Err(Fault::NoCall) => value_calls::answer(call),
+    match calc_s1ap::answer(call) {
+        Err(Fault::NoCall) => calc_values::answer(call),
         answer => answer,
     }
 }

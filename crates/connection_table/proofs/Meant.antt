@@ -6,8 +6,8 @@ use Rattle.std.proofs.lemmas.Bool.Decides.{nat_tests}
 use borrow.Author.Tests.{eqb-true}
 use Rattle.per_bits.specs.declared.wrapped.Listed.{Listed}
 use Rattle.s1ap_elements.specs.declared.phone.ListedAssociation.{ListedAssociation}
-use Rattle.mme_vocabulary.specs.declared.connection.Connection.{Connection}
-use Rattle.mme_vocabulary.specs.Listed.{ToReset, matches, is_listed}
+use Rattle.mme_types.specs.declared.connection.Connection.{Connection}
+use Rattle.mme_types.specs.Listed.{ToReset, matches, is_listed}
 use Rattle.sorted_list.specs.Sorted.{Sorted}
 use Rattle.ordered_lists.specs.Ordered.{at, AllOver, Rising}
 use Rattle.ordered_lists.specs.Laws.{at_over, over_more}
@@ -131,30 +131,30 @@ range_all x j y p = grind (arith, nat_tests)
 pair_is : (s i e m : ℕ) → i < 2 ^ 32 → m < 2 ^ 32 → (s * 2 ^ 32 + i == e * 2 ^ 32 + m) ≡ ((s == e) && (m == i))
 pair_is s i e m p q = grind (arith, nat_tests)
 
-there_is : (e : ℕ) (c : Option Connection) → HasIds c → is_between (e * 2 ^ 24) (e * 2 ^ 24 + 2 ^ 24) (option_map (λ k. radio_bench k.station k.enb_id) c) ≡ is_there e c
+there_is : (e : ℕ) (c : Option Connection) → HasIds c → is_between (e * 2 ^ 24) (e * 2 ^ 24 + 2 ^ 24) (option_map (λ k. radio_bench k.station k.enb_ue_id) c) ≡ is_there e c
 there_is e None h = refl
-there_is e (Some k) h = range_all k.station k.enb_id e h.1
+there_is e (Some k) h = range_all k.station k.enb_ue_id e h.1
 
 paged_by : (b : Bool) → is_between 0 1 (if b then Some 0 else None) ≡ b
 paged_by true = refl
 paged_by false = refl
 
-radio_is : (e n : ℕ) (c : Option Connection) → n < 2 ^ 24 → HasIds c → is_between (radio_bench e n) (radio_bench e n + 1) (option_map (λ k. radio_bench k.station k.enb_id) c) ≡ is_item e (record { mme_id = None; enb_id = Some n }) c
+radio_is : (e n : ℕ) (c : Option Connection) → n < 2 ^ 24 → HasIds c → is_between (radio_bench e n) (radio_bench e n + 1) (option_map (λ k. radio_bench k.station k.enb_ue_id) c) ≡ is_item e (record { mme_ue_id = None; enb_ue_id = Some n }) c
 radio_is e n None q h = refl
-radio_is e n (Some k) q h = range_one k.station k.enb_id e n h.1 q
+radio_is e n (Some k) q h = range_one k.station k.enb_ue_id e n h.1 q
 
 ids_are : (e m n : ℕ) (c : Option Connection) → m < 2 ^ 32 → n < 2 ^ 24 → HasIds c
-    → is_between (ids_bench e m n) (ids_bench e m n + 1) (option_map (λ k. ids_bench k.station k.id k.enb_id) c) ≡ is_item e (record { mme_id = Some m; enb_id = Some n }) c
+    → is_between (ids_bench e m n) (ids_bench e m n + 1) (option_map (λ k. ids_bench k.station k.id k.enb_ue_id) c) ≡ is_item e (record { mme_ue_id = Some m; enb_ue_id = Some n }) c
 ids_are e m n None p q h = refl
 ids_are e m n (Some k) p q h =
-    range_one (k.station * 2 ^ 32 + k.id) k.enb_id (e * 2 ^ 32 + m) n h.1 q ∙ ap (λ b. b && (n == k.enb_id)) (pair_is k.station k.id e m h.0 p)
-    ∙ and_and (k.station == e) (m == k.id) (n == k.enb_id)
+    range_one (k.station * 2 ^ 32 + k.id) k.enb_ue_id (e * 2 ^ 32 + m) n h.1 q ∙ ap (λ b. b && (n == k.enb_ue_id)) (pair_is k.station k.id e m h.0 p)
+    ∙ and_and (k.station == e) (m == k.id) (n == k.enb_ue_id)
 
 id_is : (e m : ℕ) (c : Option Connection) → m < 2 ^ 32 → HasIds c
-    → is_between (id_bench e m) (id_bench e m + 2 ^ 24) (option_map (λ k. ids_bench k.station k.id k.enb_id) c) ≡ is_item e (record { mme_id = Some m; enb_id = None }) c
+    → is_between (id_bench e m) (id_bench e m + 2 ^ 24) (option_map (λ k. ids_bench k.station k.id k.enb_ue_id) c) ≡ is_item e (record { mme_ue_id = Some m; enb_ue_id = None }) c
 id_is e m None p h = refl
 id_is e m (Some k) p h =
-    range_all (k.station * 2 ^ 32 + k.id) k.enb_id (e * 2 ^ 32 + m) h.1 ∙ pair_is k.station k.id e m h.0 p ∙ ap (λ b. (k.station == e) && b) (and_true (m == k.id))
+    range_all (k.station * 2 ^ 32 + k.id) k.enb_ue_id (e * 2 ^ 32 + m) h.1 ∙ pair_is k.station k.id e m h.0 p ∙ ap (λ b. (k.station == e) && b) (and_true (m == k.id))
 
 -- the bench of each slot
 pub by_slot : (f : Whereabouts → Option ℕ) (ws : List Whereabouts) (i : ℕ) → f nowhere ≡ None → bench_at i (map f ws) ≡ f (whereabouts_at i ws)
@@ -182,21 +182,21 @@ concerned_held e ws radio ids pages first last t paged there =
 -- ---- an item
 
 pub radio_gathered : (e n : ℕ) (ws : List Whereabouts) (radio ids pages : Sorted Seat) (old new : List GatheredSlot) → IsTable ws radio ids pages → n < 2 ^ 24 → Walks (radio_bench e n) (radio_bench e n + 1) radio old new
-    → Gathers (λ i. is_item e (record { mme_id = None; enb_id = Some n }) (whereabouts_at i ws).connection) old new
+    → Gathers (λ i. is_item e (record { mme_ue_id = None; enb_ue_id = Some n }) (whereabouts_at i ws).connection) old new
 radio_gathered e n ws radio ids pages old new t q so =
-    gathers_same (λ i. is_between (radio_bench e n) (radio_bench e n + 1) (bench_at i (map radio_of ws))) (λ i. is_item e (record { mme_id = None; enb_id = Some n }) (whereabouts_at i ws).connection) old new
+    gathers_same (λ i. is_between (radio_bench e n) (radio_bench e n + 1) (bench_at i (map radio_of ws))) (λ i. is_item e (record { mme_ue_id = None; enb_ue_id = Some n }) (whereabouts_at i ws).connection) old new
     (λ i. ap (is_between (radio_bench e n) (radio_bench e n + 1)) (by_slot radio_of ws i refl) ∙ radio_is e n (whereabouts_at i ws).connection q (t.known i)) (so (map radio_of ws) t.radio)
 
 pub ids_gathered : (e m n : ℕ) (ws : List Whereabouts) (radio ids pages : Sorted Seat) (old new : List GatheredSlot) → IsTable ws radio ids pages → m < 2 ^ 32 → n < 2 ^ 24
-    → Walks (ids_bench e m n) (ids_bench e m n + 1) ids old new → Gathers (λ i. is_item e (record { mme_id = Some m; enb_id = Some n }) (whereabouts_at i ws).connection) old new
+    → Walks (ids_bench e m n) (ids_bench e m n + 1) ids old new → Gathers (λ i. is_item e (record { mme_ue_id = Some m; enb_ue_id = Some n }) (whereabouts_at i ws).connection) old new
 ids_gathered e m n ws radio ids pages old new t p q so =
-    gathers_same (λ i. is_between (ids_bench e m n) (ids_bench e m n + 1) (bench_at i (map ids_of ws))) (λ i. is_item e (record { mme_id = Some m; enb_id = Some n }) (whereabouts_at i ws).connection) old new
+    gathers_same (λ i. is_between (ids_bench e m n) (ids_bench e m n + 1) (bench_at i (map ids_of ws))) (λ i. is_item e (record { mme_ue_id = Some m; enb_ue_id = Some n }) (whereabouts_at i ws).connection) old new
     (λ i. ap (is_between (ids_bench e m n) (ids_bench e m n + 1)) (by_slot ids_of ws i refl) ∙ ids_are e m n (whereabouts_at i ws).connection p q (t.known i)) (so (map ids_of ws) t.ids)
 
 pub id_gathered : (e m : ℕ) (ws : List Whereabouts) (radio ids pages : Sorted Seat) (old new : List GatheredSlot) → IsTable ws radio ids pages → m < 2 ^ 32
-    → Walks (id_bench e m) (id_bench e m + 2 ^ 24) ids old new → Gathers (λ i. is_item e (record { mme_id = Some m; enb_id = None }) (whereabouts_at i ws).connection) old new
+    → Walks (id_bench e m) (id_bench e m + 2 ^ 24) ids old new → Gathers (λ i. is_item e (record { mme_ue_id = Some m; enb_ue_id = None }) (whereabouts_at i ws).connection) old new
 id_gathered e m ws radio ids pages old new t p so =
-    gathers_same (λ i. is_between (id_bench e m) (id_bench e m + 2 ^ 24) (bench_at i (map ids_of ws))) (λ i. is_item e (record { mme_id = Some m; enb_id = None }) (whereabouts_at i ws).connection) old new
+    gathers_same (λ i. is_between (id_bench e m) (id_bench e m + 2 ^ 24) (bench_at i (map ids_of ws))) (λ i. is_item e (record { mme_ue_id = Some m; enb_ue_id = None }) (whereabouts_at i ws).connection) old new
     (λ i. ap (is_between (id_bench e m) (id_bench e m + 2 ^ 24)) (by_slot ids_of ws i refl) ∙ id_is e m (whereabouts_at i ws).connection p (t.known i)) (so (map ids_of ws) t.ids)
 
 -- ---- items
@@ -213,9 +213,9 @@ both_true false b s = absurd (cc)
 
 same_item : (m n : ℕ) (a b : ListedAssociation) → is_same_item a b ≡ true → matches m n a ≡ matches m n b
 same_item m n a b s =
-    let both = both_true (is_same_id a.mme_id b.mme_id) (is_same_id a.enb_id b.enb_id) s in
-    ap (λ (o : Option ℕ). matches m n (record { mme_id = o; enb_id = a.enb_id })) (same_id a.mme_id b.mme_id both.0)
-    ∙ ap (λ (o : Option ℕ). matches m n (record { mme_id = b.mme_id; enb_id = o })) (same_id a.enb_id b.enb_id both.1)
+    let both = both_true (is_same_id a.mme_ue_id b.mme_ue_id) (is_same_id a.enb_ue_id b.enb_ue_id) s in
+    ap (λ (o : Option ℕ). matches m n (record { mme_ue_id = o; enb_ue_id = a.enb_ue_id })) (same_id a.mme_ue_id b.mme_ue_id both.0)
+    ∙ ap (λ (o : Option ℕ). matches m n (record { mme_ue_id = b.mme_ue_id; enb_ue_id = o })) (same_id a.enb_ue_id b.enb_ue_id both.1)
 
 repeated_by : (m n : ℕ) (item : ListedAssociation) (x : Listed ListedAssociation 91 0) (xs : ToReset) (b : Bool) → is_same_item item x.value ≡ b → (b || list_any (λ other. is_same_item item other.value) xs) ≡ true → matches m n item ≡ true
     → (list_any (λ other. is_same_item item other.value) xs ≡ true → is_listed m n xs ≡ true) → is_listed m n (x ∷ xs) ≡ true
@@ -226,16 +226,16 @@ repeated : (m n : ℕ) (item : ListedAssociation) (xs : ToReset) → list_any (�
 repeated m n item [] r t = absurd (cc)
 repeated m n item (x ∷ xs) r t = repeated_by m n item x xs (is_same_item item x.value) refl r t (λ q. repeated m n item xs q t)
 
-again_by : (e : ℕ) (item : ListedAssociation) (xs : ToReset) (k : Connection) (b : Bool) → matches k.id k.enb_id item ≡ b → list_any (λ other. is_same_item item other.value) xs ≡ true
-    → ((k.station == e) && is_listed k.id k.enb_id xs) ≡ (((k.station == e) && is_listed k.id k.enb_id xs) || ((k.station == e) && b))
+again_by : (e : ℕ) (item : ListedAssociation) (xs : ToReset) (k : Connection) (b : Bool) → matches k.id k.enb_ue_id item ≡ b → list_any (λ other. is_same_item item other.value) xs ≡ true
+    → ((k.station == e) && is_listed k.id k.enb_ue_id xs) ≡ (((k.station == e) && is_listed k.id k.enb_ue_id xs) || ((k.station == e) && b))
 again_by e item xs k true s r =
-    let all = repeated k.id k.enb_id item xs r s in
-    sym (and_or (k.station == e) (is_listed k.id k.enb_id xs) true ∙ ap (λ b. (k.station == e) && b) (or_true (is_listed k.id k.enb_id xs) ∙ sym all))
-again_by e item xs k false s r = or_false ((k.station == e) && is_listed k.id k.enb_id xs) ∙ ap (λ b. ((k.station == e) && is_listed k.id k.enb_id xs) || b) (sym (and_false (k.station == e)))
+    let all = repeated k.id k.enb_ue_id item xs r s in
+    sym (and_or (k.station == e) (is_listed k.id k.enb_ue_id xs) true ∙ ap (λ b. (k.station == e) && b) (or_true (is_listed k.id k.enb_ue_id xs) ∙ sym all))
+again_by e item xs k false s r = or_false ((k.station == e) && is_listed k.id k.enb_ue_id xs) ∙ ap (λ b. ((k.station == e) && is_listed k.id k.enb_ue_id xs) || b) (sym (and_false (k.station == e)))
 
 again_at : (e : ℕ) (item : ListedAssociation) (xs : ToReset) (c : Option Connection) → list_any (λ other. is_same_item item other.value) xs ≡ true → is_meant_at e xs c ≡ (is_meant_at e xs c || is_item e item c)
 again_at e item xs None r = refl
-again_at e item xs (Some k) r = again_by e item xs k (matches k.id k.enb_id item) refl r
+again_at e item xs (Some k) r = again_by e item xs k (matches k.id k.enb_ue_id item) refl r
 
 pub repeated_gathered : (e : ℕ) (item : ListedAssociation) (xs : ToReset) (ws : List Whereabouts) (gs : List GatheredSlot) → list_any (λ other. is_same_item item other.value) xs ≡ true → GathersNext e xs item ws gs gs
 repeated_gathered e item xs ws gs r h =

@@ -1,8 +1,8 @@
 -- How slots are gathered from the lists.
 use Rattle.std.specs.Prelude.{◌≡◌, ℕ, ◌<◌, ◌≤◌, List, Option, Some, None, is_some, Bool, true, false, ◌==◌, ◌&&◌, ◌||◌, nat_le, nat_lt}
 use Rattle.identity_slots.specs.Ids.{slots}
-use Rattle.mme_vocabulary.specs.declared.connection.Connection.{Connection}
-use Rattle.mme_vocabulary.specs.Listed.{ToReset, matches}
+use Rattle.mme_types.specs.declared.connection.Connection.{Connection}
+use Rattle.mme_types.specs.Listed.{ToReset, matches}
 use Rattle.s1ap_elements.specs.declared.phone.ListedAssociation.{ListedAssociation}
 use Rattle.ordered_lists.specs.Ordered.{at, Rising}
 use Rattle.connection_table.specs.declared.whereabouts.Whereabouts.{Whereabouts}
@@ -42,7 +42,7 @@ pub record IsFirst (from end : ℕ) (seats : List Seat) (s : Seat) : Type 0 wher
 -- the connection is at the station, and has each id that the item gives
 abbrev pub is_item : ℕ → ListedAssociation → Option Connection → Bool
 is_item e item None = false
-is_item e item (Some k) = k.station == e && matches k.id k.enb_id item
+is_item e item (Some k) = k.station == e && matches k.id k.enb_ue_id item
 
 -- where those that items mean were gathered, those that a next item means are now, too
 abbrev pub GathersNext : ℕ → ToReset → ListedAssociation → List Whereabouts → List GatheredSlot → List GatheredSlot → Type 0
@@ -56,4 +56,4 @@ is_same_id (Some m) None = false
 is_same_id (Some m) (Some n) = m == n
 
 abbrev pub is_same_item : ListedAssociation → ListedAssociation → Bool
-is_same_item item other = is_same_id item.mme_id other.mme_id && is_same_id item.enb_id other.enb_id
+is_same_item item other = is_same_id item.mme_ue_id other.mme_ue_id && is_same_id item.enb_ue_id other.enb_ue_id

@@ -1,7 +1,7 @@
 -- The lists by which slots are found.
 use Rattle.std.specs.Prelude.{◌≡◌, ℕ, ◌+◌, ◌*◌, ◌^◌, ◌<◌, ◌≤◌, List, length, map, slice_index_or, sum_by, Option, Some, None, is_some, option_map, Bool, true, false, ◌==◌, if◌then◌else◌}
 use Rattle.identity_slots.specs.Ids.{slots}
-use Rattle.mme_vocabulary.specs.declared.connection.Connection.{Connection}
+use Rattle.mme_types.specs.declared.connection.Connection.{Connection}
 use Rattle.sorted_list.specs.Sorted.{Sorted}
 use Rattle.ordered_lists.specs.Ordered.{at, Rising}
 use Rattle.connection_table.specs.declared.whereabouts.Whereabouts.{Whereabouts}
@@ -28,10 +28,10 @@ ids_bench e m n = id_bench e m + n
 
 -- where a slot sits: by its phone's eNB UE id, by both ids, and where a paging is to be sent again
 abbrev pub radio_of : Whereabouts → Option ℕ
-radio_of w = option_map (λ k. radio_bench k.station k.enb_id) w.connection
+radio_of w = option_map (λ k. radio_bench k.station k.enb_ue_id) w.connection
 
 abbrev pub ids_of : Whereabouts → Option ℕ
-ids_of w = option_map (λ k. ids_bench k.station k.id k.enb_id) w.connection
+ids_of w = option_map (λ k. ids_bench k.station k.id k.enb_ue_id) w.connection
 
 abbrev pub page_of : Whereabouts → Option ℕ
 page_of w = if w.is_paged then Some 0 else None
@@ -39,7 +39,7 @@ page_of w = if w.is_paged then Some 0 else None
 -- ids are so small that no two of them make one bench
 abbrev pub HasIds : Option Connection → Type 0
 HasIds None = Unit {0}
-HasIds (Some k) = (k.id < 2 ^ 32) × (k.enb_id < 2 ^ 24)
+HasIds (Some k) = (k.id < 2 ^ 32) × (k.enb_ue_id < 2 ^ 24)
 
 -- the bench of a slot
 abbrev pub bench_at : ℕ → List (Option ℕ) → Option ℕ

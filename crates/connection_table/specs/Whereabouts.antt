@@ -1,7 +1,7 @@
 -- Where phones are, and which slots an event of a station concerns.
 use Rattle.std.specs.Prelude.{ℕ, ◌+◌, List, [], ◌∷◌, Option, Some, None, Bool, false, ◌==◌, ◌&&◌, ◌||◌, if◌then◌else◌}
-use Rattle.mme_vocabulary.specs.declared.connection.Connection.{Connection}
-use Rattle.mme_vocabulary.specs.Listed.{ToReset, is_listed}
+use Rattle.mme_types.specs.declared.connection.Connection.{Connection}
+use Rattle.mme_types.specs.Listed.{ToReset, is_listed}
 use Rattle.connection_table.specs.declared.whereabouts.Whereabouts.{Whereabouts}
 
 -- no connection, and no paging that is to be sent again
@@ -21,7 +21,7 @@ is_concerned e w = w.is_paged || is_there e w.connection
 -- a RESET of a part of the station means the connection (TS 36.413 clause 8.7.1.2.2)
 abbrev pub is_meant_at : ℕ → ToReset → Option Connection → Bool
 is_meant_at e items None = false
-is_meant_at e items (Some k) = k.station == e && is_listed k.id k.enb_id items
+is_meant_at e items (Some k) = k.station == e && is_listed k.id k.enb_ue_id items
 
 abbrev pub is_meant : ℕ → ToReset → Whereabouts → Bool
 is_meant e items w = is_meant_at e items w.connection

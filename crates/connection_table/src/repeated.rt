@@ -7,7 +7,7 @@ ghost use Rattle.connection_table.specs.Gathering.{is_same_id, is_same_item};
 use per_bits::Listed;
 use s1ap_elements::{EnbUeId, ListedAssociation, MmeUeId};
 
-fn is_same_mme_id(given: Option<MmeUeId>, other: Option<MmeUeId>) -> bool
+fn is_same_mme_ue_id(given: Option<MmeUeId>, other: Option<MmeUeId>) -> bool
     ensures { result ≡ is_same_id given other }
 {
     match given {
@@ -19,7 +19,7 @@ fn is_same_mme_id(given: Option<MmeUeId>, other: Option<MmeUeId>) -> bool
     }
 }
 
-fn is_same_enb_id(given: Option<EnbUeId>, other: Option<EnbUeId>) -> bool
+fn is_same_enb_ue_id(given: Option<EnbUeId>, other: Option<EnbUeId>) -> bool
     ensures { result ≡ is_same_id given other }
 {
     match given {
@@ -34,7 +34,8 @@ fn is_same_enb_id(given: Option<EnbUeId>, other: Option<EnbUeId>) -> bool
 fn is_same_item(item: &ListedAssociation, other: &ListedAssociation) -> bool
     ensures { result ≡ is_same_item item.now other.now }
 {
-    is_same_mme_id(item.mme_id, other.mme_id) && is_same_enb_id(item.enb_id, other.enb_id)
+    is_same_mme_ue_id(item.mme_ue_id, other.mme_ue_id)
+        && is_same_enb_ue_id(item.enb_ue_id, other.enb_ue_id)
 }
 
 /// Whether an equal item is among these.

@@ -38,12 +38,12 @@ impl Keyed for Seat {
 }
 
 /// The bench of an eNB UE id at a station.
-pub(crate) fn radio_bench(station: StationNumber, enb_id: EnbUeId) -> u64
-    ensures bench { result ≡ radio_bench station enb_id }
-    ensures small { enb_id < 2 ^ 24 }
+pub(crate) fn radio_bench(station: StationNumber, enb_ue_id: EnbUeId) -> u64
+    ensures bench { result ≡ radio_bench station enb_ue_id }
+    ensures small { enb_ue_id < 2 ^ 24 }
     ensures fits { result < 2 ^ 31 }
 {
-    u64::from(station.get()) * ENB_IDS + enb_id.get()
+    u64::from(station.get()) * ENB_IDS + enb_ue_id.get()
 }
 
 /// The first bench of an MME UE id at a station: it has one for each eNB UE id.
@@ -56,13 +56,13 @@ pub(crate) fn id_bench(station: StationNumber, id: AssociationId) -> u64
 }
 
 /// The bench of an MME UE id and an eNB UE id at a station.
-pub(crate) fn ids_bench(station: StationNumber, id: AssociationId, enb_id: EnbUeId) -> u64
-    ensures bench { result ≡ ids_bench station id enb_id }
+pub(crate) fn ids_bench(station: StationNumber, id: AssociationId, enb_ue_id: EnbUeId) -> u64
+    ensures bench { result ≡ ids_bench station id enb_ue_id }
     ensures id { id < 2 ^ 32 }
-    ensures enb_id { enb_id < 2 ^ 24 }
+    ensures enb_ue_id { enb_ue_id < 2 ^ 24 }
     ensures fits { result < 2 ^ 63 }
 {
-    id_bench(station, id) + enb_id.get()
+    id_bench(station, id) + enb_ue_id.get()
 }
 
 /// Where a slot sits by its phone's eNB UE id.
@@ -70,7 +70,7 @@ pub(crate) fn radio_of(whereabouts: &Whereabouts) -> Option<u64>
     ensures { result ≡ radio_of whereabouts.now }
 {
     match whereabouts.connection {
-        Some(connection) => Some(radio_bench(connection.station, connection.enb_id)),
+        Some(connection) => Some(radio_bench(connection.station, connection.enb_ue_id)),
         None => None,
     }
 }
@@ -82,7 +82,7 @@ pub(crate) fn ids_of(whereabouts: &Whereabouts) -> Option<u64>
 {
     match whereabouts.connection {
         Some(connection) => {
-            let bench = ids_bench(connection.station, connection.id, connection.enb_id);
+            let bench = ids_bench(connection.station, connection.id, connection.enb_ue_id);
             Some(bench)
         }
         None => None,

@@ -150,12 +150,12 @@ impl Connections {
     ) -> Result<(), AllocError>
         ensures { OnOk result (Gathers (λ i. is_item station item (whereabouts_at i self.now).connection) gathered.old.items gathered.new.items) }
     {
-        if let Some(id) = item.mme_id {
+        if let Some(id) = item.mme_ue_id {
             let id = AssociationId::new(id.get() as u32);
-            return self.gather_id(station, id, item.enb_id, gathered);
+            return self.gather_id(station, id, item.enb_ue_id, gathered);
         }
-        match item.enb_id {
-            Some(enb_id) => self.gather_radio(station, enb_id, gathered),
+        match item.enb_ue_id {
+            Some(enb_ue_id) => self.gather_radio(station, enb_ue_id, gathered),
             None => Ok(()),
         }
     }
@@ -165,13 +165,13 @@ impl Connections {
         &self,
         station: StationNumber,
         id: AssociationId,
-        enb_id: Option<EnbUeId>,
+        enb_ue_id: Option<EnbUeId>,
         gathered: &mut SortedList<GatheredSlot>,
     ) -> Result<(), AllocError>
-        ensures { OnOk result (Gathers (λ i. is_item station (record { mme_id = Some id; enb_id = enb_id }) (whereabouts_at i self.now).connection) gathered.old.items gathered.new.items) }
+        ensures { OnOk result (Gathers (λ i. is_item station (record { mme_ue_id = Some id; enb_ue_id = enb_ue_id }) (whereabouts_at i self.now).connection) gathered.old.items gathered.new.items) }
     {
-        if let Some(enb_id) = enb_id {
-            let bench = ids_bench(station, id, enb_id);
+        if let Some(enb_ue_id) = enb_ue_id {
+            let bench = ids_bench(station, id, enb_ue_id);
             return gather_between(&self.by_ids, bench, bench + 1, gathered);
         }
         let bench = id_bench(station, id);
@@ -182,12 +182,12 @@ impl Connections {
     fn gather_radio(
         &self,
         station: StationNumber,
-        enb_id: EnbUeId,
+        enb_ue_id: EnbUeId,
         gathered: &mut SortedList<GatheredSlot>,
     ) -> Result<(), AllocError>
-        ensures { OnOk result (Gathers (λ i. is_item station (record { mme_id = None; enb_id = Some enb_id }) (whereabouts_at i self.now).connection) gathered.old.items gathered.new.items) }
+        ensures { OnOk result (Gathers (λ i. is_item station (record { mme_ue_id = None; enb_ue_id = Some enb_ue_id }) (whereabouts_at i self.now).connection) gathered.old.items gathered.new.items) }
     {
-        let bench = radio_bench(station, enb_id);
+        let bench = radio_bench(station, enb_ue_id);
         gather_between(&self.by_radio, bench, bench + 1, gathered)
     }
 }

@@ -2,7 +2,7 @@
 
 ghost use Rattle.std.specs.Prelude.{◌≡◌, ◌↔◌, true};
 
-use mme_vocabulary::Connection;
+use mme_types::Connection;
 
 /// Where a slot's phone is: its connection, if it has one, and whether a paging for it is to be sent again.
 #[derive(Clone, Copy)]
@@ -18,7 +18,7 @@ fn is_same_connection(old: &Option<Connection>, new: &Option<Connection>) -> boo
     match old {
         Some(old) => match new {
             Some(new) => {
-                old.id == new.id && old.station == new.station && old.enb_id == new.enb_id
+                old.id == new.id && old.station == new.station && old.enb_ue_id == new.enb_ue_id
             }
             None => false,
         },

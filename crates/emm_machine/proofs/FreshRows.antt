@@ -14,12 +14,12 @@ use Rattle.nas_security.specs.Context.{Mac}
 use Rattle.nas_security.specs.Counts.{first_after}
 use Rattle.s1ap_elements.specs.declared.cause.Cause.{Cause}
 use Rattle.s1ap_elements.specs.declared.phone.Tai.{Tai}
-use Rattle.s1ap_messages.specs.declared.pdu.Pdu.{Pdu}
+use Rattle.s1ap_pdus.specs.declared.pdu.Pdu.{Pdu}
 use Rattle.emm_state.specs.declared.draft.Draft.{Draft}
-use Rattle.mme_vocabulary.specs.declared.event.Entry.{Entry}
-use Rattle.mme_vocabulary.specs.declared.event.UeBody.{UeBody}
-use Rattle.mme_vocabulary.specs.declared.event.UeBody.TheVariants as bodies
-use Rattle.mme_vocabulary.specs.declared.event.UeMessage.{UeMessage}
+use Rattle.mme_types.specs.declared.event.Entry.{Entry}
+use Rattle.mme_types.specs.declared.event.UeBody.{UeBody}
+use Rattle.mme_types.specs.declared.event.UeBody.TheVariants as bodies
+use Rattle.mme_types.specs.declared.event.UeMessage.{UeMessage}
 use Rattle.mme_signalling.specs.declared.cause.EmmCause.{EmmCause}
 use Rattle.mme_signalling.specs.declared.heard.Heard.{Heard}
 use Rattle.mme_signalling.specs.declared.heard.Heard.TheVariants as heards
@@ -34,18 +34,18 @@ use Rattle.emm_state.specs.declared.solo.Repeat.TheVariants as repeats
 use Rattle.emm_state.specs.declared.solo.Solo.{Solo}
 use Rattle.emm_state.specs.declared.solo.NasTimer.{NasTimer}
 use Rattle.emm_state.specs.declared.solo.NasTimer.TheVariants.{T3413, T3422, T3450, T3460, T3489}
-use Rattle.mme_vocabulary.specs.declared.stations.StationState.{StationState}
+use Rattle.mme_types.specs.declared.stations.StationState.{StationState}
 use Rattle.emm_state.specs.Actions.{connect, connect_on, association_counted, emit, ended, is_at, is_registered, leave_old, untouched}
-use Rattle.emm_attaching.specs.Attaching as attaching
-use Rattle.emm_attaching.specs.Attaching.{counted_up, keyed, took}
-use Rattle.emm_connected.specs.Connected as connected
+use Rattle.emm_attach.specs.Attaching as attaching
+use Rattle.emm_attach.specs.Attaching.{counted_up, keyed, took}
+use Rattle.emm_association.specs.Connected as connected
 use Rattle.emm_machine.specs.Freshness.{IsInUse, next_place, next_up}
 use Rattle.mme_signalling.specs.Hearing.{heard}
-use Rattle.mme_vocabulary.specs.Events as events
-use Rattle.mme_vocabulary.specs.Listed.{ToReset}
-use Rattle.emm_idle.specs.Idle as idle
+use Rattle.mme_types.specs.Events as events
+use Rattle.mme_types.specs.Listed.{ToReset}
+use Rattle.emm_network.specs.Idle as idle
 use Rattle.mme_signalling.specs.Pdus.{path_switch_failure}
-use Rattle.emm_serving.specs.Serving as serving
+use Rattle.emm_uplink.specs.Serving as serving
 use Rattle.emm_machine.specs.Steps as steps
 use Rattle.emm_machine.proofs.Freshness.{IsFresh, IsFreshIf, at_some, at_some_if, either, either_if, fresh_connect, fresh_connect_on, fresh_context, fresh_emit, fresh_fall, fresh_in, fresh_keyed, fresh_lost, fresh_protect, fresh_radio, fresh_refuse, fresh_release, fresh_send, fresh_set_up, fresh_set_up_with, fresh_start, fresh_taking, fresh_took, fresh_turn_away, fresh_wipe, quiet, some, then}
 
@@ -73,13 +73,13 @@ cond_context : (x y : Draft) (c : Option Context) (t : Bool) → x.solo.context 
 cond_context x y c true p q = p
 cond_context x y c false p q = q
 
-leave_context : (station enb_id : ℕ) (d : Draft) → (leave_old station enb_id d).solo.context ≡ d.solo.context
+leave_context : (station enb_ue_id : ℕ) (d : Draft) → (leave_old station enb_ue_id d).solo.context ≡ d.solo.context
 unfolding leave_old emit
-leave_context station enb_id d = same_context _ d d.solo.connection (λ k. cond_context _ _ d.solo.context (is_at k station enb_id) refl refl)
+leave_context station enb_ue_id d = same_context _ d d.solo.connection (λ k. cond_context _ _ d.solo.context (is_at k station enb_ue_id) refl refl)
 
-connect_context : (slot station enb_id : ℕ) (d : Draft) → (connect slot station enb_id d).solo.context ≡ d.solo.context
+connect_context : (slot station enb_ue_id : ℕ) (d : Draft) → (connect slot station enb_ue_id d).solo.context ≡ d.solo.context
 unfolding connect connect_on association_counted
-connect_context slot station enb_id d = leave_context station enb_id (association_counted d)
+connect_context slot station enb_ue_id d = leave_context station enb_ue_id (association_counted d)
 
 module _ {b : Solo} where
   -- ---- attaching
@@ -134,9 +134,9 @@ module _ {b : Solo} where
 
   fresh_authenticating : {d : Draft} (s : Setting) (m : Heard (List ℕ)) → d.solo.phase ≡ Authenticating → IsFresh b d → IsFreshIf b (attaching.authenticating s m d)
   unfolding attaching.authenticating
-  fresh_authenticating s (heards.Response res) is h = fresh_response s res is h
-  fresh_authenticating s (heards.Failure cause) is h = some (fresh_failure s cause h)
-  fresh_authenticating s (heards.Detach switch_off) is h = some (fresh_detach_plainly switch_off h)
+  fresh_authenticating s (heards.AuthenticationResponse res) is h = fresh_response s res is h
+  fresh_authenticating s (heards.AuthenticationFailure cause) is h = some (fresh_failure s cause h)
+  fresh_authenticating s (heards.DetachRequest switch_off) is h = some (fresh_detach_plainly switch_off h)
   fresh_authenticating s heards.Unasked is h = some h
   fresh_authenticating s (heards.Unreadable fault) is h = some (fresh_status_plainly _ h)
   fresh_authenticating s _ is h = some (fresh_status_plainly _ h)
@@ -167,9 +167,9 @@ module _ {b : Solo} where
       → ((count : ℕ) → r ≡ Ok count → next_up x ≤ count) → IsFresh b d → IsFresh b (serving.served_by r s x m d)
   unfolding serving.served_by serving.served serving.active ended
   fresh_served_by {d} (Ok count) s x m is high h =
-      fresh_set_up s _ None (fresh_keyed x count (connect_context s.slot m.station m.enb_id d ∙ is) (high count refl)
-      (quiet (fresh_in Registered refl tt (fresh_connect s.slot m.station m.enb_id h)) refl))
-  fresh_served_by (Err fault) s x m is high h = fresh_refuse s.slot m.station m.enb_id _ h
+      fresh_set_up s _ None (fresh_keyed x count (connect_context s.slot m.station m.enb_ue_id d ∙ is) (high count refl)
+      (quiet (fresh_in Registered refl tt (fresh_connect s.slot m.station m.enb_ue_id h)) refl))
+  fresh_served_by (Err fault) s x m is high h = fresh_refuse s.slot m.station m.enb_ue_id _ h
 
   fresh_update : {d : Draft} (s : Setting) (tai : Tai) (combined initial : Bool) → IsFresh b d → IsFreshIf b (serving.update s tai combined initial d)
   unfolding serving.update serving.updating serving.active ended attaching.given_tmsi
@@ -180,8 +180,8 @@ module _ {b : Solo} where
   unfolding serving.updated_by
   fresh_updated_by {d} (Ok found) s x m combined is high h =
       fresh_update s m.tai combined true
-      (fresh_took x found.0 (connect_context s.slot m.station m.enb_id d ∙ is) (high found refl) (fresh_connect s.slot m.station m.enb_id h))
-  fresh_updated_by (Err fault) s x m combined is high h = some (fresh_refuse s.slot m.station m.enb_id _ h)
+      (fresh_took x found.0 (connect_context s.slot m.station m.enb_ue_id d ∙ is) (high found refl) (fresh_connect s.slot m.station m.enb_ue_id h))
+  fresh_updated_by (Err fault) s x m combined is high h = some (fresh_refuse s.slot m.station m.enb_ue_id _ h)
 
   fresh_detach : {d : Draft} (switch_off : Bool) → IsFresh b d → IsFreshIf b (serving.detach switch_off d)
   unfolding serving.detach serving.detach_answered
@@ -192,12 +192,12 @@ module _ {b : Solo} where
   unfolding serving.detached_by
   fresh_detached_by {d} (Ok found) s x m switch_off is high h =
       fresh_detach switch_off
-      (fresh_took x found.0 (connect_context s.slot m.station m.enb_id d ∙ is) (high found refl) (fresh_connect s.slot m.station m.enb_id h))
-  fresh_detached_by (Err fault) s x m switch_off is high h = some (fresh_turn_away s.slot m.station m.enb_id h)
+      (fresh_took x found.0 (connect_context s.slot m.station m.enb_ue_id d ∙ is) (high found refl) (fresh_connect s.slot m.station m.enb_ue_id h))
+  fresh_detached_by (Err fault) s x m switch_off is high h = some (fresh_turn_away s.slot m.station m.enb_ue_id h)
 
   fresh_claimed : {d : Draft} (m : Heard (List ℕ)) (s : Setting) (id : ℕ) (e : Entry (List ℕ)) → IsFresh b d → IsFresh b (serving.claimed m s id e d)
   unfolding serving.claimed
-  fresh_claimed (heards.Attach combined capability esm) s id e h = fresh_attach s combined capability esm e.tai (fresh_connect_on id e.station e.enb_id h)
+  fresh_claimed (heards.AttachRequest combined capability esm) s id e h = fresh_attach s combined capability esm e.tai (fresh_connect_on id e.station e.enb_ue_id h)
   fresh_claimed _ s id e h = h
 
   fresh_status : {d : Draft} (cause : Option EmmCause) → IsFresh b d → IsFreshIf b (serving.status_protected cause d)
@@ -211,10 +211,10 @@ module _ {b : Solo} where
   fresh_told_emm : {d : Draft} (m : Heard (List ℕ)) (s : Setting) (tai : Tai) → IsFresh b d → IsFreshIf b (serving.inner_emm m s tai d)
   unfolding serving.inner_emm serving.attach_completed serving.update_completed
   fresh_told_emm (heards.AttachComplete esm) s tai h = either_if _ (some (either _ (fresh_registered (quiet h refl)) (fresh_fall _ h))) (fresh_status _ h)
-  fresh_told_emm heards.UpdateComplete s tai h =
+  fresh_told_emm heards.TrackingAreaUpdateComplete s tai h =
       let r = fresh_registered h in either_if _ (some (either _ (fresh_fall _ r) r)) (fresh_status _ h)
-  fresh_told_emm (heards.Update combined) s tai h = either_if _ (fresh_update s tai combined false h) (fresh_status _ h)
-  fresh_told_emm (heards.Detach switch_off) s tai h = fresh_detach switch_off h
+  fresh_told_emm (heards.TrackingAreaUpdateRequest combined) s tai h = either_if _ (fresh_update s tai combined false h) (fresh_status _ h)
+  fresh_told_emm (heards.DetachRequest switch_off) s tai h = fresh_detach switch_off h
   fresh_told_emm heards.DetachAccept s tai h = either_if _ (some (fresh_wipe (fresh_release _ h))) (fresh_status _ h)
   fresh_told_emm heards.Unasked s tai h = some h
   fresh_told_emm (heards.Unreadable fault) s tai h = fresh_status _ h
@@ -245,8 +245,8 @@ module _ {b : Solo} where
   fresh_path_switch : {d : Draft} (m : UeMessage (List ℕ)) → IsFresh b d → IsFresh b (connected.path_switch m d)
   unfolding connected.path_switch connected.not_switched
   fresh_path_switch {d} m h =
-      let failed = λ (cause : Cause). fresh_emit m.station (path_switch_failure m.mme_id m.enb_id cause) h in
-      either (not (connected.has_connection_id m d)) (failed _) (either (not (is_of_slot m.mme_id)) (failed _)
+      let failed = λ (cause : Cause). fresh_emit m.station (path_switch_failure m.mme_ue_id m.enb_ue_id cause) h in
+      either (not (connected.has_connection_id m d)) (failed _) (either (not (is_of_slot m.mme_ue_id)) (failed _)
       (either (is_registered d.solo.phase) (at_some d.solo.context (λ x is. fresh_switched m x is h) h) (failed _)))
 
   fresh_displaced : {d : Draft} (id : ℕ) → IsFresh b d → IsFresh b (connected.displaced id d)
@@ -338,28 +338,28 @@ module _ (whole : WholeIsFresh) (short : ShortIsFresh) {b : Solo} where
   fresh_service : {d : Draft} (s : Setting) (m : Entry (List ℕ)) (octets : List ℕ) → IsFresh b d → IsFresh b (serving.service s m octets d)
   unfolding serving.service
   fresh_service {d} s m octets h =
-      either _ (at_some d.solo.context (λ x is. fresh_served_by _ s x m is (λ count e. (short _ _ _ _ count e).0) h) (fresh_refuse s.slot m.station m.enb_id _ h))
-      (fresh_refuse s.slot m.station m.enb_id _ h)
+      either _ (at_some d.solo.context (λ x is. fresh_served_by _ s x m is (λ count e. (short _ _ _ _ count e).0) h) (fresh_refuse s.slot m.station m.enb_ue_id _ h))
+      (fresh_refuse s.slot m.station m.enb_ue_id _ h)
 
   fresh_initial_update : {d : Draft} (s : Setting) (m : Entry (List ℕ)) (combined : Bool) → IsFresh b d → IsFreshIf b (serving.initial_update s m combined d)
   unfolding serving.initial_update
   fresh_initial_update {d} s m combined h =
       either_if _ (at_some_if d.solo.context (λ x is. fresh_updated_by _ s x m combined is (λ found e. (whole _ _ _ _ found.0 found.1 e).0) h)
-      (some (fresh_refuse s.slot m.station m.enb_id _ h))) (some (fresh_refuse s.slot m.station m.enb_id _ h))
+      (some (fresh_refuse s.slot m.station m.enb_ue_id _ h))) (some (fresh_refuse s.slot m.station m.enb_ue_id _ h))
 
   fresh_initial_detach : {d : Draft} (s : Setting) (m : Entry (List ℕ)) (switch_off : Bool) → IsFresh b d → IsFreshIf b (serving.initial_detach s m switch_off d)
   unfolding serving.initial_detach
   fresh_initial_detach {d} s m switch_off h =
-      either_if _ (some (fresh_detach_plainly switch_off (fresh_connect s.slot m.station m.enb_id h)))
+      either_if _ (some (fresh_detach_plainly switch_off (fresh_connect s.slot m.station m.enb_ue_id h)))
       (at_some_if d.solo.context (λ x is. fresh_detached_by _ s x m switch_off is (λ found e. (whole _ _ _ _ found.0 found.1 e).0) h)
-      (some (fresh_turn_away s.slot m.station m.enb_id h)))
+      (some (fresh_turn_away s.slot m.station m.enb_ue_id h)))
 
   fresh_entered : {d : Draft} (heard : Heard (List ℕ)) (s : Setting) (m : Entry (List ℕ)) → IsFresh b d → IsFreshIf b (serving.entered heard s m d)
   unfolding serving.entered
-  fresh_entered (heards.Attach combined capability esm) s m h = some (fresh_attach s combined capability esm m.tai (fresh_connect s.slot m.station m.enb_id h))
-  fresh_entered (heards.Service octets) s m h = some (fresh_service s m octets h)
-  fresh_entered (heards.Update combined) s m h = fresh_initial_update s m combined h
-  fresh_entered (heards.Detach switch_off) s m h = fresh_initial_detach s m switch_off h
+  fresh_entered (heards.AttachRequest combined capability esm) s m h = some (fresh_attach s combined capability esm m.tai (fresh_connect s.slot m.station m.enb_ue_id h))
+  fresh_entered (heards.ServiceRequest octets) s m h = some (fresh_service s m octets h)
+  fresh_entered (heards.TrackingAreaUpdateRequest combined) s m h = fresh_initial_update s m combined h
+  fresh_entered (heards.DetachRequest switch_off) s m h = fresh_initial_detach s m switch_off h
   fresh_entered _ s m h = some h
 
   fresh_uplink : {d : Draft} (phase : Phase) (s : Setting) (tai : Tai) (nas : List ℕ) → d.solo.phase ≡ phase → IsFresh b d → IsFreshIf b (serving.uplink phase s tai nas d)
@@ -372,8 +372,8 @@ module _ (whole : WholeIsFresh) (short : ShortIsFresh) {b : Solo} where
   fresh_on_connection : {d : Draft} (body : UeBody (List ℕ)) (s : Setting) → IsFresh b d → IsFreshIf b (connected.on_connection body s d)
   unfolding connected.on_connection
   fresh_on_connection {d} (bodies.Uplink nas tai) s h = fresh_uplink d.solo.phase s tai nas refl h
-  fresh_on_connection (bodies.ReleaseRequest cause) s h = some (fresh_fall _ h)
-  fresh_on_connection bodies.ContextSetupFailure s h = some (fresh_fall _ h)
+  fresh_on_connection (bodies.UeContextReleaseRequest cause) s h = some (fresh_fall _ h)
+  fresh_on_connection bodies.InitialContextSetupFailure s h = some (fresh_fall _ h)
   fresh_on_connection _ s h = some h
 
   fresh_checked : {d : Draft} (s : Setting) (m : UeMessage (List ℕ)) → IsFresh b d → IsFreshIf b (connected.checked s m d)
@@ -382,7 +382,7 @@ module _ (whole : WholeIsFresh) (short : ShortIsFresh) {b : Solo} where
 
   fresh_message_of : {d : Draft} (body : UeBody (List ℕ)) (s : Setting) (m : UeMessage (List ℕ)) → IsFresh b d → IsFreshIf b (connected.message_of body s m d)
   unfolding connected.message_of
-  fresh_message_of bodies.ReleaseComplete s m h = some h
+  fresh_message_of bodies.UeContextReleaseComplete s m h = some h
   fresh_message_of bodies.PathSwitch s m h = some (fresh_path_switch m h)
   fresh_message_of _ s m h = fresh_checked s m h
 

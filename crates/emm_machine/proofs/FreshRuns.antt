@@ -1,11 +1,11 @@
 -- Runs of steps: states stay in use, and what is sent and accepted over a whole run is fresh.
 use Rattle.std.proofs.Common.{ℕ, ◌<◌, ◌≤◌, ◌==◌, ◌⊎◌, inl, inr, Bool, true, false, cond, List, [], ◌∷◌, ◌++◌, Option, Some, None, option_to_list, append-nil, le_refl, refl, sym, eq-eqb, arith}
-use Rattle.mme_vocabulary.specs.declared.octets.Mark.{Mark}
+use Rattle.mme_types.specs.declared.octets.Mark.{Mark}
 use Rattle.emm_state.specs.declared.setting.Setting.{Setting}
 use Rattle.emm_state.specs.declared.solo.Context.{Context}
 use Rattle.emm_state.specs.declared.solo.Solo.{Solo}
 use Rattle.emm_machine.specs.Freshness.{AcceptsAhead, AcceptsOnce, IsAhead, IsBefore, IsBelow, IsInUse, IsOfContext, MakesAhead, MakesOnce, SendsAhead, SendsOnce, StaysInUse, accepted_marks, marks_of, next_down, next_place, next_up, place_made, places_made, sent_marks}
-use Rattle.mme_vocabulary.specs.Events.{Item}
+use Rattle.mme_types.specs.Events.{Item}
 use Rattle.emm_machine.specs.Steps.{solo_after, solo_step}
 use Rattle.emm_machine.proofs.FreshRows.{ShortIsFresh, WholeIsFresh, fresh_step}
 use Rattle.emm_machine.proofs.Runs.{IsRun, run_all, run_append, run_onward, run_pairs}

@@ -5,23 +5,23 @@ use Rattle.std.proofs.lemmas.Grind.{flat_map-append}
 use Rattle.std.proofs.lemmas.Option.{same_Some}
 use Rattle.nas_messages.specs.declared.protection.SecurityHeader.{SecurityHeader}
 use Rattle.s1ap_elements.specs.declared.cause.Cause.{Cause}
-use Rattle.s1ap_messages.specs.declared.pdu.Pdu.{Pdu}
-use Rattle.s1ap_messages.specs.Pdus.{encoded}
+use Rattle.s1ap_pdus.specs.declared.pdu.Pdu.{Pdu}
+use Rattle.s1ap_pdus.specs.Pdus.{encoded}
 use Rattle.emm_state.specs.declared.draft.Draft.{Draft}
 use Rattle.emm_state.specs.declared.draft.Sealed.{Sealed}
-use Rattle.mme_vocabulary.specs.declared.octets.Answer.{Answer}
-use Rattle.mme_vocabulary.specs.declared.octets.Mark.{Mark}
+use Rattle.mme_types.specs.declared.octets.Answer.{Answer}
+use Rattle.mme_types.specs.declared.octets.Mark.{Mark}
 use Rattle.emm_state.specs.declared.setting.Setting.{Setting}
 use Rattle.emm_state.specs.declared.solo.Context.{Context}
 use Rattle.emm_state.specs.declared.solo.Phase.{Phase}
 use Rattle.emm_state.specs.declared.solo.Phase.TheVariants.{Authenticating, SecurityMode, Registered}
-use Rattle.mme_vocabulary.specs.declared.connection.RadioKeys.{RadioKeys}
+use Rattle.mme_types.specs.declared.connection.RadioKeys.{RadioKeys}
 use Rattle.emm_state.specs.declared.solo.Repeat.{Repeat}
 use Rattle.emm_state.specs.declared.solo.Solo.{Solo}
 use Rattle.emm_state.specs.declared.solo.NasTimer.{NasTimer}
-use Rattle.mme_vocabulary.specs.Answers.{answer_of}
+use Rattle.mme_types.specs.Answers.{answer_of}
 use Rattle.emm_state.specs.Actions.{connect, connect_on, association_counted, disconnected, emit, ended, fall, fallen, leave_old, lost, protect, refuse, release, resting, seal, sealed_under, send, set_up, set_up_with, start, turn_away, wipe}
-use Rattle.emm_attaching.specs.Attaching.{counted_up, keyed, took}
+use Rattle.emm_attach.specs.Attaching.{counted_up, keyed, took}
 use Rattle.emm_state.specs.Does.{◌>>=◌}
 use Rattle.emm_machine.specs.Freshness.{HasVector, IsAhead, IsBefore, IsBelow, IsInUse, IsOfContext, marks_of, next_down, next_place, next_up}
 use Rattle.emm_machine.proofs.Runs.{IsRun, run_append, run_front, run_narrow, run_onward}
@@ -271,29 +271,29 @@ module _ {b : Solo} where
   unfolding release
   fresh_release {d} cause h = at_some d.solo.connection (λ k _. fresh_disconnected (fresh_emit k.station _ h)) h
 
-  fresh_leave_old : {d : Draft} (station enb_id : ℕ) → IsFresh b d → IsFresh b (leave_old station enb_id d)
+  fresh_leave_old : {d : Draft} (station enb_ue_id : ℕ) → IsFresh b d → IsFresh b (leave_old station enb_ue_id d)
   unfolding leave_old
-  fresh_leave_old {d} station enb_id h = at_some d.solo.connection (λ k _. either _ h (fresh_emit k.station _ h)) h
+  fresh_leave_old {d} station enb_ue_id h = at_some d.solo.connection (λ k _. either _ h (fresh_emit k.station _ h)) h
 
-  pub fresh_connect_on : {d : Draft} (id station enb_id : ℕ) → IsFresh b d → IsFresh b (connect_on id station enb_id d)
+  pub fresh_connect_on : {d : Draft} (id station enb_ue_id : ℕ) → IsFresh b d → IsFresh b (connect_on id station enb_ue_id d)
   unfolding connect_on
-  fresh_connect_on id station enb_id h = quiet (fresh_leave_old station enb_id h) refl
+  fresh_connect_on id station enb_ue_id h = quiet (fresh_leave_old station enb_ue_id h) refl
 
   fresh_counted : {d : Draft} → IsFresh b d → IsFresh b (association_counted d)
   unfolding association_counted
   fresh_counted h = quiet h refl
 
-  pub fresh_connect : {d : Draft} (slot station enb_id : ℕ) → IsFresh b d → IsFresh b (connect slot station enb_id d)
+  pub fresh_connect : {d : Draft} (slot station enb_ue_id : ℕ) → IsFresh b d → IsFresh b (connect slot station enb_ue_id d)
   unfolding connect
-  fresh_connect slot station enb_id h = fresh_connect_on _ station enb_id (fresh_counted h)
+  fresh_connect slot station enb_ue_id h = fresh_connect_on _ station enb_ue_id (fresh_counted h)
 
-  pub fresh_turn_away : {d : Draft} (slot station enb_id : ℕ) → IsFresh b d → IsFresh b (turn_away slot station enb_id d)
+  pub fresh_turn_away : {d : Draft} (slot station enb_ue_id : ℕ) → IsFresh b d → IsFresh b (turn_away slot station enb_ue_id d)
   unfolding turn_away
-  fresh_turn_away slot station enb_id h = fresh_emit station _ (fresh_counted h)
+  fresh_turn_away slot station enb_ue_id h = fresh_emit station _ (fresh_counted h)
 
-  pub fresh_refuse : {d : Draft} (slot station enb_id : ℕ) (nas : List ℕ) → IsFresh b d → IsFresh b (refuse slot station enb_id nas d)
+  pub fresh_refuse : {d : Draft} (slot station enb_ue_id : ℕ) (nas : List ℕ) → IsFresh b d → IsFresh b (refuse slot station enb_ue_id nas d)
   unfolding refuse
-  fresh_refuse slot station enb_id nas h = fresh_emit station _ (fresh_emit station _ (fresh_counted h))
+  fresh_refuse slot station enb_ue_id nas h = fresh_emit station _ (fresh_emit station _ (fresh_counted h))
 
   fresh_resting : {d : Draft} → IsFresh b d → IsFresh b (resting d)
   unfolding resting ended

@@ -14,15 +14,15 @@ use Rattle.nas_security.specs.declared.fault.SecurityFault.{SecurityFault}
 use Rattle.nas_security.specs.Accepting.{Acceptance}
 use Rattle.s1ap_elements.specs.declared.cause.Cause.{Cause}
 use Rattle.s1ap_elements.specs.declared.phone.Tai.{Tai}
-use Rattle.s1ap_messages.specs.declared.pdu.Pdu.{Pdu}
-use Rattle.mme_vocabulary.specs.declared.event.Entry.{Entry}
-use Rattle.mme_vocabulary.specs.declared.event.UeBody.{UeBody}
-use Rattle.mme_vocabulary.specs.declared.event.UeBody.TheVariants as bodies
-use Rattle.mme_vocabulary.specs.declared.event.UeMessage.{UeMessage}
-use Rattle.mme_vocabulary.specs.declared.octets.Mark.{Mark}
-use Rattle.mme_vocabulary.specs.declared.stations.StationState.{StationState}
-use Rattle.mme_vocabulary.specs.Events as events
-use Rattle.mme_vocabulary.specs.Listed.{ToReset}
+use Rattle.s1ap_pdus.specs.declared.pdu.Pdu.{Pdu}
+use Rattle.mme_types.specs.declared.event.Entry.{Entry}
+use Rattle.mme_types.specs.declared.event.UeBody.{UeBody}
+use Rattle.mme_types.specs.declared.event.UeBody.TheVariants as bodies
+use Rattle.mme_types.specs.declared.event.UeMessage.{UeMessage}
+use Rattle.mme_types.specs.declared.octets.Mark.{Mark}
+use Rattle.mme_types.specs.declared.stations.StationState.{StationState}
+use Rattle.mme_types.specs.Events as events
+use Rattle.mme_types.specs.Listed.{ToReset}
 use Rattle.mme_signalling.specs.declared.cause.EmmCause.{EmmCause}
 use Rattle.mme_signalling.specs.declared.heard.Heard.{Heard}
 use Rattle.mme_signalling.specs.declared.heard.Heard.TheVariants as heards
@@ -43,10 +43,10 @@ use Rattle.emm_state.specs.declared.solo.Solo.{Solo}
 use Rattle.emm_state.specs.Actions.{association_counted, emit, ended, fall, fallen, is_registered, lost, protect, refuse, release, resting, seal, sealed_under, send, set_up, set_up_with, start, turn_away, wipe}
 use Rattle.emm_state.specs.Does.{◌>>=◌}
 use Rattle.emm_state.specs.Timers.{reachable_ticks, ticks_of}
-use Rattle.emm_attaching.specs.Attaching as attaching
-use Rattle.emm_connected.specs.Connected as connected
-use Rattle.emm_idle.specs.Idle as idle
-use Rattle.emm_serving.specs.Serving as serving
+use Rattle.emm_attach.specs.Attaching as attaching
+use Rattle.emm_association.specs.Connected as connected
+use Rattle.emm_network.specs.Idle as idle
+use Rattle.emm_uplink.specs.Serving as serving
 use Rattle.emm_machine.specs.Steps as steps
 use Rattle.emm_machine.specs.Ticks.{IsGoing, IsRunning, IsTimed, StaysRunning}
 
@@ -109,13 +109,13 @@ module _ {P : Option Countdown → Option Repeat → Option ℕ → Type 0} wher
   unfolding send
   kept_send {d} nas h = at_some (Holds P) d.solo.connection (λ k. kept_emit k.station _ None h) h
 
-  kept_turn_away : {d : Draft} (slot station enb_id : ℕ) → Holds P d → Holds P (turn_away slot station enb_id d)
+  kept_turn_away : {d : Draft} (slot station enb_ue_id : ℕ) → Holds P d → Holds P (turn_away slot station enb_ue_id d)
   unfolding turn_away association_counted
-  kept_turn_away slot station enb_id h = kept_emit station _ None (record { holds = h.holds })
+  kept_turn_away slot station enb_ue_id h = kept_emit station _ None (record { holds = h.holds })
 
-  kept_refuse : {d : Draft} (slot station enb_id : ℕ) (nas : List ℕ) → Holds P d → Holds P (refuse slot station enb_id nas d)
+  kept_refuse : {d : Draft} (slot station enb_ue_id : ℕ) (nas : List ℕ) → Holds P d → Holds P (refuse slot station enb_ue_id nas d)
   unfolding refuse association_counted
-  kept_refuse slot station enb_id nas h = kept_emit station _ None (kept_emit station _ None (record { holds = h.holds }))
+  kept_refuse slot station enb_ue_id nas h = kept_emit station _ None (kept_emit station _ None (record { holds = h.holds }))
 
   sealed_at : (header : SecurityHeader) (nas : List ℕ) {d : Draft} (o : Option Context) → Holds P d
       → Whenever (λ (s : Sealed × Draft). Holds P s.1) (option_map_or (sealed_under header nas d) o (Some (record { form = []; under = None }, d)))
@@ -238,9 +238,9 @@ runs_status_plainly cause h = at_some Runs cause (λ c. kept_send _ h) h
 
 runs_authenticating : {d : Draft} (s : Setting) (m : Heard (List ℕ)) → Runs d → Whenever Runs (attaching.authenticating s m d)
 unfolding attaching.authenticating
-runs_authenticating s (heards.Response res) h = runs_response s res h
-runs_authenticating s (heards.Failure cause) h = some (runs_failure s cause h)
-runs_authenticating {d} s (heards.Detach switch_off) h = some (runs_detach_plainly switch_off d)
+runs_authenticating s (heards.AuthenticationResponse res) h = runs_response s res h
+runs_authenticating s (heards.AuthenticationFailure cause) h = some (runs_failure s cause h)
+runs_authenticating {d} s (heards.DetachRequest switch_off) h = some (runs_detach_plainly switch_off d)
 runs_authenticating s heards.Unasked h = some h
 runs_authenticating s (heards.Unreadable fault) h = some (runs_status_plainly _ h)
 runs_authenticating s _ h = some (runs_status_plainly _ h)
@@ -273,12 +273,12 @@ runs_in_security_mode {d} s nas h = at_some (Whenever Runs) d.solo.context (λ x
 runs_served_by : {d : Draft} (r : Result ℕ SecurityFault) (s : Setting) (x : Context) (m : Entry (List ℕ)) → Runs d → Runs (serving.served_by r s x m d)
 unfolding serving.served_by serving.served serving.active ended attaching.keyed attaching.took
 runs_served_by (Ok count) s x m h = kept_set_up s _ None None (record { holds = (tt, tt) })
-runs_served_by (Err fault) s x m h = kept_refuse s.slot m.station m.enb_id _ h
+runs_served_by (Err fault) s x m h = kept_refuse s.slot m.station m.enb_ue_id _ h
 
 runs_service : {d : Draft} (s : Setting) (m : Entry (List ℕ)) (octets : List ℕ) → Runs d → Runs (serving.service s m octets d)
 unfolding serving.service
 runs_service {d} s m octets h =
-    either Runs _ (at_some Runs d.solo.context (λ x. runs_served_by _ s x m h) (kept_refuse s.slot m.station m.enb_id _ h)) (kept_refuse s.slot m.station m.enb_id _ h)
+    either Runs _ (at_some Runs d.solo.context (λ x. runs_served_by _ s x m h) (kept_refuse s.slot m.station m.enb_ue_id _ h)) (kept_refuse s.slot m.station m.enb_ue_id _ h)
 
 runs_update : (s : Setting) (tai : Tai) (combined initial : Bool) (d : Draft) → Whenever Runs (serving.update s tai combined initial d)
 unfolding serving.update serving.updating serving.active ended attaching.given_tmsi
@@ -287,13 +287,13 @@ runs_update s tai combined initial d = runs_started _ _ (kept_protect _ _ (recor
 runs_updated_by : {d : Draft} (r : Acceptance) (s : Setting) (x : Context) (m : Entry (List ℕ)) (combined : Bool) → Runs d → Whenever Runs (serving.updated_by r s x m combined d)
 unfolding serving.updated_by
 runs_updated_by (Ok found) s x m combined h = runs_update s _ combined true _
-runs_updated_by (Err fault) s x m combined h = some (kept_refuse s.slot m.station m.enb_id _ h)
+runs_updated_by (Err fault) s x m combined h = some (kept_refuse s.slot m.station m.enb_ue_id _ h)
 
 runs_initial_update : {d : Draft} (s : Setting) (m : Entry (List ℕ)) (combined : Bool) → Runs d → Whenever Runs (serving.initial_update s m combined d)
 unfolding serving.initial_update
 runs_initial_update {d} s m combined h =
-    either (Whenever Runs) _ (at_some (Whenever Runs) d.solo.context (λ x. runs_updated_by _ s x m combined h) (some (kept_refuse s.slot m.station m.enb_id _ h)))
-    (some (kept_refuse s.slot m.station m.enb_id _ h))
+    either (Whenever Runs) _ (at_some (Whenever Runs) d.solo.context (λ x. runs_updated_by _ s x m combined h) (some (kept_refuse s.slot m.station m.enb_ue_id _ h)))
+    (some (kept_refuse s.slot m.station m.enb_ue_id _ h))
 
 -- whatever the answer does
 runs_left : (o : Option Draft) (cause : Cause) → Whenever Runs (o >>= λ d. Some (wipe (release cause d)))
@@ -307,25 +307,25 @@ runs_detach switch_off d = runs_left (serving.detach_answered switch_off d) _
 runs_detached_by : {d : Draft} (r : Acceptance) (s : Setting) (x : Context) (m : Entry (List ℕ)) (switch_off : Bool) → Runs d → Whenever Runs (serving.detached_by r s x m switch_off d)
 unfolding serving.detached_by
 runs_detached_by (Ok found) s x m switch_off h = runs_detach switch_off _
-runs_detached_by (Err fault) s x m switch_off h = some (kept_turn_away s.slot m.station m.enb_id h)
+runs_detached_by (Err fault) s x m switch_off h = some (kept_turn_away s.slot m.station m.enb_ue_id h)
 
 runs_initial_detach : {d : Draft} (s : Setting) (m : Entry (List ℕ)) (switch_off : Bool) → Runs d → Whenever Runs (serving.initial_detach s m switch_off d)
 unfolding serving.initial_detach
 runs_initial_detach {d} s m switch_off h =
     either (Whenever Runs) _ (some (runs_detach_plainly switch_off _))
-    (at_some (Whenever Runs) d.solo.context (λ x. runs_detached_by _ s x m switch_off h) (some (kept_turn_away s.slot m.station m.enb_id h)))
+    (at_some (Whenever Runs) d.solo.context (λ x. runs_detached_by _ s x m switch_off h) (some (kept_turn_away s.slot m.station m.enb_ue_id h)))
 
 runs_entered : {d : Draft} (heard : Heard (List ℕ)) (s : Setting) (m : Entry (List ℕ)) → Runs d → Whenever Runs (serving.entered heard s m d)
 unfolding serving.entered
-runs_entered (heards.Attach combined capability esm) s m h = some (runs_attach s combined capability esm m.tai _)
-runs_entered (heards.Service octets) s m h = some (runs_service s m octets h)
-runs_entered (heards.Update combined) s m h = runs_initial_update s m combined h
-runs_entered (heards.Detach switch_off) s m h = runs_initial_detach s m switch_off h
+runs_entered (heards.AttachRequest combined capability esm) s m h = some (runs_attach s combined capability esm m.tai _)
+runs_entered (heards.ServiceRequest octets) s m h = some (runs_service s m octets h)
+runs_entered (heards.TrackingAreaUpdateRequest combined) s m h = runs_initial_update s m combined h
+runs_entered (heards.DetachRequest switch_off) s m h = runs_initial_detach s m switch_off h
 runs_entered _ s m h = some h
 
 runs_claimed : {d : Draft} (m : Heard (List ℕ)) (s : Setting) (id : ℕ) (e : Entry (List ℕ)) → Runs d → Runs (serving.claimed m s id e d)
 unfolding serving.claimed
-runs_claimed (heards.Attach combined capability esm) s id e h = runs_attach s combined capability esm e.tai _
+runs_claimed (heards.AttachRequest combined capability esm) s id e h = runs_attach s combined capability esm e.tai _
 runs_claimed _ s id e h = h
 
 runs_status : {d : Draft} (cause : Option EmmCause) → Runs d → Whenever Runs (serving.status_protected cause d)
@@ -340,10 +340,10 @@ runs_inner_emm : {d : Draft} (m : Heard (List ℕ)) (s : Setting) (tai : Tai) �
 unfolding serving.inner_emm serving.attach_completed serving.update_completed
 runs_inner_emm {d} (heards.AttachComplete esm) s tai h =
     either (Whenever Runs) _ (some (either Runs _ (runs_registered (record { holds = h.holds })) (runs_fall _ d))) (runs_status _ h)
-runs_inner_emm heards.UpdateComplete s tai h =
+runs_inner_emm heards.TrackingAreaUpdateComplete s tai h =
     either (Whenever Runs) _ (some (either Runs _ (runs_fall _ _) (runs_registered h))) (runs_status _ h)
-runs_inner_emm {d} (heards.Update combined) s tai h = either (Whenever Runs) _ (runs_update s tai combined false d) (runs_status _ h)
-runs_inner_emm {d} (heards.Detach switch_off) s tai h = runs_detach switch_off d
+runs_inner_emm {d} (heards.TrackingAreaUpdateRequest combined) s tai h = either (Whenever Runs) _ (runs_update s tai combined false d) (runs_status _ h)
+runs_inner_emm {d} (heards.DetachRequest switch_off) s tai h = runs_detach switch_off d
 runs_inner_emm heards.DetachAccept s tai h = either (Whenever Runs) _ (some (runs_wipe _)) (runs_status _ h)
 runs_inner_emm heards.Unasked s tai h = some h
 runs_inner_emm (heards.Unreadable fault) s tai h = runs_status _ h
@@ -378,14 +378,14 @@ runs_path_switch : {d : Draft} (m : UeMessage (List ℕ)) → Runs d → Runs (c
 unfolding connected.path_switch connected.switched connected.not_switched
 runs_path_switch {d} m h =
     let failed = λ (message : Pdu (List ℕ)). kept_emit m.station message None h in
-    either Runs (not (connected.has_connection_id m d)) (failed _) (either Runs (not (is_of_slot m.mme_id)) (failed _)
+    either Runs (not (connected.has_connection_id m d)) (failed _) (either Runs (not (is_of_slot m.mme_ue_id)) (failed _)
     (either Runs (is_registered d.solo.phase) (at_some Runs d.solo.context (λ x. kept_emit m.station _ None (record { holds = h.holds })) h) (failed _)))
 
 runs_on_connection : {d : Draft} (body : UeBody (List ℕ)) (s : Setting) → Runs d → Whenever Runs (connected.on_connection body s d)
 unfolding connected.on_connection
 runs_on_connection {d} (bodies.Uplink nas tai) s h = runs_uplink d.solo.phase s tai nas h
-runs_on_connection {d} (bodies.ReleaseRequest cause) s h = some (runs_fall _ d)
-runs_on_connection {d} bodies.ContextSetupFailure s h = some (runs_fall _ d)
+runs_on_connection {d} (bodies.UeContextReleaseRequest cause) s h = some (runs_fall _ d)
+runs_on_connection {d} bodies.InitialContextSetupFailure s h = some (runs_fall _ d)
 runs_on_connection _ s h = some h
 
 runs_checked : {d : Draft} (s : Setting) (m : UeMessage (List ℕ)) → Runs d → Whenever Runs (connected.checked s m d)
@@ -395,7 +395,7 @@ runs_checked s m h =
 
 runs_message_of : {d : Draft} (body : UeBody (List ℕ)) (s : Setting) (m : UeMessage (List ℕ)) → Runs d → Whenever Runs (connected.message_of body s m d)
 unfolding connected.message_of
-runs_message_of bodies.ReleaseComplete s m h = some h
+runs_message_of bodies.UeContextReleaseComplete s m h = some h
 runs_message_of bodies.PathSwitch s m h = some (runs_path_switch m h)
 runs_message_of _ s m h = runs_checked s m h
 

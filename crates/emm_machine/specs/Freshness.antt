@@ -2,9 +2,9 @@
 -- the vectors that become contexts (TS 24.301 clause 4.4.3, TS 33.401 clause 6.5).
 use Rattle.std.specs.Prelude.{◌≡◌, ℕ, ◌-◌, ◌<◌, ◌≤◌, ◌==◌, ◌⊎◌, if◌then◌else◌, List, [], ◌∷◌, ◌++◌, All, AllPairs, flat_map, Option, Some, None, option_to_list}
 use Rattle.nas_security.specs.Counts.{first_after}
-use Rattle.mme_vocabulary.specs.declared.octets.Answer.{Answer}
-use Rattle.mme_vocabulary.specs.declared.octets.Mark.{Mark}
-use Rattle.mme_vocabulary.specs.Events.{Item}
+use Rattle.mme_types.specs.declared.octets.Answer.{Answer}
+use Rattle.mme_types.specs.declared.octets.Mark.{Mark}
+use Rattle.mme_types.specs.Events.{Item}
 use Rattle.emm_state.specs.declared.setting.Setting.{Setting}
 use Rattle.emm_state.specs.declared.solo.Context.{Context}
 use Rattle.emm_state.specs.declared.solo.Phase.{Phase}

@@ -1,8 +1,8 @@
 -- What follows from the definitions: an item that is still leaves a subscriber as it is, and nothing is sent.
 use Rattle.std.proofs.Common.{◌≡◌, ℕ, ◌==◌, ◌&&◌, Bool, true, false, not, if◌then◌else◌, Option, Some, None, is_some, refl}
-use Rattle.mme_vocabulary.specs.declared.connection.Connection.{Connection}
-use Rattle.mme_vocabulary.specs.Events.{Item, Nothing, Initial, Claim, Message, Displaced, StationGone, ConnectionsGone, Tick, Data, Cancel}
-use Rattle.mme_vocabulary.specs.Listed.{ToReset, is_listed}
+use Rattle.mme_types.specs.declared.connection.Connection.{Connection}
+use Rattle.mme_types.specs.Events.{Item, Nothing, Initial, Claim, Message, Displaced, StationGone, ConnectionsGone, Tick, Data, Cancel}
+use Rattle.mme_types.specs.Listed.{ToReset, is_listed}
 use Rattle.emm_state.specs.declared.draft.Draft.{Draft}
 use Rattle.emm_state.specs.declared.setting.Setting.{Setting}
 use Rattle.emm_state.specs.declared.solo.Countdown.{Countdown}
@@ -10,8 +10,8 @@ use Rattle.emm_state.specs.declared.solo.Repeat.{Repeat}
 use Rattle.emm_state.specs.declared.solo.Repeat.TheVariants as repeats
 use Rattle.emm_state.specs.declared.solo.Solo.{Solo}
 use Rattle.emm_state.specs.Actions.{lost, untouched}
-use Rattle.emm_connected.specs.Connected.{connections_gone, station_gone, strike}
-use Rattle.emm_idle.specs.Idle.{lowered, procedure_ticks, reachable_ticks_out, tick}
+use Rattle.emm_association.specs.Connected.{connections_gone, station_gone, strike}
+use Rattle.emm_network.specs.Idle.{lowered, procedure_ticks, reachable_ticks_out, tick}
 use Rattle.emm_machine.specs.Steps.{row, solo_step}
 use Rattle.emm_machine.specs.Still.{is_elsewhere, is_unlisted, pages, still}
 
@@ -52,7 +52,7 @@ still_listed : (s : Setting) (solo : Solo) (e : ℕ) (items : ToReset) (connecti
     → is_unlisted e items connection ≡ true → solo_step s (connected connection solo) (ConnectionsGone e items) ≡ untouched (connected connection solo)
 unfolding solo_step row connections_gone
 still_listed s solo e items None h = refl
-still_listed s solo e items (Some k) h = not_lost (k.station == e && is_listed k.id k.enb_id items) (untouched (connected (Some k) solo)) h
+still_listed s solo e items (Some k) h = not_lost (k.station == e && is_listed k.id k.enb_ue_id items) (untouched (connected (Some k) solo)) h
 
 pub still_stays : (s : Setting) (solo : Solo) (item : Item) → still solo item ≡ true → solo_step s solo item ≡ untouched solo
 unfolding solo_step row

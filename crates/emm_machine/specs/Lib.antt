@@ -7,7 +7,7 @@ pub mod TickLaws
 pub mod Freshness
 pub mod Laws
 -- what the rows do, for those who stand on the machine alone
-pub use Rattle.emm_attaching.specs.Attaching
-pub use Rattle.emm_connected.specs.Connected
-pub use Rattle.emm_idle.specs.Idle
-pub use Rattle.emm_serving.specs.Serving
+pub use Rattle.emm_attach.specs.Attaching
+pub use Rattle.emm_association.specs.Connected
+pub use Rattle.emm_network.specs.Idle
+pub use Rattle.emm_uplink.specs.Serving

@@ -2,15 +2,15 @@
 use Rattle.std.specs.Prelude.{List, [], ◌∷◌, Option, Some, unwrap_or}
 use Rattle.s1ap_elements.specs.declared.cause.Cause.TheVariants.{Nas}
 use Rattle.s1ap_elements.specs.declared.cause.NasCause.TheVariants.{Unspecified}
-use Rattle.mme_vocabulary.specs.declared.octets.Answer.{Answer}
-use Rattle.mme_vocabulary.specs.Events.{Item, Nothing, Initial, Claim, Message, Displaced, StationGone, ConnectionsGone, Tick, Data, Cancel}
+use Rattle.mme_types.specs.declared.octets.Answer.{Answer}
+use Rattle.mme_types.specs.Events.{Item, Nothing, Initial, Claim, Message, Displaced, StationGone, ConnectionsGone, Tick, Data, Cancel}
 use Rattle.emm_state.specs.declared.draft.Draft.{Draft}
 use Rattle.emm_state.specs.declared.setting.Setting.{Setting}
 use Rattle.emm_state.specs.declared.solo.Solo.{Solo}
 use Rattle.emm_state.specs.Actions.{fall, untouched, wipe}
-use Rattle.emm_connected.specs.Connected.{connections_gone, displaced, message_of, station_gone}
-use Rattle.emm_idle.specs.Idle.{cancelled, data_waits, tick}
-use Rattle.emm_serving.specs.Serving.{claim, initial}
+use Rattle.emm_association.specs.Connected.{connections_gone, displaced, message_of, station_gone}
+use Rattle.emm_network.specs.Idle.{cancelled, data_waits, tick}
+use Rattle.emm_uplink.specs.Serving.{claim, initial}
 
 -- ---- the step
 

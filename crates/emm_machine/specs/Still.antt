@@ -1,8 +1,8 @@
 -- Items that a subscriber isn't touched by.
 use Rattle.std.specs.Prelude.{ℕ, ◌==◌, ◌&&◌, Bool, true, false, not, Option, Some, None, is_some}
-use Rattle.mme_vocabulary.specs.declared.connection.Connection.{Connection}
-use Rattle.mme_vocabulary.specs.Events.{Item, Nothing, Initial, Claim, Message, Displaced, StationGone, ConnectionsGone, Tick, Data, Cancel}
-use Rattle.mme_vocabulary.specs.Listed.{ToReset, is_listed}
+use Rattle.mme_types.specs.declared.connection.Connection.{Connection}
+use Rattle.mme_types.specs.Events.{Item, Nothing, Initial, Claim, Message, Displaced, StationGone, ConnectionsGone, Tick, Data, Cancel}
+use Rattle.mme_types.specs.Listed.{ToReset, is_listed}
 use Rattle.emm_state.specs.declared.solo.Repeat.{Repeat}
 use Rattle.emm_state.specs.declared.solo.Repeat.TheVariants as repeats
 use Rattle.emm_state.specs.declared.solo.Solo.{Solo}
@@ -14,7 +14,7 @@ is_elsewhere station (Some k) = not (k.station == station)
 -- the connection is elsewhere, or no item of a list in a RESET matches it
 abbrev pub is_unlisted : ℕ → ToReset → Option Connection → Bool
 is_unlisted station items None = true
-is_unlisted station items (Some k) = not (k.station == station && is_listed k.id k.enb_id items)
+is_unlisted station items (Some k) = not (k.station == station && is_listed k.id k.enb_ue_id items)
 
 abbrev pub pages : Option Repeat → Bool
 pages None = false

@@ -1,13 +1,13 @@
 -- What follows of many ticks: where no countdown ends, to pass n of them is to count down by n.
 use Rattle.std.proofs.Common.{◌≡◌, ℕ, zero, suc, ◌+◌, ◌-◌, ◌<◌, ◌==◌, false, Option, Some, None, refl, sym, subst, ap, ◌∙◌, add-one, arith}
 use Rattle.std.proofs.lemmas.Bool.Decides.{nat_tests}
-use Rattle.mme_vocabulary.specs.Events.{Tick}
+use Rattle.mme_types.specs.Events.{Tick}
 use Rattle.emm_state.specs.declared.setting.Setting.{Setting}
 use Rattle.emm_state.specs.declared.solo.Countdown.{Countdown}
 use Rattle.emm_state.specs.declared.solo.Repeat.{Repeat}
 use Rattle.emm_state.specs.declared.solo.Solo.{Solo}
 use Rattle.emm_state.specs.Actions.{untouched}
-use Rattle.emm_idle.specs.Idle.{lowered, procedure_ticks, reachable_ticks_out, tick}
+use Rattle.emm_network.specs.Idle.{lowered, procedure_ticks, reachable_ticks_out, tick}
 use Rattle.emm_machine.specs.Steps.{row, solo_step}
 use Rattle.emm_machine.specs.Ticks.{AreAbove, AreTimed, IsAbove, IsGoing, IsRunning, IsTimed, both_less, countdowns, less, procedure_less, solo_aged, ticks_after}
 use Rattle.emm_machine.specs.Words.{procedure_left}

@@ -1,6 +1,6 @@
 -- Many ticks at once, and the countdowns that run.
 use Rattle.std.specs.Prelude.{ℕ, zero, suc, ◌-◌, ◌<◌, ◌≤◌, List, Option, Some, None, IsSome}
-use Rattle.mme_vocabulary.specs.Events.{Item, Tick}
+use Rattle.mme_types.specs.Events.{Item, Tick}
 use Rattle.emm_state.specs.declared.setting.Setting.{Setting}
 use Rattle.emm_state.specs.declared.solo.Countdown.{Countdown}
 use Rattle.emm_state.specs.declared.solo.Repeat.{Repeat}

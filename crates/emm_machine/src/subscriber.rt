@@ -2,20 +2,20 @@
 
 ghost use Rattle.std.specs.Prelude.{◌≡◌, IfOk, OnErr, OnOk, length};
 ghost use Rattle.emm_state.specs.Does.{Does};
-ghost use Rattle.mme_vocabulary.specs.Events.{item_of};
+ghost use Rattle.mme_types.specs.Events.{item_of};
 ghost use Rattle.emm_machine.specs.Steps.{row, solo_step, spent};
 ghost use Rattle.emm_machine.specs.Ticks.{AreAbove, countdowns, ticks_after};
 ghost use Rattle.emm_machine.specs.Words.{ecm_of, emm_of, fresh_solo, pages_in, states_of};
 
 use crate::passing::age;
-use emm_connected::{connections_gone, displaced, message_of, station_gone};
-use emm_idle::{cancelled, data_waits, tick};
-use emm_serving::{claim, initial};
+use emm_association::{connections_gone, displaced, message_of, station_gone};
+use emm_network::{cancelled, data_waits, tick};
 use emm_state::{Asked, Counter, Draft, Phase, Repeat, Setting, Solo, StepStop};
+use emm_uplink::{claim, initial};
 use eps_keys::KeySchedule;
 use esm_machine::{Bearer, BearerState};
 use identity_slots::{Profile, Slot, Vectors};
-use mme_vocabulary::{Answers, Connection, EnbWorld, SharedNetwork, SoloEvent, StationNumber};
+use mme_types::{Answers, Connection, EnbWorld, SharedNetwork, SoloEvent, StationNumber};
 use nas_elements::UeCapability;
 use per_bits::Octets;
 use s1ap_elements::{Cause, NasCause, Tai};

@@ -5,8 +5,8 @@ use Rattle.std.specs.Option.{option_map_or}
 use Rattle.s1ap_elements.specs.declared.cause.Cause.{Cause}
 use Rattle.s1ap_elements.specs.declared.cause.Cause.TheVariants.{Nas}
 use Rattle.s1ap_elements.specs.declared.cause.NasCause.TheVariants.{NormalRelease}
-use Rattle.s1ap_messages.specs.declared.pdu.Pdu.{Pdu}
-use Rattle.s1ap_messages.specs.Pdus.{encoded}
+use Rattle.s1ap_pdus.specs.declared.pdu.Pdu.{Pdu}
+use Rattle.s1ap_pdus.specs.Pdus.{encoded}
 use Rattle.nas_messages.specs.declared.protection.SecurityHeader.{SecurityHeader}
 use Rattle.nas_messages.specs.declared.protection.SecurityHeader.TheVariants.{IntegrityProtectedCiphered}
 use Rattle.eps_keys.specs.Eia2.{eia2}
@@ -14,9 +14,9 @@ use Rattle.nas_security.specs.Context.{Mac}
 use Rattle.nas_security.specs.Protecting.{protected_by}
 use Rattle.esm_machine.specs.Requests.{inactive}
 use Rattle.identity_slots.specs.Ids.{id_of_slot, next_counter}
-use Rattle.mme_vocabulary.specs.declared.octets.Mark.{Mark}
-use Rattle.mme_vocabulary.specs.declared.connection.Connection.{Connection}
-use Rattle.mme_vocabulary.specs.Answers.{answer_of}
+use Rattle.mme_types.specs.declared.octets.Mark.{Mark}
+use Rattle.mme_types.specs.declared.connection.Connection.{Connection}
+use Rattle.mme_types.specs.Answers.{answer_of}
 use Rattle.mme_signalling.specs.Pdus.{context_setup, downlink, release_command}
 use Rattle.emm_state.specs.declared.draft.Draft.{Draft}
 use Rattle.emm_state.specs.declared.draft.Sealed.{Sealed}
@@ -51,21 +51,21 @@ disconnected d = record d { solo = record d.solo { connection = None } }
 
 -- UE CONTEXT RELEASE COMMAND with the pair, and the connection is gone
 unfoldable pub release : Cause → Draft → Draft
-release cause d = option_map_or (λ k. disconnected (emit k.station (release_command k.id k.enb_id cause) None d)) d.solo.connection d
+release cause d = option_map_or (λ k. disconnected (emit k.station (release_command k.id k.enb_ue_id cause) None d)) d.solo.connection d
 
 abbrev pub is_at : Connection → ℕ → ℕ → Bool
-is_at k station enb_id = k.station == station && k.enb_id == enb_id
+is_at k station enb_ue_id = k.station == station && k.enb_ue_id == enb_ue_id
 
 -- an old connection elsewhere is released
 unfoldable pub leave_old : ℕ → ℕ → Draft → Draft
-leave_old station enb_id d =
-    option_map_or (λ k. if is_at k station enb_id then d else emit k.station (release_command k.id k.enb_id (Nas NormalRelease)) None d) d.solo.connection d
+leave_old station enb_ue_id d =
+    option_map_or (λ k. if is_at k station enb_ue_id then d else emit k.station (release_command k.id k.enb_ue_id (Nas NormalRelease)) None d) d.solo.connection d
 
 -- the association with this id is the connection
 unfoldable pub connect_on : ℕ → ℕ → ℕ → Draft → Draft
-connect_on id station enb_id d =
-    let left = leave_old station enb_id d in
-    record left { solo = record left.solo { connection = Some (record { id = id; station = station; enb_id = enb_id }) } }
+connect_on id station enb_ue_id d =
+    let left = leave_old station enb_ue_id d in
+    record left { solo = record left.solo { connection = Some (record { id = id; station = station; enb_ue_id = enb_ue_id }) } }
 
 -- the slot's next association id
 abbrev pub next_id : ℕ → Draft → ℕ
@@ -76,18 +76,18 @@ association_counted d = record d { solo = record d.solo { associations = next_co
 
 -- an association with the slot's next id is the connection
 unfoldable pub connect : ℕ → ℕ → ℕ → Draft → Draft
-connect slot station enb_id d = connect_on (next_id slot d) station enb_id (association_counted d)
+connect slot station enb_ue_id d = connect_on (next_id slot d) station enb_ue_id (association_counted d)
 
 -- on a next id of its own a release; all else stays
 unfoldable pub turn_away : ℕ → ℕ → ℕ → Draft → Draft
-turn_away slot station enb_id d = emit station (release_command (next_id slot d) enb_id (Nas NormalRelease)) None (association_counted d)
+turn_away slot station enb_ue_id d = emit station (release_command (next_id slot d) enb_ue_id (Nas NormalRelease)) None (association_counted d)
 
 -- on a next id of its own the message, plain, and a release; all else stays
 unfoldable pub refuse : ℕ → ℕ → ℕ → List ℕ → Draft → Draft
-refuse slot station enb_id nas d =
+refuse slot station enb_ue_id nas d =
     let id = next_id slot d in
-    let sent = emit station (downlink (record { id = id; station = station; enb_id = enb_id }) nas) None (association_counted d) in
-    emit station (release_command id enb_id (Nas NormalRelease)) None sent
+    let sent = emit station (downlink (record { id = id; station = station; enb_ue_id = enb_ue_id }) nas) None (association_counted d) in
+    emit station (release_command id enb_ue_id (Nas NormalRelease)) None sent
 
 -- ---- the registration
 

@@ -1,7 +1,7 @@
 //! The actions of a step.
 
 ghost use Rattle.std.specs.Prelude.{◌≡◌, ◌<◌, ◌^◌, IfOk, OnOk, Some, None, option_map};
-ghost use Rattle.s1ap_messages.specs.Pdus.{encoded, lists};
+ghost use Rattle.s1ap_pdus.specs.Pdus.{encoded, lists};
 ghost use Rattle.s1ap_elements.specs.declared.cause.Cause.TheVariants as causes;
 ghost use Rattle.s1ap_elements.specs.declared.cause.NasCause.TheVariants as nas_causes;
 ghost use Rattle.emm_state.specs.Actions.{connect, connect_on, association_counted, disconnected, emit, ended, fall, is_registered, leave_old, lost, next_id, protect, refuse, release, resting, seal, sealed_under, send, set_up, set_up_with, start, turn_away, wipe, with_context};
@@ -14,11 +14,11 @@ use crate::solo::{Context, Countdown, NasTimer, Phase, Repeat};
 use esm_machine::Bearer;
 use identity_slots::{AssociationId, Slot};
 use mme_signalling::{context_setup, downlink, release_command};
-use mme_vocabulary::{Answer, Connection, Mark, NasOctets, SentOctets, StationNumber};
+use mme_types::{Answer, Connection, Mark, NasOctets, SentOctets, StationNumber};
 use nas_messages::SecurityHeader;
 use nas_security::SecurityFault;
 use s1ap_elements::{Cause, EnbUeId, NasCause};
-use s1ap_messages::S1apPdu;
+use s1ap_pdus::S1apPdu;
 use std::alloc::{AllocError, Global};
 
 // The ticks until a phone that is idle is taken to be gone: the mobile reachable timer, 58 minutes (TS 24.301 clause 10.2).
@@ -130,7 +130,7 @@ impl Draft {
         let Some(connection) = self.solo.connection else {
             return Ok(());
         };
-        let message = release_command(connection.id, connection.enb_id, cause);
+        let message = release_command(connection.id, connection.enb_ue_id, cause);
         self.emit(alloc, connection.station, message, None)?;
         self.solo.connection = None;
         Ok(())
@@ -202,17 +202,17 @@ impl Draft {
         &mut self,
         alloc: Global,
         station: StationNumber,
-        enb_id: EnbUeId,
+        enb_ue_id: EnbUeId,
     ) -> Result<(), AllocError>
-        ensures { OnOk result (self.new ≡ leave_old station enb_id self.old) }
+        ensures { OnOk result (self.new ≡ leave_old station enb_ue_id self.old) }
     {
         let Some(old) = self.solo.connection else {
             return Ok(());
         };
-        if old.station == station && old.enb_id == enb_id {
+        if old.station == station && old.enb_ue_id == enb_ue_id {
             return Ok(());
         }
-        let message = release_command(old.id, old.enb_id, normal_release());
+        let message = release_command(old.id, old.enb_ue_id, normal_release());
         self.emit(alloc, old.station, message, None)
     }
 
@@ -223,15 +223,15 @@ impl Draft {
         alloc: Global,
         id: AssociationId,
         station: StationNumber,
-        enb_id: EnbUeId,
+        enb_ue_id: EnbUeId,
     ) -> Result<(), AllocError>
-        ensures { OnOk result (self.new ≡ connect_on id station enb_id self.old) }
+        ensures { OnOk result (self.new ≡ connect_on id station enb_ue_id self.old) }
     {
-        self.leave_old(alloc, station, enb_id)?;
+        self.leave_old(alloc, station, enb_ue_id)?;
         self.solo.connection = Some(Connection {
             id,
             station,
-            enb_id,
+            enb_ue_id,
         });
         Ok(())
     }
@@ -254,12 +254,12 @@ impl Draft {
         alloc: Global,
         slot: Slot,
         station: StationNumber,
-        enb_id: EnbUeId,
+        enb_ue_id: EnbUeId,
     ) -> Result<(), AllocError>
-        ensures { OnOk result (self.new ≡ connect slot station enb_id self.old) }
+        ensures { OnOk result (self.new ≡ connect slot station enb_ue_id self.old) }
     {
         let id = self.next_id(slot);
-        self.connect_on(alloc, id, station, enb_id)
+        self.connect_on(alloc, id, station, enb_ue_id)
     }
 
     /// A phone's request is answered by a release alone, on an association of its own; all else stays.
@@ -269,12 +269,12 @@ impl Draft {
         alloc: Global,
         slot: Slot,
         station: StationNumber,
-        enb_id: EnbUeId,
+        enb_ue_id: EnbUeId,
     ) -> Result<(), AllocError>
-        ensures { OnOk result (self.new ≡ turn_away slot station enb_id self.old) }
+        ensures { OnOk result (self.new ≡ turn_away slot station enb_ue_id self.old) }
     {
         let id = self.next_id(slot);
-        let message = release_command(id, enb_id, normal_release());
+        let message = release_command(id, enb_ue_id, normal_release());
         self.emit(alloc, station, message, None)
     }
 
@@ -285,22 +285,22 @@ impl Draft {
         alloc: Global,
         slot: Slot,
         station: StationNumber,
-        enb_id: EnbUeId,
+        enb_ue_id: EnbUeId,
         nas: &[u8],
     ) -> Result<(), AllocError>
-        ensures { OnOk result (self.new ≡ refuse slot station enb_id nas.now self.old) }
+        ensures { OnOk result (self.new ≡ refuse slot station enb_ue_id nas.now self.old) }
     {
         let id = self.next_id(slot);
         let message = downlink(
             Connection {
                 id,
                 station,
-                enb_id,
+                enb_ue_id,
             },
             nas,
         );
         self.emit(alloc, station, message, None)?;
-        let released = release_command(id, enb_id, normal_release());
+        let released = release_command(id, enb_ue_id, normal_release());
         self.emit(alloc, station, released, None)
     }
 

@@ -4,7 +4,7 @@ ghost use Rattle.std.specs.Prelude.{◌≡◌, IfOk};
 ghost use Rattle.emm_state.specs.Actions.{untouched};
 
 use crate::solo::{Repeat, Solo};
-use mme_vocabulary::{Answers, Mark, NasOctets};
+use mme_types::{Answers, Mark, NasOctets};
 use std::alloc::{AllocError, Global};
 
 /// A step under way: the state so far, what is sent so far, what an uplink message was accepted under, and whether a message had no

@@ -1,7 +1,7 @@
 //! What never changes of a subscriber.
 
 use identity_slots::{Profile, Slot, Vectors};
-use mme_vocabulary::SharedNetwork;
+use mme_types::SharedNetwork;
 use std::alloc::AllocError;
 
 /// What never changes of a subscriber: its network, its slot, its profile and its vectors.

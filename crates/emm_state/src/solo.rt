@@ -8,7 +8,7 @@ ghost use Rattle.emm_state.specs.Timers.{repeats_of, ticks_of};
 use eps_keys::KeySchedule;
 use esm_machine::Bearer;
 use identity_slots::{AssociationId, Slot, Tmsi};
-use mme_vocabulary::{Connection, NasOctets, RadioKeys, StationNumber};
+use mme_types::{Connection, NasOctets, RadioKeys, StationNumber};
 use nas_elements::UeCapability;
 use nas_messages::SecurityHeader;
 use nas_security::{Eia2, EpsSecurityContext};

@@ -3,7 +3,7 @@ use Rattle.std.proofs.Common.{◌≡◌, ℕ, ◌+◌, ◌^◌, ◌<◌, Bool, t
 use Rattle.std.specs.Prelude.{◌||◌, is_none}
 use Rattle.std.specs.Option.{option_map_or}
 use Rattle.std.proofs.lemmas.Option.{same_Some}
-use Rattle.bit_streams.specs.Octet.{AreBytes}
+use Rattle.per_streams.specs.Octet.{AreBytes}
 use Rattle.identity_slots.specs.Ids.{id_of_slot, next_counter, slots}
 use Rattle.identity_slots.specs.declared.profile.Profile.{Profile}
 use Rattle.nas_messages.specs.declared.protection.SecurityHeader.{SecurityHeader}
@@ -12,10 +12,10 @@ use Rattle.s1ap_elements.specs.declared.cause.Cause.{Cause}
 use Rattle.s1ap_elements.specs.declared.cause.Cause.TheVariants.{Nas}
 use Rattle.s1ap_elements.specs.declared.cause.NasCause.TheVariants.{NormalRelease}
 use Rattle.s1ap_elements.specs.declared.phone.Tai.{Tai}
-use Rattle.s1ap_messages.specs.declared.pdu.Pdu.{Pdu}
-use Rattle.mme_vocabulary.specs.declared.connection.Connection.{Connection}
-use Rattle.mme_vocabulary.specs.declared.network.Network.{Network}
-use Rattle.mme_vocabulary.specs.declared.octets.Mark.{Mark}
+use Rattle.s1ap_pdus.specs.declared.pdu.Pdu.{Pdu}
+use Rattle.mme_types.specs.declared.connection.Connection.{Connection}
+use Rattle.mme_types.specs.declared.network.Network.{Network}
+use Rattle.mme_types.specs.declared.octets.Mark.{Mark}
 use Rattle.mme_signalling.specs.Pdus.{context_setup, downlink, error_indication, is_extended, paging, path_switch_acknowledge, path_switch_failure, release_command}
 use Rattle.emm_state.specs.declared.draft.Draft.{Draft}
 use Rattle.emm_state.specs.declared.draft.Sealed.{Sealed}
@@ -35,9 +35,9 @@ use Rattle.emm_written.specs.InRange.{ConnectionInRangeIf, ContextInRange, Conte
 -- what written_messages' law says of each message
 pub record AreWritten : Type 0 where
   pub nas : (k : Connection) (nas : List ℕ) → ConnectionInRange k → IsBrief 15000 nas → IsWritten (downlink k nas)
-  pub release : (id enb_id : ℕ) (c : Cause) → id < 2 ^ 32 → enb_id < 2 ^ 24 → is_extended c ≡ false → IsWritten (release_command id enb_id c)
-  pub indication : (id enb_id : ℕ) (c : Cause) → id < 2 ^ 32 → enb_id < 2 ^ 24 → is_extended c ≡ false → IsWritten (error_indication id enb_id c)
-  pub not_switched : (id enb_id : ℕ) (c : Cause) → id < 2 ^ 32 → enb_id < 2 ^ 24 → is_extended c ≡ false → IsWritten (path_switch_failure id enb_id c)
+  pub release : (id enb_ue_id : ℕ) (c : Cause) → id < 2 ^ 32 → enb_ue_id < 2 ^ 24 → is_extended c ≡ false → IsWritten (release_command id enb_ue_id c)
+  pub indication : (id enb_ue_id : ℕ) (c : Cause) → id < 2 ^ 32 → enb_ue_id < 2 ^ 24 → is_extended c ≡ false → IsWritten (error_indication id enb_ue_id c)
+  pub not_switched : (id enb_ue_id : ℕ) (c : Cause) → id < 2 ^ 32 → enb_ue_id < 2 ^ 24 → is_extended c ≡ false → IsWritten (path_switch_failure id enb_ue_id c)
   pub switched : (k : Connection) (hop : List ℕ) (count : ℕ) → ConnectionInRange k → AreBytes 32 hop → count < 8 → IsWritten (path_switch_acknowledge k hop count)
   pub page : (n : Network) (imsi : List ℕ) (tmsi : ℕ) (tai : Tai) → NetworkInRange n → TaiInRange tai → IsWritten (paging n imsi tmsi tai)
   pub set_up : (n : Network) (p : Profile) (capability : List ℕ) (k : Connection) (kenb : List ℕ) (nas : Option (List ℕ)) → NetworkInRange n → ProfileInRange p → ConnectionInRange k
@@ -197,39 +197,39 @@ module _ (written : AreWritten) where
   unfolding release
   fit_release {d} cause known h =
       at_some IsFit d.solo.connection
-      (λ k is. let ids = connection_at d.solo.connection k is h.solo.connection in fit_disconnected (fit_emit k.station _ None (written.release k.id k.enb_id cause ids.id ids.enb_id known) h))
+      (λ k is. let ids = connection_at d.solo.connection k is h.solo.connection in fit_disconnected (fit_emit k.station _ None (written.release k.id k.enb_ue_id cause ids.id ids.enb_ue_id known) h))
       (λ is. h)
 
-  pub fit_leave_old : {d : Draft} (station enb_id : ℕ) → IsFit d → IsFit (leave_old station enb_id d)
+  pub fit_leave_old : {d : Draft} (station enb_ue_id : ℕ) → IsFit d → IsFit (leave_old station enb_ue_id d)
   unfolding leave_old
-  fit_leave_old {d} station enb_id h =
+  fit_leave_old {d} station enb_ue_id h =
       at_some IsFit d.solo.connection
       (λ k is. let ids = connection_at d.solo.connection k is h.solo.connection in
-      either IsFit (is_at k station enb_id) h (fit_emit k.station _ None (written.release k.id k.enb_id (Nas NormalRelease) ids.id ids.enb_id refl) h))
+      either IsFit (is_at k station enb_ue_id) h (fit_emit k.station _ None (written.release k.id k.enb_ue_id (Nas NormalRelease) ids.id ids.enb_ue_id refl) h))
       (λ is. h)
 
-  pub fit_connect_on : {d : Draft} (id station enb_id : ℕ) → id < 2 ^ 32 → enb_id < 2 ^ 24 → IsFit d → IsFit (connect_on id station enb_id d)
+  pub fit_connect_on : {d : Draft} (id station enb_ue_id : ℕ) → id < 2 ^ 32 → enb_ue_id < 2 ^ 24 → IsFit d → IsFit (connect_on id station enb_ue_id d)
   unfolding connect_on
-  fit_connect_on {d} id station enb_id low less h =
-      let left = fit_leave_old {d = d} station enb_id h in
-      record { solo = connected_in (leave_old station enb_id d).solo (Some (record { id = id; station = station; enb_id = enb_id })) (record { id = low; enb_id = less }) left.solo; sent = left.sent }
+  fit_connect_on {d} id station enb_ue_id low less h =
+      let left = fit_leave_old {d = d} station enb_ue_id h in
+      record { solo = connected_in (leave_old station enb_ue_id d).solo (Some (record { id = id; station = station; enb_ue_id = enb_ue_id })) (record { id = low; enb_ue_id = less }) left.solo; sent = left.sent }
 
-  pub fit_connect : {d : Draft} (s : Setting) (station enb_id : ℕ) → SettingInRange s → enb_id < 2 ^ 24 → IsFit d → IsFit (connect s.slot station enb_id d)
+  pub fit_connect : {d : Draft} (s : Setting) (station enb_ue_id : ℕ) → SettingInRange s → enb_ue_id < 2 ^ 24 → IsFit d → IsFit (connect s.slot station enb_ue_id d)
   unfolding connect
-  fit_connect {d} s station enb_id setting less h = fit_connect_on _ station enb_id (id_in_range s.slot d.solo.associations setting.slot) less (fit_association_counted h)
+  fit_connect {d} s station enb_ue_id setting less h = fit_connect_on _ station enb_ue_id (id_in_range s.slot d.solo.associations setting.slot) less (fit_association_counted h)
 
-  pub fit_turn_away : {d : Draft} (s : Setting) (station enb_id : ℕ) → SettingInRange s → enb_id < 2 ^ 24 → IsFit d → IsFit (turn_away s.slot station enb_id d)
+  pub fit_turn_away : {d : Draft} (s : Setting) (station enb_ue_id : ℕ) → SettingInRange s → enb_ue_id < 2 ^ 24 → IsFit d → IsFit (turn_away s.slot station enb_ue_id d)
   unfolding turn_away
-  fit_turn_away {d} s station enb_id setting less h =
-      fit_emit station _ None (written.release (next_id s.slot d) enb_id (Nas NormalRelease) (id_in_range s.slot d.solo.associations setting.slot) less refl) (fit_association_counted h)
+  fit_turn_away {d} s station enb_ue_id setting less h =
+      fit_emit station _ None (written.release (next_id s.slot d) enb_ue_id (Nas NormalRelease) (id_in_range s.slot d.solo.associations setting.slot) less refl) (fit_association_counted h)
 
-  pub fit_refuse : {d : Draft} (s : Setting) (station enb_id : ℕ) (nas : List ℕ) → SettingInRange s → enb_id < 2 ^ 24 → IsBrief 1000 nas → IsFit d → IsFit (refuse s.slot station enb_id nas d)
+  pub fit_refuse : {d : Draft} (s : Setting) (station enb_ue_id : ℕ) (nas : List ℕ) → SettingInRange s → enb_ue_id < 2 ^ 24 → IsBrief 1000 nas → IsFit d → IsFit (refuse s.slot station enb_ue_id nas d)
   unfolding refuse
-  fit_refuse {d} s station enb_id nas setting less brief h =
+  fit_refuse {d} s station enb_ue_id nas setting less brief h =
       let low = id_in_range s.slot d.solo.associations setting.slot in
-      let k : Connection = record { id = next_id s.slot d; station = station; enb_id = enb_id } in
-      fit_emit station _ None (written.release (next_id s.slot d) enb_id (Nas NormalRelease) low less refl)
-      (fit_emit station _ None (written.nas k nas (record { id = low; enb_id = less }) (brief_within brief (omega arith))) (fit_association_counted h))
+      let k : Connection = record { id = next_id s.slot d; station = station; enb_ue_id = enb_ue_id } in
+      fit_emit station _ None (written.release (next_id s.slot d) enb_ue_id (Nas NormalRelease) low less refl)
+      (fit_emit station _ None (written.nas k nas (record { id = low; enb_ue_id = less }) (brief_within brief (omega arith))) (fit_association_counted h))
 
   pub fit_forgotten : {d : Draft} (cause : Cause) → is_extended cause ≡ false → IsFit d → IsFit (wipe (release cause d))
   fit_forgotten cause known h = fit_wipe (fit_release cause known h)

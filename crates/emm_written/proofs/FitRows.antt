@@ -1,6 +1,6 @@
 -- Each row leaves a state in range and sends each of its messages, and so does the step.
 use Rattle.std.proofs.Common.{◌≡◌, ℕ, ◌-◌, ◌%◌, ◌^◌, ◌<◌, Bool, true, false, cond, not, List, [], ◌∷◌, Option, Some, None, Result, Ok, Err, is_some, unwrap_or, slice_get, refl, subst, arith}
-use Rattle.bit_streams.specs.Octet.{AreBytes, all_below}
+use Rattle.per_streams.specs.Octet.{AreBytes, all_below}
 use Rattle.esm_machine.specs.declared.reaction.Reaction.{Reaction}
 use Rattle.esm_machine.specs.declared.reaction.Reaction.TheVariants as reactions
 use Rattle.esm_machine.specs.declared.request.Requested.{Requested}
@@ -17,14 +17,14 @@ use Rattle.s1ap_elements.specs.declared.cause.Cause.TheVariants as causes
 use Rattle.s1ap_elements.specs.declared.cause.ProtocolCause.TheVariants as protocol
 use Rattle.s1ap_elements.specs.declared.cause.RadioNetworkCause.TheVariants as radio
 use Rattle.s1ap_elements.specs.declared.phone.Tai.{Tai}
-use Rattle.s1ap_messages.specs.declared.pdu.Pdu.{Pdu}
-use Rattle.mme_vocabulary.specs.declared.event.Entry.{Entry}
-use Rattle.mme_vocabulary.specs.declared.event.UeBody.{UeBody}
-use Rattle.mme_vocabulary.specs.declared.event.UeBody.TheVariants as bodies
-use Rattle.mme_vocabulary.specs.declared.event.UeMessage.{UeMessage}
-use Rattle.mme_vocabulary.specs.declared.stations.StationState.{StationState}
-use Rattle.mme_vocabulary.specs.Events as events
-use Rattle.mme_vocabulary.specs.Listed.{ToReset}
+use Rattle.s1ap_pdus.specs.declared.pdu.Pdu.{Pdu}
+use Rattle.mme_types.specs.declared.event.Entry.{Entry}
+use Rattle.mme_types.specs.declared.event.UeBody.{UeBody}
+use Rattle.mme_types.specs.declared.event.UeBody.TheVariants as bodies
+use Rattle.mme_types.specs.declared.event.UeMessage.{UeMessage}
+use Rattle.mme_types.specs.declared.stations.StationState.{StationState}
+use Rattle.mme_types.specs.Events as events
+use Rattle.mme_types.specs.Listed.{ToReset}
 use Rattle.mme_signalling.specs.declared.cause.EmmCause.{EmmCause}
 use Rattle.mme_signalling.specs.declared.heard.Heard.{Heard}
 use Rattle.mme_signalling.specs.declared.heard.Heard.TheVariants as heards
@@ -172,9 +172,9 @@ module _ (written : AreWritten) (spelled : DecodedIsSpelled) (esm_spelled : Deco
 
   fit_authenticating : {d : Draft} (m : Heard (List ℕ)) → IsFit d → FitIf (attaching.authenticating s m d)
   unfolding attaching.authenticating
-  fit_authenticating (heards.Response res) h = fit_response res h
-  fit_authenticating (heards.Failure cause) h = some (fit_failure cause h)
-  fit_authenticating (heards.Detach switch_off) h = some (fit_detach_plainly switch_off h)
+  fit_authenticating (heards.AuthenticationResponse res) h = fit_response res h
+  fit_authenticating (heards.AuthenticationFailure cause) h = some (fit_failure cause h)
+  fit_authenticating (heards.DetachRequest switch_off) h = some (fit_detach_plainly switch_off h)
   fit_authenticating heards.Unasked h = some h
   fit_authenticating (heards.Unreadable fault) h = some (fit_status_plainly _ h)
   fit_authenticating _ h = some (fit_status_plainly _ h)
@@ -226,13 +226,13 @@ module _ (written : AreWritten) (spelled : DecodedIsSpelled) (esm_spelled : Deco
   fit_served_by : {d : Draft} (r : Result ℕ SecurityFault) (x : Context) (m : Entry (List ℕ)) → ContextInRange x → EntryInRange m → IsFit d → IsFit (serving.served_by r s x m d)
   unfolding serving.served_by serving.served
   fit_served_by (Ok count) x m known entry h =
-      fit_set_up written s _ None None setting (kenb_bytes x.kasme count) tt (fit_keyed _ count (counted x count known) (fit_active _ (fit_connect written s m.station m.enb_id setting entry.enb_id h)))
-  fit_served_by (Err fault) x m known entry h = fit_refuse written s m.station m.enb_id _ setting entry.enb_id (brief_service_reject _) h
+      fit_set_up written s _ None None setting (kenb_bytes x.kasme count) tt (fit_keyed _ count (counted x count known) (fit_active _ (fit_connect written s m.station m.enb_ue_id setting entry.enb_ue_id h)))
+  fit_served_by (Err fault) x m known entry h = fit_refuse written s m.station m.enb_ue_id _ setting entry.enb_ue_id (brief_service_reject _) h
 
   fit_service : {d : Draft} (m : Entry (List ℕ)) (octets : List ℕ) → EntryInRange m → IsFit d → IsFit (serving.service s m octets d)
   unfolding serving.service
   fit_service {d} m octets entry h =
-      let refused = λ (cause : EmmCause). fit_refuse written s m.station m.enb_id (service_reject cause) setting entry.enb_id (brief_service_reject cause) h in
+      let refused = λ (cause : EmmCause). fit_refuse written s m.station m.enb_ue_id (service_reject cause) setting entry.enb_ue_id (brief_service_reject cause) h in
       either IsFit _ (at_some IsFit d.solo.context (λ x is. fit_served_by _ x m (known_in d.solo.context x is h.solo.context) entry h) (λ is. refused _)) (refused _)
 
   fit_update : {d : Draft} (tai : Tai) (combined initial : Bool) → TaiInRange tai → IsFit d → FitIf (serving.update s tai combined initial d)
@@ -246,13 +246,13 @@ module _ (written : AreWritten) (spelled : DecodedIsSpelled) (esm_spelled : Deco
   fit_updated_by : {d : Draft} (r : Acceptance) (x : Context) (m : Entry (List ℕ)) (combined : Bool) → ContextInRange x → EntryInRange m → IsFit d → FitIf (serving.updated_by r s x m combined d)
   unfolding serving.updated_by
   fit_updated_by (Ok found) x m combined known entry h =
-      fit_update m.tai combined true entry.tai (fit_took _ found.0 (counted x found.0 known) (fit_connect written s m.station m.enb_id setting entry.enb_id h))
-  fit_updated_by (Err fault) x m combined known entry h = some (fit_refuse written s m.station m.enb_id _ setting entry.enb_id (brief_update_reject _) h)
+      fit_update m.tai combined true entry.tai (fit_took _ found.0 (counted x found.0 known) (fit_connect written s m.station m.enb_ue_id setting entry.enb_ue_id h))
+  fit_updated_by (Err fault) x m combined known entry h = some (fit_refuse written s m.station m.enb_ue_id _ setting entry.enb_ue_id (brief_update_reject _) h)
 
   fit_initial_update : {d : Draft} (m : Entry (List ℕ)) (combined : Bool) → EntryInRange m → IsFit d → FitIf (serving.initial_update s m combined d)
   unfolding serving.initial_update
   fit_initial_update {d} m combined entry h =
-      let refused = λ (cause : EmmCause). some (fit_refuse written s m.station m.enb_id (update_reject cause) setting entry.enb_id (brief_update_reject cause) h) in
+      let refused = λ (cause : EmmCause). some (fit_refuse written s m.station m.enb_ue_id (update_reject cause) setting entry.enb_ue_id (brief_update_reject cause) h) in
       either FitIf _ (at_some FitIf d.solo.context (λ x is. fit_updated_by _ x m combined (known_in d.solo.context x is h.solo.context) entry h) (λ is. refused _)) (refused _)
 
   fit_detach : {d : Draft} (switch_off : Bool) → IsFit d → FitIf (serving.detach switch_off d)
@@ -261,27 +261,27 @@ module _ (written : AreWritten) (spelled : DecodedIsSpelled) (esm_spelled : Deco
 
   fit_detached_by : {d : Draft} (r : Acceptance) (x : Context) (m : Entry (List ℕ)) (switch_off : Bool) → ContextInRange x → EntryInRange m → IsFit d → FitIf (serving.detached_by r s x m switch_off d)
   unfolding serving.detached_by
-  fit_detached_by (Ok found) x m switch_off known entry h = fit_detach switch_off (fit_took _ found.0 (counted x found.0 known) (fit_connect written s m.station m.enb_id setting entry.enb_id h))
-  fit_detached_by (Err fault) x m switch_off known entry h = some (fit_turn_away written s m.station m.enb_id setting entry.enb_id h)
+  fit_detached_by (Ok found) x m switch_off known entry h = fit_detach switch_off (fit_took _ found.0 (counted x found.0 known) (fit_connect written s m.station m.enb_ue_id setting entry.enb_ue_id h))
+  fit_detached_by (Err fault) x m switch_off known entry h = some (fit_turn_away written s m.station m.enb_ue_id setting entry.enb_ue_id h)
 
   fit_initial_detach : {d : Draft} (m : Entry (List ℕ)) (switch_off : Bool) → EntryInRange m → IsFit d → FitIf (serving.initial_detach s m switch_off d)
   unfolding serving.initial_detach
   fit_initial_detach {d} m switch_off entry h =
-      either FitIf _ (some (fit_detach_plainly switch_off (fit_connect written s m.station m.enb_id setting entry.enb_id h)))
-      (at_some FitIf d.solo.context (λ x is. fit_detached_by _ x m switch_off (known_in d.solo.context x is h.solo.context) entry h) (λ is. some (fit_turn_away written s m.station m.enb_id setting entry.enb_id h)))
+      either FitIf _ (some (fit_detach_plainly switch_off (fit_connect written s m.station m.enb_ue_id setting entry.enb_ue_id h)))
+      (at_some FitIf d.solo.context (λ x is. fit_detached_by _ x m switch_off (known_in d.solo.context x is h.solo.context) entry h) (λ is. some (fit_turn_away written s m.station m.enb_ue_id setting entry.enb_ue_id h)))
 
   fit_entered : {d : Draft} (m : Heard (List ℕ)) (e : Entry (List ℕ)) → HeardInRange m → EntryInRange e → IsFit d → FitIf (serving.entered m s e d)
   unfolding serving.entered
-  fit_entered (heards.Attach combined capability esm) e parts entry h =
-      some (fit_attach combined capability esm e.tai parts.0 parts.1 entry.tai (fit_connect written s e.station e.enb_id setting entry.enb_id h))
-  fit_entered (heards.Service octets) e parts entry h = some (fit_service e octets entry h)
-  fit_entered (heards.Update combined) e parts entry h = fit_initial_update e combined entry h
-  fit_entered (heards.Detach switch_off) e parts entry h = fit_initial_detach e switch_off entry h
+  fit_entered (heards.AttachRequest combined capability esm) e parts entry h =
+      some (fit_attach combined capability esm e.tai parts.0 parts.1 entry.tai (fit_connect written s e.station e.enb_ue_id setting entry.enb_ue_id h))
+  fit_entered (heards.ServiceRequest octets) e parts entry h = some (fit_service e octets entry h)
+  fit_entered (heards.TrackingAreaUpdateRequest combined) e parts entry h = fit_initial_update e combined entry h
+  fit_entered (heards.DetachRequest switch_off) e parts entry h = fit_initial_detach e switch_off entry h
   fit_entered _ e parts entry h = some h
 
   fit_claimed : {d : Draft} (m : Heard (List ℕ)) (id : ℕ) (e : Entry (List ℕ)) → HeardInRange m → id < 2 ^ 32 → EntryInRange e → IsFit d → IsFit (serving.claimed m s id e d)
   unfolding serving.claimed
-  fit_claimed (heards.Attach combined capability esm) id e parts low entry h = fit_attach combined capability esm e.tai parts.0 parts.1 entry.tai (fit_connect_on written id e.station e.enb_id low entry.enb_id h)
+  fit_claimed (heards.AttachRequest combined capability esm) id e parts low entry h = fit_attach combined capability esm e.tai parts.0 parts.1 entry.tai (fit_connect_on written id e.station e.enb_ue_id low entry.enb_ue_id h)
   fit_claimed _ id e parts low entry h = h
 
   -- ---- protected messages on the connection
@@ -310,9 +310,9 @@ module _ (written : AreWritten) (spelled : DecodedIsSpelled) (esm_spelled : Deco
   fit_inner_emm : {d : Draft} (m : Heard (List ℕ)) (tai : Tai) → TaiInRange tai → IsFit d → FitIf (serving.inner_emm m s tai d)
   unfolding serving.inner_emm
   fit_inner_emm (heards.AttachComplete esm) tai area h = either FitIf _ (some (fit_attach_completed esm h)) (fit_status _ h)
-  fit_inner_emm heards.UpdateComplete tai area h = either FitIf _ (some (fit_update_completed h)) (fit_status _ h)
-  fit_inner_emm (heards.Update combined) tai area h = either FitIf _ (fit_update tai combined false area h) (fit_status _ h)
-  fit_inner_emm (heards.Detach switch_off) tai area h = fit_detach switch_off h
+  fit_inner_emm heards.TrackingAreaUpdateComplete tai area h = either FitIf _ (some (fit_update_completed h)) (fit_status _ h)
+  fit_inner_emm (heards.TrackingAreaUpdateRequest combined) tai area h = either FitIf _ (fit_update tai combined false area h) (fit_status _ h)
+  fit_inner_emm (heards.DetachRequest switch_off) tai area h = fit_detach switch_off h
   fit_inner_emm heards.DetachAccept tai area h = either FitIf _ (some (fit_forgotten written _ refl h)) (fit_status _ h)
   fit_inner_emm heards.Unasked tai area h = some h
   fit_inner_emm (heards.Unreadable fault) tai area h = fit_status _ h
@@ -354,13 +354,13 @@ module _ (written : AreWritten) (spelled : DecodedIsSpelled) (esm_spelled : Deco
   fit_on_connection : {d : Draft} (body : UeBody (List ℕ)) → BodyInRange body → IsFit d → FitIf (connected.on_connection body s d)
   unfolding connected.on_connection
   fit_on_connection {d} (bodies.Uplink nas tai) parts h = fit_uplink d.solo.phase tai nas parts.0 parts.1 h
-  fit_on_connection (bodies.ReleaseRequest cause) parts h = some (fit_fall written _ (requests_are_known cause) h)
-  fit_on_connection bodies.ContextSetupFailure parts h = some (fit_fall written _ refl h)
+  fit_on_connection (bodies.UeContextReleaseRequest cause) parts h = some (fit_fall written _ (requests_are_known cause) h)
+  fit_on_connection bodies.InitialContextSetupFailure parts h = some (fit_fall written _ refl h)
   fit_on_connection _ parts h = some h
 
   fit_indicate : {d : Draft} (cause : Cause) (m : UeMessage (List ℕ)) → is_extended cause ≡ false → MessageInRange m → IsFit d → IsFit (connected.indicate cause m d)
   unfolding connected.indicate
-  fit_indicate cause m known message h = fit_emit m.station _ None (written.indication m.mme_id m.enb_id cause message.mme_id message.enb_id known) h
+  fit_indicate cause m known message h = fit_emit m.station _ None (written.indication m.mme_ue_id m.enb_ue_id cause message.mme_ue_id message.enb_ue_id known) h
 
   fit_checked : {d : Draft} (m : UeMessage (List ℕ)) → MessageInRange m → IsFit d → FitIf (connected.checked s m d)
   unfolding connected.checked
@@ -370,27 +370,27 @@ module _ (written : AreWritten) (spelled : DecodedIsSpelled) (esm_spelled : Deco
   unfolding connected.switched
   fit_switched {d} m x known message h =
       let moved : ContextInRange (record x { radio = connected.hopped x }) = record { integrity = known.integrity; radio = hopped_in_range x known } in
-      let ids : ConnectionInRange (connected.connection_of m) = record { id = message.mme_id; enb_id = message.enb_id } in
+      let ids : ConnectionInRange (connected.connection_of m) = record { id = message.mme_ue_id; enb_ue_id = message.enb_ue_id } in
       fit_emit m.station _ None (written.switched (connected.connection_of m) (connected.hop_behind x) (connected.next_chaining_count x.radio.chaining_count) ids (hop_bytes x) (omega arith))
       (record { solo = with_context (record d.solo { connection = Some (connected.connection_of m) }) _ moved (connected_in d.solo (Some (connected.connection_of m)) ids h.solo); sent = h.sent })
 
   fit_not_switched : {d : Draft} (cause : Cause) (m : UeMessage (List ℕ)) → is_extended cause ≡ false → MessageInRange m → IsFit d → IsFit (connected.not_switched cause m d)
   unfolding connected.not_switched
-  fit_not_switched cause m known message h = fit_emit m.station _ None (written.not_switched m.mme_id m.enb_id cause message.mme_id message.enb_id known) h
+  fit_not_switched cause m known message h = fit_emit m.station _ None (written.not_switched m.mme_ue_id m.enb_ue_id cause message.mme_ue_id message.enb_ue_id known) h
 
   fit_path_switch : {d : Draft} (m : UeMessage (List ℕ)) → MessageInRange m → IsFit d → IsFit (connected.path_switch m d)
   unfolding connected.path_switch
   fit_path_switch {d} m message h =
       let unknown = fit_not_switched (causes.RadioNetwork radio.UnknownMmeUeS1apId) m refl message h in
       either IsFit (not (connected.has_connection_id m d)) unknown
-      (either IsFit (not (is_of_slot m.mme_id)) unknown
+      (either IsFit (not (is_of_slot m.mme_ue_id)) unknown
       (either IsFit (is_registered d.solo.phase)
       (at_some IsFit d.solo.context (λ x is. fit_switched m x (known_in d.solo.context x is h.solo.context) message h) (λ is. h))
       (fit_not_switched (causes.Protocol protocol.MessageNotCompatible) m refl message h)))
 
   fit_message_of : {d : Draft} (body : UeBody (List ℕ)) (m : UeMessage (List ℕ)) → MessageInRange m → IsFit d → FitIf (connected.message_of body s m d)
   unfolding connected.message_of
-  fit_message_of bodies.ReleaseComplete m message h = some h
+  fit_message_of bodies.UeContextReleaseComplete m message h = some h
   fit_message_of bodies.PathSwitch m message h = some (fit_path_switch m message h)
   fit_message_of _ m message h = fit_checked m message h
 

@@ -3,7 +3,7 @@
 use Rattle.std.proofs.Common.{◌≡◌, ℕ, ◌+◌, ◌*◌, ◌/◌, ◌^◌, ◌<◌, Bool, true, false, cond, ltb, eqb, List, [], ◌∷◌, ◌++◌, length, slice_index, Option, Some, None, Result, Ok, Err, refl, subst, arith}
 use Rattle.std.specs.Prelude.{option_map}
 use Rattle.std.proofs.lemmas.Bool.{and_from, and_parts, ltb-true}
-use Rattle.bit_streams.specs.Octet.{all_below}
+use Rattle.per_streams.specs.Octet.{all_below}
 use Rattle.nas_elements.specs.declared.fault.NasFault.{NasFault}
 use Rattle.nas_elements.specs.declared.fault.NasFault.TheVariants as faults
 use Rattle.nas_messages.specs.declared.emm_types.AttachRequest.{AttachRequest}
@@ -95,7 +95,7 @@ accepted_in_range mac last allowed os e = parts_accepted mac last allowed (split
 -- ---- an ATTACH REQUEST
 
 abbrev pub HeardInRange : Heard (List ℕ) → Type 0
-HeardInRange (heards.Attach combined capability esm) = (all_below 256 capability ≡ true) × (all_below 256 esm ≡ true)
+HeardInRange (heards.AttachRequest combined capability esm) = (all_below 256 capability ≡ true) × (all_below 256 esm ≡ true)
 HeardInRange _ = Unit {0}
 
 below_left : (xs ys : List ℕ) → all_below 256 (xs ++ ys) ≡ true → all_below 256 xs ≡ true

@@ -3,7 +3,7 @@ use Rattle.std.proofs.Common.{◌≡◌, ℕ, ◌+◌, ◌%◌, List, Option, So
 use Rattle.std.specs.Option.{option_map_or}
 use Rattle.s1ap_elements.specs.declared.cause.Cause.TheVariants as causes
 use Rattle.s1ap_elements.specs.declared.cause.NasCause.TheVariants.{AuthenticationFailure, NormalRelease}
-use Rattle.mme_vocabulary.specs.declared.connection.Connection.{Connection}
+use Rattle.mme_types.specs.declared.connection.Connection.{Connection}
 use Rattle.mme_signalling.specs.Messages.{attach_reject, authentication_reject, authentication_request}
 use Rattle.emm_state.specs.declared.draft.Draft.{Draft}
 use Rattle.emm_state.specs.declared.solo.Phase.TheVariants.{Authenticating}

@@ -6,15 +6,15 @@ use Rattle.std.proofs.lemmas.List.{append-nil}
 use Rattle.std.proofs.lemmas.Option.{same_Some}
 use Rattle.s1ap_elements.specs.declared.cause.Cause.TheVariants.{Nas}
 use Rattle.s1ap_elements.specs.declared.cause.NasCause.TheVariants.{NormalRelease}
-use Rattle.s1ap_messages.specs.declared.pdu.Pdu.{Pdu}
-use Rattle.s1ap_messages.specs.Pdus.{encoded}
+use Rattle.s1ap_pdus.specs.declared.pdu.Pdu.{Pdu}
+use Rattle.s1ap_pdus.specs.Pdus.{encoded}
 use Rattle.nas_messages.specs.declared.protection.SecurityHeader.{SecurityHeader}
 use Rattle.eps_keys.specs.declared.direction.DirectionBit.TheVariants.{Downlink}
-use Rattle.mme_vocabulary.specs.declared.connection.Connection.{Connection}
-use Rattle.mme_vocabulary.specs.declared.octets.Answer.{Answer}
-use Rattle.mme_vocabulary.specs.declared.octets.Mark.{Mark}
-use Rattle.mme_vocabulary.specs.Answers.{answer_of}
-use Rattle.mme_vocabulary.specs.Events.{Item}
+use Rattle.mme_types.specs.declared.connection.Connection.{Connection}
+use Rattle.mme_types.specs.declared.octets.Answer.{Answer}
+use Rattle.mme_types.specs.declared.octets.Mark.{Mark}
+use Rattle.mme_types.specs.Answers.{answer_of}
+use Rattle.mme_types.specs.Events.{Item}
 use Rattle.mme_signalling.specs.Pdus.{context_setup, downlink, paging, path_switch_acknowledge, release_command}
 use Rattle.emm_state.specs.declared.draft.Draft.{Draft}
 use Rattle.emm_state.specs.declared.draft.Sealed.{Sealed}
@@ -60,33 +60,33 @@ module _ (written : AreWritten) where
   unfolding release disconnected
   release_whole d k cause range is known =
       let ids = connection_at d.solo.connection k is range.connection in
-      with_some (SendsWhole k.station None (release_command k.id k.enb_id cause) d) (λ k. disconnected (emit k.station (release_command k.id k.enb_id cause) None d)) d d.solo.connection k is
-      (emit_whole d k.station (release_command k.id k.enb_id cause) None (written.release k.id k.enb_id cause ids.id ids.enb_id known))
+      with_some (SendsWhole k.station None (release_command k.id k.enb_ue_id cause) d) (λ k. disconnected (emit k.station (release_command k.id k.enb_ue_id cause) None d)) d d.solo.connection k is
+      (emit_whole d k.station (release_command k.id k.enb_ue_id cause) None (written.release k.id k.enb_ue_id cause ids.id ids.enb_ue_id known))
 
   pub leave_whole : LeaveIsWhole
   unfolding leave_old
-  leave_whole d k station enb_id range is away =
+  leave_whole d k station enb_ue_id range is away =
       let ids = connection_at d.solo.connection k is range.connection in
-      let message = release_command k.id k.enb_id (Nas NormalRelease) in
-      with_some (SendsWhole k.station None message d) (λ k. cond (is_at k station enb_id) d (emit k.station (release_command k.id k.enb_id (Nas NormalRelease)) None d)) d d.solo.connection k is
-      (with_false (SendsWhole k.station None message d) (is_at k station enb_id) d (emit k.station message None d) away
-      (emit_whole d k.station message None (written.release k.id k.enb_id (Nas NormalRelease) ids.id ids.enb_id refl)))
+      let message = release_command k.id k.enb_ue_id (Nas NormalRelease) in
+      with_some (SendsWhole k.station None message d) (λ k. cond (is_at k station enb_ue_id) d (emit k.station (release_command k.id k.enb_ue_id (Nas NormalRelease)) None d)) d d.solo.connection k is
+      (with_false (SendsWhole k.station None message d) (is_at k station enb_ue_id) d (emit k.station message None d) away
+      (emit_whole d k.station message None (written.release k.id k.enb_ue_id (Nas NormalRelease) ids.id ids.enb_ue_id refl)))
 
   pub turn_away_whole : TurnAwayIsWhole
   unfolding turn_away association_counted
-  turn_away_whole s d station enb_id setting less =
-      emit_whole (association_counted d) station (release_command (next_id s.slot d) enb_id (Nas NormalRelease)) None
-      (written.release (next_id s.slot d) enb_id (Nas NormalRelease) (id_in_range s.slot d.solo.associations setting.slot) less refl)
+  turn_away_whole s d station enb_ue_id setting less =
+      emit_whole (association_counted d) station (release_command (next_id s.slot d) enb_ue_id (Nas NormalRelease)) None
+      (written.release (next_id s.slot d) enb_ue_id (Nas NormalRelease) (id_in_range s.slot d.solo.associations setting.slot) less refl)
 
   pub refuse_whole : RefuseIsWhole
   unfolding refuse association_counted
-  refuse_whole s d station enb_id nas setting less brief =
+  refuse_whole s d station enb_ue_id nas setting less brief =
       let low = id_in_range s.slot d.solo.associations setting.slot in
-      let k : Connection = record { id = next_id s.slot d; station = station; enb_id = enb_id } in
+      let k : Connection = record { id = next_id s.slot d; station = station; enb_ue_id = enb_ue_id } in
       let between = emit station (downlink k nas) None (association_counted d) in (
         between,
-        emit_whole (association_counted d) station (downlink k nas) None (written.nas k nas (record { id = low; enb_id = less }) (brief_within brief (omega arith))),
-        emit_whole between station (release_command (next_id s.slot d) enb_id (Nas NormalRelease)) None (written.release (next_id s.slot d) enb_id (Nas NormalRelease) low less refl),
+        emit_whole (association_counted d) station (downlink k nas) None (written.nas k nas (record { id = low; enb_ue_id = less }) (brief_within brief (omega arith))),
+        emit_whole between station (release_command (next_id s.slot d) enb_ue_id (Nas NormalRelease)) None (written.release (next_id s.slot d) enb_ue_id (Nas NormalRelease) low less refl),
       )
 
   brief_if : (nas : Option (List ℕ)) → IsBriefIf 1100 nas → IsBriefIf 15000 nas
@@ -103,18 +103,18 @@ module _ (written : AreWritten) where
 
   pub indicate_whole : IndicateIsWhole
   unfolding indicate
-  indicate_whole d m cause fits known = emit_whole d m.station _ None (written.indication m.mme_id m.enb_id cause fits.mme_id fits.enb_id known)
+  indicate_whole d m cause fits known = emit_whole d m.station _ None (written.indication m.mme_ue_id m.enb_ue_id cause fits.mme_ue_id fits.enb_ue_id known)
 
   pub not_switched_whole : NotSwitchedIsWhole
   unfolding not_switched
-  not_switched_whole d m cause fits known = emit_whole d m.station _ None (written.not_switched m.mme_id m.enb_id cause fits.mme_id fits.enb_id known)
+  not_switched_whole d m cause fits known = emit_whole d m.station _ None (written.not_switched m.mme_ue_id m.enb_ue_id cause fits.mme_ue_id fits.enb_ue_id known)
 
   pub switched_whole : SwitchedIsWhole
   unfolding switched
   switched_whole d m x fits known =
       let count = next_chaining_count x.radio.chaining_count in
       emit_whole (record d { solo = record d.solo { connection = Some (connection_of m); context = Some (record x { radio = hopped x }) } }) m.station (path_switch_acknowledge (connection_of m) (hop_behind x) count) None
-      (written.switched (connection_of m) (hop_behind x) count (record { id = fits.mme_id; enb_id = fits.enb_id }) (hop_bytes x) (omega arith))
+      (written.switched (connection_of m) (hop_behind x) count (record { id = fits.mme_ue_id; enb_ue_id = fits.enb_ue_id }) (hop_bytes x) (omega arith))
 
   -- to each station in turn
   each_whole : (message : Pdu (List ℕ)) (octets : List ℕ) → encoded message ≡ Some octets → (stations : List ℕ) (d : Draft)

@@ -1,16 +1,16 @@
 -- What of a subscriber goes into messages is in range: what never changes of it, its state, and what is heard for it. In the code
 -- it is so by the types.
 use Rattle.std.specs.Prelude.{◌≡◌, ℕ, ◌^◌, ◌<◌, true, List, [], ◌∷◌, slice_get, Option, Some, None}
-use Rattle.bit_streams.specs.Octet.{all_below}
+use Rattle.per_streams.specs.Octet.{all_below}
 use Rattle.esm_machine.specs.Sessions.{transaction_of}
 use Rattle.identity_slots.specs.Ids.{slots}
 use Rattle.identity_slots.specs.declared.profile.Vector.{Vector}
-use Rattle.mme_vocabulary.specs.declared.connection.Connection.{Connection}
-use Rattle.mme_vocabulary.specs.declared.event.Entry.{Entry}
-use Rattle.mme_vocabulary.specs.declared.event.UeBody.{UeBody}
-use Rattle.mme_vocabulary.specs.declared.event.UeBody.TheVariants.{Uplink}
-use Rattle.mme_vocabulary.specs.declared.event.UeMessage.{UeMessage}
-use Rattle.mme_vocabulary.specs.Events.{Item, Initial, Claim, Message}
+use Rattle.mme_types.specs.declared.connection.Connection.{Connection}
+use Rattle.mme_types.specs.declared.event.Entry.{Entry}
+use Rattle.mme_types.specs.declared.event.UeBody.{UeBody}
+use Rattle.mme_types.specs.declared.event.UeBody.TheVariants.{Uplink}
+use Rattle.mme_types.specs.declared.event.UeMessage.{UeMessage}
+use Rattle.mme_types.specs.Events.{Item, Initial, Claim, Message}
 use Rattle.emm_state.specs.declared.setting.Setting.{Setting}
 use Rattle.emm_state.specs.declared.solo.Context.{Context}
 use Rattle.emm_state.specs.declared.solo.Repeat.{Repeat}
@@ -58,7 +58,7 @@ pub record SoloInRange (solo : Solo) : Type 0 where
 -- ---- what is heard
 
 pub record EntryInRange (m : Entry (List ℕ)) : Type 0 where
-  pub enb_id : m.enb_id < 2 ^ 24
+  pub enb_ue_id : m.enb_ue_id < 2 ^ 24
   pub nas : all_below 256 m.nas ≡ true
   pub tai : TaiInRange m.tai
 
@@ -67,8 +67,8 @@ BodyInRange (Uplink nas tai) = (all_below 256 nas ≡ true) × TaiInRange tai
 BodyInRange _ = Unit {0}
 
 pub record MessageInRange (m : UeMessage (List ℕ)) : Type 0 where
-  pub mme_id : m.mme_id < 2 ^ 32
-  pub enb_id : m.enb_id < 2 ^ 24
+  pub mme_ue_id : m.mme_ue_id < 2 ^ 32
+  pub enb_ue_id : m.enb_ue_id < 2 ^ 24
   pub body : BodyInRange m.body
 
 abbrev pub ItemInRange : Item → Type 0

@@ -1,18 +1,18 @@
 -- What an action sends, it sends whole: the message has a written form, and stands behind what was sent before.
 use Rattle.std.specs.Prelude.{◌≡◌, ℕ, ◌%◌, ◌^◌, ◌<◌, false, List, [], ◌∷◌, ◌++◌, map, Option, Some, None}
-use Rattle.bit_streams.specs.Octet.{AreBytes}
+use Rattle.per_streams.specs.Octet.{AreBytes}
 use Rattle.s1ap_elements.specs.declared.cause.Cause.{Cause}
 use Rattle.s1ap_elements.specs.declared.cause.Cause.TheVariants.{Nas}
 use Rattle.s1ap_elements.specs.declared.cause.NasCause.TheVariants.{AuthenticationFailure, NormalRelease}
-use Rattle.s1ap_messages.specs.declared.pdu.Pdu.{Pdu}
-use Rattle.s1ap_messages.specs.Pdus.{encoded}
+use Rattle.s1ap_pdus.specs.declared.pdu.Pdu.{Pdu}
+use Rattle.s1ap_pdus.specs.Pdus.{encoded}
 use Rattle.nas_messages.specs.declared.protection.SecurityHeader.{SecurityHeader}
 use Rattle.identity_slots.specs.declared.profile.Vector.{Vector}
-use Rattle.mme_vocabulary.specs.declared.connection.Connection.{Connection}
-use Rattle.mme_vocabulary.specs.declared.event.UeMessage.{UeMessage}
-use Rattle.mme_vocabulary.specs.declared.octets.Answer.{Answer}
-use Rattle.mme_vocabulary.specs.declared.octets.Mark.{Mark}
-use Rattle.mme_vocabulary.specs.Events.{Item}
+use Rattle.mme_types.specs.declared.connection.Connection.{Connection}
+use Rattle.mme_types.specs.declared.event.UeMessage.{UeMessage}
+use Rattle.mme_types.specs.declared.octets.Answer.{Answer}
+use Rattle.mme_types.specs.declared.octets.Mark.{Mark}
+use Rattle.mme_types.specs.Events.{Item}
 use Rattle.mme_signalling.specs.declared.cause.EmmCause.{EmmCause}
 use Rattle.mme_signalling.specs.Messages.{attach_reject, authentication_reject, authentication_request}
 use Rattle.mme_signalling.specs.Pdus.{cause_of_request, context_setup, downlink, error_indication, is_extended, paging, path_switch_acknowledge, path_switch_failure, release_command}
@@ -26,7 +26,7 @@ use Rattle.emm_machine.specs.Attaching.{attach_refused, challenged, not_authenti
 use Rattle.emm_machine.specs.Connected.{connection_of, hop_behind, indicate, next_chaining_count, not_switched, switched}
 use Rattle.emm_machine.specs.Idle.{page}
 use Rattle.emm_machine.specs.Steps.{solo_after, solo_step}
-use Rattle.emm_promises.specs.Proof.{IsProved}
+use Rattle.laws_admission.specs.Proof.{IsProved}
 use Rattle.written_messages.specs.Ranges.{IsBrief, IsBriefIf, VectorInRange}
 use Rattle.emm_written.specs.InRange.{ContextInRange, EachInRange, ItemInRange, MessageInRange, SettingInRange, SoloInRange}
 
@@ -55,29 +55,29 @@ ProtectIsWhole =
 abbrev pub ReleaseIsWhole : Type 0
 ReleaseIsWhole =
     (d : Draft) (k : Connection) (cause : Cause) → SoloInRange d.solo → d.solo.connection ≡ Some k → is_extended cause ≡ false
-    → SendsWhole k.station None (release_command k.id k.enb_id cause) d (release cause d)
+    → SendsWhole k.station None (release_command k.id k.enb_ue_id cause) d (release cause d)
 
 -- of an old connection elsewhere
 abbrev pub LeaveIsWhole : Type 0
 LeaveIsWhole =
-    (d : Draft) (k : Connection) (station enb_id : ℕ) → SoloInRange d.solo → d.solo.connection ≡ Some k
-    → is_at k station enb_id ≡ false
-    → SendsWhole k.station None (release_command k.id k.enb_id (Nas NormalRelease)) d (leave_old station enb_id d)
+    (d : Draft) (k : Connection) (station enb_ue_id : ℕ) → SoloInRange d.solo → d.solo.connection ≡ Some k
+    → is_at k station enb_ue_id ≡ false
+    → SendsWhole k.station None (release_command k.id k.enb_ue_id (Nas NormalRelease)) d (leave_old station enb_ue_id d)
 
 -- of a phone that is turned away
 abbrev pub TurnAwayIsWhole : Type 0
 TurnAwayIsWhole =
-    (s : Setting) (d : Draft) (station enb_id : ℕ) → SettingInRange s → enb_id < 2 ^ 24
-    → SendsWhole station None (release_command (next_id s.slot d) enb_id (Nas NormalRelease)) d (turn_away s.slot station enb_id d)
+    (s : Setting) (d : Draft) (station enb_ue_id : ℕ) → SettingInRange s → enb_ue_id < 2 ^ 24
+    → SendsWhole station None (release_command (next_id s.slot d) enb_ue_id (Nas NormalRelease)) d (turn_away s.slot station enb_ue_id d)
 
 -- the refusal of a phone, and the release behind it
 abbrev pub RefuseIsWhole : Type 0
 RefuseIsWhole =
-    (s : Setting) (d : Draft) (station enb_id : ℕ) (nas : List ℕ) → SettingInRange s → enb_id < 2 ^ 24 → IsBrief 1000 nas
+    (s : Setting) (d : Draft) (station enb_ue_id : ℕ) (nas : List ℕ) → SettingInRange s → enb_ue_id < 2 ^ 24 → IsBrief 1000 nas
     → (between : Draft)
-    × SendsWhole station None (downlink (record { id = next_id s.slot d; station = station; enb_id = enb_id }) nas) d between
-    × SendsWhole station None (release_command (next_id s.slot d) enb_id (Nas NormalRelease)) between
-    (refuse s.slot station enb_id nas d)
+    × SendsWhole station None (downlink (record { id = next_id s.slot d; station = station; enb_ue_id = enb_ue_id }) nas) d between
+    × SendsWhole station None (release_command (next_id s.slot d) enb_ue_id (Nas NormalRelease)) between
+    (refuse s.slot station enb_ue_id nas d)
 
 -- INITIAL CONTEXT SETUP REQUEST
 abbrev pub SetUpIsWhole : Type 0
@@ -97,12 +97,12 @@ PageIsWhole =
 abbrev pub IndicateIsWhole : Type 0
 IndicateIsWhole =
     (d : Draft) (m : UeMessage (List ℕ)) (cause : Cause) → MessageInRange m → is_extended cause ≡ false
-    → SendsWhole m.station None (error_indication m.mme_id m.enb_id cause) d (indicate cause m d)
+    → SendsWhole m.station None (error_indication m.mme_ue_id m.enb_ue_id cause) d (indicate cause m d)
 
 abbrev pub NotSwitchedIsWhole : Type 0
 NotSwitchedIsWhole =
     (d : Draft) (m : UeMessage (List ℕ)) (cause : Cause) → MessageInRange m → is_extended cause ≡ false
-    → SendsWhole m.station None (path_switch_failure m.mme_id m.enb_id cause) d (not_switched cause m d)
+    → SendsWhole m.station None (path_switch_failure m.mme_ue_id m.enb_ue_id cause) d (not_switched cause m d)
 
 abbrev pub SwitchedIsWhole : Type 0
 SwitchedIsWhole =
@@ -120,7 +120,7 @@ abbrev pub AttachRefusedIsWhole : Type 0
 AttachRefusedIsWhole =
     (d : Draft) (k : Connection) (cause : EmmCause) (esm : Option (List ℕ)) → SoloInRange d.solo → d.solo.connection ≡ Some k
     → IsBriefIf 200 esm
-    → SendsBothWhole k.station (downlink k (attach_reject cause esm)) (release_command k.id k.enb_id (Nas NormalRelease)) d
+    → SendsBothWhole k.station (downlink k (attach_reject cause esm)) (release_command k.id k.enb_ue_id (Nas NormalRelease)) d
     (attach_refused cause esm d)
 
 abbrev pub ChallengedIsWhole : Type 0
@@ -131,7 +131,7 @@ ChallengedIsWhole =
 abbrev pub NotAuthenticatedIsWhole : Type 0
 NotAuthenticatedIsWhole =
     (d : Draft) (k : Connection) → SoloInRange d.solo → d.solo.connection ≡ Some k
-    → SendsBothWhole k.station (downlink k authentication_reject) (release_command k.id k.enb_id (Nas AuthenticationFailure)) d
+    → SendsBothWhole k.station (downlink k authentication_reject) (release_command k.id k.enb_ue_id (Nas AuthenticationFailure)) d
     (not_authenticated d)
 
 -- the release that a station asks for has a cause that is written

@@ -4,7 +4,7 @@ use Rattle.std.specs.Borrow.{Bor}
 use Rattle.per_bits.specs.declared.wrapped.Listed.{Listed}
 use Rattle.s1ap_elements.specs.declared.bearer.ErabToBeSetup.{ErabToBeSetup}
 use Rattle.s1ap_elements.specs.Bearers.{erabs_to_be_setup_lists}
-use Rattle.s1ap_messages.specs.Pdus.{listed}
+use Rattle.s1ap_pdus.specs.Pdus.{listed}
 use Rattle.enb_sim.specs.Delivering.{first_bearer}
 
 pub first_is : (es : List (Listed (ErabToBeSetup (Bor (List ℕ))) 52 0)) (e : Listed (ErabToBeSetup (Bor (List ℕ))) 52 0) → slice_get es 0 ≡ Some e

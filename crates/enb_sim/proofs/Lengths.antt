@@ -3,9 +3,9 @@ use Rattle.std.proofs.Common.{◌≡◌, ℕ, zero, suc, ◌+◌, ◌-◌, ◌*�
 use Rattle.std.proofs.lemmas.Bool.{and_from, lt-ltb}
 use Rattle.std.proofs.lemmas.List.{length-append, length-replicate, length-take}
 use Rattle.std.proofs.Math.Pow.{pow_mono}
-use Rattle.bit_streams.specs.Bits.{value, bits, octet_bits, octets_of_bits, pad, padded, padding}
-use Rattle.bit_streams.specs.BitLaws.{value_below, length-bits, length-octet_bits}
-use Rattle.bit_streams.specs.Octet.{all_below}
+use Rattle.per_streams.specs.Bits.{value, bits, octet_bits, octets_of_bits, pad, padded, padding}
+use Rattle.per_streams.specs.BitLaws.{value_below, length-bits, length-octet_bits}
+use Rattle.per_streams.specs.Octet.{all_below}
 use Rattle.per_bits.specs.Numbers.{offset_bits, width_of, whole}
 use Rattle.per_bits.specs.Spelling.{length_octets}
 use Rattle.per_bits.specs.Formats.{raw}

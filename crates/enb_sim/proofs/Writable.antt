@@ -1,14 +1,14 @@
 -- Each station's S1 SETUP REQUEST has a written form.
 use Rattle.std.proofs.Common.{◌≡◌, ℕ, ◌+◌, Bool, true, ◌&&◌, eqb, List, [], ◌∷◌, length, refl, arith, inl}
 use Rattle.std.proofs.lemmas.Bool.{and_from, and_parts, eqb-true}
-use Rattle.bit_streams.specs.Bits.{bits, padded}
-use Rattle.bit_streams.specs.Octet.{AreBytes, IsLong, all_below}
+use Rattle.per_streams.specs.Bits.{bits, padded}
+use Rattle.per_streams.specs.Octet.{AreBytes, IsLong, all_below}
 use Rattle.per_bits.specs.Formats.{items, octets, raw}
 use Rattle.per_bits.specs.Numbers.{offset_bits, width_of, whole}
 use Rattle.per_bits.specs.Written.{aligned_form, string_fits, written, writable}
 use Rattle.s1ap_elements.specs.Formats.{enb_id, global_enb_id, paging_drx, supported_ta, supported_tas}
 use Rattle.s1ap_rows.specs.Spelling.{message}
-use Rattle.s1ap_messages.specs.Pdus.{IsWritableMessage}
+use Rattle.s1ap_pdus.specs.Pdus.{IsWritableMessage}
 use Rattle.enb_sim.specs.declared.profile.StationProfile.{StationProfile}
 use Rattle.enb_sim.specs.Sending.{setup_pdu}
 use Rattle.enb_sim.proofs.Lengths.{Few, Short, aligned_short, bits_short, double_short, next, nothing, octets_short, packed, pad_short, plus, raw_short, string_fitting}

@@ -8,9 +8,9 @@ use Rattle.s1ap_elements.specs.declared.phone.UeS1apIds.{UeS1apIds}
 use Rattle.s1ap_elements.specs.declared.phone.UeS1apIds.TheVariants.{Pair, MmeUeId}
 use Rattle.per_bits.specs.declared.wrapped.Listed.{Listed}
 use Rattle.s1ap_rows.specs.declared.fault.S1apFault.{S1apFault}
-use Rattle.s1ap_messages.specs.declared.pdu.Pdu.{Pdu}
-use Rattle.s1ap_messages.specs.declared.pdu.Pdu.TheVariants as pdu
-use Rattle.s1ap_messages.specs.Pdus.{decoded, encoded, listed}
+use Rattle.s1ap_pdus.specs.declared.pdu.Pdu.{Pdu}
+use Rattle.s1ap_pdus.specs.declared.pdu.Pdu.TheVariants as pdu
+use Rattle.s1ap_pdus.specs.Pdus.{decoded, encoded, listed}
 use Rattle.enb_sim.specs.declared.delivering.Delivery.{Delivery}
 use Rattle.enb_sim.specs.declared.delivering.PhoneNas.{PhoneNas}
 use Rattle.enb_sim.specs.declared.profile.StationProfile.{StationProfile}
@@ -43,7 +43,7 @@ seen_delivery d s = record { octets = option_map (λ o. o.items) d.octets; nas =
 -- ---- associations
 
 abbrev pub is_pair : UeIdPair → UeIdPair → Bool
-is_pair a b = a.mme_id == b.mme_id && a.enb_id == b.enb_id
+is_pair a b = a.mme_ue_id == b.mme_ue_id && a.enb_ue_id == b.enb_ue_id
 
 abbrev pub holds_pair : UeIdPair → List UeIdPair → Bool
 holds_pair pair pairs = list_any (λ p. is_pair p pair) pairs
@@ -56,12 +56,12 @@ without_pair pair pairs = filter (λ p. not (is_pair p pair)) pairs
 
 -- that with this number of the MME
 abbrev pub pair_of : ℕ → List UeIdPair → Option UeIdPair
-pair_of mme_id pairs = find (λ p. p.mme_id == mme_id) pairs
+pair_of mme_ue_id pairs = find (λ p. p.mme_ue_id == mme_ue_id) pairs
 
 -- ---- each message
 
 abbrev pub pair_with : ℕ → ℕ → UeIdPair
-pair_with mme_id enb_id = record { mme_id = mme_id; enb_id = enb_id }
+pair_with mme_ue_id enb_ue_id = record { mme_ue_id = mme_ue_id; enb_ue_id = enb_ue_id }
 
 abbrev pub unmoved : StationView → Delivered
 unmoved s = record { octets = None; nas = None; station = s }
@@ -94,17 +94,17 @@ ended (Some pair) s = record { octets = encoded (complete_pdu pair); nas = None;
 
 abbrev pub named_pair : UeS1apIds → List UeIdPair → Option UeIdPair
 named_pair (Pair pair) pairs = Some pair
-named_pair (MmeUeId mme_id) pairs = pair_of mme_id pairs
+named_pair (MmeUeId mme_ue_id) pairs = pair_of mme_ue_id pairs
 
 abbrev pub received : Pdu (List ℕ) → StationView → Delivered
-received (pdu.SetupResponse m) s = unmoved (record s { ready = true })
-received (pdu.SetupFailure m) s = unmoved (record s { ready = false })
+received (pdu.S1SetupResponse m) s = unmoved (record s { ready = true })
+received (pdu.S1SetupFailure m) s = unmoved (record s { ready = false })
 received (pdu.DownlinkNasTransport m) s =
-    let pair = pair_with m.mme_id m.enb_id in
+    let pair = pair_with m.mme_ue_id m.enb_ue_id in
     record { octets = None; nas = handed pair (Some m.nas); station = holding pair s }
-received (pdu.ContextSetupRequest m) s = served (pair_with m.mme_id m.enb_id) (first_bearer m.erabs) s
-received (pdu.ReleaseCommand m) s = ended (named_pair m.ids s.pairs) s
-received (pdu.PathSwitchAcknowledge m) s = unmoved (holding (pair_with m.mme_id m.enb_id) s)
+received (pdu.InitialContextSetupRequest m) s = served (pair_with m.mme_ue_id m.enb_ue_id) (first_bearer m.erabs) s
+received (pdu.UeContextReleaseCommand m) s = ended (named_pair m.ids s.pairs) s
+received (pdu.PathSwitchRequestAcknowledge m) s = unmoved (holding (pair_with m.mme_ue_id m.enb_ue_id) s)
 received _ s = unmoved s
 
 abbrev pub read_delivery : Result (Pdu (List ℕ)) S1apFault → StationView → Delivered

@@ -1,7 +1,7 @@
 -- What a station tells of itself.
 use Rattle.std.specs.Prelude.{ℕ, Bool, true, false, List, [], ◌∷◌, ◌++◌}
 use Rattle.std.specs.Int.{w32, to_be_bytes}
-use Rattle.bit_streams.specs.Bits.{octet_bits}
+use Rattle.per_streams.specs.Bits.{octet_bits}
 use Rattle.s1ap_elements.specs.declared.bearer.ErabTunnel.{ErabTunnel}
 use Rattle.s1ap_elements.specs.declared.phone.EutranCgi.{EutranCgi}
 use Rattle.s1ap_elements.specs.declared.phone.SecurityCapabilities.{SecurityCapabilities}
@@ -26,7 +26,7 @@ address_of s = 0xc0 ∷ 0xa8 ∷ 0 ∷ s.number ∷ []
 
 -- the tunnel of a bearer: it ends at the station, under the number that the phone has there
 abbrev pub tunnel_of : StationProfile → ℕ → ℕ → ErabTunnel
-tunnel_of s id enb_id = record { id = id; address = octet_bits (address_of s); teid = to_be_bytes w32 enb_id }
+tunnel_of s id enb_ue_id = record { id = id; address = octet_bits (address_of s); teid = to_be_bytes w32 enb_ue_id }
 
 -- algorithms 1 and 2
 abbrev pub two_algorithms : List Bool

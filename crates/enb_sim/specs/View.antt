@@ -1,6 +1,6 @@
 -- A station's acts.
 use Rattle.std.specs.Prelude.{ℕ, ◌&&◌, Bool, false, if◌then◌else◌, List, [], Option, None}
-use Rattle.s1ap_messages.specs.Pdus.{encoded}
+use Rattle.s1ap_pdus.specs.Pdus.{encoded}
 use Rattle.enb_sim.specs.declared.profile.StationProfile.{StationProfile}
 use Rattle.enb_sim.specs.declared.station.StationAct.{StationAct}
 use Rattle.enb_sim.specs.declared.station.StationAct.TheVariants.{SetUp, Initial, Uplink, Switch, Release}
@@ -19,7 +19,7 @@ sent_if possible octets = if possible then octets else None
 -- association that it doesn't hold
 unfoldable pub act_octets : StationAct → StationView → Option (List ℕ)
 act_octets SetUp s = encoded (setup_pdu s.profile)
-act_octets (Initial enb_id nas s_tmsi) s = sent_if s.ready (encoded (initial_pdu s.profile enb_id nas.now s_tmsi))
+act_octets (Initial enb_ue_id nas s_tmsi) s = sent_if s.ready (encoded (initial_pdu s.profile enb_ue_id nas.now s_tmsi))
 act_octets (Uplink pair nas) s = sent_if (s.ready && holds_pair pair s.pairs) (encoded (uplink_pdu s.profile pair nas.now))
 act_octets (Switch pair) s = sent_if s.ready (encoded (switch_pdu s.profile pair))
 act_octets (Release pair) s = sent_if (s.ready && holds_pair pair s.pairs) (encoded (release_pdu pair))

@@ -2,7 +2,7 @@
 
 ghost use Rattle.std.specs.Prelude.{◌≡◌, option_map};
 ghost use Rattle.s1ap_elements.specs.Bearers.{erabs_to_be_setup_lists};
-ghost use Rattle.s1ap_messages.specs.Pdus.{listed};
+ghost use Rattle.s1ap_pdus.specs.Pdus.{listed};
 ghost use Rattle.enb_sim.specs.Delivering.{first_bearer, handed, seen_bearer, seen_nas};
 
 use per_bits::Listed;

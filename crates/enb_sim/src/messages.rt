@@ -2,7 +2,7 @@
 
 ghost use Rattle.std.specs.Prelude.{◌≡◌, ◌++◌, ◌≤◌, ◌∷◌, [], IfOk, Some, option_map};
 ghost use Rattle.std.specs.Int.{w32, to_be_bytes};
-ghost use Rattle.s1ap_messages.specs.Pdus.{encoded, lists};
+ghost use Rattle.s1ap_pdus.specs.Pdus.{encoded, lists};
 ghost use Rattle.enb_sim.specs.Profile.{address_of, area_of, cell_number, cell_of, phone_capabilities};
 ghost use Rattle.enb_sim.specs.Sending.{complete_pdu, context_pdu, initial_pdu, release_pdu, switch_pdu, uplink_pdu};
 
@@ -12,9 +12,9 @@ use s1ap_elements::{
     Address, Cause, CellId, EnbUeId, ErabId, ErabTunnel, EutranCgi, RadioNetworkCause, RrcCause,
     STmsi, SecurityCapabilities, Tai, Teid, UeIdPair,
 };
-use s1ap_messages::{
-    ContextSetupResponse, EncodeFault, InitialUeMessage, PathSwitchRequest, Pdu, ReleaseComplete,
-    ReleaseRequest, S1apPdu, UplinkNasTransport, encode,
+use s1ap_pdus::{
+    EncodeFault, InitialContextSetupResponse, InitialUeMessage, PathSwitchRequest, Pdu, S1apPdu,
+    UeContextReleaseComplete, UeContextReleaseRequest, UplinkNasTransport, encode,
 };
 use std::alloc::{AllocError, Global};
 
@@ -69,10 +69,10 @@ fn cell(profile: &StationProfile) -> EutranCgi
 }
 
 // The end of a tunnel, by the number that the phone has at the station.
-fn teid(enb_id: EnbUeId) -> Teid
-    ensures { result ≡ to_be_bytes w32 enb_id }
+fn teid(enb_ue_id: EnbUeId) -> Teid
+    ensures { result ≡ to_be_bytes w32 enb_ue_id }
 {
-    Octets::new((enb_id.get() as u32).to_be_bytes())
+    Octets::new((enb_ue_id.get() as u32).to_be_bytes())
 }
 
 // The IPv4 address of a station.
@@ -111,14 +111,14 @@ fn default_bearer() -> ErabId
 pub(crate) fn initial(
     alloc: Global,
     profile: &StationProfile,
-    enb_id: EnbUeId,
+    enb_ue_id: EnbUeId,
     nas: &[u8],
     s_tmsi: Option<STmsi>,
 ) -> Sent
-    ensures { IfOk result (λ o. option_map (λ v. v.items) o ≡ encoded (initial_pdu profile.now enb_id nas.now s_tmsi)) }
+    ensures { IfOk result (λ o. option_map (λ v. v.items) o ≡ encoded (initial_pdu profile.now enb_ue_id nas.now s_tmsi)) }
 {
     let message = Pdu::InitialUeMessage(InitialUeMessage {
-        enb_id,
+        enb_ue_id,
         nas,
         tai: area(profile),
         cell: cell(profile),
@@ -134,8 +134,8 @@ pub(crate) fn uplink(alloc: Global, profile: &StationProfile, pair: UeIdPair, na
     ensures { IfOk result (λ o. option_map (λ v. v.items) o ≡ encoded (uplink_pdu profile.now pair nas.now)) }
 {
     let message = Pdu::UplinkNasTransport(UplinkNasTransport {
-        mme_id: pair.mme_id,
-        enb_id: pair.enb_id,
+        mme_ue_id: pair.mme_ue_id,
+        enb_ue_id: pair.enb_ue_id,
         nas,
         cell: cell(profile),
         tai: area(profile),
@@ -159,13 +159,13 @@ fn switch_request<'a>(
     let value = ErabTunnel {
         id: default_bearer(),
         address,
-        teid: teid(pair.enb_id),
+        teid: teid(pair.enb_ue_id),
     };
     let erabs = Items::only(alloc, Listed { value })?;
     Ok(Pdu::PathSwitchRequest(PathSwitchRequest {
-        enb_id: pair.enb_id,
+        enb_ue_id: pair.enb_ue_id,
         erabs,
-        source_mme_id: pair.mme_id,
+        source_mme_ue_id: pair.mme_ue_id,
         cell: cell(profile),
         tai: area(profile),
         capabilities: capabilities(),
@@ -186,9 +186,9 @@ pub(crate) fn switch(alloc: Global, profile: &StationProfile, pair: UeIdPair) ->
 pub(crate) fn release_request(alloc: Global, pair: UeIdPair) -> Sent
     ensures { IfOk result (λ o. option_map (λ v. v.items) o ≡ encoded (release_pdu pair)) }
 {
-    let message = Pdu::ReleaseRequest(ReleaseRequest {
-        mme_id: pair.mme_id,
-        enb_id: pair.enb_id,
+    let message = Pdu::UeContextReleaseRequest(UeContextReleaseRequest {
+        mme_ue_id: pair.mme_ue_id,
+        enb_ue_id: pair.enb_ue_id,
         cause: Cause::RadioNetwork(RadioNetworkCause::UserInactivity),
     });
     sent(alloc, &message)
@@ -212,12 +212,12 @@ fn context_setup_response<'a>(
     let value = ErabTunnel {
         id,
         address,
-        teid: teid(pair.enb_id),
+        teid: teid(pair.enb_ue_id),
     };
     let erabs = Items::only(alloc, Listed { value })?;
-    Ok(Pdu::ContextSetupResponse(ContextSetupResponse {
-        mme_id: pair.mme_id,
-        enb_id: pair.enb_id,
+    Ok(Pdu::InitialContextSetupResponse(InitialContextSetupResponse {
+        mme_ue_id: pair.mme_ue_id,
+        enb_ue_id: pair.enb_ue_id,
         erabs,
     }))
 }
@@ -241,9 +241,9 @@ pub(crate) fn context_response(
 pub(crate) fn release_complete(alloc: Global, pair: UeIdPair) -> Sent
     ensures { IfOk result (λ o. option_map (λ v. v.items) o ≡ encoded (complete_pdu pair)) }
 {
-    let message = Pdu::ReleaseComplete(ReleaseComplete {
-        mme_id: pair.mme_id,
-        enb_id: pair.enb_id,
+    let message = Pdu::UeContextReleaseComplete(UeContextReleaseComplete {
+        mme_ue_id: pair.mme_ue_id,
+        enb_ue_id: pair.enb_ue_id,
     });
     sent(alloc, &message)
 }

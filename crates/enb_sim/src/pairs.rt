@@ -7,16 +7,19 @@ use s1ap_elements::{EnbUeId, MmeUeId, UeIdPair};
 use std::alloc::{AllocError, Global};
 
 /// The association with these numbers.
-pub(crate) fn pair_with(mme_id: MmeUeId, enb_id: EnbUeId) -> UeIdPair
-    ensures { result ≡ pair_with mme_id enb_id }
+pub(crate) fn pair_with(mme_ue_id: MmeUeId, enb_ue_id: EnbUeId) -> UeIdPair
+    ensures { result ≡ pair_with mme_ue_id enb_ue_id }
 {
-    UeIdPair { mme_id, enb_id }
+    UeIdPair {
+        mme_ue_id,
+        enb_ue_id,
+    }
 }
 
 fn is_pair(one: &UeIdPair, other: &UeIdPair) -> bool
     ensures { result ≡ is_pair one.now other.now }
 {
-    one.mme_id.get() == other.mme_id.get() && one.enb_id.get() == other.enb_id.get()
+    one.mme_ue_id.get() == other.mme_ue_id.get() && one.enb_ue_id.get() == other.enb_ue_id.get()
 }
 
 /// Whether an association is among them: it's mostly one of the newest, so they are looked at from the last.
@@ -39,13 +42,13 @@ pub(crate) fn hold_pair(pairs: &mut Vec<UeIdPair>, pair: &UeIdPair) -> Result<()
 }
 
 /// The association with this number of the MME.
-pub(crate) fn pair_of(pairs: &[UeIdPair], mme_id: MmeUeId) -> Option<UeIdPair>
-    ensures { result ≡ pair_of mme_id pairs.now }
+pub(crate) fn pair_of(pairs: &[UeIdPair], mme_ue_id: MmeUeId) -> Option<UeIdPair>
+    ensures { result ≡ pair_of mme_ue_id pairs.now }
 {
     pairs
         .iter()
         .copied()
-        .find(|pair| pair.mme_id.get() == mme_id.get())
+        .find(|pair| pair.mme_ue_id.get() == mme_ue_id.get())
 }
 
 /// Those but one.

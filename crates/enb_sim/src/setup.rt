@@ -1,14 +1,14 @@
 //! S1 SETUP REQUEST.
 
 ghost use Rattle.std.specs.Prelude.{◌≡◌, IfOk, Ok, Some};
-ghost use Rattle.s1ap_messages.specs.Pdus.{IsWritableMessage, decoded, encoded, lists};
+ghost use Rattle.s1ap_pdus.specs.Pdus.{IsWritableMessage, decoded, encoded, lists};
 ghost use Rattle.enb_sim.specs.Sending.{setup_pdu};
 
 use crate::profile::StationProfile;
 use per_bits::Items;
 use s1ap_elements::{EnbId, GlobalEnbId, PagingDrx, SupportedTa};
-use s1ap_messages::{
-    EncodeFault, Pdu, S1apPdu, SetupRequest, encode, encoded_exactly, what_is_encoded,
+use s1ap_pdus::{
+    EncodeFault, Pdu, S1SetupRequest, S1apPdu, encode, encoded_exactly, what_is_encoded,
 };
 use std::alloc::{AllocError, Global};
 
@@ -21,7 +21,7 @@ fn setup_request<'a>(alloc: Global, profile: &StationProfile) -> Result<S1apPdu<
         tac: profile.tac,
         plmns: Items::only(alloc, profile.plmn)?,
     };
-    Ok(Pdu::SetupRequest(SetupRequest {
+    Ok(Pdu::S1SetupRequest(S1SetupRequest {
         station: GlobalEnbId {
             plmn: profile.plmn,
             id: EnbId::Macro(profile.macro_id),

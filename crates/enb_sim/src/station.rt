@@ -1,8 +1,8 @@
 //! A station.
 
 ghost use Rattle.std.specs.Prelude.{◌≡◌, ◌&&◌, ℕ, IfOk, OnOk, OnErr, IfSome, IsSome, Ok, Some, [], false, option_map};
-ghost use Rattle.s1ap_messages.specs.Pdus.{context_setup_request_lists, decoded, downlink_nas_transport_lists, encoded, listed};
-ghost use Rattle.s1ap_messages.specs.declared.pdu.Pdu.TheVariants as pdu;
+ghost use Rattle.s1ap_pdus.specs.Pdus.{context_setup_request_lists, decoded, downlink_nas_transport_lists, encoded, listed};
+ghost use Rattle.s1ap_pdus.specs.declared.pdu.Pdu.TheVariants as pdu;
 ghost use Rattle.enb_sim.specs.Sending.{setup_pdu};
 ghost use Rattle.enb_sim.specs.Delivering.{delivered, holding, holds_pair, pair_with, received, ended, handed, named_pair, seen_delivery, unmoved};
 ghost use Rattle.enb_sim.specs.View.{act_octets, after_station_act, new_station};
@@ -15,8 +15,8 @@ use crate::pairs::{drop_pair, hold_pair, holds_pair, pair_of, pair_with};
 use crate::profile::StationProfile;
 use crate::setup::setup;
 use s1ap_elements::{EnbUeId, MmeUeId, STmsi, UeIdPair, UeS1apIds};
-use s1ap_messages::{ContextSetupRequest, DownlinkNasTransport, Pdu, S1apFault};
-use s1ap_reading::decode;
+use s1ap_messages::decode;
+use s1ap_pdus::{DownlinkNasTransport, InitialContextSetupRequest, Pdu, S1apFault};
 use std::alloc::{AllocError, Global};
 use std::marker::Model;
 
@@ -27,7 +27,7 @@ pub enum StationAct<'a> {
     SetUp,
     /// INITIAL UE MESSAGE with a phone's first NAS message.
     Initial {
-        enb_id: EnbUeId,
+        enb_ue_id: EnbUeId,
         nas: &'a [u8],
         s_tmsi: Option<STmsi>,
     },
@@ -138,14 +138,14 @@ impl Station {
         match act {
             StationAct::SetUp => Ok(Some(self.set_up()?)),
             StationAct::Initial {
-                enb_id,
+                enb_ue_id,
                 nas,
                 s_tmsi,
             } => {
                 if !self.ready {
                     return Ok(None);
                 }
-                initial(alloc, &self.profile, *enb_id, nas, *s_tmsi)
+                initial(alloc, &self.profile, *enb_ue_id, nas, *s_tmsi)
             }
             StationAct::Uplink { pair, nas } => {
                 if !self.serves(pair) {
@@ -195,20 +195,20 @@ impl Station {
             ≡ received (pdu.DownlinkNasTransport (downlink_nas_transport_lists message.entry)) self.old) }
         ensures err { OnErr result (self.new ≡ self.old) }
     {
-        let pair = pair_with(message.mme_id, message.enb_id);
+        let pair = pair_with(message.mme_ue_id, message.enb_ue_id);
         self.give(pair, None, Some(message.nas))
     }
 
     // INITIAL CONTEXT SETUP REQUEST.
     fn serve<'a>(
         &mut self,
-        message: ContextSetupRequest<'a, &'a [u8]>,
+        message: InitialContextSetupRequest<'a, &'a [u8]>,
     ) -> Result<Delivery<'a>, AllocError>
         ensures ok { IfOk result (λ d. seen_delivery d self.new
-            ≡ received (pdu.ContextSetupRequest (context_setup_request_lists message.entry)) self.old) }
+            ≡ received (pdu.InitialContextSetupRequest (context_setup_request_lists message.entry)) self.old) }
         ensures err { OnErr result (self.new ≡ self.old) }
     {
-        let pair = pair_with(message.mme_id, message.enb_id);
+        let pair = pair_with(message.mme_ue_id, message.enb_ue_id);
         match first_bearer(message.erabs.as_slice()) {
             Some((id, nas)) => {
                 let octets = context_response(self.alloc, &self.profile, &pair, id)?;
@@ -237,16 +237,20 @@ impl Station {
     {
         match ids {
             UeS1apIds::Pair(pair) => Some(pair),
-            UeS1apIds::MmeUeId(mme_id) => pair_of(&self.pairs, mme_id),
+            UeS1apIds::MmeUeId(mme_ue_id) => pair_of(&self.pairs, mme_ue_id),
         }
     }
 
     // PATH SWITCH REQUEST ACKNOWLEDGE.
-    fn hold<'a>(&mut self, mme_id: MmeUeId, enb_id: EnbUeId) -> Result<Delivery<'a>, AllocError>
-        ensures ok { IfOk result (λ d. seen_delivery d self.new ≡ unmoved (holding (pair_with mme_id enb_id) self.old)) }
+    fn hold<'a>(
+        &mut self,
+        mme_ue_id: MmeUeId,
+        enb_ue_id: EnbUeId,
+    ) -> Result<Delivery<'a>, AllocError>
+        ensures ok { IfOk result (λ d. seen_delivery d self.new ≡ unmoved (holding (pair_with mme_ue_id enb_ue_id) self.old)) }
         ensures err { OnErr result (self.new ≡ self.old) }
     {
-        self.give(pair_with(mme_id, enb_id), None, None)
+        self.give(pair_with(mme_ue_id, enb_ue_id), None, None)
     }
 
     // The MME has taken it, or not.
@@ -265,15 +269,18 @@ impl Station {
         ensures err { OnErr result (self.new ≡ self.old) }
     {
         match decode(self.alloc, octets) {
-            Ok(Pdu::SetupResponse(_)) => Ok(self.taken(true)),
-            Ok(Pdu::SetupFailure(_)) => Ok(self.taken(false)),
+            Ok(Pdu::S1SetupResponse(_)) => Ok(self.taken(true)),
+            Ok(Pdu::S1SetupFailure(_)) => Ok(self.taken(false)),
             Ok(Pdu::DownlinkNasTransport(message)) => self.hand_down(message),
-            Ok(Pdu::ContextSetupRequest(message)) => self.serve(message),
-            Ok(Pdu::ReleaseCommand(message)) => {
+            Ok(Pdu::InitialContextSetupRequest(message)) => self.serve(message),
+            Ok(Pdu::UeContextReleaseCommand(message)) => {
                 let pair = self.named_pair(message.ids);
                 self.release(pair)
             }
-            Ok(Pdu::PathSwitchAcknowledge(message)) => self.hold(message.mme_id, message.enb_id),
+            Ok(Pdu::PathSwitchRequestAcknowledge(message)) => self.hold(
+                message.mme_ue_id,
+                message.enb_ue_id,
+            ),
             Ok(_) => Ok(Delivery::nothing()),
             Err(S1apFault::NoMemory) => Err(AllocError),
             Err(_) => Ok(Delivery::nothing()),

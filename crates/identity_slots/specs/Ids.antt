@@ -14,8 +14,8 @@ abbrev pub strangers : ℕ
 strangers = 2 ^ 31
 
 -- how many phones a station has numbers for
-abbrev pub enb_ids : ℕ
-enb_ids = 2 ^ 24
+abbrev pub enb_ue_ids : ℕ
+enb_ue_ids = 2 ^ 24
 
 -- a counter goes round
 abbrev pub next_counter : ℕ → ℕ
@@ -34,11 +34,11 @@ slot_in id = id / counters
 
 -- the id of the stranger with this station and eNB UE id
 abbrev pub stranger_id : ℕ → ℕ → ℕ
-stranger_id station enb_id = strangers + station * enb_ids + enb_id
+stranger_id station enb_ue_id = strangers + station * enb_ue_ids + enb_ue_id
 
 -- the station of a stranger's id, and its number there
 abbrev pub station_in : ℕ → ℕ
-station_in id = (id - strangers) / enb_ids
+station_in id = (id - strangers) / enb_ue_ids
 
 abbrev pub number_in : ℕ → ℕ
-number_in id = (id - strangers) % enb_ids
+number_in id = (id - strangers) % enb_ue_ids

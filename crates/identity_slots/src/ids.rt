@@ -121,13 +121,13 @@ impl AssociationId {
     }
 
     /// The id of the stranger at a station below 128 with an eNB UE id below 2^24.
-    pub fn of_stranger(station: u8, enb_id: u32) -> AssociationId
+    pub fn of_stranger(station: u8, enb_ue_id: u32) -> AssociationId
         requires station { station < 128 }
-        requires enb_id { enb_id < 2 ^ 24 }
-        ensures { result ≡ stranger_id station enb_id }
+        requires enb_ue_id { enb_ue_id < 2 ^ 24 }
+        ensures { result ≡ stranger_id station enb_ue_id }
     {
         AssociationId {
-            id: STRANGERS + u32::from(station) * ENB_IDS + enb_id,
+            id: STRANGERS + u32::from(station) * ENB_IDS + enb_ue_id,
         }
     }
 }

@@ -2,7 +2,7 @@
 #![tactic(auto)]
 
 use mme_main::{Choice, CommandFault, command, run_play};
-use mme_sim::run_sim;
+use sim_run::run_sim;
 use std::alloc::{AllocError, Global};
 use std::env;
 use std::fs::File;

@@ -3,7 +3,7 @@ use Rattle.std.proofs.Common.{◌≡◌, ◌≢◌, ℕ, suc, zero, ◌+◌, ◌
 use Rattle.std.specs.Prelude.{slice_get}
 use Rattle.std.proofs.lemmas.Bool.Decides.{nat_tests}
 use Rattle.std.proofs.lemmas.List.{append-nil}
-use Rattle.mme_vocabulary.specs.Events.{Item, Nothing}
+use Rattle.mme_types.specs.Events.{Item, Nothing}
 use Rattle.emm_machine.specs.SubscriberView.{SubscriberView}
 use Rattle.mme_routing.specs.Destinations.{for_one}
 use Rattle.subscriber_table.specs.Table.{each_after, subscriber_after, subscriber_step}

@@ -1,6 +1,6 @@
 -- One message more.
 use Rattle.std.proofs.Common.{◌≤◌, List, [], ◌∷◌, ◌++◌, length}
-use Rattle.s1ap_messages.specs.Pdus.{longest}
+use Rattle.s1ap_pdus.specs.Pdus.{longest}
 use Rattle.mme_answering.specs.declared.out.Out.{Out}
 use Rattle.mme_answering.specs.Short.{AreShort}
 

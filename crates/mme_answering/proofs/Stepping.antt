@@ -5,7 +5,7 @@ use Rattle.std.specs.Option.{option_map_or}
 use Rattle.emm_state.specs.declared.solo.Solo.{Solo}
 use Rattle.emm_state.specs.declared.draft.Draft.{Draft}
 use Rattle.emm_machine.specs.Laws.{still_stays}
-use Rattle.mme_vocabulary.specs.Events.{Item, Tick}
+use Rattle.mme_types.specs.Events.{Item, Tick}
 use Rattle.emm_machine.specs.Still.{still}
 use Rattle.emm_machine.specs.SubscriberView.{SubscriberView}
 use Rattle.emm_machine.specs.Ticks.{IsRunning, StaysRunning, countdowns}

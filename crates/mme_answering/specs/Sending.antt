@@ -1,8 +1,8 @@
 -- What strangers and subscribers send at an event, as messages of its output.
 use Rattle.std.specs.Prelude.{ℕ, ◌+◌, List, [], ◌∷◌, ◌++◌, map, Some}
 use Rattle.identity_slots.specs.declared.profile.Profile.{Profile}
-use Rattle.mme_vocabulary.specs.declared.octets.Answer.{Answer}
-use Rattle.mme_vocabulary.specs.Events.{Item}
+use Rattle.mme_types.specs.declared.octets.Answer.{Answer}
+use Rattle.mme_types.specs.Events.{Item}
 use Rattle.emm_machine.specs.SubscriberView.{SubscriberView}
 use Rattle.subscriber_table.specs.Table.{subscriber_step}
 use Rattle.stranger_machine.specs.declared.table.Known.{Known}
@@ -37,7 +37,7 @@ abbrev pub strangers_sent : List Profile → Destination → List Known → List
 strangers_sent ps to.Nobody ks = []
 strangers_sent ps (to.Subscriber n item) ks = []
 strangers_sent ps (to.Beginner id m) ks = input_sent ps id (Begins m) ks
-strangers_sent ps (to.Stranger m) ks = input_sent ps m.mme_id (Receives m) ks
+strangers_sent ps (to.Stranger m) ks = input_sent ps m.mme_ue_id (Receives m) ks
 strangers_sent ps (to.Everyone notice) ks = each_known notice ks
 
 -- ---- the subscribers

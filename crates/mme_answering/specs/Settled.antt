@@ -3,7 +3,7 @@ use Rattle.std.specs.Prelude.{◌≡◌, ◌+◌, ◌<◌, ◌≤◌, ◌^◌, �
 use Rattle.std.specs.Option.{option_map_or}
 use Rattle.emm_state.specs.declared.draft.Draft.{Draft}
 use Rattle.emm_state.specs.declared.solo.Solo.{Solo}
-use Rattle.mme_vocabulary.specs.Events.{Item}
+use Rattle.mme_types.specs.Events.{Item}
 use Rattle.emm_machine.specs.SubscriberView.{SubscriberView}
 use Rattle.ordered_lists.specs.Ordered.{Every}
 use Rattle.stranger_machine.specs.declared.table.Known.{Known}

@@ -1,6 +1,6 @@
 -- How long messages are.
 use Rattle.std.specs.Prelude.{◌≤◌, List, [], ◌∷◌, length}
-use Rattle.s1ap_messages.specs.Pdus.{longest}
+use Rattle.s1ap_pdus.specs.Pdus.{longest}
 use Rattle.mme_answering.specs.declared.out.Out.{Out}
 
 -- none is longer than an S1AP message can be, 16388 octets

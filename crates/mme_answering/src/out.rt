@@ -4,7 +4,7 @@ ghost use Rattle.std.specs.Prelude.{◌≡◌, ◌++◌, ◌∷◌, [], OnOk, On
 ghost use Rattle.mme_answering.specs.Short.{AreShort};
 
 use identity_slots::{AssociationId, Slot};
-use mme_vocabulary::{SentOctets, StationNumber};
+use mme_types::{SentOctets, StationNumber};
 use std::alloc::{AllocError, Global};
 use std::marker::Model;
 

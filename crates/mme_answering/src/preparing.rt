@@ -3,9 +3,9 @@
 //! A call that isn't one of each step stands out of line (`inline(never)`), so that a step doesn't clear its locals.
 
 ghost use Rattle.std.specs.Prelude.{◌≡◌, ◌<◌, ◌≤◌, ◌++◌, List, map, length, IfOk, OnOk, Some, true};
-ghost use Rattle.mme_vocabulary.specs.declared.stations.StationState.{StationState};
-ghost use Rattle.mme_vocabulary.specs.Events.{entry_lists, item_of, message_lists};
-ghost use Rattle.mme_vocabulary.specs.Events as items;
+ghost use Rattle.mme_types.specs.declared.stations.StationState.{StationState};
+ghost use Rattle.mme_types.specs.Events.{entry_lists, item_of, message_lists};
+ghost use Rattle.mme_types.specs.Events as items;
 ghost use Rattle.ordered_lists.specs.Ordered.{Every};
 ghost use Rattle.stranger_machine.specs.declared.table.Known.{Known};
 ghost use Rattle.stranger_machine.specs.declared.turn.Notice.TheVariants as notices;
@@ -28,7 +28,7 @@ use crate::sending::{send_all, send_due};
 use emm_machine::running_is_kept;
 use identity_slots::{AssociationId, Provision, Slot};
 use mme_routing::Destination;
-use mme_vocabulary::{EnbWorld, Entry, SoloEvent, UeMessage};
+use mme_types::{EnbWorld, Entry, SoloEvent, UeMessage};
 use std::alloc::{AllocError, Global};
 use stranger_machine::{Call, Notice, Turn, begins, receives};
 use stranger_table::Strangers;
@@ -270,17 +270,17 @@ fn prepare_stranger(
     outs: &mut Outs,
 ) -> Result<Prepared, AllocError>
     requires { AreInUse subscribers.old.subscribers }
-    ensures sends { OnOk result (outs.new ≡ outs.old ++ (map (stranger_out message.now.mme_id) (receives provision.now.profiles (stranger_at message.now.mme_id strangers.now.strangers) (message_lists message.now)).sent
-        ++ each_sent (if_called (receives provision.now.profiles (stranger_at message.now.mme_id strangers.now.strangers) (message_lists message.now)).call) 0 subscribers.old.subscribers)) }
+    ensures sends { OnOk result (outs.new ≡ outs.old ++ (map (stranger_out message.now.mme_ue_id) (receives provision.now.profiles (stranger_at message.now.mme_ue_id strangers.now.strangers) (message_lists message.now)).sent
+        ++ each_sent (if_called (receives provision.now.profiles (stranger_at message.now.mme_ue_id strangers.now.strangers) (message_lists message.now)).call) 0 subscribers.old.subscribers)) }
     ensures strangers { IfOk result (λ p. settled_strangers p strangers.now.strangers
-        ≡ with_stranger message.now.mme_id (receives provision.now.profiles (stranger_at message.now.mme_id strangers.now.strangers) (message_lists message.now)).stranger strangers.now.strangers) }
+        ≡ with_stranger message.now.mme_ue_id (receives provision.now.profiles (stranger_at message.now.mme_ue_id strangers.now.strangers) (message_lists message.now)).stranger strangers.now.strangers) }
     ensures subscribers { IfOk result (λ p. settled_subscribers p subscribers.old.subscribers
-        ≡ each_after (if_called (receives provision.now.profiles (stranger_at message.now.mme_id strangers.now.strangers) (message_lists message.now)).call) 0 subscribers.old.subscribers) }
+        ≡ each_after (if_called (receives provision.now.profiles (stranger_at message.now.mme_ue_id strangers.now.strangers) (message_lists message.now)).call) 0 subscribers.old.subscribers) }
     ensures fits { IfOk result (λ p. IsFor p subscribers.old.subscribers) }
     ensures passing { IfOk result (λ p. (d : DestinationInSpecs) → IsPassing d p) }
     ensures same { subscribers.new ≡ subscribers.old }
 {
-    let id = message.mme_id;
+    let id = message.mme_ue_id;
     let turn = receives(alloc, provision, strangers.find(id), message)?;
     prepare_turn(alloc, subscribers, id, turn, stations, outs)
 }

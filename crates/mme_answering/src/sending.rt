@@ -11,7 +11,7 @@ ghost use Rattle.mme_answering.specs.Sending.{each_known, owner_out};
 
 use crate::out::{Out, Outs, Owner};
 use identity_slots::AssociationId;
-use mme_vocabulary::{Answer, Answers};
+use mme_types::{Answer, Answers};
 use std::alloc::{AllocError, Global};
 use stranger_machine::Notice;
 use stranger_table::Strangers;

@@ -6,21 +6,21 @@ use Rattle.std.proofs.lemmas.List.{set-get_or}
 use Rattle.s1ap_elements.specs.declared.phone.ResetType.{ResetType}
 use Rattle.s1ap_elements.specs.declared.phone.ResetType.TheVariants.{All, Part}
 use Rattle.s1ap_rows.specs.declared.fault.S1apFault.{S1apFault}
-use Rattle.s1ap_messages.specs.declared.pdu.Pdu.{Pdu}
-use Rattle.s1ap_messages.specs.declared.pdu.Pdu.TheVariants as pdu
-use Rattle.s1ap_messages.specs.declared.pdu.InitialUeMessage.{InitialUeMessage}
-use Rattle.s1ap_messages.specs.Pdus.{decoded}
+use Rattle.s1ap_pdus.specs.declared.pdu.Pdu.{Pdu}
+use Rattle.s1ap_pdus.specs.declared.pdu.Pdu.TheVariants as pdu
+use Rattle.s1ap_pdus.specs.declared.pdu.InitialUeMessage.{InitialUeMessage}
+use Rattle.s1ap_pdus.specs.Pdus.{decoded}
 use Rattle.identity_slots.specs.declared.profile.Profile.{Profile}
 use Rattle.identity_slots.specs.Ids.{is_of_slot}
 use Rattle.identity_slots.specs.Provisioned.{slot_of_id, slot_of_imsi}
-use Rattle.mme_vocabulary.specs.declared.event.UeMessage.{UeMessage}
-use Rattle.mme_vocabulary.specs.declared.stations.StationState.{StationState}
-use Rattle.mme_vocabulary.specs.declared.stations.StationState.TheVariants.{Down, Up, Ready}
-use Rattle.mme_vocabulary.specs.Stations.{station_at}
-use Rattle.mme_vocabulary.specs.Events.{Item, Nothing, Initial, Message, Data, Cancel}
+use Rattle.mme_types.specs.declared.event.UeMessage.{UeMessage}
+use Rattle.mme_types.specs.declared.stations.StationState.{StationState}
+use Rattle.mme_types.specs.declared.stations.StationState.TheVariants.{Down, Up, Ready}
+use Rattle.mme_types.specs.Stations.{station_at}
+use Rattle.mme_types.specs.Events.{Item, Nothing, Initial, Message, Data, Cancel}
 use Rattle.emm_machine.specs.SubscriberView.{SubscriberView}
 use Rattle.stranger_machine.specs.Turns.{sent_to}
-use Rattle.mme_vocabulary.specs.declared.network.Network.{Network}
+use Rattle.mme_types.specs.declared.network.Network.{Network}
 use Rattle.mme_core.specs.declared.event.Event.{Event}
 use Rattle.mme_core.specs.declared.event.Event.TheVariants.{Up as UpEvent, Lost as LostEvent, In as InEvent, Tick as TickEvent, Data as DataEvent, Cancel as CancelEvent}
 use Rattle.mme_core.specs.declared.event.StepFault.TheVariants.{NotUp}
@@ -115,7 +115,7 @@ named_by_slot false o r state m slot up none is = cc
 named_phone : (ps : List Profile) (state : StationState) (m : UeMessage (List ℕ)) (slot : ℕ) → slot_named (phone_message ps state m).destination ≡ Some slot → NamesIn state (phone_message ps state m) slot
 named_phone ps Down m slot is = cc
 named_phone ps Up m slot is = cc
-named_phone ps (Ready tas) m slot is = named_by_slot (is_of_slot m.mme_id) (slot_of_id m.mme_id ps) (goes_to (Stranger m)) (Ready tas) m slot refl refl is
+named_phone ps (Ready tas) m slot is = named_by_slot (is_of_slot m.mme_ue_id) (slot_of_id m.mme_ue_id ps) (goes_to (Stranger m)) (Ready tas) m slot refl refl is
 
 named_phone_if : (ps : List Profile) (e : ℕ) (state : StationState) (o : Option (UeMessage (List ℕ))) (slot : ℕ)
     → slot_named (phone_message_if ps e state o).destination ≡ Some slot → NamesIn state (phone_message_if ps e state o) slot
@@ -124,7 +124,7 @@ named_phone_if ps e state None slot is = cc
 
 named_message : (n : Network) (ps : List Profile) (e : ℕ) (state : StationState) (m : Pdu (List ℕ)) (slot : ℕ)
     → slot_named (outcome_of_message n ps e state m).destination ≡ Some slot → NamesIn state (outcome_of_message n ps e state m) slot
-named_message n ps e state (pdu.SetupRequest m) slot is =
+named_message n ps e state (pdu.S1SetupRequest m) slot is =
     named_set_up (broadcasts n.plmn m.supported_tas) (begins_anew e (Some (Ready m.supported_tas)) (sent_to e (setup_response n))) (begins_anew e (Some Up) (sent_to e setup_failure)) state slot refl refl is
 named_message n ps e state (pdu.Reset m) slot is = named_reset e state m.reset_type slot is
 named_message n ps e state (pdu.ErrorIndication m) slot is = cc

@@ -3,14 +3,14 @@ use Rattle.std.proofs.Common.{◌≡◌, ℕ, zero, suc, ◌+◌, List, [], ◌�
 use Rattle.std.specs.Prelude.{slice_get}
 use Rattle.identity_slots.specs.declared.profile.Profile.{Profile}
 use Rattle.identity_slots.specs.declared.profile.Vector.{Vector}
-use Rattle.mme_vocabulary.specs.declared.network.Network.{Network}
-use Rattle.mme_vocabulary.specs.Events.{Item}
+use Rattle.mme_types.specs.declared.network.Network.{Network}
+use Rattle.mme_types.specs.Events.{Item}
 use Rattle.emm_state.specs.declared.setting.Setting.{Setting}
 use Rattle.emm_machine.specs.Freshness.{IsInUse, StaysInUse}
 use Rattle.emm_machine.specs.SubscriberView.{SubscriberView}
 use Rattle.emm_machine.specs.Ticks.{IsRunning, StaysRunning}
 use Rattle.emm_machine.specs.Words.{fresh_solo}
-use Rattle.emm_promises.specs.Sound.{IsSound, StaysSound}
+use Rattle.laws_admission.specs.Sound.{IsSound, StaysSound}
 use Rattle.mme_core.specs.FreshRuns.{AreInUse}
 use Rattle.mme_core.specs.World.{each_after, fresh_subscribers}
 

@@ -2,19 +2,19 @@
 use Rattle.std.proofs.Common.{◌≡◌, ℕ, List, Bool, true, false, Option, Some, None, refl, ◌∙◌, ap}
 use Rattle.std.specs.Prelude.{◌&&◌, length, if◌then◌else◌, nat_lt}
 use Rattle.s1ap_elements.specs.declared.station.SupportedTa.{SupportedTa}
-use Rattle.s1ap_messages.specs.declared.pdu.InitialUeMessage.{InitialUeMessage}
-use Rattle.s1ap_messages.specs.declared.pdu.Pdu.{Pdu}
-use Rattle.s1ap_messages.specs.declared.pdu.Pdu.TheVariants as pdu
-use Rattle.s1ap_messages.specs.Pdus.{decoded}
+use Rattle.s1ap_pdus.specs.declared.pdu.InitialUeMessage.{InitialUeMessage}
+use Rattle.s1ap_pdus.specs.declared.pdu.Pdu.{Pdu}
+use Rattle.s1ap_pdus.specs.declared.pdu.Pdu.TheVariants as pdu
+use Rattle.s1ap_pdus.specs.Pdus.{decoded}
 use Rattle.identity_slots.specs.declared.profile.Profile.{Profile}
 use Rattle.identity_slots.specs.Ids.{is_of_slot, slot_in}
 use Rattle.identity_slots.specs.Provisioned.{slot_of_id, slot_of_imsi}
-use Rattle.mme_vocabulary.specs.declared.event.UeBody.{UeBody}
-use Rattle.mme_vocabulary.specs.declared.event.UeBody.TheVariants.{Uplink, ReleaseRequest, ReleaseComplete, ContextSetupFailure, PathSwitch, Notice}
-use Rattle.mme_vocabulary.specs.declared.event.UeMessage.{UeMessage}
-use Rattle.mme_vocabulary.specs.declared.stations.StationState.TheVariants.{Ready}
-use Rattle.mme_vocabulary.specs.Events.{Cancel, Data, Item}
-use Rattle.mme_vocabulary.specs.declared.network.Network.{Network}
+use Rattle.mme_types.specs.declared.event.UeBody.{UeBody}
+use Rattle.mme_types.specs.declared.event.UeBody.TheVariants.{Uplink, UeContextReleaseRequest, UeContextReleaseComplete, InitialContextSetupFailure, PathSwitch, Notice}
+use Rattle.mme_types.specs.declared.event.UeMessage.{UeMessage}
+use Rattle.mme_types.specs.declared.stations.StationState.TheVariants.{Ready}
+use Rattle.mme_types.specs.Events.{Cancel, Data, Item}
+use Rattle.mme_types.specs.declared.network.Network.{Network}
 use Rattle.mme_core.specs.Laws.{NamedById, NamedByIdentity, NamedByImsi, id_in, slot_named}
 use Rattle.mme_naming.specs.Naming.{named_slot}
 use Rattle.mme_routing.specs.Destinations.{Stranger}
@@ -47,25 +47,25 @@ slot_if true true slot r m none = refl
 slot_if true false slot r m none = refl
 slot_if false here slot r m none = none
 
-phone_named : (ps : List Profile) (m : UeMessage (List ℕ)) → slot_named (message_by_id ps m).destination ≡ slot_of_id m.mme_id ps
-phone_named ps m = slot_if (is_of_slot m.mme_id) (nat_lt (slot_in m.mme_id) (length ps)) (slot_in m.mme_id) (goes_to (Stranger m)) m refl
+phone_named : (ps : List Profile) (m : UeMessage (List ℕ)) → slot_named (message_by_id ps m).destination ≡ slot_of_id m.mme_ue_id ps
+phone_named ps m = slot_if (is_of_slot m.mme_ue_id) (nat_lt (slot_in m.mme_ue_id) (length ps)) (slot_in m.mme_ue_id) (goes_to (Stranger m)) m refl
 
-id_named : (ps : List Profile) (e mme_id enb_id : ℕ) (body : UeBody (List ℕ)) (id : ℕ) → Some mme_id ≡ Some id
-    → slot_named (message_by_id ps (ue_message e mme_id enb_id body)).destination ≡ slot_of_id id ps
-id_named ps e mme_id enb_id body id is =
-    let same : mme_id ≡ id = cc in
-    phone_named ps (ue_message e mme_id enb_id body) ∙ ap (λ n. slot_of_id n ps) same
+id_named : (ps : List Profile) (e mme_ue_id enb_ue_id : ℕ) (body : UeBody (List ℕ)) (id : ℕ) → Some mme_ue_id ≡ Some id
+    → slot_named (message_by_id ps (ue_message e mme_ue_id enb_ue_id body)).destination ≡ slot_of_id id ps
+id_named ps e mme_ue_id enb_ue_id body id is =
+    let same : mme_ue_id ≡ id = cc in
+    phone_named ps (ue_message e mme_ue_id enb_ue_id body) ∙ ap (λ n. slot_of_id n ps) same
 
 heard_named : (n : Network) (ps : List Profile) (e : ℕ) (tas : List SupportedTa) (m : Pdu (List ℕ)) (id : ℕ) → id_in m ≡ Some id
     → slot_named (outcome_of_message n ps e (Ready tas) m).destination ≡ slot_of_id id ps
-heard_named n ps e tas (pdu.UplinkNasTransport m) id is = id_named ps e m.mme_id m.enb_id (Uplink m.nas m.tai) id is
-heard_named n ps e tas (pdu.NasNonDelivery m) id is = id_named ps e m.mme_id m.enb_id Notice id is
-heard_named n ps e tas (pdu.CapabilityInfo m) id is = id_named ps e m.mme_id m.enb_id Notice id is
-heard_named n ps e tas (pdu.ContextSetupResponse m) id is = id_named ps e m.mme_id m.enb_id Notice id is
-heard_named n ps e tas (pdu.ContextSetupFailure m) id is = id_named ps e m.mme_id m.enb_id ContextSetupFailure id is
-heard_named n ps e tas (pdu.ReleaseRequest m) id is = id_named ps e m.mme_id m.enb_id (ReleaseRequest m.cause) id is
-heard_named n ps e tas (pdu.ReleaseComplete m) id is = id_named ps e m.mme_id m.enb_id ReleaseComplete id is
-heard_named n ps e tas (pdu.PathSwitchRequest m) id is = id_named ps e m.source_mme_id m.enb_id PathSwitch id is
+heard_named n ps e tas (pdu.UplinkNasTransport m) id is = id_named ps e m.mme_ue_id m.enb_ue_id (Uplink m.nas m.tai) id is
+heard_named n ps e tas (pdu.NasNonDeliveryIndication m) id is = id_named ps e m.mme_ue_id m.enb_ue_id Notice id is
+heard_named n ps e tas (pdu.UeCapabilityInfoIndication m) id is = id_named ps e m.mme_ue_id m.enb_ue_id Notice id is
+heard_named n ps e tas (pdu.InitialContextSetupResponse m) id is = id_named ps e m.mme_ue_id m.enb_ue_id Notice id is
+heard_named n ps e tas (pdu.InitialContextSetupFailure m) id is = id_named ps e m.mme_ue_id m.enb_ue_id InitialContextSetupFailure id is
+heard_named n ps e tas (pdu.UeContextReleaseRequest m) id is = id_named ps e m.mme_ue_id m.enb_ue_id (UeContextReleaseRequest m.cause) id is
+heard_named n ps e tas (pdu.UeContextReleaseComplete m) id is = id_named ps e m.mme_ue_id m.enb_ue_id UeContextReleaseComplete id is
+heard_named n ps e tas (pdu.PathSwitchRequest m) id is = id_named ps e m.source_mme_ue_id m.enb_ue_id PathSwitch id is
 heard_named n ps e tas m id is = cc
 
 pub named_by_id : NamedById

@@ -1,7 +1,7 @@
 -- The owners of every output stand in their order.
 use Rattle.std.proofs.Common.{◌≡◌, ℕ, ◌+◌, ◌<◌, ◌≤◌, List, [], ◌∷◌, ◌++◌, map, Option, Some, None, Result, Ok, Err, sym, subst, arith}
-use Rattle.mme_vocabulary.specs.declared.octets.Answer.{Answer}
-use Rattle.mme_vocabulary.specs.Events.{Item}
+use Rattle.mme_types.specs.declared.octets.Answer.{Answer}
+use Rattle.mme_types.specs.Events.{Item}
 use Rattle.emm_machine.specs.SubscriberView.{SubscriberView}
 use Rattle.identity_slots.specs.declared.profile.Profile.{Profile}
 use Rattle.ordered_lists.specs.Ordered.{AllOver, Rising}
@@ -112,21 +112,21 @@ order_strangers : (ps : List Profile) (d : Destination) (ks : List Known) → Ri
 order_strangers ps to.Nobody ks h = tt
 order_strangers ps (to.Subscriber n item) ks h = tt
 order_strangers ps (to.Beginner id m) ks h = order_input ps id (Begins m) ks
-order_strangers ps (to.Stranger m) ks h = order_input ps m.mme_id (Receives m) ks
+order_strangers ps (to.Stranger m) ks h = order_input ps m.mme_ue_id (Receives m) ks
 order_strangers ps (to.Everyone notice) ks h = order_known notice ks h
 
 strangers_before : (ps : List Profile) (d : Destination) (ks : List Known) (ys : List Out) → ((id : ℕ) → AllFrom (Stranger id) ys) → AllBefore (strangers_sent ps d ks) ys
 strangers_before ps to.Nobody ks ys f = tt
 strangers_before ps (to.Subscriber n item) ks ys f = tt
 strangers_before ps (to.Beginner id m) ks ys f = input_before ps id (Begins m) ks ys (f id)
-strangers_before ps (to.Stranger m) ks ys f = input_before ps m.mme_id (Receives m) ks ys (f m.mme_id)
+strangers_before ps (to.Stranger m) ks ys f = input_before ps m.mme_ue_id (Receives m) ks ys (f m.mme_ue_id)
 strangers_before ps (to.Everyone notice) ks ys f = known_before notice ks ys f
 
 from_strangers : (p : Owner) (ps : List Profile) (d : Destination) (ks : List Known) → ((m : ℕ) → IsNotBehind p (Stranger m)) → AllFrom p (strangers_sent ps d ks)
 from_strangers p ps to.Nobody ks f = tt
 from_strangers p ps (to.Subscriber n item) ks f = tt
 from_strangers p ps (to.Beginner id m) ks f = from_input p ps id (Begins m) ks (f id)
-from_strangers p ps (to.Stranger m) ks f = from_input p ps m.mme_id (Receives m) ks (f m.mme_id)
+from_strangers p ps (to.Stranger m) ks f = from_input p ps m.mme_ue_id (Receives m) ks (f m.mme_ue_id)
 from_strangers p ps (to.Everyone notice) ks f = all_known p notice ks f
 
 -- ---- a station

@@ -5,8 +5,8 @@ use Rattle.std.proofs.lemmas.Bool.{cases_eq, eq-eqb, ne_eqb}
 use Rattle.std.proofs.lemmas.List.{append-nil}
 use Rattle.identity_slots.specs.declared.profile.Profile.{Profile}
 use Rattle.ordered_lists.specs.Ordered.{AllOver, Rising}
-use Rattle.mme_vocabulary.specs.declared.octets.Answer.{Answer}
-use Rattle.mme_vocabulary.specs.Events.{Item}
+use Rattle.mme_types.specs.declared.octets.Answer.{Answer}
+use Rattle.mme_types.specs.Events.{Item}
 use Rattle.emm_machine.specs.SubscriberView.{SubscriberView}
 use Rattle.stranger_machine.specs.declared.table.Known.{Known}
 use Rattle.stranger_machine.specs.declared.turn.Notice.{Notice}
@@ -71,7 +71,7 @@ pub no_stranger : (own : Owner → Bool) (ps : List Profile) (d : Destination) (
 no_stranger own ps to.Nobody ks h = refl
 no_stranger own ps (to.Subscriber n item) ks h = refl
 no_stranger own ps (to.Beginner id m) ks h = no_input own ps id (Begins m) ks (h id)
-no_stranger own ps (to.Stranger m) ks h = no_input own ps m.mme_id (Receives m) ks (h m.mme_id)
+no_stranger own ps (to.Stranger m) ks h = no_input own ps m.mme_ue_id (Receives m) ks (h m.mme_ue_id)
 no_stranger own ps (to.Everyone notice) ks h = no_known own notice ks h
 
 pub no_slot : (own : Owner → Bool) (items : ℕ → Item) (n : ℕ) (ws : List SubscriberView) → ((m : ℕ) → own (Subscriber m) ≡ false) → owned_by own (each_sent items n ws) ≡ []
@@ -176,7 +176,7 @@ pub owned_stranger : (ps : List Profile) (id : ℕ) (d : Destination) (ks : List
 owned_stranger ps id to.Nobody ks h = sym (ap (λ t. map answer_told t.sent) (at_nothing ps id (stranger_at id ks)))
 owned_stranger ps id (to.Subscriber n item) ks h = sym (ap (λ t. map answer_told t.sent) (at_nothing ps id (stranger_at id ks)))
 owned_stranger ps id (to.Beginner n m) ks h = owned_one ps id n (Begins m) ks
-owned_stranger ps id (to.Stranger m) ks h = owned_one ps id m.mme_id (Receives m) ks
+owned_stranger ps id (to.Stranger m) ks h = owned_one ps id m.mme_ue_id (Receives m) ks
 owned_stranger ps id (to.Everyone notice) ks h = owned_known id notice ks h ∙ sym (ap (λ t. map answer_told t.sent) (at_notice ps id (stranger_at id ks) notice))
 
 -- ---- a station's

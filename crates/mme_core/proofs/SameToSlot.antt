@@ -1,6 +1,6 @@
 -- What is nothing to a slot may be left out.
 use Rattle.std.proofs.Common.{◌≡◌, List, [], ◌∷◌, ◌++◌, map, Some, refl, sym, ◌∙◌, ap}
-use Rattle.mme_vocabulary.specs.Events.{Item, Nothing}
+use Rattle.mme_types.specs.Events.{Item, Nothing}
 use Rattle.emm_machine.specs.SubscriberView.{SubscriberView}
 use Rattle.mme_core.specs.Laws.{SameFromMme, SameToSlot, busy, in_order}
 use Rattle.mme_core.specs.Projection.{alone_after, answer_told, projection, subscriber_told}

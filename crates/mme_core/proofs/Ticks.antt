@@ -5,19 +5,19 @@ use Rattle.std.proofs.lemmas.Bool.Decides.{nat_tests}
 use Rattle.s1ap_elements.specs.declared.phone.ResetType.{ResetType}
 use Rattle.s1ap_elements.specs.declared.phone.ResetType.TheVariants.{All, Part}
 use Rattle.s1ap_rows.specs.declared.fault.S1apFault.{S1apFault}
-use Rattle.s1ap_messages.specs.declared.pdu.InitialUeMessage.{InitialUeMessage}
-use Rattle.s1ap_messages.specs.declared.pdu.Pdu.{Pdu}
-use Rattle.s1ap_messages.specs.declared.pdu.Pdu.TheVariants as pdu
-use Rattle.s1ap_messages.specs.Pdus.{decoded}
+use Rattle.s1ap_pdus.specs.declared.pdu.InitialUeMessage.{InitialUeMessage}
+use Rattle.s1ap_pdus.specs.declared.pdu.Pdu.{Pdu}
+use Rattle.s1ap_pdus.specs.declared.pdu.Pdu.TheVariants as pdu
+use Rattle.s1ap_pdus.specs.Pdus.{decoded}
 use Rattle.identity_slots.specs.declared.profile.Profile.{Profile}
 use Rattle.identity_slots.specs.Ids.{is_of_slot}
 use Rattle.identity_slots.specs.Provisioned.{slot_of_id, slot_of_imsi}
-use Rattle.mme_vocabulary.specs.declared.event.UeMessage.{UeMessage}
-use Rattle.mme_vocabulary.specs.declared.network.Network.{Network}
-use Rattle.mme_vocabulary.specs.declared.stations.StationState.{StationState}
-use Rattle.mme_vocabulary.specs.declared.stations.StationState.TheVariants.{Down, Up, Ready}
-use Rattle.mme_vocabulary.specs.Stations.{station_at}
-use Rattle.mme_vocabulary.specs.Events.{Item, Data, Cancel}
+use Rattle.mme_types.specs.declared.event.UeMessage.{UeMessage}
+use Rattle.mme_types.specs.declared.network.Network.{Network}
+use Rattle.mme_types.specs.declared.stations.StationState.{StationState}
+use Rattle.mme_types.specs.declared.stations.StationState.TheVariants.{Down, Up, Ready}
+use Rattle.mme_types.specs.Stations.{station_at}
+use Rattle.mme_types.specs.Events.{Item, Data, Cancel}
 use Rattle.stranger_machine.specs.declared.turn.Notice.TheVariants as notices
 use Rattle.mme_routing.specs.Destinations.{Destination, Everyone, Stranger}
 use Rattle.mme_naming.specs.Naming.{named_slot}
@@ -66,14 +66,14 @@ no_tick_slot (Some slot) m = refl
 no_tick_phone : (ps : List Profile) (state : StationState) (m : UeMessage (List ℕ)) → IsNoTick (phone_message ps state m)
 no_tick_phone ps Down m = refl
 no_tick_phone ps Up m = refl
-no_tick_phone ps (Ready tas) m = no_tick_if (is_of_slot m.mme_id) (message_of_slot (slot_of_id m.mme_id ps) m) (goes_to (Stranger m)) (no_tick_slot (slot_of_id m.mme_id ps) m) refl
+no_tick_phone ps (Ready tas) m = no_tick_if (is_of_slot m.mme_ue_id) (message_of_slot (slot_of_id m.mme_ue_id ps) m) (goes_to (Stranger m)) (no_tick_slot (slot_of_id m.mme_ue_id ps) m) refl
 
 no_tick_phone_if : (ps : List Profile) (e : ℕ) (state : StationState) (o : Option (UeMessage (List ℕ))) → IsNoTick (phone_message_if ps e state o)
 no_tick_phone_if ps e state (Some m) = no_tick_phone ps state m
 no_tick_phone_if ps e state None = refl
 
 no_tick_message : (n : Network) (ps : List Profile) (e : ℕ) (state : StationState) (m : Pdu (List ℕ)) → IsNoTick (outcome_of_message n ps e state m)
-no_tick_message n ps e state (pdu.SetupRequest m) = no_tick_if (broadcasts n.plmn m.supported_tas) _ _ refl refl
+no_tick_message n ps e state (pdu.S1SetupRequest m) = no_tick_if (broadcasts n.plmn m.supported_tas) _ _ refl refl
 no_tick_message n ps e state (pdu.Reset m) = no_tick_reset e state m.reset_type
 no_tick_message n ps e state (pdu.ErrorIndication m) = refl
 no_tick_message n ps e state (pdu.ResetAcknowledge m) = refl

@@ -3,7 +3,7 @@ use Rattle.std.proofs.Common.{◌≡◌, ℕ, ◌+◌, suc, zero, List, [], ◌�
 use Rattle.std.specs.Prelude.{slice_get}
 use Rattle.identity_slots.specs.declared.profile.Profile.{Profile}
 use Rattle.ordered_lists.specs.Ordered.{Rising}
-use Rattle.mme_vocabulary.specs.Events.{Item, Nothing}
+use Rattle.mme_types.specs.Events.{Item, Nothing}
 use Rattle.emm_machine.specs.SubscriberView.{SubscriberView}
 use Rattle.stranger_machine.specs.declared.state.Stranger.{Stranger}
 use Rattle.stranger_machine.specs.declared.table.Known.{Known}
@@ -114,7 +114,7 @@ turned : (ps : List Profile) (id : ℕ) (d : Destination) (ks : List Known) → 
 turned ps id to.Nobody ks h = sym (ap (λ t. t.stranger) (laws.at_nothing ps id (stranger_at id ks)))
 turned ps id (to.Subscriber n item) ks h = sym (ap (λ t. t.stranger) (laws.at_nothing ps id (stranger_at id ks)))
 turned ps id (to.Beginner n m) ks h = laws.one_turned ps id n (Begins m) ks h
-turned ps id (to.Stranger m) ks h = laws.one_turned ps id m.mme_id (Receives m) ks h
+turned ps id (to.Stranger m) ks h = laws.one_turned ps id m.mme_ue_id (Receives m) ks h
 turned ps id (to.Everyone notice) ks h = laws.all_turned ps id notice ks h
 
 -- and the ids rise
@@ -122,7 +122,7 @@ pub rising_behind : (ps : List Profile) (d : Destination) (ks : List Known) → 
 rising_behind ps to.Nobody ks h = h
 rising_behind ps (to.Subscriber n item) ks h = h
 rising_behind ps (to.Beginner id m) ks h = laws.rising_input ps id (Begins m) ks h
-rising_behind ps (to.Stranger m) ks h = laws.rising_input ps m.mme_id (Receives m) ks h
+rising_behind ps (to.Stranger m) ks h = laws.rising_input ps m.mme_ue_id (Receives m) ks h
 rising_behind ps (to.Everyone notice) ks h = laws.rising_noted notice ks h
 
 stranger_unless : (id : ℕ) (ps : List Profile) (o : Option StepFault) (w v : World) (i : Input) → stranger_at id v.strangers ≡ (stranger_step ps id (stranger_at id w.strangers) i).stranger
@@ -164,7 +164,7 @@ item_at_same : (slot : ℕ) (d : Destination) (ps : List Profile) (g h : ℕ →
 item_at_same slot to.Nobody ps g h same = refl
 item_at_same slot (to.Subscriber n item) ps g h same = refl
 item_at_same slot (to.Beginner id m) ps g h same = ap (λ x. if_called (stranger_step ps id x (Begins m)).call slot) (same id)
-item_at_same slot (to.Stranger m) ps g h same = ap (λ x. if_called (stranger_step ps m.mme_id x (Receives m)).call slot) (same m.mme_id)
+item_at_same slot (to.Stranger m) ps g h same = ap (λ x. if_called (stranger_step ps m.mme_ue_id x (Receives m)).call slot) (same m.mme_ue_id)
 item_at_same slot (to.Everyone notice) ps g h same = refl
 
 pub item_same : (slot : ℕ) (s : Sight) (g h : ℕ → Option Stranger) (e : Event) → ((id : ℕ) → g id ≡ h id) → item_for slot s g e ≡ item_for slot s h e

@@ -1,9 +1,9 @@
 -- What it takes to be let in, of a subscriber over a list of items.
 use Rattle.std.specs.Prelude.{◌≡◌, ℕ, true, false, List, [], ◌∷◌, ◌++◌, All, flat_map, Some, Ok}
 use Rattle.std.specs.List.{AllZip}
-use Rattle.s1ap_messages.specs.declared.pdu.Pdu.{Pdu}
-use Rattle.s1ap_messages.specs.Pdus.{decoded}
-use Rattle.mme_vocabulary.specs.Events.{Item}
+use Rattle.s1ap_pdus.specs.declared.pdu.Pdu.{Pdu}
+use Rattle.s1ap_pdus.specs.Pdus.{decoded}
+use Rattle.mme_types.specs.Events.{Item}
 use Rattle.emm_state.specs.declared.solo.Context.{Context}
 use Rattle.emm_state.specs.declared.solo.Phase.TheVariants.{Deregistered}
 use Rattle.emm_state.specs.declared.solo.Solo.{Solo}
@@ -11,11 +11,11 @@ use Rattle.emm_state.specs.Actions.{is_registered}
 use Rattle.emm_machine.specs.Freshness.{sent_marks}
 use Rattle.emm_machine.specs.Steps.{solo_after, solo_answers, solo_step}
 use Rattle.emm_machine.specs.SubscriberView.{SubscriberView}
-use Rattle.emm_promises.specs.Keys.{GoesToTheProved, HasKeyOf, has_radio_key}
-use Rattle.emm_promises.specs.Marked.{IsFormUnder, IsMarked, protected_among}
-use Rattle.emm_promises.specs.Proof.{IsProved}
-use Rattle.emm_promises.specs.Sound.{is_past_proof}
-use Rattle.emm_promises.specs.Unproved.{MayMoveOn, StaysRegistered, begins_attach, is_no_message, is_path_switch, is_proved_message}
+use Rattle.laws_admission.specs.Keys.{GoesToTheProved, HasKeyOf, has_radio_key}
+use Rattle.laws_admission.specs.Marked.{IsFormUnder, IsMarked, protected_among}
+use Rattle.laws_admission.specs.Proof.{IsProved}
+use Rattle.laws_admission.specs.Sound.{is_past_proof}
+use Rattle.laws_admission.specs.Unproved.{MayMoveOn, StaysRegistered, begins_attach, is_no_message, is_path_switch, is_proved_message}
 
 -- the machine's state after a list of items
 abbrev pub state_after : SubscriberView → List Item → Solo

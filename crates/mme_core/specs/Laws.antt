@@ -3,14 +3,14 @@ use Rattle.std.specs.Prelude.{◌≡◌, ◌≢◌, ℕ, Bool, true, false, List
 use Rattle.std.specs.Borrow.{Bor}
 use Rattle.ordered_lists.specs.Ordered.{Rising}
 use Rattle.s1ap_elements.specs.declared.station.SupportedTa.{SupportedTa}
-use Rattle.s1ap_messages.specs.declared.pdu.InitialUeMessage.{InitialUeMessage}
-use Rattle.s1ap_messages.specs.declared.pdu.Pdu.{Pdu}
-use Rattle.s1ap_messages.specs.declared.pdu.Pdu.TheVariants as pdu
-use Rattle.s1ap_messages.specs.Pdus.{decoded}
+use Rattle.s1ap_pdus.specs.declared.pdu.InitialUeMessage.{InitialUeMessage}
+use Rattle.s1ap_pdus.specs.declared.pdu.Pdu.{Pdu}
+use Rattle.s1ap_pdus.specs.declared.pdu.Pdu.TheVariants as pdu
+use Rattle.s1ap_pdus.specs.Pdus.{decoded}
 use Rattle.identity_slots.specs.Provisioned.{slot_of_id, slot_of_imsi}
-use Rattle.mme_vocabulary.specs.declared.stations.StationState.TheVariants.{Ready}
-use Rattle.mme_vocabulary.specs.Stations.{station_at}
-use Rattle.mme_vocabulary.specs.Events.{Item, Nothing}
+use Rattle.mme_types.specs.declared.stations.StationState.TheVariants.{Ready}
+use Rattle.mme_types.specs.Stations.{station_at}
+use Rattle.mme_types.specs.Events.{Item, Nothing}
 use Rattle.emm_machine.specs.SubscriberView.{SubscriberView}
 use Rattle.stranger_machine.specs.declared.state.Stranger.{Stranger}
 use Rattle.stranger_machine.specs.Machine.{stranger_step}
@@ -82,14 +82,14 @@ NamedByIdentity =
 
 -- the MME's id in a message that a station sends for a UE; of PATH SWITCH REQUEST the source's
 abbrev pub id_in : Pdu (List ℕ) → Option ℕ
-id_in (pdu.UplinkNasTransport m) = Some m.mme_id
-id_in (pdu.NasNonDelivery m) = Some m.mme_id
-id_in (pdu.CapabilityInfo m) = Some m.mme_id
-id_in (pdu.ContextSetupResponse m) = Some m.mme_id
-id_in (pdu.ContextSetupFailure m) = Some m.mme_id
-id_in (pdu.ReleaseRequest m) = Some m.mme_id
-id_in (pdu.ReleaseComplete m) = Some m.mme_id
-id_in (pdu.PathSwitchRequest m) = Some m.source_mme_id
+id_in (pdu.UplinkNasTransport m) = Some m.mme_ue_id
+id_in (pdu.NasNonDeliveryIndication m) = Some m.mme_ue_id
+id_in (pdu.UeCapabilityInfoIndication m) = Some m.mme_ue_id
+id_in (pdu.InitialContextSetupResponse m) = Some m.mme_ue_id
+id_in (pdu.InitialContextSetupFailure m) = Some m.mme_ue_id
+id_in (pdu.UeContextReleaseRequest m) = Some m.mme_ue_id
+id_in (pdu.UeContextReleaseComplete m) = Some m.mme_ue_id
+id_in (pdu.PathSwitchRequest m) = Some m.source_mme_ue_id
 id_in _ = None
 
 -- and a message with an id the slot that the id is of

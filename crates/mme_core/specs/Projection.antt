@@ -1,8 +1,8 @@
 -- Each owner alone: what of a list of events is a station's, a stranger's or a slot's, and what its machine sends over it.
 use Rattle.std.specs.Prelude.{◌≤◌, ℕ, ◌==◌, Bool, false, List, [], ◌∷◌, map, filter, Option, Some, None, Result, Ok, Err, slice_get, option_map, unwrap_or, if◌then◌else◌}
-use Rattle.mme_vocabulary.specs.declared.octets.Answer.{Answer}
-use Rattle.mme_vocabulary.specs.declared.stations.StationState.{StationState}
-use Rattle.mme_vocabulary.specs.Events.{Item, Nothing}
+use Rattle.mme_types.specs.declared.octets.Answer.{Answer}
+use Rattle.mme_types.specs.declared.stations.StationState.{StationState}
+use Rattle.mme_types.specs.Events.{Item, Nothing}
 use Rattle.emm_machine.specs.Steps.{solo_after, solo_answers}
 use Rattle.emm_machine.specs.declared.subscriber.States.{States}
 use Rattle.emm_machine.specs.SubscriberView.{SubscriberView}

@@ -1,7 +1,7 @@
 -- What every owner may see: the configuration, the clock, the stations and who is provisioned. It moves by the events alone.
 use Rattle.std.specs.Prelude.{ℕ, List}
 use Rattle.identity_slots.specs.declared.profile.Profile.{Profile}
-use Rattle.mme_vocabulary.specs.declared.stations.StationState.{StationState}
+use Rattle.mme_types.specs.declared.stations.StationState.{StationState}
 use Rattle.stranger_machine.specs.declared.table.Known.{Known}
 use Rattle.mme_core.specs.declared.config.Config.{Config}
 

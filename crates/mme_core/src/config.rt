@@ -1,6 +1,6 @@
 //! What an MME is given when it begins.
 
-use mme_vocabulary::Network;
+use mme_types::Network;
 
 /// The MME's network, group and code, what it grants each phone, and the clock that it starts at.
 #[derive(Drop)]

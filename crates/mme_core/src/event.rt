@@ -3,7 +3,7 @@
 ghost use Rattle.std.specs.Prelude.{◌≡◌};
 ghost use Rattle.mme_core.specs.declared.event.StepFault.TheVariants.{NoMemory};
 
-use mme_vocabulary::StationNumber;
+use mme_types::StationNumber;
 use nas_elements::Imsi;
 use std::alloc::{AllocError, AllocFailed};
 

@@ -2,13 +2,13 @@
 
 ghost use Rattle.std.specs.Prelude.{◌≡◌, ◌≢◌, ◌⊎◌, ◌<◌, ◌++◌, ◌≤◌, ◌^◌, ◌↔◌, ℕ, length, slice_get, IfOk, IfErr, IfSome, IsNone, OnOk, OnErr, Ok, Err, Some, None};
 ghost use Rattle.identity_slots.specs.Provisioned.{slot_of_imsi};
-ghost use Rattle.mme_vocabulary.specs.Stations.{station_at};
+ghost use Rattle.mme_types.specs.Stations.{station_at};
 ghost use Rattle.emm_machine.specs.SubscriberView.{SubscriberView};
 ghost use Rattle.ordered_lists.specs.Ordered.{Rising};
 ghost use Rattle.stranger_machine.specs.Table.{known_id, stranger_at};
 ghost use Rattle.mme_core.specs.declared.event.StepFault.TheVariants.{NoMemory};
 ghost use Rattle.mme_core.specs.Projection.{AllInOrder, AreInOrder, alone_after, is_slot, is_station, is_stranger, projection, silence, station_run, station_told, states_along, states_at, states_run, stranger_run, stranger_told, subscriber_told, told};
-ghost use Rattle.mme_vocabulary.specs.declared.stations.StationState.{StationState};
+ghost use Rattle.mme_types.specs.declared.stations.StationState.{StationState};
 ghost use Rattle.mme_routing.specs.Destinations.{item_at, strangers_behind};
 ghost use Rattle.mme_routing.specs.Seen.{destination_of, seen_outcome};
 ghost use Rattle.mme_answering.specs.Settled.{IsFor, IsInTime, IsPassing, settled_strangers, settled_subscribers};
@@ -27,14 +27,14 @@ use emm_machine::{
     States, accepted_counts_are_fresh, in_use_is_kept, running_is_kept, sent_counts_are_fresh,
     vector_makes_one_context,
 };
-use emm_promises::{
+use identity_slots::{Provision, Slot};
+use laws_admission::{
     keys_go_to_the_proved, protected_forms_are_marked, registered_by_proof, soundness_is_kept,
     unproved_leaves,
 };
-use identity_slots::{Provision, Slot};
 use mme_answering::{Outs, Prepared, prepare, settle};
 use mme_routing::{Destination, Outcome, outcome_of};
-use mme_vocabulary::{Answers, EnbWorld, SharedNetwork, SoloEvent, StationNumber, StationState};
+use mme_types::{Answers, EnbWorld, SharedNetwork, SoloEvent, StationNumber, StationState};
 use nas_elements::Imsi;
 use std::alloc::{AllocError, Global};
 use std::marker::Model;

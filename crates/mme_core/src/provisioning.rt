@@ -6,7 +6,7 @@ ghost use Rattle.mme_core.specs.World.{fresh_subscribers};
 
 use emm_machine::Subscriber;
 use identity_slots::{Provision, Slot};
-use mme_vocabulary::SharedNetwork;
+use mme_types::SharedNetwork;
 use std::alloc::{AllocError, Global};
 use subscriber_table::Subscribers;
 

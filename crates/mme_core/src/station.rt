@@ -1,11 +1,11 @@
 //! The station that an event is of: what is sent for it, and its new state.
 
 ghost use Rattle.std.specs.Prelude.{◌≡◌, slice_set, unwrap_or, IfOk};
-ghost use Rattle.mme_vocabulary.specs.Stations.{station_at};
+ghost use Rattle.mme_types.specs.Stations.{station_at};
 ghost use Rattle.mme_core.specs.World.{placed, station_sent};
 
 use mme_answering::{Outs, Owner, send_all};
-use mme_vocabulary::{Answers, EnbWorld, StationNumber, StationState};
+use mme_types::{Answers, EnbWorld, StationNumber, StationState};
 use std::alloc::{AllocError, Global};
 
 /// What is sent for a station.

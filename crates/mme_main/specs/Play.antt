@@ -1,7 +1,7 @@
 -- What each call of the player and of the program says of the whole trace.
 use Rattle.std.specs.Prelude.{◌≡◌, ℕ, ◌+◌, ◌<◌, ◌≤◌, ◌⊎◌, ⊤, Bool, true, List, [], ◌++◌, length, take, Option, Some, None, Result, Ok, Err}
 use Rattle.std.specs.Io.KnownBytes.{Consumes, Appends}
-use Rattle.trace_text.specs.declared.fault.TraceFault.TheVariants.{TooLong}
+use Rattle.trace_words.specs.declared.fault.TraceFault.TheVariants.{TooLong}
 use Rattle.trace_player.specs.declared.fault.PlayFault.{PlayFault}
 use Rattle.trace_player.specs.declared.fault.PlayFault.TheVariants.{Trace, Read, Write, NoMemory}
 use Rattle.trace_player.specs.Text.{Played, breaks, prepended, played_text, play, lines_of, played_of}

@@ -11,7 +11,7 @@ use std::alloc::Global;
 use std::io::Write;
 use trace_lines::{take_part, whole_line};
 use trace_player::{PlayFault, Progress, Watched, act_on_line, fault_in_line};
-use trace_text::parse_line;
+use trace_words::parse_line;
 
 /// How far a trace has been played.
 #[derive(Drop)]

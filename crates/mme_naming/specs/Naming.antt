@@ -13,7 +13,7 @@ use Rattle.nas_messages.specs.declared.emm_types.Emm.{Emm}
 use Rattle.nas_messages.specs.declared.emm_types.Emm.TheVariants as emm
 use Rattle.nas_messages.specs.Messages.{decoded_emm}
 use Rattle.s1ap_elements.specs.declared.phone.STmsi.{STmsi}
-use Rattle.mme_vocabulary.specs.declared.network.Network.{Network}
+use Rattle.mme_types.specs.declared.network.Network.{Network}
 use Rattle.mme_signalling.specs.Hearing.{initial_octets}
 
 -- a GUTI that this MME gave (TS 23.003 clause 2.8): its network, group and code
@@ -35,7 +35,7 @@ slot_of_s_tmsi n ps (Some t) = if bytes_eq t.code n.code then slot_of_id (from_b
 abbrev pub slot_of_message : Network → List Profile → Option STmsi → Emm (List ℕ) → Option ℕ
 slot_of_message n ps t (emm.AttachRequest m) = slot_of_identity n ps m.identity
 slot_of_message n ps t (emm.DetachRequest m) = slot_of_identity n ps m.identity
-slot_of_message n ps t (emm.AreaUpdateRequest m) = slot_of_guti n ps m.guti
+slot_of_message n ps t (emm.TrackingAreaUpdateRequest m) = slot_of_guti n ps m.guti
 slot_of_message n ps t (emm.ServiceRequest octets) = slot_of_s_tmsi n ps t
 slot_of_message n ps t _ = None
 

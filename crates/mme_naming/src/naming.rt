@@ -6,7 +6,7 @@ ghost use Rattle.mme_naming.specs.Naming.{is_own, named_slot, slot_of_message, s
 
 use identity_slots::{Provision, Slot, Tmsi};
 use mme_signalling::initial_octets;
-use mme_vocabulary::Network;
+use mme_types::Network;
 use nas_elements::{Guti, MobileIdentity, Plmn};
 use nas_messages::{Direction, Emm, EmmMessage, decode_emm};
 use s1ap_elements::STmsi;
@@ -66,7 +66,7 @@ fn slot_of_message(
     match message {
         Emm::AttachRequest(request) => slot_of_identity(network, provision, &request.identity),
         Emm::DetachRequest(request) => slot_of_identity(network, provision, &request.identity),
-        Emm::AreaUpdateRequest(request) => slot_of_guti(network, provision, &request.guti),
+        Emm::TrackingAreaUpdateRequest(request) => slot_of_guti(network, provision, &request.guti),
         Emm::ServiceRequest { octets: _ } => slot_of_s_tmsi(network, provision, s_tmsi),
         _ => None,
     }

@@ -1,10 +1,10 @@
 -- Where an event goes, and what of it each stranger and each subscriber has.
 use Rattle.std.specs.Prelude.{ℕ, List, Option, Some, None, ◌==◌, if◌then◌else◌}
 use Rattle.identity_slots.specs.declared.profile.Profile.{Profile}
-use Rattle.mme_vocabulary.specs.declared.event.Entry.{Entry}
-use Rattle.mme_vocabulary.specs.declared.event.UeMessage.{UeMessage}
-use Rattle.mme_vocabulary.specs.Events.{Item, ConnectionsGone, StationGone}
-use Rattle.mme_vocabulary.specs.Events as items
+use Rattle.mme_types.specs.declared.event.Entry.{Entry}
+use Rattle.mme_types.specs.declared.event.UeMessage.{UeMessage}
+use Rattle.mme_types.specs.Events.{Item, ConnectionsGone, StationGone}
+use Rattle.mme_types.specs.Events as items
 use Rattle.stranger_machine.specs.declared.state.Stranger.{Stranger as StrangerState}
 use Rattle.stranger_machine.specs.declared.turn.Notice.{Notice}
 use Rattle.stranger_machine.specs.declared.turn.Notice.TheVariants.{Gone, Listed, Tick}
@@ -29,7 +29,7 @@ abbrev pub input_for : Destination → ℕ → Input
 input_for Nobody id = Nothing
 input_for (Subscriber n item) id = Nothing
 input_for (Beginner n m) id = if n == id then Begins m else Nothing
-input_for (Stranger m) id = if m.mme_id == id then Receives m else Nothing
+input_for (Stranger m) id = if m.mme_ue_id == id then Receives m else Nothing
 input_for (Everyone notice) id = Notes notice
 
 -- the strangers behind it
@@ -37,7 +37,7 @@ abbrev pub strangers_behind : List Profile → Destination → List Known → Li
 strangers_behind ps Nobody ks = ks
 strangers_behind ps (Subscriber n item) ks = ks
 strangers_behind ps (Beginner id m) ks = with_input ps id (Begins m) ks
-strangers_behind ps (Stranger m) ks = with_input ps m.mme_id (Receives m) ks
+strangers_behind ps (Stranger m) ks = with_input ps m.mme_ue_id (Receives m) ks
 strangers_behind ps (Everyone notice) ks = noted notice ks
 
 -- ---- what of it is a subscriber's
@@ -64,5 +64,5 @@ abbrev pub item_at : Destination → List Profile → (ℕ → Option StrangerSt
 item_at Nobody ps g slot = items.Nothing
 item_at (Subscriber n item) ps g slot = for_one n item slot
 item_at (Beginner id m) ps g slot = if_called (stranger_step ps id (g id) (Begins m)).call slot
-item_at (Stranger m) ps g slot = if_called (stranger_step ps m.mme_id (g m.mme_id) (Receives m)).call slot
+item_at (Stranger m) ps g slot = if_called (stranger_step ps m.mme_ue_id (g m.mme_ue_id) (Receives m)).call slot
 item_at (Everyone notice) ps g slot = for_all (item_of_notice notice) slot

@@ -3,10 +3,10 @@ use Rattle.std.specs.Prelude.{ℕ, List, [], Option, Some, None}
 use Rattle.s1ap_elements.specs.declared.cause.Cause.{Cause}
 use Rattle.s1ap_elements.specs.declared.cause.Cause.TheVariants.{Protocol}
 use Rattle.s1ap_elements.specs.declared.cause.ProtocolCause.TheVariants.{MessageNotCompatible}
-use Rattle.s1ap_messages.specs.declared.pdu.Pdu.{Pdu}
-use Rattle.s1ap_messages.specs.declared.pdu.Pdu.TheVariants as pdu
-use Rattle.mme_vocabulary.specs.declared.octets.Answer.{Answer}
-use Rattle.mme_vocabulary.specs.declared.stations.StationState.{StationState}
+use Rattle.s1ap_pdus.specs.declared.pdu.Pdu.{Pdu}
+use Rattle.s1ap_pdus.specs.declared.pdu.Pdu.TheVariants as pdu
+use Rattle.mme_types.specs.declared.octets.Answer.{Answer}
+use Rattle.mme_types.specs.declared.stations.StationState.{StationState}
 use Rattle.stranger_machine.specs.declared.turn.Notice.TheVariants.{Gone}
 use Rattle.stranger_machine.specs.Turns.{sent_to}
 use Rattle.mme_routing.specs.Destinations.{Destination, Nobody, Everyone}
@@ -29,7 +29,7 @@ begins_anew e state sent = record { state = state; sent = sent; destination = Ev
 
 -- an ERROR INDICATION without ids
 abbrev pub indication : Cause → Pdu (List ℕ)
-indication cause = pdu.ErrorIndication (record { mme_id = None; enb_id = None; cause = Some cause })
+indication cause = pdu.ErrorIndication (record { mme_ue_id = None; enb_ue_id = None; cause = Some cause })
 
 -- a message that the state of the station doesn't take
 abbrev pub not_compatible : ℕ → Outcome

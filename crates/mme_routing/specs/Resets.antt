@@ -4,11 +4,11 @@ use Rattle.per_bits.specs.declared.wrapped.Listed.{Listed}
 use Rattle.s1ap_elements.specs.declared.phone.ListedAssociation.{ListedAssociation}
 use Rattle.s1ap_elements.specs.declared.phone.ResetType.{ResetType}
 use Rattle.s1ap_elements.specs.declared.phone.ResetType.TheVariants.{All, Part}
-use Rattle.s1ap_messages.specs.declared.pdu.Pdu.{Pdu}
-use Rattle.s1ap_messages.specs.declared.pdu.Pdu.TheVariants as pdu
-use Rattle.mme_vocabulary.specs.declared.stations.StationState.{StationState}
-use Rattle.mme_vocabulary.specs.declared.stations.StationState.TheVariants.{Down, Up, Ready}
-use Rattle.mme_vocabulary.specs.Listed.{ToReset}
+use Rattle.s1ap_pdus.specs.declared.pdu.Pdu.{Pdu}
+use Rattle.s1ap_pdus.specs.declared.pdu.Pdu.TheVariants as pdu
+use Rattle.mme_types.specs.declared.stations.StationState.{StationState}
+use Rattle.mme_types.specs.declared.stations.StationState.TheVariants.{Down, Up, Ready}
+use Rattle.mme_types.specs.Listed.{ToReset}
 use Rattle.stranger_machine.specs.declared.turn.Notice.TheVariants.{Listed as ListedTo}
 use Rattle.stranger_machine.specs.Turns.{sent_to}
 use Rattle.mme_routing.specs.Destinations.{Everyone}

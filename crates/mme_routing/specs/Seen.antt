@@ -1,7 +1,7 @@
 -- What functions of the code returned, without where octets lie in memory.
 use Rattle.std.specs.Prelude.{List}
-use Rattle.mme_vocabulary.specs.declared.stations.StationState.{StationState}
-use Rattle.mme_vocabulary.specs.Events.{entry_lists, item_of, message_lists}
+use Rattle.mme_types.specs.declared.stations.StationState.{StationState}
+use Rattle.mme_types.specs.Events.{entry_lists, item_of, message_lists}
 use Rattle.mme_routing.specs.declared.destination.Destination.{Destination as DestinationInCode}
 use Rattle.mme_routing.specs.declared.destination.Destination.TheVariants as code
 use Rattle.mme_routing.specs.declared.outcome.Outcome.{Outcome as OutcomeInCode}

@@ -1,16 +1,16 @@
 //! What the MME sends to stations.
 
 ghost use Rattle.std.specs.Prelude.{◌≡◌, ◌≤◌, ◌∷◌, [], IfOk, Ok, Err};
-ghost use Rattle.s1ap_messages.specs.Pdus.{lists};
+ghost use Rattle.s1ap_pdus.specs.Pdus.{lists};
 ghost use Rattle.mme_routing.specs.Outcomes.{setup_response, setup_failure, indication, cause_of, cause_of_unknown};
 
-use mme_vocabulary::Network;
+use mme_types::Network;
 use per_bits::Items;
 use s1ap_elements::{
     Cause, MiscCause, MmeCode, MmeGroup, Plmn, ProtocolCause, RelativeCapacity, ServedGummei,
 };
-use s1ap_messages::{
-    Criticality, ErrorIndication, Pdu, S1apFault, S1apPdu, SetupFailure, SetupResponse,
+use s1ap_pdus::{
+    Criticality, ErrorIndication, Pdu, S1SetupFailure, S1SetupResponse, S1apFault, S1apPdu,
 };
 use std::alloc::{AllocError, Global};
 
@@ -33,7 +33,7 @@ pub fn setup_response<'a>(alloc: Global, network: &Network) -> Result<S1apPdu<'a
         codes: Items::only(alloc, network.code)?,
     };
     let served_gummeis = Items::only(alloc, gummei)?;
-    Ok(Pdu::SetupResponse(SetupResponse {
+    Ok(Pdu::S1SetupResponse(S1SetupResponse {
         served_gummeis,
         capacity: whole_capacity(),
     }))
@@ -43,7 +43,7 @@ pub fn setup_response<'a>(alloc: Global, network: &Network) -> Result<S1apPdu<'a
 pub fn setup_failure<'a>() -> S1apPdu<'a>
     ensures { lists result ≡ setup_failure }
 {
-    Pdu::SetupFailure(SetupFailure {
+    Pdu::S1SetupFailure(S1SetupFailure {
         cause: Cause::Misc(MiscCause::UnknownPlmn),
     })
 }
@@ -53,8 +53,8 @@ pub fn indication<'a>(cause: Cause) -> S1apPdu<'a>
     ensures { lists result ≡ indication cause }
 {
     Pdu::ErrorIndication(ErrorIndication {
-        mme_id: None,
-        enb_id: None,
+        mme_ue_id: None,
+        enb_ue_id: None,
         cause: Some(cause),
     })
 }

@@ -1,7 +1,7 @@
 //! Where an event goes.
 
 use identity_slots::{AssociationId, Slot};
-use mme_vocabulary::{Entry, SoloEvent, UeMessage};
+use mme_types::{Entry, SoloEvent, UeMessage};
 use stranger_machine::Notice;
 
 /// Where an event goes.

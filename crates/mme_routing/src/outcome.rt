@@ -2,12 +2,12 @@
 
 ghost use Rattle.std.specs.Prelude.{◌≡◌, ◌≢◌, ◌^◌, ◌≤◌, List, [], IfOk, OnOk, Some, Ok, Err, option_map};
 ghost use Rattle.identity_slots.specs.Ids.{stranger_id};
-ghost use Rattle.s1ap_messages.specs.Pdus.{lists, decoded, initial_ue_message_lists};
+ghost use Rattle.s1ap_pdus.specs.Pdus.{lists, decoded, initial_ue_message_lists};
 ghost use Rattle.s1ap_rows.specs.declared.fault.S1apFault.TheVariants as faults;
-ghost use Rattle.mme_vocabulary.specs.declared.stations.StationState.{StationState};
-ghost use Rattle.mme_vocabulary.specs.declared.stations.StationState.TheVariants.{Up, Ready};
+ghost use Rattle.mme_types.specs.declared.stations.StationState.{StationState};
+ghost use Rattle.mme_types.specs.declared.stations.StationState.TheVariants.{Up, Ready};
 ghost use Rattle.stranger_machine.specs.Turns.{sent_to};
-ghost use Rattle.mme_vocabulary.specs.Events.{ue_body_lists, message_lists};
+ghost use Rattle.mme_types.specs.Events.{ue_body_lists, message_lists};
 ghost use Rattle.mme_routing.specs.Seen.{destination_of, seen_outcome};
 ghost use Rattle.mme_routing.specs.Resets.{reset};
 ghost use Rattle.mme_routing.specs.Outcomes.{begins_anew, broadcasts, cause_of, entry_routed, enters, goes_to, outcome_of, outcome_of_message, indicated, indication, not_compatible, answered, setup_failure, setup_response, station_set_up, phone_message, phone_message_if, message_by_id, message_of_slot, ue_message, ue_message_in};
@@ -17,13 +17,13 @@ use crate::destination::Destination;
 use crate::resets::reset;
 use identity_slots::{AssociationId, Provision};
 use mme_naming::named_slot;
-use mme_vocabulary::{
+use mme_types::{
     Answers, Entry, Network, SoloEvent, StationNumber, StationState, UeBody, UeMessage,
     is_broadcast,
 };
 use s1ap_elements::{Cause, EnbUeId, MmeUeId, Plmn, ProtocolCause, SupportedTa, SupportedTas};
-use s1ap_messages::{InitialUeMessage, Pdu, S1apFault, S1apPdu};
-use s1ap_reading::decode;
+use s1ap_messages::decode;
+use s1ap_pdus::{InitialUeMessage, Pdu, S1apFault, S1apPdu};
 use std::alloc::{AllocError, Global};
 use stranger_machine::{Notice, sent_to, unknown};
 
@@ -147,10 +147,10 @@ fn station_set_up<'a>(
 }
 
 // The id of a stranger.
-fn stranger_id(station: StationNumber, enb_id: EnbUeId) -> AssociationId
-    ensures { result ≡ stranger_id station enb_id }
+fn stranger_id(station: StationNumber, enb_ue_id: EnbUeId) -> AssociationId
+    ensures { result ≡ stranger_id station enb_ue_id }
 {
-    AssociationId::of_stranger(station.get(), enb_id.get() as u32)
+    AssociationId::of_stranger(station.get(), enb_ue_id.get() as u32)
 }
 
 fn enters<'a>(
@@ -169,7 +169,7 @@ fn enters<'a>(
         StationState::Ready(_) => {
             let entry = Entry {
                 station,
-                enb_id: message.enb_id,
+                enb_ue_id: message.enb_ue_id,
                 nas: message.nas,
                 tai: message.tai,
             };
@@ -180,7 +180,7 @@ fn enters<'a>(
                     destination: Destination::Subscriber(slot, SoloEvent::Initial(entry)),
                 }),
                 None => {
-                    let id = stranger_id(station, message.enb_id);
+                    let id = stranger_id(station, message.enb_ue_id);
                     Ok(Outcome {
                         state: None,
                         sent: Answers::new(alloc),
@@ -198,8 +198,8 @@ fn again<'a>(message: &UeMessage<&'a [u8]>) -> UeMessage<&'a [u8]>
 {
     UeMessage {
         station: message.station,
-        mme_id: message.mme_id,
-        enb_id: message.enb_id,
+        mme_ue_id: message.mme_ue_id,
+        enb_ue_id: message.enb_ue_id,
         body: message.body.again(),
     }
 }
@@ -211,14 +211,14 @@ fn message_by_id<'a>(
 ) -> Result<Outcome<'a>, AllocError>
     ensures { IfOk result (λ h. (stations : List StationState) → seen_outcome stations h ≡ message_by_id provision.now.profiles (message_lists message.now)) }
 {
-    if !message.mme_id.is_of_slot() {
+    if !message.mme_ue_id.is_of_slot() {
         return Ok(Outcome {
             state: None,
             sent: Answers::new(alloc),
             destination: Destination::Stranger(again(message)),
         });
     }
-    match provision.slot_of_association(message.mme_id) {
+    match provision.slot_of_association(message.mme_ue_id) {
         Some(slot) => Ok(Outcome {
             state: None,
             sent: Answers::new(alloc),
@@ -254,28 +254,36 @@ fn id_of(id: MmeUeId) -> AssociationId
 fn ue_message_in<'a>(station: StationNumber, message: &S1apPdu<'a>) -> Option<UeMessage<&'a [u8]>>
     ensures { option_map message_lists result ≡ ue_message_in station (lists message.now) }
 {
-    let (mme_id, enb_id, body) = match message {
+    let (mme_ue_id, enb_ue_id, body) = match message {
         Pdu::UplinkNasTransport(m) => {
             let (nas, tai) = (m.nas, m.tai);
-            (m.mme_id, m.enb_id, UeBody::Uplink { nas, tai })
+            (m.mme_ue_id, m.enb_ue_id, UeBody::Uplink { nas, tai })
         }
-        Pdu::NasNonDelivery(m) => (m.mme_id, m.enb_id, UeBody::Notice),
-        Pdu::CapabilityInfo(m) => (m.mme_id, m.enb_id, UeBody::Notice),
-        Pdu::ContextSetupResponse(m) => (m.mme_id, m.enb_id, UeBody::Notice),
-        Pdu::ContextSetupFailure(m) => (m.mme_id, m.enb_id, UeBody::ContextSetupFailure),
-        Pdu::ReleaseRequest(m) => (
-            m.mme_id,
-            m.enb_id,
-            UeBody::ReleaseRequest { cause: m.cause },
+        Pdu::NasNonDeliveryIndication(m) => (m.mme_ue_id, m.enb_ue_id, UeBody::Notice),
+        Pdu::UeCapabilityInfoIndication(m) => (m.mme_ue_id, m.enb_ue_id, UeBody::Notice),
+        Pdu::InitialContextSetupResponse(m) => (m.mme_ue_id, m.enb_ue_id, UeBody::Notice),
+        Pdu::InitialContextSetupFailure(m) => (
+            m.mme_ue_id,
+            m.enb_ue_id,
+            UeBody::InitialContextSetupFailure,
         ),
-        Pdu::ReleaseComplete(m) => (m.mme_id, m.enb_id, UeBody::ReleaseComplete),
-        Pdu::PathSwitchRequest(m) => (m.source_mme_id, m.enb_id, UeBody::PathSwitch),
+        Pdu::UeContextReleaseRequest(m) => (
+            m.mme_ue_id,
+            m.enb_ue_id,
+            UeBody::UeContextReleaseRequest { cause: m.cause },
+        ),
+        Pdu::UeContextReleaseComplete(m) => (
+            m.mme_ue_id,
+            m.enb_ue_id,
+            UeBody::UeContextReleaseComplete,
+        ),
+        Pdu::PathSwitchRequest(m) => (m.source_mme_ue_id, m.enb_ue_id, UeBody::PathSwitch),
         _ => return None,
     };
     Some(UeMessage {
         station,
-        mme_id: id_of(mme_id),
-        enb_id,
+        mme_ue_id: id_of(mme_ue_id),
+        enb_ue_id,
         body,
     })
 }
@@ -308,7 +316,7 @@ fn outcome_of_message<'a>(
         ≡ outcome_of_message network.now provision.now.profiles station state.now (lists message.entry)) }
 {
     match message {
-        Pdu::SetupRequest(m) => station_set_up(alloc, network, station, m.supported_tas),
+        Pdu::S1SetupRequest(m) => station_set_up(alloc, network, station, m.supported_tas),
         Pdu::Reset(m) => reset(alloc, station, state, m.reset_type),
         Pdu::ErrorIndication(_) | Pdu::ResetAcknowledge(_) => {
             Ok(Outcome::answered(Answers::new(alloc)))

@@ -1,18 +1,18 @@
 //! What a RESET makes of a station (TS 36.413 clause 8.7.1).
 
 ghost use Rattle.std.specs.Prelude.{◌≡◌, List, IfOk, Ok, Err};
-ghost use Rattle.s1ap_messages.specs.Pdus.{lists};
-ghost use Rattle.mme_vocabulary.specs.declared.stations.StationState.{StationState};
+ghost use Rattle.s1ap_pdus.specs.Pdus.{lists};
+ghost use Rattle.mme_types.specs.declared.stations.StationState.{StationState};
 ghost use Rattle.mme_routing.specs.Outcome.{begins_anew, not_compatible};
 ghost use Rattle.mme_routing.specs.Resets.{ends_listed, part_acknowledge, reset, set_back, whole_acknowledge};
 ghost use Rattle.mme_routing.specs.Seen.{destination_of, seen_outcome};
 
 use crate::destination::Destination;
 use crate::outcome::{Outcome, not_compatible};
-use mme_vocabulary::{StationNumber, StationState};
+use mme_types::{StationNumber, StationState};
 use per_bits::{Items, Listed};
 use s1ap_elements::{AssociationsToReset, ResetType};
-use s1ap_messages::{Pdu, ResetAcknowledge, S1apPdu};
+use s1ap_pdus::{Pdu, ResetAcknowledge, S1apPdu};
 use std::alloc::{AllocError, Global};
 use stranger_machine::{Notice, sent_to};
 

@@ -19,16 +19,16 @@ abbrev pub request_lists : AttachRequest (Bor (List ℕ)) → AttachRequest (Lis
 request_lists m = record { attach_type = m.attach_type; ksi = m.ksi; identity = m.identity; capability = m.capability.now; esm = m.esm.now }
 
 abbrev pub heard_lists : Heard (Bor (List ℕ)) → Heard (List ℕ)
-heard_lists (heards.Attach combined capability esm) = heards.Attach combined capability esm.now
-heard_lists (heards.Detach switch_off) = heards.Detach switch_off
-heard_lists (heards.Update combined) = heards.Update combined
-heard_lists (heards.Service octets) = heards.Service octets
-heard_lists (heards.Response res) = heards.Response res.now
-heard_lists (heards.Failure cause) = heards.Failure cause
-heard_lists heards.SecurityComplete = heards.SecurityComplete
-heard_lists heards.SecurityReject = heards.SecurityReject
+heard_lists (heards.AttachRequest combined capability esm) = heards.AttachRequest combined capability esm.now
+heard_lists (heards.DetachRequest switch_off) = heards.DetachRequest switch_off
+heard_lists (heards.TrackingAreaUpdateRequest combined) = heards.TrackingAreaUpdateRequest combined
+heard_lists (heards.ServiceRequest octets) = heards.ServiceRequest octets
+heard_lists (heards.AuthenticationResponse res) = heards.AuthenticationResponse res.now
+heard_lists (heards.AuthenticationFailure cause) = heards.AuthenticationFailure cause
+heard_lists heards.SecurityModeComplete = heards.SecurityModeComplete
+heard_lists heards.SecurityModeReject = heards.SecurityModeReject
 heard_lists (heards.AttachComplete esm) = heards.AttachComplete esm.now
-heard_lists heards.UpdateComplete = heards.UpdateComplete
+heard_lists heards.TrackingAreaUpdateComplete = heards.TrackingAreaUpdateComplete
 heard_lists heards.DetachAccept = heards.DetachAccept
 heard_lists heards.Unasked = heards.Unasked
 heard_lists heards.Other = heards.Other
@@ -43,7 +43,7 @@ is_combined_update update_type = update_type == 1 || update_type == 2
 
 -- what an ATTACH REQUEST asks for
 abbrev pub attach_of : AttachRequest (List ℕ) → Heard (List ℕ)
-attach_of m = heards.Attach (is_combined_attach m.attach_type) m.capability m.esm
+attach_of m = heards.AttachRequest (is_combined_attach m.attach_type) m.capability m.esm
 
 -- its capability has the length of one
 abbrev pub AttachFits : List ℕ → Type 0
@@ -54,25 +54,25 @@ sorted (emm.AttachRequest m) = attach_of m
 sorted (emm.AttachAccept m) = heards.Other
 sorted (emm.AttachComplete esm) = heards.AttachComplete esm
 sorted (emm.AttachReject m) = heards.Other
-sorted (emm.DetachRequest m) = heards.Detach m.switch_off
+sorted (emm.DetachRequest m) = heards.DetachRequest m.switch_off
 sorted emm.NetworkDetach = heards.Other
 sorted emm.DetachAccept = heards.DetachAccept
-sorted (emm.AreaUpdateRequest m) = heards.Update (is_combined_update m.update_type)
-sorted (emm.AreaUpdateAccept m) = heards.Other
-sorted emm.AreaUpdateComplete = heards.UpdateComplete
-sorted (emm.AreaUpdateReject cause) = heards.Other
+sorted (emm.TrackingAreaUpdateRequest m) = heards.TrackingAreaUpdateRequest (is_combined_update m.update_type)
+sorted (emm.TrackingAreaUpdateAccept m) = heards.Other
+sorted emm.TrackingAreaUpdateComplete = heards.TrackingAreaUpdateComplete
+sorted (emm.TrackingAreaUpdateReject cause) = heards.Other
 sorted (emm.ServiceReject cause) = heards.Other
 sorted (emm.AuthenticationRequest m) = heards.Other
-sorted (emm.AuthenticationResponse res) = heards.Response res
+sorted (emm.AuthenticationResponse res) = heards.AuthenticationResponse res
 sorted emm.AuthenticationReject = heards.Other
 sorted emm.IdentityRequest = heards.Other
 sorted (emm.IdentityResponse identity) = heards.Unasked
-sorted (emm.AuthenticationFailure cause) = heards.Failure cause
+sorted (emm.AuthenticationFailure cause) = heards.AuthenticationFailure cause
 sorted (emm.SecurityModeCommand m) = heards.Other
-sorted emm.SecurityModeComplete = heards.SecurityComplete
-sorted (emm.SecurityModeReject cause) = heards.SecurityReject
+sorted emm.SecurityModeComplete = heards.SecurityModeComplete
+sorted (emm.SecurityModeReject cause) = heards.SecurityModeReject
 sorted (emm.EmmStatus cause) = heards.Unasked
-sorted (emm.ServiceRequest octets) = heards.Service octets
+sorted (emm.ServiceRequest octets) = heards.ServiceRequest octets
 
 abbrev pub heard_of : Result (Emm (List ℕ)) NasFault → Heard (List ℕ)
 heard_of (Ok m) = sorted m

@@ -7,7 +7,7 @@ use Rattle.nas_elements.specs.declared.identity.Guti.{Guti}
 use Rattle.nas_elements.specs.declared.identity.TaiList.{TaiList}
 use Rattle.nas_messages.specs.declared.emm_types.Emm.TheVariants as emm
 use Rattle.nas_messages.specs.Messages.{encoded_emm}
-use Rattle.mme_vocabulary.specs.declared.network.Network.{Network}
+use Rattle.mme_types.specs.declared.network.Network.{Network}
 use Rattle.mme_signalling.specs.declared.cause.EmmCause.{EmmCause}
 use Rattle.mme_signalling.specs.declared.cause.EmmCause.TheVariants.{CsDomainNotAvailable}
 use Rattle.mme_signalling.specs.declared.messages.Grant.{Grant}
@@ -49,7 +49,7 @@ attach_accept n g esm =
 -- the periodic update timer is 54 minutes
 unfoldable pub update_accept : Network → Grant → List ℕ
 update_accept n g =
-    encoded_emm (emm.AreaUpdateAccept (record {
+    encoded_emm (emm.TrackingAreaUpdateAccept (record {
       timer = Some (0x49 ∷ []);
       guti = Some (guti_octets (guti n g.tmsi));
       tai_list = Some (tai_list_octets (tai_list g.tai));
@@ -57,7 +57,7 @@ update_accept n g =
     }))
 
 unfoldable pub update_reject : EmmCause → List ℕ
-update_reject cause = encoded_emm (emm.AreaUpdateReject (emm_cause_code cause))
+update_reject cause = encoded_emm (emm.TrackingAreaUpdateReject (emm_cause_code cause))
 
 unfoldable pub service_reject : EmmCause → List ℕ
 service_reject cause = encoded_emm (emm.ServiceReject (emm_cause_code cause))

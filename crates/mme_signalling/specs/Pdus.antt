@@ -1,7 +1,7 @@
 -- The S1AP messages that the machine sends.
 use Rattle.std.specs.Prelude.{ℕ, ◌+◌, ◌*◌, ◌-◌, ◌/◌, ◌%◌, ◌==◌, Bool, true, false, if◌then◌else◌, List, [], ◌∷◌, slice_index, Option, Some}
 use Rattle.std.specs.Int.{w32, to_be_bytes}
-use Rattle.bit_streams.specs.Bits.{octet_bits}
+use Rattle.per_streams.specs.Bits.{octet_bits}
 use Rattle.s1ap_elements.specs.declared.bearer.Qos.{Qos}
 use Rattle.s1ap_elements.specs.declared.cause.Cause.{Cause}
 use Rattle.s1ap_elements.specs.declared.cause.Cause.TheVariants as causes
@@ -14,18 +14,18 @@ use Rattle.s1ap_elements.specs.declared.phone.CnDomain.TheVariants.{Ps}
 use Rattle.s1ap_elements.specs.declared.phone.Tai.{Tai}
 use Rattle.s1ap_elements.specs.declared.phone.UePagingId.TheVariants.{STmsi}
 use Rattle.s1ap_elements.specs.declared.phone.UeS1apIds.TheVariants.{Pair}
-use Rattle.s1ap_messages.specs.declared.pdu.Pdu.{Pdu}
-use Rattle.s1ap_messages.specs.declared.pdu.Pdu.TheVariants as pdu
+use Rattle.s1ap_pdus.specs.declared.pdu.Pdu.{Pdu}
+use Rattle.s1ap_pdus.specs.declared.pdu.Pdu.TheVariants as pdu
 use Rattle.nas_elements.specs.Digits.{imsi_text}
 use Rattle.identity_slots.specs.declared.profile.Profile.{Profile}
-use Rattle.mme_vocabulary.specs.declared.network.Network.{Network}
-use Rattle.mme_vocabulary.specs.declared.connection.Connection.{Connection}
+use Rattle.mme_types.specs.declared.network.Network.{Network}
+use Rattle.mme_types.specs.declared.connection.Connection.{Connection}
 
 unfoldable pub downlink : Connection → List ℕ → Pdu (List ℕ)
-downlink k nas = pdu.DownlinkNasTransport (record { mme_id = k.id; enb_id = k.enb_id; nas = nas })
+downlink k nas = pdu.DownlinkNasTransport (record { mme_ue_id = k.id; enb_ue_id = k.enb_ue_id; nas = nas })
 
 unfoldable pub release_command : ℕ → ℕ → Cause → Pdu (List ℕ)
-release_command id enb_id cause = pdu.ReleaseCommand (record { ids = Pair (record { mme_id = id; enb_id = enb_id }); cause = cause })
+release_command id enb_ue_id cause = pdu.UeContextReleaseCommand (record { ids = Pair (record { mme_ue_id = id; enb_ue_id = enb_ue_id }); cause = cause })
 
 -- a cause of a later release isn't written
 abbrev pub is_extended : Cause → Bool
@@ -40,15 +40,15 @@ abbrev pub cause_of_request : Cause → Cause
 cause_of_request cause = if is_extended cause then causes.RadioNetwork radio.Unspecified else cause
 
 unfoldable pub error_indication : ℕ → ℕ → Cause → Pdu (List ℕ)
-error_indication id enb_id cause = pdu.ErrorIndication (record { mme_id = Some id; enb_id = Some enb_id; cause = Some cause })
+error_indication id enb_ue_id cause = pdu.ErrorIndication (record { mme_ue_id = Some id; enb_ue_id = Some enb_ue_id; cause = Some cause })
 
 unfoldable pub path_switch_failure : ℕ → ℕ → Cause → Pdu (List ℕ)
-path_switch_failure id enb_id cause = pdu.PathSwitchFailure (record { mme_id = id; enb_id = enb_id; cause = cause })
+path_switch_failure id enb_ue_id cause = pdu.PathSwitchRequestFailure (record { mme_ue_id = id; enb_ue_id = enb_ue_id; cause = cause })
 
 -- with the next hop and its chaining count
 unfoldable pub path_switch_acknowledge : Connection → List ℕ → ℕ → Pdu (List ℕ)
 path_switch_acknowledge k hop count =
-    pdu.PathSwitchAcknowledge (record { mme_id = k.id; enb_id = k.enb_id; context = record { chaining_count = count; next_hop = hop } })
+    pdu.PathSwitchRequestAcknowledge (record { mme_ue_id = k.id; enb_ue_id = k.enb_ue_id; context = record { chaining_count = count; next_hop = hop } })
 
 -- QCI 9 at priority 15, which takes from nobody and from which nothing is taken
 abbrev pub qos : Qos
@@ -66,10 +66,10 @@ algorithm_bits o =
 -- the default bearer: E-RAB 5, its tunnel at the S-GW, and the NAS message where there is one
 unfoldable pub context_setup : Network → Profile → List ℕ → Connection → List ℕ → Option (List ℕ) → Pdu (List ℕ)
 context_setup n p capability k kenb nas =
-    pdu.ContextSetupRequest (
+    pdu.InitialContextSetupRequest (
     record {
-      mme_id = k.id;
-      enb_id = k.enb_id;
+      mme_ue_id = k.id;
+      enb_ue_id = k.enb_ue_id;
       ambr = record { down = n.down; up = n.up };
       erabs = record { value = record { id = 5; qos = qos; address = octet_bits p.gateway; teid = p.teid; nas = nas } } ∷ [];
       capabilities = record { encryption = algorithm_bits (slice_index capability 0); integrity = algorithm_bits (slice_index capability 1) };

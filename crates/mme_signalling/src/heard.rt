@@ -16,33 +16,33 @@ use nas_messages::{
 pub enum Heard<B> {
     /// ATTACH REQUEST: for EPS and for other services or not (TS 24.301 clause 9.9.3.11), and any octets for session
     /// management.
-    Attach {
+    AttachRequest {
         combined: bool,
         capability: UeCapability,
         esm: B,
     },
-    Detach {
+    DetachRequest {
         switch_off: bool,
     },
     /// TRACKING AREA UPDATE REQUEST, combined or not (TS 24.301 clause 9.9.3.14).
-    Update {
+    TrackingAreaUpdateRequest {
         combined: bool,
     },
-    Service {
+    ServiceRequest {
         octets: [u8; 4],
     },
-    Response {
+    AuthenticationResponse {
         res: B,
     },
-    Failure {
+    AuthenticationFailure {
         cause: u8,
     },
-    SecurityComplete,
-    SecurityReject,
+    SecurityModeComplete,
+    SecurityModeReject,
     AttachComplete {
         esm: B,
     },
-    UpdateComplete,
+    TrackingAreaUpdateComplete,
     DetachAccept,
     /// IDENTITY RESPONSE and EMM STATUS, which no procedure of a known phone waits for.
     Unasked,
@@ -66,7 +66,7 @@ fn attach_of<'a>(request: &AttachRequest<&'a [u8]>) -> Heard<&'a [u8]>
     let Ok(capability) = UeCapability::read(request.capability) else {
         unreachable!()
     };
-    Heard::Attach {
+    Heard::AttachRequest {
         combined: request.attach_type == 2,
         capability,
         esm: request.esm,
@@ -79,26 +79,26 @@ fn sorted<'a>(message: &EmmMessage<'a>) -> Heard<&'a [u8]>
 {
     match message {
         Emm::AttachRequest(request) => attach_of(request),
-        Emm::DetachRequest(request) => Heard::Detach {
+        Emm::DetachRequest(request) => Heard::DetachRequest {
             switch_off: request.switch_off,
         },
-        Emm::AreaUpdateRequest(request) => Heard::Update {
+        Emm::TrackingAreaUpdateRequest(request) => Heard::TrackingAreaUpdateRequest {
             combined: request.update_type == 1 || request.update_type == 2,
         },
-        Emm::ServiceRequest { octets } => Heard::Service { octets: *octets },
-        Emm::AuthenticationResponse { res } => Heard::Response { res },
-        Emm::AuthenticationFailure { cause } => Heard::Failure { cause: *cause },
-        Emm::SecurityModeComplete => Heard::SecurityComplete,
-        Emm::SecurityModeReject { cause: _ } => Heard::SecurityReject,
+        Emm::ServiceRequest { octets } => Heard::ServiceRequest { octets: *octets },
+        Emm::AuthenticationResponse { res } => Heard::AuthenticationResponse { res },
+        Emm::AuthenticationFailure { cause } => Heard::AuthenticationFailure { cause: *cause },
+        Emm::SecurityModeComplete => Heard::SecurityModeComplete,
+        Emm::SecurityModeReject { cause: _ } => Heard::SecurityModeReject,
         Emm::AttachComplete { esm } => Heard::AttachComplete { esm },
-        Emm::AreaUpdateComplete => Heard::UpdateComplete,
+        Emm::TrackingAreaUpdateComplete => Heard::TrackingAreaUpdateComplete,
         Emm::DetachAccept => Heard::DetachAccept,
         Emm::IdentityResponse { identity: _ } | Emm::EmmStatus { cause: _ } => Heard::Unasked,
         Emm::AttachAccept(_)
         | Emm::AttachReject(_)
         | Emm::NetworkDetach
-        | Emm::AreaUpdateAccept(_)
-        | Emm::AreaUpdateReject { cause: _ }
+        | Emm::TrackingAreaUpdateAccept(_)
+        | Emm::TrackingAreaUpdateReject { cause: _ }
         | Emm::ServiceReject { cause: _ }
         | Emm::AuthenticationRequest(_)
         | Emm::AuthenticationReject

@@ -8,11 +8,11 @@ ghost use Rattle.mme_signalling.specs.Messages.{attach_accept, attach_reject, au
 
 use crate::cause::EmmCause;
 use identity_slots::Tmsi;
-use mme_vocabulary::Network;
+use mme_types::Network;
 use nas_elements::{Guti, Plmn, TaiList, UeCapability};
 use nas_messages::{
-    AreaUpdateAccept, AttachAccept, AttachReject, AuthenticationRequest, Emm, EmmMessage,
-    SecurityModeCommand, encode_emm,
+    AttachAccept, AttachReject, AuthenticationRequest, Emm, EmmMessage, SecurityModeCommand,
+    TrackingAreaUpdateAccept, encode_emm,
 };
 use s1ap_elements::Tai;
 use std::alloc::{AllocError, Global};
@@ -215,10 +215,10 @@ fn update_octets<'a>(
     requires guti { length guti.now ≡ 11 }
     requires areas { length areas.now ≡ 6 }
     requires cause { IfSome cause (λ c. length c.now ≡ 1) }
-    ensures { IfOk result (λ o. o.items ≡ encoded_emm (Emm.AreaUpdateAccept (record { timer = Some timer.entry.now; guti = Some guti.entry.now; tai_list = Some areas.entry.now; cause = octets_of cause.entry }))) }
+    ensures { IfOk result (λ o. o.items ≡ encoded_emm (Emm.TrackingAreaUpdateAccept (record { timer = Some timer.entry.now; guti = Some guti.entry.now; tai_list = Some areas.entry.now; cause = octets_of cause.entry }))) }
 {
     let lent = Lent {
-        message: Emm::AreaUpdateAccept(AreaUpdateAccept {
+        message: Emm::TrackingAreaUpdateAccept(TrackingAreaUpdateAccept {
             timer: Some(timer),
             guti: Some(guti),
             tai_list: Some(areas),
@@ -235,7 +235,7 @@ pub fn update_reject(alloc: Global, cause: EmmCause) -> Result<Vec<u8>, AllocErr
 {
     let cause = cause.code();
     let lent = Lent {
-        message: Emm::AreaUpdateReject { cause },
+        message: Emm::TrackingAreaUpdateReject { cause },
     };
     encode_emm(alloc, &lent.message)
 }

@@ -1,11 +1,11 @@
 //! The S1AP messages that the machine sends.
 
 ghost use Rattle.std.specs.Prelude.{◌≡◌, ◌<◌, ◌≤◌, ◌%◌, ◌∷◌, [], IfOk, option_map};
-ghost use Rattle.s1ap_messages.specs.Pdus.{lists};
+ghost use Rattle.s1ap_pdus.specs.Pdus.{lists};
 ghost use Rattle.mme_signalling.specs.Pdus.{algorithm_bits, cause_of_request, context_setup, downlink, error_indication, index_bits, is_extended, number_from, paging, path_switch_acknowledge, path_switch_failure, qos, release_command, ue_index};
 
 use identity_slots::{AssociationId, Profile, Tmsi};
-use mme_vocabulary::{Connection, Network};
+use mme_types::{Connection, Network};
 use nas_elements::{Imsi, UeCapability};
 use per_bits::{BitField, Items, Listed, Octets, Whole};
 use s1ap_elements::{
@@ -13,9 +13,9 @@ use s1ap_elements::{
     NasCause, ProtocolCause, Qos, RadioNetworkCause, STmsi, SecurityCapabilities, SecurityContext,
     Tai, TaiItem, TransportCause, UeIdPair, UeIndex, UePagingId, UeS1apIds,
 };
-use s1ap_messages::{
-    ContextSetupRequest, DownlinkNasTransport, ErrorIndication, Paging, PathSwitchAcknowledge,
-    PathSwitchFailure, Pdu, ReleaseCommand, S1apPdu,
+use s1ap_pdus::{
+    DownlinkNasTransport, ErrorIndication, InitialContextSetupRequest, Paging,
+    PathSwitchRequestAcknowledge, PathSwitchRequestFailure, Pdu, S1apPdu, UeContextReleaseCommand,
 };
 use std::alloc::{AllocError, Global};
 
@@ -32,7 +32,7 @@ fn whole<const LO: u64, const HI: u64>(value: u64) -> Whole<LO, HI>
 }
 
 // An association's id as S1AP has it.
-fn mme_ue_id(id: AssociationId) -> MmeUeId
+fn mme_ue_id_of(id: AssociationId) -> MmeUeId
     ensures { result ≡ id }
 {
     whole::<0, 4294967295>(u64::from(id.get()))
@@ -44,22 +44,26 @@ pub fn downlink<'a>(connection: Connection, nas: &'a [u8]) -> S1apPdu<'a>
     ensures { lists result ≡ downlink connection nas.entry.now }
 {
     Pdu::DownlinkNasTransport(DownlinkNasTransport {
-        mme_id: mme_ue_id(connection.id),
-        enb_id: connection.enb_id,
+        mme_ue_id: mme_ue_id_of(connection.id),
+        enb_ue_id: connection.enb_ue_id,
         nas,
     })
 }
 
 /// UE CONTEXT RELEASE COMMAND with the pair of numbers (TS 36.413 clause 8.3.3.2).
 #[tactic(auto, unfolding(crate::specs::Pdus::release_command))]
-pub fn release_command<'a>(mme_id: AssociationId, enb_id: EnbUeId, cause: Cause) -> S1apPdu<'a>
-    ensures { lists result ≡ release_command mme_id enb_id cause }
+pub fn release_command<'a>(
+    mme_ue_id: AssociationId,
+    enb_ue_id: EnbUeId,
+    cause: Cause,
+) -> S1apPdu<'a>
+    ensures { lists result ≡ release_command mme_ue_id enb_ue_id cause }
 {
     let ids = UeS1apIds::Pair(UeIdPair {
-        mme_id: mme_ue_id(mme_id),
-        enb_id,
+        mme_ue_id: mme_ue_id_of(mme_ue_id),
+        enb_ue_id,
     });
-    Pdu::ReleaseCommand(ReleaseCommand { ids, cause })
+    Pdu::UeContextReleaseCommand(UeContextReleaseCommand { ids, cause })
 }
 
 fn is_extended(cause: Cause) -> bool
@@ -89,24 +93,32 @@ pub fn cause_of_request(cause: Cause) -> Cause
 
 /// ERROR INDICATION with the numbers that were received (TS 36.413 clause 8.7.2).
 #[tactic(auto, unfolding(crate::specs::Pdus::error_indication))]
-pub fn error_indication<'a>(mme_id: AssociationId, enb_id: EnbUeId, cause: Cause) -> S1apPdu<'a>
-    ensures { lists result ≡ error_indication mme_id enb_id cause }
+pub fn error_indication<'a>(
+    mme_ue_id: AssociationId,
+    enb_ue_id: EnbUeId,
+    cause: Cause,
+) -> S1apPdu<'a>
+    ensures { lists result ≡ error_indication mme_ue_id enb_ue_id cause }
 {
     Pdu::ErrorIndication(ErrorIndication {
-        mme_id: Some(mme_ue_id(mme_id)),
-        enb_id: Some(enb_id),
+        mme_ue_id: Some(mme_ue_id_of(mme_ue_id)),
+        enb_ue_id: Some(enb_ue_id),
         cause: Some(cause),
     })
 }
 
 /// PATH SWITCH REQUEST FAILURE with the numbers that were received (TS 36.413 clause 8.4.4.3).
 #[tactic(auto, unfolding(crate::specs::Pdus::path_switch_failure))]
-pub fn path_switch_failure<'a>(mme_id: AssociationId, enb_id: EnbUeId, cause: Cause) -> S1apPdu<'a>
-    ensures { lists result ≡ path_switch_failure mme_id enb_id cause }
+pub fn path_switch_failure<'a>(
+    mme_ue_id: AssociationId,
+    enb_ue_id: EnbUeId,
+    cause: Cause,
+) -> S1apPdu<'a>
+    ensures { lists result ≡ path_switch_failure mme_ue_id enb_ue_id cause }
 {
-    Pdu::PathSwitchFailure(PathSwitchFailure {
-        mme_id: mme_ue_id(mme_id),
-        enb_id,
+    Pdu::PathSwitchRequestFailure(PathSwitchRequestFailure {
+        mme_ue_id: mme_ue_id_of(mme_ue_id),
+        enb_ue_id,
         cause,
     })
 }
@@ -121,9 +133,9 @@ pub fn path_switch_acknowledge<'a>(
     requires { chaining_count < 8 }
     ensures { lists result ≡ path_switch_acknowledge connection next_hop chaining_count }
 {
-    Pdu::PathSwitchAcknowledge(PathSwitchAcknowledge {
-        mme_id: mme_ue_id(connection.id),
-        enb_id: connection.enb_id,
+    Pdu::PathSwitchRequestAcknowledge(PathSwitchRequestAcknowledge {
+        mme_ue_id: mme_ue_id_of(connection.id),
+        enb_ue_id: connection.enb_ue_id,
         context: SecurityContext {
             chaining_count: whole::<0, 7>(u64::from(chaining_count)),
             next_hop: Octets::new(next_hop),
@@ -194,9 +206,9 @@ pub fn context_setup<'a>(
         nas,
     };
     let erabs = Items::only(alloc, Listed { value: erab })?;
-    Ok(Pdu::ContextSetupRequest(ContextSetupRequest {
-        mme_id: mme_ue_id(connection.id),
-        enb_id: connection.enb_id,
+    Ok(Pdu::InitialContextSetupRequest(InitialContextSetupRequest {
+        mme_ue_id: mme_ue_id_of(connection.id),
+        enb_ue_id: connection.enb_ue_id,
         ambr: Ambr {
             down: whole::<0, 10000000000>(network.down.get()),
             up: whole::<0, 10000000000>(network.up.get()),

@@ -6,10 +6,10 @@ use Rattle.std.proofs.lemmas.Bool.{cond_both}
 use Rattle.std.proofs.lemmas.List.{length-set}
 use Rattle.ordered_lists.specs.Ordered.{Rising}
 use Rattle.identity_slots.specs.declared.profile.Profile.{Profile}
-use Rattle.mme_vocabulary.specs.declared.stations.StationState.{StationState}
-use Rattle.mme_vocabulary.specs.Events.{Item}
-use Rattle.mme_vocabulary.specs.Events as items
-use Rattle.mme_vocabulary.specs.Stations.{station_at}
+use Rattle.mme_types.specs.declared.stations.StationState.{StationState}
+use Rattle.mme_types.specs.Events.{Item}
+use Rattle.mme_types.specs.Events as items
+use Rattle.mme_types.specs.Stations.{station_at}
 use Rattle.emm_machine.specs.SubscriberView.{SubscriberView}
 use Rattle.stranger_machine.specs.declared.state.Stranger.{Stranger}
 use Rattle.stranger_machine.specs.declared.table.Known.{Known}
@@ -57,7 +57,7 @@ at_slot (to.Subscriber n item) ps g slot fits strangers = one n item slot fits
 at_slot (to.Beginner id m) ps g slot fits strangers =
     called (stranger_step ps id (g id) (Begins m)).call slot (turn_in_range ps id (g id) (Begins m) fits (strangers id)).call
 at_slot (to.Stranger m) ps g slot fits strangers =
-    called (stranger_step ps m.mme_id (g m.mme_id) (Receives m)).call slot (turn_in_range ps m.mme_id (g m.mme_id) (Receives m) fits (strangers m.mme_id)).call
+    called (stranger_step ps m.mme_ue_id (g m.mme_ue_id) (Receives m)).call slot (turn_in_range ps m.mme_ue_id (g m.mme_ue_id) (Receives m) fits (strangers m.mme_ue_id)).call
 at_slot (to.Everyone notice) ps g slot fits strangers = told_all notice
 
 -- ---- as many stations as before
@@ -75,13 +75,13 @@ as_many_stations s event many =
 turned : (ps : List Profile) (id : ℕ) (d : Destination) (ks : List Known) → Rising known_id ks
     → stranger_at id (strangers_behind ps d ks) ≡ (stranger_step ps id (stranger_at id ks) (input_for d id)).stranger
 turned ps id (to.Beginner n m) ks h = laws.one_turned ps id n (Begins m) ks h
-turned ps id (to.Stranger m) ks h = laws.one_turned ps id m.mme_id (Receives m) ks h
+turned ps id (to.Stranger m) ks h = laws.one_turned ps id m.mme_ue_id (Receives m) ks h
 turned ps id (to.Everyone notice) ks h = laws.all_turned ps id notice ks h
 turned ps id _ ks h = sym (ap (λ t. t.stranger) (laws.at_nothing ps id (stranger_at id ks)))
 
 rising_behind : (ps : List Profile) (d : Destination) (ks : List Known) → Rising known_id ks → Rising known_id (strangers_behind ps d ks)
 rising_behind ps (to.Beginner id m) ks h = laws.rising_input ps id (Begins m) ks h
-rising_behind ps (to.Stranger m) ks h = laws.rising_input ps m.mme_id (Receives m) ks h
+rising_behind ps (to.Stranger m) ks h = laws.rising_input ps m.mme_ue_id (Receives m) ks h
 rising_behind ps (to.Everyone notice) ks h = laws.rising_noted notice ks h
 rising_behind ps _ ks h = h
 

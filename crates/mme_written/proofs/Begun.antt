@@ -11,13 +11,13 @@ use Rattle.identity_slots.specs.declared.profile.Profile.{Profile}
 use Rattle.identity_slots.specs.declared.profile.Vector.{Vector}
 use Rattle.identity_slots.specs.Ids.{slots}
 use Rattle.identity_slots.specs.Provisioned.{vectors_at}
-use Rattle.mme_vocabulary.specs.declared.connection.Connection.{Connection}
-use Rattle.mme_vocabulary.specs.declared.event.UeMessage.{UeMessage}
-use Rattle.mme_vocabulary.specs.declared.network.Network.{Network}
-use Rattle.mme_vocabulary.specs.declared.stations.StationState.TheVariants.{Down}
-use Rattle.mme_vocabulary.specs.Answers.{answer_of}
-use Rattle.mme_vocabulary.specs.Events.{Claim, Item}
-use Rattle.mme_vocabulary.specs.Stations.{no_stations}
+use Rattle.mme_types.specs.declared.connection.Connection.{Connection}
+use Rattle.mme_types.specs.declared.event.UeMessage.{UeMessage}
+use Rattle.mme_types.specs.declared.network.Network.{Network}
+use Rattle.mme_types.specs.declared.stations.StationState.TheVariants.{Down}
+use Rattle.mme_types.specs.Answers.{answer_of}
+use Rattle.mme_types.specs.Events.{Claim, Item}
+use Rattle.mme_types.specs.Stations.{no_stations}
 use Rattle.mme_signalling.specs.Pdus.{error_indication, is_extended}
 use Rattle.emm_machine.specs.SubscriberView.{SubscriberView}
 use Rattle.emm_machine.specs.Words.{fresh_solo}
@@ -86,7 +86,7 @@ pub record TellsStrangers : Type 0 where
   pub refusal : RefusedIsSent
   pub release : ReleasedIsSent
   pub unknown : UnknownIsAnswered
-  pub indication : (id enb_id : ℕ) (c : Cause) → id < 2 ^ 32 → enb_id < 2 ^ 24 → is_extended c ≡ false → IsWritten (error_indication id enb_id c)
+  pub indication : (id enb_ue_id : ℕ) (c : Cause) → id < 2 ^ 32 → enb_ue_id < 2 ^ 24 → is_extended c ≡ false → IsWritten (error_indication id enb_ue_id c)
 
 told_whole : TellsStrangers → (k : Connection) → ConnectionInRange k → IsToldWhole k
 told_whole tells k fits =
@@ -94,8 +94,8 @@ told_whole tells k fits =
 
 answered_whole : TellsStrangers → (m : UeMessage (List ℕ)) → MessageInRange m → IsAnsweredWhole m
 answered_whole tells m fits =
-    let w = tells.indication m.mme_id m.enb_id (RadioNetwork UnknownPairUeS1apId) fits.mme_id fits.enb_id refl in
-    record { nobody = tells.unknown m m.body fits.mme_id fits.enb_id; elsewhere = (w.0, w.1, ap (answer_of m.station None) w.1) }
+    let w = tells.indication m.mme_ue_id m.enb_ue_id (RadioNetwork UnknownPairUeS1apId) fits.mme_ue_id fits.enb_ue_id refl in
+    record { nobody = tells.unknown m m.body fits.mme_ue_id fits.enb_ue_id; elsewhere = (w.0, w.1, ap (answer_of m.station None) w.1) }
 
 module _ (solo : SoloInRange fresh_solo) (kept : StaysInRange) (entries : EntriesAreInRange) (messages : MessagesAreInRange) where
   pub stays_in_range : WorldStaysInRange
@@ -130,7 +130,7 @@ module _ (solo : SoloInRange fresh_solo) (kept : StaysInRange) (entries : Entrie
       let w = world_behind config p seen in
       let h : WorldInRange w = stays_in_range (fresh_world config p) seen (begins_in_range solo config p given) in
       let fits : ItemInRange (Claim id m) = subst DestinationInRange goes (goes_in_range entries messages w.sight next h.stations) in
-      told_whole tells (place_of id (as_kept m)) (record { id = fits.0; enb_id = fits.1.enb_id })
+      told_whole tells (place_of id (as_kept m)) (record { id = fits.0; enb_ue_id = fits.1.enb_ue_id })
 
   pub senders_answered : TellsStrangers → SendersAreAnswered
   senders_answered tells config p seen next m given goes =
@@ -143,4 +143,4 @@ module _ (solo : SoloInRange fresh_solo) (kept : StaysInRange) (entries : Entrie
       let w = world_behind config p seen in
       let h : WorldInRange w = stays_in_range (fresh_world config p) seen (begins_in_range solo config p given) in
       let fits : StrangerInRange id (Some (Waiting k left repeats)) = subst (StrangerInRange id) at (h.strangers id) in
-      told_whole tells (place_of id k) (record { id = fits.0; enb_id = fits.1.enb_id })
+      told_whole tells (place_of id k) (record { id = fits.0; enb_ue_id = fits.1.enb_ue_id })

@@ -4,19 +4,19 @@ use Rattle.s1ap_elements.specs.declared.phone.ResetType.{ResetType}
 use Rattle.s1ap_elements.specs.declared.phone.ResetType.TheVariants.{All, Part}
 use Rattle.s1ap_elements.specs.declared.station.SupportedTa.{SupportedTa}
 use Rattle.s1ap_rows.specs.declared.fault.S1apFault.{S1apFault}
-use Rattle.s1ap_messages.specs.declared.pdu.InitialUeMessage.{InitialUeMessage}
-use Rattle.s1ap_messages.specs.declared.pdu.Pdu.{Pdu}
-use Rattle.s1ap_messages.specs.declared.pdu.Pdu.TheVariants as pdu
-use Rattle.s1ap_messages.specs.Pdus.{decoded}
+use Rattle.s1ap_pdus.specs.declared.pdu.InitialUeMessage.{InitialUeMessage}
+use Rattle.s1ap_pdus.specs.declared.pdu.Pdu.{Pdu}
+use Rattle.s1ap_pdus.specs.declared.pdu.Pdu.TheVariants as pdu
+use Rattle.s1ap_pdus.specs.Pdus.{decoded}
 use Rattle.identity_slots.specs.declared.profile.Profile.{Profile}
 use Rattle.identity_slots.specs.Ids.{is_of_slot, stranger_id}
 use Rattle.identity_slots.specs.Provisioned.{slot_of_id, slot_of_imsi}
-use Rattle.mme_vocabulary.specs.declared.event.UeMessage.{UeMessage}
-use Rattle.mme_vocabulary.specs.declared.network.Network.{Network}
-use Rattle.mme_vocabulary.specs.declared.stations.StationState.{StationState}
-use Rattle.mme_vocabulary.specs.declared.stations.StationState.TheVariants.{Down, Up, Ready}
-use Rattle.mme_vocabulary.specs.Events.{Cancel, Claim, Data, Item}
-use Rattle.mme_vocabulary.specs.Stations.{station_at}
+use Rattle.mme_types.specs.declared.event.UeMessage.{UeMessage}
+use Rattle.mme_types.specs.declared.network.Network.{Network}
+use Rattle.mme_types.specs.declared.stations.StationState.{StationState}
+use Rattle.mme_types.specs.declared.stations.StationState.TheVariants.{Down, Up, Ready}
+use Rattle.mme_types.specs.Events.{Cancel, Claim, Data, Item}
+use Rattle.mme_types.specs.Stations.{station_at}
 use Rattle.mme_routing.specs.Destinations.{Destination}
 use Rattle.mme_routing.specs.Destinations as to
 use Rattle.mme_naming.specs.Naming.{named_slot}
@@ -43,14 +43,14 @@ ready_below (s ∷ stations) zero tas is = omega arith
 ready_below (s ∷ stations) (suc e) tas is = let less = ready_below stations e tas is in omega (arith, less)
 
 -- an id that is made of one of 128 stations and a number there has 32 bits
-stranger_id_below : (e enb_id : ℕ) → e < 128 → enb_id < 2 ^ 24 → stranger_id e enb_id < 2 ^ 32
-stranger_id_below e enb_id low less = omega (arith, low, less)
+stranger_id_below : (e enb_ue_id : ℕ) → e < 128 → enb_ue_id < 2 ^ 24 → stranger_id e enb_ue_id < 2 ^ 32
+stranger_id_below e enb_ue_id low less = omega (arith, low, less)
 
 -- ---- by message
 
 entry_goes : (o : Option ℕ) (e : ℕ) (m : InitialUeMessage (List ℕ)) → e < 128 → EntryInRange (entry_of e m) → DestinationInRange (entry_routed o e m).destination
 entry_goes (Some slot) e m low fits = fits
-entry_goes None e m low fits = (stranger_id_below e m.enb_id low fits.enb_id, fits)
+entry_goes None e m low fits = (stranger_id_below e m.enb_ue_id low fits.enb_ue_id, fits)
 
 enters_so : (n : Network) (ps : List Profile) (e : ℕ) (state : StationState) (m : InitialUeMessage (List ℕ)) → ((tas : List SupportedTa) → state ≡ Ready tas → e < 128)
     → EntryInRange (entry_of e m) → DestinationInRange (enters n ps e state m).destination
@@ -71,7 +71,7 @@ phone_goes : (ps : List Profile) (e : ℕ) (state : StationState) (o : Option (U
 phone_goes ps e state None fits = tt
 phone_goes ps e Down (Some m) fits = tt
 phone_goes ps e Up (Some m) fits = tt
-phone_goes ps e (Ready tas) (Some m) fits = by_id (is_of_slot m.mme_id) (slot_of_id m.mme_id ps) m (fits m refl)
+phone_goes ps e (Ready tas) (Some m) fits = by_id (is_of_slot m.mme_ue_id) (slot_of_id m.mme_ue_id ps) m (fits m refl)
 
 reset_goes : (e : ℕ) (state : StationState) (t : ResetType) → DestinationInRange (reset e state t).destination
 reset_goes e Down t = tt
@@ -88,7 +88,7 @@ set_up_goes false x y h k = k
 module _ (entries : EntriesAreInRange) (messages : MessagesAreInRange) where
   message_goes : (n : Network) (ps : List Profile) (e : ℕ) (state : StationState) (os : List ℕ) (p : Pdu (List ℕ)) → decoded os ≡ Ok p
       → ((tas : List SupportedTa) → state ≡ Ready tas → e < 128) → DestinationInRange (outcome_of_message n ps e state p).destination
-  message_goes n ps e state os (pdu.SetupRequest m) is low = set_up_goes (broadcasts n.plmn m.supported_tas) (begins_anew e _ _) (begins_anew e _ _) tt tt
+  message_goes n ps e state os (pdu.S1SetupRequest m) is low = set_up_goes (broadcasts n.plmn m.supported_tas) (begins_anew e _ _) (begins_anew e _ _) tt tt
   message_goes n ps e state os (pdu.Reset m) is low = reset_goes e state m.reset_type
   message_goes n ps e state os (pdu.ErrorIndication m) is low = tt
   message_goes n ps e state os (pdu.ResetAcknowledge m) is low = tt

@@ -5,12 +5,12 @@ use Rattle.std.proofs.lemmas.Bool.{cond_both, eqb-true}
 use Rattle.identity_slots.specs.declared.profile.Profile.{Profile}
 use Rattle.identity_slots.specs.Ids.{station_in}
 use Rattle.identity_slots.specs.Provisioned.{slot_of_imsi}
-use Rattle.mme_vocabulary.specs.declared.event.Entry.{Entry}
-use Rattle.mme_vocabulary.specs.declared.event.UeBody.{UeBody}
-use Rattle.mme_vocabulary.specs.declared.event.UeBody.TheVariants.{Uplink, ReleaseRequest, ReleaseComplete, PathSwitch}
-use Rattle.mme_vocabulary.specs.declared.event.UeMessage.{UeMessage}
-use Rattle.mme_vocabulary.specs.declared.octets.Answer.{Answer}
-use Rattle.mme_vocabulary.specs.Events.{Claim}
+use Rattle.mme_types.specs.declared.event.Entry.{Entry}
+use Rattle.mme_types.specs.declared.event.UeBody.{UeBody}
+use Rattle.mme_types.specs.declared.event.UeBody.TheVariants.{Uplink, UeContextReleaseRequest, UeContextReleaseComplete, PathSwitch}
+use Rattle.mme_types.specs.declared.event.UeMessage.{UeMessage}
+use Rattle.mme_types.specs.declared.octets.Answer.{Answer}
+use Rattle.mme_types.specs.Events.{Claim}
 use Rattle.stranger_machine.specs.declared.state.KeptEntry.{KeptEntry}
 use Rattle.stranger_machine.specs.declared.state.Stranger.{Stranger}
 use Rattle.stranger_machine.specs.declared.state.Stranger.TheVariants.{Waiting, Held}
@@ -36,7 +36,7 @@ InputInRange id (inputs.Notes notice) = Unit {0}
 pub input_in_range : (d : Destination) (id : ℕ) → DestinationInRange d → InputInRange id (input_for d id)
 input_in_range (to.Beginner n m) id fits =
     cond_both (n == id) (inputs.Begins m) inputs.Nothing (InputInRange id) (λ is. (subst (λ (k : ℕ). k < 2 ^ 32) (eqb-true n id is) fits.0, fits.1)) (λ is. tt)
-input_in_range (to.Stranger m) id fits = cond_both (m.mme_id == id) (inputs.Receives m) inputs.Nothing (InputInRange id) (λ is. fits) (λ is. tt)
+input_in_range (to.Stranger m) id fits = cond_both (m.mme_ue_id == id) (inputs.Receives m) inputs.Nothing (InputInRange id) (λ is. fits) (λ is. tt)
 input_in_range _ id fits = tt
 
 abbrev pub CallInRange : Option Call → Type 0
@@ -61,7 +61,7 @@ either id false h k = k
 
 welcomed_so : (id : ℕ) (m : Entry (List ℕ)) (w : Welcome) → ItemInRange (Claim id m) → StrangerInRange id (welcomed id (as_kept m) w).stranger
 unfolding welcomed
-welcomed_so id m Ask h = (h.0, record { enb_id = h.1.enb_id; nas = h.1.nas; tai = h.1.tai })
+welcomed_so id m Ask h = (h.0, record { enb_ue_id = h.1.enb_ue_id; nas = h.1.nas; tai = h.1.tai })
 welcomed_so id m (Refuse nas) h = tt
 welcomed_so id m TurnAway h = tt
 
@@ -89,24 +89,24 @@ identified_so id n (Some imsi) ps k s fits h = claimed id n (slot_of_imsi imsi p
 own : (id n : ℕ) (body : UeBody (List ℕ)) (ps : List Profile) (k : KeptEntry) (s : Stranger) → ItemInRange (Claim n (as_entry k)) → StrangerInRange id (Some s) → TurnInRange id (receives_own body ps n k s)
 unfolding receives_own
 own id n (Uplink nas tai) ps k s fits h = identified_so id n _ ps k s fits h
-own id n (ReleaseRequest cause) ps k s fits h = closes id _
+own id n (UeContextReleaseRequest cause) ps k s fits h = closes id _
 own id n _ ps k s fits h = stays_so id (Some s) [] h
 
-paired : (id : ℕ) (ps : List Profile) (m : UeMessage (List ℕ)) (k : KeptEntry) (s : Stranger) → ItemInRange (Claim m.mme_id (as_entry k)) → StrangerInRange id (Some s) → TurnInRange id (checked_for_pair ps m k s)
+paired : (id : ℕ) (ps : List Profile) (m : UeMessage (List ℕ)) (k : KeptEntry) (s : Stranger) → ItemInRange (Claim m.mme_ue_id (as_entry k)) → StrangerInRange id (Some s) → TurnInRange id (checked_for_pair ps m k s)
 unfolding checked_for_pair
-paired id ps m k s fits h = either id (k.station == m.station && k.enb_id == m.enb_id) (own id m.mme_id m.body ps k s fits h) (stays_so id (Some s) _ h)
+paired id ps m k s fits h = either id (k.station == m.station && k.enb_ue_id == m.enb_ue_id) (own id m.mme_ue_id m.body ps k s fits h) (stays_so id (Some s) _ h)
 
-waiting : (id : ℕ) (body : UeBody (List ℕ)) (ps : List Profile) (m : UeMessage (List ℕ)) (k : KeptEntry) (s : Stranger) → ItemInRange (Claim m.mme_id (as_entry k)) → StrangerInRange id (Some s)
+waiting : (id : ℕ) (body : UeBody (List ℕ)) (ps : List Profile) (m : UeMessage (List ℕ)) (k : KeptEntry) (s : Stranger) → ItemInRange (Claim m.mme_ue_id (as_entry k)) → StrangerInRange id (Some s)
     → TurnInRange id (receives_waiting body ps m k s)
 unfolding receives_waiting
-waiting id ReleaseComplete ps m k s fits h = stays_so id (Some s) [] h
+waiting id UeContextReleaseComplete ps m k s fits h = stays_so id (Some s) [] h
 waiting id PathSwitch ps m k s fits h = stays_so id (Some s) _ h
 waiting id _ ps m k s fits h = paired id ps m k s fits h
 
 received : (id : ℕ) (ps : List Profile) (s : Option Stranger) (m : UeMessage (List ℕ)) → MessageInRange m → StrangerInRange id s → TurnInRange id (receives ps s m)
 unfolding receives
 received id ps None m fits h = closes id _
-received id ps (Some (Waiting k left repeats)) m fits h = waiting id m.body ps m k (Waiting k left repeats) (fits.mme_id, h.1) h
+received id ps (Some (Waiting k left repeats)) m fits h = waiting id m.body ps m k (Waiting k left repeats) (fits.mme_ue_id, h.1) h
 received id ps (Some (Held slot)) m fits h = record { stranger = tt; call = fits }
 
 -- ---- what comes to all

@@ -6,7 +6,7 @@ use Rattle.identity_slots.specs.declared.profile.Profile.{Profile}
 use Rattle.identity_slots.specs.declared.profile.Vector.{Vector}
 use Rattle.identity_slots.specs.Ids.{slots}
 use Rattle.identity_slots.specs.Provisioned.{Provisioned, vectors_at}
-use Rattle.mme_vocabulary.specs.Events.{Claim}
+use Rattle.mme_types.specs.Events.{Claim}
 use Rattle.emm_machine.specs.SubscriberView.{SubscriberView}
 use Rattle.stranger_machine.specs.declared.state.Stranger.{Stranger}
 use Rattle.stranger_machine.specs.declared.state.Stranger.TheVariants.{Waiting}

@@ -1,7 +1,7 @@
 -- Over a run of the MME all is in range: the MME behind each event, and what the events have for each slot.
 use Rattle.std.specs.Prelude.{◌≡◌, ℕ, false, List, ◌∷◌, ◌++◌, Some, slice_get}
 use Rattle.identity_slots.specs.Provisioned.{Provisioned}
-use Rattle.mme_vocabulary.specs.Events.{Item}
+use Rattle.mme_types.specs.Events.{Item}
 use Rattle.emm_machine.specs.Steps.{solo_step}
 use Rattle.emm_machine.specs.SubscriberView.{SubscriberView}
 use Rattle.mme_core.specs.declared.config.Config.{Config}

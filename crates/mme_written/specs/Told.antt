@@ -5,13 +5,13 @@ use Rattle.s1ap_elements.specs.declared.cause.Cause.TheVariants.{Nas, RadioNetwo
 use Rattle.s1ap_elements.specs.declared.cause.NasCause.TheVariants.{NormalRelease}
 use Rattle.s1ap_elements.specs.declared.cause.RadioNetworkCause.TheVariants.{UnknownPairUeS1apId}
 use Rattle.identity_slots.specs.Provisioned.{Provisioned}
-use Rattle.mme_vocabulary.specs.declared.connection.Connection.{Connection}
-use Rattle.mme_vocabulary.specs.declared.event.Entry.{Entry}
-use Rattle.mme_vocabulary.specs.declared.event.UeMessage.{UeMessage}
+use Rattle.mme_types.specs.declared.connection.Connection.{Connection}
+use Rattle.mme_types.specs.declared.event.Entry.{Entry}
+use Rattle.mme_types.specs.declared.event.UeMessage.{UeMessage}
 use Rattle.mme_signalling.specs.Pdus.{downlink, error_indication, is_extended, release_command}
 use Rattle.emm_machine.specs.Steps.{solo_after, solo_step}
 use Rattle.emm_machine.specs.SubscriberView.{SubscriberView}
-use Rattle.emm_promises.specs.Proof.{IsProved}
+use Rattle.laws_admission.specs.Proof.{IsProved}
 use Rattle.stranger_machine.specs.declared.state.KeptEntry.{KeptEntry}
 use Rattle.stranger_machine.specs.declared.state.Stranger.TheVariants.{Waiting}
 use Rattle.stranger_machine.specs.Turns.{as_kept, identity_asked, identity_request, place_of, refused, released, sent_to}
@@ -41,16 +41,16 @@ ChallengesAreSent =
 pub record IsToldWhole (k : Connection) : Type 0 where
   pub asked : AnswersWith k.station (downlink k identity_request) (identity_asked k)
   pub refusal : (nas : List ℕ) → IsBrief 15000 nas
-      → AnswersWithBoth k.station (downlink k nas) (release_command k.id k.enb_id (Nas NormalRelease)) (refused k nas)
+      → AnswersWithBoth k.station (downlink k nas) (release_command k.id k.enb_ue_id (Nas NormalRelease)) (refused k nas)
   pub release : (cause : Cause) → is_extended cause ≡ false
-      → AnswersWith k.station (release_command k.id k.enb_id cause) (released k cause)
+      → AnswersWith k.station (release_command k.id k.enb_ue_id cause) (released k cause)
 
 -- and what answers a message: one with the id of nobody, or not from the association's own station and number
 -- (TS 36.413 clause 10.6)
 pub record IsAnsweredWhole (m : UeMessage (List ℕ)) : Type 0 where
   pub nobody : IsUnknownAnswered m m.body
-  pub elsewhere : AnswersWith m.station (error_indication m.mme_id m.enb_id (RadioNetwork UnknownPairUeS1apId))
-      (sent_to m.station (error_indication m.mme_id m.enb_id (RadioNetwork UnknownPairUeS1apId)))
+  pub elsewhere : AnswersWith m.station (error_indication m.mme_ue_id m.enb_ue_id (RadioNetwork UnknownPairUeS1apId))
+      (sent_to m.station (error_indication m.mme_ue_id m.enb_ue_id (RadioNetwork UnknownPairUeS1apId)))
 
 -- whoever begins at an event of a run
 abbrev pub BeginnersAreTold : Type 0

@@ -1,7 +1,7 @@
 //! What an MME is given is in range by its types.
 
 ghost use Rattle.std.specs.Prelude.{◌≡◌, ℕ, ◌<◌, length, slice_get, true, Some};
-ghost use Rattle.bit_streams.specs.Octet.{all_below};
+ghost use Rattle.per_streams.specs.Octet.{all_below};
 ghost use Rattle.identity_slots.specs.Ids.{slots};
 ghost use Rattle.identity_slots.specs.declared.profile.Vector.{Vector};
 ghost use Rattle.written_messages.specs.Ranges.{NetworkInRange, ProfileInRange, VectorInRange};
@@ -9,7 +9,7 @@ ghost use Rattle.mme_written.specs.InRange.{IsProvisionedInRange};
 
 use identity_slots::{Profile, Provision, Slot, Vector};
 use mme_core::Config;
-use mme_vocabulary::Network;
+use mme_types::Network;
 
 /// What goes into messages of a configuration and of a provisioning is in range, whatever they are: this is the premise of the laws,
 /// for the two that an MME is made of. It changes nothing and takes no memory.

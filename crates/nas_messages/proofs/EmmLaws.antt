@@ -15,7 +15,7 @@ use Rattle.nas_elements.specs.WritingLaws.{written}
 use Rattle.nas_messages.specs.declared.emm_types.Emm.{Emm}
 use Rattle.nas_messages.specs.declared.emm_types.Emm.TheVariants as emm
 use Rattle.nas_messages.specs.declared.emm_types.EmmType.{EmmType}
-use Rattle.nas_messages.specs.declared.emm_types.EmmType.TheVariants.{AttachRequest, AttachAccept, AttachComplete, AttachReject, DetachRequest, NetworkDetach, DetachAccept, AreaUpdateRequest, AreaUpdateAccept, AreaUpdateComplete, AreaUpdateReject, ServiceReject, AuthenticationRequest, AuthenticationResponse, AuthenticationReject, IdentityRequest, IdentityResponse, AuthenticationFailure, SecurityModeCommand, SecurityModeComplete, SecurityModeReject, EmmStatus}
+use Rattle.nas_messages.specs.declared.emm_types.EmmType.TheVariants.{AttachRequest, AttachAccept, AttachComplete, AttachReject, DetachRequest, NetworkDetach, DetachAccept, TrackingAreaUpdateRequest, TrackingAreaUpdateAccept, TrackingAreaUpdateComplete, TrackingAreaUpdateReject, ServiceReject, AuthenticationRequest, AuthenticationResponse, AuthenticationReject, IdentityRequest, IdentityResponse, AuthenticationFailure, SecurityModeCommand, SecurityModeComplete, SecurityModeReject, EmmStatus}
 use Rattle.nas_messages.specs.declared.emm_types.Direction.{Direction}
 use Rattle.nas_messages.specs.declared.emm_types.Direction.TheVariants.{Uplink, Downlink}
 use Rattle.nas_messages.specs.Formats.{row_of, kept_of}
@@ -31,10 +31,10 @@ spelled_named direction AttachReject v os s = s
 spelled_named direction DetachRequest v os s = s
 spelled_named direction NetworkDetach v os s = s
 spelled_named direction DetachAccept v os s = s
-spelled_named direction AreaUpdateRequest v os s = s
-spelled_named direction AreaUpdateAccept v os s = s
-spelled_named direction AreaUpdateComplete v os s = s
-spelled_named direction AreaUpdateReject v os s = s
+spelled_named direction TrackingAreaUpdateRequest v os s = s
+spelled_named direction TrackingAreaUpdateAccept v os s = s
+spelled_named direction TrackingAreaUpdateComplete v os s = s
+spelled_named direction TrackingAreaUpdateReject v os s = s
 spelled_named direction ServiceReject v os s = s
 spelled_named direction AuthenticationRequest v os s = s
 spelled_named direction AuthenticationResponse v os s = s
@@ -67,10 +67,10 @@ code_is direction c t =
     next_type c 0x44 AttachReject t _ refl (
     next_type c 0x45 (detach_of direction) t _ (detach_code direction) (
     next_type c 0x46 DetachAccept t _ refl (
-    next_type c 0x48 AreaUpdateRequest t _ refl (
-    next_type c 0x49 AreaUpdateAccept t _ refl (
-    next_type c 0x4a AreaUpdateComplete t _ refl (
-    next_type c 0x4b AreaUpdateReject t _ refl (
+    next_type c 0x48 TrackingAreaUpdateRequest t _ refl (
+    next_type c 0x49 TrackingAreaUpdateAccept t _ refl (
+    next_type c 0x4a TrackingAreaUpdateComplete t _ refl (
+    next_type c 0x4b TrackingAreaUpdateReject t _ refl (
     next_type c 0x4e ServiceReject t _ refl (
     next_type c 0x52 AuthenticationRequest t _ refl (
     next_type c 0x53 AuthenticationResponse t _ refl (
@@ -141,10 +141,10 @@ decoded_again direction (emm.AttachReject m) os s = again_typed direction Attach
 decoded_again direction (emm.DetachRequest m) os s = again_typed direction DetachRequest _ os s
 decoded_again direction emm.NetworkDetach os s = again_typed direction NetworkDetach _ os s
 decoded_again direction emm.DetachAccept os s = again_typed direction DetachAccept _ os s
-decoded_again direction (emm.AreaUpdateRequest m) os s = again_typed direction AreaUpdateRequest _ os s
-decoded_again direction (emm.AreaUpdateAccept m) os s = again_typed direction AreaUpdateAccept _ os s
-decoded_again direction emm.AreaUpdateComplete os s = again_typed direction AreaUpdateComplete _ os s
-decoded_again direction (emm.AreaUpdateReject cause) os s = again_typed direction AreaUpdateReject _ os s
+decoded_again direction (emm.TrackingAreaUpdateRequest m) os s = again_typed direction TrackingAreaUpdateRequest _ os s
+decoded_again direction (emm.TrackingAreaUpdateAccept m) os s = again_typed direction TrackingAreaUpdateAccept _ os s
+decoded_again direction emm.TrackingAreaUpdateComplete os s = again_typed direction TrackingAreaUpdateComplete _ os s
+decoded_again direction (emm.TrackingAreaUpdateReject cause) os s = again_typed direction TrackingAreaUpdateReject _ os s
 decoded_again direction (emm.ServiceReject cause) os s = again_typed direction ServiceReject _ os s
 decoded_again direction (emm.AuthenticationRequest m) os s = again_typed direction AuthenticationRequest _ os s
 decoded_again direction (emm.AuthenticationResponse res) os s = again_typed direction AuthenticationResponse _ os s
@@ -168,10 +168,10 @@ distinct AttachReject = refl
 distinct DetachRequest = refl
 distinct NetworkDetach = refl
 distinct DetachAccept = refl
-distinct AreaUpdateRequest = refl
-distinct AreaUpdateAccept = refl
-distinct AreaUpdateComplete = refl
-distinct AreaUpdateReject = refl
+distinct TrackingAreaUpdateRequest = refl
+distinct TrackingAreaUpdateAccept = refl
+distinct TrackingAreaUpdateComplete = refl
+distinct TrackingAreaUpdateReject = refl
 distinct ServiceReject = refl
 distinct AuthenticationRequest = refl
 distinct AuthenticationResponse = refl
@@ -195,10 +195,10 @@ written_emm direction (emm.AttachReject m) f g = spelled_typed direction AttachR
 written_emm direction (emm.DetachRequest m) f g = spelled_typed direction DetachRequest _ f g
 written_emm direction emm.NetworkDetach f g = spelled_typed direction NetworkDetach _ f g
 written_emm direction emm.DetachAccept f g = spelled_typed direction DetachAccept _ f g
-written_emm direction (emm.AreaUpdateRequest m) f g = spelled_typed direction AreaUpdateRequest _ f g
-written_emm direction (emm.AreaUpdateAccept m) f g = spelled_typed direction AreaUpdateAccept _ f g
-written_emm direction emm.AreaUpdateComplete f g = spelled_typed direction AreaUpdateComplete _ f g
-written_emm direction (emm.AreaUpdateReject cause) f g = spelled_typed direction AreaUpdateReject _ f g
+written_emm direction (emm.TrackingAreaUpdateRequest m) f g = spelled_typed direction TrackingAreaUpdateRequest _ f g
+written_emm direction (emm.TrackingAreaUpdateAccept m) f g = spelled_typed direction TrackingAreaUpdateAccept _ f g
+written_emm direction emm.TrackingAreaUpdateComplete f g = spelled_typed direction TrackingAreaUpdateComplete _ f g
+written_emm direction (emm.TrackingAreaUpdateReject cause) f g = spelled_typed direction TrackingAreaUpdateReject _ f g
 written_emm direction (emm.ServiceReject cause) f g = spelled_typed direction ServiceReject _ f g
 written_emm direction (emm.AuthenticationRequest m) f g = spelled_typed direction AuthenticationRequest _ f g
 written_emm direction (emm.AuthenticationResponse res) f g = spelled_typed direction AuthenticationResponse _ f g
@@ -227,10 +227,10 @@ spelled_fits direction (emm.AttachReject m) os small s = fits_typed direction At
 spelled_fits direction (emm.DetachRequest m) os small s = fits_typed direction DetachRequest _ os small s
 spelled_fits direction emm.NetworkDetach os small s = fits_typed direction NetworkDetach _ os small s
 spelled_fits direction emm.DetachAccept os small s = fits_typed direction DetachAccept _ os small s
-spelled_fits direction (emm.AreaUpdateRequest m) os small s = fits_typed direction AreaUpdateRequest _ os small s
-spelled_fits direction (emm.AreaUpdateAccept m) os small s = fits_typed direction AreaUpdateAccept _ os small s
-spelled_fits direction emm.AreaUpdateComplete os small s = fits_typed direction AreaUpdateComplete _ os small s
-spelled_fits direction (emm.AreaUpdateReject cause) os small s = fits_typed direction AreaUpdateReject _ os small s
+spelled_fits direction (emm.TrackingAreaUpdateRequest m) os small s = fits_typed direction TrackingAreaUpdateRequest _ os small s
+spelled_fits direction (emm.TrackingAreaUpdateAccept m) os small s = fits_typed direction TrackingAreaUpdateAccept _ os small s
+spelled_fits direction emm.TrackingAreaUpdateComplete os small s = fits_typed direction TrackingAreaUpdateComplete _ os small s
+spelled_fits direction (emm.TrackingAreaUpdateReject cause) os small s = fits_typed direction TrackingAreaUpdateReject _ os small s
 spelled_fits direction (emm.ServiceReject cause) os small s = fits_typed direction ServiceReject _ os small s
 spelled_fits direction (emm.AuthenticationRequest m) os small s = fits_typed direction AuthenticationRequest _ os small s
 spelled_fits direction (emm.AuthenticationResponse res) os small s = fits_typed direction AuthenticationResponse _ os small s

@@ -5,7 +5,7 @@ use Rattle.nas_elements.specs.Identifiers.{emm_cause_iei, esm_cause_iei, esm_inf
 use Rattle.nas_elements.specs.Parts.{Part, constant, octet, halves, fixed, lv, long, spare, three, flagged, four, exactly, between, identity, guti, tai_list, label}
 use Rattle.nas_elements.specs.Rows.{Row, Keep, element, flag}
 use Rattle.nas_messages.specs.declared.emm_types.EmmType.{EmmType}
-use Rattle.nas_messages.specs.declared.emm_types.EmmType.TheVariants.{AttachRequest, AttachAccept, AttachComplete, AttachReject, DetachRequest, NetworkDetach, DetachAccept, AreaUpdateRequest, AreaUpdateAccept, AreaUpdateComplete, AreaUpdateReject, ServiceReject, AuthenticationRequest, AuthenticationResponse, AuthenticationReject, IdentityRequest, IdentityResponse, AuthenticationFailure, SecurityModeCommand, SecurityModeComplete, SecurityModeReject, EmmStatus}
+use Rattle.nas_messages.specs.declared.emm_types.EmmType.TheVariants.{AttachRequest, AttachAccept, AttachComplete, AttachReject, DetachRequest, NetworkDetach, DetachAccept, TrackingAreaUpdateRequest, TrackingAreaUpdateAccept, TrackingAreaUpdateComplete, TrackingAreaUpdateReject, ServiceReject, AuthenticationRequest, AuthenticationResponse, AuthenticationReject, IdentityRequest, IdentityResponse, AuthenticationFailure, SecurityModeCommand, SecurityModeComplete, SecurityModeReject, EmmStatus}
 use Rattle.nas_messages.specs.declared.esm_types.EsmType.{EsmType}
 use Rattle.nas_messages.specs.declared.esm_types.EsmType.TheVariants.{ActivateRequest, ActivateAccept, ActivateReject, ConnectivityRequest, ConnectivityReject, DisconnectRequest, DisconnectReject, InformationRequest, InformationResponse, EsmStatus}
 
@@ -19,10 +19,10 @@ parts_of AttachReject = octet ∷ []
 parts_of DetachRequest = halves flagged three ∷ lv identity ∷ []
 parts_of NetworkDetach = halves (exactly 2) spare ∷ []
 parts_of DetachAccept = []
-parts_of AreaUpdateRequest = halves flagged three ∷ lv guti ∷ []
-parts_of AreaUpdateAccept = halves (exactly 0) spare ∷ []
-parts_of AreaUpdateComplete = []
-parts_of AreaUpdateReject = octet ∷ []
+parts_of TrackingAreaUpdateRequest = halves flagged three ∷ lv guti ∷ []
+parts_of TrackingAreaUpdateAccept = halves (exactly 0) spare ∷ []
+parts_of TrackingAreaUpdateComplete = []
+parts_of TrackingAreaUpdateReject = octet ∷ []
 parts_of ServiceReject = octet ∷ []
 parts_of AuthenticationRequest = halves three spare ∷ fixed 16 ∷ lv (between 16 16) ∷ []
 parts_of AuthenticationResponse = lv (between 4 16) ∷ []
@@ -43,10 +43,10 @@ kept_of AttachReject = element esm_message_container_iei ∷ []
 kept_of DetachRequest = []
 kept_of NetworkDetach = []
 kept_of DetachAccept = []
-kept_of AreaUpdateRequest = []
-kept_of AreaUpdateAccept = element t3412_value_iei ∷ element guti_iei ∷ element tai_list_iei ∷ element emm_cause_iei ∷ []
-kept_of AreaUpdateComplete = []
-kept_of AreaUpdateReject = []
+kept_of TrackingAreaUpdateRequest = []
+kept_of TrackingAreaUpdateAccept = element t3412_value_iei ∷ element guti_iei ∷ element tai_list_iei ∷ element emm_cause_iei ∷ []
+kept_of TrackingAreaUpdateComplete = []
+kept_of TrackingAreaUpdateReject = []
 kept_of ServiceReject = []
 kept_of AuthenticationRequest = []
 kept_of AuthenticationResponse = []

@@ -9,7 +9,7 @@ use Rattle.nas_elements.specs.Seen.{octets_of}
 use Rattle.nas_messages.specs.declared.emm_types.Emm.{Emm}
 use Rattle.nas_messages.specs.declared.emm_types.Emm.TheVariants as emm
 use Rattle.nas_messages.specs.declared.emm_types.EmmType.{EmmType}
-use Rattle.nas_messages.specs.declared.emm_types.EmmType.TheVariants.{AttachRequest, AttachAccept, AttachComplete, AttachReject, DetachRequest, NetworkDetach, DetachAccept, AreaUpdateRequest, AreaUpdateAccept, AreaUpdateComplete, AreaUpdateReject, ServiceReject, AuthenticationRequest, AuthenticationResponse, AuthenticationReject, IdentityRequest, IdentityResponse, AuthenticationFailure, SecurityModeCommand, SecurityModeComplete, SecurityModeReject, EmmStatus}
+use Rattle.nas_messages.specs.declared.emm_types.EmmType.TheVariants.{AttachRequest, AttachAccept, AttachComplete, AttachReject, DetachRequest, NetworkDetach, DetachAccept, TrackingAreaUpdateRequest, TrackingAreaUpdateAccept, TrackingAreaUpdateComplete, TrackingAreaUpdateReject, ServiceReject, AuthenticationRequest, AuthenticationResponse, AuthenticationReject, IdentityRequest, IdentityResponse, AuthenticationFailure, SecurityModeCommand, SecurityModeComplete, SecurityModeReject, EmmStatus}
 use Rattle.nas_messages.specs.declared.emm_types.Direction.{Direction}
 use Rattle.nas_messages.specs.declared.emm_types.Direction.TheVariants.{Uplink, Downlink}
 use Rattle.nas_messages.specs.Formats.{row_of}
@@ -24,10 +24,10 @@ lists (emm.AttachReject m) = emm.AttachReject (record { cause = m.cause; esm = o
 lists (emm.DetachRequest m) = emm.DetachRequest m
 lists emm.NetworkDetach = emm.NetworkDetach
 lists emm.DetachAccept = emm.DetachAccept
-lists (emm.AreaUpdateRequest m) = emm.AreaUpdateRequest m
-lists (emm.AreaUpdateAccept m) = emm.AreaUpdateAccept (record { timer = octets_of m.timer; guti = octets_of m.guti; tai_list = octets_of m.tai_list; cause = octets_of m.cause })
-lists emm.AreaUpdateComplete = emm.AreaUpdateComplete
-lists (emm.AreaUpdateReject cause) = emm.AreaUpdateReject cause
+lists (emm.TrackingAreaUpdateRequest m) = emm.TrackingAreaUpdateRequest m
+lists (emm.TrackingAreaUpdateAccept m) = emm.TrackingAreaUpdateAccept (record { timer = octets_of m.timer; guti = octets_of m.guti; tai_list = octets_of m.tai_list; cause = octets_of m.cause })
+lists emm.TrackingAreaUpdateComplete = emm.TrackingAreaUpdateComplete
+lists (emm.TrackingAreaUpdateReject cause) = emm.TrackingAreaUpdateReject cause
 lists (emm.ServiceReject cause) = emm.ServiceReject cause
 lists (emm.AuthenticationRequest m) = emm.AuthenticationRequest (record { ksi = m.ksi; rand = m.rand.now; autn = m.autn.now })
 lists (emm.AuthenticationResponse res) = emm.AuthenticationResponse res.now
@@ -51,10 +51,10 @@ named AttachReject ((cause, _), (esm, _)) = emm.AttachReject (record { cause = c
 named DetachRequest ((((detach_type, switch_off), ksi), (identity, _)), _) = emm.DetachRequest (record { detach_type = detach_type; switch_off = switch_off; ksi = ksi; identity = identity })
 named NetworkDetach v = emm.NetworkDetach
 named DetachAccept v = emm.DetachAccept
-named AreaUpdateRequest ((((update_type, active), ksi), (guti, _)), _) = emm.AreaUpdateRequest (record { update_type = update_type; active = active; ksi = ksi; guti = guti })
-named AreaUpdateAccept (_, (timer, (guti, (tai_list, (cause, _))))) = emm.AreaUpdateAccept (record { timer = timer; guti = guti; tai_list = tai_list; cause = cause })
-named AreaUpdateComplete v = emm.AreaUpdateComplete
-named AreaUpdateReject ((cause, _), _) = emm.AreaUpdateReject cause
+named TrackingAreaUpdateRequest ((((update_type, active), ksi), (guti, _)), _) = emm.TrackingAreaUpdateRequest (record { update_type = update_type; active = active; ksi = ksi; guti = guti })
+named TrackingAreaUpdateAccept (_, (timer, (guti, (tai_list, (cause, _))))) = emm.TrackingAreaUpdateAccept (record { timer = timer; guti = guti; tai_list = tai_list; cause = cause })
+named TrackingAreaUpdateComplete v = emm.TrackingAreaUpdateComplete
+named TrackingAreaUpdateReject ((cause, _), _) = emm.TrackingAreaUpdateReject cause
 named ServiceReject ((cause, _), _) = emm.ServiceReject cause
 named AuthenticationRequest (((ksi, _), (rand, (autn, _))), _) = emm.AuthenticationRequest (record { ksi = ksi; rand = rand; autn = autn })
 named AuthenticationResponse ((res, _), _) = emm.AuthenticationResponse res
@@ -80,10 +80,10 @@ typed (emm.AttachReject m) = Some (AttachReject, ((m.cause, tt), (m.esm, tt)))
 typed (emm.DetachRequest m) = Some (DetachRequest, ((((m.detach_type, m.switch_off), m.ksi), (m.identity, tt)), tt))
 typed emm.NetworkDetach = Some (NetworkDetach, (((tt, tt), tt), tt))
 typed emm.DetachAccept = Some (DetachAccept, (tt, tt))
-typed (emm.AreaUpdateRequest m) = Some (AreaUpdateRequest, ((((m.update_type, m.active), m.ksi), (m.guti, tt)), tt))
-typed (emm.AreaUpdateAccept m) = Some (AreaUpdateAccept, (((tt, tt), tt), (m.timer, (m.guti, (m.tai_list, (m.cause, tt))))))
-typed emm.AreaUpdateComplete = Some (AreaUpdateComplete, (tt, tt))
-typed (emm.AreaUpdateReject cause) = Some (AreaUpdateReject, ((cause, tt), tt))
+typed (emm.TrackingAreaUpdateRequest m) = Some (TrackingAreaUpdateRequest, ((((m.update_type, m.active), m.ksi), (m.guti, tt)), tt))
+typed (emm.TrackingAreaUpdateAccept m) = Some (TrackingAreaUpdateAccept, (((tt, tt), tt), (m.timer, (m.guti, (m.tai_list, (m.cause, tt))))))
+typed emm.TrackingAreaUpdateComplete = Some (TrackingAreaUpdateComplete, (tt, tt))
+typed (emm.TrackingAreaUpdateReject cause) = Some (TrackingAreaUpdateReject, ((cause, tt), tt))
 typed (emm.ServiceReject cause) = Some (ServiceReject, ((cause, tt), tt))
 typed (emm.AuthenticationRequest m) = Some (AuthenticationRequest, (((m.ksi, tt), (m.rand, (m.autn, tt))), tt))
 typed (emm.AuthenticationResponse res) = Some (AuthenticationResponse, ((res, tt), tt))
@@ -107,10 +107,10 @@ code_of AttachReject = 0x44
 code_of DetachRequest = 0x45
 code_of NetworkDetach = 0x45
 code_of DetachAccept = 0x46
-code_of AreaUpdateRequest = 0x48
-code_of AreaUpdateAccept = 0x49
-code_of AreaUpdateComplete = 0x4a
-code_of AreaUpdateReject = 0x4b
+code_of TrackingAreaUpdateRequest = 0x48
+code_of TrackingAreaUpdateAccept = 0x49
+code_of TrackingAreaUpdateComplete = 0x4a
+code_of TrackingAreaUpdateReject = 0x4b
 code_of ServiceReject = 0x4e
 code_of AuthenticationRequest = 0x52
 code_of AuthenticationResponse = 0x53
@@ -136,10 +136,10 @@ type_of direction code =
     else if code == 0x44 then Some AttachReject
     else if code == 0x45 then Some (detach_of direction)
     else if code == 0x46 then Some DetachAccept
-    else if code == 0x48 then Some AreaUpdateRequest
-    else if code == 0x49 then Some AreaUpdateAccept
-    else if code == 0x4a then Some AreaUpdateComplete
-    else if code == 0x4b then Some AreaUpdateReject
+    else if code == 0x48 then Some TrackingAreaUpdateRequest
+    else if code == 0x49 then Some TrackingAreaUpdateAccept
+    else if code == 0x4a then Some TrackingAreaUpdateComplete
+    else if code == 0x4b then Some TrackingAreaUpdateReject
     else if code == 0x4e then Some ServiceReject
     else if code == 0x52 then Some AuthenticationRequest
     else if code == 0x53 then Some AuthenticationResponse

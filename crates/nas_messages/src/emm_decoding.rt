@@ -9,8 +9,8 @@ ghost use Rattle.nas_messages.specs.Messages.{IsWritable, decoded_emm, detach_of
 ghost use Rattle.nas_messages.specs.declared.emm_types.EmmType.TheVariants as types;
 
 use crate::emm_types::{
-    AreaUpdateAccept, AreaUpdateRequest, AttachAccept, AttachReject, AttachRequest,
-    AuthenticationRequest, DetachRequest, Direction, EmmMessage, EmmType, SecurityModeCommand,
+    AttachAccept, AttachReject, AttachRequest, AuthenticationRequest, DetachRequest, Direction,
+    EmmMessage, EmmType, SecurityModeCommand, TrackingAreaUpdateAccept, TrackingAreaUpdateRequest,
 };
 use crate::simple::{cause_in, nothing_in, three_at, three_in};
 use nas_elements::{
@@ -157,18 +157,18 @@ fn network_detach<'a>(octets: &'a [u8]) -> Result<EmmMessage<'a>, NasFault>
 
 #[tactic(auto, unfolding(crate::specs::Messages::read_typed, nas_elements::specs::Rows::read_row))]
 fn area_update_request<'a>(octets: &'a [u8]) -> Result<EmmMessage<'a>, NasFault>
-    ensures { seen result ≡ read_typed types.AreaUpdateRequest octets.entry.now }
+    ensures { seen result ≡ read_typed types.TrackingAreaUpdateRequest octets.entry.now }
 {
     let Some((message, rest)) = area_update_request_at(octets) else {
         return Err(NasFault::Mandatory);
     };
     let _ = Optional::read(Domain::Emm, rest)?;
-    Ok(EmmMessage::AreaUpdateRequest(message))
+    Ok(EmmMessage::TrackingAreaUpdateRequest(message))
 }
 
-fn area_update_request_at(octets: &[u8]) -> Option<(AreaUpdateRequest, &[u8])>
+fn area_update_request_at(octets: &[u8]) -> Option<(TrackingAreaUpdateRequest, &[u8])>
     ensures { at (λ m. (((m.update_type, m.active), m.ksi), (m.guti, tt)))
-        result ≡ read_parts (parts_of types.AreaUpdateRequest) octets.now }
+        result ≡ read_parts (parts_of types.TrackingAreaUpdateRequest) octets.now }
 {
     let Some((first, rest)) = octet_at(octets) else {
         return None;
@@ -176,7 +176,7 @@ fn area_update_request_at(octets: &[u8]) -> Option<(AreaUpdateRequest, &[u8])>
     let Some((guti, rest)) = guti_at(rest) else {
         return None;
     };
-    let message = AreaUpdateRequest {
+    let message = TrackingAreaUpdateRequest {
         update_type: first % 16 % 8,
         active: 8 <= first % 16,
         ksi: first / 16 % 8,
@@ -187,19 +187,19 @@ fn area_update_request_at(octets: &[u8]) -> Option<(AreaUpdateRequest, &[u8])>
 
 #[tactic(auto, unfolding(crate::specs::Messages::read_typed, nas_elements::specs::Rows::read_row))]
 fn area_update_accept<'a>(octets: &'a [u8]) -> Result<EmmMessage<'a>, NasFault>
-    ensures { seen result ≡ read_typed types.AreaUpdateAccept octets.entry.now }
+    ensures { seen result ≡ read_typed types.TrackingAreaUpdateAccept octets.entry.now }
 {
     let Some((_, rest)) = three_at(0, octets) else {
         return Err(NasFault::Mandatory);
     };
     let optional = Optional::read(Domain::Emm, rest)?;
-    let message = AreaUpdateAccept {
+    let message = TrackingAreaUpdateAccept {
         timer: optional.find(identifier::T3412_VALUE),
         guti: optional.find(identifier::GUTI),
         tai_list: optional.find(identifier::TAI_LIST),
         cause: optional.find(identifier::EMM_CAUSE),
     };
-    Ok(EmmMessage::AreaUpdateAccept(message))
+    Ok(EmmMessage::TrackingAreaUpdateAccept(message))
 }
 
 #[tactic(auto, unfolding(crate::specs::Messages::read_typed, nas_elements::specs::Rows::read_row))]
@@ -309,18 +309,18 @@ fn detach_accept<'a>(octets: &'a [u8]) -> Result<EmmMessage<'a>, NasFault>
 
 #[tactic(auto, unfolding(crate::specs::Messages::read_typed))]
 fn area_update_complete<'a>(octets: &'a [u8]) -> Result<EmmMessage<'a>, NasFault>
-    ensures { seen result ≡ read_typed types.AreaUpdateComplete octets.entry.now }
+    ensures { seen result ≡ read_typed types.TrackingAreaUpdateComplete octets.entry.now }
 {
     nothing_in(Domain::Emm, octets)?;
-    Ok(EmmMessage::AreaUpdateComplete)
+    Ok(EmmMessage::TrackingAreaUpdateComplete)
 }
 
 #[tactic(auto, unfolding(crate::specs::Messages::read_typed))]
 fn area_update_reject<'a>(octets: &'a [u8]) -> Result<EmmMessage<'a>, NasFault>
-    ensures { seen result ≡ read_typed types.AreaUpdateReject octets.entry.now }
+    ensures { seen result ≡ read_typed types.TrackingAreaUpdateReject octets.entry.now }
 {
     let cause = cause_in(Domain::Emm, octets)?;
-    Ok(EmmMessage::AreaUpdateReject { cause })
+    Ok(EmmMessage::TrackingAreaUpdateReject { cause })
 }
 
 #[tactic(auto, unfolding(crate::specs::Messages::read_typed))]
@@ -391,10 +391,10 @@ fn type_of(direction: Direction, code: u8) -> Option<EmmType>
         0x44 => Some(EmmType::AttachReject),
         0x45 => Some(detach_of(direction)),
         0x46 => Some(EmmType::DetachAccept),
-        0x48 => Some(EmmType::AreaUpdateRequest),
-        0x49 => Some(EmmType::AreaUpdateAccept),
-        0x4a => Some(EmmType::AreaUpdateComplete),
-        0x4b => Some(EmmType::AreaUpdateReject),
+        0x48 => Some(EmmType::TrackingAreaUpdateRequest),
+        0x49 => Some(EmmType::TrackingAreaUpdateAccept),
+        0x4a => Some(EmmType::TrackingAreaUpdateComplete),
+        0x4b => Some(EmmType::TrackingAreaUpdateReject),
         0x4e => Some(EmmType::ServiceReject),
         0x52 => Some(EmmType::AuthenticationRequest),
         0x53 => Some(EmmType::AuthenticationResponse),
@@ -421,10 +421,10 @@ fn read_typed<'a>(emm_type: EmmType, octets: &'a [u8]) -> Result<EmmMessage<'a>,
         EmmType::DetachRequest => detach_request(octets),
         EmmType::NetworkDetach => network_detach(octets),
         EmmType::DetachAccept => detach_accept(octets),
-        EmmType::AreaUpdateRequest => area_update_request(octets),
-        EmmType::AreaUpdateAccept => area_update_accept(octets),
-        EmmType::AreaUpdateComplete => area_update_complete(octets),
-        EmmType::AreaUpdateReject => area_update_reject(octets),
+        EmmType::TrackingAreaUpdateRequest => area_update_request(octets),
+        EmmType::TrackingAreaUpdateAccept => area_update_accept(octets),
+        EmmType::TrackingAreaUpdateComplete => area_update_complete(octets),
+        EmmType::TrackingAreaUpdateReject => area_update_reject(octets),
         EmmType::ServiceReject => service_reject(octets),
         EmmType::AuthenticationRequest => authentication_request(octets),
         EmmType::AuthenticationResponse => authentication_response(octets),

@@ -10,8 +10,8 @@ ghost use Rattle.nas_messages.specs.declared.emm_types.Emm.TheVariants as messag
 
 use crate::USUAL_ROOM;
 use crate::emm_types::{
-    AreaUpdateAccept, AreaUpdateRequest, AttachAccept, AttachReject, AttachRequest,
-    AuthenticationRequest, DetachRequest, EmmMessage, SecurityModeCommand,
+    AttachAccept, AttachReject, AttachRequest, AuthenticationRequest, DetachRequest, EmmMessage,
+    SecurityModeCommand, TrackingAreaUpdateAccept, TrackingAreaUpdateRequest,
 };
 use nas_elements::{
     Domain, identifier, put_element, put_fixed, put_guti, put_identity, put_long, put_short,
@@ -57,9 +57,12 @@ fn put_detach_request(out: &mut Vec<u8>, m: &DetachRequest) -> Result<(), AllocE
     put_identity(out, &m.identity)
 }
 
-fn put_area_update_request(out: &mut Vec<u8>, m: &AreaUpdateRequest) -> Result<(), AllocError>
-    requires { IsWritable (lists (messages.AreaUpdateRequest m.now)) }
-    ensures { OnOk result (out.new.items ≡ out.old.items ++ encoded_emm (lists (messages.AreaUpdateRequest m.now))) }
+fn put_area_update_request(
+    out: &mut Vec<u8>,
+    m: &TrackingAreaUpdateRequest,
+) -> Result<(), AllocError>
+    requires { IsWritable (lists (messages.TrackingAreaUpdateRequest m.now)) }
+    ensures { OnOk result (out.new.items ≡ out.old.items ++ encoded_emm (lists (messages.TrackingAreaUpdateRequest m.now))) }
 {
     let first = m.ksi * 16 + flagged(m.active, m.update_type);
     put_fixed(out, &[7, 0x48, first])?;
@@ -75,9 +78,12 @@ fn flagged(flag: bool, number: u8) -> u8
     if flag { 8 + number } else { number }
 }
 
-fn put_area_update_accept(out: &mut Vec<u8>, m: &AreaUpdateAccept<&[u8]>) -> Result<(), AllocError>
-    requires { IsWritable (lists (messages.AreaUpdateAccept m.now)) }
-    ensures { OnOk result (out.new.items ≡ out.old.items ++ encoded_emm (lists (messages.AreaUpdateAccept m.now))) }
+fn put_area_update_accept(
+    out: &mut Vec<u8>,
+    m: &TrackingAreaUpdateAccept<&[u8]>,
+) -> Result<(), AllocError>
+    requires { IsWritable (lists (messages.TrackingAreaUpdateAccept m.now)) }
+    ensures { OnOk result (out.new.items ≡ out.old.items ++ encoded_emm (lists (messages.TrackingAreaUpdateAccept m.now))) }
 {
     put_fixed(out, &[7, 0x49, 0])?;
     put_element(out, Domain::Emm, identifier::T3412_VALUE, m.timer)?;
@@ -124,10 +130,10 @@ fn put_emm(out: &mut Vec<u8>, message: &EmmMessage) -> Result<(), AllocError>
         EmmMessage::DetachRequest(m) => put_detach_request(out, m),
         EmmMessage::NetworkDetach => put_fixed(out, &[7, 0x45, 2]),
         EmmMessage::DetachAccept => put_fixed(out, &[7, 0x46]),
-        EmmMessage::AreaUpdateRequest(m) => put_area_update_request(out, m),
-        EmmMessage::AreaUpdateAccept(m) => put_area_update_accept(out, m),
-        EmmMessage::AreaUpdateComplete => put_fixed(out, &[7, 0x4a]),
-        EmmMessage::AreaUpdateReject { cause } => put_fixed(out, &[7, 0x4b, *cause]),
+        EmmMessage::TrackingAreaUpdateRequest(m) => put_area_update_request(out, m),
+        EmmMessage::TrackingAreaUpdateAccept(m) => put_area_update_accept(out, m),
+        EmmMessage::TrackingAreaUpdateComplete => put_fixed(out, &[7, 0x4a]),
+        EmmMessage::TrackingAreaUpdateReject { cause } => put_fixed(out, &[7, 0x4b, *cause]),
         EmmMessage::ServiceReject { cause } => put_fixed(out, &[7, 0x4e, *cause]),
         EmmMessage::AuthenticationRequest(m) => put_authentication_request(out, m),
         EmmMessage::AuthenticationResponse { res } => {

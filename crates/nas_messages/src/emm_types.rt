@@ -57,7 +57,7 @@ pub struct DetachRequest {
 
 /// TRACKING AREA UPDATE REQUEST (TS 24.301 clause 8.2.29).
 #[derive(Clone, Copy)]
-pub struct AreaUpdateRequest {
+pub struct TrackingAreaUpdateRequest {
     /// The EPS update type, three bits.
     pub update_type: u8,
     /// Whether bearers are to be established.
@@ -70,7 +70,7 @@ pub struct AreaUpdateRequest {
 
 /// TRACKING AREA UPDATE ACCEPT, for the tracking area (TS 24.301 clause 8.2.26). The elements' octets aren't looked into.
 #[derive(Clone, Copy)]
-pub struct AreaUpdateAccept<B> {
+pub struct TrackingAreaUpdateAccept<B> {
     /// T3412, one octet.
     pub timer: Option<B>,
     /// A GUTI.
@@ -111,10 +111,10 @@ pub enum EmmType {
     DetachRequest,
     NetworkDetach,
     DetachAccept,
-    AreaUpdateRequest,
-    AreaUpdateAccept,
-    AreaUpdateComplete,
-    AreaUpdateReject,
+    TrackingAreaUpdateRequest,
+    TrackingAreaUpdateAccept,
+    TrackingAreaUpdateComplete,
+    TrackingAreaUpdateReject,
     ServiceReject,
     AuthenticationRequest,
     AuthenticationResponse,
@@ -153,13 +153,13 @@ pub enum Emm<B> {
     /// 46.
     DetachAccept,
     /// 48: TRACKING AREA UPDATE REQUEST.
-    AreaUpdateRequest(AreaUpdateRequest),
+    TrackingAreaUpdateRequest(TrackingAreaUpdateRequest),
     /// 49: TRACKING AREA UPDATE ACCEPT.
-    AreaUpdateAccept(AreaUpdateAccept<B>),
+    TrackingAreaUpdateAccept(TrackingAreaUpdateAccept<B>),
     /// 4a: TRACKING AREA UPDATE COMPLETE.
-    AreaUpdateComplete,
+    TrackingAreaUpdateComplete,
     /// 4b: TRACKING AREA UPDATE REJECT.
-    AreaUpdateReject { cause: u8 },
+    TrackingAreaUpdateReject { cause: u8 },
     /// 4e.
     ServiceReject { cause: u8 },
     /// 52.

@@ -18,8 +18,9 @@ const USUAL_ROOM: usize = 64;
 pub use emm_decoding::decode_emm;
 pub use emm_encoding::encode_emm;
 pub use emm_types::{
-    AreaUpdateAccept, AreaUpdateRequest, AttachAccept, AttachReject, AttachRequest,
-    AuthenticationRequest, DetachRequest, Direction, Emm, EmmMessage, EmmType, SecurityModeCommand,
+    AttachAccept, AttachReject, AttachRequest, AuthenticationRequest, DetachRequest, Direction,
+    Emm, EmmMessage, EmmType, SecurityModeCommand, TrackingAreaUpdateAccept,
+    TrackingAreaUpdateRequest,
 };
 pub use esm_decoding::decode_esm;
 pub use esm_encoding::encode_esm;

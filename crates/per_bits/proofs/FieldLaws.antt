@@ -7,12 +7,12 @@ use Rattle.std.proofs.Math.Nat.{pow-succ'}
 use Rattle.std.proofs.Math.Pow.{pow_mono}
 use Rattle.std.proofs.Math.Seq.{take-suc, take-suc-set}
 use mir.Val.{bool_byte}
-use Rattle.bit_streams.specs.declared.fault.PerError.{PerError}
-use Rattle.bit_streams.specs.declared.fault.PerError.TheVariants.{NoMemory, Fault}
-use Rattle.bit_streams.specs.Bits.{Place, pad, bits, value, align_at, number_bits_at, aligned_bits_at}
-use Rattle.bit_streams.specs.BitLaws.{length-bits, value_below, value-push, bits-value}
-use Rattle.bit_streams.specs.PartLaws.{bits-split, bits-join, bit-is}
-use Rattle.bit_streams.specs.WholeOctets.{field_ok, field_length}
+use Rattle.per_streams.specs.declared.fault.PerError.{PerError}
+use Rattle.per_streams.specs.declared.fault.PerError.TheVariants.{NoMemory, Fault}
+use Rattle.per_streams.specs.Bits.{Place, pad, bits, value, align_at, number_bits_at, aligned_bits_at}
+use Rattle.per_streams.specs.BitLaws.{length-bits, value_below, value-push, bits-value}
+use Rattle.per_streams.specs.PartLaws.{bits-split, bits-join, bit-is}
+use Rattle.per_streams.specs.WholeOctets.{field_ok, field_length}
 use Rattle.per_numbers.specs.Writing.{Wrote}
 use Rattle.per_bits.specs.Reading.{bits_at}
 use Rattle.per_bits.specs.Writing.{write_bits}

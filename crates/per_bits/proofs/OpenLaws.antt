@@ -2,15 +2,15 @@
 use Rattle.std.proofs.Common.{◌≡◌, ℕ, ◌+◌, ◌-◌, ◌*◌, ◌/◌, ◌%◌, ◌<◌, ◌≤◌, ◌&&◌, Bool, true, false, cond, ltb, List, [], ◌∷◌, ◌++◌, length, take, drop, replicate, Result, Ok, Err, refl, sym, ap, subst, ◌∙◌, append_assoc, arith}
 use Rattle.std.proofs.lemmas.Bool.{le-ltb, lt-ltb}
 use Rattle.std.proofs.lemmas.List.{append-nil, length-append, length-replicate, take_at, drop_at}
-use Rattle.bit_streams.specs.declared.fault.PerFault.{PerFault}
-use Rattle.bit_streams.specs.declared.fault.PerFault.TheVariants.{Range}
-use Rattle.bit_streams.specs.declared.fault.PerError.{PerError}
-use Rattle.bit_streams.specs.declared.fault.PerError.TheVariants as errors
-use Rattle.bit_streams.specs.Octet.{all_below}
-use Rattle.bit_streams.specs.Bits.{◌>>=◌, Fails, bits, octet_bits, pad, padded, padding}
-use Rattle.bit_streams.specs.BitLaws.{length-bits, length-octet_bits}
-use Rattle.bit_streams.specs.OctetLaws.{bytes-octets_of}
-use Rattle.bit_streams.specs.WholeOctets.{bytes-below}
+use Rattle.per_streams.specs.declared.fault.PerFault.{PerFault}
+use Rattle.per_streams.specs.declared.fault.PerFault.TheVariants.{Range}
+use Rattle.per_streams.specs.declared.fault.PerError.{PerError}
+use Rattle.per_streams.specs.declared.fault.PerError.TheVariants as errors
+use Rattle.per_streams.specs.Octet.{all_below}
+use Rattle.per_streams.specs.Bits.{◌>>=◌, Fails, bits, octet_bits, pad, padded, padding}
+use Rattle.per_streams.specs.BitLaws.{length-bits, length-octet_bits}
+use Rattle.per_streams.specs.OctetLaws.{bytes-octets_of}
+use Rattle.per_streams.specs.WholeOctets.{bytes-below}
 use Rattle.per_numbers.specs.Writing.{Wrote}
 use Rattle.per_bits.specs.Spelling.{length_octets}
 use Rattle.per_bits.specs.Writing.{count_behind, write_string, write_whole}

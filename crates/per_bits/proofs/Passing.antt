@@ -3,16 +3,16 @@ use Rattle.std.specs.Prelude.{OnErr, OnOk}
 use Rattle.std.proofs.Common.{get_or, ◌≡◌, ℕ, suc, ◌-◌, ◌+◌, ◌≤◌, ◌<◌, Bool, true, false, List, [], ◌∷◌, ◌++◌, length, drop, map, Result, Ok, Err, refl, sym, ap, ◌∙◌, arith}
 use Rattle.std.proofs.lemmas.List.{drop_more, drop_all}
 use mir.Val.{bool_byte}
-use Rattle.bit_streams.specs.declared.fault.PerFault.{PerFault}
-use Rattle.bit_streams.specs.declared.fault.PerError.{PerError}
-use Rattle.bit_streams.specs.declared.fault.PerError.TheVariants as errors
-use Rattle.bit_streams.specs.Bits.{Place, ◌>>=◌, Fails, open_at, bit_at}
-use Rattle.bit_streams.specs.Each.{times}
+use Rattle.per_streams.specs.declared.fault.PerFault.{PerFault}
+use Rattle.per_streams.specs.declared.fault.PerError.{PerError}
+use Rattle.per_streams.specs.declared.fault.PerError.TheVariants as errors
+use Rattle.per_streams.specs.Bits.{Place, ◌>>=◌, Fails, open_at, bit_at}
+use Rattle.per_streams.specs.Each.{times}
 use Rattle.per_numbers.specs.Writing.{Wrote}
 use Rattle.per_bits.specs.Reading.{whole_at, inside_at}
 use Rattle.per_bits.specs.Spelling.{trues}
 use Rattle.per_bits.specs.Writing.{write_each}
-use Rattle.bit_streams.specs.Times.{with_front}
+use Rattle.per_streams.specs.Times.{with_front}
 
 abbrev pub unkept : {A : Type 0} → Result (A × Place) PerFault → Result (Unit {0} × Place) PerFault
 unkept read = read >>= λ x. Ok (tt, x.1)

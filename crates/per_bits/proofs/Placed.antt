@@ -1,9 +1,9 @@
 -- Writing that puts some bits behind what stands, the same wherever an octet is begun, or is refused as out of range.
 use Rattle.std.proofs.Common.{◌≡◌, ℕ, ◌+◌, ◌&&◌, Bool, true, false, List, [], ◌++◌, length, Result, Ok, Err, refl, sym, ap, ◌∙◌}
 use Rattle.std.proofs.lemmas.List.{append-nil}
-use Rattle.bit_streams.specs.declared.fault.PerFault.{PerFault}
-use Rattle.bit_streams.specs.declared.fault.PerFault.TheVariants.{Range}
-use Rattle.bit_streams.specs.Bits.{◌>>=◌}
+use Rattle.per_streams.specs.declared.fault.PerFault.{PerFault}
+use Rattle.per_streams.specs.declared.fault.PerFault.TheVariants.{Range}
+use Rattle.per_streams.specs.Bits.{◌>>=◌}
 use Rattle.per_bits.specs.Formats.{Format, Value}
 use Rattle.per_bits.specs.Writing.{write_at}
 use Rattle.per_bits.specs.Written.{writable, written}

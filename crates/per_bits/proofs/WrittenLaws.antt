@@ -1,10 +1,10 @@
 -- Writing gives the written spelling of a writable value, and refuses any other as out of range.
 use Rattle.std.proofs.Common.{◌≡◌, ℕ, ◌+◌, ◌-◌, ◌&&◌, Bool, true, false, cond, ltb, eqb, List, [], ◌∷◌, ◌++◌, length, Option, Some, None, Result, Ok, Err, refl, sym, ap, ◌∙◌, append_assoc, inl, inr, ◌⊎◌}
 use Rattle.std.proofs.lemmas.List.{length-append, append-nil}
-use Rattle.bit_streams.specs.declared.fault.PerFault.{PerFault}
-use Rattle.bit_streams.specs.declared.fault.PerFault.TheVariants.{Range}
-use Rattle.bit_streams.specs.Octet.{all_below}
-use Rattle.bit_streams.specs.Bits.{octet_bits, pad, ◌>>=◌, padded}
+use Rattle.per_streams.specs.declared.fault.PerFault.{PerFault}
+use Rattle.per_streams.specs.declared.fault.PerFault.TheVariants.{Range}
+use Rattle.per_streams.specs.Octet.{all_below}
+use Rattle.per_streams.specs.Bits.{octet_bits, pad, ◌>>=◌, padded}
 use Rattle.per_numbers.specs.Numbers.{whole}
 use Rattle.per_bits.specs.Formats.{Format, number, octets, octets_between, octet_string, bit_string, bits_between, enumerated, closed, items, open_type, plain, sequence, choice, Fields, done, must, may, skip, fixed, marked, Alternatives, last, either, Value, Values, Chosen, alternatives}
 use Rattle.per_bits.specs.Writing.{presence, index_of, write_at, write_fields, write_chosen, write_octets, write_aligned, write_length, write_string, write_bits, write_enumerated, write_each, write_whole, write_optional}

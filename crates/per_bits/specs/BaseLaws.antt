@@ -2,14 +2,14 @@
 use Rattle.std.proofs.Common.{◌≡◌, ℕ, ◌+◌, ◌^◌, ◌<◌, ◌≤◌, Bool, true, false, cond, leb, ltb, List, [], ◌++◌, length, Ok, Err, refl, sym, ap, subst, ◌∙◌, arith}
 use Rattle.std.proofs.lemmas.Bool.{leb-true, le-leb}
 use Rattle.std.proofs.lemmas.List.{append-nil}
-use Rattle.bit_streams.specs.declared.fault.PerFault.TheVariants.{Range}
-use Rattle.bit_streams.specs.Bits.{value, bits, octet_bits, pad, IsBytes, ◌>>=◌, take_at, whole_octets_at, aligned_octets_at}
+use Rattle.per_streams.specs.declared.fault.PerFault.TheVariants.{Range}
+use Rattle.per_streams.specs.Bits.{value, bits, octet_bits, pad, IsBytes, ◌>>=◌, take_at, whole_octets_at, aligned_octets_at}
 use Rattle.per_bits.specs.Spelling.{SpellsOctets}
 use Rattle.per_bits.specs.Reading.{octets_at}
 use Rattle.per_numbers.specs.Reading.{small_at}
-use Rattle.bit_streams.specs.BitLaws.{value-bits, bits-value, length-bits}
-use Rattle.bit_streams.specs.Exact.{Exact, IsBits, exact_take, Bind, exact_bind, Nothing, exact_ok, Never, exact_err, exact_same, Cond, exact_cond}
-use Rattle.bit_streams.specs.OctetLaws.{AreOctets, AlignedStep, exact_whole_octets, exact_aligned_octets}
+use Rattle.per_streams.specs.BitLaws.{value-bits, bits-value, length-bits}
+use Rattle.per_streams.specs.Exact.{Exact, IsBits, exact_take, Bind, exact_bind, Nothing, exact_ok, Never, exact_err, exact_same, Cond, exact_cond}
+use Rattle.per_streams.specs.OctetLaws.{AreOctets, AlignedStep, exact_whole_octets, exact_aligned_octets}
 
 octets_cases : (b : Bool) (n : ℕ) (os : List ℕ) (at : ℕ) (bs : List Bool) → Cond b (AreOctets n) (AlignedStep n) os at bs → (length os ≡ n) × IsBytes os × (bs ≡ cond b (octet_bits os) (pad at ++ octet_bits os))
 octets_cases true n os at bs m = m

@@ -2,19 +2,19 @@
 use Rattle.std.proofs.Common.{◌≡◌, ℕ, zero, suc, ◌+◌, ◌-◌, ◌*◌, ◌/◌, ◌^◌, ◌%◌, ◌<◌, ◌≤◌, Bool, true, false, cond, ltb, eqb, List, [], ◌∷◌, ◌++◌, length, Option, Some, None, Result, Ok, Err, refl, sym, ap, subst, ◌∙◌, arith, zero-add, inl, inr, ◌⊎◌}
 use Rattle.std.proofs.lemmas.List.{append-nil}
 use Rattle.std.proofs.lemmas.Bool.{ltb-true, lt-ltb, le-ltb, cases_lt, eqb-true, eq-eqb}
-use Rattle.bit_streams.specs.declared.fault.PerFault.{PerFault}
-use Rattle.bit_streams.specs.declared.fault.PerFault.TheVariants.{Range, NotFewest, Fragmented, Alternative}
-use Rattle.bit_streams.specs.Bits.{value, bits, Place, start, octet_bits, pad, ◌>>=◌, take_at, align_at, end_at, bit_at, first_bit, number_bits_at, long_length_at, length_at, open_at, aligned_octets_at, aligned_bits_at}
+use Rattle.per_streams.specs.declared.fault.PerFault.{PerFault}
+use Rattle.per_streams.specs.declared.fault.PerFault.TheVariants.{Range, NotFewest, Fragmented, Alternative}
+use Rattle.per_streams.specs.Bits.{value, bits, Place, start, octet_bits, pad, ◌>>=◌, take_at, align_at, end_at, bit_at, first_bit, number_bits_at, long_length_at, length_at, open_at, aligned_octets_at, aligned_bits_at}
 use Rattle.per_bits.specs.Formats.{Format, number, octets, octets_between, octet_string, bit_string, bits_between, enumerated, closed, items, open_type, plain, sequence, choice, Fields, done, must, may, skip, fixed, marked, Alternatives, last, either, Value, Values, optionals, alternatives, flag_of, flags_after, left_of, right_of}
 use Rattle.per_bits.specs.Spelling.{IfLeft, IfRight, SpellsNumber, SpellsAligned, SpellsBits, SpellsAlignedBits, length_octets, SpellsLength, SpellsString, SpellsClosed, SpellsEnumerated, SpellsOptional, SpellsSkipped, trues, SpellsAdditions, Whole, Spells, SpellsFields, SpellsChosen, SpellsWhole}
-use Rattle.bit_streams.specs.Each.{SpellsEach, times}
+use Rattle.per_streams.specs.Each.{SpellsEach, times}
 use Rattle.per_numbers.specs.Numbers.{offset_bits, width_of}
 use Rattle.per_bits.specs.Reading.{between_at, bits_at, bits_between_at, closed_at, small_number_at, extended_at, root_at, enumerated_at, optional_at, skipped_at, additions_at, whole_at, inside_at, read_at, fields_at, chosen_at, complete_at}
 use Rattle.per_numbers.specs.Reading.{offset_at, small_at, large_at, number_at}
-use Rattle.bit_streams.specs.Exact.{Exact, Takes, IsBits, exact_take, Bind, exact_bind, Nothing, exact_ok, Never, exact_err, exact_same, Each, exact_times, Cond, exact_cond}
-use Rattle.bit_streams.specs.BitLaws.{ok_is, bind_ok, okay, value_below, bits-value, value-bits, length-bits}
+use Rattle.per_streams.specs.Exact.{Exact, Takes, IsBits, exact_take, Bind, exact_bind, Nothing, exact_ok, Never, exact_err, exact_same, Each, exact_times, Cond, exact_cond}
+use Rattle.per_streams.specs.BitLaws.{ok_is, bind_ok, okay, value_below, bits-value, value-bits, length-bits}
 use Rattle.per_bits.specs.BaseLaws.{exact_octets, IsSmall, exact_small}
-use Rattle.bit_streams.specs.OctetLaws.{exact_aligned_octets, exact_end, end_again, IsPad, exact_align}
+use Rattle.per_streams.specs.OctetLaws.{exact_aligned_octets, exact_end, end_again, IsPad, exact_align}
 use Rattle.per_bits.specs.LargeLaws.{exact_large, width-fits, large_bits}
 
 abbrev Spelling : Type 0 → Type 1

@@ -1,11 +1,11 @@
 -- Reading values from the left: what is spelled is answered, and else the fault of the leftmost part that has no spelling at its place.
 use Rattle.std.specs.Prelude.{◌≡◌, ℕ, zero, suc, ◌+◌, ◌-◌, Bool, true, false, if◌then◌else◌, nat_lt, ◌==◌, List, Option, Some, None, Result, Ok, Err, ◌⊎◌}
 use Rattle.std.proofs.Common.{inl, inr}
-use Rattle.bit_streams.specs.declared.fault.PerFault.{PerFault}
-use Rattle.bit_streams.specs.declared.fault.PerFault.TheVariants.{Range, Alternative}
-use Rattle.bit_streams.specs.declared.fault.PerError.{PerError}
-use Rattle.bit_streams.specs.Bits.{Place, start, ◌>>=◌, take_at, end_at, whole_octets_at, aligned_octets_at, open_at, bit_at, aligned_bits_at, Fails}
-use Rattle.bit_streams.specs.Each.{times}
+use Rattle.per_streams.specs.declared.fault.PerFault.{PerFault}
+use Rattle.per_streams.specs.declared.fault.PerFault.TheVariants.{Range, Alternative}
+use Rattle.per_streams.specs.declared.fault.PerError.{PerError}
+use Rattle.per_streams.specs.Bits.{Place, start, ◌>>=◌, take_at, end_at, whole_octets_at, aligned_octets_at, open_at, bit_at, aligned_bits_at, Fails}
+use Rattle.per_streams.specs.Each.{times}
 use Rattle.per_numbers.specs.Reading.{number_at}
 use Rattle.per_bits.specs.Formats.{left_of, right_of, Format, Fields, Alternatives, Value, Values, Chosen, optionals, alternatives, flag_of, flags_after, number, octets, octets_between, octet_string, bit_string, bits_between, enumerated, closed, items, open_type, plain, sequence, choice, done, must, may, skip, fixed, marked, last, either}
 use Rattle.per_bits.specs.Spelling.{trues}

@@ -1,7 +1,7 @@
 -- What stands in a SEQUENCE behind the parts that are kept, and an alternative of a CHOICE.
 use Rattle.std.specs.Prelude.{ℕ, Bool, false, List, [], ◌∷◌, ◌++◌, Result}
-use Rattle.bit_streams.specs.declared.fault.PerFault.{PerFault}
-use Rattle.bit_streams.specs.Bits.{Place, ◌>>=◌}
+use Rattle.per_streams.specs.declared.fault.PerFault.{PerFault}
+use Rattle.per_streams.specs.Bits.{Place, ◌>>=◌}
 use Rattle.per_bits.specs.Formats.{Format, Value, extensions}
 use Rattle.per_bits.specs.Reading.{read_at, skipped_at, additions_at}
 use Rattle.per_bits.specs.Writing.{write_at}

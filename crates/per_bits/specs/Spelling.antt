@@ -1,8 +1,8 @@
 -- Which bits spell a value (X.691, 11/2008).
 use Rattle.std.specs.Prelude.{◌≡◌, ℕ, zero, suc, ◌+◌, ◌-◌, ◌^◌, ◌/◌, ◌%◌, ◌<◌, ◌≤◌, Bool, true, false, if◌then◌else◌, nat_lt, List, [], ◌∷◌, ◌++◌, length, Option, Some, None, ◌⊎◌}
 use Rattle.std.proofs.Common.{inl, inr}
-use Rattle.bit_streams.specs.Bits.{octet_bits, pad, IsBytes}
-use Rattle.bit_streams.specs.Each.{SpellsEach}
+use Rattle.per_streams.specs.Bits.{octet_bits, pad, IsBytes}
+use Rattle.per_streams.specs.Each.{SpellsEach}
 use Rattle.per_numbers.specs.Numbers.{whole}
 use Rattle.per_bits.specs.Formats.{Format, Fields, Alternatives, Value, Values, Chosen, optionals, alternatives, flag_of, flags_after, number, octets, octets_between, octet_string, bit_string, bits_between, enumerated, closed, items, open_type, plain, sequence, choice, done, must, may, skip, fixed, marked, last, either}
 

@@ -1,10 +1,10 @@
 -- Writing behind the bits so far.
 use Rattle.std.specs.Prelude.{ℕ, suc, ◌+◌, ◌-◌, ◌*◌, ◌/◌, ◌&&◌, Bool, false, if◌then◌else◌, nat_lt, ◌==◌, List, [], ◌∷◌, ◌++◌, length, take, drop, Option, Some, None, Result, Ok, Err, ◌⊎◌, is_some}
 use Rattle.std.proofs.Common.{inl, inr}
-use Rattle.bit_streams.specs.declared.fault.PerFault.{PerFault}
-use Rattle.bit_streams.specs.declared.fault.PerFault.TheVariants.{Range}
-use Rattle.bit_streams.specs.Octet.{all_below}
-use Rattle.bit_streams.specs.Bits.{octet_bits, padded, pad, ◌>>=◌}
+use Rattle.per_streams.specs.declared.fault.PerFault.{PerFault}
+use Rattle.per_streams.specs.declared.fault.PerFault.TheVariants.{Range}
+use Rattle.per_streams.specs.Octet.{all_below}
+use Rattle.per_streams.specs.Bits.{octet_bits, padded, pad, ◌>>=◌}
 use Rattle.per_bits.specs.Formats.{Format, number, octets, octets_between, octet_string, bit_string, bits_between, enumerated, closed, items, open_type, plain, sequence, choice, Fields, done, must, may, skip, fixed, marked, Alternatives, last, either, Value, Values, Chosen, alternatives}
 use Rattle.per_numbers.specs.Writing.{write_number}
 use Rattle.per_bits.specs.Spelling.{length_octets}

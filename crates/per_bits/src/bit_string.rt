@@ -1,8 +1,8 @@
 //! Bit strings whose length has bounds (X.691 clause 16).
 
 ghost use Rattle.std.specs.Prelude.{◌≡◌, ◌+◌, ◌-◌, ◌*◌, ◌++◌, ◌<◌, ◌^◌, ◌≤◌, ◌%◌, List, Bool, length, ◌↔◌, IsSome, IfSome, IfOk};
-ghost use Rattle.bit_streams.specs.Bits.{Gives, Answers, bits, octet_bits, aligned_bits_at};
-ghost use Rattle.bit_streams.specs.Octet.{IsString};
+ghost use Rattle.per_streams.specs.Bits.{Gives, Answers, bits, octet_bits, aligned_bits_at};
+ghost use Rattle.per_streams.specs.Octet.{IsString};
 ghost use Rattle.per_bits.specs.Reading.{bits_between_at, read_at};
 ghost use Rattle.per_numbers.specs.Reading.{number_at};
 ghost use Rattle.per_bits.specs.Formats.{bits_between};
@@ -10,8 +10,8 @@ ghost use Rattle.per_bits.specs.Writing.{write_at};
 ghost use Rattle.per_numbers.specs.Writing.{Wrote};
 
 use crate::element::Element;
-use bit_streams::{BitReader, BitWriter, PerError, PerFault};
 use per_numbers::{offset_of, put_number};
+use per_streams::{BitReader, BitWriter, PerError, PerFault};
 use std::alloc::Global;
 use std::marker::Model;
 
@@ -34,7 +34,7 @@ impl<'a, const MIN: u64, const MAX: u64> Model for BitString<'a, MIN, MAX> {
 
 impl<'a, const MIN: u64, const MAX: u64> BitString<'a, MIN, MAX> {
     /// The bits of these octets, where they are from `MIN` to `MAX` bits.
-    #[tactic(auto, unfolding(bit_streams::specs::Bits::bits))]
+    #[tactic(auto, unfolding(per_streams::specs::Bits::bits))]
     pub fn try_new(octets: &'a [u8]) -> Option<Self>
         ensures value { IfSome result (λ s. s ≡ octet_bits octets.entry.now) }
         ensures some { IsSome result ↔ ((MIN ≤ 8 * length octets.entry.now) × (8 * length octets.entry.now ≤ MAX)) }

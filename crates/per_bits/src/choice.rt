@@ -1,16 +1,16 @@
 //! CHOICEs (X.691 clause 23).
 
 ghost use Rattle.std.specs.Prelude.{◌≡◌, ◌++◌, ◌∷◌, ◌≤◌, [], false, IfOk};
-ghost use Rattle.bit_streams.specs.declared.fault.PerFault.TheVariants.{Alternative};
-ghost use Rattle.bit_streams.specs.Bits.{Answers};
+ghost use Rattle.per_streams.specs.declared.fault.PerFault.TheVariants.{Alternative};
+ghost use Rattle.per_streams.specs.Bits.{Answers};
 ghost use Rattle.per_bits.specs.Reading.{closed_at};
 ghost use Rattle.per_numbers.specs.Reading.{number_at};
 ghost use Rattle.per_numbers.specs.Writing.{write_number, Wrote};
 ghost use Rattle.per_bits.specs.Sequences.{write_alternative};
 
 use crate::element::Element;
-use bit_streams::{BitReader, BitWriter, PerError, PerFault};
 use per_numbers::{offset_of, put_number};
+use per_streams::{BitReader, BitWriter, PerError, PerFault};
 use std::alloc::Global;
 
 /// The index of an alternative, the last of which has index `last`; an extension bit of 1 is Alternative.

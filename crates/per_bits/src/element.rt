@@ -1,13 +1,13 @@
 //! What has a spelling in bits.
 
 ghost use Rattle.std.specs.Prelude.{◌≡◌};
-ghost use Rattle.bit_streams.specs.Bits.{Place, Gives};
+ghost use Rattle.per_streams.specs.Bits.{Place, Gives};
 ghost use Rattle.per_bits.specs.Formats.{Format, Value};
 ghost use Rattle.per_bits.specs.Reading.{read_at};
 ghost use Rattle.per_bits.specs.Writing.{write_at};
 ghost use Rattle.per_numbers.specs.Writing.{Wrote};
 
-use bit_streams::{BitReader, BitWriter, PerError};
+use per_streams::{BitReader, BitWriter, PerError};
 use std::alloc::Global;
 
 /// A value that is read from bits, of which it may lend octets, and written as bits.

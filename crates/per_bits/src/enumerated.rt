@@ -1,7 +1,7 @@
 //! Spelling of named values (X.691 clause 14).
 
 ghost use Rattle.std.specs.Prelude.{◌≡◌, IfOk, ◌≤◌};
-ghost use Rattle.bit_streams.specs.Bits.{Gives, Answers};
+ghost use Rattle.per_streams.specs.Bits.{Gives, Answers};
 ghost use Rattle.per_bits.specs.Formats.{enumerated};
 ghost use Rattle.per_bits.specs.Reading.{enumerated_at, read_at};
 ghost use Rattle.per_numbers.specs.Reading.{number_at};
@@ -12,8 +12,8 @@ ghost use Rattle.per_bits.specs.Names.{view_of_name, IsName};
 use crate::element::Element;
 use crate::name::Enumerated;
 use crate::open::take_small_number;
-use bit_streams::{BitReader, BitWriter, PerError, PerFault};
 use per_numbers::{offset_of, put_number};
+use per_streams::{BitReader, BitWriter, PerError, PerFault};
 use std::alloc::Global;
 
 /// A name of an extensible ENUMERATED of `LAST + 1` names, else the fault of its first part that has no spelling.

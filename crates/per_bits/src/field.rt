@@ -1,15 +1,15 @@
 //! Bit strings of a fixed length (X.691 clause 16).
 
 ghost use Rattle.std.specs.Prelude.{◌≡◌, ◌<◌, ◌≤◌, ◌^◌, ℕ, List, Bool, min, slice_index_or, true, false, refl};
-ghost use Rattle.bit_streams.specs.Bits.{Gives, Answers, bits, value, aligned_bits_at};
-ghost use Rattle.bit_streams.specs.BitLaws.{value-bits};
+ghost use Rattle.per_streams.specs.Bits.{Gives, Answers, bits, value, aligned_bits_at};
+ghost use Rattle.per_streams.specs.BitLaws.{value-bits};
 ghost use Rattle.per_bits.specs.Reading.{bits_at, read_at};
 ghost use Rattle.per_bits.specs.Formats.{bit_string};
 ghost use Rattle.per_bits.specs.Writing.{write_at, write_bits};
 ghost use Rattle.per_numbers.specs.Writing.{Wrote};
 
 use crate::element::Element;
-use bit_streams::{BitReader, BitWriter, PerError};
+use per_streams::{BitReader, BitWriter, PerError};
 use std::alloc::Global;
 use std::marker::Model;
 
@@ -74,7 +74,7 @@ impl<'a, const N: usize> Element<'a> for BitField<N> {
 
     ghost view = { λ b. b };
 
-    #[tactic(auto, unfolding(crate::specs::Reading::bits_at, bit_streams::specs::Bits::aligned_bits_at))]
+    #[tactic(auto, unfolding(crate::specs::Reading::bits_at, per_streams::specs::Bits::aligned_bits_at))]
     #[inline(always)]
     fn read(_alloc: Global, reader: &mut BitReader<'a>) -> Result<Self, PerError> {
         if N >= 17 {

@@ -1,17 +1,17 @@
 //! Lists of elements.
 
 ghost use Rattle.std.specs.Prelude.{◌≡◌, ◌≤◌, ◌-◌, ◌↔◌, ◌∷◌, [], List, map, length, IsSome, IfSome, IfOk, IsTrue, slice_get, option_copied};
-ghost use Rattle.bit_streams.specs.Bits.{Place, Gives};
+ghost use Rattle.per_streams.specs.Bits.{Place, Gives};
 ghost use Rattle.per_bits.specs.Formats.{Format, Value, items};
 ghost use Rattle.per_bits.specs.Reading.{read_at};
 ghost use Rattle.per_numbers.specs.Reading.{number_at};
-ghost use Rattle.bit_streams.specs.Each.{times};
+ghost use Rattle.per_streams.specs.Each.{times};
 ghost use Rattle.per_bits.specs.Writing.{write_at, write_each};
 ghost use Rattle.per_numbers.specs.Writing.{Wrote, write_number};
 
 use crate::element::Element;
-use bit_streams::{BitReader, BitWriter, PerError};
 use per_numbers::{offset_of, put_number};
+use per_streams::{BitReader, BitWriter, PerError};
 use std::alloc::{AllocError, Global};
 use std::marker::Model;
 

@@ -1,8 +1,8 @@
 //! Laws of every format.
 
 ghost use Rattle.std.specs.Prelude.{◌≡◌, ◌++◌, ℕ, Bool, List, length, Ok, Err};
-ghost use Rattle.bit_streams.specs.declared.fault.PerFault.{PerFault};
-ghost use Rattle.bit_streams.specs.declared.fault.PerFault.TheVariants.{Range};
+ghost use Rattle.per_streams.specs.declared.fault.PerFault.{PerFault};
+ghost use Rattle.per_streams.specs.declared.fault.PerFault.TheVariants.{Range};
 ghost use Rattle.per_bits.specs.Written.{IsWritable, written};
 ghost use Rattle.per_bits.specs.Writing.{write_at, complete_write};
 ghost use Rattle.per_bits.specs.Formats.{Format, Value};

@@ -17,7 +17,6 @@ mod strings;
 mod whole;
 mod wrapped;
 
-pub use bit_streams::{BitReader, BitWriter, PerError, PerFault};
 pub use bit_string::BitString;
 pub use choice::{put_choice, take_choice, write_choice};
 pub use element::Element;
@@ -32,6 +31,7 @@ pub use open::{
     write_complete, write_open,
 };
 pub use per_numbers::{Whole, offset_of, put_number};
+pub use per_streams::{BitReader, BitWriter, PerError, PerFault};
 pub use sequence::{
     put_flags, put_three_flags, read_pair, read_three, read_two, skip_later, take_flags,
     take_three_flags,

@@ -1,15 +1,15 @@
 //! Octet strings of a fixed length (X.691 clause 17).
 
 ghost use Rattle.std.specs.Prelude.{◌≡◌, ℕ, List, length, true};
-ghost use Rattle.bit_streams.specs.Octet.{AreBytes, all_below};
-ghost use Rattle.bit_streams.specs.Bits.{Gives};
+ghost use Rattle.per_streams.specs.Octet.{AreBytes, all_below};
+ghost use Rattle.per_streams.specs.Bits.{Gives};
 ghost use Rattle.per_bits.specs.Reading.{octets_at, read_at};
 ghost use Rattle.per_bits.specs.Formats.{octets};
 ghost use Rattle.per_bits.specs.Writing.{write_at, write_octets};
 ghost use Rattle.per_numbers.specs.Writing.{Wrote};
 
 use crate::element::Element;
-use bit_streams::{BitReader, BitWriter, PerError};
+use per_streams::{BitReader, BitWriter, PerError};
 use std::alloc::Global;
 use std::marker::Model;
 
@@ -58,7 +58,7 @@ impl<'a, const N: usize> Element<'a> for Octets<N> {
 
     ghost view = { λ o. o };
 
-    #[tactic(auto, unfolding(crate::specs::Reading::octets_at, bit_streams::specs::Bits::aligned_octets_at))]
+    #[tactic(auto, unfolding(crate::specs::Reading::octets_at, per_streams::specs::Bits::aligned_octets_at))]
     #[inline(always)]
     fn read(_alloc: Global, reader: &mut BitReader<'a>) -> Result<Self, PerError> {
         let mut octets = [0; N];

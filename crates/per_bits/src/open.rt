@@ -1,7 +1,7 @@
 //! Lengths without a bound, and open types.
 
 ghost use Rattle.std.specs.Prelude.{◌≡◌, ◌<◌, ◌^◌, ◌≤◌, ◌+◌, ◌*◌, length, map, IfOk};
-ghost use Rattle.bit_streams.specs.Bits.{Answers, Gives, length_at, open_at, number_bits_at};
+ghost use Rattle.per_streams.specs.Bits.{Answers, Gives, length_at, open_at, number_bits_at};
 ghost use Rattle.per_bits.specs.Formats.{open_type};
 ghost use Rattle.per_bits.specs.Reading.{read_at, whole_at, small_number_at, complete_at, GivesWhole, inside_at};
 ghost use Rattle.per_bits.specs.Spelling.{length_octets};
@@ -9,8 +9,8 @@ ghost use Rattle.per_bits.specs.Writing.{count_behind, write_at, write_length, w
 ghost use Rattle.per_numbers.specs.Writing.{Wrote};
 
 use crate::element::Element;
-use bit_streams::{BitReader, BitWriter, PerError, PerFault};
 use per_numbers::offset_of;
+use per_streams::{BitReader, BitWriter, PerError, PerFault};
 use std::alloc::Global;
 
 // A length below 128 is one octet; one below 16384 is two, the first of them 128 to 191; more comes in fragments (X.691 clause 11.9).
@@ -26,7 +26,7 @@ const FRAGMENT_FIRST: u8 = 192;
 const SHORT_VALUE: usize = 64;
 
 /// Reads a length without a bound, below 16384 (X.691 clause 11.9); NotFewest for one below 128 in two octets, Fragmented for more.
-#[tactic(auto, unfolding(bit_streams::specs::Bits::length_at))]
+#[tactic(auto, unfolding(per_streams::specs::Bits::length_at))]
 #[inline(always)]
 pub fn take_length(reader: &mut BitReader) -> Result<usize, PerFault>
     ensures { Answers (λ n. n) result reader.new (length_at reader.old) }
@@ -48,7 +48,7 @@ pub fn take_length(reader: &mut BitReader) -> Result<usize, PerFault>
 }
 
 /// Reads the octets of an open type (X.691 clause 11.2), lent by the encoding; longer than what is left is Truncated.
-#[tactic(auto, unfolding(bit_streams::specs::Bits::open_at))]
+#[tactic(auto, unfolding(per_streams::specs::Bits::open_at))]
 #[inline(always)]
 pub fn take_open<'a>(reader: &mut BitReader<'a>) -> Result<&'a [u8], PerFault>
     ensures { Answers (λ s. s.now) result reader.new (open_at reader.old) }

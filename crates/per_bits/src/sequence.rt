@@ -2,20 +2,20 @@
 //! which is not kept.
 
 ghost use Rattle.std.specs.Prelude.{◌≡◌, ◌++◌, ◌∷◌, [], Err, OnOk, OnErr, false};
-ghost use Rattle.bit_streams.specs.declared.fault.PerError.TheVariants.{NoMemory};
-ghost use Rattle.bit_streams.specs.Bits.{Gives, Answers, bit_at};
-ghost use Rattle.bit_streams.specs.Each.{times};
+ghost use Rattle.per_streams.specs.declared.fault.PerError.TheVariants.{NoMemory};
+ghost use Rattle.per_streams.specs.Bits.{Gives, Answers, bit_at};
+ghost use Rattle.per_streams.specs.Each.{times};
 ghost use Rattle.per_bits.specs.Reading.{read_at, fields_at};
 ghost use Rattle.per_bits.specs.Formats.{sequence, must, skip, done, extensions};
 ghost use Rattle.per_bits.specs.Sequences.{later_at};
 
 use crate::element::Element;
 use crate::skips::{skip_additions, skip_extensions};
-use bit_streams::{BitReader, BitWriter, PerError, PerFault};
+use per_streams::{BitReader, BitWriter, PerError, PerFault};
 use std::alloc::Global;
 
 /// The extension bit of a SEQUENCE, and the presence bit of its iE-Extensions.
-#[tactic(auto, unfolding(bit_streams::specs::Each::times))]
+#[tactic(auto, unfolding(per_streams::specs::Each::times))]
 pub fn take_flags(reader: &mut BitReader) -> Result<(bool, bool), PerFault>
     ensures { Answers (λ f. f.0 ∷ f.1 ∷ []) result reader.new (times bit_at 2 reader.old) }
 {
@@ -25,7 +25,7 @@ pub fn take_flags(reader: &mut BitReader) -> Result<(bool, bool), PerFault>
 }
 
 /// The same where one other part may lack, whose presence bit stands between.
-#[tactic(auto, unfolding(bit_streams::specs::Each::times))]
+#[tactic(auto, unfolding(per_streams::specs::Each::times))]
 pub fn take_three_flags(reader: &mut BitReader) -> Result<(bool, bool, bool), PerFault>
     ensures { Answers (λ f. f.0 ∷ f.1 ∷ f.2 ∷ []) result reader.new (times bit_at 3 reader.old) }
 {

@@ -1,17 +1,17 @@
 //! What may stand in an encoding and is not kept: extension additions (X.691 clause 19.7) and iE-Extensions (TS 36.413 clause 9.3.7).
 
 ghost use Rattle.std.specs.Prelude.{◌≡◌, ◌+◌, ◌≤◌, true};
-ghost use Rattle.bit_streams.specs.Bits.{Answers, Gives, bit_at, open_at};
+ghost use Rattle.per_streams.specs.Bits.{Answers, Gives, bit_at, open_at};
 ghost use Rattle.per_bits.specs.Reading.{skipped_at, additions_at, read_at, Counts};
 ghost use Rattle.per_numbers.specs.Reading.{number_at};
-ghost use Rattle.bit_streams.specs.Each.{times};
+ghost use Rattle.per_streams.specs.Each.{times};
 ghost use Rattle.per_bits.specs.Formats.{extensions, raw};
 ghost use Rattle.per_bits.specs.Spelling.{trues};
 
 use crate::open::{take_open, take_small_number};
 use crate::wrapped::{GREATEST_ID, LAST_CRITICALITY};
-use bit_streams::{BitReader, PerFault};
 use per_numbers::offset_of;
+use per_streams::{BitReader, PerFault};
 
 // The most iE-Extensions of a SEQUENCE (TS 36.413 clause 9.3.7).
 const MOST_EXTENSIONS: u64 = 65535;
@@ -84,7 +84,7 @@ fn pass_raw(count: u64, reader: &mut BitReader) -> Result<(), PerFault>
     Ok(())
 }
 
-#[tactic(auto, unfolding(per_numbers::specs::Reading::number_at, bit_streams::specs::Each::times))]
+#[tactic(auto, unfolding(per_numbers::specs::Reading::number_at, per_streams::specs::Each::times))]
 fn pass_one(reader: &mut BitReader) -> Result<(), PerFault>
     ensures { Answers (λ _. tt) result reader.new (skipped_at true (read_at raw) reader.old) }
 {

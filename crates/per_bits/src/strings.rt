@@ -1,7 +1,7 @@
 //! Octet strings that are lent by the encoding (X.691 clauses 17 and 30).
 
 ghost use Rattle.std.specs.Prelude.{◌≡◌, length, OnOk, ◌<◌};
-ghost use Rattle.bit_streams.specs.Bits.{Gives};
+ghost use Rattle.per_streams.specs.Bits.{Gives};
 ghost use Rattle.per_bits.specs.Formats.{octet_string, octets_between};
 ghost use Rattle.per_bits.specs.Reading.{between_at, read_at};
 ghost use Rattle.per_numbers.specs.Reading.{number_at};
@@ -10,8 +10,8 @@ ghost use Rattle.per_numbers.specs.Writing.{Wrote};
 
 use crate::element::Element;
 use crate::open::{put_length, take_open};
-use bit_streams::{BitReader, BitWriter, PerError, PerFault};
 use per_numbers::{offset_of, put_number};
+use per_streams::{BitReader, BitWriter, PerError, PerFault};
 use std::alloc::Global;
 
 /// Up to 16383 octets behind their length, lent by the encoding (X.691 clause 17.8).

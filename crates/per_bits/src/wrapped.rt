@@ -1,18 +1,18 @@
 //! Values behind an extension bit or an element's head, and values that may lack.
 
 ghost use Rattle.std.specs.Prelude.{◌≡◌, option_map};
-ghost use Rattle.bit_streams.specs.Bits.{Gives};
+ghost use Rattle.per_streams.specs.Bits.{Gives};
 ghost use Rattle.per_bits.specs.Formats.{closed, item};
 ghost use Rattle.per_bits.specs.Reading.{read_at, optional_at};
 ghost use Rattle.per_numbers.specs.Reading.{number_at};
-ghost use Rattle.bit_streams.specs.Each.{times};
+ghost use Rattle.per_streams.specs.Each.{times};
 ghost use Rattle.per_bits.specs.Writing.{write_at, write_optional};
 ghost use Rattle.per_numbers.specs.Writing.{Wrote};
 
 use crate::element::Element;
 use crate::open::{read_open, write_open};
-use bit_streams::{BitReader, BitWriter, PerError, PerFault};
 use per_numbers::{offset_of, put_number};
+use per_streams::{BitReader, BitWriter, PerError, PerFault};
 use std::alloc::Global;
 
 /// The greatest id of an element (TS 36.413 clause 9.3.7).
@@ -59,7 +59,7 @@ impl<'a, T: Element<'a>, const ID: u64, const CRITICALITY: u64> Element<'a>
 
     ghost view = { λ c. (T.view c.value, tt) };
 
-    #[tactic(auto, unfolding(per_numbers::specs::Reading::number_at, bit_streams::specs::Each::times))]
+    #[tactic(auto, unfolding(per_numbers::specs::Reading::number_at, per_streams::specs::Each::times))]
     fn read(alloc: Global, reader: &mut BitReader<'a>) -> Result<Self, PerError> {
         let id = offset_of(GREATEST_ID, reader)?;
         if id != ID {

@@ -1,6 +1,6 @@
 -- Whole numbers of a range as bits (X.691 clause 11.5).
 use Rattle.std.specs.Prelude.{ℕ, ◌+◌, ◌-◌, ◌*◌, ◌^◌, Bool, if◌then◌else◌, nat_lt, List, ◌++◌, length}
-use Rattle.bit_streams.specs.Bits.{bits, pad}
+use Rattle.per_streams.specs.Bits.{bits, pad}
 
 -- the least number of bits that holds a number below 256
 unfoldable pub width_of : ℕ → ℕ

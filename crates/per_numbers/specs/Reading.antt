@@ -1,8 +1,8 @@
 -- Reading whole numbers: what is spelled is answered, and else the fault.
 use Rattle.std.specs.Prelude.{ℕ, ◌+◌, ◌-◌, ◌*◌, if◌then◌else◌, nat_le, nat_lt, ◌==◌, Result, Ok, Err}
-use Rattle.bit_streams.specs.declared.fault.PerFault.{PerFault}
-use Rattle.bit_streams.specs.declared.fault.PerFault.TheVariants.{Range, NotFewest}
-use Rattle.bit_streams.specs.Bits.{value, Place, ◌>>=◌, take_at, align_at}
+use Rattle.per_streams.specs.declared.fault.PerFault.{PerFault}
+use Rattle.per_streams.specs.declared.fault.PerFault.TheVariants.{Range, NotFewest}
+use Rattle.per_streams.specs.Bits.{value, Place, ◌>>=◌, take_at, align_at}
 use Rattle.per_numbers.specs.Numbers.{width_of, octets_for}
 
 unfoldable pub small_at : ℕ → ℕ → Place → Result (ℕ × Place) PerFault

@@ -1,9 +1,9 @@
 -- Writing whole numbers behind the bits so far.
 use Rattle.std.specs.Prelude.{◌≡◌, ℕ, ◌-◌, ◌^◌, ◌&&◌, Bool, if◌then◌else◌, nat_le, nat_lt, List, ◌++◌, length, Result, Ok, Err}
-use Rattle.bit_streams.specs.declared.fault.PerFault.{PerFault}
-use Rattle.bit_streams.specs.declared.fault.PerFault.TheVariants.{Range}
-use Rattle.bit_streams.specs.declared.fault.PerError.{PerError}
-use Rattle.bit_streams.specs.Bits.{Fails}
+use Rattle.per_streams.specs.declared.fault.PerFault.{PerFault}
+use Rattle.per_streams.specs.declared.fault.PerFault.TheVariants.{Range}
+use Rattle.per_streams.specs.declared.fault.PerError.{PerError}
+use Rattle.per_streams.specs.Bits.{Fails}
 use Rattle.per_numbers.specs.Numbers.{whole}
 
 -- What a function returned, and what it left, is what writing gives, unless memory ran out.

@@ -1,12 +1,12 @@
 //! Whole numbers in a range.
 
 ghost use Rattle.std.specs.Prelude.{ℕ, ◌↔◌, IsSome, IfSome, ◌≡◌, ◌≤◌, ◌<◌, ◌^◌, ◌*◌, ◌-◌, ◌+◌, ◌++◌, length, Ok, IfOk};
-ghost use Rattle.bit_streams.specs.Bits.{Answers, bits, pad, number_bits_at};
+ghost use Rattle.per_streams.specs.Bits.{Answers, bits, pad, number_bits_at};
 ghost use Rattle.per_numbers.specs.Reading.{number_at, offset_at, small_at, aligned_small_at, large_at};
 ghost use Rattle.per_numbers.specs.Numbers.{width_of, octets_for, offset_bits};
 ghost use Rattle.per_numbers.specs.Writing.{write_number, Wrote};
 
-use bit_streams::{BitReader, BitWriter, PerError, PerFault};
+use per_streams::{BitReader, BitWriter, PerError, PerFault};
 use std::marker::Model;
 
 /// A whole number from `LO` to `HI` (X.691 clauses 11.5 and 13); a contract sees the number.

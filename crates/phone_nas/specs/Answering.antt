@@ -55,7 +55,7 @@ plain_saying card r (emm.AuthenticationRequest m) = challenge_saying (vector_wit
 plain_saying card r emm.IdentityRequest = record { octets = Some (identity_octets_of (identity.Imsi card.imsi)); registration = r }
 plain_saying card r emm.AuthenticationReject = silent unregistered
 plain_saying card r (emm.AttachReject m) = silent unregistered
-plain_saying card r (emm.AreaUpdateReject cause) = silent unregistered
+plain_saying card r (emm.TrackingAreaUpdateReject cause) = silent unregistered
 plain_saying card r (emm.ServiceReject cause) = silent unregistered
 plain_saying card r emm.DetachAccept = silent unregistered
 plain_saying card r _ = silent r
@@ -77,7 +77,7 @@ esm_saying r c (Err fault) = silent (with_context r c)
 
 abbrev pub mobility_saying : Card → Registration → PhoneContextView → Emm (List ℕ) → Spoken
 mobility_saying card r c (emm.AttachAccept m) = protected_saying (with_given_guti r m.guti) c IntegrityProtected attach_complete_octets
-mobility_saying card r c (emm.AreaUpdateAccept m) = protected_saying (with_given_guti r m.guti) c IntegrityProtected update_complete_octets
+mobility_saying card r c (emm.TrackingAreaUpdateAccept m) = protected_saying (with_given_guti r m.guti) c IntegrityProtected update_complete_octets
 mobility_saying card r c emm.NetworkDetach = leaving (protected_saying r c IntegrityProtected detach_accept_octets)
 mobility_saying card r c m = plain_saying card (with_context r c) m
 

@@ -40,7 +40,7 @@ foreign_guti = record { plmn = record { octets = 0x02 ∷ 0xf8 ∷ 0x39 ∷ [] }
 
 -- TRACKING AREA UPDATE REQUEST, a TA updating
 unfoldable pub update_octets : ℕ → Guti → List ℕ
-update_octets ksi guti = encoded_emm (emm.AreaUpdateRequest (record { update_type = 0; active = false; ksi = ksi; guti = guti }))
+update_octets ksi guti = encoded_emm (emm.TrackingAreaUpdateRequest (record { update_type = 0; active = false; ksi = ksi; guti = guti }))
 
 -- DETACH REQUEST, an EPS detach
 unfoldable pub detach_octets : MobileIdentity → Bool → ℕ → List ℕ
@@ -64,7 +64,7 @@ unfoldable pub attach_complete_octets : List ℕ
 attach_complete_octets = encoded_emm (emm.AttachComplete (encoded_esm (record { bearer = 5; transaction = 0; body = esm.ActivateAccept })))
 
 unfoldable pub update_complete_octets : List ℕ
-update_complete_octets = encoded_emm emm.AreaUpdateComplete
+update_complete_octets = encoded_emm emm.TrackingAreaUpdateComplete
 
 unfoldable pub detach_accept_octets : List ℕ
 detach_accept_octets = encoded_emm emm.DetachAccept

@@ -95,7 +95,7 @@ fn plain_saying(
         }),
         Emm::AuthenticationReject
         | Emm::AttachReject(_)
-        | Emm::AreaUpdateReject { .. }
+        | Emm::TrackingAreaUpdateReject { .. }
         | Emm::ServiceReject { .. }
         | Emm::DetachAccept => Ok(Saying::nothing(Registration::none())),
         _ => Ok(Saying::nothing(registration)),
@@ -167,7 +167,7 @@ fn mobility_saying(
             let given = with_given_guti(registration, m.guti);
             protected_saying(alloc, given, context, header, &complete)
         }
-        Emm::AreaUpdateAccept(m) => {
+        Emm::TrackingAreaUpdateAccept(m) => {
             let complete = area_update_complete(alloc)?;
             let given = with_given_guti(registration, m.guti);
             protected_saying(alloc, given, context, header, &complete)

@@ -8,8 +8,8 @@ ghost use Rattle.phone_nas.specs.Messages.{attach_complete_octets, attach_octets
 
 use nas_elements::{Guti, Imsi, MobileIdentity, Plmn};
 use nas_messages::{
-    AreaUpdateRequest, AttachRequest, DetachRequest, Emm, EmmMessage, Esm, EsmBody, EsmMessage,
-    encode_emm, encode_esm,
+    AttachRequest, DetachRequest, Emm, EmmMessage, Esm, EsmBody, EsmMessage,
+    TrackingAreaUpdateRequest, encode_emm, encode_esm,
 };
 use std::alloc::{AllocError, Global};
 
@@ -143,7 +143,7 @@ pub(crate) fn area_update_request(alloc: Global, ksi: u8, guti: Guti) -> Encoded
     ensures { IfOk result (λ o. o.items ≡ update_octets ksi guti) }
 {
     let lent = Lent {
-        message: Emm::AreaUpdateRequest(AreaUpdateRequest {
+        message: Emm::TrackingAreaUpdateRequest(TrackingAreaUpdateRequest {
             update_type: TA_UPDATING,
             active: false,
             ksi,
@@ -248,7 +248,7 @@ pub(crate) fn area_update_complete(alloc: Global) -> Encoded
     ensures { IfOk result (λ o. o.items ≡ update_complete_octets) }
 {
     let lent = Lent {
-        message: Emm::AreaUpdateComplete,
+        message: Emm::TrackingAreaUpdateComplete,
     };
     encode_emm(alloc, &lent.message)
 }

@@ -93,10 +93,10 @@ abbrev pub named_cn_domain : Value cn_domain → CnDomain
 named_cn_domain n = get_or (Ps ∷ Cs ∷ []) n Ps
 
 abbrev pub typed_ue_id_pair : UeIdPair → Value ue_id_pair
-typed_ue_id_pair p = (p.mme_id, (p.enb_id, tt))
+typed_ue_id_pair p = (p.mme_ue_id, (p.enb_ue_id, tt))
 
 abbrev pub named_ue_id_pair : Value ue_id_pair → UeIdPair
-named_ue_id_pair v = record { mme_id = v.0; enb_id = v.1.0 }
+named_ue_id_pair v = record { mme_ue_id = v.0; enb_ue_id = v.1.0 }
 
 abbrev pub typed_ue_s1ap_ids : UeS1apIds → Value ue_s1ap_ids
 typed_ue_s1ap_ids (Pair p) = left_of (typed_ue_id_pair p)
@@ -127,10 +127,10 @@ named_reset_all (inl n) = get_or (reset.ResetAll ∷ []) n reset.ResetAll
 named_reset_all (inr n) = reset.Extended n
 
 abbrev pub typed_listed_association : ListedAssociation → Value listed_association
-typed_listed_association a = (a.mme_id, (a.enb_id, tt))
+typed_listed_association a = (a.mme_ue_id, (a.enb_ue_id, tt))
 
 abbrev pub named_listed_association : Value listed_association → ListedAssociation
-named_listed_association v = record { mme_id = v.0; enb_id = v.1.0 }
+named_listed_association v = record { mme_ue_id = v.0; enb_ue_id = v.1.0 }
 
 abbrev pub typed_associations_to_reset : List (Listed ListedAssociation 91 0) → Value associations_to_reset
 typed_associations_to_reset xs = map (λ a. (typed_listed_association a.value, tt)) xs

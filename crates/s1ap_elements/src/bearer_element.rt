@@ -1,7 +1,7 @@
 //! What is told of radio access bearers, read and written.
 
 ghost use Rattle.std.specs.Prelude.{◌≡◌, ◌∷◌, [], option_map};
-ghost use Rattle.bit_streams.specs.Bits.{Gives};
+ghost use Rattle.per_streams.specs.Bits.{Gives};
 ghost use Rattle.per_bits.specs.Formats.{octet_string};
 ghost use Rattle.per_bits.specs.Reading.{read_at, fields_at, skipped_at, optional_at};
 ghost use Rattle.per_bits.specs.Writing.{write_at, write_fields, write_optional};

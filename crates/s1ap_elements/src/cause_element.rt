@@ -1,7 +1,7 @@
 //! Causes read and written.
 
 ghost use Rattle.std.specs.Prelude.{◌≡◌};
-ghost use Rattle.bit_streams.specs.Bits.{Gives};
+ghost use Rattle.per_streams.specs.Bits.{Gives};
 ghost use Rattle.per_bits.specs.Reading.{read_at};
 ghost use Rattle.per_bits.specs.Formats.{enumerated};
 ghost use Rattle.per_bits.specs.Writing.{write_at};

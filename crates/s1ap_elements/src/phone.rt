@@ -63,8 +63,8 @@ pub enum CnDomain {
 /// Both numbers of an association (TS 36.413 clause 9.2.3.18).
 #[derive(Clone, Copy, PartialEq, Eq)]
 pub struct UeIdPair {
-    pub mme_id: MmeUeId,
-    pub enb_id: EnbUeId,
+    pub mme_ue_id: MmeUeId,
+    pub enb_ue_id: EnbUeId,
 }
 
 /// The numbers of an association that are known (TS 36.413 clause 9.2.3.18).
@@ -99,8 +99,8 @@ pub enum ResetAll {
 /// An association by those of its numbers that are given (TS 36.413 clauses 9.1.8.1 and 9.1.8.2).
 #[derive(Clone, Copy)]
 pub struct ListedAssociation {
-    pub mme_id: Option<MmeUeId>,
-    pub enb_id: Option<EnbUeId>,
+    pub mme_ue_id: Option<MmeUeId>,
+    pub enb_ue_id: Option<EnbUeId>,
 }
 
 /// Associations that are to be set back: elements 91, marked reject.

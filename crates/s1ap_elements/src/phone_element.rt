@@ -1,8 +1,8 @@
 //! What tells phones apart, and what is told of them, read and written.
 
 ghost use Rattle.std.specs.Prelude.{◌≡◌, ◌∷◌, []};
-ghost use Rattle.bit_streams.specs.Bits.{Answers, Gives, bit_at};
-ghost use Rattle.bit_streams.specs.Each.{times};
+ghost use Rattle.per_streams.specs.Bits.{Answers, Gives, bit_at};
+ghost use Rattle.per_streams.specs.Each.{times};
 ghost use Rattle.per_bits.specs.Reading.{read_at};
 ghost use Rattle.per_bits.specs.Writing.{write_at};
 ghost use Rattle.per_numbers.specs.Writing.{Wrote};
@@ -104,15 +104,18 @@ impl<'a> Element<'a> for UeIdPair {
 
     fn read(alloc: Global, reader: &mut BitReader<'a>) -> Result<Self, PerError> {
         match read_two::<MmeUeId, EnbUeId>(alloc, reader) {
-            Ok((mme_id, enb_id)) => Ok(UeIdPair { mme_id, enb_id }),
+            Ok((mme_ue_id, enb_ue_id)) => Ok(UeIdPair {
+                mme_ue_id,
+                enb_ue_id,
+            }),
             Err(error) => Err(error),
         }
     }
 
     fn write(&self, alloc: Global, writer: &mut BitWriter) -> Result<(), PerError> {
         put_flags(writer)?;
-        self.mme_id.write(alloc, writer)?;
-        self.enb_id.write(alloc, writer)
+        self.mme_ue_id.write(alloc, writer)?;
+        self.enb_ue_id.write(alloc, writer)
     }
 }
 
@@ -205,7 +208,7 @@ impl<'a> Element<'a> for UeS1apIds {
     fn write(&self, alloc: Global, writer: &mut BitWriter) -> Result<(), PerError> {
         match self {
             UeS1apIds::Pair(pair) => write_choice(1, 0, pair, alloc, writer),
-            UeS1apIds::MmeUeId(mme_id) => write_choice(1, 1, mme_id, alloc, writer),
+            UeS1apIds::MmeUeId(mme_ue_id) => write_choice(1, 1, mme_ue_id, alloc, writer),
         }
     }
 }
@@ -276,7 +279,7 @@ impl<'a> Element<'a> for CnDomain {
 }
 
 // The presence bits of a SEQUENCE two parts of which may lack.
-#[tactic(auto, unfolding(bit_streams::specs::Each::times))]
+#[tactic(auto, unfolding(per_streams::specs::Each::times))]
 fn take_four_flags(reader: &mut BitReader) -> Result<(bool, bool, bool, bool), PerFault>
     ensures { Answers (λ f. f.0 ∷ f.1 ∷ f.2 ∷ f.3 ∷ []) result reader.new (times bit_at 4 reader.old) }
 {
@@ -291,20 +294,23 @@ impl<'a> Element<'a> for ListedAssociation {
     ghost view = { typed_listed_association };
 
     fn read(alloc: Global, reader: &mut BitReader<'a>) -> Result<Self, PerError> {
-        let (extended, has_mme_id, has_enb_id, more) = take_four_flags(reader)?;
-        let mme_id = read_optional::<MmeUeId>(alloc, has_mme_id, reader)?;
-        let enb_id = read_optional::<EnbUeId>(alloc, has_enb_id, reader)?;
+        let (extended, has_mme_ue_id, has_enb_ue_id, more) = take_four_flags(reader)?;
+        let mme_ue_id = read_optional::<MmeUeId>(alloc, has_mme_ue_id, reader)?;
+        let enb_ue_id = read_optional::<EnbUeId>(alloc, has_enb_ue_id, reader)?;
         skip_later(extended, more, reader)?;
-        Ok(ListedAssociation { mme_id, enb_id })
+        Ok(ListedAssociation {
+            mme_ue_id,
+            enb_ue_id,
+        })
     }
 
     fn write(&self, alloc: Global, writer: &mut BitWriter) -> Result<(), PerError> {
         writer.put_bit(false)?;
-        writer.put_bit(self.mme_id.is_some())?;
-        writer.put_bit(self.enb_id.is_some())?;
+        writer.put_bit(self.mme_ue_id.is_some())?;
+        writer.put_bit(self.enb_ue_id.is_some())?;
         writer.put_bit(false)?;
-        put_optional(alloc, &self.mme_id, writer)?;
-        put_optional(alloc, &self.enb_id, writer)
+        put_optional(alloc, &self.mme_ue_id, writer)?;
+        put_optional(alloc, &self.enb_ue_id, writer)
     }
 }
 

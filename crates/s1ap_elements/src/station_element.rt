@@ -1,7 +1,7 @@
 //! What stations and MMEs tell of themselves, read and written.
 
 ghost use Rattle.std.specs.Prelude.{◌≡◌};
-ghost use Rattle.bit_streams.specs.Bits.{Gives};
+ghost use Rattle.per_streams.specs.Bits.{Gives};
 ghost use Rattle.per_bits.specs.Reading.{read_at};
 ghost use Rattle.per_bits.specs.Writing.{write_at};
 ghost use Rattle.per_numbers.specs.Writing.{Wrote};

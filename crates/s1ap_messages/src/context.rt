@@ -1,128 +1,126 @@
-//! Messages by which associations begin and end.
-#![tactic(auto, unfolding(crate::specs::Typed::encode_typed))]
+//! Reading messages by which associations begin and end.
 
-ghost use Rattle.per_bits.specs.Reading.{GivesWhole};
-ghost use Rattle.s1ap_messages.specs.Pdus.{context_setup_request_lists, typed_context_setup_request, typed_context_setup_response, typed_context_setup_failure, typed_release_request, typed_release_command, typed_release_complete};
-ghost use Rattle.s1ap_messages.specs.Typed.{encode_typed, typed_of};
-ghost use Rattle.s1ap_messages.specs.declared.message_type.MessageType.TheVariants as message;
+ghost use Rattle.s1ap_rows.specs.Answers.{Answers};
+ghost use Rattle.s1ap_pdus.specs.Pdus.{lists, typed};
+ghost use Rattle.s1ap_pdus.specs.declared.message_type.MessageType.TheVariants as message;
+ghost use Rattle.s1ap_pdus.specs.Typed.{read_typed};
 
-use crate::message_type::MessageType;
-use crate::octets::octets_of;
-use crate::pdu::{
-    ContextSetupFailure, ContextSetupRequest, ContextSetupResponse, Encoded, ReleaseCommand,
-    ReleaseComplete, ReleaseRequest,
+use crate::answer::Decoded;
+use s1ap_pdus::rows::{
+    InitialContextSetupFailureRows, InitialContextSetupRequestRows,
+    InitialContextSetupResponseRows, UeContextReleaseCommandRows, UeContextReleaseCompleteRows,
+    UeContextReleaseRequestRows,
 };
-use s1ap_elements::{
-    Ambr, Cause, EnbUeId, ErabsSetup, ErabsToBeSetup, MmeUeId, SecurityCapabilities, SecurityKey,
-    UeS1apIds,
+use s1ap_pdus::{
+    InitialContextSetupFailure, InitialContextSetupRequest, InitialContextSetupResponse, Pdu,
+    UeContextReleaseCommand, UeContextReleaseComplete, UeContextReleaseRequest,
 };
-use s1ap_rows::{IGNORE, Needed, REJECT, SixRows, ThreeRows, TwoRows};
+use s1ap_rows::read_message;
 use std::alloc::Global;
 
-/// The rows of INITIAL CONTEXT SETUP REQUEST (TS 36.413 clause 9.1.4.1).
-pub type ContextSetupRequestRows<'a> = SixRows<
-    Needed<0, REJECT, MmeUeId>,
-    Needed<8, REJECT, EnbUeId>,
-    Needed<66, REJECT, Ambr>,
-    Needed<24, REJECT, ErabsToBeSetup<'a, &'a [u8]>>,
-    Needed<107, REJECT, SecurityCapabilities>,
-    Needed<73, REJECT, SecurityKey>,
->;
-
-/// The octets of INITIAL CONTEXT SETUP REQUEST (TS 36.413 clause 9.1.4.1).
-#[tactic(auto, using(s1ap_elements::specs::BearerLaws::erabs_seen), unfolding(crate::specs::Typed::encode_typed))]
-pub fn write_context_setup_request(alloc: Global, m: &ContextSetupRequest<&[u8]>) -> Encoded
-    ensures { GivesWhole (λ v. v.items) result
-        (encode_typed (typed_of message.ContextSetupRequest (typed_context_setup_request (context_setup_request_lists m.now)))) }
+/// Reads INITIAL CONTEXT SETUP REQUEST from the octets of its elements (TS 36.413 clause 9.1.4.1).
+#[tactic(auto, using(s1ap_elements::specs::BearerLaws::erabs_seen), unfolding(s1ap_pdus::specs::Typed::read_typed))]
+#[inline(never)]
+pub fn read_context_setup_request<'a>(alloc: Global, octets: &'a [u8]) -> Decoded<'a>
+    ensures { Answers (λ m. typed (lists m)) result (read_typed message.InitialContextSetupRequest octets.now) }
 {
-    octets_of::<ContextSetupRequestRows>(
-        alloc,
-        MessageType::ContextSetupRequest,
-        &lent!(
-            &m.mme_id,
-            &m.enb_id,
-            &m.ambr,
-            &m.erabs,
-            &m.capabilities,
-            &m.key
+    match read_message::<InitialContextSetupRequestRows>(alloc, octets) {
+        Ok(elements!(mme_ue_id, enb_ue_id, ambr, erabs, capabilities, key)) => Ok(
+            Pdu::InitialContextSetupRequest(InitialContextSetupRequest {
+                mme_ue_id,
+                enb_ue_id,
+                ambr,
+                erabs,
+                capabilities,
+                key,
+            }),
         ),
-    )
+        Err(fault) => Err(fault),
+    }
 }
 
-/// The rows of INITIAL CONTEXT SETUP RESPONSE (TS 36.413 clause 9.1.4.3).
-pub type ContextSetupResponseRows<'a> = ThreeRows<
-    Needed<0, IGNORE, MmeUeId>,
-    Needed<8, IGNORE, EnbUeId>,
-    Needed<51, IGNORE, ErabsSetup<'a>>,
->;
-
-/// The octets of INITIAL CONTEXT SETUP RESPONSE (TS 36.413 clause 9.1.4.3).
-pub fn write_context_setup_response(alloc: Global, m: &ContextSetupResponse) -> Encoded
-    ensures { GivesWhole (λ v. v.items) result (encode_typed (typed_of message.ContextSetupResponse (typed_context_setup_response m.now))) }
+/// Reads INITIAL CONTEXT SETUP RESPONSE from the octets of its elements (TS 36.413 clause 9.1.4.3).
+#[tactic(auto, unfolding(s1ap_pdus::specs::Typed::read_typed))]
+#[inline(never)]
+pub fn read_context_setup_response<'a>(alloc: Global, octets: &'a [u8]) -> Decoded<'a>
+    ensures { Answers (λ m. typed (lists m)) result (read_typed message.InitialContextSetupResponse octets.now) }
 {
-    octets_of::<ContextSetupResponseRows>(
-        alloc,
-        MessageType::ContextSetupResponse,
-        &lent!(&m.mme_id, &m.enb_id, &m.erabs),
-    )
+    match read_message::<InitialContextSetupResponseRows>(alloc, octets) {
+        Ok(elements!(mme_ue_id, enb_ue_id, erabs)) => Ok(Pdu::InitialContextSetupResponse(
+            InitialContextSetupResponse {
+                mme_ue_id,
+                enb_ue_id,
+                erabs,
+            },
+        )),
+        Err(fault) => Err(fault),
+    }
 }
 
-/// The rows of INITIAL CONTEXT SETUP FAILURE (TS 36.413 clause 9.1.4.4).
-pub type ContextSetupFailureRows = ThreeRows<
-    Needed<0, IGNORE, MmeUeId>,
-    Needed<8, IGNORE, EnbUeId>,
-    Needed<2, IGNORE, Cause>,
->;
-
-/// The octets of INITIAL CONTEXT SETUP FAILURE (TS 36.413 clause 9.1.4.4).
-pub fn write_context_setup_failure(alloc: Global, m: &ContextSetupFailure) -> Encoded
-    ensures { GivesWhole (λ v. v.items) result (encode_typed (typed_of message.ContextSetupFailure (typed_context_setup_failure m.now))) }
+/// Reads INITIAL CONTEXT SETUP FAILURE from the octets of its elements (TS 36.413 clause 9.1.4.4).
+#[tactic(auto, unfolding(s1ap_pdus::specs::Typed::read_typed))]
+#[inline(never)]
+pub fn read_context_setup_failure<'a>(alloc: Global, octets: &'a [u8]) -> Decoded<'a>
+    ensures { Answers (λ m. typed (lists m)) result (read_typed message.InitialContextSetupFailure octets.now) }
 {
-    octets_of::<ContextSetupFailureRows>(
-        alloc,
-        MessageType::ContextSetupFailure,
-        &lent!(&m.mme_id, &m.enb_id, &m.cause),
-    )
+    match read_message::<InitialContextSetupFailureRows>(alloc, octets) {
+        Ok(elements!(mme_ue_id, enb_ue_id, cause)) => Ok(Pdu::InitialContextSetupFailure(
+            InitialContextSetupFailure {
+                mme_ue_id,
+                enb_ue_id,
+                cause,
+            },
+        )),
+        Err(fault) => Err(fault),
+    }
 }
 
-/// The rows of UE CONTEXT RELEASE REQUEST (TS 36.413 clause 9.1.4.5).
-pub type ReleaseRequestRows = ThreeRows<
-    Needed<0, REJECT, MmeUeId>,
-    Needed<8, REJECT, EnbUeId>,
-    Needed<2, IGNORE, Cause>,
->;
-
-/// The octets of UE CONTEXT RELEASE REQUEST (TS 36.413 clause 9.1.4.5).
-pub fn write_release_request(alloc: Global, m: &ReleaseRequest) -> Encoded
-    ensures { GivesWhole (λ v. v.items) result (encode_typed (typed_of message.ReleaseRequest (typed_release_request m.now))) }
+/// Reads UE CONTEXT RELEASE REQUEST from the octets of its elements (TS 36.413 clause 9.1.4.5).
+#[tactic(auto, unfolding(s1ap_pdus::specs::Typed::read_typed))]
+#[inline(never)]
+pub fn read_release_request<'a>(alloc: Global, octets: &'a [u8]) -> Decoded<'a>
+    ensures { Answers (λ m. typed (lists m)) result (read_typed message.UeContextReleaseRequest octets.now) }
 {
-    octets_of::<ReleaseRequestRows>(
-        alloc,
-        MessageType::ReleaseRequest,
-        &lent!(&m.mme_id, &m.enb_id, &m.cause),
-    )
+    match read_message::<UeContextReleaseRequestRows>(alloc, octets) {
+        Ok(elements!(mme_ue_id, enb_ue_id, cause)) => Ok(Pdu::UeContextReleaseRequest(
+            UeContextReleaseRequest {
+                mme_ue_id,
+                enb_ue_id,
+                cause,
+            },
+        )),
+        Err(fault) => Err(fault),
+    }
 }
 
-/// The rows of UE CONTEXT RELEASE COMMAND (TS 36.413 clause 9.1.4.6).
-pub type ReleaseCommandRows = TwoRows<Needed<99, REJECT, UeS1apIds>, Needed<2, IGNORE, Cause>>;
-
-/// The octets of UE CONTEXT RELEASE COMMAND (TS 36.413 clause 9.1.4.6).
-pub fn write_release_command(alloc: Global, m: &ReleaseCommand) -> Encoded
-    ensures { GivesWhole (λ v. v.items) result (encode_typed (typed_of message.ReleaseCommand (typed_release_command m.now))) }
+/// Reads UE CONTEXT RELEASE COMMAND from the octets of its elements (TS 36.413 clause 9.1.4.6).
+#[tactic(auto, unfolding(s1ap_pdus::specs::Typed::read_typed))]
+#[inline(never)]
+pub fn read_release_command<'a>(alloc: Global, octets: &'a [u8]) -> Decoded<'a>
+    ensures { Answers (λ m. typed (lists m)) result (read_typed message.UeContextReleaseCommand octets.now) }
 {
-    octets_of::<ReleaseCommandRows>(alloc, MessageType::ReleaseCommand, &lent!(&m.ids, &m.cause))
+    match read_message::<UeContextReleaseCommandRows>(alloc, octets) {
+        Ok(elements!(ids, cause)) => Ok(Pdu::UeContextReleaseCommand(UeContextReleaseCommand {
+            ids,
+            cause,
+        })),
+        Err(fault) => Err(fault),
+    }
 }
 
-/// The rows of UE CONTEXT RELEASE COMPLETE (TS 36.413 clause 9.1.4.7).
-pub type ReleaseCompleteRows = TwoRows<Needed<0, IGNORE, MmeUeId>, Needed<8, IGNORE, EnbUeId>>;
-
-/// The octets of UE CONTEXT RELEASE COMPLETE (TS 36.413 clause 9.1.4.7).
-pub fn write_release_complete(alloc: Global, m: &ReleaseComplete) -> Encoded
-    ensures { GivesWhole (λ v. v.items) result (encode_typed (typed_of message.ReleaseComplete (typed_release_complete m.now))) }
+/// Reads UE CONTEXT RELEASE COMPLETE from the octets of its elements (TS 36.413 clause 9.1.4.7).
+#[tactic(auto, unfolding(s1ap_pdus::specs::Typed::read_typed))]
+#[inline(never)]
+pub fn read_release_complete<'a>(alloc: Global, octets: &'a [u8]) -> Decoded<'a>
+    ensures { Answers (λ m. typed (lists m)) result (read_typed message.UeContextReleaseComplete octets.now) }
 {
-    octets_of::<ReleaseCompleteRows>(
-        alloc,
-        MessageType::ReleaseComplete,
-        &lent!(&m.mme_id, &m.enb_id),
-    )
+    match read_message::<UeContextReleaseCompleteRows>(alloc, octets) {
+        Ok(elements!(mme_ue_id, enb_ue_id)) => Ok(Pdu::UeContextReleaseComplete(
+            UeContextReleaseComplete {
+                mme_ue_id,
+                enb_ue_id,
+            },
+        )),
+        Err(fault) => Err(fault),
+    }
 }

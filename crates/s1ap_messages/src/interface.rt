@@ -1,56 +1,52 @@
-//! Messages of the interface as a whole.
-#![tactic(auto, unfolding(crate::specs::Typed::encode_typed))]
+//! Reading messages of the interface as a whole.
 
-ghost use Rattle.per_bits.specs.Reading.{GivesWhole};
-ghost use Rattle.s1ap_messages.specs.Pdus.{typed_reset, typed_reset_acknowledge, typed_error_indication};
-ghost use Rattle.s1ap_messages.specs.Typed.{encode_typed, typed_of};
-ghost use Rattle.s1ap_messages.specs.declared.message_type.MessageType.TheVariants as message;
+ghost use Rattle.s1ap_rows.specs.Answers.{Answers};
+ghost use Rattle.s1ap_pdus.specs.Pdus.{lists, typed};
+ghost use Rattle.s1ap_pdus.specs.declared.message_type.MessageType.TheVariants as message;
+ghost use Rattle.s1ap_pdus.specs.Typed.{read_typed};
 
-use crate::message_type::MessageType;
-use crate::octets::octets_of;
-use crate::pdu::{Encoded, ErrorIndication, Reset, ResetAcknowledge};
-use s1ap_elements::{AssociationsReset, Cause, EnbUeId, MmeUeId, ResetType};
-use s1ap_rows::{IGNORE, Needed, OneRow, Optional, REJECT, ThreeRows, TwoRows};
+use crate::answer::Decoded;
+use s1ap_pdus::rows::{ErrorIndicationRows, ResetAcknowledgeRows, ResetRows};
+use s1ap_pdus::{ErrorIndication, Pdu, Reset, ResetAcknowledge};
+use s1ap_rows::read_message;
 use std::alloc::Global;
 
-/// The rows of RESET (TS 36.413 clause 9.1.8.1).
-pub type ResetRows = TwoRows<Needed<2, IGNORE, Cause>, Needed<92, REJECT, ResetType>>;
-
-/// The octets of RESET (TS 36.413 clause 9.1.8.1).
-pub fn write_reset(alloc: Global, m: &Reset) -> Encoded
-    ensures { GivesWhole (λ v. v.items) result (encode_typed (typed_of message.Reset (typed_reset m.now))) }
+/// Reads RESET from the octets of its elements (TS 36.413 clause 9.1.8.1).
+#[tactic(auto, unfolding(s1ap_pdus::specs::Typed::read_typed))]
+#[inline(never)]
+pub fn read_reset<'a>(alloc: Global, octets: &'a [u8]) -> Decoded<'a>
+    ensures { Answers (λ m. typed (lists m)) result (read_typed message.Reset octets.now) }
 {
-    octets_of::<ResetRows>(alloc, MessageType::Reset, &lent!(&m.cause, &m.reset_type))
+    match read_message::<ResetRows>(alloc, octets) {
+        Ok(elements!(cause, reset_type)) => Ok(Pdu::Reset(Reset { cause, reset_type })),
+        Err(fault) => Err(fault),
+    }
 }
 
-/// The rows of RESET ACKNOWLEDGE (TS 36.413 clause 9.1.8.2).
-pub type ResetAcknowledgeRows = OneRow<Optional<93, IGNORE, AssociationsReset>>;
-
-/// The octets of RESET ACKNOWLEDGE (TS 36.413 clause 9.1.8.2).
-pub fn write_reset_acknowledge(alloc: Global, m: &ResetAcknowledge) -> Encoded
-    ensures { GivesWhole (λ v. v.items) result (encode_typed (typed_of message.ResetAcknowledge (typed_reset_acknowledge m.now))) }
+/// Reads RESET ACKNOWLEDGE from the octets of its elements (TS 36.413 clause 9.1.8.2).
+#[tactic(auto, unfolding(s1ap_pdus::specs::Typed::read_typed))]
+#[inline(never)]
+pub fn read_reset_acknowledge<'a>(alloc: Global, octets: &'a [u8]) -> Decoded<'a>
+    ensures { Answers (λ m. typed (lists m)) result (read_typed message.ResetAcknowledge octets.now) }
 {
-    octets_of::<ResetAcknowledgeRows>(
-        alloc,
-        MessageType::ResetAcknowledge,
-        &lent!(&m.associations),
-    )
+    match read_message::<ResetAcknowledgeRows>(alloc, octets) {
+        Ok(elements!(associations)) => Ok(Pdu::ResetAcknowledge(ResetAcknowledge { associations })),
+        Err(fault) => Err(fault),
+    }
 }
 
-/// The rows of ERROR INDICATION (TS 36.413 clause 9.1.8.3).
-pub type ErrorIndicationRows = ThreeRows<
-    Optional<0, IGNORE, MmeUeId>,
-    Optional<8, IGNORE, EnbUeId>,
-    Optional<2, IGNORE, Cause>,
->;
-
-/// The octets of ERROR INDICATION (TS 36.413 clause 9.1.8.3).
-pub fn write_error_indication(alloc: Global, m: &ErrorIndication) -> Encoded
-    ensures { GivesWhole (λ v. v.items) result (encode_typed (typed_of message.ErrorIndication (typed_error_indication m.now))) }
+/// Reads ERROR INDICATION from the octets of its elements (TS 36.413 clause 9.1.8.3).
+#[tactic(auto, unfolding(s1ap_pdus::specs::Typed::read_typed))]
+#[inline(never)]
+pub fn read_error_indication<'a>(alloc: Global, octets: &'a [u8]) -> Decoded<'a>
+    ensures { Answers (λ m. typed (lists m)) result (read_typed message.ErrorIndication octets.now) }
 {
-    octets_of::<ErrorIndicationRows>(
-        alloc,
-        MessageType::ErrorIndication,
-        &lent!(&m.mme_id, &m.enb_id, &m.cause),
-    )
+    match read_message::<ErrorIndicationRows>(alloc, octets) {
+        Ok(elements!(mme_ue_id, enb_ue_id, cause)) => Ok(Pdu::ErrorIndication(ErrorIndication {
+            mme_ue_id,
+            enb_ue_id,
+            cause,
+        })),
+        Err(fault) => Err(fault),
+    }
 }

@@ -1,35 +1,20 @@
-//! S1AP messages between a station and an MME (TS 36.413): values and octets.
+//! S1AP messages from octets (TS 36.413 clause 9): what is read of each message's rows, which stand in `s1ap_pdus`.
+//!
+//! Each message is read out of line (`inline(never)`), so that what it has is put together once, where it is answered.
 #![tactic(auto)]
 
-// A message's rows stand once, as a type beside its `write`: presence, id, criticality and element of each. `s1ap_reading` reads
-// by the same types.
-
-// The elements that are written of a message's rows, as pairs: the first, and the others.
-macro_rules! lent {
+// The elements that are read of a message's rows, as pairs: the first, and the others.
+macro_rules! elements {
     () => { () };
-    ($first:expr $(, $others:expr)*) => { ($first, lent!($($others),*)) };
+    ($first:ident $(, $others:ident)*) => { ($first, elements!($($others),*)) };
 }
 
-mod codec;
+mod answer;
 mod context;
+mod decoding;
 mod interface;
-mod laws;
-mod message_type;
 mod movement;
-mod octets;
-mod pdu;
-pub mod rows;
 mod setup;
 mod transport;
 
-pub use codec::encode;
-pub use laws::{decoded_exactly, encoded_exactly, named_again, one_message, what_is_encoded};
-pub use message_type::MessageType;
-pub use pdu::{
-    CapabilityInfo, ContextSetupFailure, ContextSetupRequest, ContextSetupResponse,
-    DownlinkNasTransport, ErrorIndication, InitialUeMessage, NasNonDelivery, Paging,
-    PathSwitchAcknowledge, PathSwitchFailure, PathSwitchRequest, Pdu, ReleaseCommand,
-    ReleaseComplete, ReleaseRequest, Reset, ResetAcknowledge, S1apPdu, SetupFailure, SetupRequest,
-    SetupResponse, UplinkNasTransport,
-};
-pub use s1ap_rows::{Criticality, EncodeFault, S1apFault};
+pub use decoding::decode;

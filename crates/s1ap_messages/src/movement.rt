@@ -1,100 +1,91 @@
-//! Messages that look for phones and follow them.
-#![tactic(auto, unfolding(crate::specs::Typed::encode_typed))]
+//! Reading messages that look for phones and follow them.
 
-ghost use Rattle.per_bits.specs.Reading.{GivesWhole};
-ghost use Rattle.s1ap_messages.specs.Pdus.{paging_lists, typed_paging, typed_path_switch_request, typed_path_switch_acknowledge, typed_path_switch_failure};
-ghost use Rattle.s1ap_messages.specs.Typed.{encode_typed, typed_of};
-ghost use Rattle.s1ap_messages.specs.declared.message_type.MessageType.TheVariants as message;
+ghost use Rattle.s1ap_rows.specs.Answers.{Answers};
+ghost use Rattle.s1ap_pdus.specs.Pdus.{lists, typed};
+ghost use Rattle.s1ap_pdus.specs.declared.message_type.MessageType.TheVariants as message;
+ghost use Rattle.s1ap_pdus.specs.Typed.{read_typed};
 
-use crate::message_type::MessageType;
-use crate::octets::octets_of;
-use crate::pdu::{Encoded, Paging, PathSwitchAcknowledge, PathSwitchFailure, PathSwitchRequest};
-use s1ap_elements::{
-    Cause, CnDomain, EnbUeId, ErabsToBeSwitched, EutranCgi, MmeUeId, SecurityCapabilities,
-    SecurityContext, Tai, TaiList, UeIndex, UePagingId,
+use crate::answer::Decoded;
+use s1ap_pdus::rows::{
+    PagingRows, PathSwitchRequestAcknowledgeRows, PathSwitchRequestFailureRows,
+    PathSwitchRequestRows,
 };
-use s1ap_rows::{FourRows, IGNORE, Needed, REJECT, SixRows, ThreeRows};
+use s1ap_pdus::{
+    Paging, PathSwitchRequest, PathSwitchRequestAcknowledge, PathSwitchRequestFailure, Pdu,
+};
+use s1ap_rows::read_message;
 use std::alloc::Global;
 
-/// The rows of PAGING (TS 36.413 clause 9.1.6).
-pub type PagingRows<'a> = FourRows<
-    Needed<80, IGNORE, UeIndex>,
-    Needed<43, IGNORE, UePagingId<&'a [u8]>>,
-    Needed<109, IGNORE, CnDomain>,
-    Needed<46, IGNORE, TaiList>,
->;
-
-/// The octets of PAGING (TS 36.413 clause 9.1.6).
-pub fn write_paging(alloc: Global, m: &Paging<&[u8]>) -> Encoded
-    ensures { GivesWhole (λ v. v.items) result (encode_typed (typed_of message.Paging (typed_paging (paging_lists m.now)))) }
+/// Reads PAGING from the octets of its elements (TS 36.413 clause 9.1.6).
+#[tactic(auto, unfolding(s1ap_pdus::specs::Typed::read_typed))]
+#[inline(never)]
+pub fn read_paging<'a>(alloc: Global, octets: &'a [u8]) -> Decoded<'a>
+    ensures { Answers (λ m. typed (lists m)) result (read_typed message.Paging octets.now) }
 {
-    octets_of::<PagingRows>(
-        alloc,
-        MessageType::Paging,
-        &lent!(&m.ue_index, &m.paging_id, &m.domain, &m.tai_list),
-    )
+    match read_message::<PagingRows>(alloc, octets) {
+        Ok(elements!(ue_index, paging_id, domain, tai_list)) => Ok(Pdu::Paging(Paging {
+            ue_index,
+            paging_id,
+            domain,
+            tai_list,
+        })),
+        Err(fault) => Err(fault),
+    }
 }
 
-/// The rows of PATH SWITCH REQUEST (TS 36.413 clause 9.1.5.8).
-pub type PathSwitchRequestRows<'a> = SixRows<
-    Needed<8, REJECT, EnbUeId>,
-    Needed<22, REJECT, ErabsToBeSwitched<'a>>,
-    Needed<88, REJECT, MmeUeId>,
-    Needed<100, IGNORE, EutranCgi>,
-    Needed<67, IGNORE, Tai>,
-    Needed<107, IGNORE, SecurityCapabilities>,
->;
-
-/// The octets of PATH SWITCH REQUEST (TS 36.413 clause 9.1.5.8).
-pub fn write_path_switch_request(alloc: Global, m: &PathSwitchRequest) -> Encoded
-    ensures { GivesWhole (λ v. v.items) result (encode_typed (typed_of message.PathSwitchRequest (typed_path_switch_request m.now))) }
+/// Reads PATH SWITCH REQUEST from the octets of its elements (TS 36.413 clause 9.1.5.8).
+#[tactic(auto, unfolding(s1ap_pdus::specs::Typed::read_typed))]
+#[inline(never)]
+pub fn read_path_switch_request<'a>(alloc: Global, octets: &'a [u8]) -> Decoded<'a>
+    ensures { Answers (λ m. typed (lists m)) result (read_typed message.PathSwitchRequest octets.now) }
 {
-    octets_of::<PathSwitchRequestRows>(
-        alloc,
-        MessageType::PathSwitchRequest,
-        &lent!(
-            &m.enb_id,
-            &m.erabs,
-            &m.source_mme_id,
-            &m.cell,
-            &m.tai,
-            &m.capabilities
+    match read_message::<PathSwitchRequestRows>(alloc, octets) {
+        Ok(elements!(enb_ue_id, erabs, source_mme_ue_id, cell, tai, capabilities)) => Ok(
+            Pdu::PathSwitchRequest(PathSwitchRequest {
+                enb_ue_id,
+                erabs,
+                source_mme_ue_id,
+                cell,
+                tai,
+                capabilities,
+            }),
         ),
-    )
+        Err(fault) => Err(fault),
+    }
 }
 
-/// The rows of PATH SWITCH REQUEST ACKNOWLEDGE (TS 36.413 clause 9.1.5.9).
-pub type PathSwitchAcknowledgeRows = ThreeRows<
-    Needed<0, IGNORE, MmeUeId>,
-    Needed<8, IGNORE, EnbUeId>,
-    Needed<40, REJECT, SecurityContext>,
->;
-
-/// The octets of PATH SWITCH REQUEST ACKNOWLEDGE (TS 36.413 clause 9.1.5.9).
-pub fn write_path_switch_acknowledge(alloc: Global, m: &PathSwitchAcknowledge) -> Encoded
-    ensures { GivesWhole (λ v. v.items) result (encode_typed (typed_of message.PathSwitchAcknowledge (typed_path_switch_acknowledge m.now))) }
+/// Reads PATH SWITCH REQUEST ACKNOWLEDGE from the octets of its elements (TS 36.413 clause 9.1.5.9).
+#[tactic(auto, unfolding(s1ap_pdus::specs::Typed::read_typed))]
+#[inline(never)]
+pub fn read_path_switch_acknowledge<'a>(alloc: Global, octets: &'a [u8]) -> Decoded<'a>
+    ensures { Answers (λ m. typed (lists m)) result (read_typed message.PathSwitchRequestAcknowledge octets.now) }
 {
-    octets_of::<PathSwitchAcknowledgeRows>(
-        alloc,
-        MessageType::PathSwitchAcknowledge,
-        &lent!(&m.mme_id, &m.enb_id, &m.context),
-    )
+    match read_message::<PathSwitchRequestAcknowledgeRows>(alloc, octets) {
+        Ok(elements!(mme_ue_id, enb_ue_id, context)) => Ok(Pdu::PathSwitchRequestAcknowledge(
+            PathSwitchRequestAcknowledge {
+                mme_ue_id,
+                enb_ue_id,
+                context,
+            },
+        )),
+        Err(fault) => Err(fault),
+    }
 }
 
-/// The rows of PATH SWITCH REQUEST FAILURE (TS 36.413 clause 9.1.5.10).
-pub type PathSwitchFailureRows = ThreeRows<
-    Needed<0, IGNORE, MmeUeId>,
-    Needed<8, IGNORE, EnbUeId>,
-    Needed<2, IGNORE, Cause>,
->;
-
-/// The octets of PATH SWITCH REQUEST FAILURE (TS 36.413 clause 9.1.5.10).
-pub fn write_path_switch_failure(alloc: Global, m: &PathSwitchFailure) -> Encoded
-    ensures { GivesWhole (λ v. v.items) result (encode_typed (typed_of message.PathSwitchFailure (typed_path_switch_failure m.now))) }
+/// Reads PATH SWITCH REQUEST FAILURE from the octets of its elements (TS 36.413 clause 9.1.5.10).
+#[tactic(auto, unfolding(s1ap_pdus::specs::Typed::read_typed))]
+#[inline(never)]
+pub fn read_path_switch_failure<'a>(alloc: Global, octets: &'a [u8]) -> Decoded<'a>
+    ensures { Answers (λ m. typed (lists m)) result (read_typed message.PathSwitchRequestFailure octets.now) }
 {
-    octets_of::<PathSwitchFailureRows>(
-        alloc,
-        MessageType::PathSwitchFailure,
-        &lent!(&m.mme_id, &m.enb_id, &m.cause),
-    )
+    match read_message::<PathSwitchRequestFailureRows>(alloc, octets) {
+        Ok(elements!(mme_ue_id, enb_ue_id, cause)) => Ok(Pdu::PathSwitchRequestFailure(
+            PathSwitchRequestFailure {
+                mme_ue_id,
+                enb_ue_id,
+                cause,
+            },
+        )),
+        Err(fault) => Err(fault),
+    }
 }

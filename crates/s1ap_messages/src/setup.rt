@@ -1,70 +1,59 @@
-//! Messages by which stations come up.
-#![tactic(auto, unfolding(crate::specs::Typed::encode_typed))]
+//! Reading messages by which stations come up.
 
-ghost use Rattle.per_bits.specs.Reading.{GivesWhole};
-ghost use Rattle.s1ap_messages.specs.Pdus.{setup_request_lists, typed_setup_request, typed_setup_response, typed_setup_failure};
-ghost use Rattle.s1ap_messages.specs.Typed.{encode_typed, typed_of};
-ghost use Rattle.s1ap_messages.specs.declared.message_type.MessageType.TheVariants as message;
+ghost use Rattle.s1ap_rows.specs.Answers.{Answers};
+ghost use Rattle.s1ap_pdus.specs.Pdus.{lists, typed};
+ghost use Rattle.s1ap_pdus.specs.declared.message_type.MessageType.TheVariants as message;
+ghost use Rattle.s1ap_pdus.specs.Typed.{read_typed};
 
-use crate::message_type::MessageType;
-use crate::octets::octets_of;
-use crate::pdu::{Encoded, SetupFailure, SetupRequest, SetupResponse};
-use s1ap_elements::{
-    Cause, GlobalEnbId, Name, PagingDrx, RelativeCapacity, ServedGummeis, SupportedTas,
-    name_of_octets,
-};
-use s1ap_rows::{FourRows, IGNORE, Needed, OneRow, Optional, REJECT, ThreeRows, Unkept};
+use crate::answer::Decoded;
+use s1ap_elements::octets_of_name;
+use s1ap_pdus::rows::{S1SetupFailureRows, S1SetupRequestRows, S1SetupResponseRows};
+use s1ap_pdus::{Pdu, S1SetupFailure, S1SetupRequest, S1SetupResponse};
+use s1ap_rows::read_message;
 use std::alloc::Global;
 
-/// The rows of S1 SETUP REQUEST (TS 36.413 clause 9.1.8.4).
-pub type SetupRequestRows<'a> = FourRows<
-    Needed<59, REJECT, GlobalEnbId>,
-    Optional<60, IGNORE, Name<'a>>,
-    Needed<64, REJECT, SupportedTas>,
-    Needed<137, IGNORE, PagingDrx>,
->;
-
-/// The octets of S1 SETUP REQUEST (TS 36.413 clause 9.1.8.4).
-pub fn write_setup_request(alloc: Global, m: &SetupRequest<&[u8]>) -> Encoded
-    ensures { GivesWhole (λ v. v.items) result
-        (encode_typed (typed_of message.SetupRequest (typed_setup_request (setup_request_lists m.now)))) }
+/// Reads S1 SETUP REQUEST from the octets of its elements (TS 36.413 clause 9.1.8.4).
+#[tactic(auto, unfolding(s1ap_pdus::specs::Typed::read_typed))]
+#[inline(never)]
+pub fn read_setup_request<'a>(alloc: Global, octets: &'a [u8]) -> Decoded<'a>
+    ensures { Answers (λ m. typed (lists m)) result (read_typed message.S1SetupRequest octets.now) }
 {
-    octets_of::<SetupRequestRows>(
-        alloc,
-        MessageType::SetupRequest,
-        &lent!(
-            &m.station,
-            &name_of_octets(m.name),
-            &m.supported_tas,
-            &m.paging_drx
-        ),
-    )
+    match read_message::<S1SetupRequestRows>(alloc, octets) {
+        Ok(elements!(station, name, supported_tas, paging_drx)) => Ok(Pdu::S1SetupRequest(
+            S1SetupRequest {
+                station,
+                name: octets_of_name(name),
+                supported_tas,
+                paging_drx,
+            },
+        )),
+        Err(fault) => Err(fault),
+    }
 }
 
-/// The rows of S1 SETUP RESPONSE (TS 36.413 clause 9.1.8.5).
-pub type SetupResponseRows<'a> = ThreeRows<
-    Unkept<61, IGNORE, Name<'a>>,
-    Needed<105, REJECT, ServedGummeis>,
-    Needed<87, IGNORE, RelativeCapacity>,
->;
-
-/// The octets of S1 SETUP RESPONSE (TS 36.413 clause 9.1.8.5).
-pub fn write_setup_response(alloc: Global, m: &SetupResponse) -> Encoded
-    ensures { GivesWhole (λ v. v.items) result (encode_typed (typed_of message.SetupResponse (typed_setup_response m.now))) }
+/// Reads S1 SETUP RESPONSE from the octets of its elements (TS 36.413 clause 9.1.8.5).
+#[tactic(auto, unfolding(s1ap_pdus::specs::Typed::read_typed))]
+#[inline(never)]
+pub fn read_setup_response<'a>(alloc: Global, octets: &'a [u8]) -> Decoded<'a>
+    ensures { Answers (λ m. typed (lists m)) result (read_typed message.S1SetupResponse octets.now) }
 {
-    octets_of::<SetupResponseRows>(
-        alloc,
-        MessageType::SetupResponse,
-        &lent!(&m.served_gummeis, &m.capacity),
-    )
+    match read_message::<S1SetupResponseRows>(alloc, octets) {
+        Ok(elements!(served_gummeis, capacity)) => Ok(Pdu::S1SetupResponse(S1SetupResponse {
+            served_gummeis,
+            capacity,
+        })),
+        Err(fault) => Err(fault),
+    }
 }
 
-/// The rows of S1 SETUP FAILURE (TS 36.413 clause 9.1.8.6).
-pub type SetupFailureRows = OneRow<Needed<2, IGNORE, Cause>>;
-
-/// The octets of S1 SETUP FAILURE (TS 36.413 clause 9.1.8.6).
-pub fn write_setup_failure(alloc: Global, m: &SetupFailure) -> Encoded
-    ensures { GivesWhole (λ v. v.items) result (encode_typed (typed_of message.SetupFailure (typed_setup_failure m.now))) }
+/// Reads S1 SETUP FAILURE from the octets of its elements (TS 36.413 clause 9.1.8.6).
+#[tactic(auto, unfolding(s1ap_pdus::specs::Typed::read_typed))]
+#[inline(never)]
+pub fn read_setup_failure<'a>(alloc: Global, octets: &'a [u8]) -> Decoded<'a>
+    ensures { Answers (λ m. typed (lists m)) result (read_typed message.S1SetupFailure octets.now) }
 {
-    octets_of::<SetupFailureRows>(alloc, MessageType::SetupFailure, &lent!(&m.cause))
+    match read_message::<S1SetupFailureRows>(alloc, octets) {
+        Ok(elements!(cause)) => Ok(Pdu::S1SetupFailure(S1SetupFailure { cause })),
+        Err(fault) => Err(fault),
+    }
 }

@@ -1,143 +1,114 @@
-//! Messages that carry what phones and the MME say.
-#![tactic(auto, unfolding(crate::specs::Typed::encode_typed))]
+//! Reading messages that carry what phones and the MME say.
 
-ghost use Rattle.per_bits.specs.Reading.{GivesWhole};
-ghost use Rattle.s1ap_messages.specs.Pdus.{initial_ue_message_lists, typed_initial_ue_message, downlink_nas_transport_lists, typed_downlink_nas_transport, uplink_nas_transport_lists, typed_uplink_nas_transport, nas_non_delivery_lists, typed_nas_non_delivery, capability_info_lists, typed_capability_info};
-ghost use Rattle.s1ap_messages.specs.Typed.{encode_typed, typed_of};
-ghost use Rattle.s1ap_messages.specs.declared.message_type.MessageType.TheVariants as message;
+ghost use Rattle.s1ap_rows.specs.Answers.{Answers};
+ghost use Rattle.s1ap_pdus.specs.Pdus.{lists, typed};
+ghost use Rattle.s1ap_pdus.specs.declared.message_type.MessageType.TheVariants as message;
+ghost use Rattle.s1ap_pdus.specs.Typed.{read_typed};
 
-use crate::message_type::MessageType;
-use crate::octets::octets_of;
-use crate::pdu::{
-    CapabilityInfo, DownlinkNasTransport, Encoded, InitialUeMessage, NasNonDelivery,
-    UplinkNasTransport,
+use crate::answer::Decoded;
+use s1ap_pdus::rows::{
+    DownlinkNasTransportRows, InitialUeMessageRows, NasNonDeliveryIndicationRows,
+    UeCapabilityInfoIndicationRows, UplinkNasTransportRows,
 };
-use per_bits::OctetString;
-use s1ap_elements::{Cause, EnbUeId, EutranCgi, MmeUeId, RrcCause, STmsi, Tai};
-use s1ap_rows::{FiveRows, FourRows, IGNORE, Needed, Optional, REJECT, SixRows, ThreeRows};
+use s1ap_pdus::{
+    DownlinkNasTransport, InitialUeMessage, NasNonDeliveryIndication, Pdu,
+    UeCapabilityInfoIndication, UplinkNasTransport,
+};
+use s1ap_rows::read_message;
 use std::alloc::Global;
 
-/// The rows of INITIAL UE MESSAGE (TS 36.413 clause 9.1.7.1).
-pub type InitialUeMessageRows<'a> = SixRows<
-    Needed<8, REJECT, EnbUeId>,
-    Needed<26, REJECT, OctetString<'a>>,
-    Needed<67, REJECT, Tai>,
-    Needed<100, IGNORE, EutranCgi>,
-    Needed<134, IGNORE, RrcCause>,
-    Optional<96, REJECT, STmsi>,
->;
-
-/// The octets of INITIAL UE MESSAGE (TS 36.413 clause 9.1.7.1).
-pub fn write_initial_ue_message(alloc: Global, m: &InitialUeMessage<&[u8]>) -> Encoded
-    ensures { GivesWhole (λ v. v.items) result
-        (encode_typed (typed_of message.InitialUeMessage (typed_initial_ue_message (initial_ue_message_lists m.now)))) }
+/// Reads INITIAL UE MESSAGE from the octets of its elements (TS 36.413 clause 9.1.7.1).
+#[tactic(auto, unfolding(s1ap_pdus::specs::Typed::read_typed))]
+#[inline(never)]
+pub fn read_initial_ue_message<'a>(alloc: Global, octets: &'a [u8]) -> Decoded<'a>
+    ensures { Answers (λ m. typed (lists m)) result (read_typed message.InitialUeMessage octets.now) }
 {
-    octets_of::<InitialUeMessageRows>(
-        alloc,
-        MessageType::InitialUeMessage,
-        &lent!(
-            &m.enb_id,
-            &OctetString { octets: m.nas },
-            &m.tai,
-            &m.cell,
-            &m.rrc_cause,
-            &m.s_tmsi
-        ),
-    )
+    match read_message::<InitialUeMessageRows>(alloc, octets) {
+        Ok(elements!(enb_ue_id, nas, tai, cell, rrc_cause, s_tmsi)) => Ok(Pdu::InitialUeMessage(
+            InitialUeMessage {
+                enb_ue_id,
+                nas: nas.octets,
+                tai,
+                cell,
+                rrc_cause,
+                s_tmsi,
+            },
+        )),
+        Err(fault) => Err(fault),
+    }
 }
 
-/// The rows of DOWNLINK NAS TRANSPORT (TS 36.413 clause 9.1.7.2).
-pub type DownlinkNasTransportRows<'a> = ThreeRows<
-    Needed<0, REJECT, MmeUeId>,
-    Needed<8, REJECT, EnbUeId>,
-    Needed<26, REJECT, OctetString<'a>>,
->;
-
-/// The octets of DOWNLINK NAS TRANSPORT (TS 36.413 clause 9.1.7.2).
-pub fn write_downlink_nas_transport(alloc: Global, m: &DownlinkNasTransport<&[u8]>) -> Encoded
-    ensures { GivesWhole (λ v. v.items) result
-        (encode_typed (typed_of message.DownlinkNasTransport (typed_downlink_nas_transport (downlink_nas_transport_lists m.now)))) }
+/// Reads DOWNLINK NAS TRANSPORT from the octets of its elements (TS 36.413 clause 9.1.7.2).
+#[tactic(auto, unfolding(s1ap_pdus::specs::Typed::read_typed))]
+#[inline(never)]
+pub fn read_downlink_nas_transport<'a>(alloc: Global, octets: &'a [u8]) -> Decoded<'a>
+    ensures { Answers (λ m. typed (lists m)) result (read_typed message.DownlinkNasTransport octets.now) }
 {
-    octets_of::<DownlinkNasTransportRows>(
-        alloc,
-        MessageType::DownlinkNasTransport,
-        &lent!(&m.mme_id, &m.enb_id, &OctetString { octets: m.nas }),
-    )
+    match read_message::<DownlinkNasTransportRows>(alloc, octets) {
+        Ok(elements!(mme_ue_id, enb_ue_id, nas)) => Ok(Pdu::DownlinkNasTransport(
+            DownlinkNasTransport {
+                mme_ue_id,
+                enb_ue_id,
+                nas: nas.octets,
+            },
+        )),
+        Err(fault) => Err(fault),
+    }
 }
 
-/// The rows of UPLINK NAS TRANSPORT (TS 36.413 clause 9.1.7.3).
-pub type UplinkNasTransportRows<'a> = FiveRows<
-    Needed<0, REJECT, MmeUeId>,
-    Needed<8, REJECT, EnbUeId>,
-    Needed<26, REJECT, OctetString<'a>>,
-    Needed<100, IGNORE, EutranCgi>,
-    Needed<67, IGNORE, Tai>,
->;
-
-/// The octets of UPLINK NAS TRANSPORT (TS 36.413 clause 9.1.7.3).
-pub fn write_uplink_nas_transport(alloc: Global, m: &UplinkNasTransport<&[u8]>) -> Encoded
-    ensures { GivesWhole (λ v. v.items) result
-        (encode_typed (typed_of message.UplinkNasTransport (typed_uplink_nas_transport (uplink_nas_transport_lists m.now)))) }
+/// Reads UPLINK NAS TRANSPORT from the octets of its elements (TS 36.413 clause 9.1.7.3).
+#[tactic(auto, unfolding(s1ap_pdus::specs::Typed::read_typed))]
+#[inline(never)]
+pub fn read_uplink_nas_transport<'a>(alloc: Global, octets: &'a [u8]) -> Decoded<'a>
+    ensures { Answers (λ m. typed (lists m)) result (read_typed message.UplinkNasTransport octets.now) }
 {
-    octets_of::<UplinkNasTransportRows>(
-        alloc,
-        MessageType::UplinkNasTransport,
-        &lent!(
-            &m.mme_id,
-            &m.enb_id,
-            &OctetString { octets: m.nas },
-            &m.cell,
-            &m.tai
-        ),
-    )
+    match read_message::<UplinkNasTransportRows>(alloc, octets) {
+        Ok(elements!(mme_ue_id, enb_ue_id, nas, cell, tai)) => Ok(Pdu::UplinkNasTransport(
+            UplinkNasTransport {
+                mme_ue_id,
+                enb_ue_id,
+                nas: nas.octets,
+                cell,
+                tai,
+            },
+        )),
+        Err(fault) => Err(fault),
+    }
 }
 
-/// The rows of NAS NON DELIVERY INDICATION (TS 36.413 clause 9.1.7.4).
-pub type NasNonDeliveryRows<'a> = FourRows<
-    Needed<0, REJECT, MmeUeId>,
-    Needed<8, REJECT, EnbUeId>,
-    Needed<26, IGNORE, OctetString<'a>>,
-    Needed<2, IGNORE, Cause>,
->;
-
-/// The octets of NAS NON DELIVERY INDICATION (TS 36.413 clause 9.1.7.4).
-pub fn write_nas_non_delivery(alloc: Global, m: &NasNonDelivery<&[u8]>) -> Encoded
-    ensures { GivesWhole (λ v. v.items) result
-        (encode_typed (typed_of message.NasNonDelivery (typed_nas_non_delivery (nas_non_delivery_lists m.now)))) }
+/// Reads NAS NON DELIVERY INDICATION from the octets of its elements (TS 36.413 clause 9.1.7.4).
+#[tactic(auto, unfolding(s1ap_pdus::specs::Typed::read_typed))]
+#[inline(never)]
+pub fn read_nas_non_delivery<'a>(alloc: Global, octets: &'a [u8]) -> Decoded<'a>
+    ensures { Answers (λ m. typed (lists m)) result (read_typed message.NasNonDeliveryIndication octets.now) }
 {
-    octets_of::<NasNonDeliveryRows>(
-        alloc,
-        MessageType::NasNonDelivery,
-        &lent!(
-            &m.mme_id,
-            &m.enb_id,
-            &OctetString { octets: m.nas },
-            &m.cause
-        ),
-    )
+    match read_message::<NasNonDeliveryIndicationRows>(alloc, octets) {
+        Ok(elements!(mme_ue_id, enb_ue_id, nas, cause)) => Ok(Pdu::NasNonDeliveryIndication(
+            NasNonDeliveryIndication {
+                mme_ue_id,
+                enb_ue_id,
+                nas: nas.octets,
+                cause,
+            },
+        )),
+        Err(fault) => Err(fault),
+    }
 }
 
-/// The rows of UE CAPABILITY INFO INDICATION (TS 36.413 clause 9.1.10).
-pub type CapabilityInfoRows<'a> = ThreeRows<
-    Needed<0, REJECT, MmeUeId>,
-    Needed<8, REJECT, EnbUeId>,
-    Needed<74, IGNORE, OctetString<'a>>,
->;
-
-/// The octets of UE CAPABILITY INFO INDICATION (TS 36.413 clause 9.1.10).
-pub fn write_capability_info(alloc: Global, m: &CapabilityInfo<&[u8]>) -> Encoded
-    ensures { GivesWhole (λ v. v.items) result
-        (encode_typed (typed_of message.CapabilityInfo (typed_capability_info (capability_info_lists m.now)))) }
+/// Reads UE CAPABILITY INFO INDICATION from the octets of its elements (TS 36.413 clause 9.1.10).
+#[tactic(auto, unfolding(s1ap_pdus::specs::Typed::read_typed))]
+#[inline(never)]
+pub fn read_capability_info<'a>(alloc: Global, octets: &'a [u8]) -> Decoded<'a>
+    ensures { Answers (λ m. typed (lists m)) result (read_typed message.UeCapabilityInfoIndication octets.now) }
 {
-    octets_of::<CapabilityInfoRows>(
-        alloc,
-        MessageType::CapabilityInfo,
-        &lent!(
-            &m.mme_id,
-            &m.enb_id,
-            &OctetString {
-                octets: m.radio_capability
-            }
+    match read_message::<UeCapabilityInfoIndicationRows>(alloc, octets) {
+        Ok(elements!(mme_ue_id, enb_ue_id, radio_capability)) => Ok(
+            Pdu::UeCapabilityInfoIndication(UeCapabilityInfoIndication {
+                mme_ue_id,
+                enb_ue_id,
+                radio_capability: radio_capability.octets,
+            }),
         ),
-    )
+        Err(fault) => Err(fault),
+    }
 }

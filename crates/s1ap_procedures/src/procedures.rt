@@ -2,61 +2,61 @@
 
 ghost use Rattle.std.specs.Prelude.{◌≡◌, MatchResult, Some, None};
 ghost use Rattle.s1ap_rows.specs.declared.fault.S1apFault.TheVariants.{UnknownProcedure};
-ghost use Rattle.s1ap_messages.specs.Profile.{initiating, successful, unsuccessful, type_of};
+ghost use Rattle.s1ap_pdus.specs.Profile.{initiating, successful, unsuccessful, type_of};
 
-use s1ap_messages::{MessageType, S1apFault};
+use s1ap_pdus::{MessageType, S1apFault};
 use s1ap_rows::Criticality;
 
-#[tactic(auto, unfolding(s1ap_messages::specs::Profile::initiating))]
+#[tactic(auto, unfolding(s1ap_pdus::specs::Profile::initiating))]
 fn initiating(code: u8) -> Option<MessageType>
     ensures { result ≡ initiating code }
 {
     match code {
         3 => Some(MessageType::PathSwitchRequest),
-        9 => Some(MessageType::ContextSetupRequest),
+        9 => Some(MessageType::InitialContextSetupRequest),
         10 => Some(MessageType::Paging),
         11 => Some(MessageType::DownlinkNasTransport),
         12 => Some(MessageType::InitialUeMessage),
         13 => Some(MessageType::UplinkNasTransport),
         14 => Some(MessageType::Reset),
         15 => Some(MessageType::ErrorIndication),
-        16 => Some(MessageType::NasNonDelivery),
-        17 => Some(MessageType::SetupRequest),
-        18 => Some(MessageType::ReleaseRequest),
-        22 => Some(MessageType::CapabilityInfo),
-        23 => Some(MessageType::ReleaseCommand),
+        16 => Some(MessageType::NasNonDeliveryIndication),
+        17 => Some(MessageType::S1SetupRequest),
+        18 => Some(MessageType::UeContextReleaseRequest),
+        22 => Some(MessageType::UeCapabilityInfoIndication),
+        23 => Some(MessageType::UeContextReleaseCommand),
         _ => None,
     }
 }
 
-#[tactic(auto, unfolding(s1ap_messages::specs::Profile::successful))]
+#[tactic(auto, unfolding(s1ap_pdus::specs::Profile::successful))]
 fn successful(code: u8) -> Option<MessageType>
     ensures { result ≡ successful code }
 {
     match code {
-        3 => Some(MessageType::PathSwitchAcknowledge),
-        9 => Some(MessageType::ContextSetupResponse),
+        3 => Some(MessageType::PathSwitchRequestAcknowledge),
+        9 => Some(MessageType::InitialContextSetupResponse),
         14 => Some(MessageType::ResetAcknowledge),
-        17 => Some(MessageType::SetupResponse),
-        23 => Some(MessageType::ReleaseComplete),
+        17 => Some(MessageType::S1SetupResponse),
+        23 => Some(MessageType::UeContextReleaseComplete),
         _ => None,
     }
 }
 
-#[tactic(auto, unfolding(s1ap_messages::specs::Profile::unsuccessful))]
+#[tactic(auto, unfolding(s1ap_pdus::specs::Profile::unsuccessful))]
 fn unsuccessful(code: u8) -> Option<MessageType>
     ensures { result ≡ unsuccessful code }
 {
     match code {
-        3 => Some(MessageType::PathSwitchFailure),
-        9 => Some(MessageType::ContextSetupFailure),
-        17 => Some(MessageType::SetupFailure),
+        3 => Some(MessageType::PathSwitchRequestFailure),
+        9 => Some(MessageType::InitialContextSetupFailure),
+        17 => Some(MessageType::S1SetupFailure),
         _ => None,
     }
 }
 
 // The message of a kind and a procedure's code.
-#[tactic(auto, unfolding(s1ap_messages::specs::Profile::type_of))]
+#[tactic(auto, unfolding(s1ap_pdus::specs::Profile::type_of))]
 fn type_of(kind: u8, code: u8) -> Option<MessageType>
     ensures { result ≡ type_of kind code }
 {

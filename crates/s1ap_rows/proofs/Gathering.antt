@@ -1,9 +1,9 @@
 -- Reading the elements of a message one after the other, as a loop does.
 use Rattle.std.proofs.Common.{◌≡◌, ℕ, suc, ◌-◌, ◌+◌, ◌≤◌, ◌<◌, Result, Ok, Err, refl, sym, ◌∙◌, arith}
-use Rattle.bit_streams.specs.declared.fault.PerFault.{PerFault}
+use Rattle.per_streams.specs.declared.fault.PerFault.{PerFault}
 use Rattle.s1ap_rows.specs.declared.fault.S1apFault.{S1apFault}
 use Rattle.s1ap_rows.specs.declared.fault.S1apFault.TheVariants as faults
-use Rattle.bit_streams.specs.Bits.{Place}
+use Rattle.per_streams.specs.Bits.{Place}
 use Rattle.per_numbers.specs.Reading.{number_at}
 use Rattle.s1ap_rows.specs.Rows.{Rows, Slots}
 use Rattle.s1ap_rows.specs.Reading.{put_at, elements_at}

@@ -1,10 +1,10 @@
 -- A message that is written where it stands in its frame has the octets of one that is written apart and then put into it.
 use Rattle.std.proofs.Common.{◌≡◌, ℕ, Bool, true, false, List, [], ◌∷◌, Some, None, Result, Ok, Err, refl, sym, ap, ◌∙◌}
-use Rattle.bit_streams.specs.declared.fault.PerFault.{PerFault}
-use Rattle.bit_streams.specs.declared.fault.PerFault.TheVariants.{Range}
-use Rattle.bit_streams.specs.declared.fault.PerError.{PerError}
-use Rattle.bit_streams.specs.declared.fault.PerError.TheVariants as errors
-use Rattle.bit_streams.specs.Bits.{◌>>=◌, Fails, padded}
+use Rattle.per_streams.specs.declared.fault.PerFault.{PerFault}
+use Rattle.per_streams.specs.declared.fault.PerFault.TheVariants.{Range}
+use Rattle.per_streams.specs.declared.fault.PerError.{PerError}
+use Rattle.per_streams.specs.declared.fault.PerError.TheVariants as errors
+use Rattle.per_streams.specs.Bits.{◌>>=◌, Fails, padded}
 use Rattle.per_bits.specs.Formats.{Format, Value, number, open_type}
 use Rattle.per_bits.specs.Writing.{write_at, write_string, write_whole}
 use Rattle.per_numbers.specs.Writing.{write_number}

@@ -1,9 +1,9 @@
 -- A message is written exactly where it is writable.
 use Rattle.std.proofs.Common.{◌≡◌, ℕ, ◌+◌, ◌&&◌, Bool, true, false, cond, List, [], ◌∷◌, ◌++◌, length, Some, None, Result, Ok, Err, refl, sym, ap, ◌∙◌, arith}
 use Rattle.std.proofs.lemmas.List.{append-nil}
-use Rattle.bit_streams.specs.declared.fault.PerFault.{PerFault}
-use Rattle.bit_streams.specs.declared.fault.PerFault.TheVariants.{Range}
-use Rattle.bit_streams.specs.Bits.{◌>>=◌, padded}
+use Rattle.per_streams.specs.declared.fault.PerFault.{PerFault}
+use Rattle.per_streams.specs.declared.fault.PerFault.TheVariants.{Range}
+use Rattle.per_streams.specs.Bits.{◌>>=◌, padded}
 use Rattle.per_bits.specs.Formats.{Format, Value, number, octet_string, open_type, raw}
 use Rattle.per_bits.specs.Writing.{write_at, write_each, write_string, write_whole, complete_write}
 use Rattle.per_numbers.specs.Writing.{write_number}

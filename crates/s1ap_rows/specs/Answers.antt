@@ -1,8 +1,8 @@
 -- What functions returned, as against what reading and writing give.
 use Rattle.std.specs.Prelude.{◌≡◌, List, ℕ, Option, Some, None, Result, Ok, Err}
-use Rattle.bit_streams.specs.declared.fault.PerFault.{PerFault}
-use Rattle.bit_streams.specs.declared.fault.PerError.{PerError}
-use Rattle.bit_streams.specs.declared.fault.PerError.TheVariants as errors
+use Rattle.per_streams.specs.declared.fault.PerFault.{PerFault}
+use Rattle.per_streams.specs.declared.fault.PerError.{PerError}
+use Rattle.per_streams.specs.declared.fault.PerError.TheVariants as errors
 use Rattle.s1ap_rows.specs.declared.fault.S1apFault.{S1apFault}
 use Rattle.s1ap_rows.specs.declared.fault.S1apFault.TheVariants.{Syntax, NoMemory}
 use Rattle.s1ap_rows.specs.declared.fault.EncodeFault.{EncodeFault}

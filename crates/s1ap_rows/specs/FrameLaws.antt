@@ -1,17 +1,17 @@
 -- A frame is read exactly where it is spelled, and what is written of it spells it.
 use Rattle.std.proofs.Common.{◌≡◌, ℕ, ◌+◌, Bool, false, List, [], ◌∷◌, ◌++◌, length, Result, Ok, refl, ap, subst, ◌∙◌, append_assoc}
 use Rattle.std.proofs.lemmas.List.{append-nil, length-append}
-use Rattle.bit_streams.specs.declared.fault.PerFault.{PerFault}
-use Rattle.bit_streams.specs.declared.fault.PerFault.TheVariants.{Alternative}
-use Rattle.bit_streams.specs.Bits.{◌>>=◌}
+use Rattle.per_streams.specs.declared.fault.PerFault.{PerFault}
+use Rattle.per_streams.specs.declared.fault.PerFault.TheVariants.{Alternative}
+use Rattle.per_streams.specs.Bits.{◌>>=◌}
 use Rattle.per_bits.specs.Formats.{closed, number}
 use Rattle.per_bits.specs.Spelling.{Spells, SpellsClosed, SpellsNumber, Whole}
 use Rattle.per_bits.specs.Reading.{closed_at, read_at, whole_at}
 use Rattle.per_numbers.specs.Reading.{number_at}
 use Rattle.per_bits.specs.Writing.{write_at, write_string, write_whole}
 use Rattle.per_numbers.specs.Writing.{write_number}
-use Rattle.bit_streams.specs.BitLaws.{bind_ok}
-use Rattle.bit_streams.specs.Exact.{Exact}
+use Rattle.per_streams.specs.BitLaws.{bind_ok}
+use Rattle.per_streams.specs.Exact.{Exact}
 use Rattle.per_bits.specs.FormatLaws.{exact, exact_pair, exact_closed, exact_number, whole_takes, whole_again}
 use Rattle.per_bits.specs.WritingLaws.{Adds, written, whole_written}
 use Rattle.s1ap_rows.specs.Spelling.{body, Frame, SpellsFrame}

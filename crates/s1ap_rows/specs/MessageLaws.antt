@@ -1,17 +1,17 @@
 -- Octets are decoded exactly where they spell a message, whatever the order of its elements.
 use Rattle.std.proofs.Common.{◌≡◌, ℕ, zero, suc, Bool, true, false, cond, eqb, not, List, [], ◌∷◌, Option, Some, None, Result, Ok, Err, refl, sym, ap, subst, ◌∙◌}
 use Rattle.std.specs.Prelude.{filter}
-use Rattle.bit_streams.specs.declared.fault.PerFault.{PerFault}
+use Rattle.per_streams.specs.declared.fault.PerFault.{PerFault}
 use Rattle.s1ap_rows.specs.declared.fault.S1apFault.{S1apFault}
 use Rattle.s1ap_rows.specs.declared.fault.S1apFault.TheVariants.{RefusedElement}
-use Rattle.bit_streams.specs.Bits.{Place, start, ◌>>=◌, bit_at, open_at, end_at}
+use Rattle.per_streams.specs.Bits.{Place, start, ◌>>=◌, bit_at, open_at, end_at}
 use Rattle.per_bits.specs.Formats.{Format, Value, raw, plain, items, must, done, number, octet_string, Fields, flag_of, flags_after}
-use Rattle.bit_streams.specs.Each.{times}
+use Rattle.per_streams.specs.Each.{times}
 use Rattle.per_bits.specs.Reading.{read_at, whole_at, complete_at, skipped_at, additions_at, fields_at}
 use Rattle.per_numbers.specs.Reading.{number_at}
 use Rattle.per_bits.specs.Spelling.{SpellsWhole}
 use Rattle.per_bits.specs.FormatLaws.{complete_takes, complete_again}
-use Rattle.bit_streams.specs.BitLaws.{bind_ok, ok_is}
+use Rattle.per_streams.specs.BitLaws.{bind_ok, ok_is}
 use Rattle.s1ap_rows.specs.declared.criticality.Criticality.{Criticality}
 use Rattle.s1ap_rows.specs.Spelling.{Raw, id_of, criticality_of, octets_of, has_id, may_skip, OfRow, AreElements, IsKept, message, IsMessage}
 use Rattle.s1ap_rows.specs.Rows.{Rows, ie, end, needed, optional, unkept, Slots, Kept, no_slots}

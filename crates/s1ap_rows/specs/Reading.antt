@@ -1,10 +1,10 @@
 -- Reading a message, from the left.
 use Rattle.std.specs.Prelude.{ℕ, zero, suc, cond, eqb, List, [], ◌∷◌, Option, Some, None, Result, Ok, Err}
-use Rattle.bit_streams.specs.declared.fault.PerFault.{PerFault}
-use Rattle.bit_streams.specs.declared.fault.PerFault.TheVariants.{Alternative}
+use Rattle.per_streams.specs.declared.fault.PerFault.{PerFault}
+use Rattle.per_streams.specs.declared.fault.PerFault.TheVariants.{Alternative}
 use Rattle.s1ap_rows.specs.declared.fault.S1apFault.{S1apFault}
 use Rattle.s1ap_rows.specs.declared.fault.S1apFault.TheVariants.{Syntax, MissingElement, RepeatedElement, RefusedElement}
-use Rattle.bit_streams.specs.Bits.{Place, start, ◌>>=◌, bit_at, open_at, end_at}
+use Rattle.per_streams.specs.Bits.{Place, start, ◌>>=◌, bit_at, open_at, end_at}
 use Rattle.per_bits.specs.Formats.{Format, Value}
 use Rattle.per_bits.specs.Reading.{closed_at, skipped_at, additions_at, read_at, complete_at}
 use Rattle.per_numbers.specs.Reading.{number_at}

@@ -1,6 +1,6 @@
 -- Which messages have a written spelling: each value in its open type, the elements as a whole, and the open type around them.
 use Rattle.std.specs.Prelude.{ℕ, Bool, true, ◌&&◌, List, [], ◌∷◌, Some, None}
-use Rattle.bit_streams.specs.Bits.{padded}
+use Rattle.per_streams.specs.Bits.{padded}
 use Rattle.per_bits.specs.Formats.{Format, Value, open_type}
 use Rattle.per_bits.specs.Written.{written, writable}
 use Rattle.s1ap_rows.specs.declared.criticality.Criticality.{Criticality}

@@ -1,7 +1,7 @@
 -- Writing a message: its rows in their order.
 use Rattle.std.specs.Prelude.{ℕ, ◌+◌, Bool, false, List, [], ◌∷◌, ◌++◌, Option, Some, None, Result, Ok}
-use Rattle.bit_streams.specs.declared.fault.PerFault.{PerFault}
-use Rattle.bit_streams.specs.Bits.{◌>>=◌}
+use Rattle.per_streams.specs.declared.fault.PerFault.{PerFault}
+use Rattle.per_streams.specs.Bits.{◌>>=◌}
 use Rattle.per_bits.specs.Formats.{Format, Value, open_type}
 use Rattle.per_bits.specs.Writing.{write_at, write_string, write_whole}
 use Rattle.per_numbers.specs.Writing.{write_number}

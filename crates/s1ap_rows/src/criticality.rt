@@ -1,7 +1,7 @@
 //! What is to be done with what isn't understood.
 
 ghost use Rattle.std.specs.Prelude.{◌≡◌};
-ghost use Rattle.bit_streams.specs.Bits.{Answers};
+ghost use Rattle.per_streams.specs.Bits.{Answers};
 ghost use Rattle.per_numbers.specs.Reading.{number_at};
 ghost use Rattle.s1ap_rows.specs.Criticalities.{criticality_number, criticality_named};
 

@@ -1,7 +1,7 @@
 //! The elements of a message, in any order.
 
 ghost use Rattle.std.specs.Prelude.{◌≡◌, ◌≤◌, option_map};
-ghost use Rattle.bit_streams.specs.Bits.{Place, Answers};
+ghost use Rattle.per_streams.specs.Bits.{Place, Answers};
 ghost use Rattle.per_numbers.specs.Reading.{number_at};
 ghost use Rattle.per_numbers.specs.Writing.{Wrote};
 ghost use Rattle.s1ap_rows.specs.Criticalities.{criticality_number};

@@ -1,11 +1,11 @@
 -- What calls print, one after another.
 use Rattle.std.proofs.Common.{◌≡◌, ℕ, List, [], Result, OnOk, sym, subst}
-use Rattle.trace_text.specs.declared.line.Line.{Line}
-use Rattle.trace_text.specs.declared.fault.TraceFault.{TraceFault}
-use Rattle.script_text.specs.Kept.{kept_line}
+use Rattle.trace_words.specs.declared.line.Line.{Line}
+use Rattle.trace_words.specs.declared.fault.TraceFault.{TraceFault}
+use Rattle.sim_words.specs.Kept.{kept_line}
 use Rattle.trace_player.specs.declared.progress.Progress.{Progress}
-use Rattle.script_player.specs.Printed.{AddsComments, IsBegun, PrintsOn}
-use Rattle.script_player.specs.PrintLaws.{Prints-then, Prints-comments}
+use Rattle.sim_printing.specs.Printed.{AddsComments, IsBegun, PrintsOn}
+use Rattle.sim_printing.specs.PrintLaws.{Prints-then, Prints-comments}
 
 pub PrintsOn-then : (a b c : Progress) (s t u : List ℕ) (kept : List (Result Line TraceFault)) → PrintsOn a s b t kept → PrintsOn b t c u [] → PrintsOn a s c u kept
 PrintsOn-then a b c s t u kept p q = (q.0, Prints-then a b c s t u kept p.1 q.1)

@@ -1,18 +1,18 @@
 //! What stations and phones do.
 
 ghost use Rattle.std.specs.Prelude.{◌≡◌, [], OnOk};
-ghost use Rattle.script_player.specs.Printed.{IsBegun, PrintsOn, PrintsScriptLine};
+ghost use Rattle.sim_printing.specs.Printed.{IsBegun, PrintsOn, PrintsScriptLine};
 
 use crate::script::Script;
 use crate::turns::{deliver, play_message, play_queue};
 use crowd::Acted;
 use identity_slots::StationNumber;
 use mme_core::Outs;
-use script_player::{is_begun, play_in, play_up, push_skipped};
-use script_text::ScriptAct;
+use sim_printing::{is_begun, play_in, play_up, push_skipped};
+use sim_words::ScriptAct;
 use std::alloc::{AllocError, Global};
 use trace_player::PlayFault;
-use trace_text::TraceFault;
+use trace_words::TraceFault;
 
 /// What an act does, where there is an MME; else that is the fault of the line of that number.
 pub(crate) fn play_act_line(

@@ -1,9 +1,9 @@
 //! The lines that a script shares with a trace.
 
 ghost use Rattle.std.specs.Prelude.{◌≡◌, [], OnOk};
-ghost use Rattle.script_text.specs.Kept.{kept_line};
-ghost use Rattle.trace_text.specs.declared.line.Line.TheVariants.{Mme, Sub, Vec, Data, Cancel, Show};
-ghost use Rattle.script_player.specs.Printed.{IsBegun, PrintsOn, PrintsScriptLine, ReadsAs};
+ghost use Rattle.sim_words.specs.Kept.{kept_line};
+ghost use Rattle.trace_words.specs.declared.line.Line.TheVariants.{Mme, Sub, Vec, Data, Cancel, Show};
+ghost use Rattle.sim_printing.specs.Printed.{IsBegun, PrintsOn, PrintsScriptLine, ReadsAs};
 ghost use Rattle.sim_lines.specs.Events.{IsEventLine};
 
 use crate::acts::play_act;
@@ -11,13 +11,13 @@ use crate::script::Script;
 use crate::turns::play_answers;
 use identity_slots::{Profile, StationNumber, Vector};
 use nas_elements::Imsi;
-use script_player::{
+use sim_printing::{
     is_begun, play_cancel, play_data, play_lost, play_mme, play_show, play_sub, play_tick, play_vec,
 };
-use script_text::ScriptAct;
+use sim_words::ScriptAct;
 use std::alloc::{AllocError, Global};
 use trace_player::PlayFault;
-use trace_text::{Line, MmeLine, TraceFault};
+use trace_words::{Line, MmeLine, TraceFault};
 
 /// What a line does that is read as in a trace; `text` is the line of that number, as it was read.
 pub(crate) fn play_trace_line(

@@ -1,15 +1,15 @@
 //! A script, line by line.
 
 ghost use Rattle.std.specs.Prelude.{◌≡◌, ◌∷◌, []};
-ghost use Rattle.script_text.specs.Kept.{kept_in};
+ghost use Rattle.sim_words.specs.Kept.{kept_in};
 ghost use Rattle.trace_player.specs.Text.{breaks};
 ghost use Rattle.trace_player.specs.declared.progress.Progress.TheVariants.{Nothing};
-ghost use Rattle.script_player.specs.Printed.{PrintsScriptLine};
+ghost use Rattle.sim_printing.specs.Printed.{PrintsScriptLine};
 
 use crate::acts::play_act_line;
 use crate::lines::play_trace_line;
 use crowd::Crowd;
-use script_text::{ScriptLine, first_word_tells, parse_script_line};
+use sim_words::{ScriptLine, first_word_tells, parse_script_line};
 use std::alloc::Global;
 use trace_player::{PlayFault, Progress, fault_in_line};
 

@@ -1,13 +1,13 @@
 //! What stations and phones send, and what they answer when the MME's messages reach them.
 
 ghost use Rattle.std.specs.Prelude.{◌≡◌, [], OnOk};
-ghost use Rattle.script_player.specs.Printed.{IsBegun, PrintsOn};
+ghost use Rattle.sim_printing.specs.Printed.{IsBegun, PrintsOn};
 
 use crate::script::Script;
-use crowd::{Crowd, Uplink};
 use identity_slots::StationNumber;
 use mme_core::Outs;
-use script_player::{play_in, push_dropped};
+use sim_crowd::{Crowd, Uplink};
+use sim_printing::{play_in, push_dropped};
 use std::alloc::{AllocError, Global};
 
 /// The most messages of stations and phones that are played behind a line, or behind a tick.

@@ -2,7 +2,7 @@
 use Rattle.std.proofs.Common.{◌≡◌, ℕ, [], Bool, true, false, Option, Some, refl, sym, ◌∙◌, ap}
 use Rattle.std.specs.Prelude.{if◌then◌else◌, is_some, not, unwrap_or}
 use Rattle.stranger_machine.specs.declared.state.Stranger.{Stranger}
-use Rattle.mme_vocabulary.specs.Listed.{ToReset}
+use Rattle.mme_types.specs.Listed.{ToReset}
 use Rattle.stranger_machine.specs.declared.turn.Notice.{Notice}
 use Rattle.stranger_machine.specs.declared.turn.Notice.TheVariants.{Listed}
 use Rattle.stranger_machine.specs.Machine.{is_meant, notes, unlists}

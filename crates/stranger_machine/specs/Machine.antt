@@ -15,18 +15,18 @@ use Rattle.nas_messages.specs.Messages.{decoded_emm}
 use Rattle.s1ap_elements.specs.declared.cause.Cause.TheVariants.{RadioNetwork, Nas}
 use Rattle.s1ap_elements.specs.declared.cause.RadioNetworkCause.TheVariants.{UnknownMmeUeS1apId, UnknownPairUeS1apId}
 use Rattle.s1ap_elements.specs.declared.cause.NasCause.TheVariants.{Unspecified}
-use Rattle.mme_vocabulary.specs.declared.event.Entry.{Entry}
-use Rattle.mme_vocabulary.specs.declared.event.UeBody.{UeBody}
-use Rattle.mme_vocabulary.specs.declared.event.UeBody.TheVariants.{Uplink, ReleaseRequest, ReleaseComplete, ContextSetupFailure, PathSwitch, Notice as NoticeBody}
-use Rattle.mme_vocabulary.specs.declared.event.UeMessage.{UeMessage}
-use Rattle.mme_vocabulary.specs.declared.octets.Answer.{Answer}
+use Rattle.mme_types.specs.declared.event.Entry.{Entry}
+use Rattle.mme_types.specs.declared.event.UeBody.{UeBody}
+use Rattle.mme_types.specs.declared.event.UeBody.TheVariants.{Uplink, UeContextReleaseRequest, UeContextReleaseComplete, InitialContextSetupFailure, PathSwitch, Notice as NoticeBody}
+use Rattle.mme_types.specs.declared.event.UeMessage.{UeMessage}
+use Rattle.mme_types.specs.declared.octets.Answer.{Answer}
 use Rattle.mme_signalling.specs.Pdus.{cause_of_request}
 use Rattle.mme_signalling.specs.declared.cause.EmmCause.TheVariants.{IdentityNotDerived, InvalidMandatory, ServicesNotAllowed}
 use Rattle.mme_signalling.specs.Hearing.{initial_octets}
 use Rattle.mme_signalling.specs.Messages.{attach_reject, service_reject, update_reject}
 use Rattle.mme_signalling.specs.Pdus.{error_indication, path_switch_failure}
-use Rattle.mme_vocabulary.specs.Events.{Claim, Displaced, Message}
-use Rattle.mme_vocabulary.specs.Listed.{ToReset, is_listed}
+use Rattle.mme_types.specs.Events.{Claim, Displaced, Message}
+use Rattle.mme_types.specs.Listed.{ToReset, is_listed}
 use Rattle.stranger_machine.specs.declared.state.KeptEntry.{KeptEntry}
 use Rattle.stranger_machine.specs.declared.state.Stranger.{Stranger}
 use Rattle.stranger_machine.specs.declared.state.Stranger.TheVariants.{Waiting, Held}
@@ -56,7 +56,7 @@ welcome_by_identity (Temporary g) = Ask
 -- an identity of elsewhere can be asked for in an attach alone: any other request is refused
 abbrev pub welcome_by_message : Emm (List ℕ) → Welcome
 welcome_by_message (emm.AttachRequest m) = welcome_by_identity m.identity
-welcome_by_message (emm.AreaUpdateRequest m) = Refuse (update_reject IdentityNotDerived)
+welcome_by_message (emm.TrackingAreaUpdateRequest m) = Refuse (update_reject IdentityNotDerived)
 welcome_by_message (emm.ServiceRequest octets) = Refuse (service_reject IdentityNotDerived)
 welcome_by_message _ = TurnAway
 
@@ -96,12 +96,12 @@ begins id s m = also_calling (displaced_by id s) (welcomed id (as_kept m) (meet 
 
 -- of nobody (TS 36.413 clauses 10.6 and 8.4.4.3)
 unfoldable pub unknown : UeBody (List ℕ) → UeMessage (List ℕ) → List Answer
-unknown ReleaseComplete m = []
-unknown PathSwitch m = sent_to m.station (path_switch_failure m.mme_id m.enb_id (RadioNetwork UnknownMmeUeS1apId))
-unknown (Uplink nas tai) m = sent_to m.station (error_indication m.mme_id m.enb_id (RadioNetwork UnknownMmeUeS1apId))
-unknown (ReleaseRequest cause) m = sent_to m.station (error_indication m.mme_id m.enb_id (RadioNetwork UnknownMmeUeS1apId))
-unknown ContextSetupFailure m = sent_to m.station (error_indication m.mme_id m.enb_id (RadioNetwork UnknownMmeUeS1apId))
-unknown NoticeBody m = sent_to m.station (error_indication m.mme_id m.enb_id (RadioNetwork UnknownMmeUeS1apId))
+unknown UeContextReleaseComplete m = []
+unknown PathSwitch m = sent_to m.station (path_switch_failure m.mme_ue_id m.enb_ue_id (RadioNetwork UnknownMmeUeS1apId))
+unknown (Uplink nas tai) m = sent_to m.station (error_indication m.mme_ue_id m.enb_ue_id (RadioNetwork UnknownMmeUeS1apId))
+unknown (UeContextReleaseRequest cause) m = sent_to m.station (error_indication m.mme_ue_id m.enb_ue_id (RadioNetwork UnknownMmeUeS1apId))
+unknown InitialContextSetupFailure m = sent_to m.station (error_indication m.mme_ue_id m.enb_ue_id (RadioNetwork UnknownMmeUeS1apId))
+unknown NoticeBody m = sent_to m.station (error_indication m.mme_ue_id m.enb_ue_id (RadioNetwork UnknownMmeUeS1apId))
 
 -- the IMSI of an IDENTITY RESPONSE, which is plain
 abbrev pub imsi_of_identity : MobileIdentity → Option (List ℕ)
@@ -124,24 +124,24 @@ identified (Some imsi) ps id k s = claimed_by (slot_of_imsi imsi ps) id k
 -- from its own station and number
 unfoldable pub receives_own : UeBody (List ℕ) → List Profile → ℕ → KeptEntry → Stranger → Turn
 receives_own (Uplink nas tai) ps id k s = identified (imsi_in_response (decoded_emm UplinkDirection nas)) ps id k s
-receives_own (ReleaseRequest cause) ps id k s = closing (released (place_of id k) (cause_of_request cause))
-receives_own ReleaseComplete ps id k s = stays (Some s) []
-receives_own ContextSetupFailure ps id k s = stays (Some s) []
+receives_own (UeContextReleaseRequest cause) ps id k s = closing (released (place_of id k) (cause_of_request cause))
+receives_own UeContextReleaseComplete ps id k s = stays (Some s) []
+receives_own InitialContextSetupFailure ps id k s = stays (Some s) []
 receives_own PathSwitch ps id k s = stays (Some s) []
 receives_own NoticeBody ps id k s = stays (Some s) []
 
 unfoldable pub checked_for_pair : List Profile → UeMessage (List ℕ) → KeptEntry → Stranger → Turn
 checked_for_pair ps m k s =
-    if k.station == m.station && k.enb_id == m.enb_id then receives_own m.body ps m.mme_id k s
-    else stays (Some s) (sent_to m.station (error_indication m.mme_id m.enb_id (RadioNetwork UnknownPairUeS1apId)))
+    if k.station == m.station && k.enb_ue_id == m.enb_ue_id then receives_own m.body ps m.mme_ue_id k s
+    else stays (Some s) (sent_to m.station (error_indication m.mme_ue_id m.enb_ue_id (RadioNetwork UnknownPairUeS1apId)))
 
 -- waiting: UE CONTEXT RELEASE COMPLETE is never answered, and no path switch leads away
 unfoldable pub receives_waiting : UeBody (List ℕ) → List Profile → UeMessage (List ℕ) → KeptEntry → Stranger → Turn
-receives_waiting ReleaseComplete ps m k s = stays (Some s) []
+receives_waiting UeContextReleaseComplete ps m k s = stays (Some s) []
 receives_waiting PathSwitch ps m k s = stays (Some s) (unknown PathSwitch m)
 receives_waiting (Uplink nas tai) ps m k s = checked_for_pair ps m k s
-receives_waiting (ReleaseRequest cause) ps m k s = checked_for_pair ps m k s
-receives_waiting ContextSetupFailure ps m k s = checked_for_pair ps m k s
+receives_waiting (UeContextReleaseRequest cause) ps m k s = checked_for_pair ps m k s
+receives_waiting InitialContextSetupFailure ps m k s = checked_for_pair ps m k s
 receives_waiting NoticeBody ps m k s = checked_for_pair ps m k s
 
 unfoldable pub receives : List Profile → Option Stranger → UeMessage (List ℕ) → Turn

@@ -5,15 +5,15 @@ use Rattle.nas_messages.specs.Messages.{encoded_emm}
 use Rattle.s1ap_elements.specs.declared.cause.Cause.{Cause}
 use Rattle.s1ap_elements.specs.declared.cause.Cause.TheVariants.{Nas}
 use Rattle.s1ap_elements.specs.declared.cause.NasCause.TheVariants.{NormalRelease}
-use Rattle.s1ap_messages.specs.declared.pdu.Pdu.{Pdu}
-use Rattle.s1ap_messages.specs.Pdus.{encoded}
-use Rattle.mme_vocabulary.specs.declared.event.Entry.{Entry}
-use Rattle.mme_vocabulary.specs.declared.octets.Answer.{Answer}
-use Rattle.mme_vocabulary.specs.declared.connection.Connection.{Connection}
-use Rattle.mme_vocabulary.specs.declared.stations.StationState.{StationState}
-use Rattle.mme_vocabulary.specs.Answers.{answer_of}
+use Rattle.s1ap_pdus.specs.declared.pdu.Pdu.{Pdu}
+use Rattle.s1ap_pdus.specs.Pdus.{encoded}
+use Rattle.mme_types.specs.declared.event.Entry.{Entry}
+use Rattle.mme_types.specs.declared.octets.Answer.{Answer}
+use Rattle.mme_types.specs.declared.connection.Connection.{Connection}
+use Rattle.mme_types.specs.declared.stations.StationState.{StationState}
+use Rattle.mme_types.specs.Answers.{answer_of}
 use Rattle.mme_signalling.specs.Pdus.{downlink, release_command}
-use Rattle.mme_vocabulary.specs.Events.{Item, item_of}
+use Rattle.mme_types.specs.Events.{Item, item_of}
 use Rattle.stranger_machine.specs.declared.state.KeptEntry.{KeptEntry}
 use Rattle.stranger_machine.specs.declared.state.Stranger.{Stranger}
 use Rattle.stranger_machine.specs.declared.turn.After.{After}
@@ -50,17 +50,17 @@ sent_to station message = answer_of station None (encoded message)
 
 -- an INITIAL UE MESSAGE as it is kept, and as it was
 abbrev pub as_kept : Entry (List ℕ) → KeptEntry
-as_kept m = record { station = m.station; enb_id = m.enb_id; nas = m.nas; tai = m.tai }
+as_kept m = record { station = m.station; enb_ue_id = m.enb_ue_id; nas = m.nas; tai = m.tai }
 
 abbrev pub as_entry : KeptEntry → Entry (List ℕ)
-as_entry k = record { station = k.station; enb_id = k.enb_id; nas = k.nas; tai = k.tai }
+as_entry k = record { station = k.station; enb_ue_id = k.enb_ue_id; nas = k.nas; tai = k.tai }
 
 -- the association of a stranger
 abbrev pub place_of : ℕ → KeptEntry → Connection
-place_of id k = record { id = id; station = k.station; enb_id = k.enb_id }
+place_of id k = record { id = id; station = k.station; enb_ue_id = k.enb_ue_id }
 
 unfoldable pub released : Connection → Cause → List Answer
-released k cause = sent_to k.station (release_command k.id k.enb_id cause)
+released k cause = sent_to k.station (release_command k.id k.enb_ue_id cause)
 
 -- the NAS message, plain, and a release
 unfoldable pub refused : Connection → List ℕ → List Answer

@@ -2,8 +2,8 @@
 
 ghost use Rattle.std.specs.Prelude.{◌≡◌, List, IfOk, option_map, slice_index};
 ghost use Rattle.nas_messages.specs.Messages.{lists};
-ghost use Rattle.mme_vocabulary.specs.declared.stations.StationState.{StationState};
-ghost use Rattle.mme_vocabulary.specs.Events.{entry_lists};
+ghost use Rattle.mme_types.specs.declared.stations.StationState.{StationState};
+ghost use Rattle.mme_types.specs.Events.{entry_lists};
 ghost use Rattle.stranger_machine.specs.Machine.{begins, welcome_by_fault, welcome_by_identity, welcome_by_message, welcome_by_type, displaced_by, meet, welcomed};
 ghost use Rattle.stranger_machine.specs.Seen.{refusal_of, welcome_of};
 ghost use Rattle.stranger_machine.specs.Lent.{lent_now};
@@ -15,7 +15,7 @@ use crate::table::LentStranger;
 use crate::turn::{After, Call, Turn};
 use identity_slots::AssociationId;
 use mme_signalling::{EmmCause, attach_reject, initial_octets, service_reject, update_reject};
-use mme_vocabulary::{Entry, SoloEvent};
+use mme_types::{Entry, SoloEvent};
 use nas_elements::{MobileIdentity, NasFault};
 use nas_messages::{Direction, Emm, EmmMessage, decode_emm};
 use s1ap_elements::{Cause, NasCause};
@@ -60,7 +60,7 @@ fn welcome_by_message(message: &EmmMessage) -> Welcome
     let not_derived = EmmCause::IdentityNotDerived;
     match message {
         Emm::AttachRequest(request) => welcome_by_identity(&request.identity),
-        Emm::AreaUpdateRequest(_) => Welcome::Refuse(Rejected::AreaUpdate(not_derived)),
+        Emm::TrackingAreaUpdateRequest(_) => Welcome::Refuse(Rejected::AreaUpdate(not_derived)),
         Emm::ServiceRequest { octets: _ } => Welcome::Refuse(Rejected::Service(not_derived)),
         _ => Welcome::TurnAway,
     }
@@ -156,10 +156,10 @@ pub fn begins<'a>(
         ≡ begins id (option_map lent_now before.entry) (entry_lists entry.now)) }
 {
     let call = displaced_by(id, before);
-    let (station, enb_id) = (entry.station, entry.enb_id);
+    let (station, enb_ue_id) = (entry.station, entry.enb_ue_id);
     match meet(entry.nas) {
         Welcome::Ask => {
-            let sent = identity_asked(alloc, place(id, station, enb_id))?;
+            let sent = identity_asked(alloc, place(id, station, enb_ue_id))?;
             let waiting = Stranger::Waiting {
                 kept: KeptEntry::of_entry(alloc, entry)?,
                 left: IDENTITY_TICKS,
@@ -173,7 +173,7 @@ pub fn begins<'a>(
         }
         Welcome::Refuse(rejected) => {
             let nas = refusal(alloc, rejected)?;
-            let sent = refused(alloc, id, station, enb_id, nas.as_slice())?;
+            let sent = refused(alloc, id, station, enb_ue_id, nas.as_slice())?;
             Ok(Turn {
                 after: After::Closed,
                 sent,
@@ -182,7 +182,7 @@ pub fn begins<'a>(
         }
         Welcome::TurnAway => {
             let cause = Cause::Nas(NasCause::Unspecified);
-            let sent = released(alloc, place(id, station, enb_id), cause)?;
+            let sent = released(alloc, place(id, station, enb_ue_id), cause)?;
             Ok(Turn {
                 after: After::Closed,
                 sent,

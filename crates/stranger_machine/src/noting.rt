@@ -13,7 +13,7 @@ use crate::state::Stranger;
 use crate::table::LentStranger;
 use crate::turn::Notice;
 use identity_slots::{AssociationId, number_in, station_in};
-use mme_vocabulary::{Answers, StationNumber, is_listed};
+use mme_types::{Answers, StationNumber, is_listed};
 use s1ap_elements::{AssociationsToReset, Cause, EnbUeId, NasCause};
 use std::alloc::{AllocError, Global};
 

@@ -3,8 +3,8 @@
 ghost use Rattle.std.specs.Prelude.{◌≡◌, ◌∷◌, List, [], Ok, Some, None, IfOk, option_map};
 ghost use Rattle.nas_messages.specs.Messages.{decoded_emm, lists};
 ghost use Rattle.nas_messages.specs.declared.emm_types.Direction.TheVariants.{Uplink};
-ghost use Rattle.mme_vocabulary.specs.declared.stations.StationState.{StationState};
-ghost use Rattle.mme_vocabulary.specs.Events.{Message, message_lists};
+ghost use Rattle.mme_types.specs.declared.stations.StationState.{StationState};
+ghost use Rattle.mme_types.specs.Events.{Message, message_lists};
 ghost use Rattle.stranger_machine.specs.declared.state.Stranger.{Stranger};
 ghost use Rattle.stranger_machine.specs.declared.turn.After.TheVariants as afters;
 ghost use Rattle.stranger_machine.specs.Machine.{checked_for_pair, claimed_by, receives_own, identified, imsi_of_identity, receives, imsi_in_response, unknown, receives_waiting};
@@ -19,7 +19,7 @@ use identity_slots::{AssociationId, Provision, Slot};
 use mme_signalling::{
     EmmCause, attach_reject, cause_of_request, error_indication, path_switch_failure,
 };
-use mme_vocabulary::{Answers, SoloEvent, UeBody, UeMessage};
+use mme_types::{Answers, SoloEvent, UeBody, UeMessage};
 use nas_elements::{Imsi, MobileIdentity};
 use nas_messages::{Direction, Emm, EmmMessage, decode_emm};
 use s1ap_elements::{Cause, RadioNetworkCause};
@@ -33,16 +33,16 @@ pub fn unknown(alloc: Global, message: &UeMessage<&[u8]>) -> Result<Answers, All
 {
     let cause = Cause::RadioNetwork(RadioNetworkCause::UnknownMmeUeS1apId);
     match message.body {
-        UeBody::ReleaseComplete => Ok(Answers::new(alloc)),
+        UeBody::UeContextReleaseComplete => Ok(Answers::new(alloc)),
         UeBody::PathSwitch => {
-            let failure = path_switch_failure(message.mme_id, message.enb_id, cause);
+            let failure = path_switch_failure(message.mme_ue_id, message.enb_ue_id, cause);
             sent_to(alloc, message.station, failure)
         }
         UeBody::Uplink { nas: _, tai: _ }
-        | UeBody::ReleaseRequest { cause: _ }
-        | UeBody::ContextSetupFailure
+        | UeBody::UeContextReleaseRequest { cause: _ }
+        | UeBody::InitialContextSetupFailure
         | UeBody::Notice => {
-            let indication = error_indication(message.mme_id, message.enb_id, cause);
+            let indication = error_indication(message.mme_ue_id, message.enb_ue_id, cause);
             sent_to(alloc, message.station, indication)
         }
     }
@@ -135,7 +135,7 @@ fn identified<'a>(
         }),
         None => {
             let nas = attach_reject(alloc, EmmCause::ServicesNotAllowed)?;
-            let sent = refused(alloc, id, kept.station, kept.enb_id, nas.as_slice())?;
+            let sent = refused(alloc, id, kept.station, kept.enb_ue_id, nas.as_slice())?;
             Ok(closing(sent))
         }
     }
@@ -150,24 +150,24 @@ fn receives_own<'a>(
     message: &UeMessage<&[u8]>,
 ) -> Result<Turn<'a>, AllocError>
     ensures { (stations : List StationState) (s : Stranger) → IfOk result (λ t. turn_of stations (Some s) t
-        ≡ receives_own (message_lists message.now).body provision.now.profiles message.now.mme_id kept.entry.now s) }
+        ≡ receives_own (message_lists message.now).body provision.now.profiles message.now.mme_ue_id kept.entry.now s) }
 {
     match message.body {
         UeBody::Uplink { nas, tai: _ } => {
             identified(
                 alloc,
                 provision,
-                message.mme_id,
+                message.mme_ue_id,
                 kept,
                 imsi_in_response(nas),
             )
         }
-        UeBody::ReleaseRequest { cause } => {
-            let place = kept.place(message.mme_id);
+        UeBody::UeContextReleaseRequest { cause } => {
+            let place = kept.place(message.mme_ue_id);
             Ok(closing(released(alloc, place, cause_of_request(cause))?))
         }
-        UeBody::ReleaseComplete
-        | UeBody::ContextSetupFailure
+        UeBody::UeContextReleaseComplete
+        | UeBody::InitialContextSetupFailure
         | UeBody::PathSwitch
         | UeBody::Notice => Ok(staying(Answers::new(alloc))),
     }
@@ -182,11 +182,11 @@ fn checked_for_pair<'a>(
 ) -> Result<Turn<'a>, AllocError>
     ensures { (stations : List StationState) (s : Stranger) → IfOk result (λ t. turn_of stations (Some s) t ≡ checked_for_pair provision.now.profiles (message_lists message.now) kept.entry.now s) }
 {
-    if kept.station == message.station && kept.enb_id == message.enb_id {
+    if kept.station == message.station && kept.enb_ue_id == message.enb_ue_id {
         return receives_own(alloc, provision, kept, message);
     }
     let cause = Cause::RadioNetwork(RadioNetworkCause::UnknownPairUeS1apId);
-    let indication = error_indication(message.mme_id, message.enb_id, cause);
+    let indication = error_indication(message.mme_ue_id, message.enb_ue_id, cause);
     Ok(staying(sent_to(alloc, message.station, indication)?))
 }
 
@@ -202,11 +202,11 @@ fn receives_waiting<'a>(
         ≡ receives_waiting (message_lists message.now).body provision.now.profiles (message_lists message.now) kept.entry.now s) }
 {
     match message.body {
-        UeBody::ReleaseComplete => Ok(staying(Answers::new(alloc))),
+        UeBody::UeContextReleaseComplete => Ok(staying(Answers::new(alloc))),
         UeBody::PathSwitch => Ok(staying(unknown(alloc, message)?)),
         UeBody::Uplink { nas: _, tai: _ }
-        | UeBody::ReleaseRequest { cause: _ }
-        | UeBody::ContextSetupFailure
+        | UeBody::UeContextReleaseRequest { cause: _ }
+        | UeBody::InitialContextSetupFailure
         | UeBody::Notice => checked_for_pair(alloc, provision, kept, message),
     }
 }
@@ -223,8 +223,8 @@ fn handed_on<'a>(alloc: Global, slot: Slot, message: &UeMessage<&'a [u8]>) -> Tu
             slot,
             event: SoloEvent::Message(UeMessage {
                 station: message.station,
-                mme_id: message.mme_id,
-                enb_id: message.enb_id,
+                mme_ue_id: message.mme_ue_id,
+                enb_ue_id: message.enb_ue_id,
                 body: message.body.again(),
             }),
         }),

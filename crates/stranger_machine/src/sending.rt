@@ -2,16 +2,16 @@
 
 ghost use Rattle.std.specs.Prelude.{◌≡◌, ◌++◌, IfOk, OnOk};
 ghost use Rattle.nas_messages.specs.Messages.{encoded_emm};
-ghost use Rattle.s1ap_messages.specs.Pdus.{lists};
+ghost use Rattle.s1ap_pdus.specs.Pdus.{lists};
 ghost use Rattle.mme_signalling.specs.Pdus.{downlink};
 ghost use Rattle.stranger_machine.specs.Turns.{identity_asked, identity_request, refused, released, sent_to};
 
 use identity_slots::AssociationId;
 use mme_signalling::{downlink, release_command};
-use mme_vocabulary::{Answer, Answers, Connection, SentOctets, StationNumber};
+use mme_types::{Answer, Answers, Connection, SentOctets, StationNumber};
 use nas_messages::{Emm, EmmMessage, encode_emm};
 use s1ap_elements::{Cause, EnbUeId, NasCause};
-use s1ap_messages::S1apPdu;
+use s1ap_pdus::S1apPdu;
 use std::alloc::{AllocError, Global};
 
 // The message behind what is sent so far; one without a written form isn't sent. It is taken, so that it ends here and not in each
@@ -61,7 +61,7 @@ fn release(
         alloc,
         sent,
         place.station,
-        release_command(place.id, place.enb_id, cause),
+        release_command(place.id, place.enb_ue_id, cause),
     )
 }
 
@@ -86,13 +86,13 @@ fn sent_plainly(alloc: Global, place: Connection, nas: &[u8]) -> Result<Answers,
 }
 
 /// A stranger's association, by its id, its station and its number there.
-pub(crate) fn place(id: AssociationId, station: StationNumber, enb_id: EnbUeId) -> Connection
-    ensures { result ≡ record { id = id; station = station; enb_id = enb_id } }
+pub(crate) fn place(id: AssociationId, station: StationNumber, enb_ue_id: EnbUeId) -> Connection
+    ensures { result ≡ record { id = id; station = station; enb_ue_id = enb_ue_id } }
 {
     Connection {
         id,
         station,
-        enb_id,
+        enb_ue_id,
     }
 }
 
@@ -102,14 +102,14 @@ pub(crate) fn refused(
     alloc: Global,
     id: AssociationId,
     station: StationNumber,
-    enb_id: EnbUeId,
+    enb_ue_id: EnbUeId,
     nas: &[u8],
 ) -> Result<Answers, AllocError>
-    ensures { IfOk result (λ sent. sent ≡ refused (record { id = id; station = station; enb_id = enb_id }) nas.now) }
+    ensures { IfOk result (λ sent. sent ≡ refused (record { id = id; station = station; enb_ue_id = enb_ue_id }) nas.now) }
 {
-    let mut sent = sent_plainly(alloc, place(id, station, enb_id), nas)?;
+    let mut sent = sent_plainly(alloc, place(id, station, enb_ue_id), nas)?;
     let cause = Cause::Nas(NasCause::NormalRelease);
-    release(alloc, &mut sent, place(id, station, enb_id), cause)?;
+    release(alloc, &mut sent, place(id, station, enb_ue_id), cause)?;
     Ok(sent)
 }
 

@@ -1,12 +1,12 @@
 //! What is kept of a stranger.
 
 ghost use Rattle.std.specs.Prelude.{◌≡◌, IfOk};
-ghost use Rattle.mme_vocabulary.specs.Events.{entry_lists};
+ghost use Rattle.mme_types.specs.Events.{entry_lists};
 ghost use Rattle.stranger_machine.specs.Turns.{as_entry, as_kept, place_of};
 
 use crate::sending::place;
 use identity_slots::{AssociationId, Slot};
-use mme_vocabulary::{Connection, Entry, NasOctets, StationNumber};
+use mme_types::{Connection, Entry, NasOctets, StationNumber};
 use s1ap_elements::{EnbUeId, Tai};
 use std::alloc::{AllocError, Global};
 
@@ -14,7 +14,7 @@ use std::alloc::{AllocError, Global};
 #[derive(Drop)]
 pub struct KeptEntry {
     pub station: StationNumber,
-    pub enb_id: EnbUeId,
+    pub enb_ue_id: EnbUeId,
     /// Its NAS message.
     pub nas: NasOctets,
     pub tai: Tai,
@@ -27,7 +27,7 @@ impl KeptEntry {
     {
         Ok(KeptEntry {
             station: entry.station,
-            enb_id: entry.enb_id,
+            enb_ue_id: entry.enb_ue_id,
             nas: NasOctets::new(Vec::from_slice(alloc, entry.nas)?),
             tai: entry.tai,
         })
@@ -39,7 +39,7 @@ impl KeptEntry {
     {
         Entry {
             station: self.station,
-            enb_id: self.enb_id,
+            enb_ue_id: self.enb_ue_id,
             nas: self.nas.as_slice(),
             tai: self.tai,
         }
@@ -49,7 +49,7 @@ impl KeptEntry {
     pub(crate) fn place(&self, id: AssociationId) -> Connection
         ensures { result ≡ place_of id self.now }
     {
-        place(id, self.station, self.enb_id)
+        place(id, self.station, self.enb_ue_id)
     }
 }
 

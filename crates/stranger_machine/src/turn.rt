@@ -2,7 +2,7 @@
 
 use crate::state::Stranger;
 use identity_slots::Slot;
-use mme_vocabulary::{Answers, SoloEvent, StationNumber};
+use mme_types::{Answers, SoloEvent, StationNumber};
 use s1ap_elements::AssociationsToReset;
 
 /// What comes to all strangers.

@@ -1,9 +1,9 @@
 -- Where the phones are behind a new state, a tick and a newcomer, and whom an item of a station touches.
 use Rattle.std.proofs.Common.{◌≡◌, ℕ, zero, suc, ◌+◌, ◌<◌, List, [], ◌∷◌, length, refl, sym, ◌∙◌, ap, subst}
 use Rattle.std.specs.Prelude.{slice_set, Option, Some, None, Bool, true, false, cond, not, ◌&&◌, ◌||◌, ◌==◌, map}
-use Rattle.mme_vocabulary.specs.declared.connection.Connection.{Connection}
-use Rattle.mme_vocabulary.specs.Events.{ConnectionsGone, StationGone}
-use Rattle.mme_vocabulary.specs.Listed.{ToReset, is_listed}
+use Rattle.mme_types.specs.declared.connection.Connection.{Connection}
+use Rattle.mme_types.specs.Events.{ConnectionsGone, StationGone}
+use Rattle.mme_types.specs.Listed.{ToReset, is_listed}
 use Rattle.connection_table.specs.declared.whereabouts.Whereabouts.{Whereabouts}
 use Rattle.connection_table.specs.Whereabouts.{is_concerned, is_meant, is_meant_at, is_there, slots_where}
 use Rattle.emm_state.specs.declared.solo.Solo.{Solo}
@@ -81,7 +81,7 @@ concerned_is e ws =
 
 listed_one : (e : ℕ) (items : ToReset) (k : Option Connection) → is_meant_at e items k ≡ not (is_unlisted e items k)
 listed_one e items None = refl
-listed_one e items (Some k) = sym (not_twice (k.station == e && is_listed k.id k.enb_id items))
+listed_one e items (Some k) = sym (not_twice (k.station == e && is_listed k.id k.enb_ue_id items))
 
 pub listed_is : (e : ℕ) (items : ToReset) (ws : List SubscriberView) → slots_where (is_meant e items) 0 (all_whereabouts ws) ≡ touched_slots (ConnectionsGone e items) ws
 listed_is e items ws =

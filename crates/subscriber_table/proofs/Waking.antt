@@ -6,7 +6,7 @@ use Rattle.std.proofs.lemmas.List.{length_push, map-append}
 use Rattle.std.proofs.lemmas.Option.{slice_get-map, slice_get_past, slice_get_read}
 use Rattle.std.specs.Prelude.{IfOk, Result, Ok, Err, get_or, set}
 use Rattle.identity_slots.specs.Ids.{slots}
-use Rattle.mme_vocabulary.specs.Events.{Item}
+use Rattle.mme_types.specs.Events.{Item}
 use Rattle.emm_state.specs.declared.setting.Setting.{Setting}
 use Rattle.emm_state.specs.declared.solo.Solo.{Solo}
 use Rattle.emm_machine.specs.SubscriberView.{SubscriberView}

@@ -5,7 +5,7 @@ use Rattle.std.specs.Prelude.{◌||◌, not, slice_get, slice_set, Option, Some,
 use Rattle.std.specs.Option.{option_map_or}
 use Rattle.std.proofs.lemmas.Bool.Decides.{nat_tests}
 use Rattle.std.proofs.lemmas.List.{length_push}
-use Rattle.mme_vocabulary.specs.Events.{Item, Tick}
+use Rattle.mme_types.specs.Events.{Item, Tick}
 use Rattle.emm_state.specs.Actions.{untouched}
 use Rattle.emm_state.specs.declared.draft.Draft.{Draft}
 use Rattle.emm_state.specs.declared.setting.Setting.{Setting}

@@ -79,7 +79,7 @@ both_left_by_tick p = (left_by_tick p.0, left_by_tick p.1)
 -- ---- the slots of timers
 
 abbrev pub owner_slot : TimerOwner → ℕ
-owner_slot (Stranger station enb_id) = 0
+owner_slot (Stranger station enb_ue_id) = 0
 owner_slot (Subscriber slot) = slot
 
 -- each once, where they stand side by side, behind the one that was last
@@ -89,7 +89,7 @@ slots_once last (t ∷ ts) = if is_this (owner_slot t.owner) last then slots_onc
 
 -- the owner is one of the first n slots
 abbrev pub IsSlotBelow : ℕ → TimerOwner → Type 0
-IsSlotBelow n (Stranger station enb_id) = ⊥
+IsSlotBelow n (Stranger station enb_ue_id) = ⊥
 IsSlotBelow n (Subscriber slot) = slot < n
 
 abbrev pub AreOfSlots : ℕ → List Timer → Type 0

@@ -1,7 +1,7 @@
 -- What a caller sees of the table, and what becomes of it.
 use Rattle.std.specs.Prelude.{◌≡◌, ℕ, ◌+◌, List, [], ◌∷◌, map, slice_get, slice_set, Option, Some, option_map}
 use Rattle.std.specs.Option.{option_map_or}
-use Rattle.mme_vocabulary.specs.Events.{Item}
+use Rattle.mme_types.specs.Events.{Item}
 use Rattle.emm_state.specs.declared.draft.Draft.{Draft}
 use Rattle.emm_state.specs.declared.solo.Solo.{Solo}
 use Rattle.emm_machine.specs.Steps.{solo_step}

@@ -1,6 +1,6 @@
 -- Whom an item touches, and where the phones are, by which those are found whom one of a station touches.
 use Rattle.std.specs.Prelude.{ℕ, not, List, [], ◌∷◌, map, slice_set}
-use Rattle.mme_vocabulary.specs.Events.{Item}
+use Rattle.mme_types.specs.Events.{Item}
 use Rattle.connection_table.specs.declared.whereabouts.Whereabouts.{Whereabouts}
 use Rattle.connection_table.specs.Whereabouts.{slots_where}
 use Rattle.emm_state.specs.declared.solo.Solo.{Solo}

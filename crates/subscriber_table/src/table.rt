@@ -2,7 +2,7 @@
 
 ghost use Rattle.std.specs.Prelude.{◌≡◌, ◌+◌, ◌<◌, ◌≤◌, ◌^◌, ◌++◌, ◌∷◌, [], length, slice_get, IfOk, OnErr, OnOk, None, option_map};
 ghost use Rattle.identity_slots.specs.Ids.{slots};
-ghost use Rattle.mme_vocabulary.specs.Events.{item_of, ConnectionsGone, StationGone};
+ghost use Rattle.mme_types.specs.Events.{item_of, ConnectionsGone, StationGone};
 ghost use Rattle.connection_table.specs.Whereabouts.{nowhere};
 ghost use Rattle.emm_machine.specs.Ticks.{countdowns};
 ghost use Rattle.emm_machine.specs.Words.{states_of};
@@ -17,7 +17,7 @@ use connection_table::Connections;
 use emm_machine::{States, Subscriber};
 use emm_state::Draft;
 use identity_slots::Slot;
-use mme_vocabulary::{EnbWorld, SoloEvent, StationNumber};
+use mme_types::{EnbWorld, SoloEvent, StationNumber};
 use per_bits::Listed;
 use s1ap_elements::ListedAssociation;
 use std::alloc::{AllocError, Global};

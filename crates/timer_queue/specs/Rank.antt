@@ -7,7 +7,7 @@ use Rattle.timer_queue.specs.declared.timer.Kind.{Kind}
 use Rattle.timer_queue.specs.declared.timer.Kind.TheVariants.{Procedure, Reachable}
 
 abbrev pub owner_rank : TimerOwner → ℕ
-owner_rank (Stranger station enb_id) = station * 2 ^ 32 + enb_id
+owner_rank (Stranger station enb_ue_id) = station * 2 ^ 32 + enb_ue_id
 owner_rank (Subscriber slot) = 2 ^ 40 + slot
 
 abbrev pub kind_rank : Kind → ℕ
@@ -20,7 +20,7 @@ rank t = (2 * owner_rank t.owner + kind_rank t.kind) % 2 ^ 64
 
 -- an owner whose numbers are in the range of their types
 abbrev pub IsOwner : TimerOwner → Type 0
-IsOwner (Stranger station enb_id) = (station < 2 ^ 8) × (enb_id < 2 ^ 32)
+IsOwner (Stranger station enb_ue_id) = (station < 2 ^ 8) × (enb_ue_id < 2 ^ 32)
 IsOwner (Subscriber slot) = slot < 2 ^ 32
 
 -- no two timers have one rank

@@ -7,7 +7,7 @@ ghost use Rattle.timer_queue.specs.Rank.{rank};
 #[derive(Clone, Copy, PartialEq, Eq, Debug)]
 pub enum TimerOwner {
     /// A phone that is not known yet: its station's number, and its eNB UE id there.
-    Stranger { station: u8, enb_id: u32 },
+    Stranger { station: u8, enb_ue_id: u32 },
     /// A subscriber, by its slot.
     Subscriber(u32),
 }
@@ -37,8 +37,8 @@ pub(crate) fn rank(timer: Timer) -> u64
     ensures { result ≡ rank timer }
 {
     let owner = match timer.owner {
-        TimerOwner::Stranger { station, enb_id } => {
-            u64::from(station) * 0x1_0000_0000 + u64::from(enb_id)
+        TimerOwner::Stranger { station, enb_ue_id } => {
+            u64::from(station) * 0x1_0000_0000 + u64::from(enb_ue_id)
         }
         TimerOwner::Subscriber(slot) => 0x100_0000_0000 + u64::from(slot),
     };

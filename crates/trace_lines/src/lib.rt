@@ -7,7 +7,7 @@ ghost use Rattle.trace_lines.specs.Parts.{LiesWhole, TakesPart};
 
 use memchr::memchr;
 use trace_player::PlayFault;
-use trace_text::{LONGEST_LINE, TraceFault};
+use trace_words::{LONGEST_LINE, TraceFault};
 
 /// Takes what a piece of the text has of the line that is under way: all that stands before its first LF, and where that LF is,
 /// or the whole piece where it has none. The fault is that of the line, which has this number: it would have over 40,000 octets,

@@ -4,8 +4,8 @@ use Rattle.std.proofs.lemmas.List.{take-append-drop}
 use Rattle.mme_answering.specs.declared.out.Out.{Out}
 use Rattle.trace_player.specs.declared.fault.PlayFault.{PlayFault}
 use Rattle.trace_player.specs.declared.fault.PlayFault.TheVariants.{Trace, Read, Write, NoMemory}
-use Rattle.answer_lines.specs.Words.{answers_of, out_text}
-use Rattle.answer_lines.specs.WordLaws.{answers_of-append, answers_of-more}
+use Rattle.trace_answers.specs.Words.{answers_of, out_text}
+use Rattle.trace_answers.specs.WordLaws.{answers_of-append, answers_of-more}
 use Rattle.trace_player.specs.Acts.{IsPrefix, Puts}
 use Rattle.trace_player.specs.FrontLaws.{IsPrefix-of, IsPrefix-after, IsPrefix-more}
 

@@ -2,8 +2,8 @@
 use Rattle.std.proofs.Common.{◌≡◌, ℕ, List, Result, Bor, refl, sym, ap, ◌∙◌, subst}
 use Rattle.mme_core.specs.World.{happens}
 use Rattle.mme_core.specs.declared.event.Event.TheVariants as event
-use Rattle.trace_text.specs.declared.line.Line.{Line}
-use Rattle.trace_text.specs.declared.line.Line.TheVariants.{In}
+use Rattle.trace_words.specs.declared.line.Line.{Line}
+use Rattle.trace_words.specs.declared.line.Line.TheVariants.{In}
 use Rattle.trace_player.specs.declared.fault.PlayFault.{PlayFault}
 use Rattle.trace_player.specs.declared.progress.Progress.{Progress}
 use Rattle.trace_player.specs.Effects.{Effect, effect_of, happened, in_event}

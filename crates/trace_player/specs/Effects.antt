@@ -12,15 +12,15 @@ use Rattle.mme_core.specs.declared.event.Event.{Event}
 use Rattle.mme_core.specs.declared.event.Event.TheVariants as event
 use Rattle.mme_core.specs.declared.event.StepFault.{StepFault}
 use Rattle.mme_answering.specs.declared.out.Out.{Out}
-use Rattle.trace_text.specs.Trace.{◌>>=◌}
-use Rattle.trace_text.specs.declared.line.Line.{Line}
-use Rattle.trace_text.specs.declared.line.Line.TheVariants.{Skip, Mme, Sub, Vec, Up, Lost, In, Tick, Data, Cancel, Show}
-use Rattle.trace_text.specs.declared.line.MmeLine.{MmeLine}
-use Rattle.trace_text.specs.declared.fault.TraceFault.{TraceFault}
-use Rattle.trace_text.specs.declared.fault.TraceFault.TheVariants.{Order, Provision}
+use Rattle.trace_words.specs.Trace.{◌>>=◌}
+use Rattle.trace_words.specs.declared.line.Line.{Line}
+use Rattle.trace_words.specs.declared.line.Line.TheVariants.{Skip, Mme, Sub, Vec, Up, Lost, In, Tick, Data, Cancel, Show}
+use Rattle.trace_words.specs.declared.line.MmeLine.{MmeLine}
+use Rattle.trace_words.specs.declared.fault.TraceFault.{TraceFault}
+use Rattle.trace_words.specs.declared.fault.TraceFault.TheVariants.{Order, Provision}
 use Rattle.trace_player.specs.declared.progress.Progress.{Progress}
 use Rattle.trace_player.specs.declared.progress.Progress.TheVariants.{Nothing, Provisioning, Running}
-use Rattle.answer_lines.specs.Words.{states_text}
+use Rattle.trace_answers.specs.Words.{states_text}
 use Rattle.trace_player.specs.Replies.{reply_text}
 
 -- what a line leaves and writes, or its fault

@@ -1,8 +1,8 @@
 -- The fault with which a line ends a run, and the exit status of such a run.
 use Rattle.std.specs.Prelude.{ℕ}
-use Rattle.trace_text.specs.declared.fault.TraceFault.{TraceFault}
-use Rattle.trace_text.specs.declared.fault.TraceFault.TheVariants as fault
-use Rattle.trace_text.specs.declared.fault.TraceFault.TheVariants.{UnknownWord, FieldCount, BadNumber, BadHex, TooLong, Order, Provision}
+use Rattle.trace_words.specs.declared.fault.TraceFault.{TraceFault}
+use Rattle.trace_words.specs.declared.fault.TraceFault.TheVariants as fault
+use Rattle.trace_words.specs.declared.fault.TraceFault.TheVariants.{UnknownWord, FieldCount, BadNumber, BadHex, TooLong, Order, Provision}
 use Rattle.identity_slots.specs.declared.provision.ProvisionFault.{ProvisionFault}
 use Rattle.identity_slots.specs.declared.provision.ProvisionFault.TheVariants as provision
 use Rattle.trace_player.specs.declared.fault.PlayFault.{PlayFault}

@@ -7,4 +7,4 @@ pub mod OctetLaws
 pub mod FrontLaws
 pub mod Replies
 -- what is written of an event's messages
-pub use Rattle.answer_lines.specs.Words
+pub use Rattle.trace_answers.specs.Words

@@ -1,8 +1,8 @@
 -- From the octets of a trace to the octets of its answers.
 use Rattle.std.specs.Prelude.{ℕ, ◌+◌, ◌==◌, List, [], ◌∷◌, ◌++◌, Option, Some, None, Ok, Err, if◌then◌else◌}
 use Rattle.std.specs.List.{onto_first}
-use Rattle.trace_text.specs.Trace.{line_of, ◌>>=◌}
-use Rattle.trace_text.specs.declared.fault.TraceFault.{TraceFault}
+use Rattle.trace_words.specs.Trace.{line_of, ◌>>=◌}
+use Rattle.trace_words.specs.declared.fault.TraceFault.{TraceFault}
 use Rattle.trace_player.specs.declared.progress.Progress.{Progress}
 use Rattle.trace_player.specs.declared.progress.Progress.TheVariants.{Nothing}
 use Rattle.trace_player.specs.Effects.{Effect, effect_of}

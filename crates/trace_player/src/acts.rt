@@ -16,7 +16,7 @@ use mme_core::{Event, Mme, StepFault};
 use nas_elements::Imsi;
 use std::alloc::Global;
 use std::io::Write;
-use trace_text::{Line, TraceFault};
+use trace_words::{Line, TraceFault};
 
 /// Does what the line of that number says, and writes its answers. Order or Provision where what came before doesn't allow the
 /// line, and then nothing is written; Write where the writer failed and NoMemory where a growth of memory was refused, and then a

@@ -2,20 +2,20 @@
 
 ghost use Rattle.std.specs.Prelude.{◌≡◌, ℕ, List, length, take, true, false, IfOk, IsErrOf, IsTrue};
 ghost use Rattle.std.specs.Io.KnownBytes.{Appends};
-ghost use Rattle.trace_text.specs.Trace.{answer_text, refused_text};
-ghost use Rattle.answer_lines.specs.Words.{answers_of, out_text, states_text};
+ghost use Rattle.trace_words.specs.Trace.{answer_text, refused_text};
+ghost use Rattle.trace_answers.specs.Words.{answers_of, out_text, states_text};
 ghost use Rattle.trace_player.specs.Acts.{GrowsBy, Puts};
 
 use crate::fault::PlayFault;
 use crate::watched::Watched;
-use answer_lines::{sent_line, states_line};
 use emm_machine::States;
 use mme_core::Out;
 use nas_elements::Imsi;
 use std::alloc::Global;
 use std::io::Write;
 use std::mem;
-use trace_text::{AnswerLine, write_answer};
+use trace_answers::{sent_line, states_line};
+use trace_words::{AnswerLine, write_answer};
 
 /// Writes these octets; at `false` the writer failed, and has the first of them.
 pub fn write_whole<W: Write>(writer: &mut Watched<W>, octets: &[u8]) -> bool

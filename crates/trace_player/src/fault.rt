@@ -4,7 +4,7 @@ ghost use Rattle.std.specs.Prelude.{◌≡◌};
 ghost use Rattle.trace_player.specs.Faults.{in_line, status_of};
 
 use thiserror::Error;
-use trace_text::TraceFault;
+use trace_words::TraceFault;
 
 /// Why a run ends before its trace does.
 #[derive(Clone, Copy, Debug, PartialEq, Eq, Error)]

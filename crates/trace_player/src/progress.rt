@@ -11,12 +11,12 @@ ghost use Rattle.trace_player.specs.Faults.{in_provision};
 use crate::fault::PlayFault;
 use identity_slots::{Profile, Provision, ProvisionFault, Vector};
 use mme_core::{Config, Mme};
-use mme_vocabulary::{AggregateBitRate, Apn, Network};
+use mme_types::{AggregateBitRate, Apn, Network};
 use nas_elements::Imsi;
 use per_bits::Octets;
 use std::alloc::Global;
 use std::mem;
-use trace_text::{ApnLabel, BitRate, MmeLine, TraceFault};
+use trace_words::{ApnLabel, BitRate, MmeLine, TraceFault};
 
 /// How far a trace has got.
 #[derive(Drop)]

@@ -2,9 +2,9 @@
 use Rattle.std.proofs.Common.{◌≡◌, ℕ, ◌/◌, ◌%◌, ◌^◌, ◌<◌, ◌≤◌, ◌&&◌, Bool, true, false, ltb, eqb, List, length, Option, Some, None, refl, arith, true≢false}
 use Rattle.std.specs.Int.{w32, to_be_bytes}
 use Rattle.std.proofs.lemmas.Bool.{and_from, and_parts, eqb-true, lt-ltb}
-use Rattle.bit_streams.specs.Octet.{AreBytes, all_below}
-use Rattle.bit_streams.specs.Bits.{octet_bits}
-use Rattle.bit_streams.specs.BitLaws.{length-octet_bits}
+use Rattle.per_streams.specs.Octet.{AreBytes, all_below}
+use Rattle.per_streams.specs.Bits.{octet_bits}
+use Rattle.per_streams.specs.BitLaws.{length-octet_bits}
 use Rattle.per_bits.specs.Formats.{octet_string}
 use Rattle.per_bits.specs.Written.{number_fits, optional_fits}
 use Rattle.s1ap_elements.specs.Causes.{typed_cause}
@@ -18,8 +18,8 @@ use Rattle.s1ap_elements.specs.declared.cause.ProtocolCause.TheVariants as proto
 use Rattle.s1ap_elements.specs.declared.cause.MiscCause.TheVariants as misc
 use Rattle.s1ap_elements.specs.declared.phone.Tai.{Tai}
 use Rattle.identity_slots.specs.declared.profile.Profile.{Profile}
-use Rattle.mme_vocabulary.specs.declared.connection.Connection.{Connection}
-use Rattle.mme_vocabulary.specs.declared.network.Network.{Network}
+use Rattle.mme_types.specs.declared.connection.Connection.{Connection}
+use Rattle.mme_types.specs.declared.network.Network.{Network}
 use Rattle.mme_signalling.specs.Pdus.{context_setup, downlink, error_indication, is_extended, paging, path_switch_acknowledge, path_switch_failure, release_command}
 use Rattle.written_sizes.specs.SizeLaws.{number_allowed}
 use Rattle.written_sizes.specs.Sizes.{IsShortMessage, in_range, most_octets, most_of_optional}
@@ -68,32 +68,32 @@ pub short_downlink : (k : Connection) (nas : List ℕ) → ConnectionInRange k �
 unfolding downlink
 short_downlink k nas ids brief =
     let few : length nas ≤ 15000 = brief.few in
-    record { ranges = mme_then k.id _ ids.id (enb_then k.enb_id _ ids.enb_id (then_done _ brief.octets)); size = omega (arith, few) }
+    record { ranges = mme_then k.id _ ids.id (enb_then k.enb_ue_id _ ids.enb_ue_id (then_done _ brief.octets)); size = omega (arith, few) }
 
-pub short_release_command : (id enb_id : ℕ) (c : Cause) → id < 2 ^ 32 → enb_id < 2 ^ 24 → is_extended c ≡ false → IsShortMessage (release_command id enb_id c)
+pub short_release_command : (id enb_ue_id : ℕ) (c : Cause) → id < 2 ^ 32 → enb_ue_id < 2 ^ 24 → is_extended c ≡ false → IsShortMessage (release_command id enb_ue_id c)
 unfolding release_command
-short_release_command id enb_id c low less known =
+short_release_command id enb_ue_id c low less known =
     let size : most_octets cause (typed_cause c) ≡ 22 = cause_size c in
-    record { ranges = and_from _ _ (mme_then id _ low (enb_then enb_id _ less refl)) (then_done _ (cause_in_range c known)); size = omega (arith, size) }
+    record { ranges = and_from _ _ (mme_then id _ low (enb_then enb_ue_id _ less refl)) (then_done _ (cause_in_range c known)); size = omega (arith, size) }
 
-pub short_path_switch_failure : (id enb_id : ℕ) (c : Cause) → id < 2 ^ 32 → enb_id < 2 ^ 24 → is_extended c ≡ false → IsShortMessage (path_switch_failure id enb_id c)
+pub short_path_switch_failure : (id enb_ue_id : ℕ) (c : Cause) → id < 2 ^ 32 → enb_ue_id < 2 ^ 24 → is_extended c ≡ false → IsShortMessage (path_switch_failure id enb_ue_id c)
 unfolding path_switch_failure
-short_path_switch_failure id enb_id c low less known =
+short_path_switch_failure id enb_ue_id c low less known =
     let size : most_octets cause (typed_cause c) ≡ 22 = cause_size c in
-    record { ranges = mme_then id _ low (enb_then enb_id _ less (then_done _ (cause_in_range c known))); size = omega (arith, size) }
+    record { ranges = mme_then id _ low (enb_then enb_ue_id _ less (then_done _ (cause_in_range c known))); size = omega (arith, size) }
 
-pub short_error_indication : (id enb_id : ℕ) (c : Cause) → id < 2 ^ 32 → enb_id < 2 ^ 24 → is_extended c ≡ false → IsShortMessage (error_indication id enb_id c)
+pub short_error_indication : (id enb_ue_id : ℕ) (c : Cause) → id < 2 ^ 32 → enb_ue_id < 2 ^ 24 → is_extended c ≡ false → IsShortMessage (error_indication id enb_ue_id c)
 unfolding error_indication
-short_error_indication id enb_id c low less known =
+short_error_indication id enb_ue_id c low less known =
     let size : most_octets cause (typed_cause c) ≡ 22 = cause_size c in
-    record { ranges = mme_then id _ low (enb_then enb_id _ less (then_done _ (cause_in_range c known))); size = omega (arith, size) }
+    record { ranges = mme_then id _ low (enb_then enb_ue_id _ less (then_done _ (cause_in_range c known))); size = omega (arith, size) }
 
 pub short_path_switch_acknowledge : (k : Connection) (hop : List ℕ) (count : ℕ) → ConnectionInRange k → AreBytes 32 hop → count < 8 → IsShortMessage (path_switch_acknowledge k hop count)
 unfolding path_switch_acknowledge
 short_path_switch_acknowledge k hop count ids key low =
     let long : length hop ≡ 32 = bytes_long 32 hop key in
     record {
-      ranges = mme_then k.id _ ids.id (enb_then k.enb_id _ ids.enb_id (then_done _ (number_then 7 count _ (omega (arith, low)) (omega arith) (then_done _ key))));
+      ranges = mme_then k.id _ ids.id (enb_then k.enb_ue_id _ ids.enb_ue_id (then_done _ (number_then 7 count _ (omega (arith, low)) (omega arith) (then_done _ key))));
       size = omega (arith, long);
     }
 
@@ -139,7 +139,7 @@ short_context_setup n p capability k kenb nas network profile ids key brief =
     let address_long : length (octet_bits p.gateway) ≡ 32 = address_bits p.gateway profile.gateway in
     let few : most_of_optional (most_octets octet_string) nas ≤ 15004 = optional_few nas brief in
     record {
-      ranges = mme_then k.id _ ids.id (enb_then k.enb_id _ ids.enb_id
+      ranges = mme_then k.id _ ids.id (enb_then k.enb_ue_id _ ids.enb_ue_id
           (and_from _ _ (number_then 10000000000 n.down _ network.down (omega arith) (number_then 10000000000 n.up _ network.up (omega arith) refl))
           (and_from _ _
           (then_done _ (then_done _ (and_from _ _ (address_fits p.gateway profile.gateway) (and_from _ _ profile.teid (then_done _ (optional_in_range nas brief))))))

@@ -6,7 +6,7 @@ use Rattle.std.proofs.lemmas.Bool.{and_from, and_parts, eq-eqb, lt-ltb}
 use Rattle.std.proofs.lemmas.List.{length-append, length-take}
 use Rattle.std.proofs.lemmas.Nat.{xor_lt}
 use Rattle.sha2.specs.Sha256.{digest_bytes, sha256}
-use Rattle.bit_streams.specs.Octet.{AreBytes, all_below}
+use Rattle.per_streams.specs.Octet.{AreBytes, all_below}
 use Rattle.eps_keys.specs.declared.direction.DirectionBit.{DirectionBit}
 use Rattle.eps_keys.specs.Aes.{aes, block_of, keys_from, last_round, next_key, rotated_and_substituted, round, round_constants, rounds, shift_rows, sub_bytes, word, word_of, xor_blocks, xor_words}
 use Rattle.eps_keys.specs.Cmac.{cmac_from}

@@ -3,7 +3,7 @@ use Rattle.std.proofs.Common.{◌≡◌, ℕ, zero, suc, ◌+◌, ◌*◌, ◌/�
 use Rattle.std.proofs.lemmas.Bool.{and_from, and_parts, lt-ltb, ltb-true}
 use Rattle.std.proofs.lemmas.List.{length-append}
 use Rattle.std.specs.Int.{w32, to_be_bytes}
-use Rattle.bit_streams.specs.Octet.{AreBytes, all_below}
+use Rattle.per_streams.specs.Octet.{AreBytes, all_below}
 use Rattle.s1ap_elements.specs.declared.phone.Tai.{Tai}
 use Rattle.nas_elements.specs.Capability.{replayed}
 use Rattle.nas_elements.specs.Identities.{guti_octets, plmn_from_s1ap, tai_list_octets}
@@ -22,7 +22,7 @@ use Rattle.esm_machine.specs.declared.cause.EsmCause.TheVariants.{RequestRejecte
 use Rattle.esm_machine.specs.Causes.{esm_cause_code}
 use Rattle.esm_machine.specs.Sent.{activation, address_cause, connectivity_reject, disconnect_reject, information_request, status}
 use Rattle.esm_machine.specs.Sessions.{Session, is_dual, transaction_of}
-use Rattle.mme_vocabulary.specs.declared.network.Network.{Network}
+use Rattle.mme_types.specs.declared.network.Network.{Network}
 use Rattle.mme_signalling.specs.declared.cause.EmmCause.{EmmCause}
 use Rattle.mme_signalling.specs.declared.cause.EmmCause.TheVariants.{ServicesNotAllowed}
 use Rattle.mme_signalling.specs.declared.messages.Grant.{Grant}

@@ -1,15 +1,15 @@
 -- The ranges of what messages are built of. A definition's numbers are any and its strings of any length; in the code these hold by
 -- the types, and of what is kept by how it came about.
 use Rattle.std.specs.Prelude.{◌≡◌, ℕ, ◌^◌, ◌<◌, ◌≤◌, true, List, length, Option, Some, None}
-use Rattle.bit_streams.specs.Octet.{AreBytes, all_below}
+use Rattle.per_streams.specs.Octet.{AreBytes, all_below}
 use Rattle.s1ap_elements.specs.declared.phone.Tai.{Tai}
-use Rattle.s1ap_messages.specs.declared.pdu.Pdu.{Pdu}
-use Rattle.s1ap_messages.specs.Pdus.{encoded}
+use Rattle.s1ap_pdus.specs.declared.pdu.Pdu.{Pdu}
+use Rattle.s1ap_pdus.specs.Pdus.{encoded}
 use Rattle.identity_slots.specs.declared.profile.Profile.{Profile}
 use Rattle.identity_slots.specs.declared.profile.Vector.{Vector}
-use Rattle.mme_vocabulary.specs.declared.connection.Connection.{Connection}
-use Rattle.mme_vocabulary.specs.declared.connection.RadioKeys.{RadioKeys}
-use Rattle.mme_vocabulary.specs.declared.network.Network.{Network}
+use Rattle.mme_types.specs.declared.connection.Connection.{Connection}
+use Rattle.mme_types.specs.declared.connection.RadioKeys.{RadioKeys}
+use Rattle.mme_types.specs.declared.network.Network.{Network}
 
 -- a message has a written form, so it is sent
 abbrev pub IsWritten : Pdu (List ℕ) → Type 0
@@ -32,7 +32,7 @@ IsBriefIf most (Some os) = IsBrief most os
 -- the MME UE S1AP ID and the eNB UE S1AP ID (TS 36.413 clauses 9.2.3.3, 9.2.3.4)
 pub record ConnectionInRange (k : Connection) : Type 0 where
   pub id : k.id < 2 ^ 32
-  pub enb_id : k.enb_id < 2 ^ 24
+  pub enb_ue_id : k.enb_ue_id < 2 ^ 24
 
 -- keys of 256 bits, and the next hop chaining count (TS 36.413 clauses 9.2.1.41, 9.2.1.26)
 pub record KeysInRange (keys : RadioKeys) : Type 0 where

@@ -1,7 +1,7 @@
 //! The laws: each is the contract of a function that does nothing.
 
 ghost use Rattle.std.specs.Prelude.{◌≡◌, ◌<◌, ◌^◌, ℕ, true, false, List, Option};
-ghost use Rattle.bit_streams.specs.Octet.{AreBytes, all_below};
+ghost use Rattle.per_streams.specs.Octet.{AreBytes, all_below};
 ghost use Rattle.s1ap_elements.specs.declared.cause.Cause.{Cause};
 ghost use Rattle.s1ap_elements.specs.declared.phone.Tai.{Tai};
 ghost use Rattle.nas_messages.specs.declared.protection.SecurityHeader.{SecurityHeader};
@@ -14,8 +14,8 @@ ghost use Rattle.esm_machine.specs.Sent.{activation, connectivity_reject, discon
 ghost use Rattle.esm_machine.specs.Sessions.{Session, transaction_of};
 ghost use Rattle.identity_slots.specs.declared.profile.Profile.{Profile};
 ghost use Rattle.identity_slots.specs.declared.profile.Vector.{Vector};
-ghost use Rattle.mme_vocabulary.specs.declared.connection.Connection.{Connection};
-ghost use Rattle.mme_vocabulary.specs.declared.network.Network.{Network};
+ghost use Rattle.mme_types.specs.declared.connection.Connection.{Connection};
+ghost use Rattle.mme_types.specs.declared.network.Network.{Network};
 ghost use Rattle.mme_signalling.specs.declared.cause.EmmCause.{EmmCause};
 ghost use Rattle.mme_signalling.specs.declared.messages.Grant.{Grant};
 ghost use Rattle.mme_signalling.specs.Messages.{attach_accept, attach_reject, authentication_reject, authentication_request, detach_accept, emm_status, network_detach, security_mode_command, service_reject, update_accept, update_reject};
@@ -28,12 +28,12 @@ use written_sizes::short_messages_are_written;
 /// 15000 octets (TS 36.413 clause 9.1).
 pub fn phone_messages_are_written()
     ensures nas { (k : Connection) (nas : List ℕ) → ConnectionInRange k → IsBrief 15000 nas → IsWritten (downlink k nas) }
-    ensures release { (id enb_id : ℕ) (c : Cause) → id < 2 ^ 32 → enb_id < 2 ^ 24 → is_extended c ≡ false
-        → IsWritten (release_command id enb_id c) }
-    ensures indication { (id enb_id : ℕ) (c : Cause) → id < 2 ^ 32 → enb_id < 2 ^ 24 → is_extended c ≡ false
-        → IsWritten (error_indication id enb_id c) }
-    ensures not_switched { (id enb_id : ℕ) (c : Cause) → id < 2 ^ 32 → enb_id < 2 ^ 24 → is_extended c ≡ false
-        → IsWritten (path_switch_failure id enb_id c) }
+    ensures release { (id enb_ue_id : ℕ) (c : Cause) → id < 2 ^ 32 → enb_ue_id < 2 ^ 24 → is_extended c ≡ false
+        → IsWritten (release_command id enb_ue_id c) }
+    ensures indication { (id enb_ue_id : ℕ) (c : Cause) → id < 2 ^ 32 → enb_ue_id < 2 ^ 24 → is_extended c ≡ false
+        → IsWritten (error_indication id enb_ue_id c) }
+    ensures not_switched { (id enb_ue_id : ℕ) (c : Cause) → id < 2 ^ 32 → enb_ue_id < 2 ^ 24 → is_extended c ≡ false
+        → IsWritten (path_switch_failure id enb_ue_id c) }
     ensures switched { (k : Connection) (hop : List ℕ) (count : ℕ) → ConnectionInRange k → AreBytes 32 hop → count < 8
         → IsWritten (path_switch_acknowledge k hop count) }
     ensures page { (n : Network) (imsi : List ℕ) (tmsi : ℕ) (tai : Tai) → NetworkInRange n → TaiInRange tai

@@ -4,9 +4,9 @@ use Rattle.std.proofs.lemmas.Bool.{and_from, and_parts, le-leb, leb-true, lt-ltb
 use Rattle.std.proofs.lemmas.Grind.{common_steps}
 use Rattle.std.proofs.lemmas.List.{length-append, length-replicate, length-take}
 use Rattle.std.proofs.Math.Pow.{pow_mono}
-use Rattle.bit_streams.specs.Octet.{all_below}
-use Rattle.bit_streams.specs.Bits.{bits, octet_bits, octets_of_bits, pad, padded, padding, value}
-use Rattle.bit_streams.specs.BitLaws.{length-bits, length-octet_bits, value_below}
+use Rattle.per_streams.specs.Octet.{all_below}
+use Rattle.per_streams.specs.Bits.{bits, octet_bits, octets_of_bits, pad, padded, padding, value}
+use Rattle.per_streams.specs.BitLaws.{length-bits, length-octet_bits, value_below}
 use Rattle.per_bits.specs.Formats.{Format, number, octets, octets_between, octet_string, bit_string, bits_between, enumerated, closed, items, open_type, plain, sequence, choice, Fields, done, must, may, skip, fixed, marked, Alternatives, last, either, Value, Values, Chosen, optionals, alternatives, raw}
 use Rattle.per_bits.specs.LargeLaws.{octets-most}
 use Rattle.per_bits.specs.Numbers.{octets_for, offset_bits, whole, width_of}
@@ -19,9 +19,9 @@ use Rattle.s1ap_rows.specs.Criticalities.{criticality_number}
 use Rattle.s1ap_rows.specs.Rows.{Rows, ie, end, needed, optional, unkept, Kept}
 use Rattle.s1ap_rows.specs.Spelling.{Raw, message}
 use Rattle.s1ap_rows.specs.Writable.{elements_of, message_fits, raw_of, values_fit}
-use Rattle.s1ap_messages.specs.declared.pdu.Pdu.{Pdu}
-use Rattle.s1ap_messages.specs.Pdus.{IsWritableMessage, typed}
-use Rattle.s1ap_messages.specs.Profile.{rows_of}
+use Rattle.s1ap_pdus.specs.declared.pdu.Pdu.{Pdu}
+use Rattle.s1ap_pdus.specs.Pdus.{IsWritableMessage, typed}
+use Rattle.s1ap_pdus.specs.Profile.{rows_of}
 use Rattle.written_sizes.specs.Sizes.{IsShortMessage, chosen_in_range, fields_in_range, in_range, most_octets, most_of_chosen, most_of_each, most_of_fields, most_of_optional, most_of_rows, rows_in_range}
 
 -- ---- tests

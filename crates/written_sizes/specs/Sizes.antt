@@ -2,14 +2,14 @@
 -- padding is counted as an octet, a number as ten (X.691 clauses 11.5, 11.9, 14 to 23).
 use Rattle.std.specs.Prelude.{◌≡◌, ℕ, ◌+◌, ◌-◌, ◌≤◌, ◌==◌, ◌&&◌, nat_le, Bool, true, List, [], ◌∷◌, length, Option, Some, None}
 use Rattle.std.proofs.Common.{inl, inr}
-use Rattle.bit_streams.specs.Octet.{all_below}
+use Rattle.per_streams.specs.Octet.{all_below}
 use Rattle.per_bits.specs.Formats.{Format, number, octets, octets_between, octet_string, bit_string, bits_between, enumerated, closed, items, open_type, plain, sequence, choice, Fields, done, must, may, skip, fixed, marked, Alternatives, last, either, Value, Values, Chosen, optionals, alternatives}
 use Rattle.per_bits.specs.Writing.{index_of}
 use Rattle.per_bits.specs.Written.{each_fits, name_fits, number_fits, optional_fits}
 use Rattle.s1ap_rows.specs.Rows.{Rows, ie, end, needed, optional, unkept, Kept}
-use Rattle.s1ap_messages.specs.declared.pdu.Pdu.{Pdu}
-use Rattle.s1ap_messages.specs.Profile.{rows_of}
-use Rattle.s1ap_messages.specs.Pdus.{typed}
+use Rattle.s1ap_pdus.specs.declared.pdu.Pdu.{Pdu}
+use Rattle.s1ap_pdus.specs.Profile.{rows_of}
+use Rattle.s1ap_pdus.specs.Pdus.{typed}
 
 -- ---- values
 

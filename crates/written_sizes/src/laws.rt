@@ -3,11 +3,11 @@
 ghost use Rattle.std.specs.Prelude.{◌≡◌, ◌≤◌, ◌*◌, ℕ, true, List, length, Some};
 ghost use Rattle.per_bits.specs.Formats.{Format, Value};
 ghost use Rattle.per_bits.specs.Written.{IsWritable, written};
-ghost use Rattle.s1ap_messages.specs.declared.pdu.Pdu.{Pdu};
-ghost use Rattle.s1ap_messages.specs.Pdus.{IsWritableMessage, encoded};
+ghost use Rattle.s1ap_pdus.specs.declared.pdu.Pdu.{Pdu};
+ghost use Rattle.s1ap_pdus.specs.Pdus.{IsWritableMessage, encoded};
 ghost use Rattle.written_sizes.specs.Sizes.{IsShortMessage, in_range, most_octets};
 
-use s1ap_messages::encoded_exactly;
+use s1ap_pdus::encoded_exactly;
 
 /// The written form of a value has at most so many octets as its format and its strings say, wherever it stands; and a value with
 /// its numbers in range, its lists of a length that is allowed and at most 16383 octets in all is writable.

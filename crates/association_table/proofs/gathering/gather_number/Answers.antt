@@ -5,13 +5,13 @@ use Rattle.association_table.proofs.gathering.gather_number.Goals as goal
 
 pub loop-association-init : goal.loop-association-init
 loop-association-init c = record {
-  gathered = number_begins c.args.station c.args.enb_id c.args.associations.now.entries c.args.gathered.now.items;
+  gathered = number_begins c.args.station c.args.enb_ue_id c.args.associations.now.entries c.args.gathered.now.items;
   small = omega arith;
 }
 
 pub loop-association-smaller : goal.loop-association-smaller
 loop-association-smaller c =
-    let there = first_is_numbered c.args.station c.args.enb_id c.loop-association.least c.in-Some.association c.args.associations.now.entries (sym c.first_numbered.ensures.value ∙ c.in-Some.is) in
+    let there = first_is_numbered c.args.station c.args.enb_ue_id c.loop-association.least c.in-Some.association c.args.associations.now.entries (sym c.first_numbered.ensures.value ∙ c.in-Some.is) in
     let small = c.association_id.type_inv in
     let is = c.association_id.ensures in
     let wide = c.from-least.ensures in
@@ -20,7 +20,7 @@ loop-association-smaller c =
 pub loop-association-preserved : goal.loop-association-preserved
 loop-association-preserved c =
     let e = c.args.station in
-    let n = c.args.enb_id in
+    let n = c.args.enb_ue_id in
     let a = c.in-Some.association in
     let es = c.args.associations.now.entries in
     let old = c.args.gathered.now.items in
@@ -36,5 +36,5 @@ loop-association-preserved c =
 
 pub returns : goal.returns
 returns c =
-    number_ends c.args.station c.args.enb_id c.loop-association.least c.args.associations.now.entries c.args.gathered.now.items c.loop-association.gathered.items
+    number_ends c.args.station c.args.enb_ue_id c.loop-association.least c.args.associations.now.entries c.args.gathered.now.items c.loop-association.gathered.items
     (sym c.first_numbered.ensures.value ∙ c.in_default.is) c.loop-association.invariant.gathered

@@ -5,7 +5,7 @@ use Rattle.association_table.proofs.gathering.gather_number.Given as goal
 
 abbrev pub invariant-loop-association : goal.invariant-loop-association
 invariant-loop-association l = record {
-  gathered : Gathers (below l.station l.enb_id l.least) l.associations.entries l.fn.gathered.items l.gathered.items;
+  gathered : Gathers (below l.station l.enb_ue_id l.least) l.associations.entries l.fn.gathered.items l.gathered.items;
   small : l.least ≤ 2 ^ 32;
 }
 

@@ -1,6 +1,6 @@
 use Rattle.std.proofs.Common.{◌++◌, [], map, sym, ◌∙◌, ap}
 use Rattle.std.proofs.lemmas.Result.{IfOk-weaker, on_ok_weaker}
-use Rattle.mme_vocabulary.specs.Events.{entry_lists}
+use Rattle.mme_types.specs.Events.{entry_lists}
 use Rattle.stranger_machine.specs.Machine.{begins}
 use Rattle.stranger_machine.specs.Table.{with_stranger}
 use Rattle.stranger_machine.specs.Turns.{Turn, turn_of}

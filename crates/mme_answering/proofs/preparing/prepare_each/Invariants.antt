@@ -1,5 +1,5 @@
 use Rattle.std.proofs.Common.{◌≡◌, ◌<◌, ◌++◌, drop, length}
-use Rattle.mme_vocabulary.specs.Events.{item_of}
+use Rattle.mme_types.specs.Events.{item_of}
 use Rattle.ordered_lists.specs.Ordered.{Every}
 use Rattle.subscriber_table.specs.SteppedView.{SteppedView}
 use Rattle.subscriber_table.specs.Laws.{some_give}

@@ -1,6 +1,6 @@
 use Rattle.std.proofs.Common.{◌++◌, arith, sym, ◌∙◌, ap}
 use Rattle.std.proofs.lemmas.List.{append-nil}
-use Rattle.mme_vocabulary.specs.Events.{item_of}
+use Rattle.mme_types.specs.Events.{item_of}
 use Rattle.mme_answering.specs.Settled.{with_solo}
 use Rattle.mme_answering.proofs.Calling.{call_past}
 use Rattle.mme_answering.proofs.Stepping.{called_after, called_sends}

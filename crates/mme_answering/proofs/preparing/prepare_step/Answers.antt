@@ -1,5 +1,5 @@
 use Rattle.std.proofs.Common.{sym, subst}
-use Rattle.mme_vocabulary.specs.Events.{item_of}
+use Rattle.mme_types.specs.Events.{item_of}
 use Rattle.emm_state.specs.declared.draft.Draft.{Draft}
 use Rattle.subscriber_table.specs.SteppedView.{SteppedView}
 use Rattle.subscriber_table.specs.Table.{IsCounting}

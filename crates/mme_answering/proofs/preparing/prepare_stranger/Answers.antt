@@ -1,6 +1,6 @@
 use Rattle.std.proofs.Common.{◌++◌, [], map, sym, ◌∙◌, ap}
 use Rattle.std.proofs.lemmas.Result.{IfOk-weaker, on_ok_weaker}
-use Rattle.mme_vocabulary.specs.Events.{message_lists}
+use Rattle.mme_types.specs.Events.{message_lists}
 use Rattle.stranger_machine.specs.Machine.{receives}
 use Rattle.stranger_machine.specs.Table.{with_stranger}
 use Rattle.stranger_machine.specs.Turns.{Turn, turn_of}
@@ -11,7 +11,7 @@ use Rattle.mme_answering.proofs.preparing.prepare_stranger.Goals as goal
 
 pub returns-clause-sends : goal.returns-clause-sends
 returns-clause-sends c =
-    let id = c.args.message.now.mme_id in
+    let id = c.args.message.now.mme_ue_id in
     let m = message_lists c.args.message.now in
     let x = c.in_ok-turn.turn in
     let ws = c.args.stations.now in
@@ -22,7 +22,7 @@ returns-clause-sends c =
 
 pub returns-clause-strangers : goal.returns-clause-strangers
 returns-clause-strangers c =
-    let id = c.args.message.now.mme_id in
+    let id = c.args.message.now.mme_ue_id in
     let m = message_lists c.args.message.now in
     let x = c.in_ok-turn.turn in
     let ks = c.args.strangers.now.strangers in
@@ -31,7 +31,7 @@ returns-clause-strangers c =
 
 pub returns-clause-subscribers : goal.returns-clause-subscribers
 returns-clause-subscribers c =
-    let id = c.args.message.now.mme_id in
+    let id = c.args.message.now.mme_ue_id in
     let m = message_lists c.args.message.now in
     let x = c.in_ok-turn.turn in
     let ws = c.args.stations.now in

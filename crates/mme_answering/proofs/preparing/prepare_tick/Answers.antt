@@ -1,6 +1,6 @@
 use Rattle.std.proofs.Common.{◌<◌, ◌++◌, length, sym, ◌∙◌, ap, subst}
 use Rattle.std.proofs.lemmas.List.{append_assoc}
-use Rattle.mme_vocabulary.specs.Events.{Tick}
+use Rattle.mme_types.specs.Events.{Tick}
 use Rattle.ordered_lists.specs.Ordered.{Every}
 use Rattle.stranger_machine.specs.declared.turn.Notice.TheVariants as notices
 use Rattle.subscriber_table.specs.Laws.{due_below, some_give}

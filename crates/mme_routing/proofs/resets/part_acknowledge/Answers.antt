@@ -3,7 +3,7 @@ use Rattle.std.specs.Prelude.{IfSome, IsSome, ◌↔◌}
 use Rattle.std.proofs.lemmas.List.{length-map, map_more, take_all}
 use Rattle.per_bits.specs.declared.wrapped.Listed.{Listed}
 use Rattle.s1ap_elements.specs.declared.phone.ListedAssociation.{ListedAssociation}
-use Rattle.mme_vocabulary.specs.Listed.{ToReset}
+use Rattle.mme_types.specs.Listed.{ToReset}
 use Rattle.mme_routing.specs.Resets.{acknowledged, items_reset, part_acknowledge}
 use Rattle.mme_routing.proofs.resets.part_acknowledge.Goals as goal
 

@@ -1,5 +1,5 @@
 use Rattle.std.proofs.Common.{arith}
-use Rattle.bit_streams.specs.WholeOctets.{bytes-below}
+use Rattle.per_streams.specs.WholeOctets.{bytes-below}
 use Rattle.mme_written.proofs.provisioned.octets_are_below.Goals as goal
 
 pub returns : goal.returns

@@ -1,8 +1,8 @@
 use Rattle.std.proofs.Common.{◌≡◌, ◌+◌, ◌*◌, ◌/◌, ◌%◌, ap, ◌∙◌, arith}
 use Rattle.std.proofs.lemmas.Result.{err_from_is_err_and}
 use Rattle.std.proofs.Math.Pow.{pow_mono}
-use Rattle.bit_streams.specs.Bits.{aligned_bits_at}
-use Rattle.bit_streams.specs.WholeOctets.{bits_below, string_read, string_no_octets, string_no_bits}
+use Rattle.per_streams.specs.Bits.{aligned_bits_at}
+use Rattle.per_streams.specs.WholeOctets.{bits_below, string_read, string_no_octets, string_no_bits}
 use Rattle.per_bits.proofs.bit_string.take_string.Goals as goal
 
 pub returns-in_err-octets-clause-exact : goal.returns-in_err-octets-clause-exact

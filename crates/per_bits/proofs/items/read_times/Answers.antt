@@ -3,8 +3,8 @@ use native.Mathlib.Nat.{sub-zero}
 use Rattle.std.proofs.lemmas.Result.{err_from_is_err_and}
 use Rattle.std.proofs.lemmas.List.{map_push}
 use Rattle.per_bits.specs.Reading.{read_at}
-use Rattle.bit_streams.specs.Each.{times}
-use Rattle.bit_streams.specs.Times.{goes_on, ends, is_done, none_yet}
+use Rattle.per_streams.specs.Each.{times}
+use Rattle.per_streams.specs.Times.{goes_on, ends, is_done, none_yet}
 use Rattle.per_bits.proofs.items.read_times.Goals as goal
 
 pub loop-init : goal.loop-init

@@ -1,7 +1,7 @@
 use Rattle.std.proofs.Common.{◌≡◌, ◌-◌, map}
 use Rattle.per_bits.specs.Reading.{read_at}
-use Rattle.bit_streams.specs.Each.{times}
-use Rattle.bit_streams.specs.Times.{with_front}
+use Rattle.per_streams.specs.Each.{times}
+use Rattle.per_streams.specs.Times.{with_front}
 use Rattle.per_bits.proofs.items.read_times.Given as goal
 
 abbrev pub invariant-loop : goal.invariant-loop

@@ -1,5 +1,5 @@
 use Rattle.std.proofs.Common.{◌≡◌, Bool, true, false, List, length, Err, refl, ap, ◌∙◌}
-use Rattle.bit_streams.specs.declared.fault.PerFault.TheVariants.{Range}
+use Rattle.per_streams.specs.declared.fault.PerFault.TheVariants.{Range}
 use Rattle.per_bits.specs.Written.{writable, written}
 use Rattle.per_bits.proofs.WrittenLaws.{put_if, writes}
 use Rattle.per_bits.proofs.laws.writes_exactly.Goals as goal

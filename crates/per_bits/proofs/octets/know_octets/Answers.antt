@@ -1,5 +1,5 @@
 use Rattle.std.proofs.Common.{arith}
-use Rattle.bit_streams.specs.WholeOctets.{bytes-below}
+use Rattle.per_streams.specs.WholeOctets.{bytes-below}
 use Rattle.per_bits.proofs.octets.know_octets.Goals as goal
 
 pub returns : goal.returns

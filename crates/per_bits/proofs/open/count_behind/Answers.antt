@@ -1,7 +1,7 @@
 use Rattle.std.proofs.Common.{◌≡◌, ◌-◌, ◌*◌, ◌+◌, ◌/◌, ◌%◌, length, take, drop, sym, ap, ◌∙◌, ◌++◌, List, Bool, arith}
 use Rattle.std.proofs.lemmas.List.{length-take-le}
 use Rattle.std.proofs.lemmas.Result.{on_ok_weaker}
-use Rattle.bit_streams.specs.Bits.{bits}
+use Rattle.per_streams.specs.Bits.{bits}
 use Rattle.per_bits.proofs.OpenLaws.{counted_in_two, two_octets}
 use Rattle.per_bits.proofs.Passing.{wrote_if}
 use Rattle.per_bits.proofs.open.count_behind.Goals as goal

@@ -1,11 +1,11 @@
 use Rattle.std.proofs.Common.{◌++◌, ◌∷◌, [], sym, arith}
 use Rattle.std.proofs.lemmas.Result.{err_from_is_err_and}
-use Rattle.bit_streams.specs.Bits.{bit_at}
-use Rattle.bit_streams.specs.Each.{times}
-use Rattle.bit_streams.specs.BitLaws.{bool_below}
+use Rattle.per_streams.specs.Bits.{bit_at}
+use Rattle.per_streams.specs.Each.{times}
+use Rattle.per_streams.specs.BitLaws.{bool_below}
 use Rattle.per_bits.proofs.Passing.{trues-push}
-use Rattle.bit_streams.specs.Times.{goes_on, is_done}
-use Rattle.bit_streams.specs.WholeOctets.{ends_fault}
+use Rattle.per_streams.specs.Times.{goes_on, is_done}
+use Rattle.per_streams.specs.WholeOctets.{ends_fault}
 use Rattle.per_bits.proofs.skips.count_flags.Goals as goal
 
 pub returns-in_err-some : goal.returns-in_err-some

@@ -1,5 +1,5 @@
-use Rattle.bit_streams.specs.Bits.{bit_at}
-use Rattle.bit_streams.specs.Each.{times}
+use Rattle.per_streams.specs.Bits.{bit_at}
+use Rattle.per_streams.specs.Each.{times}
 use Rattle.per_bits.proofs.Passing.{Flags}
 use Rattle.per_bits.proofs.skips.count_flags.Given as goal
 

@@ -1,5 +1,5 @@
 use Rattle.std.proofs.lemmas.Result.{err_from_is_err_and}
-use Rattle.bit_streams.specs.Each.{times}
+use Rattle.per_streams.specs.Each.{times}
 use Rattle.per_bits.specs.Reading.{read_at}
 use Rattle.per_bits.specs.Formats.{raw}
 use Rattle.per_bits.proofs.Passing.{unkept, goes_on, ends, is_done}

@@ -1,7 +1,7 @@
 use Rattle.std.proofs.Common.{refl}
 use Rattle.std.proofs.lemmas.Result.{err_from_is_err_and}
-use Rattle.bit_streams.specs.Bits.{open_at}
-use Rattle.bit_streams.specs.Each.{times}
+use Rattle.per_streams.specs.Bits.{open_at}
+use Rattle.per_streams.specs.Each.{times}
 use Rattle.per_bits.proofs.Passing.{unkept, goes_on, ends, is_done}
 use Rattle.per_bits.proofs.skips.pass_strings.Goals as goal
 

@@ -1,6 +1,6 @@
 use Rattle.std.proofs.Common.{◌≡◌, ◌-◌}
-use Rattle.bit_streams.specs.Bits.{open_at}
-use Rattle.bit_streams.specs.Each.{times}
+use Rattle.per_streams.specs.Bits.{open_at}
+use Rattle.per_streams.specs.Each.{times}
 use Rattle.per_bits.proofs.Passing.{unkept}
 use Rattle.per_bits.proofs.skips.pass_strings.Given as goal
 

@@ -1,6 +1,6 @@
 use Rattle.std.proofs.Common.{arith, refl, append_assoc}
 use Rattle.per_bits.specs.Writing.{write_aligned}
-use Rattle.bit_streams.specs.WholeOctets.{bytes-below}
+use Rattle.per_streams.specs.WholeOctets.{bytes-below}
 use Rattle.per_bits.proofs.strings.put_aligned.Goals as goal
 
 pub returns : goal.returns

@@ -1,7 +1,7 @@
 use Rattle.std.proofs.Common.{◌≡◌, Err, refl}
 use Rattle.std.proofs.lemmas.Result.{err_from_is_err_and}
-use Rattle.bit_streams.specs.Bits.{number_bits_at}
-use Rattle.bit_streams.specs.PartLaws.{number-parts}
+use Rattle.per_streams.specs.Bits.{number_bits_at}
+use Rattle.per_streams.specs.PartLaws.{number-parts}
 use Rattle.per_numbers.proofs.whole.four_octets.Goals as goal
 
 pub returns-in_err-high : goal.returns-in_err-high

@@ -1,6 +1,6 @@
 use Rattle.std.proofs.Common.{◌++◌, ◌/◌, ◌%◌, Ok, ap, sym, arith, append_assoc}
-use Rattle.bit_streams.specs.Bits.{bits, ◌>>=◌}
-use Rattle.bit_streams.specs.PartLaws.{bits-split}
+use Rattle.per_streams.specs.Bits.{bits, ◌>>=◌}
+use Rattle.per_streams.specs.PartLaws.{bits-split}
 use Rattle.per_numbers.proofs.whole.put_four.Goals as goal
 
 pub returns : goal.returns

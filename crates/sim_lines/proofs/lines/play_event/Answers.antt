@@ -1,4 +1,4 @@
-use Rattle.trace_text.specs.declared.line.Line.TheVariants.{Up, Lost, In, Tick, Data, Cancel}
+use Rattle.trace_words.specs.declared.line.Line.TheVariants.{Up, Lost, In, Tick, Data, Cancel}
 use Rattle.sim_lines.proofs.Printing.{PrintsOn-line}
 use Rattle.sim_lines.proofs.lines.play_event.Goals as goal
 

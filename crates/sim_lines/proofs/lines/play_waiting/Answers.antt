@@ -1,5 +1,5 @@
-use Rattle.trace_text.specs.declared.line.Line.TheVariants.{Data}
-use Rattle.script_text.specs.Kept.{kept_line}
+use Rattle.trace_words.specs.declared.line.Line.TheVariants.{Data}
+use Rattle.sim_words.specs.Kept.{kept_line}
 use Rattle.sim_lines.proofs.Printing.{PrintsOn-then}
 use Rattle.sim_lines.proofs.lines.play_waiting.Goals as goal
 

@@ -1,5 +1,5 @@
 use Rattle.std.proofs.Common.{[]}
-use Rattle.script_player.specs.Printed.{PrintsOn}
+use Rattle.sim_printing.specs.Printed.{PrintsOn}
 use Rattle.sim_lines.proofs.turns.play_queue.Given as goal
 
 abbrev pub invariant-loop-turn : goal.invariant-loop-turn

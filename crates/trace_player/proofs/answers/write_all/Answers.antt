@@ -1,7 +1,7 @@
 use Rattle.std.proofs.Common.{◌+◌, ◌++◌, sym, take, arith}
-use Rattle.answer_lines.specs.Words.{answers_of, out_text}
+use Rattle.trace_answers.specs.Words.{answers_of, out_text}
 use Rattle.trace_player.specs.OctetLaws.{Appends-then, Appends-same}
-use Rattle.answer_lines.specs.WordLaws.{answers_of-more}
+use Rattle.trace_answers.specs.WordLaws.{answers_of-more}
 use Rattle.trace_player.proofs.Answered.{answers_of-front, Puts-after}
 use Rattle.trace_player.proofs.answers.write_all.Goals as goal
 

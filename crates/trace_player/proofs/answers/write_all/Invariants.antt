@@ -1,6 +1,6 @@
 use Rattle.std.proofs.Common.{take}
 use Rattle.std.specs.Io.KnownBytes.{Appends}
-use Rattle.answer_lines.specs.Words.{answers_of}
+use Rattle.trace_answers.specs.Words.{answers_of}
 use Rattle.trace_player.proofs.answers.write_all.Given as goal
 
 abbrev pub invariant-loop-out : goal.invariant-loop-out

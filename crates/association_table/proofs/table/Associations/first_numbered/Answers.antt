@@ -19,17 +19,17 @@ first_seat-requires-clause-small c = subst (Every IsSeat) (sym c.self.invariant.
 
 pub returns-in-Some-clause-value : goal.returns-in-Some-clause-value
 returns-in-Some-clause-value c =
-    let here = sym (number_answer c.self.inside.slab c.self.inside.by_id.items c.self.inside.by_station.items c.self.inside.by_number.items c.self.invariant.0 c.args.station c.args.enb_id c.args.least c.bench_at.ensures.small) ∙ ap (λ b. first_seat b c.args.least c.self.inside.by_number.items) (sym c.bench_at.ensures.bench) ∙ sym c.first_seat.ensures ∙ c.in-Some.is in
-    let answer : option_map association_id (first_numbered c.args.station c.args.enb_id c.args.least c.args.self.now.entries) ≡ Some c.in-Some.id =
-    ap (λ (v : Table). option_map association_id (first_numbered c.args.station c.args.enb_id c.args.least v.entries)) (sym c.self.view_is) ∙ here in
-    c.find.ensures.value ∙ numbered_by_id c.args.station c.args.enb_id c.args.least c.in-Some.id c.args.self.now.entries c.bench_at.ensures.small (subst (λ (v : Table). Every IsId v.entries) c.self.view_is c.self.invariant.0.ids) c.find.ensures.order answer
+    let here = sym (number_answer c.self.inside.slab c.self.inside.by_id.items c.self.inside.by_station.items c.self.inside.by_number.items c.self.invariant.0 c.args.station c.args.enb_ue_id c.args.least c.bench_at.ensures.small) ∙ ap (λ b. first_seat b c.args.least c.self.inside.by_number.items) (sym c.bench_at.ensures.bench) ∙ sym c.first_seat.ensures ∙ c.in-Some.is in
+    let answer : option_map association_id (first_numbered c.args.station c.args.enb_ue_id c.args.least c.args.self.now.entries) ≡ Some c.in-Some.id =
+    ap (λ (v : Table). option_map association_id (first_numbered c.args.station c.args.enb_ue_id c.args.least v.entries)) (sym c.self.view_is) ∙ here in
+    c.find.ensures.value ∙ numbered_by_id c.args.station c.args.enb_ue_id c.args.least c.in-Some.id c.args.self.now.entries c.bench_at.ensures.small (subst (λ (v : Table). Every IsId v.entries) c.self.view_is c.self.invariant.0.ids) c.find.ensures.order answer
 
 pub returns-in-None-clause-value : goal.returns-in-None-clause-value
 returns-in-None-clause-value c =
-    let here = sym (number_answer c.self.inside.slab c.self.inside.by_id.items c.self.inside.by_station.items c.self.inside.by_number.items c.self.invariant.0 c.args.station c.args.enb_id c.args.least c.bench_at.ensures.small) ∙ ap (λ b. first_seat b c.args.least c.self.inside.by_number.items) (sym c.bench_at.ensures.bench) ∙ sym c.first_seat.ensures ∙ c.in-None.is in
-    let answer : option_map association_id (first_numbered c.args.station c.args.enb_id c.args.least c.args.self.now.entries) ≡ None =
-    ap (λ (v : Table). option_map association_id (first_numbered c.args.station c.args.enb_id c.args.least v.entries)) (sym c.self.view_is) ∙ here in
-    sym (mapped_none (first_numbered c.args.station c.args.enb_id c.args.least c.args.self.now.entries) answer)
+    let here = sym (number_answer c.self.inside.slab c.self.inside.by_id.items c.self.inside.by_station.items c.self.inside.by_number.items c.self.invariant.0 c.args.station c.args.enb_ue_id c.args.least c.bench_at.ensures.small) ∙ ap (λ b. first_seat b c.args.least c.self.inside.by_number.items) (sym c.bench_at.ensures.bench) ∙ sym c.first_seat.ensures ∙ c.in-None.is in
+    let answer : option_map association_id (first_numbered c.args.station c.args.enb_ue_id c.args.least c.args.self.now.entries) ≡ None =
+    ap (λ (v : Table). option_map association_id (first_numbered c.args.station c.args.enb_ue_id c.args.least v.entries)) (sym c.self.view_is) ∙ here in
+    sym (mapped_none (first_numbered c.args.station c.args.enb_ue_id c.args.least c.args.self.now.entries) answer)
 
 pub returns-in-None-clause-order : goal.returns-in-None-clause-order
 returns-in-None-clause-order c = subst (λ (v : Table). Rising association_id v.entries) c.self.view_is (rising_entries c.self.inside.slab c.self.inside.by_id.items c.self.invariant.0.rising)

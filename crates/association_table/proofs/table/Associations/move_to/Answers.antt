@@ -18,7 +18,7 @@ open_reserved-requires-clause-free c =
 pub returns-clause-entries : goal.returns-clause-entries
 returns-clause-entries c =
     let there = sym c.find.ensures.value ∙ c.in-Some.is in
-    let a : Association = record { id = c.args.id; owner = c.in-Some.association.owner; station = c.args.station; enb_id = c.args.enb_id } in
+    let a : Association = record { id = c.args.id; owner = c.in-Some.association.owner; station = c.args.station; enb_ue_id = c.args.enb_ue_id } in
     c.open_reserved.ensures.entries ∙ ap (opened a) c.close_found.ensures.entries
     ∙ ap (λ i. opened a (closed i c.args.self.now.entries)) (at_key association_id c.args.id c.in-Some.association c.args.self.now.entries there)
-    ∙ moved_is c.args.id c.args.station c.args.enb_id c.in-Some.association c.args.self.now.entries c.find.ensures.order there
+    ∙ moved_is c.args.id c.args.station c.args.enb_ue_id c.in-Some.association c.args.self.now.entries c.find.ensures.order there

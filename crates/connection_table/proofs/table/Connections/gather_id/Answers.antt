@@ -11,9 +11,9 @@ returns-in-Some c =
     let old = c.args.gathered.now.items in
     let new = c.gather_between.new.gathered.items in
     on_ok_weaker c.gather_between.result
-    (λ so. subst (λ o. Gathers (λ i. is_item c.args.station (record { mme_id = Some c.args.id; enb_id = o }) (whereabouts_at i c.args.self.now).connection) old new) (sym c.in-Some.is)
-    (subst (λ ws. Gathers (λ i. is_item c.args.station (record { mme_id = Some c.args.id; enb_id = Some c.in-Some.enb_id }) (whereabouts_at i ws).connection) old new) c.self.view_is
-    (ids_gathered c.args.station c.args.id c.in-Some.enb_id c.self.inside.by_slot.items c.self.inside.by_radio c.self.inside.by_ids c.self.inside.paged old new c.self.invariant c.ids_bench-bench.ensures.id c.ids_bench-bench.ensures.enb_id
+    (λ so. subst (λ o. Gathers (λ i. is_item c.args.station (record { mme_ue_id = Some c.args.id; enb_ue_id = o }) (whereabouts_at i c.args.self.now).connection) old new) (sym c.in-Some.is)
+    (subst (λ ws. Gathers (λ i. is_item c.args.station (record { mme_ue_id = Some c.args.id; enb_ue_id = Some c.in-Some.enb_ue_id }) (whereabouts_at i ws).connection) old new) c.self.view_is
+    (ids_gathered c.args.station c.args.id c.in-Some.enb_ue_id c.self.inside.by_slot.items c.self.inside.by_radio c.self.inside.by_ids c.self.inside.paged old new c.self.invariant c.ids_bench-bench.ensures.id c.ids_bench-bench.ensures.enb_ue_id
     (subst (λ b. Walks b (b + 1) c.self.inside.by_ids old new) c.ids_bench-bench.ensures.bench so))))
     c.gather_between.ensures
 
@@ -22,8 +22,8 @@ returns c =
     let old = c.args.gathered.now.items in
     let new = c.gather_between-2.new.gathered.items in
     on_ok_weaker c.gather_between-2.result
-    (λ so. subst (λ o. Gathers (λ i. is_item c.args.station (record { mme_id = Some c.args.id; enb_id = o }) (whereabouts_at i c.args.self.now).connection) old new) (sym c.in_default.is)
-    (subst (λ ws. Gathers (λ i. is_item c.args.station (record { mme_id = Some c.args.id; enb_id = None }) (whereabouts_at i ws).connection) old new) c.self.view_is
+    (λ so. subst (λ o. Gathers (λ i. is_item c.args.station (record { mme_ue_id = Some c.args.id; enb_ue_id = o }) (whereabouts_at i c.args.self.now).connection) old new) (sym c.in_default.is)
+    (subst (λ ws. Gathers (λ i. is_item c.args.station (record { mme_ue_id = Some c.args.id; enb_ue_id = None }) (whereabouts_at i ws).connection) old new) c.self.view_is
     (id_gathered c.args.station c.args.id c.self.inside.by_slot.items c.self.inside.by_radio c.self.inside.by_ids c.self.inside.paged old new c.self.invariant c.id_bench-bench.ensures.small
     (subst (λ b. Walks b (b + 2 ^ 24) c.self.inside.by_ids old new) c.id_bench-bench.ensures.bench so))))
     c.gather_between-2.ensures

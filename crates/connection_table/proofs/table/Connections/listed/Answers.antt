@@ -1,7 +1,7 @@
 use Rattle.std.proofs.Common.{◌≡◌, map, take, refl, ◌∙◌, subst}
 use Rattle.std.proofs.lemmas.List.{take_all}
 use Rattle.std.proofs.lemmas.Result.{IfOk-weaker}
-use Rattle.mme_vocabulary.specs.Listed.{ToReset}
+use Rattle.mme_types.specs.Listed.{ToReset}
 use Rattle.connection_table.specs.Whereabouts.{is_meant, slots_where}
 use Rattle.connection_table.specs.Seats.{whereabouts_at}
 use Rattle.connection_table.specs.Gathering.{gathered_rank, Holds}

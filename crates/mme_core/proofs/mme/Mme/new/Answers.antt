@@ -1,7 +1,7 @@
 use Rattle.std.proofs.Common.{arith, length, ap, sym, subst, ◌∙◌}
 use Rattle.std.proofs.lemmas.List.{length-replicate}
-use Rattle.mme_vocabulary.specs.declared.stations.StationState.TheVariants.{Down}
-use Rattle.mme_vocabulary.specs.Stations.{no_stations}
+use Rattle.mme_types.specs.declared.stations.StationState.TheVariants.{Down}
+use Rattle.mme_types.specs.Stations.{no_stations}
 use Rattle.ordered_lists.specs.Ordered.{Rising}
 use Rattle.stranger_machine.specs.Table.{known_id}
 use Rattle.mme_core.specs.FreshRuns.{AreInUse}

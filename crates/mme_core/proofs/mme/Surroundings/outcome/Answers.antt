@@ -1,10 +1,10 @@
 use Rattle.std.proofs.Common.{◌≡◌, None, Some, Option, Ok, Err, Result, ℕ, List, sym, subst, ◌∙◌, ap}
-use Rattle.mme_vocabulary.specs.declared.octets.Answer.{Answer}
+use Rattle.mme_types.specs.declared.octets.Answer.{Answer}
 use Rattle.std.specs.Prelude.{IfOk}
-use Rattle.mme_vocabulary.specs.declared.stations.StationState.{StationState}
-use Rattle.mme_vocabulary.specs.declared.stations.StationState.TheVariants.{Up, Down}
-use Rattle.mme_vocabulary.specs.Events as items
-use Rattle.s1ap_messages.specs.Pdus.{decoded}
+use Rattle.mme_types.specs.declared.stations.StationState.{StationState}
+use Rattle.mme_types.specs.declared.stations.StationState.TheVariants.{Up, Down}
+use Rattle.mme_types.specs.Events as items
+use Rattle.s1ap_pdus.specs.Pdus.{decoded}
 use Rattle.stranger_machine.specs.declared.turn.Notice.TheVariants as notices
 use Rattle.mme_routing.specs.Destinations.{Destination}
 use Rattle.mme_routing.specs.Destinations as to

@@ -1,5 +1,5 @@
 use Rattle.std.proofs.Common.{length, refl, ap, sym, ◌∙◌, arith}
-use Rattle.bit_streams.specs.WholeOctets.{length-string, no_bits_more}
+use Rattle.per_streams.specs.WholeOctets.{length-string, no_bits_more}
 use Rattle.per_bits.proofs.bit_string.BitString.whole_octets.Goals as goal
 
 pub returns-then-self-eq0-clause-value : goal.returns-then-self-eq0-clause-value

@@ -1,8 +1,8 @@
 use Rattle.std.proofs.Common.{◌≡◌, ◌+◌, ◌*◌, ◌++◌, length, ap, sym, refl, ◌∙◌, append_assoc}
 use Rattle.std.proofs.lemmas.Result.{err_from_is_err_and}
-use Rattle.bit_streams.specs.Bits.{pad}
+use Rattle.per_streams.specs.Bits.{pad}
 use Rattle.per_bits.proofs.Passing.{fails_then}
-use Rattle.bit_streams.specs.WholeOctets.{length-string}
+use Rattle.per_streams.specs.WholeOctets.{length-string}
 use Rattle.per_bits.proofs.bit_string.BitStringElement.write.Goals as goal
 
 pub returns-in_err-put_number : goal.returns-in_err-put_number

@@ -1,7 +1,7 @@
 use Rattle.std.proofs.Common.{◌≡◌, length, ap, sym, ◌∙◌}
 use Rattle.std.proofs.Math.Nat.{min-eq_left}
 use Rattle.std.proofs.lemmas.List.{length-set}
-use Rattle.bit_streams.specs.BitLaws.{length-bits}
+use Rattle.per_streams.specs.BitLaws.{length-bits}
 use Rattle.per_bits.proofs.FieldLaws.{bits_more, bits_all}
 use Rattle.per_bits.proofs.field.BitField.bits.Goals as goal
 

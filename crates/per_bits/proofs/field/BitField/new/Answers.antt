@@ -1,6 +1,6 @@
 use Rattle.std.proofs.Common.{◌≡◌, length, ap, sym, ◌∙◌, arith}
 use Rattle.std.proofs.Math.Nat.{min-eq_left}
-use Rattle.bit_streams.specs.Bits.{bits}
+use Rattle.per_streams.specs.Bits.{bits}
 use Rattle.per_bits.proofs.FieldLaws.{first_of, number_more, number_fits, number_all}
 use Rattle.per_bits.proofs.field.BitField.new.Goals as goal
 

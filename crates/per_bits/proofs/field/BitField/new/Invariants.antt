@@ -1,5 +1,5 @@
 use Rattle.std.proofs.Common.{◌≡◌, take}
-use Rattle.bit_streams.specs.Bits.{value}
+use Rattle.per_streams.specs.Bits.{value}
 use Rattle.per_bits.proofs.field.BitField.new.Given as goal
 
 abbrev pub invariant-loop-bit : goal.invariant-loop-bit

@@ -1,5 +1,5 @@
 use Rattle.std.proofs.Common.{min, arith}
-use Rattle.bit_streams.specs.WholeOctets.{bits_below}
+use Rattle.per_streams.specs.WholeOctets.{bits_below}
 use Rattle.per_bits.proofs.FieldLaws.{read_near, read_far}
 use Rattle.per_bits.proofs.field.BitFieldElement.read.Goals.{then-this-ge17+in_ok-align, else-this-ge17}
 use Rattle.per_bits.proofs.field.BitFieldElement.read.Goals as goal

@@ -1,6 +1,6 @@
 use Rattle.std.proofs.Common.{◌+◌, arith}
 use Rattle.per_bits.specs.Reading.{read_at}
-use Rattle.bit_streams.specs.Times.{length-times}
+use Rattle.per_streams.specs.Times.{length-times}
 use Rattle.per_bits.proofs.items.ItemsElement.read.Goals as goal
 
 pub invariant_of-result : goal.invariant_of-result

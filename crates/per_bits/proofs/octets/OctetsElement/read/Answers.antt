@@ -1,7 +1,7 @@
 use Rattle.std.proofs.Common.{◌∙◌}
 use Rattle.std.proofs.lemmas.List.{length-replicate}
-use Rattle.bit_streams.specs.OctetLaws.{exact_whole_octets}
-use Rattle.bit_streams.specs.WholeOctets.{octets_fit}
+use Rattle.per_streams.specs.OctetLaws.{exact_whole_octets}
+use Rattle.per_streams.specs.WholeOctets.{octets_fit}
 use Rattle.per_bits.proofs.octets.OctetsElement.read.Goals as goal
 
 pub invariant_of-result : goal.invariant_of-result

@@ -1,5 +1,5 @@
 use Rattle.std.proofs.Common.{◌≡◌, ◌∙◌, ap, subst, IfOk}
-use Rattle.mme_vocabulary.specs.Events.{StationGone}
+use Rattle.mme_types.specs.Events.{StationGone}
 use Rattle.connection_table.specs.Whereabouts.{is_concerned, slots_where}
 use Rattle.subscriber_table.specs.Table.{SubscriberTable}
 use Rattle.subscriber_table.specs.Touched.{touched_slots}

@@ -1,5 +1,5 @@
 use Rattle.std.proofs.Common.{◌≡◌, ◌∙◌, ap, subst, IfOk}
-use Rattle.mme_vocabulary.specs.Events.{ConnectionsGone}
+use Rattle.mme_types.specs.Events.{ConnectionsGone}
 use Rattle.connection_table.specs.Whereabouts.{is_meant, slots_where}
 use Rattle.subscriber_table.specs.Table.{SubscriberTable}
 use Rattle.subscriber_table.specs.Touched.{touched_slots}

@@ -1,9 +1,0 @@
-use Rattle.std.proofs.Common.{◌≡◌, ◌-◌, take, length}
-use Rattle.bit_streams.specs.Bits.{number_bits_at}
-use Rattle.bit_streams.specs.Each.{times}
-use Rattle.bit_streams.specs.Times.{with_front}
-use Rattle.bit_streams.proofs.reader.BitReader.fill_each.Given as goal
-
-abbrev pub invariant-loop-octet : goal.invariant-loop-octet
-invariant-loop-octet l =
-    with_front (take l.octet-index l.octet-items) (times (number_bits_at 8) (length l.initial.octet-items - l.octet-index) l.self) ≡ times (number_bits_at 8) (length l.initial.octet-items) l.initial.self

@@ -1,0 +1,172 @@
+//! Calls of `trace_words`: lines of a trace, the lines of its answers, and what stands in them.
+
+use calc_text::{Answer, Call, Fault, Field};
+use identity_slots::StationNumber;
+use nas_elements::Imsi;
+use std::alloc::Global;
+use trace_words::{
+    AnswerLine, AnswerOwner, ApnLabel, BitRate, EcmWord, EmmWord, EsmWord, Line, TraceFault,
+    TraceTicks, parse_line, write_answer, write_line,
+};
+
+/// What a line of a trace says, written again, with the octets of its network, or its fault. A comment says nothing.
+pub fn line_answer(call: Call, text: &[u8]) -> Answer {
+    let line = match parse_line(call.alloc, text) {
+        Ok(line) => line,
+        Err(fault) => {
+            let text = call.text("fault ").with("", &fault.number());
+            return Ok(text.with(" ", &fault));
+        }
+    };
+    let written = write_line(call.alloc, &line)?;
+    let text = call.text("is ").word(written.as_str());
+    match &line {
+        Line::Mme(fields) => Ok(text.octets("; network ", &fields.plmn)),
+        _ => Ok(text),
+    }
+}
+
+/// The answer of a call of this module.
+pub fn answer(call: Call) -> Answer {
+    match call.word {
+        "line_octets" => {
+            let octets: Vec<u8> = call.one()?;
+            line_answer(call, &octets)
+        }
+        "trace_faults" => faults_answer(call),
+        "out" => out_answer(call),
+        "refused" => shown(call, &AnswerLine::Refused(call.one()?)),
+        "state" => state_answer(call),
+        _ => range_answer(call),
+    }
+}
+
+/// Whether a value is in the range of its kind.
+fn range_answer(call: Call) -> Answer {
+    match call.word {
+        "trace_station" => call.yes_answer(StationNumber::try_new(call.one()?).is_some()),
+        "bit_rate" => call.yes_answer(BitRate::try_new(call.one()?).is_some()),
+        "trace_ticks" => call.yes_answer(TraceTicks::try_new(call.one()?).is_some()),
+        "apn_label" => {
+            let label: &str = call.one()?;
+            call.yes_answer(ApnLabel::try_new(call.alloc, label.as_bytes())?.is_some())
+        }
+        _ => Err(Fault::NoCall),
+    }
+}
+
+/// The line of an answer, whose LF is shown as `\n`.
+fn shown(call: Call, answer: &AnswerLine) -> Answer {
+    let line = write_answer(Vec::new(call.alloc), answer)?;
+    match str::from_utf8(line.as_slice())
+        .ok()
+        .and_then(|text| text.strip_suffix("\n"))
+    {
+        Some(text) => Ok(call.text(text).word("\\n")),
+        None => call.word_answer("no LF"),
+    }
+}
+
+/// All faults by their numbers.
+fn faults_answer(call: Call) -> Answer {
+    call.none()?;
+    let mut text = call.text("faults");
+    for fault in [
+        TraceFault::UnknownWord,
+        TraceFault::FieldCount,
+        TraceFault::BadNumber,
+        TraceFault::BadHex,
+        TraceFault::TooLong,
+        TraceFault::Order,
+        TraceFault::Provision,
+        TraceFault::NoMemory,
+    ] {
+        text = text.with("; ", &fault.number()).with(" ", &fault);
+    }
+    Ok(text)
+}
+
+fn out_answer(call: Call) -> Answer {
+    let (OwnerWord(owner), station, octets): (_, _, Vec<u8>) = call.three()?;
+    shown(call, &AnswerLine::Sent(owner, station, &octets))
+}
+
+fn state_answer(call: Call) -> Answer {
+    let (digits, EmmField(emm), EcmField(ecm), EsmField(esm)) = call.four()?;
+    match Imsi::try_from_digits(digits) {
+        Some(imsi) => shown(call, &AnswerLine::State(imsi, emm, ecm, esm)),
+        None => Err(Fault::Number),
+    }
+}
+
+/// `e` and a station, `s` and a slot, or `x`, a station, `.` and a phone's number there.
+#[derive(Clone, Copy)]
+struct OwnerWord(AnswerOwner);
+
+impl<'a> Field<'a> for OwnerWord {
+    fn read(alloc: Global, text: &'a str) -> Result<OwnerWord, Fault> {
+        if let Some(station) = text.strip_prefix("e") {
+            return Ok(OwnerWord(AnswerOwner::Station(u8::read(alloc, station)?)));
+        }
+        if let Some(slot) = text.strip_prefix("s") {
+            return Ok(OwnerWord(AnswerOwner::Subscriber(u32::read(alloc, slot)?)));
+        }
+        match text.strip_prefix("x") {
+            Some(stranger) => stranger_of(alloc, stranger),
+            None => Err(Fault::Name),
+        }
+    }
+}
+
+fn stranger_of(alloc: Global, text: &str) -> Result<OwnerWord, Fault> {
+    let Some((station, phone)) = text.split_once(".") else {
+        return Err(Fault::Name);
+    };
+    let owner = AnswerOwner::Stranger(u8::read(alloc, station)?, u32::read(alloc, phone)?);
+    Ok(OwnerWord(owner))
+}
+
+/// The word of how a subscriber is registered.
+#[derive(Clone, Copy)]
+struct EmmField(EmmWord);
+
+impl<'a> Field<'a> for EmmField {
+    fn read(_alloc: Global, text: &'a str) -> Result<EmmField, Fault> {
+        match text {
+            "DEREGISTERED" => Ok(EmmField(EmmWord::Deregistered)),
+            "COMMON-PROCEDURE-INITIATED" => Ok(EmmField(EmmWord::CommonProcedureInitiated)),
+            "REGISTERED" => Ok(EmmField(EmmWord::Registered)),
+            "DEREGISTERED-INITIATED" => Ok(EmmField(EmmWord::DeregisteredInitiated)),
+            _ => Err(Fault::Name),
+        }
+    }
+}
+
+/// The word of whether a subscriber has a connection.
+#[derive(Clone, Copy)]
+struct EcmField(EcmWord);
+
+impl<'a> Field<'a> for EcmField {
+    fn read(_alloc: Global, text: &'a str) -> Result<EcmField, Fault> {
+        match text {
+            "IDLE" => Ok(EcmField(EcmWord::Idle)),
+            "CONNECTED" => Ok(EcmField(EcmWord::Connected)),
+            _ => Err(Fault::Name),
+        }
+    }
+}
+
+/// The word of how far a subscriber's bearer is.
+#[derive(Clone, Copy)]
+struct EsmField(EsmWord);
+
+impl<'a> Field<'a> for EsmField {
+    fn read(_alloc: Global, text: &'a str) -> Result<EsmField, Fault> {
+        match text {
+            "INACTIVE" => Ok(EsmField(EsmWord::Inactive)),
+            "ACTIVE-PENDING" => Ok(EsmField(EsmWord::ActivePending)),
+            "ACTIVE" => Ok(EsmField(EsmWord::Active)),
+            _ => Err(Fault::Name),
+        }
+    }
+}

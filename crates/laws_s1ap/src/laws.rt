@@ -1,0 +1,36 @@
+//! Laws of faults. Each function has the law as its contract, and does nothing.
+
+ghost use Rattle.std.specs.Prelude.{◌≡◌, ℕ, List, Ok, Err, ◌⊎◌};
+ghost use Rattle.s1ap_rows.specs.declared.fault.S1apFault.{S1apFault};
+ghost use Rattle.s1ap_rows.specs.declared.fault.S1apFault.TheVariants.{NoMemory};
+ghost use Rattle.s1ap_pdus.specs.declared.pdu.Pdu.{Pdu};
+ghost use Rattle.s1ap_pdus.specs.Pdus.{SpellsMessage, decoded};
+ghost use Rattle.laws_s1ap.specs.S1apFaults.{HasS1apFault};
+
+use s1ap_pdus::decoded_exactly;
+
+/// When each fault comes, from the left (TS 36.413 clause 10.3): octets that spell no frame; a frame of no message; the first element
+/// that can't be taken, since it stands again, is refused, spells nothing that its row holds, or isn't spelled; what isn't spelled
+/// behind the elements; and last the first row that lacks its element.
+pub fn fault_is_named()
+    ensures { (os : List ℕ) (fault : S1apFault) → decoded os ≡ Err fault → HasS1apFault os fault }
+{}
+
+/// A fault that octets have is what decoding answers.
+pub fn named_is_fault()
+    ensures { (os : List ℕ) (fault : S1apFault) → HasS1apFault os fault → decoded os ≡ Err fault }
+{}
+
+/// Octets spell a message or have a fault, never both, and never two faults.
+pub fn one_outcome()
+    ensures some { (os : List ℕ) → ((m : Pdu (List ℕ)) × SpellsMessage m os) ⊎ ((fault : S1apFault) × HasS1apFault os fault) }
+    ensures one { (os : List ℕ) (m : Pdu (List ℕ)) (fault : S1apFault) → SpellsMessage m os → HasS1apFault os fault → ⊥ }
+    ensures alone { (os : List ℕ) (fault other : S1apFault) → HasS1apFault os fault → HasS1apFault os other → fault ≡ other }
+{
+    decoded_exactly();
+}
+
+/// Memory is no matter of octets.
+pub fn no_memory_is_no_fault()
+    ensures { (os : List ℕ) → decoded os ≡ Err NoMemory → ⊥ }
+{}

@@ -1,0 +1,176 @@
+//! Octets of messages on the heap, and the messages that a step sends; contracts see lists.
+
+ghost use Rattle.std.specs.Prelude.{◌≡◌, ◌≤◌, ◌++◌, ◌∷◌, [], ℕ, List, drop, length, slice_get, IfOk, OnOk, OnErr};
+ghost use Rattle.s1ap_pdus.specs.Pdus.{encoded, lists, longest};
+
+use identity_slots::StationNumber;
+use s1ap_pdus::{EncodeFault, S1apPdu, encode};
+use std::alloc::{AllocError, Global};
+use std::marker::Model;
+
+/// The octets of a NAS message that is kept; a contract sees their list.
+#[derive(Drop)]
+pub struct NasOctets {
+    octets: Vec<u8>,
+}
+
+impl Model for NasOctets {
+    ghost Value = { List ℕ };
+
+    ghost view = { λ o. o.octets.items };
+}
+
+impl NasOctets {
+    /// These octets.
+    pub fn new(octets: Vec<u8>) -> NasOctets
+        ensures { result ≡ octets.items }
+    {
+        NasOctets { octets }
+    }
+
+    /// The octets.
+    pub fn as_slice(&self) -> &[u8]
+        ensures { result.now ≡ self.now }
+    {
+        self.octets.as_slice()
+    }
+
+    /// The same octets once more.
+    pub fn copy(&self, alloc: Global) -> Result<NasOctets, AllocError>
+        ensures { IfOk result (λ o. o ≡ self.now) }
+    {
+        Ok(NasOctets {
+            octets: Vec::from_slice(alloc, self.octets.as_slice())?,
+        })
+    }
+}
+
+/// The octets of one whole S1AP message, of which there are at most 16,388; a contract sees their list.
+#[derive(Drop)]
+pub struct SentOctets {
+    octets: Vec<u8>,
+}
+
+impl Model for SentOctets {
+    ghost use Rattle.std.specs.Prelude.{ℕ, ◌≤◌, List, length};
+    ghost use Rattle.s1ap_pdus.specs.Pdus.{longest};
+
+    ghost Value = { List ℕ };
+
+    ghost view = { λ o. o.octets.items };
+
+    ghost invariant = { λ o. length o.octets.items ≤ longest };
+}
+
+impl SentOctets {
+    /// The octets of a message, if it has a written form.
+    pub fn of_message(alloc: Global, message: &S1apPdu) -> Result<Option<SentOctets>, AllocError>
+        ensures { IfOk result (λ octets. octets ≡ encoded (lists message.now)) }
+    {
+        match encode(alloc, message) {
+            Ok(octets) => Ok(Some(SentOctets { octets })),
+            Err(EncodeFault::NotWritable) => Ok(None),
+            Err(EncodeFault::NoMemory) => Err(AllocError),
+        }
+    }
+
+    /// The octets.
+    pub fn as_slice(&self) -> &[u8]
+        ensures { result.now ≡ self.now }
+    {
+        self.octets.as_slice()
+    }
+
+    /// There are at most 16,388: an open type has at most 16,383 (X.691 clause 11.9), and five stand before it.
+    pub fn is_short(&self)
+        ensures { length self.now ≤ longest }
+    {
+        let _ = &self.octets;
+    }
+
+    /// The same octets once more.
+    pub fn copy(&self, alloc: Global) -> Result<SentOctets, AllocError>
+        ensures { IfOk result (λ o. o ≡ self.now) }
+    {
+        let octets = Vec::from_slice(alloc, self.octets.as_slice())?;
+        Ok(SentOctets { octets })
+    }
+}
+
+/// What a protected NAS message is sent or accepted under: its vector's place, and the NAS COUNT (TS 24.301 clause 4.4.3).
+#[derive(Clone, Copy)]
+pub struct Mark {
+    pub place: usize,
+    pub count: u32,
+}
+
+/// A message that a subscriber's machine sends to a station.
+#[derive(Drop)]
+pub struct Answer {
+    pub station: StationNumber,
+    /// One whole S1AP message.
+    pub octets: SentOctets,
+    /// What the NAS message in it is protected under, where it is.
+    pub under: Option<Mark>,
+}
+
+/// What a subscriber's machine sends at one event, in order; a contract sees the list.
+#[derive(Drop)]
+pub struct Answers {
+    items: Vec<Answer>,
+}
+
+impl Model for Answers {
+    ghost use Rattle.std.specs.Prelude.{List};
+    ghost use Rattle.mme_types.specs.declared.octets.Answer.{Answer};
+
+    ghost Value = { List Answer };
+
+    ghost view = { λ a. a.items.items };
+}
+
+impl Answers {
+    /// Nothing; takes no memory.
+    pub fn new(alloc: Global) -> Answers
+        ensures { result ≡ [] }
+    {
+        Answers {
+            items: Vec::new(alloc),
+        }
+    }
+
+    /// One message more; refused, there are as many as before.
+    #[inline(always)]
+    pub fn push(&mut self, answer: Answer) -> Result<(), AllocError>
+        ensures ok { OnOk result (self.new ≡ self.old ++ answer ∷ []) }
+        ensures err { OnErr result (self.new ≡ self.old) }
+    {
+        self.items.push(answer)?;
+        Ok(())
+    }
+
+    /// The messages.
+    pub fn as_slice(&self) -> &[Answer]
+        ensures { result.now ≡ self.now }
+    {
+        self.items.as_slice()
+    }
+
+    /// The first message, if there is one, which is taken out; the room for it stays.
+    pub fn take_first(&mut self) -> Option<Answer>
+        ensures item { result ≡ slice_get self.old 0 }
+        ensures rest { self.new ≡ drop 1 self.old }
+    {
+        if self.items.is_empty() {
+            return None;
+        }
+        Some(self.items.remove(0))
+    }
+
+    /// Nothing any more; the room for what there was stays.
+    pub fn clear(&mut self)
+        ensures { self.new ≡ [] }
+    {
+        self.items.clear();
+    }
+}

@@ -1,6 +1,0 @@
-use Rattle.std.proofs.Common.{◌≡◌, replicate}
-use Rattle.mme_vocabulary.specs.declared.stations.StationState.TheVariants.{Down}
-use Rattle.mme_vocabulary.proofs.stations.EnbWorld.new.Given as goal
-
-abbrev pub invariant-loop : goal.invariant-loop
-invariant-loop l = l.stations.items ≡ replicate l.counter Down

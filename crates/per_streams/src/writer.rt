@@ -1,0 +1,250 @@
+//! Writing bits into octets.
+
+ghost use Rattle.std.specs.Prelude.{◌≡◌, ◌+◌, ◌-◌, ◌*◌, ◌/◌, ◌^◌, ◌<◌, ◌≤◌, ◌++◌, ◌∷◌, [], List, Bool, true, false, length, take, drop, eqb, ◌%◌, IfOk, OnOk, OnErr, Err};
+ghost use Rattle.per_streams.specs.declared.fault.PerError.TheVariants.{NoMemory};
+ghost use Rattle.per_streams.specs.Bits.{bits, octet_bits, pad, IsBytes, padded};
+
+use crate::fault::PerError;
+use std::alloc::Global;
+use std::marker::Model;
+
+/// An encoding as far as it was written; a contract sees its bits. After a refusal nothing is said of it.
+#[derive(Drop)]
+pub struct BitWriter {
+    octets: Vec<u8>,
+    // the bits behind the last octet, as a number
+    current: u8,
+    used: u8,
+}
+
+impl Model for BitWriter {
+    ghost Value = { List Bool };
+
+    ghost view = { λ w. octet_bits w.octets.items ++ bits w.used w.current };
+
+    ghost invariant = { λ w. (w.used < 8) × (w.current < 2 ^ w.used) × IsBytes w.octets.items };
+}
+
+impl BitWriter {
+    /// Nothing written yet, with room for so many octets; more are written where memory grows.
+    #[tactic(auto, unfolding(crate::specs::Bits::bits))]
+    pub fn with_room(alloc: Global, octets: usize) -> Result<BitWriter, PerError>
+        ensures ok { IfOk result (λ w. w ≡ []) }
+        ensures memory { OnErr result (result ≡ Err NoMemory) }
+    {
+        Ok(BitWriter {
+            octets: Vec::with_capacity(alloc, octets)?,
+            current: 0,
+            used: 0,
+        })
+    }
+
+    /// One bit.
+    #[inline(always)]
+    pub fn put_bit(&mut self, bit: bool) -> Result<(), PerError>
+        ensures ok { OnOk result (self.new ≡ self.old ++ bit ∷ []) }
+        ensures memory { OnErr result (result ≡ Err NoMemory) }
+    {
+        let current = with_bit(self.current, self.used, bit);
+        if self.used == 7 {
+            self.octets.push(current)?;
+            self.current = 0;
+            self.used = 0;
+        } else {
+            self.current = current;
+            self.used += 1;
+        }
+        Ok(())
+    }
+
+    /// A number in `count` bits, at most 64, the highest first.
+    #[inline(always)]
+    pub fn put_bits(&mut self, count: u8, number: u64) -> Result<(), PerError>
+        requires count { count ≤ 64 }
+        requires fits { number < 2 ^ count }
+        ensures ok { OnOk result (self.new ≡ self.old ++ bits count number) }
+        ensures memory { OnErr result (result ≡ Err NoMemory) }
+    {
+        if count < 8 - self.used {
+            self.current = joined(self.current, self.used, number as u8, count);
+            self.used += count;
+            return Ok(());
+        }
+        self.put_parts(count, number)
+    }
+
+    // a number part by part, each up to the end of an octet
+    fn put_parts(&mut self, count: u8, number: u64) -> Result<(), PerError>
+        requires count { count ≤ 64 }
+        requires fits { number < 2 ^ count }
+        ensures ok { OnOk result (self.new ≡ self.old ++ bits count number) }
+        ensures memory { OnErr result (result ≡ Err NoMemory) }
+    {
+        let mut rest = number;
+        let mut wanted = count;
+        while wanted > 0 {
+            let (left, behind) = self.put_part(wanted, rest)?;
+            wanted = left;
+            rest = behind;
+        }
+        Ok(())
+    }
+
+    // the first of a number's bits, up to the end of an octet: how many are left, and the number that they stand for
+    fn put_part(&mut self, count: u8, number: u64) -> Result<(u8, u64), PerError>
+        requires some { 0 < count }
+        requires count { count ≤ 64 }
+        requires fits { number < 2 ^ count }
+        ensures put { IfOk result (λ p. self.new ++ bits p.0 p.1 ≡ self.old ++ bits count number) }
+        ensures less { IfOk result (λ p. p.0 < count) }
+        ensures fits { IfOk result (λ p. p.1 < 2 ^ p.0) }
+        ensures memory { OnErr result (result ≡ Err NoMemory) }
+    {
+        if self.used == 0 && count >= 8 {
+            let (octet, rest) = split_number(number, count, 8);
+            self.octets.push(octet)?;
+            return Ok((count - 8, rest));
+        }
+        let room = 8 - self.used;
+        if count < room {
+            self.current = joined(self.current, self.used, number as u8, count);
+            self.used += count;
+            return Ok((0, 0));
+        }
+        let (part, rest) = split_number(number, count, room);
+        let octet = joined(self.current, self.used, part, room);
+        self.octets.push(octet)?;
+        self.current = 0;
+        self.used = 0;
+        Ok((count - room, rest))
+    }
+}
+
+impl BitWriter {
+    /// Zero bits up to the next octet.
+    #[inline(always)]
+    pub fn align(&mut self) -> Result<(), PerError>
+        ensures ok { OnOk result (self.new ≡ self.old ++ pad (length self.old)) }
+        ensures memory { OnErr result (result ≡ Err NoMemory) }
+    {
+        let used = self.used;
+        if used == 0 {
+            return Ok(());
+        }
+        self.octets.push(joined(self.current, used, 0, 8 - used))?;
+        self.current = 0;
+        self.used = 0;
+        Ok(())
+    }
+
+    /// One octet, behind the bits so far.
+    #[inline(always)]
+    pub fn put_octet(&mut self, octet: u8) -> Result<(), PerError>
+        ensures ok { OnOk result (self.new ≡ self.old ++ bits 8 octet) }
+        ensures memory { OnErr result (result ≡ Err NoMemory) }
+    {
+        if self.used == 0 {
+            self.octets.push(octet)?;
+            return Ok(());
+        }
+        self.put_bits(8, octet as u64)
+    }
+
+    /// Octets, behind the bits so far.
+    #[inline(always)]
+    pub fn put_octets(&mut self, octets: &[u8]) -> Result<(), PerError>
+        ensures ok { OnOk result (self.new ≡ self.old ++ octet_bits octets.now) }
+        ensures memory { OnErr result (result ≡ Err NoMemory) }
+    {
+        if self.used == 0 {
+            self.octets.extend_from_slice(octets)?;
+            return Ok(());
+        }
+        self.put_each(octets)
+    }
+
+    // octets where the last octet is not full
+    fn put_each(&mut self, octets: &[u8]) -> Result<(), PerError>
+        ensures ok { OnOk result (self.new ≡ self.old ++ octet_bits octets.now) }
+        ensures memory { OnErr result (result ≡ Err NoMemory) }
+    {
+        for octet in octets {
+            self.put_bits(8, *octet as u64)?;
+        }
+        Ok(())
+    }
+}
+
+impl BitWriter {
+    /// The octets, the last of them filled up with zero bits.
+    pub fn finish(mut self) -> Result<Vec<u8>, PerError>
+        ensures ok { IfOk result (λ v. v.items ≡ padded self) }
+        ensures memory { OnErr result (result ≡ Err NoMemory) }
+    {
+        self.align()?;
+        Ok(self.octets)
+    }
+}
+
+impl BitWriter {
+    /// How many whole octets were written.
+    pub fn octets(&self) -> usize
+        ensures { result ≡ length self.now / 8 }
+    {
+        self.octets.len()
+    }
+
+    /// Another octet in the place of one that was written.
+    pub fn set_octet(&mut self, place: usize, octet: u8)
+        requires { 8 * place + 8 ≤ length self.old }
+        ensures { self.new ≡ take (8 * place) self.old ++ (bits 8 octet ++ drop (8 * place + 8) self.old) }
+    {
+        self.octets[place] = octet;
+    }
+
+    /// One octet more before those from this place on, which moves them.
+    pub fn insert_octet(&mut self, place: usize, octet: u8) -> Result<(), PerError>
+        requires { 8 * place ≤ length self.old }
+        ensures ok { OnOk result (self.new ≡ take (8 * place) self.old ++ (bits 8 octet ++ drop (8 * place) self.old)) }
+        ensures memory { OnErr result (result ≡ Err NoMemory) }
+    {
+        self.octets.insert(place, octet)?;
+        Ok(())
+    }
+}
+
+/// A number with one bit more at its end.
+fn with_bit(current: u8, used: u8, bit: bool) -> u8
+    requires used { used < 8 }
+    requires fits { current < 2 ^ used }
+    ensures bits { bits (used + 1) result ≡ bits used current ++ bit ∷ [] }
+    ensures fits { result < 2 ^ (used + 1) }
+{
+    2 * current + bit as u8
+}
+
+/// A number of `used` bits and behind it one of `some` bits, as one number.
+fn joined(current: u8, used: u8, part: u8, some: u8) -> u8
+    requires room { used + some ≤ 8 }
+    requires fits { current < 2 ^ used }
+    requires part { part < 2 ^ some }
+    ensures bits { bits (used + some) result ≡ bits used current ++ bits some part }
+    ensures fits { result < 2 ^ (used + some) }
+{
+    (current as u16 * (1u16 << some) + part as u16) as u8
+}
+
+/// The first bits of a number of `left` bits, and the others, each as a number.
+fn split_number(number: u64, left: u8, some: u8) -> (u8, u64)
+    requires some { 0 < some }
+    requires octet { some ≤ 8 }
+    requires most { some ≤ left }
+    requires left { left ≤ 64 }
+    requires fits { number < 2 ^ left }
+    ensures parts { bits left number ≡ bits some result.0 ++ bits (left - some) result.1 }
+    ensures part { result.0 < 2 ^ some }
+    ensures rest { result.1 < 2 ^ (left - some) }
+{
+    let behind = left - some;
+    ((number >> behind) as u8, number % (1u64 << behind))
+}

@@ -1,5 +1,0 @@
-use Rattle.s1ap_messages.proofs.NamedLaws.{named_of_typed}
-use Rattle.s1ap_messages.proofs.laws.named_again.Goals as goal
-
-pub returns : goal.returns
-returns c = named_of_typed

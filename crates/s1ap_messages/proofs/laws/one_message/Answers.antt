@@ -1,5 +1,0 @@
-use Rattle.s1ap_messages.proofs.NamedLaws.{one_message}
-use Rattle.s1ap_messages.proofs.laws.one_message.Goals as goal
-
-pub returns : goal.returns
-returns c = one_message

@@ -1,6 +1,0 @@
-//! What reading answers.
-
-use s1ap_messages::{S1apFault, S1apPdu};
-
-/// What reading a message's octets answers.
-pub type Decoded<'a> = Result<S1apPdu<'a>, S1apFault>;

@@ -1,6 +1,0 @@
-use Rattle.std.proofs.Common.{codes, refl, arith}
-use Rattle.script_player.specs.PrintLaws.{AreComments-remark}
-use Rattle.script_player.proofs.comments.push_skipped.Goals as goal
-
-pub returns : goal.returns
-returns c = (codes "## skipped\n", c.in_ok-extend_from_slice.ensures.items, AreComments-remark c.comments_are_not_kept.ensures (codes " skipped") refl (omega arith))

@@ -1,8 +1,0 @@
-use Rattle.std.proofs.Common.{string_bytes}
-use Rattle.trace_text.specs.declared.line.Line.TheVariants.{Lost}
-use Rattle.script_player.specs.PrintLaws.{ReadsAs-text}
-use Rattle.script_player.proofs.lines.play_lost.Goals as goal
-
-pub play_event-requires-clause-says : goal.play_event-requires-clause-says
-play_event-requires-clause-says c =
-    ReadsAs-text (Lost c.args.station) (string_bytes c.in_ok-text.text) c.as_bytes.result.now c.as_bytes.ensures.value c.in_ok-text.ensures.read c.in_ok-text.ensures.unbroken

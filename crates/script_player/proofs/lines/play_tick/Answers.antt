@@ -1,5 +1,0 @@
-use Rattle.script_player.proofs.Played.{tick_reads}
-use Rattle.script_player.proofs.lines.play_tick.Goals as goal
-
-pub play_event-requires-clause-says : goal.play_event-requires-clause-says
-play_event-requires-clause-says c = tick_reads

@@ -1,0 +1,26 @@
+use Rattle.std.proofs.Common.{◌+◌, ◌++◌, take, sym, ap, arith}
+use Rattle.std.proofs.lemmas.List.{take_all}
+use Rattle.trace_answers.specs.Words.{answers_of, out_text}
+use Rattle.sim_printing.specs.PrintLaws.{AddsComments-none, AddsComments-said, AddsComments-then}
+use Rattle.trace_answers.specs.WordLaws.{answers_of-more}
+use Rattle.sim_printing.proofs.comments.push_answers.Goals as goal
+
+pub loop-message-init : goal.loop-message-init
+loop-message-init c = AddsComments-none c.args.out.now.items
+
+pub loop-message-preserved : goal.loop-message-preserved
+loop-message-preserved c =
+    let i = c.loop-message.message-index in
+    let sent = c.args.sent.now in
+    let message = c.message-item.result in
+    let before = answers_of (take i sent) in
+    let first = c.args.out.now.items in
+    let last = c.push_sent.new.out.items in
+    AddsComments-said first last (before ++ out_text message) (answers_of (take (i + 1) sent)) (sym (answers_of-more sent i message (omega arith) c.message-item.is))
+    (AddsComments-then first c.loop-message.out.items last before (out_text message) c.loop-message.invariant c.in_ok-push_sent.ensures)
+
+pub returns : goal.returns
+returns c =
+    let sent = c.args.sent.now in
+    AddsComments-said c.args.out.now.items c.loop-message.out.items (answers_of (take c.loop-message.message-index sent)) (answers_of sent)
+    (ap answers_of (take_all c.loop-message.message-index sent (omega arith))) c.loop-message.invariant

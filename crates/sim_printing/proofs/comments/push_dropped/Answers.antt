@@ -1,0 +1,17 @@
+use Rattle.std.proofs.Common.{◌++◌, ◌^◌, ◌<◌, ◌≤◌, length, codes, refl, arith, length-append}
+use Rattle.std.specs.Fmt.{decimal}
+use Rattle.std.proofs.lemmas.Fmt.{length-decimal-le}
+use Rattle.sim_printing.specs.LineLaws.{decimal_breaks, unbroken_then}
+use Rattle.sim_printing.specs.PrintLaws.{AreComments-remark}
+use Rattle.sim_printing.proofs.comments.push_dropped.Goals as goal
+
+pub returns : goal.returns
+returns c =
+    let n = c.args.count in
+    let h : n < 2 ^ 64 = omega arith in
+    let d : length (decimal n) ≤ 20 = length-decimal-le 20 n (omega arith) (omega arith) h in (
+      codes "## dropped " ++ decimal n ++ codes "\n",
+      c.in_ok-push_count.ensures,
+      AreComments-remark c.comments_are_not_kept.ensures (codes " dropped " ++ decimal n) (unbroken_then (codes " dropped ") (decimal n) refl (decimal_breaks n h))
+          (omega (arith, d, length-append (codes " dropped ") (decimal n))),
+    )

@@ -1,0 +1,14 @@
+use Rattle.std.proofs.Common.{◌≤◌, length, string_bytes, arith}
+use Rattle.trace_words.specs.declared.line.Line.TheVariants.{In}
+use Rattle.sim_printing.specs.PrintLaws.{ReadsAs-text}
+use Rattle.sim_printing.proofs.Played.{IfSent-octets}
+use Rattle.sim_printing.proofs.lines.play_in.Goals as goal
+
+pub play_event-requires-clause-says : goal.play_event-requires-clause-says
+play_event-requires-clause-says c =
+    let short : length (string_bytes c.in_ok-text.text) ≤ 40000 = omega arith in
+    ReadsAs-text (In c.args.station c.args.octets.now) (string_bytes c.in_ok-text.text) c.as_bytes.result.now c.as_bytes.ensures.value
+    (c.in_ok-text.ensures.read short) c.in_ok-text.ensures.unbroken
+
+pub returns-clause-sent : goal.returns-clause-sent
+returns-clause-sent c = IfSent-octets c.args.progress.now c.args.station c.args.octets c.in_ok-sent.sent c.in_ok-sent.ensures.sent

@@ -1,0 +1,15 @@
+use Rattle.std.proofs.Common.{◌∙◌}
+use Rattle.trace_words.specs.declared.line.Line.TheVariants.{Vec}
+use Rattle.trace_player.specs.Effects.{vector_given}
+use Rattle.sim_printing.proofs.Played.{vec_effect, Prints-provisioned, PrintsLine-fault}
+use Rattle.sim_printing.proofs.lines.play_vec.Goals as goal
+
+pub returns-in-Err : goal.returns-in-Err
+returns-in-Err c =
+    PrintsLine-fault c.args.number (Vec c.args.imsi c.args.vector) (vector_given c.args.progress.now c.args.imsi c.args.vector) c.args.progress.now c.give.new.progress c.args.out.now.items c.in-Err.fault
+    (vec_effect c.args.progress.now c.args.imsi c.args.vector) c.in-Err.ensures.acts c.in-Err.ensures.write
+
+pub returns-in-Ok-push_line : goal.returns-in-Ok-push_line
+returns-in-Ok-push_line c =
+    Prints-provisioned c.first_word_tells.ensures c.args.progress.now c.give.new.progress c.args.out.now.items c.push_line.new.out.items c.args.text.now
+    (Vec c.args.imsi c.args.vector) c.requires (λ s. cc s) (vec_effect c.args.progress.now c.args.imsi c.args.vector ∙ c.in-Ok.ensures.acts) c.in-Ok-push_line.ensures

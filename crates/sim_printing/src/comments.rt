@@ -1,0 +1,119 @@
+//! Answers and remarks, as comments of the trace that is printed.
+
+ghost use Rattle.std.specs.Prelude.{◌≡◌, ◌≢◌, ◌≤◌, ◌++◌, ◌∷◌, [], OnOk, codes};
+ghost use Rattle.std.specs.Fmt.{decimal};
+ghost use Rattle.s1ap_pdus.specs.Pdus.{longest};
+ghost use Rattle.trace_words.specs.Lines.{octets_said};
+ghost use Rattle.trace_words.specs.Trace.{answer_text, refused_text};
+ghost use Rattle.trace_answers.specs.Words.{answers_of, out_text, states_text};
+ghost use Rattle.trace_player.specs.Replies.{refusal_number};
+ghost use Rattle.sim_printing.specs.Printed.{AddsComments};
+
+use emm_machine::States;
+use mme_core::{Out, StepFault};
+use nas_elements::Imsi;
+use sim_words::comments_are_not_kept;
+use std::alloc::{AllocError, Global};
+use trace_answers::{sent_line, states_line};
+use trace_words::{AnswerLine, write_answer};
+
+/// Appends a line.
+pub(crate) fn push_line(text: &[u8], out: &mut Vec<u8>) -> Result<(), AllocError>
+    ensures { OnOk result (out.new.items ≡ out.old.items ++ (text.now ++ 10 ∷ [])) }
+{
+    out.extend_from_slice(text)?;
+    out.push(b'\n')?;
+    Ok(())
+}
+
+/// Appends what an event sent.
+pub(crate) fn push_answers(alloc: Global, sent: &[Out], out: &mut Vec<u8>) -> Result<(), AllocError>
+    ensures { OnOk result (AddsComments out.old.items out.new.items (answers_of sent.now)) }
+{
+    for message in sent {
+        push_sent(alloc, message, out)?;
+    }
+    Ok(())
+}
+
+fn push_sent(alloc: Global, message: &Out, out: &mut Vec<u8>) -> Result<(), AllocError>
+    ensures { OnOk result (AddsComments out.old.items out.new.items (out_text message.now)) }
+{
+    message.octets.is_short();
+    push_answer(alloc, &sent_line(message), out)?;
+    Ok(())
+}
+
+/// Appends why an event was refused. Want of memory isn't told: it is handed on.
+pub(crate) fn push_refusal(
+    alloc: Global,
+    fault: StepFault,
+    out: &mut Vec<u8>,
+) -> Result<(), AllocError>
+    ensures added { OnOk result (AddsComments out.old.items out.new.items (refused_text (refusal_number fault))) }
+    ensures memory { OnOk result (fault ≢ StepFault.NoMemory) }
+{
+    match fault {
+        StepFault::NoMemory => Err(AllocError),
+        told => {
+            push_answer(alloc, &AnswerLine::Refused(told as u8), out)?;
+            Ok(())
+        }
+    }
+}
+
+/// Appends the states of a subscriber.
+pub(crate) fn push_states(
+    alloc: Global,
+    imsi: Imsi,
+    states: States,
+    out: &mut Vec<u8>,
+) -> Result<(), AllocError>
+    ensures { OnOk result (AddsComments out.old.items out.new.items (states_text imsi states)) }
+{
+    push_answer(alloc, &states_line(imsi, states), out)?;
+    Ok(())
+}
+
+/// Appends an answer line, as a comment.
+fn push_answer(alloc: Global, answer: &AnswerLine<'_>, out: &mut Vec<u8>) -> Result<(), AllocError>
+    requires { octets_said answer.now ≤ longest }
+    ensures { OnOk result (AddsComments out.old.items out.new.items (answer_text answer.now)) }
+{
+    comments_are_not_kept();
+    let line = write_answer(Vec::new(alloc), answer)?;
+    push_marked(line.as_slice(), out)?;
+    Ok(())
+}
+
+fn push_marked(text: &[u8], out: &mut Vec<u8>) -> Result<(), AllocError>
+    ensures { OnOk result (out.new.items ≡ out.old.items ++ 35 ∷ 32 ∷ text.now) }
+{
+    out.extend_from_slice(b"# ")?;
+    out.extend_from_slice(text)
+}
+
+/// Appends the line `## skipped`, which answers nothing: an act that can't be done.
+pub fn push_skipped(out: &mut Vec<u8>) -> Result<(), AllocError>
+    ensures { OnOk result (AddsComments out.old.items out.new.items []) }
+{
+    comments_are_not_kept();
+    out.extend_from_slice(b"## skipped\n")?;
+    Ok(())
+}
+
+/// Appends the line `## dropped N`, which answers nothing: so many events were left out.
+pub fn push_dropped(alloc: Global, count: usize, out: &mut Vec<u8>) -> Result<(), AllocError>
+    ensures { OnOk result (AddsComments out.old.items out.new.items []) }
+{
+    comments_are_not_kept();
+    push_count(alloc, count, out)?;
+    Ok(())
+}
+
+fn push_count(alloc: Global, count: usize, out: &mut Vec<u8>) -> Result<(), AllocError>
+    ensures { OnOk result (out.new.items ≡ out.old.items ++ (codes "## dropped " ++ decimal count ++ codes "\n")) }
+{
+    let text = format!(in alloc; "## dropped {count}\n")?;
+    out.extend_from_slice(text.as_bytes())
+}

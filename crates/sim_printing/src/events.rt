@@ -1,0 +1,66 @@
+//! Events and questions, each printed as its trace line with its answers behind it.
+
+ghost use Rattle.std.specs.Prelude.{◌≡◌, true, false, IfOk, OnOk, is_some};
+ghost use Rattle.std.specs.Result.{result_ok};
+ghost use Rattle.sim_words.specs.Kept.{kept_line};
+ghost use Rattle.mme_core.specs.World.{reply};
+ghost use Rattle.trace_player.specs.Effects.{states_of_imsi};
+ghost use Rattle.trace_words.specs.declared.line.Line.TheVariants.{Show};
+ghost use Rattle.sim_printing.specs.Printed.{PrintsFrom, ReadsAs, event_line};
+
+use crate::comments::{push_answers, push_line, push_refusal, push_states};
+use mme_core::{Event, Mme, Outs};
+use nas_elements::Imsi;
+use sim_words::first_word_tells;
+use std::alloc::{AllocError, Global};
+use trace_player::states_of_imsi;
+
+/// Plays an event: appends `text`, the line that says it, and then its answers, each behind `# `. What is sent, or None where
+/// the event was refused. A refusal leaves the MME as it was; where memory is refused the output may end within a line.
+pub fn print_event(
+    alloc: Global,
+    mme: &mut Mme,
+    event: &Event<'_>,
+    text: &[u8],
+    out: &mut Vec<u8>,
+) -> Result<Option<Outs>, AllocError>
+    requires { ReadsAs (event_line event.now) text.now }
+    ensures printed { OnOk result (PrintsFrom mme.old out.old.items mme.new out.new.items (kept_line (event_line event.now))) }
+    ensures sent { IfOk result (λ sent. sent ≡ result_ok (reply mme.old event.now)) }
+{
+    first_word_tells();
+    push_line(text, out)?;
+    match mme.step(event) {
+        Ok(sent) => {
+            push_answers(alloc, sent.as_slice(), out)?;
+            Ok(Some(sent))
+        }
+        Err(fault) => {
+            push_refusal(alloc, fault, out)?;
+            Ok(None)
+        }
+    }
+}
+
+/// Shows a subscriber: appends `text`, the line that asks for it, and then its states behind `# `. Answers `false`, with
+/// nothing appended, where nobody is provisioned with the IMSI.
+pub fn print_show(
+    alloc: Global,
+    mme: &Mme,
+    imsi: Imsi,
+    text: &[u8],
+    out: &mut Vec<u8>,
+) -> Result<bool, AllocError>
+    requires { ReadsAs (Show imsi) text.now }
+    ensures known { IfOk result (λ known. known ≡ is_some (states_of_imsi imsi mme.now)) }
+    ensures printed { IfOk result (λ known. known ≡ true → PrintsFrom mme.now out.old.items mme.now out.new.items (kept_line (Show imsi))) }
+    ensures unknown { IfOk result (λ known. known ≡ false → out.new.items ≡ out.old.items) }
+{
+    first_word_tells();
+    let Some(states) = states_of_imsi(mme, imsi) else {
+        return Ok(false);
+    };
+    push_line(text, out)?;
+    push_states(alloc, imsi, states, out)?;
+    Ok(true)
+}

@@ -1,0 +1,253 @@
+//! Lines that are printed and played, whether the MME runs already or is still to be made of what is provisioned.
+
+ghost use Rattle.std.specs.Prelude.{◌≡◌, ◌++◌, ◌∷◌, [], true, false, Ok, IfErr, IfOk, OnOk, is_some};
+ghost use Rattle.trace_words.specs.declared.line.Line.TheVariants.{Mme, Sub, Vec, Data, Cancel, Show};
+ghost use Rattle.sim_words.specs.Kept.{kept_line};
+ghost use Rattle.mme_core.specs.World.{World};
+ghost use Rattle.mme_core.specs.declared.event.Event.TheVariants as event;
+ghost use Rattle.trace_player.specs.Effects.{in_event, running, states_of_imsi};
+ghost use Rattle.sim_printing.specs.Printed.{IfSent, IsBegun, PrintsLine, PrintsOn, ReadsAs, event_line};
+
+use crate::comments::push_line;
+use crate::events::{print_event, print_show};
+use identity_slots::{Profile, StationNumber, Vector};
+use mme_core::{Event, Outs};
+use nas_elements::Imsi;
+use sim_words::first_word_tells;
+use std::alloc::{AllocError, Global};
+use trace_player::{PlayFault, Progress, add, give, run, start};
+use trace_words::{LONGEST_LINE, MmeLine, write_in, write_lost, write_up};
+
+// ---- provisioning
+
+/// Begins the provisioning, and appends the line as it was read. A fault is that of the line of that number.
+pub fn play_mme(
+    alloc: Global,
+    progress: &mut Progress,
+    number: u64,
+    fields: &MmeLine,
+    text: &[u8],
+    out: &mut Vec<u8>,
+) -> Result<(), PlayFault>
+    requires { ReadsAs (Mme fields.now) text.now }
+    ensures { PrintsLine number (Mme fields.now) progress.old out.old.items result progress.new out.new.items }
+{
+    first_word_tells();
+    match start(alloc, progress, number, fields) {
+        Ok(()) => {}
+        Err(fault) => return Err(fault),
+    }
+    match push_line(text, out) {
+        Ok(()) => Ok(()),
+        Err(_) => Err(PlayFault::NoMemory),
+    }
+}
+
+/// Provisions a subscriber, and appends the line as it was read. A fault is that of the line of that number.
+pub fn play_sub(
+    progress: &mut Progress,
+    number: u64,
+    profile: Profile,
+    text: &[u8],
+    out: &mut Vec<u8>,
+) -> Result<(), PlayFault>
+    requires { ReadsAs (Sub profile) text.now }
+    ensures { PrintsLine number (Sub profile) progress.old out.old.items result progress.new out.new.items }
+{
+    first_word_tells();
+    match add(progress, number, profile) {
+        Ok(()) => {}
+        Err(fault) => return Err(fault),
+    }
+    match push_line(text, out) {
+        Ok(()) => Ok(()),
+        Err(_) => Err(PlayFault::NoMemory),
+    }
+}
+
+/// Gives a subscriber a vector, and appends the line as it was read. A fault is that of the line of that number.
+pub fn play_vec(
+    progress: &mut Progress,
+    number: u64,
+    imsi: Imsi,
+    vector: Vector,
+    text: &[u8],
+    out: &mut Vec<u8>,
+) -> Result<(), PlayFault>
+    requires { ReadsAs (Vec imsi vector) text.now }
+    ensures { PrintsLine number (Vec imsi vector) progress.old out.old.items result progress.new out.new.items }
+{
+    first_word_tells();
+    match give(progress, number, imsi, vector) {
+        Ok(()) => {}
+        Err(fault) => return Err(fault),
+    }
+    match push_line(text, out) {
+        Ok(()) => Ok(()),
+        Err(_) => Err(PlayFault::NoMemory),
+    }
+}
+
+// ---- events and questions
+
+/// Whether there is an MME to speak to: the provisioning has begun.
+pub fn is_begun(progress: &Progress) -> bool
+    ensures { result ≡ true → IsBegun progress.now }
+{
+    match progress {
+        Progress::Nothing => false,
+        Progress::Provisioning(_, _) | Progress::Running(_) => true,
+    }
+}
+
+/// The station connects: what is sent, or None where that is refused.
+pub fn play_up(
+    alloc: Global,
+    progress: &mut Progress,
+    station: StationNumber,
+    out: &mut Vec<u8>,
+) -> Result<Option<Outs>, AllocError>
+    requires { IsBegun progress.old }
+    ensures printed { OnOk result (PrintsOn progress.old out.old.items progress.new out.new.items []) }
+    ensures sent { IfOk result (IfSent progress.old (event.Up station)) }
+{
+    let text = write_up(alloc, station)?;
+    let sent = play_event(alloc, progress, &Event::Up(station), text.as_bytes(), out)?;
+    Ok(sent)
+}
+
+/// The station's connection is lost: what is sent, or None where that is refused.
+pub fn play_lost(
+    alloc: Global,
+    progress: &mut Progress,
+    station: StationNumber,
+    out: &mut Vec<u8>,
+) -> Result<Option<Outs>, AllocError>
+    requires { IsBegun progress.old }
+    ensures printed { OnOk result (PrintsOn progress.old out.old.items progress.new out.new.items []) }
+    ensures sent { IfOk result (IfSent progress.old (event.Lost station)) }
+{
+    let text = write_lost(alloc, station)?;
+    let sent = play_event(alloc, progress, &Event::Lost(station), text.as_bytes(), out)?;
+    Ok(sent)
+}
+
+/// The station sends a message: what is sent at that, or None where it is refused. A message whose line would be longer than
+/// the longest isn't sent, and nothing is printed.
+pub fn play_in(
+    alloc: Global,
+    progress: &mut Progress,
+    station: StationNumber,
+    octets: &[u8],
+    out: &mut Vec<u8>,
+) -> Result<Option<Outs>, AllocError>
+    requires { IsBegun progress.old }
+    ensures printed { OnOk result (PrintsOn progress.old out.old.items progress.new out.new.items []) }
+    ensures sent { IfOk result (IfSent progress.old (in_event station octets.now)) }
+{
+    let text = write_in(alloc, station, octets)?;
+    if text.len() > LONGEST_LINE {
+        return Ok(None);
+    }
+    let event = Event::In(station, octets);
+    let sent = play_event(alloc, progress, &event, text.as_bytes(), out)?;
+    Ok(sent)
+}
+
+/// A second passes: what is sent, or None where that is refused.
+pub fn play_tick(
+    alloc: Global,
+    progress: &mut Progress,
+    out: &mut Vec<u8>,
+) -> Result<Option<Outs>, AllocError>
+    requires { IsBegun progress.old }
+    ensures printed { OnOk result (PrintsOn progress.old out.old.items progress.new out.new.items []) }
+    ensures sent { IfOk result (IfSent progress.old event.Tick) }
+{
+    let sent = play_event(alloc, progress, &Event::Tick, b"tick 1", out)?;
+    Ok(sent)
+}
+
+/// Data waits for a subscriber, as `text` says: what is sent, or None where that is refused.
+pub fn play_data(
+    alloc: Global,
+    progress: &mut Progress,
+    imsi: Imsi,
+    text: &[u8],
+    out: &mut Vec<u8>,
+) -> Result<Option<Outs>, AllocError>
+    requires begun { IsBegun progress.old }
+    requires says { ReadsAs (Data imsi) text.now }
+    ensures printed { OnOk result (PrintsOn progress.old out.old.items progress.new out.new.items (kept_line (Data imsi))) }
+    ensures sent { IfOk result (IfSent progress.old (event.Data imsi)) }
+{
+    let sent = play_event(alloc, progress, &Event::Data(imsi), text, out)?;
+    Ok(sent)
+}
+
+/// A subscription is withdrawn, as `text` says: what is sent, or None where that is refused.
+pub fn play_cancel(
+    alloc: Global,
+    progress: &mut Progress,
+    imsi: Imsi,
+    text: &[u8],
+    out: &mut Vec<u8>,
+) -> Result<Option<Outs>, AllocError>
+    requires begun { IsBegun progress.old }
+    requires says { ReadsAs (Cancel imsi) text.now }
+    ensures printed { OnOk result (PrintsOn progress.old out.old.items progress.new out.new.items (kept_line (Cancel imsi))) }
+    ensures sent { IfOk result (IfSent progress.old (event.Cancel imsi)) }
+{
+    let sent = play_event(alloc, progress, &Event::Cancel(imsi), text, out)?;
+    Ok(sent)
+}
+
+fn play_event(
+    alloc: Global,
+    progress: &mut Progress,
+    event: &Event<'_>,
+    text: &[u8],
+    out: &mut Vec<u8>,
+) -> Result<Option<Outs>, AllocError>
+    requires begun { IsBegun progress.old }
+    requires says { ReadsAs (event_line event.now) text.now }
+    ensures printed { OnOk result (PrintsOn progress.old out.old.items progress.new out.new.items (kept_line (event_line event.now))) }
+    ensures sent { IfOk result (IfSent progress.old event.now) }
+{
+    let Ok(()) = run(alloc, progress, 0) else {
+        return Err(AllocError);
+    };
+    match progress {
+        Progress::Running(mme) => {
+            let sent = print_event(alloc, mme, event, text, out)?;
+            Ok(sent)
+        }
+        Progress::Nothing | Progress::Provisioning(_, _) => unreachable!(),
+    }
+}
+
+/// Shows a subscriber, as `text` asks. Answers `false`, with nothing printed, where nobody is provisioned with the IMSI.
+pub fn play_show(
+    alloc: Global,
+    progress: &mut Progress,
+    imsi: Imsi,
+    text: &[u8],
+    out: &mut Vec<u8>,
+) -> Result<bool, AllocError>
+    requires begun { IsBegun progress.old }
+    requires says { ReadsAs (Show imsi) text.now }
+    ensures printed { IfOk result (λ known. known ≡ true → PrintsOn progress.old out.old.items progress.new out.new.items (kept_line (Show imsi))) }
+    ensures unknown { IfOk result (λ known. known ≡ false → out.new.items ≡ out.old.items) }
+    ensures known { IfOk result (λ known. (world : World) → running progress.old ≡ Ok world → known ≡ is_some (states_of_imsi imsi world)) }
+{
+    let Ok(()) = run(alloc, progress, 0) else {
+        return Err(AllocError);
+    };
+    match progress {
+        Progress::Running(mme) => {
+            let known = print_show(alloc, mme, imsi, text, out)?;
+            Ok(known)
+        }
+        Progress::Nothing | Progress::Provisioning(_, _) => unreachable!(),
+    }
+}

@@ -1,6 +1,0 @@
-use Rattle.std.proofs.Common.{sym}
-use Rattle.trace_text.proofs.Texts.{not_subscriber}
-use Rattle.trace_text.proofs.fields.imsi.Goals as goal
-
-pub returns-in-Err : goal.returns-in-Err
-returns-in-Err c = sym (not_subscriber c.args.text.now c.in-Err.ensures.cases.0)

@@ -1,5 +1,0 @@
-use Rattle.trace_text.proofs.Reread.{written_is_read}
-use Rattle.trace_text.proofs.laws.written_is_read.Goals as goal
-
-pub returns : goal.returns
-returns c = written_is_read c.text_is_imsi.ensures

@@ -1,5 +1,0 @@
-use Rattle.std.proofs.Common.{rules, append_assoc}
-use Rattle.trace_text.proofs.written.three_digits.Goals as goal
-
-pub returns : goal.returns
-returns c = search (rules, append_assoc)
