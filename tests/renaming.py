@@ -59,8 +59,14 @@ class Renaming:
 def replaced(text, words):
     if not words:
         return text
-    either = "|".join(re.escape(old) for old in sorted(words, key=len, reverse=True))
-    return re.sub(rf"(?<![{WORD}])(?:{either})(?![{WORD}])", lambda found: words[found[0]], text)
+    either = "|".join(whole(old) for old in sorted(words, key=len, reverse=True))
+    return re.sub(either, lambda found: words[found[0]], text)
+
+
+def whole(old):
+    """The pattern of a word, or of several with signs between them, where no letter stands at its end that would go on with it."""
+    ends_in_word = re.match(rf"[{WORD}]", old[-1])
+    return rf"(?<![{WORD}]){re.escape(old)}" + (rf"(?![{WORD}])" if ends_in_word else "")
 
 
 def rename_crates(renaming, old, new):

@@ -5,9 +5,9 @@ ghost use Rattle.sim_printing.specs.Printed.{IsBegun, PrintsOn, PrintsScriptLine
 
 use crate::script::Script;
 use crate::turns::{deliver, play_message, play_queue};
-use crowd::Acted;
 use identity_slots::StationNumber;
 use mme_core::Outs;
+use sim_crowd::Acted;
 use sim_printing::{is_begun, play_in, play_up, push_skipped};
 use sim_words::ScriptAct;
 use std::alloc::{AllocError, Global};

@@ -8,7 +8,7 @@ ghost use Rattle.sim_printing.specs.Printed.{PrintsScriptLine};
 
 use crate::acts::play_act_line;
 use crate::lines::play_trace_line;
-use crowd::Crowd;
+use sim_crowd::Crowd;
 use sim_words::{ScriptLine, first_word_tells, parse_script_line};
 use std::alloc::Global;
 use trace_player::{PlayFault, Progress, fault_in_line};
