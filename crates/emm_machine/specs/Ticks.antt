@@ -1,12 +1,12 @@
 -- Many ticks at once, and the countdowns that run.
-use Rattle.std.specs.Prelude.{ℕ, zero, suc, ◌-◌, ◌<◌, ◌≤◌, List, Option, Some, None, IsSome}
-use Rattle.mme_types.specs.Events.{Item, Tick}
+use Rattle.std.specs.Prelude.{ℕ, zero, suc, ◌-◌, ◌<◌, ◌≤◌, Option, Some, None, IsSome}
+use Rattle.mme_types.specs.Events.{Tick}
 use Rattle.emm_state.specs.declared.setting.Setting.{Setting}
 use Rattle.emm_state.specs.declared.solo.Countdown.{Countdown}
 use Rattle.emm_state.specs.declared.solo.Repeat.{Repeat}
 use Rattle.emm_state.specs.declared.solo.Solo.{Solo}
 use Rattle.emm_state.specs.Timers.{reachable_ticks}
-use Rattle.emm_machine.specs.Steps.{solo_after, solo_step}
+use Rattle.emm_machine.specs.Steps.{solo_step}
 use Rattle.emm_machine.specs.Words.{procedure_left}
 
 -- the state after so many ticks
@@ -68,7 +68,3 @@ IsGoing (Some c) repeat = IsTimed (Some c.left) × IsSome repeat
 -- and the other countdown, where it runs, is timed too
 abbrev pub IsRunning : Solo → Type 0
 IsRunning solo = IsGoing solo.procedure solo.repeat × IsTimed solo.reachable
-
--- what runs stays so over every run
-abbrev pub StaysRunning : Type 0
-StaysRunning = (s : Setting) (solo : Solo) (items : List Item) → IsRunning solo → IsRunning (solo_after s solo items)

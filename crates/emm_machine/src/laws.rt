@@ -1,7 +1,6 @@
 //! Laws of whole runs: each is the contract of a function that does nothing.
 
 ghost use Rattle.emm_machine.specs.Freshness.{AcceptsAhead, AcceptsOnce, IsInUse, MakesAhead, MakesOnce, SendsAhead, SendsOnce, StaysInUse};
-ghost use Rattle.emm_machine.specs.Ticks.{IsRunning, StaysRunning};
 ghost use Rattle.emm_machine.specs.Words.{fresh_solo};
 
 use nas_security::accepted_is_fresh;
@@ -42,10 +41,3 @@ pub fn vector_makes_one_context()
 {
     accepted_is_fresh();
 }
-
-/// Each countdown that runs has from 1 to 3480 ticks left, and a procedure what is sent again behind the last: so it is of a
-/// subscriber who was never seen, and every run keeps it so.
-pub fn running_is_kept()
-    ensures fresh { IsRunning fresh_solo }
-    ensures run { StaysRunning }
-{}

@@ -8,7 +8,7 @@ use Rattle.emm_machine.specs.Laws.{still_stays}
 use Rattle.mme_types.specs.Events.{Item, Tick}
 use Rattle.emm_machine.specs.Still.{still}
 use Rattle.emm_machine.specs.SubscriberView.{SubscriberView}
-use Rattle.emm_machine.specs.Ticks.{IsRunning, StaysRunning, countdowns}
+use Rattle.emm_machine.specs.Ticks.{countdowns}
 use Rattle.emm_machine.specs.TickLaws.{running_timed}
 use Rattle.ordered_lists.specs.Ordered.{Every}
 use Rattle.subscriber_table.specs.SteppedView.{SteppedView}
@@ -16,6 +16,7 @@ use Rattle.subscriber_table.specs.Laws.{all_give_as_due, all_give_as_touched, ea
 use Rattle.subscriber_table.specs.Running.{is_due}
 use Rattle.subscriber_table.specs.Table.{IsCounting, IsStepped, due_slots, each_after, slots_stepped, step_at, subscriber_step, tick_settled}
 use Rattle.subscriber_table.specs.Touched.{touched_slots}
+use Rattle.laws_ends.specs.Clocked.{ClockedRuns, IsClocked, StaysClocked}
 use Rattle.mme_answering.specs.InUse.{AreInUse}
 use Rattle.mme_answering.specs.Settled.{AreFit, in_state, item_sent, sent_at, solo_at, with_solo, with_stepped}
 use Rattle.mme_routing.specs.Destinations.{for_all, for_one}
@@ -25,18 +26,21 @@ use Rattle.mme_answering.proofs.Calling.{after_call, sends_call}
 -- ---- a step that was prepared
 
 -- whose countdowns run in time
-counting_after : StaysRunning → (w : SubscriberView) (item : Item) → IsRunning w.solo → IsCounting (subscriber_step w item).solo
-counting_after law w item h = timed_in_range (countdowns (subscriber_step w item).solo) (running_timed (subscriber_step w item).solo (law w.setting w.solo (item ∷ []) h))
+module _ (kept : StaysClocked) (runs : ClockedRuns) where
+  counting_after : (w : SubscriberView) (item : Item) → IsClocked w.solo → IsCounting (subscriber_step w item).solo
+  counting_after w item h =
+      let after = (subscriber_step w item).solo in timed_in_range (countdowns after) (running_timed after (runs after (kept w.setting w.solo (item ∷ []) h)))
 
-counting_if : StaysRunning → (slot : ℕ) (item : Item) (ws : List SubscriberView) (d : Draft) → AreInUse ws → option_map (λ w. subscriber_step w item) (slice_get ws slot) ≡ Some d → IsCounting d.solo
-counting_if law slot item [] d h at = absurd (cc)
-counting_if law zero item (w ∷ ws) d h at =
-    let is : subscriber_step w item ≡ d = cc in
-    subst (λ (e : Draft). IsCounting e.solo) is (counting_after law w item h.2)
-counting_if law (suc slot) item (w ∷ ws) d h at = counting_if law slot item ws d h.3 at
+  counting_if : (slot : ℕ) (item : Item) (ws : List SubscriberView) (d : Draft) → AreInUse ws
+      → option_map (λ w. subscriber_step w item) (slice_get ws slot) ≡ Some d → IsCounting d.solo
+  counting_if slot item [] d h at = absurd (cc)
+  counting_if zero item (w ∷ ws) d h at =
+      let is : subscriber_step w item ≡ d = cc in
+      subst (λ (e : Draft). IsCounting e.solo) is (counting_after w item h.2)
+  counting_if (suc slot) item (w ∷ ws) d h at = counting_if slot item ws d h.3 at
 
-pub counting_at : StaysRunning → (slot : ℕ) (item : Item) (ws : List SubscriberView) (d : Draft) → AreInUse ws → step_at slot item ws ≡ Some d → IsCounting d.solo
-counting_at law slot item ws d h at = counting_if law slot item ws d h at
+  pub counting_at : (slot : ℕ) (item : Item) (ws : List SubscriberView) (d : Draft) → AreInUse ws → step_at slot item ws ≡ Some d → IsCounting d.solo
+  counting_at slot item ws d h at = counting_if slot item ws d h at
 
 -- ---- each is that of a subscriber, and they are as many as before
 

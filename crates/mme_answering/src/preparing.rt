@@ -25,8 +25,8 @@ ghost use Rattle.mme_answering.specs.Sending.{each_known, each_sent, stranger_ou
 use crate::out::{Outs, Owner};
 use crate::prepared::Prepared;
 use crate::sending::{send_all, send_due};
-use emm_machine::running_is_kept;
 use identity_slots::{AssociationId, Provision, Slot};
+use laws_ends::clocks_are_kept;
 use mme_routing::Destination;
 use mme_types::{EnbWorld, Entry, SoloEvent, UeMessage};
 use std::alloc::{AllocError, Global};
@@ -51,7 +51,7 @@ fn prepare_step(
     ensures sends { OnOk result (outs.new ≡ outs.old ++ sent_at slot (item_of event.now stations.now) subscribers.old.subscribers) }
     ensures same { subscribers.new ≡ subscribers.old }
 {
-    running_is_kept();
+    clocks_are_kept();
     let mut draft = subscribers.prepare(slot, event, stations)?;
     send_all(outs, Owner::Subscriber(slot), &mut draft.sent)?;
     Ok(Stepped::new(slot, draft))

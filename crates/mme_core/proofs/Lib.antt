@@ -10,6 +10,8 @@ pub mod SameToSlot
 pub mod Named
 pub mod Exchange
 pub mod InUse
+pub mod Kept
+pub mod Ending
 pub mod OneOutput
 pub mod Faults
 pub mod Taken

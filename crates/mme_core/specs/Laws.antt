@@ -56,6 +56,14 @@ SameFromMme =
     → (in_order (told (is_slot slot) (replies w es)) ≡ in_order (told (is_slot slot) (replies v ds)))
     × (slice_get (world_run w es).subscribers slot ≡ slice_get (world_run v ds).subscribers slot)
 
+-- ---- a subscriber is as its machine alone
+
+-- behind a list of events each subscriber is in the state of its machine over what the list has for its slot
+abbrev pub GoesAlone : Type 0
+GoesAlone =
+    (w : World) (events : List Event) (slot : ℕ) (x : SubscriberView) → Rising known_id w.strangers → slice_get w.subscribers slot ≡ Some x
+    → slice_get (world_run w events).subscribers slot ≡ Some (alone_after x (projection slot w.sight (strangers_in w) events))
+
 -- ---- events that name a slot
 
 -- the slot that an event goes to

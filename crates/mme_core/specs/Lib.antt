@@ -4,5 +4,7 @@ pub mod Ready
 pub mod Projection
 pub mod FreshRuns
 pub mod GuardedRuns
+pub mod EndingRuns
+pub mod Kept
 pub mod Laws
 pub mod Faults

@@ -1,14 +1,7 @@
 -- What was prepared for an event, and the MME when it is taken.
-use Rattle.std.specs.Prelude.{List}
-use Rattle.emm_machine.specs.SubscriberView.{SubscriberView}
 use Rattle.mme_core.specs.declared.mme.Ready.{Ready}
 use Rattle.mme_answering.specs.Settled.{settled_strangers, settled_subscribers}
-use Rattle.mme_core.specs.Sight.{Around}
 use Rattle.mme_core.specs.World.{World, placed}
-
--- an MME with these subscribers
-abbrev pub world_of : Around → List SubscriberView → World
-world_of a ws = record { sight = a.sight; strangers = a.strangers; subscribers = ws }
 
 abbrev pub ready_world : Ready → World → World
 ready_world r w = record {

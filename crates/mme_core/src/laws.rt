@@ -1,6 +1,11 @@
 //! Laws of the definitions: each is the contract of a function that does nothing.
 
-ghost use Rattle.mme_core.specs.Laws.{Exchanges, NamedById, NamedByIdentity, NamedByImsi, OneOutput, RepliesSo, SameFromMme, SameToSlot};
+ghost use Rattle.mme_core.specs.Kept.{BeginsKept, StaysKept};
+ghost use Rattle.mme_core.specs.Laws.{Exchanges, GoesAlone, NamedById, NamedByIdentity, NamedByImsi, OneOutput, RepliesSo, SameFromMme, SameToSlot};
+
+use emm_machine::in_use_is_kept;
+use laws_admission::soundness_is_kept;
+use laws_ends::{clocks_are_kept, strangers_are_closed};
 
 /// Two lists of events that have the same items for a slot, where those that have nothing for it are left out, tell the slot
 /// the same messages in the same order and leave it in the same state.
@@ -8,6 +13,23 @@ pub fn same_to_slot()
     ensures machine { SameToSlot }
     ensures mme { SameFromMme }
 {}
+
+/// After a list of events each subscriber is in the state of its one machine over what the list has for its slot, whatever else the
+/// list holds.
+pub fn goes_alone()
+    ensures { GoesAlone }
+{}
+
+/// What always holds of an MME: it begins so, and every list of events keeps it so, whatever octets stations send.
+pub fn worlds_are_kept()
+    ensures begins { BeginsKept }
+    ensures stays { StaysKept }
+{
+    in_use_is_kept();
+    soundness_is_kept();
+    clocks_are_kept();
+    strangers_are_closed();
+}
 
 /// What names a slot: data for its IMSI and the end of its subscription, and from a station that is set up an INITIAL UE
 /// MESSAGE with its identity and a message with its id.

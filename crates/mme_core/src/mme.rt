@@ -4,7 +4,7 @@ ghost use Rattle.std.specs.Prelude.{◌≡◌, ◌≢◌, ◌⊎◌, ◌<◌, �
 ghost use Rattle.identity_slots.specs.Provisioned.{slot_of_imsi};
 ghost use Rattle.mme_types.specs.Stations.{station_at};
 ghost use Rattle.emm_machine.specs.SubscriberView.{SubscriberView};
-ghost use Rattle.ordered_lists.specs.Ordered.{Rising};
+ghost use Rattle.ordered_lists.specs.Ordered.{Every, Rising};
 ghost use Rattle.stranger_machine.specs.Table.{known_id, stranger_at};
 ghost use Rattle.mme_core.specs.declared.event.StepFault.TheVariants.{NoMemory};
 ghost use Rattle.mme_core.specs.Projection.{AllInOrder, AreInOrder, alone_after, is_slot, is_station, is_stranger, projection, silence, station_run, station_told, states_along, states_at, states_run, stranger_run, stranger_told, subscriber_told, told};
@@ -12,19 +12,22 @@ ghost use Rattle.mme_types.specs.declared.stations.StationState.{StationState};
 ghost use Rattle.mme_routing.specs.Destinations.{item_at, strangers_behind};
 ghost use Rattle.mme_routing.specs.Seen.{destination_of, seen_outcome};
 ghost use Rattle.mme_answering.specs.Settled.{IsFor, IsInTime, IsPassing, settled_strangers, settled_subscribers};
+ghost use Rattle.mme_core.specs.EndingRuns.{IsEndingRun};
 ghost use Rattle.mme_core.specs.FreshRuns.{AreInUse, IsFreshRun};
 ghost use Rattle.mme_core.specs.GuardedRuns.{IsGuardedRun};
+ghost use Rattle.mme_core.specs.Kept.{IsKept, IsKnownTimed};
 ghost use Rattle.mme_core.specs.Faults.{HasEachFault};
-ghost use Rattle.mme_core.specs.Ready.{ready_world, world_of};
+ghost use Rattle.mme_core.specs.Ready.{ready_world};
 ghost use Rattle.mme_answering.specs.Short.{AreShort};
-ghost use Rattle.mme_core.specs.World.{clock_after, each_after, each_sent, event_fault, events_taken, fresh_world, happens, replies, replies_given, reply, slot_named, strangers_in, strangers_sent, world_after, world_run};
+ghost use Rattle.mme_core.specs.World.{clock_after, each_after, each_sent, event_fault, events_taken, fresh_world, happens, replies, replies_given, reply, slot_named, strangers_in, strangers_sent, world_of, world_after, world_run};
 
 use crate::config::Config;
 use crate::event::{Event, StepFault};
+use crate::laws::worlds_are_kept;
 use crate::provisioning::fresh_subscribers;
 use crate::station::{settle_station, station_outs};
 use emm_machine::{
-    States, accepted_counts_are_fresh, in_use_is_kept, running_is_kept, sent_counts_are_fresh,
+    States, accepted_counts_are_fresh, in_use_is_kept, sent_counts_are_fresh,
     vector_makes_one_context,
 };
 use identity_slots::{Provision, Slot};
@@ -32,6 +35,7 @@ use laws_admission::{
     keys_go_to_the_proved, protected_forms_are_marked, registered_by_proof, soundness_is_kept,
     unproved_leaves,
 };
+use laws_ends::{clocks_are_kept, silent_phones_end, strangers_are_closed};
 use mme_answering::{Outs, Prepared, prepare, settle};
 use mme_routing::{Destination, Outcome, outcome_of};
 use mme_types::{Answers, EnbWorld, SharedNetwork, SoloEvent, StationNumber, StationState};
@@ -81,18 +85,16 @@ pub struct Mme {
 }
 
 impl Model for Mme {
-    ghost use Rattle.std.specs.Prelude.{◌≡◌, ◌≤◌, length};
-    ghost use Rattle.ordered_lists.specs.Ordered.{Rising};
-    ghost use Rattle.stranger_machine.specs.Table.{known_id};
-    ghost use Rattle.mme_core.specs.FreshRuns.{AreInUse};
-    ghost use Rattle.mme_core.specs.World.{World};
+    ghost use Rattle.std.specs.Prelude.{◌≤◌};
+    ghost use Rattle.mme_core.specs.Kept.{IsKept};
+    ghost use Rattle.mme_core.specs.World.{World, world_of};
 
     ghost Value = { World };
 
-    ghost view = { λ m. record { sight = m.surroundings.sight; strangers = m.surroundings.strangers; subscribers = m.subscribers.subscribers } };
+    ghost view = { λ m. world_of m.surroundings m.subscribers.subscribers };
 
-    ghost invariant = { λ m. (m.subscribers.clock ≤ m.surroundings.sight.clock) × (length m.surroundings.sight.stations ≡ 128) × Rising known_id m.surroundings.strangers
-        × AreInUse m.subscribers.subscribers × (length m.subscribers.subscribers ≡ length m.surroundings.sight.profiles) };
+    ghost invariant = { λ m. (m.subscribers.clock ≤ m.surroundings.sight.clock)
+        × IsKept (world_of m.surroundings m.subscribers.subscribers) };
 }
 
 /// What an event makes of the station that it is of, if it is of one, and of the clock.
@@ -117,9 +119,7 @@ impl Mme {
     pub fn new(alloc: Global, config: Config, provision: Provision) -> Result<Mme, AllocError>
         ensures { IfOk result (λ m. m ≡ fresh_world config provision) }
     {
-        in_use_is_kept();
-        soundness_is_kept();
-        running_is_kept();
+        worlds_are_kept();
         let mut provision = provision;
         let network = SharedNetwork::new(alloc, config.network.clone()?)?;
         let subscribers = fresh_subscribers(alloc, &network, &mut provision)?;
@@ -154,13 +154,15 @@ impl Mme {
         self.subscribers.states(slot)
     }
 
-    /// What always holds: the strangers' ids rise, there are 128 stations and as many subscribers as are provisioned, no vector of a
-    /// context that stands can become one again, and each subscriber's context is the vector at its place.
+    /// What always holds: the strangers' ids rise and those that wait have ticks of T3470 left, there are 128 stations and as many
+    /// subscribers as are provisioned, no vector of a context that stands can become one again, each subscriber's context is the
+    /// vector at its place, and of its countdowns that of its phase runs alone.
     pub fn well_kept(&self)
         ensures strangers { Rising known_id self.now.strangers }
         ensures stations { length self.now.sight.stations ≡ 128 }
         ensures subscribers { length self.now.subscribers ≡ length self.now.sight.profiles }
         ensures in_use { AreInUse self.now.subscribers }
+        ensures timed { Every IsKnownTimed self.now.strangers }
     {
         // (a contract has the invariant where a field is used)
         let _ = &self.surroundings;
@@ -177,6 +179,7 @@ impl Mme {
         ensures refused { IfErr result (λ fault. fault ≢ NoMemory → reply self.old event.now ≡ Err fault) }
         ensures err { OnErr result (self.new ≡ self.old) }
     {
+        worlds_are_kept();
         let ready = self.ready(event)?;
         self.take(ready)
     }
@@ -196,6 +199,8 @@ impl Mme {
             IsFreshRun w (projection slot self.old.sight (strangers_in self.old) (events_taken events.now rs.items))) }
         ensures guarded { IfOk result (λ rs. (slot : ℕ) (w : SubscriberView) → slice_get self.old.subscribers slot ≡ Some w →
             IsGuardedRun w (projection slot self.old.sight (strangers_in self.old) (events_taken events.now rs.items))) }
+        ensures ends { IfOk result (λ rs. (slot : ℕ) (w : SubscriberView) → slice_get self.old.subscribers slot ≡ Some w →
+            IsEndingRun w (projection slot self.old.sight (strangers_in self.old) (events_taken events.now rs.items))) }
         ensures each_states { IfOk result (λ rs. (slot : ℕ) (w : SubscriberView) → slice_get self.old.subscribers slot ≡ Some w →
             states_along slot self.old (events_taken events.now rs.items) ≡ states_run w (projection slot self.old.sight (strangers_in self.old) (events_taken events.now rs.items))) }
         ensures states { IfOk result (λ rs. (slot : ℕ) (w : SubscriberView) → slice_get self.old.subscribers slot ≡ Some w →
@@ -220,6 +225,8 @@ impl Mme {
         registered_by_proof();
         keys_go_to_the_proved();
         unproved_leaves();
+        clocks_are_kept();
+        silent_phones_end();
         let mut replies = Vec::with_capacity(self.surroundings.alloc, events.len())?;
         for event in events {
             let reply = self.step(event);
@@ -234,8 +241,6 @@ impl Mme {
         ensures after { IfOk result (λ r. ready_world r self.old ≡ world_after self.old event.now) }
         ensures fits { IfOk result (λ r. IsFor r.prepared self.old.subscribers) }
         ensures in_time { IfOk result (λ r. IsInTime r.prepared self.old.sight.clock r.moves.clock) }
-        ensures rising { IfOk result (λ r. Rising known_id (settled_strangers r.prepared self.old.strangers)) }
-        ensures in_use { IfOk result (λ r. AreInUse (settled_subscribers r.prepared self.old.subscribers)) }
         ensures order { IfOk result (λ r. AreInOrder r.outs) }
         ensures accepted { OnOk result (event_fault self.old.sight event.now ≡ None) }
         ensures refused { IfErr result (λ fault. (event_fault self.old.sight event.now ≡ Some fault)
@@ -249,8 +254,7 @@ impl Mme {
     fn take(&mut self, ready: Ready) -> Result<Outs, StepFault>
         requires fits { IsFor ready.prepared self.old.subscribers }
         requires in_time { IsInTime ready.prepared self.old.sight.clock ready.moves.clock }
-        requires rising { Rising known_id (settled_strangers ready.prepared self.old.strangers) }
-        requires in_use { AreInUse (settled_subscribers ready.prepared self.old.subscribers) }
+        requires kept { IsKept (ready_world ready self.old) }
         ensures after { OnOk result (self.new ≡ ready_world ready self.old) }
         ensures outs { IfOk result (λ outs. outs ≡ ready.outs) }
         ensures short { IfOk result (λ outs. AreShort outs) }
@@ -409,17 +413,12 @@ impl Surroundings {
         ensures after { IfOk result (λ r. ready_world r (world_of self.entry.now subscribers.old.subscribers) ≡ world_after (world_of self.entry.now subscribers.old.subscribers) event.entry.now) }
         ensures fits { IfOk result (λ r. IsFor r.prepared subscribers.old.subscribers) }
         ensures in_time { IfOk result (λ r. IsInTime r.prepared self.entry.now.sight.clock r.moves.clock) }
-        ensures rising { IfOk result (λ r. Rising known_id (settled_strangers r.prepared self.entry.now.strangers)) }
-        ensures in_use { IfOk result (λ r. AreInUse (settled_subscribers r.prepared subscribers.old.subscribers)) }
         ensures order { IfOk result (λ r. AreInOrder r.outs) }
         ensures accepted { OnOk result (event_fault self.entry.now.sight event.entry.now ≡ None) }
         ensures refused { IfErr result (λ fault. (event_fault self.entry.now.sight event.entry.now ≡ Some fault)
             ⊎ ((fault ≡ NoMemory) × (event_fault self.entry.now.sight event.entry.now ≡ None))) }
         ensures same { subscribers.new ≡ subscribers.old }
     {
-        in_use_is_kept();
-        soundness_is_kept();
-        running_is_kept();
         let named = self.slot_named(event);
         if let Some(fault) = self.fault_of(event, &named) {
             return Err(fault);

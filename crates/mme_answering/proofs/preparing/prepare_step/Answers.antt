@@ -10,4 +10,4 @@ pub returns-clause-counting : goal.returns-clause-counting
 returns-clause-counting c =
     subst (λ (v : SteppedView). IsCounting v.solo) (sym c.new.ensures)
     (subst (λ (d : Draft). IsCounting d.solo) (sym c.deref_mut.ensures.value)
-    (counting_at c.running_is_kept.ensures.run c.args.slot (item_of c.args.event.now c.args.stations.now) c.args.subscribers.now.subscribers c.in_ok-draft.draft.value c.requires.in_use c.in_ok-draft.ensures.step))
+    (counting_at c.clocks_are_kept.ensures.run c.clocks_are_kept.ensures.running c.args.slot (item_of c.args.event.now c.args.stations.now) c.args.subscribers.now.subscribers c.in_ok-draft.draft.value c.requires.in_use c.in_ok-draft.ensures.step))

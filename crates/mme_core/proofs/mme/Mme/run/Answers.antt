@@ -11,6 +11,7 @@ use Rattle.laws_admission.specs.Sound.{IsSound}
 use Rattle.mme_core.specs.Faults.{HasEachFault}
 use Rattle.mme_core.specs.FreshRuns.{AreInUse}
 use Rattle.mme_core.proofs.InUse.{in_use_at}
+use Rattle.mme_core.proofs.Ending.{ending_run}
 use Rattle.mme_core.proofs.Alone.{absent_each, slots_along, slots_end, slots_told, stations_told, strangers_end, strangers_told}
 use Rattle.mme_core.proofs.Order.{run_order}
 use Rattle.mme_core.proofs.Faults.{faults_push}
@@ -50,7 +51,7 @@ returns-clause-told c =
     let l = c.loop-event in
     let es = c.args.events.now in
     let all : take l.event-index es ≡ es = take_all l.event-index es (let t = c.loop-event-test.false in omega (arith, t)) in
-    let rising : Rising known_id w.strangers = subst (λ (v : World). Rising known_id v.strangers) c.self.view_is c.self.invariant.2 in
+    let rising : Rising known_id w.strangers = subst (λ (v : World). Rising known_id v.strangers) c.self.view_is c.self.invariant.1.rising in
     λ slot x at. ap (told (is_slot slot)) (l.invariant.ran.replies ∙ ap (λ xs. replies w (events_taken xs l.replies.items)) all) ∙ slots_told w (events_taken es l.replies.items) slot x rising at
 
 pub returns-clause-states : goal.returns-clause-states
@@ -59,7 +60,7 @@ returns-clause-states c =
     let l = c.loop-event in
     let es = c.args.events.now in
     let all : take l.event-index es ≡ es = take_all l.event-index es (let t = c.loop-event-test.false in omega (arith, t)) in
-    let rising : Rising known_id w.strangers = subst (λ (v : World). Rising known_id v.strangers) c.self.view_is c.self.invariant.2 in
+    let rising : Rising known_id w.strangers = subst (λ (v : World). Rising known_id v.strangers) c.self.view_is c.self.invariant.1.rising in
     λ slot x at. ap (λ (v : World). slice_get v.subscribers slot) (l.invariant.ran.state ∙ ap (λ xs. world_run w (events_taken xs l.replies.items)) all) ∙ slots_end w (events_taken es l.replies.items) slot x rising at
 
 pub returns-clause-absent : goal.returns-clause-absent
@@ -76,7 +77,7 @@ returns-clause-strangers c =
     let l = c.loop-event in
     let es = c.args.events.now in
     let all : take l.event-index es ≡ es = take_all l.event-index es (let t = c.loop-event-test.false in omega (arith, t)) in
-    let rising : Rising known_id w.strangers = subst (λ (v : World). Rising known_id v.strangers) c.self.view_is c.self.invariant.2 in
+    let rising : Rising known_id w.strangers = subst (λ (v : World). Rising known_id v.strangers) c.self.view_is c.self.invariant.1.rising in
     λ id. ap (told (is_stranger id)) (l.invariant.ran.replies ∙ ap (λ xs. replies w (events_taken xs l.replies.items)) all) ∙ strangers_told w (events_taken es l.replies.items) id rising
 
 pub returns-clause-stranger_states : goal.returns-clause-stranger_states
@@ -85,7 +86,7 @@ returns-clause-stranger_states c =
     let l = c.loop-event in
     let es = c.args.events.now in
     let all : take l.event-index es ≡ es = take_all l.event-index es (let t = c.loop-event-test.false in omega (arith, t)) in
-    let rising : Rising known_id w.strangers = subst (λ (v : World). Rising known_id v.strangers) c.self.view_is c.self.invariant.2 in
+    let rising : Rising known_id w.strangers = subst (λ (v : World). Rising known_id v.strangers) c.self.view_is c.self.invariant.1.rising in
     λ id. ap (λ (v : World). stranger_at id v.strangers) (l.invariant.ran.state ∙ ap (λ xs. world_run w (events_taken xs l.replies.items)) all) ∙ strangers_end w (events_taken es l.replies.items) id rising
 
 pub returns-clause-stations : goal.returns-clause-stations
@@ -102,14 +103,14 @@ returns-clause-station_states c =
     let l = c.loop-event in
     let es = c.args.events.now in
     let all : take l.event-index es ≡ es = take_all l.event-index es (let t = c.loop-event-test.false in omega (arith, t)) in
-    let long : length w.sight.stations ≡ 128 = sym (ap (λ (v : World). length v.sight.stations) c.self.view_is) ∙ c.self.invariant.1 in
+    let long : length w.sight.stations ≡ 128 = sym (ap (λ (v : World). length v.sight.stations) c.self.view_is) ∙ c.self.invariant.1.stations in
     λ e lt. station_ends w l.self e (events_taken es l.replies.items) (l.invariant.ran.state ∙ ap (λ xs. world_run w (events_taken xs l.replies.items)) all) (omega (arith, long, lt))
 
 pub returns-clause-order : goal.returns-clause-order
 returns-clause-order c =
     let w = c.args.self.now in
     let l = c.loop-event in
-    let rising : Rising known_id w.strangers = subst (λ (v : World). Rising known_id v.strangers) c.self.view_is c.self.invariant.2 in
+    let rising : Rising known_id w.strangers = subst (λ (v : World). Rising known_id v.strangers) c.self.view_is c.self.invariant.1.rising in
     run_order w (events_taken (take l.event-index c.args.events.now) l.replies.items) l.replies.items rising l.invariant.ran.replies
 
 pub returns-clause-fresh : goal.returns-clause-fresh
@@ -117,10 +118,10 @@ returns-clause-fresh c =
     let w = c.args.self.now in
     let es = c.args.events.now in
     let rs = c.loop-event.replies.items in
-    let in_use : AreInUse w.subscribers = subst (λ (v : World). AreInUse v.subscribers) c.self.view_is c.self.invariant.3 in
+    let in_use : AreInUse w.subscribers = subst (λ (v : World). AreInUse v.subscribers) c.self.view_is c.self.invariant.1.in_use in
     λ slot x at.
     let items = projection slot w.sight (strangers_in w) (events_taken es rs) in
-    let own : IsInUse x.solo = (in_use_at w.subscribers slot x in_use at).0 in
+    let own : IsInUse x.solo = (in_use_at w.subscribers slot x in_use at).used in
     record {
       sent_ahead = c.sent_counts_are_fresh.ensures.ahead x.setting x.solo items own;
       sent_once = c.sent_counts_are_fresh.ensures.once x.setting x.solo items own;
@@ -133,7 +134,7 @@ returns-clause-fresh c =
 pub returns-clause-each_states : goal.returns-clause-each_states
 returns-clause-each_states c =
     let w = c.args.self.now in
-    let rising : Rising known_id w.strangers = subst (λ (v : World). Rising known_id v.strangers) c.self.view_is c.self.invariant.2 in
+    let rising : Rising known_id w.strangers = subst (λ (v : World). Rising known_id v.strangers) c.self.view_is c.self.invariant.1.rising in
     λ slot x at. slots_along w (events_taken c.args.events.now c.loop-event.replies.items) slot x rising at
 
 pub returns-clause-guarded : goal.returns-clause-guarded
@@ -141,10 +142,10 @@ returns-clause-guarded c =
     let w = c.args.self.now in
     let es = c.args.events.now in
     let rs = c.loop-event.replies.items in
-    let in_use : AreInUse w.subscribers = subst (λ (v : World). AreInUse v.subscribers) c.self.view_is c.self.invariant.3 in
+    let in_use : AreInUse w.subscribers = subst (λ (v : World). AreInUse v.subscribers) c.self.view_is c.self.invariant.1.in_use in
     λ slot x at.
     let items = projection slot w.sight (strangers_in w) (events_taken es rs) in
-    let own : IsSound x.setting x.solo = (in_use_at w.subscribers slot x in_use at).1 in
+    let own : IsSound x.setting x.solo = (in_use_at w.subscribers slot x in_use at).sound in
     record {
       marked = c.protected_forms_are_marked.ensures.each x.setting x.solo items own;
       in_order = c.protected_forms_are_marked.ensures.order x.setting x.solo items own;
@@ -153,3 +154,11 @@ returns-clause-guarded c =
       keys_by_proof = λ seen unseen item whole away. c.keys_go_to_the_proved.ensures.run x.setting x.solo seen item own away;
       unproved = λ seen unseen item whole k. c.unproved_leaves.ensures x.setting (solo_after x.setting x.solo seen) k item;
     }
+
+pub returns-clause-ends : goal.returns-clause-ends
+returns-clause-ends c =
+    let w = c.args.self.now in
+    let in_use : AreInUse w.subscribers = subst (λ (v : World). AreInUse v.subscribers) c.self.view_is c.self.invariant.1.in_use in
+    λ slot x at.
+    ending_run c.clocks_are_kept.ensures.run c.silent_phones_end.ensures.procedure c.silent_phones_end.ensures.forgotten x
+    (projection slot w.sight (strangers_in w) (events_taken c.args.events.now c.loop-event.replies.items)) (in_use_at w.subscribers slot x in_use at).clocked
