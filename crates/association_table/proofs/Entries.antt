@@ -6,9 +6,9 @@ use Rattle.std.specs.Prelude.{Result, Ok, Err, IsOk, is_ok}
 use borrow.Author.Tests.{eqb-true}
 use Rattle.std.specs.Prelude.{IsSomeAnd, slice_index_or, OnSome}
 use Rattle.slab.specs.Slab.{Slab, get, Updates, IsSlotClone}
-use Rattle.ordered_lists.specs.Ordered.{add, without, at, ordered, Rising, Every, Distinct}
-use Rattle.ordered_lists.specs.Laws.{rising-without, at-without}
-use Rattle.ordered_lists.specs.Indexed.{every-add, every-without, rising-add, rising-ordered, rising_distinct, at_added, without-add, distinct_add, distinct_other, gone_other, map-add, map-without, at-map, at-ordered, rising-map, apart_none, apart_distinct, ordered_left, ordered-add}
+use Rattle.sorted_list.specs.Ordered.{add, without, at, ordered, Rising, Every, Distinct}
+use Rattle.sorted_list.specs.Laws.{rising-without, at-without}
+use Rattle.sorted_list.specs.Indexed.{every-add, every-without, rising-add, rising-ordered, rising_distinct, at_added, without-add, distinct_add, distinct_other, gone_other, map-add, map-without, at-map, at-ordered, rising-map, apart_none, apart_distinct, ordered_left, ordered-add}
 use Rattle.association_table.specs.declared.association.Association.{Association}
 use Rattle.association_table.specs.declared.places.Held.{Held}
 use Rattle.association_table.specs.declared.places.SlabPlace.{SlabPlace}

@@ -4,9 +4,9 @@ use Rattle.std.specs.Prelude.{nat_lt, nat_le, ◌==◌, ◌&&◌, ◌||◌, not,
 use Rattle.std.specs.List.{list_any}
 use Rattle.std.proofs.lemmas.Bool.Decides.{nat_tests}
 use borrow.Author.Tests.{eqb-true}
-use Rattle.ordered_lists.specs.Ordered.{add, AllOver, Rising, Every}
+use Rattle.sorted_list.specs.Ordered.{add, AllOver, Rising, Every}
 use Rattle.sorted_list.specs.Sorted.{lowest}
-use Rattle.ordered_lists.specs.Laws.{at_over, at_key}
+use Rattle.sorted_list.specs.Laws.{at_over, at_key}
 use Rattle.association_table.specs.declared.association.Association.{Association}
 use Rattle.association_table.specs.declared.association.Listed.{Listed}
 use Rattle.association_table.specs.Table.{association_id, found, closed}

@@ -3,8 +3,8 @@ use Rattle.std.proofs.Common.{◌≡◌, ℕ, ◌+◌, ◌*◌, ◌^◌, ◌<◌
 use Rattle.std.specs.Prelude.{nat_lt, nat_le, ◌==◌, Option, Some, None, Bool, true, false, cond, if◌then◌else◌, option_map}
 use Rattle.std.proofs.lemmas.Bool.Decides.{nat_tests}
 use Rattle.sorted_list.specs.Sorted.{lowest_from}
-use Rattle.ordered_lists.specs.Ordered.{add, ordered, AllOver, Rising, Every}
-use Rattle.ordered_lists.specs.Indexed.{every-ordered}
+use Rattle.sorted_list.specs.Ordered.{add, ordered, AllOver, Rising, Every}
+use Rattle.sorted_list.specs.Indexed.{every-ordered}
 use Rattle.association_table.specs.declared.association.Association.{Association}
 use Rattle.association_table.specs.declared.places.Seat.{Seat}
 use Rattle.association_table.specs.Table.{association_id, found, opened, closed, moved, at_station, elsewhere}

@@ -2,7 +2,7 @@
 use Rattle.std.specs.Prelude.{◌≡◌, ℕ, List, [], ◌∷◌, Option, Some, None, Bool, is_some, not, filter, ◌==◌, ◌&&◌, ◌||◌, nat_le, if◌then◌else◌}
 use Rattle.association_table.specs.declared.association.Association.{Association}
 use Rattle.association_table.specs.declared.association.Listed.{Listed}
-use Rattle.ordered_lists.specs.Ordered.{at, add}
+use Rattle.sorted_list.specs.Ordered.{at, add}
 use Rattle.association_table.specs.Table.{association_id, closed}
 use Rattle.association_table.specs.Listing.{agrees, matches, is_listed}
 

@@ -6,7 +6,7 @@ use Rattle.association_table.specs.declared.association.Association.{Association
 use Rattle.association_table.specs.declared.places.Held.{Held}
 use Rattle.association_table.specs.declared.places.SlabPlace.{SlabPlace}
 use Rattle.association_table.specs.declared.places.Seat.{Seat}
-use Rattle.ordered_lists.specs.Ordered.{ordered, Rising, Every, Distinct}
+use Rattle.sorted_list.specs.Ordered.{ordered, Rising, Every, Distinct}
 
 abbrev pub place_id : SlabPlace → ℕ
 place_id p = p.id

@@ -1,7 +1,7 @@
 -- What a caller sees of the associations: the entries by id.
 use Rattle.std.specs.Prelude.{ℕ, List, [], ◌∷◌, Option, ◌==◌, if◌then◌else◌}
 use Rattle.association_table.specs.declared.association.Association.{Association}
-use Rattle.ordered_lists.specs.Ordered.{at, add, without}
+use Rattle.sorted_list.specs.Ordered.{at, add, without}
 
 pub record Table : Type 0 where
   pub entries : List Association  -- by rising id

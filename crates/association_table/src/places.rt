@@ -1,7 +1,7 @@
 //! The three lists in order that lead to the slab's entries: by id, by station and id, and by station, eNB UE id and id.
 
 ghost use Rattle.std.specs.Prelude.{◌≡◌, ℕ, ◌+◌, ◌*◌, ◌<◌, ◌≤◌, ◌^◌, Option, None, IsSome, true, is_some};
-ghost use Rattle.ordered_lists.specs.Ordered.{at, add, without, Rising, Every};
+ghost use Rattle.sorted_list.specs.Ordered.{at, add, without, Rising, Every};
 ghost use Rattle.association_table.specs.Kept.{place_id, seat_of, seat_rank, station_bench, number_bench, bench_at, IsSeat, first_seat};
 
 use crate::association::{Association, AssociationOwner};

@@ -3,7 +3,7 @@
 ghost use Rattle.std.specs.Prelude.{◌≡◌, ℕ, ◌+◌, ◌-◌, ◌*◌, ◌<◌, ◌≤◌, ◌^◌, ◌↔◌, List, [], IfOk, OnOk, OnErr, IsTrue, IsSome, Option, Some, None, Err, is_some, IsOk, if◌then◌else◌};
 ghost use Rattle.association_table.specs.declared.association.OpenFault.TheVariants.{Taken};
 ghost use Rattle.association_table.specs.declared.association.MoveFault.TheVariants.{Unknown};
-ghost use Rattle.ordered_lists.specs.Ordered.{Rising};
+ghost use Rattle.sorted_list.specs.Ordered.{Rising};
 ghost use Rattle.association_table.specs.Table.{association_id, found, opened, closed, moved, at_station, elsewhere};
 ghost use Rattle.association_table.specs.Listing.{listed_at, unlisted};
 ghost use Rattle.association_table.specs.Kept.{station_bench, first_from};

@@ -6,7 +6,7 @@ use crate::parts::{
 };
 use calc_text::{Call, Text};
 use s1ap_elements::{UePagingId, UeS1apIds};
-use s1ap_pdus::{
+use s1ap_messages::{
     ErrorIndication, InitialContextSetupRequest, InitialUeMessage, Paging, PathSwitchRequest, Pdu,
     ResetAcknowledge, S1SetupRequest, S1SetupResponse, S1apPdu, UeContextReleaseCommand,
 };

@@ -2,8 +2,7 @@
 
 use crate::messages::message_text;
 use calc_text::{Answer, Call, Codec, Fault, Text, turned_answer};
-use s1ap_messages::decode;
-use s1ap_pdus::{EncodeFault, S1apFault, encode};
+use s1ap_messages::{EncodeFault, S1apFault, decode, encode};
 use std::alloc::{AllocError, Global};
 
 /// How messages of S1AP are read and written.

@@ -4,8 +4,8 @@ use calc_text::{Answer, Call, Fault, Field};
 use identity_slots::StationNumber;
 use nas_elements::Imsi;
 use std::alloc::Global;
-use trace_words::{
-    AnswerLine, AnswerOwner, ApnLabel, BitRate, EcmWord, EmmWord, EsmWord, Line, TraceFault,
+use trace_text::{
+    Answer, AnswerOwner, ApnLabel, BitRate, EcmWord, EmmWord, EsmWord, Line, TraceFault,
     TraceTicks, parse_line, write_answer, write_line,
 };
 
@@ -35,7 +35,7 @@ pub fn answer(call: Call) -> Answer {
         }
         "trace_faults" => faults_answer(call),
         "out" => out_answer(call),
-        "refused" => shown(call, &AnswerLine::Refused(call.one()?)),
+        "refused" => shown(call, &Answer::Refused(call.one()?)),
         "state" => state_answer(call),
         _ => range_answer(call),
     }
@@ -56,7 +56,7 @@ fn range_answer(call: Call) -> Answer {
 }
 
 /// The line of an answer, whose LF is shown as `\n`.
-fn shown(call: Call, answer: &AnswerLine) -> Answer {
+fn shown(call: Call, answer: &Answer) -> Answer {
     let line = write_answer(Vec::new(call.alloc), answer)?;
     match str::from_utf8(line.as_slice())
         .ok()
@@ -88,13 +88,13 @@ fn faults_answer(call: Call) -> Answer {
 
 fn out_answer(call: Call) -> Answer {
     let (OwnerWord(owner), station, octets): (_, _, Vec<u8>) = call.three()?;
-    shown(call, &AnswerLine::Sent(owner, station, &octets))
+    shown(call, &Answer::Sent(owner, station, &octets))
 }
 
 fn state_answer(call: Call) -> Answer {
     let (digits, EmmField(emm), EcmField(ecm), EsmField(esm)) = call.four()?;
     match Imsi::try_from_digits(digits) {
-        Some(imsi) => shown(call, &AnswerLine::State(imsi, emm, ecm, esm)),
+        Some(imsi) => shown(call, &Answer::State(imsi, emm, ecm, esm)),
         None => Err(Fault::Number),
     }
 }

@@ -9,8 +9,8 @@ use Rattle.s1ap_elements.specs.declared.phone.ListedAssociation.{ListedAssociati
 use Rattle.mme_types.specs.declared.connection.Connection.{Connection}
 use Rattle.mme_types.specs.Listed.{ToReset, matches, is_listed}
 use Rattle.sorted_list.specs.Sorted.{Sorted}
-use Rattle.ordered_lists.specs.Ordered.{at, AllOver, Rising}
-use Rattle.ordered_lists.specs.Laws.{at_over, over_more}
+use Rattle.sorted_list.specs.Ordered.{at, AllOver, Rising}
+use Rattle.sorted_list.specs.Laws.{at_over, over_more}
 use Rattle.connection_table.specs.declared.whereabouts.Whereabouts.{Whereabouts}
 use Rattle.connection_table.specs.declared.seats.Seat.{Seat}
 use Rattle.connection_table.specs.declared.gathering.GatheredSlot.{GatheredSlot}

@@ -8,9 +8,9 @@ use borrow.Author.Tests.{eqb-true}
 use Rattle.identity_slots.specs.Ids.{slots}
 use Rattle.sorted_list.specs.Sorted.{Sorted}
 use Rattle.sorted_list.proofs.Flat.{length-add, length-without}
-use Rattle.ordered_lists.specs.Ordered.{at, add, without, Rising}
-use Rattle.ordered_lists.specs.Laws.{at-without, rising-without}
-use Rattle.ordered_lists.specs.Indexed.{at-add, rising-add}
+use Rattle.sorted_list.specs.Ordered.{at, add, without, Rising}
+use Rattle.sorted_list.specs.Laws.{at-without, rising-without}
+use Rattle.sorted_list.specs.Indexed.{at-add, rising-add}
 use Rattle.connection_table.specs.declared.seats.Seat.{Seat}
 use Rattle.connection_table.specs.Seats.{rank_at, seat_rank, bench_at, is_bench, lacks, IsIndex, SitsOn}
 

@@ -5,9 +5,9 @@ use Rattle.std.proofs.lemmas.Bool.Decides.{nat_tests}
 use Rattle.std.proofs.lemmas.List.{get_or_past}
 use borrow.Author.Tests.{eqb-true}
 use Rattle.sorted_list.specs.Sorted.{Sorted, lowest_from}
-use Rattle.ordered_lists.specs.Ordered.{at, add, Rising}
-use Rattle.ordered_lists.specs.Laws.{at_over, over_more}
-use Rattle.ordered_lists.specs.Indexed.{at-add, rising-add}
+use Rattle.sorted_list.specs.Ordered.{at, add, Rising}
+use Rattle.sorted_list.specs.Laws.{at_over, over_more}
+use Rattle.sorted_list.specs.Indexed.{at-add, rising-add}
 use Rattle.connection_table.specs.declared.seats.Seat.{Seat}
 use Rattle.connection_table.specs.declared.gathering.GatheredSlot.{GatheredSlot}
 use Rattle.connection_table.specs.Seats.{rank_at, seat_rank, bench_at, is_bench, IsIndex}

@@ -4,7 +4,7 @@ use Rattle.identity_slots.specs.Ids.{slots}
 use Rattle.mme_types.specs.declared.connection.Connection.{Connection}
 use Rattle.mme_types.specs.Listed.{ToReset, matches}
 use Rattle.s1ap_elements.specs.declared.phone.ListedAssociation.{ListedAssociation}
-use Rattle.ordered_lists.specs.Ordered.{at, Rising}
+use Rattle.sorted_list.specs.Ordered.{at, Rising}
 use Rattle.connection_table.specs.declared.whereabouts.Whereabouts.{Whereabouts}
 use Rattle.connection_table.specs.declared.seats.Seat.{Seat}
 use Rattle.connection_table.specs.declared.gathering.GatheredSlot.{GatheredSlot}

@@ -3,7 +3,7 @@ use Rattle.std.specs.Prelude.{◌≡◌, ℕ, ◌+◌, ◌*◌, ◌^◌, ◌<◌
 use Rattle.identity_slots.specs.Ids.{slots}
 use Rattle.mme_types.specs.declared.connection.Connection.{Connection}
 use Rattle.sorted_list.specs.Sorted.{Sorted}
-use Rattle.ordered_lists.specs.Ordered.{at, Rising}
+use Rattle.sorted_list.specs.Ordered.{at, Rising}
 use Rattle.connection_table.specs.declared.whereabouts.Whereabouts.{Whereabouts}
 use Rattle.connection_table.specs.declared.seats.Seat.{Seat}
 use Rattle.connection_table.specs.Whereabouts.{nowhere}

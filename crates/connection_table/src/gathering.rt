@@ -1,7 +1,7 @@
 //! Slots that are gathered from the lists, each once.
 
 ghost use Rattle.std.specs.Prelude.{◌≡◌, ℕ, ◌*◌, ◌<◌, ◌≤◌, ◌^◌, ◌==◌, List, Option, None, OnOk, IfOk, IfSome, map};
-ghost use Rattle.ordered_lists.specs.Ordered.{Rising};
+ghost use Rattle.sorted_list.specs.Ordered.{Rising};
 ghost use Rattle.connection_table.specs.Seats.{seat_rank, bench_at, IsIndex};
 ghost use Rattle.connection_table.specs.Gathering.{gathered_rank, is_between, Gathers, IsFirst, IsNoneBetween};
 

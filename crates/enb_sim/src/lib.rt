@@ -13,4 +13,5 @@ mod station;
 
 pub use delivering::{Delivery, PhoneNas};
 pub use profile::StationProfile;
+pub use sim_phone::{Phone, PhoneAct};
 pub use station::{Station, StationAct};

@@ -12,7 +12,7 @@ use s1ap_elements::{
     Address, Cause, CellId, EnbUeId, ErabId, ErabTunnel, EutranCgi, RadioNetworkCause, RrcCause,
     STmsi, SecurityCapabilities, Tai, Teid, UeIdPair,
 };
-use s1ap_pdus::{
+use s1ap_messages::{
     EncodeFault, InitialContextSetupResponse, InitialUeMessage, PathSwitchRequest, Pdu, S1apPdu,
     UeContextReleaseComplete, UeContextReleaseRequest, UplinkNasTransport, encode,
 };

@@ -7,7 +7,7 @@ ghost use Rattle.enb_sim.specs.Sending.{setup_pdu};
 use crate::profile::StationProfile;
 use per_bits::Items;
 use s1ap_elements::{EnbId, GlobalEnbId, PagingDrx, SupportedTa};
-use s1ap_pdus::{
+use s1ap_messages::{
     EncodeFault, Pdu, S1SetupRequest, S1apPdu, encode, encoded_exactly, what_is_encoded,
 };
 use std::alloc::{AllocError, Global};

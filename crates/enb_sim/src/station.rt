@@ -15,8 +15,7 @@ use crate::pairs::{drop_pair, hold_pair, holds_pair, pair_of, pair_with};
 use crate::profile::StationProfile;
 use crate::setup::setup;
 use s1ap_elements::{EnbUeId, MmeUeId, STmsi, UeIdPair, UeS1apIds};
-use s1ap_messages::decode;
-use s1ap_pdus::{DownlinkNasTransport, InitialContextSetupRequest, Pdu, S1apFault};
+use s1ap_messages::{DownlinkNasTransport, InitialContextSetupRequest, Pdu, S1apFault, decode};
 use std::alloc::{AllocError, Global};
 use std::marker::Model;
 

@@ -1,14 +1,12 @@
 //! The program `mme`: plays a trace, or simulates a script, from a file or standard input to standard output.
 #![tactic(auto)]
 
-use mme_main::{Choice, CommandFault, command, run_play};
-use sim_run::run_sim;
+use mme_main::{Choice, CommandFault, PlayFault, Watched, command, run_play, run_sim};
 use std::alloc::{AllocError, Global};
 use std::env;
 use std::fs::File;
 use std::io::{BufWriter, ErrorKind, Read, Write};
 use std::process::ExitCode;
-use trace_player::{PlayFault, Watched};
 
 /// The first word of each command line, as usage texts show it.
 const NAME: &str = "mme";

@@ -2,8 +2,8 @@
 use Rattle.std.proofs.Common.{◌≡◌, ℕ, List, [], ◌∷◌, ◌++◌, map, Option, Some, None, refl, ◌∙◌, ap}
 use Rattle.std.specs.Prelude.{false, true, option_map}
 use Rattle.std.specs.Option.{option_map_or}
-use Rattle.ordered_lists.specs.Ordered.{Rising, at}
-use Rattle.ordered_lists.specs.Laws.{at_key}
+use Rattle.sorted_list.specs.Ordered.{Rising, at}
+use Rattle.sorted_list.specs.Laws.{at_key}
 use Rattle.stranger_machine.specs.declared.state.Stranger.{Stranger}
 use Rattle.stranger_machine.specs.declared.table.Known.{Known}
 use Rattle.stranger_machine.specs.declared.turn.Notice.{Notice}

@@ -10,7 +10,7 @@ use Rattle.emm_machine.specs.Still.{still}
 use Rattle.emm_machine.specs.SubscriberView.{SubscriberView}
 use Rattle.emm_machine.specs.Ticks.{countdowns}
 use Rattle.emm_machine.specs.TickLaws.{running_timed}
-use Rattle.ordered_lists.specs.Ordered.{Every}
+use Rattle.sorted_list.specs.Ordered.{Every}
 use Rattle.subscriber_table.specs.SteppedView.{SteppedView}
 use Rattle.subscriber_table.specs.Laws.{all_give_as_due, all_give_as_touched, each_gives, quiet_sent, some_give, tick_is_of_all, timed_in_range, touched_below, touched_few, touched_is_of_all}
 use Rattle.subscriber_table.specs.Running.{is_due}

@@ -5,7 +5,7 @@ use Rattle.emm_state.specs.declared.draft.Draft.{Draft}
 use Rattle.emm_state.specs.declared.solo.Solo.{Solo}
 use Rattle.mme_types.specs.Events.{Item}
 use Rattle.emm_machine.specs.SubscriberView.{SubscriberView}
-use Rattle.ordered_lists.specs.Ordered.{Every}
+use Rattle.sorted_list.specs.Ordered.{Every}
 use Rattle.stranger_machine.specs.declared.table.Known.{Known}
 use Rattle.stranger_machine.specs.declared.turn.Notice.{Notice}
 use Rattle.stranger_machine.specs.declared.turn.Notice.TheVariants as notices

@@ -6,7 +6,7 @@ ghost use Rattle.std.specs.Prelude.{◌≡◌, ◌<◌, ◌≤◌, ◌++◌, Lis
 ghost use Rattle.mme_types.specs.declared.stations.StationState.{StationState};
 ghost use Rattle.mme_types.specs.Events.{entry_lists, item_of, message_lists};
 ghost use Rattle.mme_types.specs.Events as items;
-ghost use Rattle.ordered_lists.specs.Ordered.{Every};
+ghost use Rattle.sorted_list.specs.Ordered.{Every};
 ghost use Rattle.stranger_machine.specs.declared.table.Known.{Known};
 ghost use Rattle.stranger_machine.specs.declared.turn.Notice.TheVariants as notices;
 ghost use Rattle.stranger_machine.specs.Machine.{begins, is_of_station, receives};

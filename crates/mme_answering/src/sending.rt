@@ -2,7 +2,7 @@
 
 ghost use Rattle.std.specs.Prelude.{◌≡◌, ◌++◌, ◌∷◌, [], map, OnOk};
 ghost use Rattle.std.specs.Option.{option_map_or};
-ghost use Rattle.ordered_lists.specs.Ordered.{at};
+ghost use Rattle.sorted_list.specs.Ordered.{at};
 ghost use Rattle.stranger_machine.specs.Table.{known_id};
 ghost use Rattle.stranger_machine.specs.declared.turn.Notice.TheVariants.{Tick};
 ghost use Rattle.stranger_table.specs.Laws.{some_known_give};

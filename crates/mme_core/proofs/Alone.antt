@@ -2,7 +2,7 @@
 use Rattle.std.proofs.Common.{◌≡◌, ℕ, List, [], ◌∷◌, map, Option, Some, None, refl, ◌∙◌, ap}
 use Rattle.std.specs.Prelude.{option_map, slice_get}
 use Rattle.emm_machine.specs.Words.{states_of}
-use Rattle.ordered_lists.specs.Ordered.{Rising}
+use Rattle.sorted_list.specs.Ordered.{Rising}
 use Rattle.emm_machine.specs.SubscriberView.{SubscriberView}
 use Rattle.stranger_machine.specs.declared.state.Stranger.{Stranger}
 use Rattle.stranger_machine.specs.Machine.{stranger_step}

@@ -4,7 +4,7 @@ use Rattle.mme_types.specs.declared.octets.Answer.{Answer}
 use Rattle.mme_types.specs.Events.{Item}
 use Rattle.emm_machine.specs.SubscriberView.{SubscriberView}
 use Rattle.identity_slots.specs.declared.profile.Profile.{Profile}
-use Rattle.ordered_lists.specs.Ordered.{AllOver, Rising}
+use Rattle.sorted_list.specs.Ordered.{AllOver, Rising}
 use Rattle.stranger_machine.specs.declared.table.Known.{Known}
 use Rattle.stranger_machine.specs.declared.turn.Notice.{Notice}
 use Rattle.stranger_machine.specs.Machine.{Input, Begins, Receives, notes, stranger_step}

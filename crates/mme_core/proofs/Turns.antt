@@ -2,7 +2,7 @@
 use Rattle.std.proofs.Common.{◌≡◌, ℕ, ◌+◌, suc, zero, List, [], ◌∷◌, ◌++◌, map, Option, Some, None, refl, sym, ◌∙◌, ap, arith}
 use Rattle.std.specs.Prelude.{slice_get}
 use Rattle.identity_slots.specs.declared.profile.Profile.{Profile}
-use Rattle.ordered_lists.specs.Ordered.{Rising}
+use Rattle.sorted_list.specs.Ordered.{Rising}
 use Rattle.mme_types.specs.Events.{Item, Nothing}
 use Rattle.emm_machine.specs.SubscriberView.{SubscriberView}
 use Rattle.stranger_machine.specs.declared.state.Stranger.{Stranger}

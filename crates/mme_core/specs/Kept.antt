@@ -1,6 +1,6 @@
 -- What always holds of an MME.
 use Rattle.std.specs.Prelude.{◌≡◌, List, length, Some}
-use Rattle.ordered_lists.specs.Ordered.{Every, Rising}
+use Rattle.sorted_list.specs.Ordered.{Every, Rising}
 use Rattle.identity_slots.specs.Provisioned.{Provisioned}
 use Rattle.stranger_machine.specs.declared.table.Known.{Known}
 use Rattle.stranger_machine.specs.Table.{known_id}

@@ -1,7 +1,7 @@
 -- Laws of the MME: lists of events that are the same to a slot, events that may change places, and the one output of an event.
 use Rattle.std.specs.Prelude.{◌≡◌, ◌≢◌, ℕ, Bool, true, false, List, [], map, filter, flat_map, Option, Some, None, Ok, slice_get}
 use Rattle.std.specs.Borrow.{Bor}
-use Rattle.ordered_lists.specs.Ordered.{Rising}
+use Rattle.sorted_list.specs.Ordered.{Rising}
 use Rattle.s1ap_elements.specs.declared.station.SupportedTa.{SupportedTa}
 use Rattle.s1ap_pdus.specs.declared.pdu.InitialUeMessage.{InitialUeMessage}
 use Rattle.s1ap_pdus.specs.declared.pdu.Pdu.{Pdu}

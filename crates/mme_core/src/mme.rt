@@ -4,7 +4,7 @@ ghost use Rattle.std.specs.Prelude.{◌≡◌, ◌≢◌, ◌⊎◌, ◌<◌, �
 ghost use Rattle.identity_slots.specs.Provisioned.{slot_of_imsi};
 ghost use Rattle.mme_types.specs.Stations.{station_at};
 ghost use Rattle.emm_machine.specs.SubscriberView.{SubscriberView};
-ghost use Rattle.ordered_lists.specs.Ordered.{Every, Rising};
+ghost use Rattle.sorted_list.specs.Ordered.{Every, Rising};
 ghost use Rattle.stranger_machine.specs.Table.{known_id, stranger_at};
 ghost use Rattle.mme_core.specs.declared.event.StepFault.TheVariants.{NoMemory};
 ghost use Rattle.mme_core.specs.Projection.{AllInOrder, AreInOrder, alone_after, is_slot, is_station, is_stranger, projection, silence, station_run, station_told, states_along, states_at, states_run, stranger_run, stranger_told, subscriber_told, told};
@@ -62,7 +62,7 @@ pub(crate) struct Surroundings {
 
 impl Model for Surroundings {
     ghost use Rattle.std.specs.Prelude.{◌≡◌, ◌≤◌, length};
-    ghost use Rattle.ordered_lists.specs.Ordered.{Rising};
+    ghost use Rattle.sorted_list.specs.Ordered.{Rising};
     ghost use Rattle.stranger_machine.specs.Table.{known_id};
     ghost use Rattle.mme_core.specs.Sight.{Around};
 

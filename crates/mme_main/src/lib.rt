@@ -1,10 +1,9 @@
-//! What the program `mme` does: its command line, and the run of a trace from a reader to a writer.
+//! What the program `mme` does: its command line, the run of a trace and that of a script, each from a reader to a writer.
+//!
+//! This crate passes on what stands in those below it: a program needs it alone.
 #![tactic(auto)]
 
-mod command_line;
-mod play;
-mod player;
-
-pub use command_line::{Choice, CommandFault, command};
-pub use play::run_play;
-pub use player::Player;
+pub use mme_command::{Choice, CommandFault, command};
+pub use sim_run::run_sim;
+pub use trace_player::{PlayFault, Watched};
+pub use trace_run::run_play;

@@ -18,3 +18,12 @@ mod setup;
 mod transport;
 
 pub use decoding::decode;
+pub use s1ap_pdus::{
+    Criticality, DownlinkNasTransport, EncodeFault, ErrorIndication, InitialContextSetupFailure,
+    InitialContextSetupRequest, InitialContextSetupResponse, InitialUeMessage, MessageType,
+    NasNonDeliveryIndication, Paging, PathSwitchRequest, PathSwitchRequestAcknowledge,
+    PathSwitchRequestFailure, Pdu, Reset, ResetAcknowledge, S1SetupFailure, S1SetupRequest,
+    S1SetupResponse, S1apFault, S1apPdu, UeCapabilityInfoIndication, UeContextReleaseCommand,
+    UeContextReleaseComplete, UeContextReleaseRequest, UplinkNasTransport, decoded_exactly, encode,
+    encoded_exactly, named_again, one_message, what_is_encoded,
+};

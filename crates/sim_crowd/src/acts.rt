@@ -3,9 +3,8 @@
 use crate::acted::Acted;
 use crate::crowd::Crowd;
 use crate::site::{Connection, enb_ue_id};
-use enb_sim::StationAct;
+use enb_sim::{PhoneAct, StationAct};
 use identity_slots::StationNumber;
-use phone_sim::PhoneAct;
 use s1ap_elements::{STmsi, UeIdPair};
 use sim_words::RadioPlace;
 use std::alloc::AllocError;

@@ -3,13 +3,11 @@
 use crate::acted::{Acted, Uplink};
 use crate::phones::Phones;
 use crate::site::{Connection, Site, Sites};
-use enb_sim::{Delivery, PhoneNas, StationAct};
+use enb_sim::{Delivery, PhoneAct, PhoneNas, StationAct};
 use identity_slots::{StationNumber, Vector};
 use nas_elements::Imsi;
-use phone_sim::PhoneAct;
 use s1ap_elements::UeIdPair;
-use s1ap_messages::decode;
-use s1ap_pdus::{Pdu, S1apFault};
+use s1ap_messages::{Pdu, S1apFault, decode};
 use sim_words::{PhoneWord, RadioPlace, RadioWord, StationLine};
 use std::alloc::{AllocError, Global};
 

@@ -2,9 +2,9 @@
 
 use crate::list::PhoneList;
 use crate::site::Connection;
+use enb_sim::Phone;
 use identity_slots::Vector;
 use nas_elements::Imsi;
-use phone_sim::Phone;
 use sim_words::RadioPlace;
 use std::alloc::{AllocError, Global};
 use std::mem;

@@ -4,10 +4,9 @@ ghost use Rattle.std.specs.Prelude.{vec_len};
 ghost use Rattle.std.specs.List.Sorted.{IsSearchInRange};
 
 use crate::list::PhoneList;
-use enb_sim::{Station, StationProfile};
+use enb_sim::{PhoneAct, Station, StationProfile};
 use identity_slots::{AssociationId, StationNumber};
 use per_bits::{BitField, Octets, Whole};
-use phone_sim::PhoneAct;
 use s1ap_elements::{EnbUeId, UeIdPair};
 use sim_words::{MacroId, PhoneNumber, RadioPlace, StationLine};
 use std::alloc::{AllocError, Global};

@@ -15,7 +15,7 @@ use nas_elements::Imsi;
 use sim_words::comments_are_not_kept;
 use std::alloc::{AllocError, Global};
 use trace_answers::{sent_line, states_line};
-use trace_words::{AnswerLine, write_answer};
+use trace_words::{Answer, write_answer};
 
 /// Appends a line.
 pub(crate) fn push_line(text: &[u8], out: &mut Vec<u8>) -> Result<(), AllocError>
@@ -56,7 +56,7 @@ pub(crate) fn push_refusal(
     match fault {
         StepFault::NoMemory => Err(AllocError),
         told => {
-            push_answer(alloc, &AnswerLine::Refused(told as u8), out)?;
+            push_answer(alloc, &Answer::Refused(told as u8), out)?;
             Ok(())
         }
     }
@@ -76,7 +76,7 @@ pub(crate) fn push_states(
 }
 
 /// Appends an answer line, as a comment.
-fn push_answer(alloc: Global, answer: &AnswerLine<'_>, out: &mut Vec<u8>) -> Result<(), AllocError>
+fn push_answer(alloc: Global, answer: &Answer<'_>, out: &mut Vec<u8>) -> Result<(), AllocError>
     requires { octets_said answer.now ≤ longest }
     ensures { OnOk result (AddsComments out.old.items out.new.items (answer_text answer.now)) }
 {

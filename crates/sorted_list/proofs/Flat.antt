@@ -4,9 +4,9 @@ use Rattle.std.specs.Prelude.{nat_lt, ◌==◌, Option, Some, None, Bool, true, 
 use Rattle.std.proofs.lemmas.List.{set-get_or}
 use Rattle.std.proofs.lemmas.Bool.Decides.{nat_tests}
 use Rattle.std.specs.List.{insert, remove}
-use Rattle.ordered_lists.specs.Ordered.{place, at, add, put, without, AllOver, Rising, Every}
-use Rattle.ordered_lists.specs.Laws.{over_more, without_over, without_absent, at_over, at-without, rising-put, rising-without}
-use Rattle.ordered_lists.specs.Indexed.{rising-add}
+use Rattle.sorted_list.specs.Ordered.{place, at, add, put, without, AllOver, Rising, Every}
+use Rattle.sorted_list.specs.Laws.{over_more, without_over, without_absent, at_over, at-without, rising-put, rising-without}
+use Rattle.sorted_list.specs.Indexed.{rising-add}
 use Rattle.sorted_list.specs.Sorted.{lowest, lowest_from}
 use Rattle.sorted_list.specs.Chunks.{flat, head_key, home, AllUnder, IsHome, IsFilled, IsEmpty, IsChunked}
 

@@ -3,7 +3,7 @@ use Rattle.std.proofs.Common.{◌≡◌, ℕ, zero, suc, ◌+◌, ◌-◌, ◌*�
 use Rattle.std.specs.Prelude.{min, Bool, true, false, nat_le, IsTrue}
 use Rattle.std.proofs.lemmas.Bool.Decides.{nat_tests}
 use Rattle.std.specs.List.{insert, remove}
-use Rattle.ordered_lists.specs.Ordered.{Every}
+use Rattle.sorted_list.specs.Ordered.{Every}
 use Rattle.sorted_list.specs.Chunks.{flat, weight, wanted, spread, kept_chunks, regained, IsFilled, IsPaired, IsPairedFrom, IsPairedTo, IsEnough, IsRoom, IsSteady}
 
 module _ {X : Type 0} where

@@ -1,6 +1,6 @@
 -- A list as the chunks that hold it.
 use Rattle.std.specs.Prelude.{◌≡◌, ℕ, Bool, true, if◌then◌else◌, zero, suc, ◌+◌, ◌-◌, ◌*◌, ◌/◌, ◌%◌, ◌^◌, ◌<◌, ◌≤◌, min, max, List, [], ◌∷◌, ◌++◌, length}
-use Rattle.ordered_lists.specs.Ordered.{place, AllOver, Rising, Every}
+use Rattle.sorted_list.specs.Ordered.{place, AllOver, Rising, Every}
 
 module _ {X : Type 0} where
   -- the elements of the chunks, in turn

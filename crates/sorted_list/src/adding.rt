@@ -2,7 +2,7 @@
 
 ghost use Rattle.std.specs.Prelude.{◌≡◌, ℕ, ◌+◌, ◌-◌, ◌*◌, ◌<◌, ◌≤◌, ◌++◌, ◌^◌, [], OnOk, false, length, vec_len};
 ghost use Rattle.std.specs.Vec.{vec_capacity};
-ghost use Rattle.ordered_lists.specs.Ordered.{add, Rising, Every};
+ghost use Rattle.sorted_list.specs.Ordered.{add, Rising, Every};
 ghost use Rattle.sorted_list.specs.Chunks.{flat, IsHome, IsFilled, IsEmpty, IsPaired, IsEnough, IsSteady, wanted, spread, kept_chunks, regained, weight};
 
 use crate::chunk::{Chunk, HALF};

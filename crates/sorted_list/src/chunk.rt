@@ -2,7 +2,7 @@
 
 ghost use Rattle.std.specs.Prelude.{◌≡◌, ◌+◌, ◌<◌, ◌≤◌, ◌++◌, ◌==◌, [], IfOk, OnOk, IsTrue, ◌↔◌, if◌then◌else◌, is_some, length, vec_len};
 ghost use Rattle.std.specs.Vec.{vec_capacity};
-ghost use Rattle.ordered_lists.specs.Ordered.{place, at, add, put, without, Rising, Every};
+ghost use Rattle.sorted_list.specs.Ordered.{place, at, add, put, without, Rising, Every};
 ghost use Rattle.sorted_list.specs.Sorted.{lowest, lowest_from};
 ghost use Rattle.sorted_list.specs.Chunks.{head_key, AllUnder, IsFilled};
 

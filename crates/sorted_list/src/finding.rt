@@ -1,7 +1,7 @@
 //! What is looked for among the chunks.
 
 ghost use Rattle.std.specs.Prelude.{◌≡◌, ◌+◌, ◌-◌, ◌<◌, ◌≤◌, length};
-ghost use Rattle.ordered_lists.specs.Ordered.{at, Rising, Every};
+ghost use Rattle.sorted_list.specs.Ordered.{at, Rising, Every};
 ghost use Rattle.sorted_list.specs.Sorted.{lowest_from};
 ghost use Rattle.sorted_list.specs.Chunks.{flat, home, IsFilled};
 

@@ -1,7 +1,7 @@
 //! The list.
 
 ghost use Rattle.std.specs.Prelude.{◌≡◌, ℕ, ◌+◌, ◌<◌, ◌≤◌, List, [], IfOk, OnOk, OnErr, Option, Some, None, if◌then◌else◌, is_some, length, drop, ◌==◌, true, false};
-ghost use Rattle.ordered_lists.specs.Ordered.{at, add, put, without, Rising};
+ghost use Rattle.sorted_list.specs.Ordered.{at, add, put, without, Rising};
 ghost use Rattle.sorted_list.specs.Sorted.{lowest, lowest_from};
 
 use crate::adding::{add_to, hold, kept_chunks, make_spares, regained, wanted};

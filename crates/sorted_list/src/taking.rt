@@ -2,7 +2,7 @@
 
 ghost use Rattle.std.specs.Prelude.{◌≡◌, ◌+◌, ◌<◌, ◌≤◌, min, if◌then◌else◌, is_some, vec_len};
 ghost use Rattle.std.specs.Vec.{vec_capacity};
-ghost use Rattle.ordered_lists.specs.Ordered.{at, put, without, Rising, Every};
+ghost use Rattle.sorted_list.specs.Ordered.{at, put, without, Rising, Every};
 ghost use Rattle.sorted_list.specs.Chunks.{flat, IsFilled, IsEmpty, IsPaired, IsPairedFrom, IsPairedTo, weight};
 
 use crate::chunk::Chunk;

@@ -3,8 +3,8 @@ use Rattle.std.proofs.Common.{◌≡◌, ◌≢◌, ℕ, ◌<◌, List, [], ◌�
 use Rattle.std.specs.Prelude.{◌==◌, if◌then◌else◌, cond, option_map}
 use Rattle.std.proofs.lemmas.Bool.Decides.{nat_tests}
 use Rattle.identity_slots.specs.declared.profile.Profile.{Profile}
-use Rattle.ordered_lists.specs.Ordered.{AllOver, Rising, at}
-use Rattle.ordered_lists.specs.Laws.{at_over, at-put, at-without, rising-put, rising-without}
+use Rattle.sorted_list.specs.Ordered.{AllOver, Rising, at}
+use Rattle.sorted_list.specs.Laws.{at_over, at-put, at-without, rising-put, rising-without}
 use Rattle.stranger_machine.specs.declared.state.Stranger.{Stranger}
 use Rattle.stranger_machine.specs.declared.table.Known.{Known}
 use Rattle.stranger_machine.specs.declared.turn.Notice.{Notice}

@@ -1,7 +1,7 @@
 -- The strangers that aren't closed, by rising id; the others are closed.
 use Rattle.std.specs.Prelude.{ℕ, List, [], ◌∷◌, Option, Some, None, Bool, is_some, option_map, unwrap_or}
 use Rattle.identity_slots.specs.declared.profile.Profile.{Profile}
-use Rattle.ordered_lists.specs.Ordered.{at, put, without}
+use Rattle.sorted_list.specs.Ordered.{at, put, without}
 use Rattle.stranger_machine.specs.declared.state.Stranger.{Stranger}
 use Rattle.stranger_machine.specs.declared.table.Known.{Known}
 use Rattle.stranger_machine.specs.declared.turn.Notice.{Notice}

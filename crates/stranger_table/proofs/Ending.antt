@@ -3,8 +3,8 @@ use Rattle.std.proofs.Common.{◌≡◌, ℕ, ◌+◌, ◌-◌, ◌<◌, ◌≤�
 use Rattle.std.specs.Prelude.{◌==◌, nat_lt, nat_le, not, cond, option_map, is_some, unwrap_or}
 use Rattle.std.proofs.lemmas.Bool.Decides.{nat_tests}
 use borrow.Author.Tests.{eqb-true}
-use Rattle.ordered_lists.specs.Ordered.{at, put, without, AllOver, Rising}
-use Rattle.ordered_lists.specs.Indexed.{every-without, put_is_add, without-add}
+use Rattle.sorted_list.specs.Ordered.{at, put, without, AllOver, Rising}
+use Rattle.sorted_list.specs.Indexed.{every-without, put_is_add, without-add}
 use Rattle.stranger_machine.specs.declared.state.Stranger.{Stranger}
 use Rattle.stranger_machine.specs.declared.state.Stranger.TheVariants.{Waiting, Held}
 use Rattle.stranger_machine.specs.declared.table.Known.{Known}

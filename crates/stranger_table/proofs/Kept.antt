@@ -4,9 +4,9 @@ use Rattle.std.specs.Prelude.{◌==◌, nat_lt, Option, Some, None, IsSome, Bool
 use Rattle.std.proofs.lemmas.Bool.Decides.{nat_tests}
 use borrow.Author.Tests.{eqb-true}
 use Rattle.slab.specs.Slab.{Slab, get, slab_len, Updates}
-use Rattle.ordered_lists.specs.Ordered.{add, at, put, without, AllOver, Rising, Every, Distinct}
-use Rattle.ordered_lists.specs.Laws.{put_add, rising-without}
-use Rattle.ordered_lists.specs.Indexed.{every-add, every-without, every_at, rising-add, distinct_add, distinct_other, gone_other, map-add, map-without, at-map, rising-map, not_member}
+use Rattle.sorted_list.specs.Ordered.{add, at, put, without, AllOver, Rising, Every, Distinct}
+use Rattle.sorted_list.specs.Laws.{put_add, rising-without}
+use Rattle.sorted_list.specs.Indexed.{every-add, every-without, every_at, rising-add, distinct_add, distinct_other, gone_other, map-add, map-without, at-map, rising-map, not_member}
 use Rattle.sorted_list.specs.Sorted.{lowest_from}
 use Rattle.stranger_table.specs.declared.places.StrangerPlace.{StrangerPlace}
 use Rattle.stranger_table.specs.declared.sleeper.Sleeper.{Sleeper}

@@ -2,7 +2,7 @@
 use Rattle.std.proofs.Common.{◌≡◌, ℕ, ◌+◌, ◌<◌, ◌≤◌, List, [], ◌∷◌, Bool, true, false, Option, Some, None, refl, sym, ◌∙◌, ap, subst, arith}
 use Rattle.std.specs.Prelude.{◌==◌, nat_lt, if◌then◌else◌, cond, not, option_map, IsSome}
 use Rattle.std.proofs.lemmas.Bool.Decides.{nat_tests}
-use Rattle.ordered_lists.specs.Ordered.{AllOver, Rising, at, without}
+use Rattle.sorted_list.specs.Ordered.{AllOver, Rising, at, without}
 use Rattle.sorted_list.specs.Sorted.{lowest_from}
 use Rattle.identity_slots.specs.Ids.{station_in}
 use Rattle.stranger_machine.specs.declared.state.Stranger.{Stranger}

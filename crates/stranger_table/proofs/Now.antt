@@ -1,8 +1,8 @@
 -- What a change of what is kept makes of the strangers as they are now.
 use Rattle.std.proofs.Common.{◌≡◌, ℕ, ◌+◌, ◌-◌, ◌<◌, ◌≤◌, ◌^◌, List, [], ◌∷◌, Option, Some, None, refl, sym, ◌∙◌, ap, subst, arith}
 use Rattle.std.specs.Prelude.{nat_lt, Bool, true, false, cond, option_map}
-use Rattle.ordered_lists.specs.Ordered.{add, at, put, without, Rising, Every}
-use Rattle.ordered_lists.specs.Indexed.{every-add, every-without, every_at, at-map, map-add, map-without, put_is_add, rising-map}
+use Rattle.sorted_list.specs.Ordered.{add, at, put, without, Rising, Every}
+use Rattle.sorted_list.specs.Indexed.{every-add, every-without, every_at, at-map, map-add, map-without, put_is_add, rising-map}
 use Rattle.sorted_list.specs.Sorted.{lowest_from}
 use Rattle.stranger_machine.specs.declared.state.Stranger.{Stranger}
 use Rattle.stranger_machine.specs.declared.state.Stranger.TheVariants.{Waiting, Held}

@@ -2,7 +2,7 @@
 use Rattle.std.proofs.Common.{◌≡◌, ℕ, List, true, false, Some, None, sym, ◌∙◌, ap, subst}
 use Rattle.std.specs.Prelude.{option_map}
 use Rattle.slab.specs.Slab.{Slab, Updates}
-use Rattle.ordered_lists.specs.Ordered.{at, without}
+use Rattle.sorted_list.specs.Ordered.{at, without}
 use Rattle.stranger_table.specs.declared.places.StrangerPlace.{StrangerPlace}
 use Rattle.stranger_table.specs.declared.sleeper.Sleeper.{Sleeper}
 use Rattle.stranger_table.specs.Ended.{IsEnding, IsEndingIf, ended_at, ended_if, sleeper_ended, sleeper_ticked, stays_ticked}

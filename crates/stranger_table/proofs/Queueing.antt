@@ -3,9 +3,9 @@ use Rattle.std.proofs.Common.{◌≡◌, ℕ, ◌+◌, ◌*◌, ◌^◌, ◌<◌
 use Rattle.std.specs.Prelude.{◌==◌, nat_lt, cond, option_map}
 use Rattle.std.proofs.lemmas.Bool.Decides.{nat_tests}
 use borrow.Author.Tests.{eqb-true}
-use Rattle.ordered_lists.specs.Ordered.{add, at, put, without, Rising, Every}
-use Rattle.ordered_lists.specs.Laws.{add-add, at_key, at_over, at-without, without_absent}
-use Rattle.ordered_lists.specs.Indexed.{every-add, every-without, every_at, none_add, put_is_add, rising-add, without-add}
+use Rattle.sorted_list.specs.Ordered.{add, at, put, without, Rising, Every}
+use Rattle.sorted_list.specs.Laws.{add-add, at_key, at_over, at-without, without_absent}
+use Rattle.sorted_list.specs.Indexed.{every-add, every-without, every_at, none_add, put_is_add, rising-add, without-add}
 use Rattle.stranger_machine.specs.declared.state.Stranger.{Stranger}
 use Rattle.stranger_machine.specs.declared.state.Stranger.TheVariants.{Waiting, Held}
 use Rattle.stranger_machine.specs.Ticks.{ends_in}

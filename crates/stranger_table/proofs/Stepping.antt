@@ -2,9 +2,9 @@
 use Rattle.std.proofs.Common.{◌≡◌, ℕ, ◌-◌, ◌<◌, ◌≤◌, ◌^◌, List, [], ◌∷◌, length, Bool, true, false, Option, Some, None, refl, sym, ◌∙◌, ap, subst, arith}
 use Rattle.std.specs.Prelude.{◌==◌, if◌then◌else◌, option_map}
 use Rattle.std.proofs.lemmas.Bool.Decides.{nat_tests}
-use Rattle.ordered_lists.specs.Ordered.{at, put, without, Rising, Every}
-use Rattle.ordered_lists.specs.Laws.{at-put, rising-put, rising-without}
-use Rattle.ordered_lists.specs.Indexed.{every_at, every-without}
+use Rattle.sorted_list.specs.Ordered.{at, put, without, Rising, Every}
+use Rattle.sorted_list.specs.Laws.{at-put, rising-put, rising-without}
+use Rattle.sorted_list.specs.Indexed.{every_at, every-without}
 use Rattle.sorted_list.specs.Sorted.{lowest}
 use Rattle.stranger_machine.specs.declared.state.Stranger.{Stranger}
 use Rattle.stranger_machine.specs.declared.state.Stranger.TheVariants.{Waiting, Held}

@@ -2,8 +2,8 @@
 use Rattle.std.proofs.Common.{◌≡◌, ℕ, ◌<◌, List, [], ◌∷◌, Bool, true, false, Option, Some, None, refl, ◌∙◌, ap, arith}
 use Rattle.std.specs.Prelude.{◌==◌, cond, nat_lt, option_map}
 use Rattle.std.proofs.lemmas.Bool.Decides.{nat_tests}
-use Rattle.ordered_lists.specs.Ordered.{Rising, at, put}
-use Rattle.ordered_lists.specs.Laws.{at_over, over_more, without_absent}
+use Rattle.sorted_list.specs.Ordered.{Rising, at, put}
+use Rattle.sorted_list.specs.Laws.{at_over, over_more, without_absent}
 use Rattle.stranger_machine.specs.declared.state.Stranger.{Stranger}
 use Rattle.stranger_machine.specs.declared.table.Known.{Known}
 use Rattle.stranger_machine.specs.Table.{known_id, stranger_at, with_stranger}

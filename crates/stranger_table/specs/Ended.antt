@@ -1,6 +1,6 @@
 -- What a tick makes of those whose T3470 it ends, and what always holds of a table.
 use Rattle.std.specs.Prelude.{◌≡◌, ℕ, ◌-◌, ◌<◌, ◌≤◌, ◌^◌, nat_le, if◌then◌else◌, Bool, false, List, [], ◌∷◌, Option, Some, None, option_map}
-use Rattle.ordered_lists.specs.Ordered.{Every}
+use Rattle.sorted_list.specs.Ordered.{Every}
 use Rattle.stranger_machine.specs.declared.state.Stranger.{Stranger}
 use Rattle.stranger_machine.specs.declared.turn.Notice.TheVariants.{Tick}
 use Rattle.stranger_machine.specs.Machine.{notes}

@@ -1,6 +1,6 @@
 -- The slab of the strangers that aren't closed, and the list by rising id that leads to them.
 use Rattle.std.specs.Prelude.{◌≡◌, ℕ, ◌<◌, ◌^◌, List, length, map, Option, Some, None, IsSome}
-use Rattle.ordered_lists.specs.Ordered.{Rising, Every, Distinct}
+use Rattle.sorted_list.specs.Ordered.{Rising, Every, Distinct}
 use Rattle.slab.specs.Slab.{Slab, get, slab_len}
 use Rattle.stranger_machine.specs.declared.state.Stranger.TheVariants.{Held}
 use Rattle.stranger_table.specs.declared.places.StrangerPlace.{StrangerPlace}

@@ -1,6 +1,6 @@
 -- The queue of deadlines: when the T3470 of each stranger that waits ends, by deadline, and of one deadline by id.
 use Rattle.std.specs.Prelude.{◌≡◌, ℕ, ◌+◌, ◌*◌, ◌^◌, nat_le, if◌then◌else◌, List, [], ◌∷◌, Option, Some, None}
-use Rattle.ordered_lists.specs.Ordered.{add, at, without}
+use Rattle.sorted_list.specs.Ordered.{add, at, without}
 use Rattle.stranger_machine.specs.declared.state.Stranger.{Stranger}
 use Rattle.stranger_machine.specs.declared.state.Stranger.TheVariants.{Waiting, Held}
 use Rattle.stranger_machine.specs.Ticks.{ends_in}

@@ -1,6 +1,6 @@
 -- Strangers as they were when they were last touched, and as they are now.
 use Rattle.std.specs.Prelude.{ℕ, ◌-◌, ◌<◌, ◌≤◌, ◌^◌, List, map, Option, Some, None, option_map}
-use Rattle.ordered_lists.specs.Ordered.{Rising, Every, at, put, without}
+use Rattle.sorted_list.specs.Ordered.{Rising, Every, at, put, without}
 use Rattle.stranger_machine.specs.declared.state.Stranger.{Stranger}
 use Rattle.stranger_machine.specs.declared.table.Known.{Known}
 use Rattle.stranger_machine.specs.Ticks.{IsAsleep, stranger_aged}

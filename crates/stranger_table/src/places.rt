@@ -1,7 +1,7 @@
 //! The list by rising id that leads to the slab of the strangers.
 
 ghost use Rattle.std.specs.Prelude.{◌≡◌, ◌<◌, ◌^◌};
-ghost use Rattle.ordered_lists.specs.Ordered.{at, without};
+ghost use Rattle.sorted_list.specs.Ordered.{at, without};
 ghost use Rattle.sorted_list.specs.Sorted.{lowest_from};
 ghost use Rattle.stranger_table.specs.Kept.{place_id};
 

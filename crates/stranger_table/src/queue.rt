@@ -1,7 +1,7 @@
 //! The queue of deadlines.
 
 ghost use Rattle.std.specs.Prelude.{◌≡◌, ◌<◌, ◌≤◌, ◌^◌, [], false, IfOk};
-ghost use Rattle.ordered_lists.specs.Ordered.{Rising};
+ghost use Rattle.sorted_list.specs.Ordered.{Rising};
 ghost use Rattle.stranger_table.specs.Queued.{alarm, front_ids, with_entry, without_entry, IsFree};
 
 use identity_slots::AssociationId;

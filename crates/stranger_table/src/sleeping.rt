@@ -1,7 +1,7 @@
 //! The strangers that aren't closed, as they were when they were last touched, by their ids.
 
 ghost use Rattle.std.specs.Prelude.{◌≡◌, ◌+◌, ◌≤◌, ◌^◌, [], OnOk, OnErr, Some, None, option_map};
-ghost use Rattle.ordered_lists.specs.Ordered.{Every, at, put, without};
+ghost use Rattle.sorted_list.specs.Ordered.{Every, at, put, without};
 ghost use Rattle.slab.specs.Slab.{ContainsKey, Updates, slab_len};
 ghost use Rattle.sorted_list.specs.Sorted.{lowest_from};
 ghost use Rattle.stranger_table.specs.Ended.{ended_at, sleeper_ended, sleeper_ticked, stays_ticked, IsEnding, IsEndingIf};

@@ -2,7 +2,7 @@
 
 ghost use Rattle.std.specs.Prelude.{◌≡◌, ◌+◌, ◌<◌, ◌≤◌, ◌^◌, ℕ, [], IfOk, IsSome, OnOk, OnErr, if◌then◌else◌, option_map, true};
 ghost use Rattle.identity_slots.specs.Ids.{station_in};
-ghost use Rattle.ordered_lists.specs.Ordered.{Rising, put, without};
+ghost use Rattle.sorted_list.specs.Ordered.{Rising, put, without};
 ghost use Rattle.sorted_list.specs.Sorted.{lowest_from};
 ghost use Rattle.stranger_machine.specs.Lent.{lent_now};
 ghost use Rattle.stranger_machine.specs.Machine.{closes, is_of_station, noted_station};

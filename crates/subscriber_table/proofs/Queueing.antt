@@ -4,8 +4,8 @@ use Rattle.std.specs.Prelude.{nat_le, ◌==◌, ◌||◌, Option, Some, None, Bo
 use Rattle.std.specs.Option.{option_eq}
 use Rattle.std.proofs.Math.Dec.{eqb}
 use Rattle.std.proofs.lemmas.Bool.Decides.{nat_tests}
-use Rattle.ordered_lists.specs.Ordered.{put, without, at, AllOver, Rising}
-use Rattle.ordered_lists.specs.Laws.{at-put, at-without, at_over, without_absent, without_over}
+use Rattle.sorted_list.specs.Ordered.{put, without, at, AllOver, Rising}
+use Rattle.sorted_list.specs.Laws.{at-put, at-without, at_over, without_absent, without_over}
 use Rattle.timer_queue.specs.declared.timer.Kind.{Kind}
 use Rattle.timer_queue.specs.declared.timer.Kind.TheVariants.{Procedure, Reachable}
 use Rattle.timer_queue.specs.declared.timer.Timer.{Timer}

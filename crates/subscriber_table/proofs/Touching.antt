@@ -10,7 +10,7 @@ use Rattle.emm_state.specs.declared.solo.Solo.{Solo}
 use Rattle.emm_machine.specs.Still.{is_elsewhere, is_unlisted, pages}
 use Rattle.emm_machine.specs.SubscriberView.{SubscriberView}
 use Rattle.emm_machine.specs.Ticks.{solo_aged}
-use Rattle.ordered_lists.specs.Ordered.{Every}
+use Rattle.sorted_list.specs.Ordered.{Every}
 use Rattle.subscriber_table.specs.SteppedView.{SteppedView}
 use Rattle.subscriber_table.specs.Changed.{changed_at}
 use Rattle.subscriber_table.specs.Laws.{due_below, where_map, with_solo_is}

@@ -13,7 +13,7 @@ use Rattle.emm_machine.specs.SubscriberView.{SubscriberView}
 use Rattle.emm_machine.specs.Words.{states_of}
 use Rattle.emm_machine.specs.Ticks.{AreAbove, IsAbove, both_less, countdowns, less, solo_aged, ticks_after}
 use Rattle.emm_machine.specs.TickLaws.{countdowns_aged, quiet_tick, ticks_are_aged, ticks_more}
-use Rattle.ordered_lists.specs.Ordered.{Every}
+use Rattle.sorted_list.specs.Ordered.{Every}
 use Rattle.timer_queue.specs.declared.timer.Kind.{Kind}
 use Rattle.timer_queue.specs.declared.timer.Kind.TheVariants.{Procedure, Reachable}
 use Rattle.timer_queue.specs.declared.timer.TimerOwner.TheVariants.{Subscriber}

@@ -15,7 +15,7 @@ use Rattle.emm_machine.specs.Still.{still}
 use Rattle.emm_machine.specs.SubscriberView.{SubscriberView}
 use Rattle.emm_machine.specs.Ticks.{AreAbove, AreTimed, IsAbove, IsTimed, countdowns, solo_aged}
 use Rattle.emm_machine.specs.TickLaws.{quiet_tick}
-use Rattle.ordered_lists.specs.Ordered.{Every}
+use Rattle.sorted_list.specs.Ordered.{Every}
 use Rattle.connection_table.specs.Whereabouts.{slots_where}
 use Rattle.subscriber_table.specs.SteppedView.{SteppedView}
 use Rattle.subscriber_table.specs.Changed.{changed_at, cleared}

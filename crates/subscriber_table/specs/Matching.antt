@@ -2,7 +2,7 @@
 use Rattle.std.proofs.Common.{◌≡◌, ℕ, zero, suc, ◌+◌, List, [], ◌∷◌, ◌++◌, length, refl, sym, ◌∙◌, ap, subst, arith, append_assoc}
 use Rattle.std.specs.Prelude.{slice_get, Some, Bool, true, false, cond, map}
 use Rattle.std.proofs.lemmas.List.{append-nil, length_push}
-use Rattle.ordered_lists.specs.Ordered.{Every}
+use Rattle.sorted_list.specs.Ordered.{Every}
 use Rattle.connection_table.specs.Whereabouts.{slots_where}
 use Rattle.subscriber_table.specs.Changed.{changed_at, cleared}
 

@@ -4,7 +4,7 @@ use Rattle.identity_slots.specs.Ids.{slots}
 use Rattle.emm_state.specs.declared.solo.Solo.{Solo}
 use Rattle.emm_machine.specs.SubscriberView.{SubscriberView}
 use Rattle.emm_machine.specs.Ticks.{AreAbove, countdowns, ticks_after}
-use Rattle.ordered_lists.specs.Ordered.{Every}
+use Rattle.sorted_list.specs.Ordered.{Every}
 use Rattle.timer_queue.specs.Countdowns.{Countdown}
 use Rattle.subscriber_table.specs.declared.records.Record.{Record}
 use Rattle.subscriber_table.specs.SteppedView.{SteppedView}

@@ -6,7 +6,7 @@ ghost use Rattle.mme_types.specs.Events.{item_of};
 ghost use Rattle.connection_table.specs.Whereabouts.{nowhere};
 ghost use Rattle.emm_machine.specs.Ticks.{countdowns};
 ghost use Rattle.emm_machine.specs.Words.{states_of};
-ghost use Rattle.ordered_lists.specs.Ordered.{Every};
+ghost use Rattle.sorted_list.specs.Ordered.{Every};
 ghost use Rattle.subscriber_table.specs.Changed.{changed_at};
 ghost use Rattle.subscriber_table.specs.Running.{both_retimed};
 ghost use Rattle.subscriber_table.specs.Records.{all_retimed, renewed, with_records, IsSubscriberTable};

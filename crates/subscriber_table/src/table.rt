@@ -6,7 +6,7 @@ ghost use Rattle.mme_types.specs.Events.{item_of, ConnectionsGone, StationGone};
 ghost use Rattle.connection_table.specs.Whereabouts.{nowhere};
 ghost use Rattle.emm_machine.specs.Ticks.{countdowns};
 ghost use Rattle.emm_machine.specs.Words.{states_of};
-ghost use Rattle.ordered_lists.specs.Ordered.{Every};
+ghost use Rattle.sorted_list.specs.Ordered.{Every};
 ghost use Rattle.subscriber_table.specs.Table.{due_slots, slots_stepped, step_at, tick_settled, with_solo, AreCounting, IsCounting};
 ghost use Rattle.subscriber_table.specs.Touched.{touched_slots, whereabouts};
 

@@ -2,7 +2,7 @@
 
 ghost use Rattle.std.specs.Prelude.{◌≡◌, ◌<◌, length, slice_set};
 ghost use Rattle.emm_machine.specs.Still.{pages};
-ghost use Rattle.ordered_lists.specs.Ordered.{Every};
+ghost use Rattle.sorted_list.specs.Ordered.{Every};
 ghost use Rattle.subscriber_table.specs.Touched.{whereabouts, with_whereabouts};
 
 use crate::stepped::Stepped;

@@ -1,11 +1,11 @@
 ghost use Rattle.std.specs.Prelude.{◌≡◌};
-ghost use Rattle.mme_main.specs.Play.{IsReady};
+ghost use Rattle.trace_run.specs.Play.{IsReady};
 
 mod run;
 
 use identity_slots::Provision;
 use mme_core::{Config, Mme};
-use mme_main::{Player, run_play};
+use mme_main::run_play;
 use mme_types::{AggregateBitRate, Apn, Network};
 use per_bits::Octets;
 use std::alloc::Global;
@@ -13,6 +13,7 @@ use std::io;
 use std::io::{BufWriter, Read, Write};
 use std::process::Abort;
 use trace_player::{PlayFault, Progress, Watched};
+use trace_run::Player;
 use trace_words::TraceFault;
 
 const SETUP: &[u8] =

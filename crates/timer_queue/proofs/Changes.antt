@@ -3,9 +3,9 @@ use Rattle.std.proofs.Common.{◌≡◌, ℕ, ◌+◌, ◌-◌, ◌*◌, ◌^◌
 use Rattle.std.specs.Prelude.{◌==◌, nat_le, drop, Option, Some, None, Bool, true, false, cond, option_map}
 use borrow.Author.Tests.{eqb-true}
 use Rattle.std.proofs.lemmas.Bool.Decides.{nat_tests}
-use Rattle.ordered_lists.specs.Ordered.{add, without, at, ordered, Rising}
-use Rattle.ordered_lists.specs.Laws.{at_key, without_absent, rising-without, at-without}
-use Rattle.ordered_lists.specs.Indexed.{every-add, every-without, every_at, without_named, ordered-add, ordered_taken, at-ordered, without-add, rising-add, rising-ordered, put_is_add, distinct-add, distinct-without, map-add, map-without, at-map, rising-map}
+use Rattle.sorted_list.specs.Ordered.{add, without, at, ordered, Rising}
+use Rattle.sorted_list.specs.Laws.{at_key, without_absent, rising-without, at-without}
+use Rattle.sorted_list.specs.Indexed.{every-add, every-without, every_at, without_named, ordered-add, ordered_taken, at-ordered, without-add, rising-add, rising-ordered, put_is_add, distinct-add, distinct-without, map-add, map-without, at-map, rising-map}
 use Rattle.timer_queue.specs.declared.timer.Timer.{Timer}
 use Rattle.timer_queue.specs.Countdowns.{Countdown}
 use Rattle.timer_queue.specs.declared.queue.Deadline.{Deadline}

@@ -2,8 +2,8 @@
 use Rattle.std.proofs.Common.{◌≡◌, ℕ, ◌+◌, ◌-◌, ◌*◌, ◌^◌, ◌<◌, ◌≤◌, List, [], ◌∷◌, ◌++◌, length, map, refl, sym, ◌∙◌, ap, subst, arith, append_assoc, append-nil}
 use Rattle.std.specs.Prelude.{nat_lt, nat_le, Bool, true, false, cond, Some, None, if◌then◌else◌}
 use Rattle.std.proofs.lemmas.Bool.Decides.{nat_tests}
-use Rattle.ordered_lists.specs.Ordered.{add, ordered, AllOver, Rising, Every}
-use Rattle.ordered_lists.specs.Indexed.{every-ordered}
+use Rattle.sorted_list.specs.Ordered.{add, ordered, AllOver, Rising, Every}
+use Rattle.sorted_list.specs.Indexed.{every-ordered}
 use Rattle.sorted_list.specs.Sorted.{lowest_from}
 use Rattle.timer_queue.specs.Countdowns.{Countdown}
 use Rattle.timer_queue.specs.declared.timer.Timer.{Timer}

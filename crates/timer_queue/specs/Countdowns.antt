@@ -4,7 +4,7 @@ use Rattle.timer_queue.specs.declared.timer.Timer.{Timer}
 use Rattle.timer_queue.specs.declared.timer.TimerOwner.{TimerOwner}
 use Rattle.timer_queue.specs.declared.timer.Kind.{Kind}
 use Rattle.timer_queue.specs.Rank.{rank}
-use Rattle.ordered_lists.specs.Ordered.{at, put, without}
+use Rattle.sorted_list.specs.Ordered.{at, put, without}
 
 -- a timer and the ticks that it has left
 pub record Countdown : Type 0 where

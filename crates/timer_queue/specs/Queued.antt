@@ -5,7 +5,7 @@ use Rattle.timer_queue.specs.Countdowns.{Countdown}
 use Rattle.timer_queue.specs.declared.queue.Deadline.{Deadline}
 use Rattle.timer_queue.specs.declared.queue.RunningTimer.{RunningTimer}
 use Rattle.timer_queue.specs.Rank.{rank}
-use Rattle.ordered_lists.specs.Ordered.{ordered, Rising, Every, Distinct}
+use Rattle.sorted_list.specs.Ordered.{ordered, Rising, Every, Distinct}
 
 abbrev pub name : Deadline → ℕ
 name e = rank e.timer

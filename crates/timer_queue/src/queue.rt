@@ -2,7 +2,7 @@
 
 ghost use Rattle.std.specs.Prelude.{◌≡◌, ℕ, ◌+◌, ◌*◌, ◌<◌, ◌≤◌, ◌^◌, ◌↔◌, List, [], IfOk, OnOk, OnErr, Option, Err, false};
 ghost use Rattle.timer_queue.specs.declared.queue.TickFault.TheVariants.{ClockSpent, NoMemory};
-ghost use Rattle.ordered_lists.specs.Ordered.{Rising, Every};
+ghost use Rattle.sorted_list.specs.Ordered.{Rising, Every};
 ghost use Rattle.timer_queue.specs.Countdowns.{Countdowns, countdown_rank, ticks_left, started, stopped, due_of, aged};
 ghost use Rattle.timer_queue.specs.Queued.{moment, index_rank, leading, later_than, IsQueue, IsDeadlineIndex};
 

@@ -10,14 +10,14 @@ use esm_machine::BearerState;
 use identity_slots::{number_in, station_in};
 use mme_answering::{Out, Owner};
 use nas_elements::Imsi;
-use trace_words::{AnswerLine, AnswerOwner, EcmWord, EmmWord, EsmWord};
+use trace_words::{Answer, AnswerOwner, EcmWord, EmmWord, EsmWord};
 
 /// The line of one message that an event sends; the octets are lent.
-pub fn sent_line(out: &Out) -> AnswerLine<'_>
+pub fn sent_line(out: &Out) -> Answer<'_>
     ensures text { answer_text result ≡ out_text out.now }
     ensures octets { octets_said result ≡ length out.now.octets }
 {
-    AnswerLine::Sent(
+    Answer::Sent(
         answer_owner(out.owner),
         out.station.get(),
         out.octets.as_slice(),
@@ -25,13 +25,13 @@ pub fn sent_line(out: &Out) -> AnswerLine<'_>
 }
 
 /// The line of the states of the subscriber of that IMSI.
-pub fn states_line(imsi: Imsi, states: States) -> AnswerLine<'static>
+pub fn states_line(imsi: Imsi, states: States) -> Answer<'static>
     ensures text { answer_text result ≡ states_text imsi states }
     ensures octets { octets_said result ≡ 0 }
 {
     let emm = emm_shown(states.emm);
     let ecm = ecm_shown(states.ecm);
-    AnswerLine::State(imsi, emm, ecm, esm_shown(states.esm))
+    Answer::State(imsi, emm, ecm, esm_shown(states.esm))
 }
 
 // For whom a message is, as an answer line says it.

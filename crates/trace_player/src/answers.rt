@@ -15,7 +15,7 @@ use std::alloc::Global;
 use std::io::Write;
 use std::mem;
 use trace_answers::{sent_line, states_line};
-use trace_words::{AnswerLine, write_answer};
+use trace_words::{Answer, write_answer};
 
 /// Writes these octets; at `false` the writer failed, and has the first of them.
 pub fn write_whole<W: Write>(writer: &mut Watched<W>, octets: &[u8]) -> bool
@@ -40,7 +40,7 @@ pub fn write_whole<W: Write>(writer: &mut Watched<W>, octets: &[u8]) -> bool
 /// Writes the line of one answer. It is made in the room of the last line, used again.
 fn write_one<W: Write>(
     alloc: Global,
-    answer: &AnswerLine<'_>,
+    answer: &Answer<'_>,
     room: &mut Vec<u8>,
     writer: &mut Watched<W>,
 ) -> Result<(), PlayFault>
@@ -99,7 +99,7 @@ pub(crate) fn write_refusal<W: Write>(
     ensures taken { IfOk result (λ taken. taken ≡ false) }
     ensures write { IsErrOf result PlayFault.Write → writer.new.failed ≡ true }
 {
-    match write_one(alloc, &AnswerLine::Refused(number), room, writer) {
+    match write_one(alloc, &Answer::Refused(number), room, writer) {
         Ok(()) => Ok(false),
         Err(fault) => Err(fault),
     }

@@ -7,7 +7,7 @@ use Rattle.std.proofs.lemmas.Bool.{and_parts, eqb-true}
 use Rattle.hex.specs.Hex.{lower_digits}
 use Rattle.hex.proofs.HexLemmas.{length-encode_with}
 use Rattle.nas_elements.specs.Digits.{is_imsi, are_digits, digits_of, imsi_text}
-use Rattle.trace_words.specs.declared.answer.AnswerLine.TheVariants.{Sent, Refused, State}
+use Rattle.trace_words.specs.declared.answer.Answer.TheVariants.{Sent, Refused, State}
 use Rattle.trace_words.specs.declared.answer.AnswerOwner.{AnswerOwner}
 use Rattle.trace_words.specs.declared.answer.AnswerOwner.TheVariants.{Station, Stranger, Subscriber}
 use Rattle.trace_words.specs.declared.answer.EmmWord.{EmmWord}

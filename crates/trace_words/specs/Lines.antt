@@ -2,8 +2,8 @@
 use Rattle.std.specs.Prelude.{◌≡◌, ◌≤◌, ◌<◌, ◌^◌, ℕ, ◌+◌, ◌*◌, ◌==◌, Bool, true, false, cond, List, [], ◌∷◌, ◌++◌, length, Ok}
 use Rattle.nas_elements.specs.Digits.{is_imsi}
 use Rattle.trace_words.specs.declared.line.Line.{Line}
-use Rattle.trace_words.specs.declared.answer.AnswerLine.{AnswerLine}
-use Rattle.trace_words.specs.declared.answer.AnswerLine.TheVariants.{Sent, Refused, State}
+use Rattle.trace_words.specs.declared.answer.Answer.{Answer}
+use Rattle.trace_words.specs.declared.answer.Answer.TheVariants.{Sent, Refused, State}
 use Rattle.trace_words.specs.declared.answer.AnswerOwner.{AnswerOwner}
 use Rattle.trace_words.specs.declared.answer.AnswerOwner.TheVariants.{Station, Stranger, Subscriber}
 use Rattle.trace_words.specs.Trace.{line_of, line_text, answer_text}
@@ -35,7 +35,7 @@ abbrev pub WrittenIsRead : Type 0
 WrittenIsRead = (text : List ℕ) (line : Line) → line_of text ≡ Ok line → IsRewritten line
 
 -- how many octets an answer shows
-abbrev pub octets_said : AnswerLine → ℕ
+abbrev pub octets_said : Answer → ℕ
 octets_said (Sent owner e octets) = length octets.now
 octets_said (Refused k) = 0
 octets_said (State imsi emm ecm esm) = 0
@@ -47,11 +47,11 @@ FitsOwner (Stranger e b) = (e < 2 ^ 8) × (b < 2 ^ 32)
 FitsOwner (Subscriber slot) = slot < 2 ^ 32
 
 -- what the fields of an answer are in a program
-abbrev pub FitsAnswer : AnswerLine → Type 0
+abbrev pub FitsAnswer : Answer → Type 0
 FitsAnswer (Sent owner e octets) = FitsOwner owner × (e < 2 ^ 8)
 FitsAnswer (Refused k) = k < 2 ^ 8
 FitsAnswer (State imsi emm ecm esm) = is_imsi imsi ≡ true
 
 -- an answer is one line, longer than its octets in hex by no more than this
 abbrev pub AnswersAreLines : Type 0
-AnswersAreLines = (answer : AnswerLine) → FitsAnswer answer → IsLineWithin (80 + 2 * octets_said answer) (answer_text answer)
+AnswersAreLines = (answer : Answer) → FitsAnswer answer → IsLineWithin (80 + 2 * octets_said answer) (answer_text answer)

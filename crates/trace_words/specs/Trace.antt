@@ -10,8 +10,8 @@ use Rattle.nas_elements.specs.Digits.{imsi_of_text, imsi_text}
 use Rattle.trace_words.specs.Fields.{is_apn_label}
 use Rattle.trace_words.specs.declared.line.Line.{Line}
 use Rattle.trace_words.specs.declared.line.Line.TheVariants.{Skip, Mme, Sub, Vec, Up, Lost, In, Tick, Data, Cancel, Show}
-use Rattle.trace_words.specs.declared.answer.AnswerLine.{AnswerLine}
-use Rattle.trace_words.specs.declared.answer.AnswerLine.TheVariants.{Sent, Refused, State}
+use Rattle.trace_words.specs.declared.answer.Answer.{Answer}
+use Rattle.trace_words.specs.declared.answer.Answer.TheVariants.{Sent, Refused, State}
 use Rattle.trace_words.specs.declared.answer.AnswerOwner.{AnswerOwner}
 use Rattle.trace_words.specs.declared.answer.AnswerOwner.TheVariants.{Station, Stranger, Subscriber}
 use Rattle.trace_words.specs.declared.answer.EmmWord.{EmmWord}
@@ -292,7 +292,7 @@ unfoldable pub state_text : List ℕ → EmmWord → EcmWord → EsmWord → Lis
 state_text imsi emm ecm esm = (codes "state" ␣ imsi_text imsi ␣ emm_word emm ␣ ecm_word ecm ␣ esm_word esm) ++ codes "\n"
 
 -- the line of an answer, with its LF
-abbrev pub answer_text : AnswerLine → List ℕ
+abbrev pub answer_text : Answer → List ℕ
 answer_text (Sent owner e octets) = sent_text owner e octets.now
 answer_text (Refused k) = refused_text k
 answer_text (State imsi emm ecm esm) = state_text imsi emm ecm esm

@@ -98,7 +98,7 @@ impl EsmWord {
 
 /// What a line of the answers says.
 #[derive(Clone, Copy)]
-pub enum AnswerLine<'a> {
+pub enum Answer<'a> {
     /// `out OWNER E OCTETS`: for the owner these octets are sent to the station of that number.
     Sent(AnswerOwner, u8, &'a [u8]),
     /// `refused K`: the event was refused with the fault of that number.
@@ -109,7 +109,7 @@ pub enum AnswerLine<'a> {
 
 /// The line of an answer, with the LF that ends it, in the room of a Vec that is given: what that held is dropped. It has no other
 /// LF, and is longer than its octets in hex by at most 80 octets. Where the room is too small and no more is given, it is dropped.
-pub fn write_answer(room: Vec<u8>, answer: &AnswerLine<'_>) -> Result<Vec<u8>, AllocError>
+pub fn write_answer(room: Vec<u8>, answer: &Answer<'_>) -> Result<Vec<u8>, AllocError>
     ensures text { IfOk result (λ line. line.items ≡ answer_text answer.now) }
     ensures line { IfOk result (λ line. IsLineWithin (80 + 2 * octets_said answer.now) line.items) }
 {
@@ -120,14 +120,14 @@ pub fn write_answer(room: Vec<u8>, answer: &AnswerLine<'_>) -> Result<Vec<u8>, A
 }
 
 /// Appends the line of an answer.
-fn push_answer(line: &mut Vec<u8>, answer: &AnswerLine<'_>) -> Result<(), AllocError>
+fn push_answer(line: &mut Vec<u8>, answer: &Answer<'_>) -> Result<(), AllocError>
     ensures text { OnOk result (line.new.items ≡ line.old.items ++ answer_text answer.now) }
     ensures line { OnOk result (IsLineWithin (80 + 2 * octets_said answer.now) (answer_text answer.now)) }
 {
     match answer {
-        AnswerLine::Sent(owner, station, octets) => push_sent(line, *owner, *station, octets),
-        AnswerLine::Refused(fault) => push_refused(line, *fault),
-        AnswerLine::State(imsi, emm, ecm, esm) => push_state(line, imsi, *emm, *ecm, *esm),
+        Answer::Sent(owner, station, octets) => push_sent(line, *owner, *station, octets),
+        Answer::Refused(fault) => push_refused(line, *fault),
+        Answer::State(imsi, emm, ecm, esm) => push_state(line, imsi, *emm, *ecm, *esm),
     }
 }
 

@@ -9,7 +9,7 @@ mod line;
 mod values;
 mod written;
 
-pub use answer::{AnswerLine, AnswerOwner, EcmWord, EmmWord, EsmWord, write_answer};
+pub use answer::{Answer, AnswerOwner, EcmWord, EmmWord, EsmWord, write_answer};
 pub use fault::TraceFault;
 pub use laws::{answers_are_lines, written_is_read};
 pub use line::{LONGEST_LINE, Line, MmeLine, parse_line, parse_words, split_words};

@@ -1,7 +1,7 @@
 use Rattle.std.proofs.Common.{◌<◌, length, take, sym, ◌∙◌, ap, add-one}
 use Rattle.std.specs.Prelude.{filter}
 use Rattle.association_table.specs.Listing.{is_listed}
-use Rattle.ordered_lists.specs.Laws.{get_or_self}
+use Rattle.sorted_list.specs.Laws.{get_or_self}
 use Rattle.association_table.proofs.Matched.{none_listed, listed_next}
 use Rattle.association_table.proofs.gathering.gathered.Goals as goal
 

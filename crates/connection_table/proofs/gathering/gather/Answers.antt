@@ -1,7 +1,7 @@
 use Rattle.std.proofs.Common.{sym, ◌∙◌, ap}
 use Rattle.std.specs.Prelude.{Option, is_some}
 use Rattle.std.proofs.lemmas.Result.{on_ok_weaker}
-use Rattle.ordered_lists.specs.Ordered.{at}
+use Rattle.sorted_list.specs.Ordered.{at}
 use Rattle.connection_table.specs.declared.gathering.GatheredSlot.{GatheredSlot}
 use Rattle.connection_table.specs.Gathering.{gathered_rank}
 use Rattle.connection_table.proofs.Seated.{none_is}

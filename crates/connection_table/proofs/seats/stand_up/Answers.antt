@@ -1,6 +1,6 @@
 use Rattle.std.proofs.Common.{◌∙◌, ap, subst}
 use Rattle.std.specs.Prelude.{is_some}
-use Rattle.ordered_lists.specs.Ordered.{at, without}
+use Rattle.sorted_list.specs.Ordered.{at, without}
 use Rattle.connection_table.specs.Seats.{seat_rank, SitsOn}
 use Rattle.connection_table.proofs.Seated.{stays, stood}
 use Rattle.connection_table.proofs.seats.stand_up.Goals as goal

@@ -1,6 +1,6 @@
 use Rattle.std.proofs.Common.{◌<◌, ◌++◌, List, length, sym, ◌∙◌, ap, subst}
 use Rattle.std.proofs.lemmas.Result.{on_ok_weaker}
-use Rattle.ordered_lists.specs.Ordered.{Every}
+use Rattle.sorted_list.specs.Ordered.{Every}
 use Rattle.subscriber_table.specs.Laws.{some_give, touched_below}
 use Rattle.subscriber_table.specs.Table.{IsStepped}
 use Rattle.mme_routing.specs.Destinations.{item_of_notice}

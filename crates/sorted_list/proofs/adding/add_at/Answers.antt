@@ -2,7 +2,7 @@ use Rattle.std.proofs.Common.{◌<◌, ◌++◌, vec_len, length, set, arith, re
 use Rattle.std.specs.Vec.{vec_capacity}
 use Rattle.std.specs.Option.{option_to_list}
 use Rattle.std.specs.List.{insert}
-use Rattle.ordered_lists.specs.Ordered.{Every}
+use Rattle.sorted_list.specs.Ordered.{Every}
 use Rattle.sorted_list.specs.Chunks.{flat, weight, IsFilled, IsEmpty, IsPaired}
 use Rattle.sorted_list.proofs.Flat.{when_ok, home_within, rising_chunk, add_home, divided_home, every-set, every-last, length-add, not_last}
 use Rattle.sorted_list.proofs.Weight.{weight_full, weight_set, weight_divided}

@@ -1,5 +1,5 @@
 use Rattle.std.proofs.Common.{◌<◌, ◌≤◌, ◌++◌, length, arith, sym, ◌∙◌, ap, subst}
-use Rattle.ordered_lists.specs.Ordered.{Rising, add}
+use Rattle.sorted_list.specs.Ordered.{Rising, add}
 use Rattle.sorted_list.specs.Chunks.{head_key}
 use Rattle.sorted_list.proofs.Flat.{rising_left, rising_right, add_behind, add_lower, add_upper, length-add}
 use Rattle.sorted_list.proofs.adding.add_divided.Goals as goal

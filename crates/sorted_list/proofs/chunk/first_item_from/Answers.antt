@@ -1,6 +1,6 @@
 use Rattle.std.proofs.Common.{arith, sym, ◌∙◌, ap}
-use Rattle.ordered_lists.specs.Ordered.{place}
-use Rattle.ordered_lists.specs.Laws.{place_le}
+use Rattle.sorted_list.specs.Ordered.{place}
+use Rattle.sorted_list.specs.Laws.{place_le}
 use Rattle.sorted_list.proofs.Flat.{from_end, from_place}
 use Rattle.sorted_list.proofs.chunk.first_item_from.Goals as goal
 

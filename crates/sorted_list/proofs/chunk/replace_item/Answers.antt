@@ -1,6 +1,6 @@
 use Rattle.std.proofs.Common.{arith, sym, ◌∙◌, ap, refl}
-use Rattle.ordered_lists.specs.Ordered.{place}
-use Rattle.ordered_lists.specs.Laws.{place_le, at_end, at_absent, at_place, put_set}
+use Rattle.sorted_list.specs.Ordered.{place}
+use Rattle.sorted_list.specs.Laws.{place_le, at_end, at_absent, at_place, put_set}
 use Rattle.sorted_list.proofs.chunk.replace_item.Goals as goal
 
 pub returns-then-at-len-clause-was : goal.returns-then-at-len-clause-was

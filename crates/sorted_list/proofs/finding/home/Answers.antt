@@ -1,5 +1,5 @@
 use Rattle.std.proofs.Common.{◌+◌, ◌-◌, ◌<◌, ◌≤◌, ◌/◌, arith}
-use Rattle.ordered_lists.specs.Laws.{place_le, place_above, place_below}
+use Rattle.sorted_list.specs.Laws.{place_le, place_above, place_below}
 use Rattle.sorted_list.specs.Chunks.{head_key, IsFilled}
 use Rattle.sorted_list.proofs.Flat.{rising_heads, every-get}
 use Rattle.sorted_list.proofs.finding.home.Goals as goal

@@ -1,5 +1,5 @@
 use Rattle.std.proofs.Common.{◌+◌, ◌-◌, ◌≤◌, length}
-use Rattle.ordered_lists.specs.Ordered.{place}
+use Rattle.sorted_list.specs.Ordered.{place}
 use Rattle.sorted_list.specs.Chunks.{head_key}
 use Rattle.sorted_list.proofs.finding.home.Given as goal
 

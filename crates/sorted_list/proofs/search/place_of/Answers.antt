@@ -1,5 +1,5 @@
 use Rattle.std.proofs.Common.{◌+◌, ◌-◌, ◌<◌, ◌≤◌, ◌/◌, arith}
-use Rattle.ordered_lists.specs.Laws.{place_le, place_above, place_below}
+use Rattle.sorted_list.specs.Laws.{place_le, place_above, place_below}
 use Rattle.sorted_list.proofs.search.place_of.Goals as goal
 
 pub loop-low-init : goal.loop-low-init

@@ -1,5 +1,5 @@
 use Rattle.std.proofs.Common.{◌-◌, ◌≤◌, length}
-use Rattle.ordered_lists.specs.Ordered.{place}
+use Rattle.sorted_list.specs.Ordered.{place}
 use Rattle.sorted_list.proofs.search.place_of.Given as goal
 
 abbrev pub invariant-loop-low : goal.invariant-loop-low

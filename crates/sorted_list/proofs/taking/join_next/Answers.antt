@@ -1,6 +1,6 @@
 use Rattle.std.proofs.Common.{◌+◌, ◌<◌, suc, length, set, get_or, arith, sym, ◌∙◌, ap, subst, add-one, length-append}
 use Rattle.std.specs.List.{remove}
-use Rattle.ordered_lists.specs.Ordered.{Every}
+use Rattle.sorted_list.specs.Ordered.{Every}
 use Rattle.sorted_list.specs.Chunks.{flat, weight, IsFilled, IsPairedFrom, IsPairedTo}
 use Rattle.sorted_list.proofs.Flat.{get_before, flat_joined, every-set, every-remove, every-get}
 use Rattle.sorted_list.proofs.Weight.{weight_joined}

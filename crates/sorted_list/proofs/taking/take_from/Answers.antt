@@ -4,7 +4,7 @@ use Rattle.sorted_list.specs.Chunks.{flat, weight, IsPaired, IsPairedFrom}
 use Rattle.sorted_list.proofs.Flat.{none_there, home_found, home_within, rising_chunk, at_home, without_home, flat_emptied, get_set, length_without, length-without}
 use Rattle.sorted_list.proofs.Weight.{weight_set, weight_removed}
 use Rattle.sorted_list.proofs.Pairs.{paired_set, paired_removed, to_shrunk, from_shrunk}
-use Rattle.ordered_lists.specs.Laws.{without_absent}
+use Rattle.sorted_list.specs.Laws.{without_absent}
 use Rattle.sorted_list.proofs.taking.take_from.Goals as goal
 use Rattle.sorted_list.proofs.taking.take_from.Goals.{then-is_empty-2, else-is_empty-2}
 

@@ -1,6 +1,6 @@
 use Rattle.std.proofs.Common.{◌≡◌, ◌<◌, length, arith, sym, subst, ◌∙◌, ap}
 use Rattle.std.specs.Prelude.{is_some}
-use Rattle.ordered_lists.specs.Ordered.{at, without}
+use Rattle.sorted_list.specs.Ordered.{at, without}
 use Rattle.stranger_table.specs.Ended.{AreAround, all_ended, ended_at}
 use Rattle.stranger_table.specs.Queued.{IsFree, alarm, deadline_at, front_ids, queued, with_entry}
 use Rattle.stranger_table.proofs.Stepping.{around_small, first_around, first_ended, first_ending, first_found, first_free, first_queued, first_shorter, first_small, first_there, requeued_first}

@@ -1,6 +1,6 @@
 use Rattle.std.proofs.Common.{◌≡◌, ◌+◌, ◌*◌, ◌<◌, ◌≤◌, length}
 use Rattle.std.specs.Vec.Iter.{into_iter_items, into_iter_len}
-use Rattle.ordered_lists.specs.Ordered.{Every}
+use Rattle.sorted_list.specs.Ordered.{Every}
 use Rattle.subscriber_table.specs.SteppedView.{SteppedView}
 use Rattle.subscriber_table.specs.Records.{all_retimed, with_records}
 use Rattle.subscriber_table.specs.Table.{IsCounting}

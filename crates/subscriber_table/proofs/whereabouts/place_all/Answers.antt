@@ -1,7 +1,7 @@
 use Rattle.std.proofs.Common.{◌≡◌, ◌<◌, ◌+◌, ◌∷◌, length, drop, sym, ◌∙◌, ap, subst}
 use Rattle.std.specs.Prelude.{slice_set}
 use Rattle.std.proofs.lemmas.List.{drop_more, length-set}
-use Rattle.ordered_lists.specs.Ordered.{Every}
+use Rattle.sorted_list.specs.Ordered.{Every}
 use Rattle.subscriber_table.specs.SteppedView.{SteppedView}
 use Rattle.subscriber_table.specs.Touched.{whereabouts, with_whereabouts}
 use Rattle.subscriber_table.proofs.whereabouts.place_all.Goals as goal

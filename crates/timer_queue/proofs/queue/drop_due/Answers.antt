@@ -1,5 +1,5 @@
 use Rattle.std.proofs.Common.{◌≡◌, sym, ◌∙◌, ap, subst, arith}
-use Rattle.ordered_lists.specs.Ordered.{without}
+use Rattle.sorted_list.specs.Ordered.{without}
 use Rattle.timer_queue.specs.Queued.{index_rank, later_than, IsQueue, IsDeadlineIndex}
 use Rattle.timer_queue.specs.Rank.{rank}
 use Rattle.timer_queue.proofs.Changes.{first_leaves}

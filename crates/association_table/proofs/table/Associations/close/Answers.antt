@@ -1,5 +1,5 @@
 use Rattle.std.proofs.Common.{sym, ◌∙◌, ap}
-use Rattle.ordered_lists.specs.Laws.{at_key, without_absent}
+use Rattle.sorted_list.specs.Laws.{at_key, without_absent}
 use Rattle.association_table.specs.Table.{association_id, found, closed}
 use Rattle.association_table.proofs.table.Associations.close.Goals as goal
 

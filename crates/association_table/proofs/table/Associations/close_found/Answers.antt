@@ -1,8 +1,8 @@
 use Rattle.std.proofs.Common.{◌≡◌, arith, sym, ◌∙◌, ap, subst, refl}
 use Rattle.std.specs.Prelude.{IsSome, Some, is_some}
 use Rattle.slab.specs.Slab.{get}
-use Rattle.ordered_lists.specs.Ordered.{at, without}
-use Rattle.ordered_lists.specs.Indexed.{every_at}
+use Rattle.sorted_list.specs.Ordered.{at, without}
+use Rattle.sorted_list.specs.Indexed.{every_at}
 use Rattle.association_table.specs.Table.{Table, found, closed}
 use Rattle.association_table.specs.Kept.{place_id, station_bench, number_bench, seat_of, seat_rank, entries_of}
 use Rattle.association_table.proofs.Entries.{on_some, taken_place, close_entries, close_kept, same_kept, seat_there, closed_gone}

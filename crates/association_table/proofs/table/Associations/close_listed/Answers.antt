@@ -1,5 +1,5 @@
 use Rattle.std.proofs.Common.{◌∙◌, ap, subst}
-use Rattle.ordered_lists.specs.Ordered.{Rising}
+use Rattle.sorted_list.specs.Ordered.{Rising}
 use Rattle.association_table.specs.Table.{Table, association_id}
 use Rattle.association_table.specs.Listing.{is_listed}
 use Rattle.association_table.specs.Gathering.{closed_all}

@@ -1,9 +1,9 @@
 use Rattle.std.proofs.Common.{sym, ◌∙◌, ap, subst}
 use Rattle.std.specs.Prelude.{IsSome, Some, option_map}
 use Rattle.slab.specs.Slab.{get}
-use Rattle.ordered_lists.specs.Ordered.{Rising}
-use Rattle.ordered_lists.specs.Indexed.{every_at}
-use Rattle.ordered_lists.specs.Laws.{at_key}
+use Rattle.sorted_list.specs.Ordered.{Rising}
+use Rattle.sorted_list.specs.Indexed.{every_at}
+use Rattle.sorted_list.specs.Laws.{at_key}
 use Rattle.association_table.specs.Table.{Table, association_id, found}
 use Rattle.association_table.specs.Kept.{place_id, entry_at, with_id, or_blank}
 use Rattle.association_table.proofs.Entries.{rising_entries, found_place, none_some}

@@ -1,6 +1,6 @@
 use Rattle.std.proofs.Common.{◌≡◌, sym, ◌∙◌, ap, subst}
 use Rattle.std.specs.Prelude.{option_map, Some, None}
-use Rattle.ordered_lists.specs.Ordered.{Rising, Every}
+use Rattle.sorted_list.specs.Ordered.{Rising, Every}
 use Rattle.association_table.specs.Table.{Table, association_id}
 use Rattle.association_table.specs.Kept.{IsSeat, entries_of, station_bench, seat_rank, first_seat, first_from}
 use Rattle.association_table.proofs.Entries.{rising_entries, rising_seats}

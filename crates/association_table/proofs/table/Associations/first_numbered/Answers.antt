@@ -1,6 +1,6 @@
 use Rattle.std.proofs.Common.{◌≡◌, sym, ◌∙◌, ap, subst}
 use Rattle.std.specs.Prelude.{option_map, Some, None}
-use Rattle.ordered_lists.specs.Ordered.{Rising, Every}
+use Rattle.sorted_list.specs.Ordered.{Rising, Every}
 use Rattle.association_table.specs.Table.{Table, association_id}
 use Rattle.association_table.specs.Gathering.{first_numbered}
 use Rattle.association_table.specs.Kept.{IsId, IsSeat, entries_of, number_bench, seat_rank, first_seat}

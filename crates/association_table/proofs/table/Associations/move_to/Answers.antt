@@ -1,7 +1,7 @@
 use Rattle.std.proofs.Common.{sym, ◌∙◌, ap}
 use Rattle.association_table.specs.declared.association.Association.{Association}
 use Rattle.association_table.specs.Table.{association_id, found, opened, closed}
-use Rattle.ordered_lists.specs.Laws.{at_key}
+use Rattle.sorted_list.specs.Laws.{at_key}
 use Rattle.association_table.proofs.Stations.{moved_is}
 use Rattle.association_table.proofs.table.Associations.move_to.Goals as goal
 

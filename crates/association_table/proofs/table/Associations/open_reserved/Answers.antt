@@ -1,6 +1,6 @@
 use Rattle.std.proofs.Common.{◌<◌, ◌≡◌, arith, refl, ◌∙◌, ap}
 use Rattle.std.specs.Prelude.{None}
-use Rattle.ordered_lists.specs.Ordered.{at, add}
+use Rattle.sorted_list.specs.Ordered.{at, add}
 use Rattle.association_table.specs.Table.{Table, found, opened}
 use Rattle.association_table.specs.Kept.{place_id, station_bench, number_bench, seat_of, seat_rank, entries_of}
 use Rattle.association_table.proofs.Entries.{free_place, free_seat, rising_entries, open_entries, open_kept, same_kept}

@@ -1,7 +1,7 @@
 use Rattle.std.proofs.Common.{◌≡◌, length, arith, ap, ◌∙◌, sym, subst, take, ◌+◌, ◌++◌, ◌∷◌, [], length-take}
 use Rattle.std.specs.Prelude.{slice_get}
 use Rattle.std.proofs.lemmas.List.{take_all, take_more, length_push}
-use Rattle.ordered_lists.specs.Ordered.{Rising}
+use Rattle.sorted_list.specs.Ordered.{Rising}
 use Rattle.stranger_machine.specs.Table.{known_id, stranger_at}
 use Rattle.mme_core.specs.Projection.{is_slot, is_station, is_stranger, projection, told}
 use Rattle.mme_core.specs.World.{World, events_taken, replies, strangers_in, world_run}

@@ -1,5 +1,5 @@
 use Rattle.std.proofs.Common.{◌≡◌, ◌++◌, sym, subst, ◌∙◌, ap}
-use Rattle.ordered_lists.specs.Ordered.{Rising}
+use Rattle.sorted_list.specs.Ordered.{Rising}
 use Rattle.stranger_machine.specs.Table.{known_id}
 use Rattle.mme_routing.specs.Destinations.{item_at}
 use Rattle.mme_routing.specs.Outcomes.{Outcome}

@@ -1,5 +1,5 @@
 use Rattle.std.proofs.Common.{◌≤◌, length, arith, sym, subst, ◌∙◌, ap}
-use Rattle.ordered_lists.specs.Ordered.{Rising}
+use Rattle.sorted_list.specs.Ordered.{Rising}
 use Rattle.stranger_machine.specs.Table.{known_id}
 use Rattle.mme_answering.specs.Settled.{settled_strangers}
 use Rattle.mme_core.specs.Sight.{Around}

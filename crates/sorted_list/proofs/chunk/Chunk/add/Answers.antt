@@ -1,8 +1,8 @@
 use Rattle.std.proofs.Common.{◌<◌, arith, ◌∙◌, ap, length, vec_len}
 use Rattle.std.specs.Vec.{vec_capacity}
 use Rattle.std.specs.List.{insert}
-use Rattle.ordered_lists.specs.Ordered.{place, add}
-use Rattle.ordered_lists.specs.Laws.{place_le, add_insert}
+use Rattle.sorted_list.specs.Ordered.{place, add}
+use Rattle.sorted_list.specs.Laws.{place_le, add_insert}
 use Rattle.sorted_list.proofs.Flat.{when_ok}
 use Rattle.sorted_list.proofs.chunk.Chunk.add.Goals as goal
 

@@ -1,5 +1,5 @@
 use Rattle.std.proofs.Common.{◌+◌, ◌-◌, length, arith, ap, subst, sym}
-use Rattle.ordered_lists.specs.Ordered.{Rising}
+use Rattle.sorted_list.specs.Ordered.{Rising}
 use Rattle.sorted_list.specs.Chunks.{AllUnder}
 use Rattle.sorted_list.proofs.Flat.{last_under}
 use Rattle.sorted_list.proofs.chunk.Chunk.last_key.Goals as goal

@@ -1,5 +1,5 @@
 use Rattle.std.proofs.Common.{◌<◌, ◌+◌, arith, ◌∙◌, ap, vec_len}
-use Rattle.ordered_lists.specs.Ordered.{at}
+use Rattle.sorted_list.specs.Ordered.{at}
 use Rattle.sorted_list.specs.Sorted.{Sorted}
 use Rattle.sorted_list.specs.Chunks.{weight}
 use Rattle.sorted_list.proofs.Flat.{kept_add}

@@ -1,7 +1,7 @@
 use Rattle.std.proofs.Common.{◌≡◌, sym, ◌∙◌, ap, subst}
 use Rattle.std.specs.Prelude.{option_map, None}
-use Rattle.ordered_lists.specs.Ordered.{at, without}
-use Rattle.ordered_lists.specs.Laws.{without_absent}
+use Rattle.sorted_list.specs.Ordered.{at, without}
+use Rattle.sorted_list.specs.Laws.{without_absent}
 use Rattle.stranger_table.specs.Kept.{IsTable, row_at, rows_of, place_id}
 use Rattle.stranger_table.specs.Rows.{row_id}
 use Rattle.stranger_table.proofs.Kept.{at_rows, closed_rows, closed_table, there_some}

@@ -1,6 +1,6 @@
 use Rattle.std.proofs.Common.{sym, ◌∙◌, ap, subst}
-use Rattle.ordered_lists.specs.Ordered.{at}
-use Rattle.ordered_lists.specs.Laws.{at_key}
+use Rattle.sorted_list.specs.Ordered.{at}
+use Rattle.sorted_list.specs.Laws.{at_key}
 use Rattle.stranger_table.specs.Ended.{IsEndingIf, ended_at, sleeper_ended}
 use Rattle.stranger_table.specs.Kept.{place_id, row_at, rows_of}
 use Rattle.stranger_table.specs.Rows.{sleeper_at, with_row}

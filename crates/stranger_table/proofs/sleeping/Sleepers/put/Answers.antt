@@ -1,6 +1,6 @@
 use Rattle.std.proofs.Common.{◌≡◌, refl, sym, ◌∙◌, ap, subst}
 use Rattle.std.specs.Prelude.{None}
-use Rattle.ordered_lists.specs.Ordered.{at, put}
+use Rattle.sorted_list.specs.Ordered.{at, put}
 use Rattle.stranger_table.specs.Kept.{IsTable, rows_of, place_id}
 use Rattle.stranger_table.specs.Rows.{Row, row_id}
 use Rattle.stranger_table.proofs.Kept.{added_rows, added_table, put_rows, put_table, same_room, table_room, there_some}

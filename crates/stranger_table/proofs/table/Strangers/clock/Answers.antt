@@ -1,5 +1,5 @@
 use Rattle.std.proofs.Common.{subst}
-use Rattle.ordered_lists.specs.Ordered.{Rising}
+use Rattle.sorted_list.specs.Ordered.{Rising}
 use Rattle.stranger_machine.specs.Table.{known_id}
 use Rattle.stranger_table.specs.Table.{StrangerTable}
 use Rattle.stranger_table.proofs.Now.{rising_now}

@@ -1,5 +1,5 @@
 use Rattle.std.proofs.Common.{◌∙◌, ap}
-use Rattle.ordered_lists.specs.Ordered.{without}
+use Rattle.sorted_list.specs.Ordered.{without}
 use Rattle.stranger_machine.specs.Table.{known_id}
 use Rattle.stranger_table.specs.Queued.{without_entry}
 use Rattle.stranger_table.specs.Rows.{all_now}

@@ -1,5 +1,5 @@
 use Rattle.std.proofs.Common.{◌≡◌, ◌+◌, ◌∙◌, sym, ap, subst, IfOk}
-use Rattle.ordered_lists.specs.Ordered.{Rising}
+use Rattle.sorted_list.specs.Ordered.{Rising}
 use Rattle.stranger_table.specs.Queued.{alarm, front_ids}
 use Rattle.stranger_table.specs.Table.{StrangerTable, due_ids}
 use Rattle.stranger_table.proofs.Ending.{met_is_due, sleeping_around}

@@ -1,6 +1,6 @@
 use Rattle.std.proofs.Common.{◌∙◌, sym, ap, subst}
 use Rattle.std.specs.Prelude.{option_map}
-use Rattle.ordered_lists.specs.Ordered.{Rising}
+use Rattle.sorted_list.specs.Ordered.{Rising}
 use Rattle.sorted_list.specs.Sorted.{lowest_from}
 use Rattle.stranger_machine.specs.Table.{known_id}
 use Rattle.stranger_table.specs.Table.{StrangerTable}

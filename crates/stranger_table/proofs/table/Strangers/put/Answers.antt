@@ -1,5 +1,5 @@
 use Rattle.std.proofs.Common.{◌∙◌, refl, sym, ap, subst}
-use Rattle.ordered_lists.specs.Ordered.{put}
+use Rattle.sorted_list.specs.Ordered.{put}
 use Rattle.stranger_machine.specs.declared.table.Known.{Known}
 use Rattle.stranger_machine.specs.Table.{known_id}
 use Rattle.stranger_table.specs.Ended.{touched_at}

@@ -1,5 +1,5 @@
 use Rattle.std.proofs.Common.{sym, subst, ◌∙◌, ap}
-use Rattle.ordered_lists.specs.Ordered.{Rising}
+use Rattle.sorted_list.specs.Ordered.{Rising}
 use Rattle.stranger_machine.specs.Table.{known_id, stranger_at, with_stranger}
 use Rattle.stranger_machine.specs.Turns.{after_of}
 use Rattle.stranger_table.specs.Table.{StrangerTable}

@@ -1,5 +1,5 @@
 use Rattle.std.proofs.Common.{◌≤◌, subst}
-use Rattle.ordered_lists.specs.Ordered.{Rising, Every}
+use Rattle.sorted_list.specs.Ordered.{Rising, Every}
 use Rattle.timer_queue.specs.Countdowns.{Countdown, Countdowns, countdown_rank}
 use Rattle.timer_queue.proofs.Changes.{rising_running}
 use Rattle.timer_queue.proofs.Ticks.{counting}

@@ -1,6 +1,6 @@
 use Rattle.std.proofs.Common.{◌≡◌, ◌-◌, arith, Some, None, ap, ◌∙◌, sym}
 use Rattle.std.specs.Prelude.{option_map}
-use Rattle.ordered_lists.specs.Ordered.{at}
+use Rattle.sorted_list.specs.Ordered.{at}
 use Rattle.timer_queue.specs.Countdowns.{timer_of, ticks_left, Countdowns}
 use Rattle.timer_queue.specs.declared.queue.RunningTimer.{RunningTimer}
 use Rattle.timer_queue.specs.Queued.{index_rank}

@@ -1,6 +1,6 @@
 use Rattle.std.proofs.Common.{◌≡◌, ◌+◌, arith, None, ap, ◌∙◌, sym, subst}
 use Rattle.std.specs.Prelude.{option_map}
-use Rattle.ordered_lists.specs.Ordered.{at, add}
+use Rattle.sorted_list.specs.Ordered.{at, add}
 use Rattle.timer_queue.specs.Countdowns.{timer_of, Countdowns, stopped, started}
 use Rattle.timer_queue.specs.declared.queue.Deadline.{Deadline}
 use Rattle.timer_queue.specs.Queued.{name, moment, index_rank, as_running, running_at}

@@ -1,6 +1,6 @@
 use Rattle.std.proofs.Common.{◌≡◌, Some, None, ap, ◌∙◌, sym, subst}
-use Rattle.ordered_lists.specs.Ordered.{at, without}
-use Rattle.ordered_lists.specs.Laws.{without_absent}
+use Rattle.sorted_list.specs.Ordered.{at, without}
+use Rattle.sorted_list.specs.Laws.{without_absent}
 use Rattle.timer_queue.specs.Countdowns.{timer_of, Countdowns, stopped}
 use Rattle.timer_queue.specs.declared.queue.RunningTimer.{RunningTimer}
 use Rattle.timer_queue.specs.Queued.{name, moment, index_rank, running_at, IsDeadlineIndex}

@@ -1,3 +1,0 @@
-pub mod Listing
-pub mod Sent
-pub mod Ranged

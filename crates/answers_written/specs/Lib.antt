@@ -1,3 +1,0 @@
-pub mod Answered
-pub mod Ranges
-pub mod Received

@@ -1,2 +1,0 @@
-pub mod InRange
-pub mod Whole

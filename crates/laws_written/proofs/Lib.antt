@@ -1,0 +1,13 @@
+pub mod Heard
+pub mod FitActions
+pub mod FitRows
+pub mod Whole
+pub mod RowsWhole
+pub mod Listing
+pub mod Sent
+pub mod Ranged
+pub mod Each
+pub mod Routed
+pub mod Turned
+pub mod Along
+pub mod Begun

@@ -1,0 +1,14 @@
+pub mod Sizes
+pub mod SizeLaws
+pub mod Ranges
+pub mod BuilderLaws
+pub mod NasLaws
+pub mod KeyLaws
+pub mod SubscriberRanges
+pub mod Whole
+pub mod Answered
+pub mod ListRanges
+pub mod Received
+pub mod WorldRanges
+pub mod Runs
+pub mod Told

@@ -1,3 +1,0 @@
-pub mod InRange
-pub mod Runs
-pub mod Told

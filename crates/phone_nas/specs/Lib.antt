@@ -1,5 +1,0 @@
-pub mod Sides
-pub mod Messages
-pub mod Protecting
-pub mod Answering
-pub mod Asking

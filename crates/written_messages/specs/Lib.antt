@@ -1,4 +1,0 @@
-pub mod Ranges
-pub mod BuilderLaws
-pub mod NasLaws
-pub mod KeyLaws
