@@ -3,10 +3,12 @@
 
 usage: compare.py RUNS PROGRAM OTHER
 
-Each prints lines 'NAME: CALLS in NANOSECONDS ns [OCTET]'. A line of OTHER that PROGRAM lacks is
-set beside the line of PROGRAM whose name it begins with."""
+Each may have words of its own after it, as 'out/benchmarks speed', and prints lines
+'NAME: CALLS in NANOSECONDS ns [OCTET]'. A line of OTHER that PROGRAM lacks is set beside the line of
+PROGRAM whose name it begins with."""
 
 import re
+import shlex
 import subprocess
 import sys
 
@@ -14,7 +16,7 @@ LINE = re.compile(r"(.+): (\d+) in (\d+) ns \[(\d+)\]")
 
 
 def rates(program):
-    text = subprocess.run([program], stdout=subprocess.PIPE, check=True, text=True).stdout
+    text = subprocess.run(shlex.split(program), stdout=subprocess.PIPE, check=True, text=True).stdout
     found = {}
     for name, calls, took, octet in LINE.findall(text):
         found[name] = (int(calls) * 1e9 / int(took), octet)

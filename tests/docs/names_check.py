@@ -1,11 +1,12 @@
 """Looks up what documents name and quote: docs/TOUR.md, docs/PROOFS.md, docs/PROMISES.md, docs/REFUSALS.md, docs/DEFINITIONS.md,
-CONTRIBUTING.md and CHANGELOG.md.
+CONTRIBUTING.md and CHANGELOG.md; and in every document the paths of items.
 
 - A quotation, a fence whose first line has a file behind its language, stands in that file, line by line and in order; a line `..`
   is what was left out, and layout isn't compared. Behind a tool's command line stands what it prints.
 - A path is there; NAME in it stands for anything.
-- A word of code, also one with `::` or with another in brackets, is in the crates' code, definitions and edits, or names a crate or
-  a file.
+- A word of code, also with another in brackets, is in the crates' code, definitions and edits, or names a crate or a file.
+- A path of items, as `crate::function`, `module::item`, `Type::method` or `Type::Variant` and longer ones, leads from each part to
+  the next by what the code declares (items.py): that both words are somewhere isn't enough. So it is in all documents.
 - Any other piece of code stands in some file of the repository as it is, unless it is a command; `..` in it was left out.
 - Each row of PROOFS.md under "From promise to clause" has a function whose contract has its clauses, definitions that are public in
   some crate's specs/, and edits that are there.
@@ -17,9 +18,13 @@ import re
 import subprocess
 
 import tables
+from items import Items
 
 DOCUMENTS = ("docs/TOUR.md", "docs/PROOFS.md", "docs/PROMISES.md", "docs/REFUSALS.md", "docs/DEFINITIONS.md", "CONTRIBUTING.md",
              "CHANGELOG.md")
+MORE_DOCUMENTS = ("README.md", "bench/README.md", "deploy/README.md", "docs/*.md")  # whose paths of items are looked up
+SPAN = r"`([^`]+)`"
+ITEM_PATH = re.compile(r"\w+(?:::\w+)+")
 PROMISES = "From promise to clause"
 COMMANDS = ("rt ", "git ")
 CODE = {".rt", ".antt", ".edit"}
@@ -56,6 +61,7 @@ class Tree:
                 if path.suffix in CODE:
                     self.code[inside] = text
         self.all = "\n".join(self.texts.values())
+        self.items = Items(self.code)
         self.names = {pathlib.PurePath(file).name for file in self.files}
         self.names |= {pathlib.PurePath(file).stem for file in self.files}
         self.words = set()
@@ -75,8 +81,8 @@ class Tree:
         pattern = re.escape(bare).replace("NAME", "[^/]+")
         return "NAME" in bare and any(re.fullmatch("(crates/)?" + pattern, file) for file in self.files)
 
-    def has_word(self, word):
-        return all(part in self.words or part in self.names or part in KNOWN for part in word.split("::"))
+    def has_words(self, words):
+        return all(word in self.words or word in self.names or word in KNOWN for word in words)
 
     @functools.lru_cache(maxsize=None)
     def has_text(self, piece):
@@ -118,9 +124,10 @@ def span_fault(tree, span):
     first = span.split(" ")[0].removeprefix("./")
     if "/" in first and re.fullmatch(r"[\w./-]+", first):
         return None if tree.has_path(first) else "there is no %s" % first
-    if re.fullmatch(r"\w+(::\w+)*|\w+\(\w+\)", span):
-        words = "::".join(re.findall(r"\w+", span))
-        return None if tree.has_word(words) or tree.has_text(span) else "nothing is named %s" % span
+    if ITEM_PATH.fullmatch(span):
+        return None  # which is looked up by itself
+    if re.fullmatch(r"\w+|\w+\(\w+\)", span):
+        return None if tree.has_words(re.findall(r"\w+", span)) or tree.has_text(span) else "nothing is named %s" % span
     return None if span in tree.names | KNOWN_TEXT or tree.has_text(span) else "no file has %s" % span
 
 
@@ -135,8 +142,16 @@ def faults_of(tree, path):
         elif fence:
             quoted.append(line)
         elif not line.startswith("    "):
-            for span in re.findall(r"`([^`]+)`", line):
+            for span in re.findall(SPAN, line):
                 yield number, span_fault(tree, span)
+
+
+def path_faults_of(tree, path):
+    """The paths of items that a document names: for each its line and what is wrong, if anything."""
+    for number, line in enumerate(tables.text(path).split("\n"), 1):
+        for span in re.findall(SPAN, line):
+            for found in ITEM_PATH.findall(span):
+                yield number, None if tree.items.has_path(found) else "there is no %s" % found
 
 
 def contract_of(tree, crate, function):
@@ -161,11 +176,19 @@ def row_faults(tree, row):
     yield from ("no edit %s" % edit for edit in edits.split(", ") if edit not in tree.edits | {"-"})
 
 
+def all_documents():
+    """The documents, each once."""
+    more = (str(path.relative_to(tables.TOP)) for pattern in MORE_DOCUMENTS for path in pathlib.Path(tables.TOP).glob(pattern))
+    return sorted({*DOCUMENTS, *more})
+
+
 def checked(_words=()):
     """How much was looked up and found, and how much not; prints each that wasn't."""
     tree, passed, faults = Tree(), 0, []
-    for path in DOCUMENTS:
-        for number, fault in faults_of(tree, path):
+    looked_up = [(path, faults_of(tree, path)) for path in DOCUMENTS]
+    looked_up += [(path, path_faults_of(tree, path)) for path in all_documents()]
+    for path, found in looked_up:
+        for number, fault in found:
             passed += not fault
             faults += ["%s:%d: %s" % (path, number, fault)] if fault else []
     for row in tables.read("docs/PROOFS.md").get(PROMISES, []) or [[""] * 6]:

@@ -6,18 +6,21 @@ that it is built once here, and the constant set for each run.
 import os
 import pathlib
 import re
-import shutil
 import struct
 import subprocess
+import sys
 import time
 
 from shimmed import HERE, SECONDS, TOP, Ran
 
+sys.path.insert(0, str(TOP / "bench"))
+from repository import with_crate
+
+del sys.path[0]
+
 # The allocation that is refused where none is to be.
 NONE = 1999999999
 NAME = "refused_calls"
-USES = ("trace_words mme_core trace_answers trace_player per_bits nas_elements identity_slots mme_types emm_machine timer_queue "
-        "association_table sorted_list s1ap_elements")
 
 
 class NotBuilt(Exception):
@@ -27,24 +30,6 @@ class NotBuilt(Exception):
 def compared(number):
     """The comparison with a number of four octets (`cmp imm32, %rax`)."""
     return b"\x48\x3d" + struct.pack("<i", number)
-
-
-def repository(folder):
-    """A copy of the crates' code and definitions with one crate more, whose folder is returned."""
-    for name in ("HANDLES", "crates.txt"):
-        shutil.copy(TOP / name, folder)
-    with open(folder / "crates.txt", "a", encoding="utf-8") as file:
-        file.write("%s: %s\n" % (NAME, USES))
-    for crate in (TOP / "crates").iterdir():
-        for part in ("src", "specs"):
-            if (crate / part).exists():
-                shutil.copytree(crate / part, folder / "crates" / crate.name / part)
-    sources = folder / "crates" / NAME / "src"
-    sources.mkdir(parents=True)
-    for kept in (HERE / "calls").iterdir():
-        shutil.copy(kept, sources / kept.stem)
-    subprocess.run(["git", "init", "-q", folder], check=True)  # where rt's search for the top ends
-    return sources.parent
 
 
 def taken(folder, best):
@@ -66,7 +51,7 @@ class Program:
         self.path, room = folder / "calls", folder / "room"
         room.mkdir()
         (folder / "repository").mkdir()
-        crate = repository(folder / "repository")
+        crate = with_crate(folder / "repository", NAME, sorted((HERE / "calls").iterdir()))
         (folder / "given").write_bytes((TOP / "tests" / "rows" / "setup.trace").read_bytes() + b"tick 1000000\n")
         words = ["rt", "try", "--steps", "100", "--seconds", "20", "--fail-alloc", str(NONE)]
         octets = b""

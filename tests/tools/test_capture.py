@@ -448,11 +448,21 @@ def dissected(octets, *fields):
     return [line.split("\t") for line in done.stdout.decode().split("\n")[:-1]]
 
 
+# The rows that are meant to have messages which can't be read: how many of them tshark 4.0 calls malformed, and why.
+UNREADABLE = {
+    "attach_refused_in_order": (1, "a PDN CONNECTIVITY REQUEST that is cut in ATTACH REQUEST"),
+    "attach_unreadable": (1, "ATTACH REQUEST that is cut after its type"),
+    "empty_octets": (1, "a message of no octets"),
+    "reset_of_no_part": (5, "RESET with thirteen lists that are none; tshark takes eight, whose octets aren't those of the encoding"),
+    "setup_cut": (70, "S1 SETUP REQUEST cut before each of its octets, twice"),
+}
+
+
 @unittest.skipUnless(shutil.which("tshark"), "no tshark")
 class Tshark(unittest.TestCase):
     def test_rows(self):
-        """Each message is S1AP of the procedure that it is and none is malformed, but for those of stations that are meant to be:
-        the MME answers them, for the station, by ERROR INDICATION, or refuses the attach in them with cause 96."""
+        """Each message is S1AP of the procedure that it is and none is malformed, but for those that the rows in UNREADABLE are
+        meant to have: stations send them, and tshark finds just as many."""
         names, rows, wanted = tools.playable(), b"", {}
         for name in names:
             _, steps, octets = capture_of(name)
@@ -462,27 +472,30 @@ class Tshark(unittest.TestCase):
         for name in names:
             with self.subTest(row=name):
                 packets = list(itertools.islice(seen, len(wanted[name])))
-                for (octets, wrong), (protocols, malformed, checksum, procedure) in zip(wanted[name], packets, strict=True):
+                unreadable = 0
+                for (octets, heard), (protocols, malformed, checksum, procedure) in zip(wanted[name], packets, strict=True):
                     self.assertEqual(checksum, "1")
-                    if not wrong:
-                        self.assertEqual(malformed, "")
+                    self.assertTrue(heard or not malformed, malformed)
+                    unreadable += bool(malformed)
+                    if not malformed:
                         self.assertEqual(":s1ap" in protocols, octets is not None)
                         self.assertEqual(procedure, "" if octets is None else str(octets[1]))
+                count, why = UNREADABLE.get(name, (0, "nothing that can't be read"))
+                self.assertEqual(unreadable, count, "meant to have " + why)
         self.assertEqual(list(seen), [])
+        self.assertEqual(set(UNREADABLE) - set(names), set())
 
-    def expected(self, steps):
-        """For each packet its message, or nothing, and whether it may be malformed."""
+    @staticmethod
+    def expected(steps):
+        """For each packet its message, or nothing, and whether a station sent it."""
         for step in steps:
-            sent = [answer for _, answer in step.answers if answer.word == "out"]
             if step.event.word == "in":
-                contents = [RUNS.content(answer.octets) for answer in sent]
-                wrong = any(said.message.code == 15 and answer.owner[0] == "e" or said.nas and said.nas.name.endswith("cause 96")
-                            for answer, said in zip(sent, contents))
-                yield step.event.octets, wrong
+                yield step.event.octets, True
             for _ in range({"up": 4, "lost": 1}.get(step.event.word, 0)):
                 yield None, False
-            for answer in sent:
-                yield answer.octets, False
+            for _, answer in step.answers:
+                if answer.word == "out":
+                    yield answer.octets, False
 
     def test_times_and_comments(self):
         """Second 30 and what is said there."""

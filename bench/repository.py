@@ -1,0 +1,38 @@
+"""A copy of the crates with one crate more: so a program in Rattle that stands outside crates/, its sources as NAME.rt.txt, is
+built over the crates as they are."""
+import pathlib
+import re
+import shutil
+import subprocess
+
+TOP = pathlib.Path(__file__).resolve().parent.parent
+KEPT = ".txt"  # what the name of a source has more outside crates/
+
+
+def libraries():
+    """The names of crates.txt: the crates, and the toolchain's libraries that they use."""
+    lines = (TOP / "crates.txt").read_text(encoding="utf-8").splitlines()
+    return {word for line in lines if not line.startswith("#") for word in line.replace(":", " ").split()}
+
+
+def used(sources):
+    """The libraries whose items the sources name."""
+    named = {word for source in sources for word in re.findall(r"\b(\w+)::", source.read_text(encoding="utf-8"))}
+    return sorted(named & libraries())
+
+
+def with_crate(folder, name, sources):
+    """Makes the repository in an empty folder, with a crate of this name and these sources. Returns the crate's folder."""
+    shutil.copy(TOP / "HANDLES", folder)
+    crates = (TOP / "crates.txt").read_text(encoding="utf-8")
+    (folder / "crates.txt").write_text("%s%s: %s\n" % (crates, name, " ".join(used(sources))), encoding="utf-8")
+    for crate in (TOP / "crates").iterdir():
+        for part in ("src", "specs", "proofs"):
+            if (crate / part).exists():
+                shutil.copytree(crate / part, folder / "crates" / crate.name / part)
+    code = folder / "crates" / name / "src"
+    code.mkdir(parents=True)
+    for source in sources:
+        shutil.copy(source, code / source.name.removesuffix(KEPT))
+    subprocess.run(["git", "init", "-q", folder], check=True)  # where rt's search for the top ends
+    return code.parent
