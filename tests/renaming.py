@@ -73,7 +73,7 @@ def rename_crates(renaming, old, new):
     """Writes the crates below the folder `old` into the folder `new`, renamed and laid out by `rt fmt`."""
     for file in sorted(pathlib.Path(old, "crates").rglob("*")):
         path = file.relative_to(pathlib.Path(old, "crates")).as_posix()
-        if not file.is_file() or path.split("/")[1] == "out":
+        if not file.is_file() or path.split("/")[1:2] in ([], ["out"]):  # (a page beside the crates isn't one)
             continue
         to = pathlib.Path(new, "crates", renaming.path(path))
         to.parent.mkdir(parents=True, exist_ok=True)
@@ -83,5 +83,5 @@ def rename_crates(renaming, old, new):
             shutil.copyfile(file, to)
     listed = replaced(pathlib.Path(old, "crates.txt").read_text(encoding="utf-8"), renaming.crates)
     pathlib.Path(new, "crates.txt").write_text(listed, encoding="utf-8")
-    for crate in sorted(pathlib.Path(new, "crates").iterdir()):
+    for crate in sorted(path for path in pathlib.Path(new, "crates").iterdir() if path.is_dir()):
         subprocess.run(["rt", "fmt"], cwd=crate, check=True, stdout=subprocess.DEVNULL)

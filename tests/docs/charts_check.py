@@ -29,7 +29,7 @@ def checked(_words=()):
     """How many charts are as they should be, and what is wrong with others; prints that."""
     fresh, said = drawn()
     kept = {path.stem: path.read_bytes() for path in CHARTS.glob("*.svg")}
-    shown = set(re.findall(r"^!\[[^]]+\]\(charts/(\w+)\.svg\)$", tables.text("docs/TOUR.md"), re.M))
+    shown = set(re.findall(r"^ *!\[[^]]+\]\(charts/(\w+)\.svg\)$", tables.text("docs/TOUR.md"), re.M))
     scripts = {path.stem for path in (tables.TOP / "examples").glob("*.script")}
     passed, faults = 0, ["tools/charts says " + said] if said else []
     faults += ["docs/charts/%s.svg is of no script" % name for name in sorted((kept.keys() | shown) - scripts)]

@@ -1,5 +1,4 @@
-"""Looks up what documents name and quote: docs/TOUR.md, docs/PROOFS.md, docs/PROMISES.md, docs/REFUSALS.md, docs/DEFINITIONS.md,
-CONTRIBUTING.md and CHANGELOG.md; and in every document the paths of items.
+"""Looks up what documents name and quote: those of DOCUMENTS.
 
 - A quotation, a fence whose first line has a file behind its language, stands in that file, line by line and in order; a line `..`
   is what was left out, and layout isn't compared. Behind a tool's command line stands what it prints.
@@ -21,14 +20,14 @@ import tables
 from items import Items
 
 DOCUMENTS = ("docs/TOUR.md", "docs/PROOFS.md", "docs/PROMISES.md", "docs/REFUSALS.md", "docs/DEFINITIONS.md", "CONTRIBUTING.md",
-             "CHANGELOG.md")
+             "CHANGELOG.md", "crates/README.md", "docs/ARCHITECTURE.md", "docs/DECISIONS.md")
 MORE_DOCUMENTS = ("README.md", "bench/README.md", "deploy/README.md", "docs/*.md")  # whose paths of items are looked up
 SPAN = r"`([^`]+)`"
 ITEM_PATH = re.compile(r"\w+(?:::\w+)+")
 PROMISES = "From promise to clause"
 COMMANDS = ("rt ", "git ")
 CODE = {".rt", ".antt", ".edit"}
-TEXTS = CODE | {".md", ".py", ".txt", ".trace", ".answers", ".sh", ""}
+TEXTS = CODE | {".md", ".py", ".txt", ".trace", ".answers", ".sh", ".service", ""}
 # Words that code spans show of the language or of a command, and that no file needs to have.
 KNOWN = {"rt", "main"}
 KNOWN_TEXT = {"logic=proved"}
@@ -139,11 +138,15 @@ def faults_of(tree, path):
             if fence:
                 yield number, quoted_fault(tree, head, quoted)
             fence, head, quoted = not fence, line[3:], []
+        elif "```" in line:
+            yield number, "a fence within a line"
         elif fence:
             quoted.append(line)
         elif not line.startswith("    "):
             for span in re.findall(SPAN, line):
                 yield number, span_fault(tree, span)
+    if fence:
+        yield number, "a fence isn't closed"
 
 
 def path_faults_of(tree, path):

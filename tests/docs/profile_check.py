@@ -15,7 +15,8 @@ import s1ap
 del sys.path[0]
 
 KINDS = ("initiating", "successful", "unsuccessful")
-MACHINES = ("mme_signalling", "emm_state", "emm_attach", "emm_uplink", "emm_association", "emm_network", "emm_machine", "stranger_machine", "mme_naming", "mme_routing")
+MACHINES = ("mme_signalling", "emm_state", "emm_attach", "emm_uplink", "emm_association", "emm_network", "emm_machine",
+            "stranger_machine", "mme_naming", "mme_routing")
 
 
 def text_of(path):

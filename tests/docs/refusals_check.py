@@ -1,13 +1,14 @@
-"""Compares docs/REFUSALS.md with the code.
+"""Writes the tables of docs/REFUSALS.md from the code, and compares them.
 
-- Each call of a row is a public function of the crate of its heading, or a method of a public type or trait; it stands in one row.
-- Each clause of a row stands in the contract of each of its calls; `the one` is the clause of a function that has one alone.
-- Each variant of a row is one of the error that the calls answer, or of what that error holds, and want of memory fits the error.
-- The variants of each error stand in the order of the code, with the code's numbers where it has them; each error that a call
-  answers is there.
-- Every public function that answers a `Result` is in a row, and every one that answers an `Option` in a row or among the answers
-  that are no refusals. A crate without rows has no such function, or is named as one without contracts and has none.
-- The calls with "not said" are those of the last table; a clause that it quotes is of one of the row's calls.
+- Numbers: the error of each public call, its variants in their order, with the code's numbers where it has them.
+- Calls: each public function that answers a `Result`, and each that answers an `Option`, but for those among the answers that are
+  no refusals. "When" are its clauses that speak of the answer, "What stays" those that say what a refused call leaves.
+- What people wrote stays: which refusals and in which order, of each call, and whether want of memory comes last or anywhere, where
+  the error doesn't decide it. Of a call that isn't there yet the script writes its error's variants in their order, and anywhere.
+- Each variant that people wrote is one of the error that the calls answer, or of what that holds.
+- A call under "What isn't said" is marked; each whose object may change and of which no clause says what stays is there, and a
+  clause that this table quotes is of one of the row's calls.
+- A crate without contracts, named under "The calculator", has none, and its calls aren't listed.
 """
 import collections
 import re
@@ -15,18 +16,32 @@ import re
 import tables
 
 DOCUMENT = "docs/REFUSALS.md"
-NUMBERS, ANSWERS, UNSAID, BARE = "Numbers", "Answers that are no refusals", "What isn't said", "The calculator"
+NUMBERS, CALLS, ANSWERS, UNSAID, BARE = "Numbers", "Calls", "Answers that are no refusals", "What isn't said", "The calculator"
+MARK = "†"  # of a call that stands under "What isn't said"
+
 MEMORY = ("never", "alone", "last", "anywhere")
-PHRASES = {"When": {"the one", "by its type", "not said"}, "What stays": {"the one", "no object", "excepted", "not said"}}
+
+# The forms of clauses that say what a refused call leaves: of an error, of every answer, or of `None`.
+STAYING = (r"(?:OnErr|IfErr) result.*\.new", r"\w+\.new[.\w]* ≡ .*\.old", r"\w+\.old[.\w]* ≤ \w+\.new[.\w]*$",
+           r"IfOk result \(λ \w+\. IsNone .*\.new ≡ \w+\.old")
+# The clauses that say it in no such form: by a relation, or by the answer.
+SAID_OTHERWISE = {
+    "Station::act": ["err", "station"], "take_part": ["the one"], "play_script_line": ["the one"],
+    "Watched::read": ["bytes", "failed", "calls"], "Watched::write": ["bytes", "failed", "calls"],
+    "Watched::flush": ["bytes", "failed", "calls"], "play_mme": ["the one"], "play_sub": ["the one"], "play_vec": ["the one"],
+    "print_show": ["unknown"], "play_show": ["unknown"],
+}
+# Objects that aren't used further by intent, by the name of the call; readers and writers of bits are told by their type.
+UNUSED = re.compile(r"put_\w+|run_play|run_sim|write_whole")
 
 Function = collections.namedtuple("Function", "result clauses unnamed contract")
-Row = collections.namedtuple("Row", "crate calls refusals memory when stays")
+Row = collections.namedtuple("Row", "crate calls refusals memory when stays is_marked")
 
 
 # ---- the code
 
 def without_generics(text):
-    """What stands behind `<..>` at the front of a text."""
+    """What follows `<..>` at the front of a text."""
     depth = 0
     for at, sign in enumerate(text):
         depth += (sign == "<") - (sign == ">")
@@ -85,13 +100,26 @@ def exported(root):
     return names, set(re.findall(r"^pub mod (\w+);", root, re.M)) | {"lib"}
 
 
+def listed():
+    """The crates of crates.txt, from the lowest."""
+    return [line.split(":")[0].strip() for line in tables.text("crates.txt").split("\n") if ":" in line and line[0] != "#"]
+
+
+def sources(crate):
+    """The files of a crate's code with their texts."""
+    return {path: path.read_text(encoding="utf-8") for path in sorted((tables.TOP / "crates" / crate / "src").glob("*.rt"))}
+
+
+def root_of(texts):
+    """The text of a crate's root."""
+    return next((text for path, text in texts.items() if path.stem == "lib"), "")
+
+
 class Code:
     """Of each crate its public functions, and of all crates the variants of each enum."""
 
     def __init__(self):
-        listed = [line.split(":")[0].split()[0] for line in tables.text("crates.txt").split("\n") if line and line[0] != "#"]
-        files = {crate: {path: path.read_text(encoding="utf-8") for path in (tables.TOP / "crates" / crate / "src").glob("*.rt")}
-                 for crate in listed}
+        files = {crate: sources(crate) for crate in listed()}
         whole = "\n".join(text for texts in files.values() for text in texts.values())
         names = dict(re.findall(r"^pub(?:\(crate\))? type (\w+)(?:<[^=]*>)? = ((?:Result|Option)<.*>);", whole, re.M))
         self.variants = {enum: re.findall(r"^    (\w+)(?:\(([^)]*)\))?(?: = (\d+))?,", body, re.M)
@@ -102,7 +130,7 @@ class Code:
 
     @staticmethod
     def public_of(texts, names):
-        handed, modules = exported(next((text for path, text in texts.items() if path.stem == "lib"), ""))
+        handed, modules = exported(root_of(texts))
         return {(owner + "::" if owner else "") + name: function for path, text in texts.items()
                 for owner, name, function in functions_of(text, names)
                 if path.stem in modules or (owner or name) in handed}
@@ -117,6 +145,62 @@ class Code:
             yield name
             for kind in re.findall(r"\w+", held):
                 yield from (inner[0] for inner in self.variants.get(kind, []))
+
+
+# ---- what a contract says
+
+def clauses_of(function):
+    """The clauses of a contract by their names, in order; one without a name is "the one"."""
+    found, contract = {}, function.contract
+    for head in re.finditer(r"\bensures (?:(\w+) )?\{", contract):
+        at, depth = head.end(), 1
+        while depth:
+            depth += (contract[at] == "{") - (contract[at] == "}")
+            at += 1
+        found[head.group(1) or "the one"] = contract[head.end():at - 1].strip()
+    return found
+
+
+def error_of(result):
+    """The error that a Result holds: what stands after its last comma."""
+    return result[:-1].split(",")[-1].strip().split("::")[-1] if result.startswith("Result<") else ""
+
+
+def says_what_stays(clause):
+    return any(re.match(form, clause) for form in STAYING)
+
+
+def when_of(function, is_answer):
+    """The clauses that say when refusals come: those that speak of the answer, whatever it is. With `is_answer` a refusal is
+    `None` or `false`."""
+    if error_of(function.result) == "AllocError" and not is_answer:
+        return ["by its type"]
+    speak = {name: clause for name, clause in clauses_of(function).items()
+             if re.search(r"\bresult\b", clause) and not clause.startswith("OnOk") and not says_what_stays(clause)}
+    whatever = [name for name, clause in speak.items() if is_answer or not clause.startswith("IfOk result")]
+    return whatever or list(speak) or ["not said"]
+
+
+def stays_of(call, function):
+    """What says that the object of a refused call is as it was."""
+    names = SAID_OTHERWISE.get(call) or [name for name, clause in clauses_of(function).items()
+                                         if says_what_stays(clause)]
+    if names:
+        return names
+    if "&mut " not in function.contract:
+        return ["no object"]
+    is_coding = re.search(r"&mut Bit(?:Reader|Writer)\b", function.contract) or re.match(r"Bit(?:Reader|Writer)::", call)
+    return ["excepted"] if is_coding or UNUSED.fullmatch(call) else ["not said"]
+
+
+def memory_of(function, is_answer, said):
+    """How want of memory comes: by the error, or as people said."""
+    error = error_of(function.result)
+    if error == "AllocError":
+        return "anywhere" if is_answer else "alone"
+    if said == "alone":
+        return "alone" if "memory" in clauses_of(function) else "anywhere"
+    return said if error else "never"
 
 
 # ---- the document
@@ -137,103 +221,154 @@ def table_of(body):
     return [[cell.strip() for cell in line.strip("|").split("|")] for line in rows[2:]]
 
 
-def error_of(result):
-    """The error that a Result holds: what stands behind its last comma."""
-    return result[:-1].split(",")[-1].strip().split("::")[-1] if result.startswith("Result<") else ""
+class Document:
+    """What people wrote: of each call its refusals and how memory comes, which calls are marked, and what is no refusal."""
+
+    def __init__(self):
+        found = sections()
+        self.said = {(cells[0].strip("`"), call): (cells[2], cells[3]) for cells in table_of(found.get(CALLS, ""))
+                     for call in named(cells[1])}
+        self.unsaid = table_of(found.get(UNSAID, ""))
+        self.marked = {(cells[0].strip("`"), call) for cells in self.unsaid for call in named(cells[1])}
+        self.others = collections.defaultdict(set)
+        for crate, calls in table_of(found.get(ANSWERS, "")):
+            self.others[crate.strip("`")] |= set(named(calls))
+        self.bare = set(named(found.get(BARE, "").split("\n\n")[1])) if BARE in found else set()
+
+    def is_answer(self, crate, call, function):
+        """Whether a refusal of this call, want of memory apart, is an answer: `None`, or `false` where people said so."""
+        if re.match(r"(?:Result<)?Option<", function.result):
+            return call not in self.others[crate]
+        return function.result.startswith("Result<bool") or function.result == "bool" and (crate, call) in self.said
 
 
-def clause_faults(function, column, cell):
-    for term in cell.split(", "):
-        name = term.strip("`")
-        if term == "the one" and (function.clauses or function.unnamed != 1):
-            yield "has not one clause without a name"
-        elif term != "the one" and term == name and name not in PHRASES[column]:
-            yield "%s has the words %s" % (column, name)
-        elif term != name and name not in function.clauses:
-            yield "has no clause %s" % name
+# ---- what is written
+
+def cell_of(names):
+    """Names of clauses, or one of the phrases that stand for them."""
+    return ", ".join(name if " " in name or name == "excepted" else "`%s`" % name for name in names)
 
 
-def memory_fits(code, error, row):
-    """Whether what a row says of want of memory fits the error that its calls answer: none that is known has to hold it."""
-    if error == "AllocError":
-        return row.memory == ("alone" if row.refusals.startswith("-") else "anywhere")
-    if row.memory == "alone":
-        return "`memory`" in row.when
-    holds = "NoMemory" in code.words_of(error) or error and error not in code.variants
-    return row.memory in (MEMORY if holds else ("never",))
+def refusals_of(code, function, is_answer):
+    """The variants of an error in their order, want of memory left out; or the answer that is a refusal."""
+    if is_answer:
+        return "`None`" if "Option<" in function.result else "`false`"
+    names = [name for name, _, _ in code.variants.get(error_of(function.result), []) if name != "NoMemory"]
+    return ", ".join("`%s`" % name for name in names) or "-"
 
+
+def rows_of(code, document):
+    """The rows of all calls that can be refused; calls of a crate that agree share one."""
+    for crate in code.public:
+        rows = {}
+        for call, function in code.public[crate].items() if crate not in document.bare else ():
+            is_answer = document.is_answer(crate, call, function)
+            if not is_answer and not function.result.startswith("Result<"):
+                continue
+            refusals, memory = document.said.get((crate, call), (refusals_of(code, function, is_answer), "anywhere"))
+            key = (refusals, memory_of(function, is_answer, memory), cell_of(when_of(function, is_answer)),
+                   cell_of(stays_of(call, function)), (crate, call) in document.marked)
+            rows.setdefault(key, []).append(call)
+        for (refusals, memory, when, stays, is_marked), calls in rows.items():
+            yield Row(crate, calls, refusals, memory, when, stays, is_marked)
+
+
+def calls_table(code, document):
+    lines = ["| Crate | Call | Refusals | Memory | When | What stays |", "|---|---|---|---|---|---|"]
+    for row in rows_of(code, document):
+        calls = ", ".join("`%s`" % call for call in row.calls) + (" " + MARK if row.is_marked else "")
+        lines.append("| `%s` | %s | %s | %s | %s | %s |" % (row.crate, calls, row.refusals, row.memory, row.when, row.stays))
+    return "\n".join(lines)
+
+
+def numbers_table(code, document):
+    errors = {error_of(function.result) for crate in set(code.public) - document.bare for function in code.public[crate].values()}
+    lines = ["| Error | Crate | Variants | In the code |", "|---|---|---|---|"]
+    for error, crate in code.home.items():
+        if error in errors:
+            there = code.variants[error]
+            held_in = {name: [kind for kind in re.findall(r"\w+", held) if kind in code.variants] for name, held, _ in there}
+            variants = ["%d `%s`%s" % (at, name, " with a `%s`" % held_in[name][0] if held_in[name] else "")
+                        for at, (name, _, _) in enumerate(there, 1)]
+            lines.append("| `%s` | `%s` | %s | %s |" % (error, crate, ", ".join(variants), "yes" if there[0][2] else "no"))
+    return "\n".join(lines)
+
+
+def written():
+    """The document as it should be."""
+    code, document, text = Code(), Document(), tables.text(DOCUMENT)
+    for heading, table in ((NUMBERS, numbers_table), (CALLS, calls_table)):
+        text = re.sub(r"(?s)(\n## %s\n.*?\n)(\|.*?)(?=\n\n|\n*$)" % heading,
+                      lambda found, rows=table(code, document): found.group(1) + rows, text, count=1)
+    return text
+
+
+def write():
+    """Writes both tables anew. Prints the calls that are new, whose refusals people have to put into order, and those that are gone
+    with what people wrote of them."""
+    before = Document().said
+    (tables.TOP / DOCUMENT).write_text(written(), encoding="utf-8")
+    after = Document().said
+    for crate, call in sorted(after.keys() - before.keys()):
+        print("new: %s, %s: put the order of its refusals into its row" % (crate, call))
+    for crate, call in sorted(before.keys() - after.keys()):
+        print("gone: %s, %s: %s, %s" % (crate, call, *before[crate, call]))
+
+
+# ---- what is compared beside
 
 def row_faults(code, row):
+    """Variants that people wrote of a row's calls and that their errors don't have; calls of which nothing says what stays."""
     for call in row.calls:
-        function = code.public[row.crate].get(call)
-        if not function:
-            yield "%s is no public function" % call
-            continue
-        for column, cell in (("When", row.when), ("What stays", row.stays)):
-            yield from ("%s %s" % (call, fault) for fault in clause_faults(function, column, cell))
-        error = error_of(function.result)
-        words = set(code.words_of(error)) | {"None", "false"} | set(code.public[row.crate])
+        function = code.public[row.crate][call]
+        words = set(code.words_of(error_of(function.result))) | {"None", "false"} | set(code.public[row.crate])
         yield from ("%s is not refused with %s" % (call, name) for name in named(row.refusals) if name not in words)
-        if not memory_fits(code, error, row):
-            yield "%s answers %s, and its want of memory is not %s" % (call, function.result, row.memory)
-    if not row.calls or "by its type" in row.when and row.memory != "alone":
-        yield "its want of memory isn't alone"
+        yield from ("%s has no clause %s" % (call, name) for name in SAID_OTHERWISE.get(call, ())
+                    if name not in clauses_of(function))
+    for column, cell in (("when they come", row.when), ("what stays", row.stays)):
+        if cell == "not said" and not row.is_marked:
+            yield "no clause says %s, and \"%s\" doesn't have it" % (column, UNSAID)
+    if row.memory not in MEMORY:
+        yield "%s says nothing of memory" % row.memory
 
 
-def crate_faults(code, crate, rows, others, bare):
-    """What of a crate is in no row, or in more than one."""
-    calls = [call for row in rows for call in row.calls]
-    if crate in bare:
+def number_faults(code):
+    """Errors whose variants have other numbers than their places."""
+    for error, there in code.variants.items():
+        numbers = [number for _, _, number in there]
+        if error.endswith(("Fault", "Error", "Stop")) and any(numbers) and numbers != [str(at) for at in range(1, len(there) + 1)]:
+            yield "%s has other numbers" % error
+
+
+def people_faults(code, document):
+    """What people wrote of calls that aren't there, or that answer otherwise."""
+    calls = {call for public in code.public.values() for call in public}
+    yield from ("%s, of SAID_OTHERWISE, is no public function" % call for call in SAID_OTHERWISE if call not in calls)
+    for crate, call in sorted(set(document.said) | document.marked):
+        if call not in code.public.get(crate, {}):
+            yield "%s of %s is no public function" % (call, crate)
+    for crate, calls in document.others.items():
+        yield from ("%s of %s answers no Option" % (call, crate) for call in sorted(calls)
+                    if not re.match(r"(?:Result<)?Option<", getattr(code.public[crate].get(call), "result", "")))
+    for crate in document.bare:
         yield from ("%s has a contract" % call for call, function in code.public[crate].items()
                     if function.clauses or function.unnamed)
-        return
-    yield from ("%s is in two rows" % call for call in set(calls) if calls.count(call) > 1)
-    lacking = code.refusing(crate, "Result<") | code.refusing(crate, "Option<") - others
-    yield from ("%s is not in the document" % call for call in sorted(lacking - set(calls)))
-    yield from ("%s answers no Option" % call for call in sorted(others - code.refusing(crate, "Option<")))
-
-
-def number_faults(code, table, bare):
-    """What is wrong with the errors' variants and numbers, and each error of a call that isn't there."""
-    lacking = {error_of(function.result) for crate in set(code.public) - bare for function in code.public[crate].values()}
-    for error, crate, variants, told in table:
-        error, there = error.strip("`"), code.variants.get(error.strip("`"), [])
-        lacking.discard(error)
-        names = named(re.sub(r", which holds [^;]*", "", variants))
-        if code.home.get(error) != crate.strip("`") or names != [name for name, _, _ in there]:
-            yield "%s of %s has other variants" % (error, crate)
-        if [number for _, _, number in there] != [str(at) if told == "yes" else "" for at in range(1, len(there) + 1)]:
-            yield "%s has other numbers, or none" % error
-    yield from ("%s isn't there" % error for error in sorted(lacking - {"", "AllocError", "Error"}))
-
-
-def unsaid_faults(code, rows, unsaid):
-    """What of the last table is in no row above, or the other way round, and each quoted clause that none of its calls has."""
-    left = {(row.crate, call) for row in rows for call in row.calls if "not said" in row.when + row.stays}
-    there = {(cells[0].strip("`"), call) for cells in unsaid for call in named(cells[1])}
-    yield from ("%s of %s stands in one place alone" % (call, crate) for crate, call in sorted(left ^ there))
-    for crate, calls, _, clause in unsaid:
-        contracts = [code.public[crate.strip("`")][call].contract for call in named(calls) if (crate.strip("`"), call) in left]
+    for crate, calls, _, clause in document.unsaid:
+        contracts = [code.public[crate.strip("`")][call].contract for call in named(calls) if call in code.public[crate.strip("`")]]
         yield from ("none of %s has %s" % (calls, quoted) for quoted in named(clause)
                     if quoted.startswith("ensures") and not any(quoted in contract for contract in contracts))
 
 
 def checked(_words=()):
-    """How many rows and crates were compared and are right, and how many not; prints each that isn't."""
-    code, found = Code(), sections()
-    rows = [Row(crate, named(cells[0]), *cells[1:]) if len(cells) == 5 else Row(crate, [], "", "", "", "")
-            for crate in found if crate in code.public for cells in table_of(found[crate])]
+    """How many rows were compared and are right, and what is wrong; prints each that is."""
+    code, document = Code(), Document()
+    rows = list(rows_of(code, document))
     results = [("%s, %s" % (row.crate, ", ".join(row.calls)), list(row_faults(code, row))) for row in rows]
-    others = collections.defaultdict(set)
-    for crate, calls in table_of(found.get(ANSWERS, "")):
-        others[crate.strip("`")] |= set(named(calls))
-    bare = set(named(found.get(BARE, "")))
-    for crate in code.public:
-        of_crate = [row for row in rows if row.crate == crate]
-        results.append((crate, list(crate_faults(code, crate, of_crate, others[crate], bare))))
-    results.append((NUMBERS, list(number_faults(code, table_of(found.get(NUMBERS, "")), bare))))
-    results.append((UNSAID, list(unsaid_faults(code, rows, table_of(found.get(UNSAID, ""))))))
+    results += [(NUMBERS, list(number_faults(code))), ("what people wrote", list(people_faults(code, document)))]
+    there, owed = tables.text(DOCUMENT).split("\n"), written().split("\n")
     faults = ["%s: %s" % (what, fault) for what, several in results for fault in several]
+    faults += ["has: %s" % line for line in there if line not in set(owed)]
+    faults += ["lacks: %s ('tests/docs/write refusals' writes it)" % line for line in owed if line not in set(there)]
     for fault in faults:
         print("FAILED REFUSALS.md, " + fault)
     return sum(not several for _, several in results), len(faults)

@@ -1,6 +1,6 @@
 """The rows of docs/TABLE.md on a stranger's machine, each tried by the built program.
 
-The stranger's state isn't printed: it is seen by who answers a message with its id from another radio id, and how.
+The stranger's state isn't printed: it is seen by who answers a message with its id under another eNB UE S1AP ID, and how.
 """
 from answers import Failure, judge_steps, must, play
 from events import LATER_CAUSE, LISTED, MESSAGES, RESET_ALL, attach_nas, both, each_by_itself, initial, resets, with_cause
@@ -121,7 +121,7 @@ def switch(n, e, m, b):
 
 def by_ids(name, message):
     event(name)(lambda scene: says(scene, message))
-    event(name + " (another radio id)", PRESENT)(lambda scene: says(scene, message, b=B + 7))
+    event(name + " (another eNB UE S1AP ID)", PRESENT)(lambda scene: says(scene, message, b=B + 7))
     event(name + " (another station)", PRESENT)(lambda scene: says(scene, message, scene.stations[1]))
 
 
@@ -252,7 +252,7 @@ class Trial:
                 must(found == ids or received and found[0] == ids[0], "%s has the ids %s", message.text, found)
 
     def judge_state(self, group):
-        """Who answers a message with the id and another radio id, and how."""
+        """Who answers a message with the id and another eNB UE S1AP ID, and how."""
         answers = {"closed": ("x", "mme"), "waiting": ("x", "pair"), "held": ("s", None)}
         owner, why = answers[self.row.next]
         text = told(group).removeprefix("subscriber: ")

@@ -16,20 +16,27 @@ use Rattle.association_table.specs.declared.places.Seat.{Seat}
 use Rattle.association_table.specs.Table.{association_id, found, opened, closed}
 use Rattle.association_table.specs.Kept.{place_id, place_key, or_blank, with_id, entry_at, entries_of, station_bench, number_bench, seat_of, seat_rank, seating, seats_of, IsId, IsTable}
 
-apart : (bench : Association → ℕ) (x y : Association) → IsId x → IsId y → seating bench x ≡ seating bench y → association_id x ≡ association_id y
+apart : (bench : Association → ℕ) (x y : Association) → IsId x → IsId y → seating bench x ≡ seating bench y
+    → association_id x ≡ association_id y
 apart bench x y a b e = let p = a.0 in let q = b.0 in omega (arith, p, q, e)
 
 pub rising_entries : (s : Slab Held) (ps : List SlabPlace) → Rising place_id ps → Rising association_id (entries_of s ps)
 rising_entries s ps h = rising-map (entry_at s) association_id ps h
 
 -- the seats of a bench stand for entries
-distinct_seats : (bench : Association → ℕ) (es : List Association) → Rising association_id es → Every IsId es → Distinct (seating bench) es
-distinct_seats bench es h i = apart_distinct association_id (seating bench) IsId (apart bench) es i (rising_distinct association_id es h)
+distinct_seats : (bench : Association → ℕ) (es : List Association) → Rising association_id es → Every IsId es
+    → Distinct (seating bench) es
+distinct_seats bench es h i =
+    apart_distinct association_id (seating bench) IsId (apart bench) es i (rising_distinct association_id es h)
 
-pub rising_seats : (bench : Association → ℕ) (es : List Association) → Rising association_id es → Every IsId es → Rising seat_rank (seats_of bench es)
-rising_seats bench es h i = rising-map (seat_of bench) seat_rank (ordered (seating bench) es) (rising-ordered (seating bench) es (distinct_seats bench es h i))
+pub rising_seats : (bench : Association → ℕ) (es : List Association) → Rising association_id es → Every IsId es
+    → Rising seat_rank (seats_of bench es)
+rising_seats bench es h i =
+    rising-map (seat_of bench) seat_rank (ordered (seating bench) es)
+    (rising-ordered (seating bench) es (distinct_seats bench es h i))
 
-pub found_place : (s : Slab Held) (id : ℕ) (ps : List SlabPlace) → found id (entries_of s ps) ≡ option_map (entry_at s) (at place_id id ps)
+pub found_place : (s : Slab Held) (id : ℕ) (ps : List SlabPlace)
+    → found id (entries_of s ps) ≡ option_map (entry_at s) (at place_id id ps)
 found_place s id ps = at-map (entry_at s) association_id id ps
 
 mapped_none : (s : Slab Held) (o : Option SlabPlace) → option_map (entry_at s) o ≡ None → o ≡ None
@@ -39,19 +46,23 @@ mapped_none s (Some p) h = absurd (cc)
 pub free_place : (s : Slab Held) (id : ℕ) (ps : List SlabPlace) → found id (entries_of s ps) ≡ None → at place_id id ps ≡ None
 free_place s id ps h = mapped_none s (at place_id id ps) (sym (found_place s id ps) ∙ h)
 
-mapped_some : (s : Slab Held) (a : Association) (o : Option SlabPlace) → option_map (entry_at s) o ≡ Some a → (p : SlabPlace) × (o ≡ Some p) × (entry_at s p ≡ a)
+mapped_some : (s : Slab Held) (a : Association) (o : Option SlabPlace) → option_map (entry_at s) o ≡ Some a
+    → (p : SlabPlace) × (o ≡ Some p) × (entry_at s p ≡ a)
 mapped_some s a None h = absurd (cc)
 mapped_some s a (Some p) h = (p, refl, (cc))
 
-pub taken_place : (s : Slab Held) (id : ℕ) (a : Association) (ps : List SlabPlace) → found id (entries_of s ps) ≡ Some a → (p : SlabPlace) × (at place_id id ps ≡ Some p) × (entry_at s p ≡ a)
+pub taken_place : (s : Slab Held) (id : ℕ) (a : Association) (ps : List SlabPlace) → found id (entries_of s ps) ≡ Some a
+    → (p : SlabPlace) × (at place_id id ps ≡ Some p) × (entry_at s p ≡ a)
 taken_place s id a ps h = mapped_some s a (at place_id id ps) (sym (found_place s id ps) ∙ h)
 
-pub free_seat : (bench : Association → ℕ) (a : Association) (es : List Association) → Rising association_id es → Every IsId es → IsId a → found a.id es ≡ None → at seat_rank (seat_rank (seat_of bench a)) (seats_of bench es) ≡ None
+pub free_seat : (bench : Association → ℕ) (a : Association) (es : List Association) → Rising association_id es → Every IsId es
+    → IsId a → found a.id es ≡ None → at seat_rank (seat_rank (seat_of bench a)) (seats_of bench es) ≡ None
 free_seat bench a es h k i f =
     at-map (seat_of bench) seat_rank (seat_rank (seat_of bench a)) (ordered (seating bench) es)
     ∙ ap (option_map (seat_of bench)) (at-ordered (seating bench) (seating bench a) es (distinct_seats bench es h k) ∙ apart_none association_id (seating bench) IsId (apart bench) a es i k f)
 
-seats_opened : (bench : Association → ℕ) (a : Association) (es : List Association) → Every IsId es → IsId a → found a.id es ≡ None → add seat_rank (seat_of bench a) (seats_of bench es) ≡ seats_of bench (opened a es)
+seats_opened : (bench : Association → ℕ) (a : Association) (es : List Association) → Every IsId es → IsId a → found a.id es ≡ None
+    → add seat_rank (seat_of bench a) (seats_of bench es) ≡ seats_of bench (opened a es)
 seats_opened bench a es k i f =
     sym (map-add (seat_of bench) seat_rank a (ordered (seating bench) es))
     ∙ ap (map (seat_of bench)) (sym (ordered-add association_id (seating bench) a es (apart_none association_id (seating bench) IsId (apart bench) a es i k f)))
@@ -61,24 +72,31 @@ pub none_some : {X : Type 0} (o : Option X) → IsSome o → o ≡ None → ⊥
 none_some None h e = cc
 none_some (Some x) h e = cc
 
-vacant_by : (s : Slab Held) (key : ℕ) (p : SlabPlace) (ps : List SlabPlace) (b : Bool) → (p.key == key) ≡ b → get s key ≡ None → IsSome (get s p.key) → at place_key key ps ≡ None → cond b (Some p) (at place_key key ps) ≡ None
-vacant_by s key p ps true e n h ih = let same : p.key ≡ key = eqb-true _ _ e in absurd (none_some (get s key) (subst (λ k. IsSome (get s k)) same h) n)
+vacant_by : (s : Slab Held) (key : ℕ) (p : SlabPlace) (ps : List SlabPlace) (b : Bool) → (p.key == key) ≡ b → get s key ≡ None
+    → IsSome (get s p.key) → at place_key key ps ≡ None → cond b (Some p) (at place_key key ps) ≡ None
+vacant_by s key p ps true e n h ih =
+    let same : p.key ≡ key = eqb-true _ _ e in absurd (none_some (get s key) (subst (λ k. IsSome (get s k)) same h) n)
 vacant_by s key p ps false e n h ih = ih
 
-pub vacant_none : (s : Slab Held) (key : ℕ) (ps : List SlabPlace) → get s key ≡ None → Every (λ p. IsSome (get s p.key)) ps → at place_key key ps ≡ None
+pub vacant_none : (s : Slab Held) (key : ℕ) (ps : List SlabPlace) → get s key ≡ None → Every (λ p. IsSome (get s p.key)) ps
+    → at place_key key ps ≡ None
 vacant_none s key [] n h = refl
 vacant_none s key (p ∷ ps) n h = vacant_by s key p ps (p.key == key) refl n h.0 (vacant_none s key ps n h.1)
 
-other_key : (key : ℕ) (p : SlabPlace) (ps : List SlabPlace) → at place_key key (p ∷ ps) ≡ None → (p.key ≡ key → ⊥) × (at place_key key ps ≡ None)
+other_key : (key : ℕ) (p : SlabPlace) (ps : List SlabPlace) → at place_key key (p ∷ ps) ≡ None
+    → (p.key ≡ key → ⊥) × (at place_key key ps ≡ None)
 other_key key p ps h = ((λ e. grind (arith, nat_tests)), grind (arith, nat_tests))
 
-pub same_entries : (s t : Slab Held) (key : ℕ) (ps : List SlabPlace) → ((o : ℕ) → o ≢ key → get t o ≡ get s o) → at place_key key ps ≡ None → entries_of t ps ≡ entries_of s ps
+pub same_entries : (s t : Slab Held) (key : ℕ) (ps : List SlabPlace) → ((o : ℕ) → o ≢ key → get t o ≡ get s o)
+    → at place_key key ps ≡ None → entries_of t ps ≡ entries_of s ps
 same_entries s t key [] u h = refl
 same_entries s t key (p ∷ ps) u h =
     let o = other_key key p ps h in
-    ap (λ x. with_id p.id (or_blank x) ∷ entries_of t ps) (u p.key o.0) ∙ ap (λ es. entry_at s p ∷ es) (same_entries s t key ps u o.1)
+    ap (λ x. with_id p.id (or_blank x) ∷ entries_of t ps) (u p.key o.0)
+    ∙ ap (λ es. entry_at s p ∷ es) (same_entries s t key ps u o.1)
 
-pub same_held : (s t : Slab Held) (key : ℕ) (ps : List SlabPlace) → ((o : ℕ) → o ≢ key → get t o ≡ get s o) → at place_key key ps ≡ None → Every (λ p. IsSome (get s p.key)) ps → Every (λ p. IsSome (get t p.key)) ps
+pub same_held : (s t : Slab Held) (key : ℕ) (ps : List SlabPlace) → ((o : ℕ) → o ≢ key → get t o ≡ get s o)
+    → at place_key key ps ≡ None → Every (λ p. IsSome (get s p.key)) ps → Every (λ p. IsSome (get t p.key)) ps
 same_held s t key [] u n h = tt
 same_held s t key (p ∷ ps) u n h =
     let o = other_key key p ps n in
@@ -88,7 +106,8 @@ some_is : (o : Option Held) (h : Held) → o ≡ Some h → IsSome o
 some_is o h e = subst IsSome (sym e) refl
 
 -- an opening
-pub open_entries : (s t : Slab Held) (a : Association) (key : ℕ) (ps : List SlabPlace) → get s key ≡ None → Every (λ p. IsSome (get s p.key)) ps
+pub open_entries : (s t : Slab Held) (a : Association) (key : ℕ) (ps : List SlabPlace) → get s key ≡ None
+    → Every (λ p. IsSome (get s p.key)) ps
     → Updates s t key (Some (record { owner = a.owner; station = a.station; enb_ue_id = a.enb_ue_id }))
     → entries_of t (add place_id (record { id = a.id; key = key }) ps) ≡ opened a (entries_of s ps)
 open_entries s t a key ps n h u =
@@ -96,7 +115,8 @@ open_entries s t a key ps n h u =
     ∙ ap (λ x. add association_id (with_id a.id (or_blank x)) (entries_of t ps)) u.changed
     ∙ ap (add association_id a) (same_entries s t key ps u.others (vacant_none s key ps n h))
 
-pub open_kept : (s t : Slab Held) (a : Association) (key : ℕ) (ps : List SlabPlace) (seats chairs : List Seat) → IsTable s ps seats chairs → IsId a → found a.id (entries_of s ps) ≡ None → get s key ≡ None
+pub open_kept : (s t : Slab Held) (a : Association) (key : ℕ) (ps : List SlabPlace) (seats chairs : List Seat)
+    → IsTable s ps seats chairs → IsId a → found a.id (entries_of s ps) ≡ None → get s key ≡ None
     → Updates s t key (Some (record { owner = a.owner; station = a.station; enb_ue_id = a.enb_ue_id }))
     → IsTable t (add place_id (record { id = a.id; key = key }) ps) (add seat_rank (seat_of station_bench a) seats) (add seat_rank (seat_of number_bench a) chairs)
 open_kept s t a key ps seats chairs k i f n u =
@@ -114,20 +134,24 @@ open_kept s t a key ps seats chairs k i f n u =
     }
 
 -- a closing
-pub close_entries : (s t : Slab Held) (id : ℕ) (p : SlabPlace) (ps : List SlabPlace) → Distinct place_key ps → at place_id id ps ≡ Some p → Updates s t p.key None
+pub close_entries : (s t : Slab Held) (id : ℕ) (p : SlabPlace) (ps : List SlabPlace) → Distinct place_key ps
+    → at place_id id ps ≡ Some p → Updates s t p.key None
     → entries_of t (without place_id id ps) ≡ closed id (entries_of s ps)
 close_entries s t id p ps d h u =
-    same_entries s t p.key (without place_id id ps) u.others (gone_other place_id place_key id p ps d h) ∙ map-without (entry_at s) association_id id ps
+    same_entries s t p.key (without place_id id ps) u.others (gone_other place_id place_key id p ps d h)
+    ∙ map-without (entry_at s) association_id id ps
 
 pub seats_with : (bench : Association → ℕ) (id : ℕ) (a : Association) (es : List Association) → Every IsId es → found id es ≡ Some a
     → seats_of bench es ≡ add seat_rank (seat_of bench a) (seats_of bench (closed id es))
 seats_with bench id a es k f =
-    ap (map (seat_of bench)) (ordered_left association_id (seating bench) IsId (apart bench) id a es k f) ∙ map-add (seat_of bench) seat_rank a (ordered (seating bench) (closed id es))
+    ap (map (seat_of bench)) (ordered_left association_id (seating bench) IsId (apart bench) id a es k f)
+    ∙ map-add (seat_of bench) seat_rank a (ordered (seating bench) (closed id es))
 
 pub seat_there : (bench : Association → ℕ) (id : ℕ) (a : Association) (es : List Association) → Every IsId es → found id es ≡ Some a
     → at seat_rank (seat_rank (seat_of bench a)) (seats_of bench es) ≡ Some (seat_of bench a)
 seat_there bench id a es k f =
-    ap (at seat_rank (seat_rank (seat_of bench a))) (seats_with bench id a es k f) ∙ at_added seat_rank (seat_of bench a) (seats_of bench (closed id es))
+    ap (at seat_rank (seat_rank (seat_of bench a))) (seats_with bench id a es k f)
+    ∙ at_added seat_rank (seat_of bench a) (seats_of bench (closed id es))
 
 seats_closed : (bench : Association → ℕ) (id : ℕ) (a : Association) (es : List Association) → Every IsId es → found id es ≡ Some a
     → without seat_rank (seat_rank (seat_of bench a)) (seats_of bench es) ≡ seats_of bench (closed id es)
@@ -135,7 +159,8 @@ seats_closed bench id a es k f =
     ap (without seat_rank (seat_rank (seat_of bench a))) (seats_with bench id a es k f)
     ∙ without-add seat_rank (seat_rank (seat_of bench a)) (seat_of bench a) (seats_of bench (closed id es)) refl
 
-pub close_kept : (s t : Slab Held) (id : ℕ) (a : Association) (p : SlabPlace) (ps : List SlabPlace) (seats chairs : List Seat) → IsTable s ps seats chairs → found id (entries_of s ps) ≡ Some a → at place_id id ps ≡ Some p
+pub close_kept : (s t : Slab Held) (id : ℕ) (a : Association) (p : SlabPlace) (ps : List SlabPlace) (seats chairs : List Seat)
+    → IsTable s ps seats chairs → found id (entries_of s ps) ≡ Some a → at place_id id ps ≡ Some p
     → Updates s t p.key None → IsTable t (without place_id id ps) (without seat_rank (seat_rank (seat_of station_bench a)) seats) (without seat_rank (seat_rank (seat_of number_bench a)) chairs)
 close_kept s t id a p ps seats chairs k f h u =
     let es = entries_of s ps in
@@ -151,45 +176,56 @@ close_kept s t id a p ps seats chairs k f h u =
     }
 
 -- the same slab and lists
-pub same_kept : (s t : Slab Held) (ps qs : List SlabPlace) (seats stools chairs benches : List Seat) → IsTable s ps seats chairs → t ≡ s → qs ≡ ps → stools ≡ seats → benches ≡ chairs → IsTable t qs stools benches
+pub same_kept : (s t : Slab Held) (ps qs : List SlabPlace) (seats stools chairs benches : List Seat) → IsTable s ps seats chairs
+    → t ≡ s → qs ≡ ps → stools ≡ seats → benches ≡ chairs → IsTable t qs stools benches
 same_kept s t ps qs seats stools chairs benches k e f g h =
     subst (λ x. IsTable x qs stools benches) (sym e) (subst (λ x. IsTable s x stools benches) (sym f) (subst (λ x. IsTable s ps x benches) (sym g) (subst (λ x. IsTable s ps seats x) (sym h) k)))
 
 -- more room
-pub kept_room : (s t : Slab Held) (ps qs : List SlabPlace) (seats stools chairs benches : List Seat) → IsTable s ps seats chairs → t ≡ record s { capacity = t.capacity } → qs ≡ ps → stools ≡ seats → benches ≡ chairs → IsTable t qs stools benches
+pub kept_room : (s t : Slab Held) (ps qs : List SlabPlace) (seats stools chairs benches : List Seat) → IsTable s ps seats chairs
+    → t ≡ record s { capacity = t.capacity } → qs ≡ ps → stools ≡ seats → benches ≡ chairs → IsTable t qs stools benches
 kept_room s t ps qs seats stools chairs benches k e f g h =
-    let there : IsTable (record s { capacity = t.capacity }) ps seats chairs = record { rising = k.rising; keys = k.keys; held = k.held; ids = k.ids; seats = k.seats; numbers = k.numbers } in
+    let there : IsTable (record s { capacity = t.capacity }) ps seats chairs =
+    record { rising = k.rising; keys = k.keys; held = k.held; ids = k.ids; seats = k.seats; numbers = k.numbers } in
     same_kept (record s { capacity = t.capacity }) t ps qs seats stools chairs benches there e f g h
 
 pub when_ok : {X E Y : Type 0} (r : Result X E) (a b : Y) → IsOk r → (if is_ok r then a else b) ≡ a
 when_ok (Ok x) a b h = refl
 when_ok (Err e) a b h = absurd (cc)
 
-pub closed_gone : (s : Slab Held) (id : ℕ) (ps : List SlabPlace) → Rising place_id ps → found id (closed id (entries_of s ps)) ≡ None
-closed_gone s id ps h = let w = at-without association_id id id (entries_of s ps) (rising_entries s ps h) in grind (arith, nat_tests)
+pub closed_gone : (s : Slab Held) (id : ℕ) (ps : List SlabPlace) → Rising place_id ps
+    → found id (closed id (entries_of s ps)) ≡ None
+closed_gone s id ps h =
+    let w = at-without association_id id id (entries_of s ps) (rising_entries s ps h) in grind (arith, nat_tests)
 
 -- a copy of the slab and the lists
-same_slot_by : (is_clone : Held → Held → Type 0) → ((x y : Held) → is_clone x y → y ≡ x) → (x : Held) (copy : Option Held) → IsSomeAnd copy (is_clone x) → copy ≡ Some x
+same_slot_by : (is_clone : Held → Held → Type 0) → ((x y : Held) → is_clone x y → y ≡ x) → (x : Held) (copy : Option Held)
+    → IsSomeAnd copy (is_clone x) → copy ≡ Some x
 same_slot_by is_clone same x None h = absurd h
 same_slot_by is_clone same x (Some y) h = ap (λ (z : Held). Some z) (same x y h)
 
-pub same_slot : (is_clone : Held → Held → Type 0) → ((x y : Held) → is_clone x y → y ≡ x) → (slot copy : Option Held) → IsSlotClone is_clone slot copy → copy ≡ slot
+pub same_slot : (is_clone : Held → Held → Type 0) → ((x y : Held) → is_clone x y → y ≡ x) → (slot copy : Option Held)
+    → IsSlotClone is_clone slot copy → copy ≡ slot
 same_slot is_clone same None copy h = h
 same_slot is_clone same (Some x) copy h = same_slot_by is_clone same x copy h
 
-copied_held : (s t : Slab Held) (ps : List SlabPlace) → t.slots ≡ s.slots → Every (λ p. IsSome (get s p.key)) ps → Every (λ p. IsSome (get t p.key)) ps
+copied_held : (s t : Slab Held) (ps : List SlabPlace) → t.slots ≡ s.slots → Every (λ p. IsSome (get s p.key)) ps
+    → Every (λ p. IsSome (get t p.key)) ps
 copied_held s t [] e h = tt
-copied_held s t (p ∷ ps) e h = (subst (λ (xs : List (Option Held)). IsSome (slice_index_or xs p.key None)) (sym e) h.0, copied_held s t ps e h.1)
+copied_held s t (p ∷ ps) e h =
+    (subst (λ (xs : List (Option Held)). IsSome (slice_index_or xs p.key None)) (sym e) h.0, copied_held s t ps e h.1)
 
 copied_map : (s t : Slab Held) (ps : List SlabPlace) → t.slots ≡ s.slots → entries_of t ps ≡ entries_of s ps
 copied_map s t [] e = refl
 copied_map s t (p ∷ ps) e =
-    ap (λ (xs : List (Option Held)). with_id p.id (or_blank (slice_index_or xs p.key None)) ∷ entries_of t ps) e ∙ ap (λ es. entry_at s p ∷ es) (copied_map s t ps e)
+    ap (λ (xs : List (Option Held)). with_id p.id (or_blank (slice_index_or xs p.key None)) ∷ entries_of t ps) e
+    ∙ ap (λ es. entry_at s p ∷ es) (copied_map s t ps e)
 
 pub copied_entries : (s t : Slab Held) (ps qs : List SlabPlace) → t.slots ≡ s.slots → qs ≡ ps → entries_of t qs ≡ entries_of s ps
 copied_entries s t ps qs e f = ap (entries_of t) f ∙ copied_map s t ps e
 
-pub copied_kept : (s t : Slab Held) (ps qs : List SlabPlace) (seats stools chairs benches : List Seat) → IsTable s ps seats chairs → t.slots ≡ s.slots → qs ≡ ps → stools ≡ seats → benches ≡ chairs → IsTable t qs stools benches
+pub copied_kept : (s t : Slab Held) (ps qs : List SlabPlace) (seats stools chairs benches : List Seat) → IsTable s ps seats chairs
+    → t.slots ≡ s.slots → qs ≡ ps → stools ≡ seats → benches ≡ chairs → IsTable t qs stools benches
 copied_kept s t ps qs seats stools chairs benches k e f g h =
     let es = copied_map s t ps e in
     let there : IsTable t ps seats chairs = record {

@@ -17,7 +17,8 @@ is_numbered e n a = a.station == e && a.enb_ue_id == n
 -- the first of them whose id is at least the number
 abbrev pub first_numbered : ℕ → ℕ → ℕ → List Association → Option Association
 first_numbered e n m [] = None
-first_numbered e n m (a ∷ es) = if is_numbered e n a then (if nat_le m a.id then Some a else first_numbered e n m es) else first_numbered e n m es
+first_numbered e n m (a ∷ es) =
+    if is_numbered e n a then (if nat_le m a.id then Some a else first_numbered e n m es) else first_numbered e n m es
 
 -- with the association, if it isn't there
 abbrev pub put_once : Association → List Association → List Association
@@ -29,7 +30,8 @@ Gathers test es old new = (before : Association → Bool) → old ≡ filter bef
 
 -- where those that items mean were gathered, those that a next item means are now, too
 abbrev pub GathersNext : ℕ → List Listed → Listed → List Association → List Association → List Association → Type 0
-GathersNext e items item es old new = old ≡ filter (is_listed e items) es → new ≡ filter (λ a. is_listed e items a || is_matched e item a) es
+GathersNext e items item es old new =
+    old ≡ filter (is_listed e items) es → new ≡ filter (λ a. is_listed e items a || is_matched e item a) es
 
 -- an item that gives this eNB UE id alone
 abbrev pub gives_alone : ℕ → Listed → Bool

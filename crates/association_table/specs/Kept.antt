@@ -72,4 +72,5 @@ first_seat b n (s ∷ ss) = if s.bench == b then (if nat_le n s.id then Some s.i
 -- the first entry of a bench whose id is at least the number
 abbrev pub first_from : (Association → ℕ) → ℕ → ℕ → List Association → Option Association
 first_from bench b n [] = None
-first_from bench b n (a ∷ es) = if bench a == b then (if nat_le n a.id then Some a else first_from bench b n es) else first_from bench b n es
+first_from bench b n (a ∷ es) =
+    if bench a == b then (if nat_le n a.id then Some a else first_from bench b n es) else first_from bench b n es

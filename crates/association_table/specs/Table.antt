@@ -23,7 +23,8 @@ closed id es = without association_id id es
 abbrev pub moved : ℕ → ℕ → ℕ → List Association → List Association
 moved id station enb_ue_id [] = []
 moved id station enb_ue_id (a ∷ es) =
-    if a.id == id then record { id = id; owner = a.owner; station = station; enb_ue_id = enb_ue_id } ∷ es else a ∷ moved id station enb_ue_id es
+    if a.id == id then record { id = id; owner = a.owner; station = station; enb_ue_id = enb_ue_id } ∷ es
+    else a ∷ moved id station enb_ue_id es
 
 -- the entries of a station, and the others
 abbrev pub at_station : ℕ → List Association → List Association

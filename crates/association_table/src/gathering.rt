@@ -49,7 +49,9 @@ fn gather_id(
     enb_ue_id: Option<u32>,
     gathered: &mut SortedList<Association>,
 ) -> Result<(), AllocError>
-    ensures { OnOk result (Gathers (is_matched station (record { id = Some id; enb_ue_id = enb_ue_id })) associations.now.entries gathered.old.items gathered.new.items) }
+    ensures { OnOk result
+        (Gathers (is_matched station
+        (record { id = Some id; enb_ue_id = enb_ue_id })) associations.now.entries gathered.old.items gathered.new.items) }
 {
     let Some(association) = associations.find(id) else {
         return Ok(());
@@ -99,7 +101,9 @@ fn gather_unnamed(
     enb_ue_id: u32,
     gathered: &mut SortedList<Association>,
 ) -> Result<(), AllocError>
-    ensures { OnOk result (GathersNext station before.now (record { id = None; enb_ue_id = Some enb_ue_id }) associations.now.entries gathered.old.items gathered.new.items) }
+    ensures { OnOk result
+        (GathersNext station before.now
+        (record { id = None; enb_ue_id = Some enb_ue_id }) associations.now.entries gathered.old.items gathered.new.items) }
 {
     if is_given_alone(enb_ue_id, before) {
         return Ok(());

@@ -45,9 +45,14 @@ impl Model for Associations {
 
     ghost use Rattle.association_table.specs.Kept.{entries_of, IsTable};
 
-    ghost view = { λ t. record { entries = entries_of t.slab t.by_id.items; room = min (t.slab.capacity - slab_len t.slab) (min t.by_id.room (min t.by_station.room t.by_number.room)) } };
+    ghost view = { λ t. record {
+      entries = entries_of t.slab t.by_id.items;
+      room = min (t.slab.capacity - slab_len t.slab)
+          (min t.by_id.room (min t.by_station.room t.by_number.room));
+    } };
 
-    ghost invariant = { λ t. IsTable t.slab t.by_id.items t.by_station.items t.by_number.items × (t.by_id.steady ≡ true) × (t.by_station.steady ≡ true) × (t.by_number.steady ≡ true) };
+    ghost invariant = { λ t. IsTable t.slab t.by_id.items t.by_station.items t.by_number.items × (t.by_id.steady ≡ true)
+        × (t.by_station.steady ≡ true) × (t.by_number.steady ≡ true) };
 }
 
 impl Associations {

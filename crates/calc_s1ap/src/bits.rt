@@ -10,7 +10,7 @@ ghost use Rattle.std.specs.Prelude.{◌<◌, ◌≤◌, ◌^◌};
 use crate::shown::Shown;
 use crate::step::Step;
 use crate::stop::{Stop, answered};
-use calc_text::{Answer, Call, Fault, Text};
+use calc_text::{Call, CallAnswer, Fault, Text};
 use per_bits::{
     BitField, BitReader, BitWriter, Element, PerError, PerFault, put_choice, put_length,
     put_optional, read_open, read_optional, skip_additions, skip_extensions, take_choice,
@@ -19,7 +19,7 @@ use per_bits::{
 use s1ap_elements::{BitRate, MmeUeId};
 
 /// `take OCTETS STEP..`: what each step reads, or the first fault.
-pub fn taken(call: Call) -> Answer {
+pub fn taken(call: Call) -> CallAnswer {
     let (octets, steps): (Vec<u8>, Call) = call.first()?;
     answered(call, take_each(steps, &octets))
 }
@@ -99,7 +99,7 @@ where
 }
 
 /// `put STEP..`: the octets that the steps write, or the first fault.
-pub fn put(call: Call) -> Answer {
+pub fn put(call: Call) -> CallAnswer {
     answered(call, written(call))
 }
 

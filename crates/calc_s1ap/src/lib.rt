@@ -10,10 +10,10 @@ mod step;
 mod stop;
 mod values;
 
-use calc_text::{Answer, Call};
+use calc_text::{Call, CallAnswer};
 
 /// The answer of a call of PER or of S1AP.
-pub fn answer(call: Call) -> Answer {
+pub fn answer(call: Call) -> CallAnswer {
     match call.word {
         "decode" => values::decoded(call),
         "encode" => values::encoded(call),

@@ -1,7 +1,7 @@
 //! Calls of `s1ap_pdus`: a message read, shown and written again, also with one bit turned.
 
 use crate::messages::message_text;
-use calc_text::{Answer, Call, Codec, Fault, Text, turned_answer};
+use calc_text::{Call, CallAnswer, Codec, Fault, Text, turned_answer};
 use s1ap_messages::{EncodeFault, S1apFault, decode, encode};
 use std::alloc::{AllocError, Global};
 
@@ -28,7 +28,7 @@ fn rewritten(alloc: Global, octets: &[u8]) -> Result<Result<Vec<u8>, EncodeFault
 }
 
 /// The answer of a call of this module.
-pub fn answer(call: Call) -> Answer {
+pub fn answer(call: Call) -> CallAnswer {
     match call.word {
         "s1ap" | "s1ap_again" | "s1ap_turned" => {
             let octets: Vec<u8> = call.one()?;
@@ -38,7 +38,7 @@ pub fn answer(call: Call) -> Answer {
     }
 }
 
-fn octets_answer(call: Call, octets: &[u8]) -> Answer {
+fn octets_answer(call: Call, octets: &[u8]) -> CallAnswer {
     match call.word {
         "s1ap" => shown_answer(call, octets),
         "s1ap_again" => again_answer(call, call.text(""), "", octets),
@@ -47,7 +47,7 @@ fn octets_answer(call: Call, octets: &[u8]) -> Answer {
 }
 
 /// `s1ap OCTETS`: a message with its fields, and how it is written again.
-fn shown_answer(call: Call, octets: &[u8]) -> Answer {
+fn shown_answer(call: Call, octets: &[u8]) -> CallAnswer {
     match decode(call.alloc, octets) {
         Ok(message) => {
             let text = message_text(call, &message).word("; ");
@@ -58,7 +58,7 @@ fn shown_answer(call: Call, octets: &[u8]) -> Answer {
 }
 
 /// `s1ap_again OCTETS`: a text and what is written of a message: `same` where as it was read.
-fn again_answer(call: Call, text: Text, before: &str, octets: &[u8]) -> Answer {
+fn again_answer(call: Call, text: Text, before: &str, octets: &[u8]) -> CallAnswer {
     match rewritten(call.alloc, octets) {
         Ok(Ok(written)) => Ok(text.again(before, octets, &written)),
         Ok(Err(EncodeFault::NotWritable)) => Ok(text.word("not writable")),

@@ -1,6 +1,6 @@
 //! Why a call of PER ends before its end.
 
-use calc_text::{Answer, Call, Fault, Text};
+use calc_text::{Call, CallAnswer, Fault, Text};
 use per_bits::{PerError, PerFault};
 use std::alloc::AllocError;
 
@@ -41,7 +41,7 @@ impl From<PerError> for Stop {
 }
 
 /// A text, or the fault that a call answered in its place.
-pub fn answered(call: Call, outcome: Result<Text, Stop>) -> Answer {
+pub fn answered(call: Call, outcome: Result<Text, Stop>) -> CallAnswer {
     match outcome {
         Ok(text) => Ok(text),
         Err(Stop::Per(fault)) => call.fault_answer(&fault),

@@ -2,7 +2,7 @@
 
 use crate::shown::Shown;
 use crate::stop::{Stop, answered};
-use calc_text::{Answer, Call, Fault, Text};
+use calc_text::{Call, CallAnswer, Fault, Text};
 use per_bits::{
     BitString, Closed, Element, Enumerated, Items, Listed, OctetString, Octets, PerError,
     SizedString, Whole, read_complete, write_complete,
@@ -11,7 +11,7 @@ use s1ap_elements::{Ambr, BitRate};
 use std::alloc::AllocError;
 
 /// `decode NAME OCTETS`: the value of a complete encoding, and how it is written again.
-pub fn decoded(call: Call) -> Answer {
+pub fn decoded(call: Call) -> CallAnswer {
     let (name, octets): (&str, Vec<u8>) = call.two()?;
     answered(call, read_named(call, name, &octets))
 }
@@ -44,7 +44,7 @@ fn read<'a, T: Element<'a> + Shown>(call: Call, octets: &'a [u8]) -> Result<Text
 }
 
 /// `encode NAME NUMBER`: a number, or a named value by its number, where it is in the range.
-pub fn encoded(call: Call) -> Answer {
+pub fn encoded(call: Call) -> CallAnswer {
     let (name, value) = call.two()?;
     match name {
         "0..15" => number_answer::<0, 15>(call, value),
@@ -58,14 +58,14 @@ pub fn encoded(call: Call) -> Answer {
     }
 }
 
-fn number_answer<const LO: u64, const HI: u64>(call: Call, value: u64) -> Answer {
+fn number_answer<const LO: u64, const HI: u64>(call: Call, value: u64) -> CallAnswer {
     match Whole::<LO, HI>::try_new(value) {
         Some(number) => written_answer(call, &number),
         None => call.word_answer("none"),
     }
 }
 
-fn written_answer<'a, T: Element<'a>>(call: Call, value: &T) -> Answer {
+fn written_answer<'a, T: Element<'a>>(call: Call, value: &T) -> CallAnswer {
     match write_complete::<T>(call.alloc, value) {
         Ok(written) => call.octets_answer(&written),
         Err(PerError::Fault(fault)) => call.fault_answer(&fault),
@@ -74,7 +74,7 @@ fn written_answer<'a, T: Element<'a>>(call: Call, value: &T) -> Answer {
 }
 
 /// `ambr DOWN UP`: the bit rates of a phone, both together (TS 36.413 clause 9.2.1.20).
-pub fn ambr(call: Call) -> Answer {
+pub fn ambr(call: Call) -> CallAnswer {
     let (down, up) = call.two()?;
     match (BitRate::try_new(down), BitRate::try_new(up)) {
         (Some(down), Some(up)) => written_answer(call, &Ambr { down, up }),
@@ -83,7 +83,7 @@ pub fn ambr(call: Call) -> Answer {
 }
 
 /// `can_be NAME OCTETS`: whether a value is made of the octets, an address or a list of at most 6 codes.
-pub fn can_be(call: Call) -> Answer {
+pub fn can_be(call: Call) -> CallAnswer {
     let (name, octets): (&str, Vec<u8>) = call.two()?;
     match name {
         "address" => call.yes_answer(BitString::<1, 160>::try_new(&octets).is_some()),
@@ -92,7 +92,7 @@ pub fn can_be(call: Call) -> Answer {
     }
 }
 
-fn codes_answer(call: Call, octets: &[u8]) -> Answer {
+fn codes_answer(call: Call, octets: &[u8]) -> CallAnswer {
     let mut codes = Vec::new(call.alloc);
     for octet in octets {
         codes.push(Octets::new([*octet]))?;

@@ -3,7 +3,7 @@
 ghost use Rattle.std.specs.Prelude.{◌<◌, ◌≤◌};
 
 use association_table::{Association, AssociationOwner, Associations, Listed};
-use calc_text::{Answer, Call, Fault, Field, Text};
+use calc_text::{Call, CallAnswer, Fault, Field, Text};
 use std::alloc::{AllocError, Global};
 
 /// The associations, and those that `copy` kept: `back` exchanges them.
@@ -23,7 +23,7 @@ impl AssociationDesk {
     }
 
     /// The answer of a call behind the word `associations`.
-    pub fn answer(&mut self, call: Call) -> Answer {
+    pub fn answer(&mut self, call: Call) -> CallAnswer {
         match call.word {
             "open" => self.open(call),
             "open_reserved" => self.open_reserved(call),
@@ -36,7 +36,7 @@ impl AssociationDesk {
     }
 
     /// The answer of a call of one association.
-    fn id_answer(&mut self, call: Call) -> Answer {
+    fn id_answer(&mut self, call: Call) -> CallAnswer {
         let id = call.one()?;
         if call.word == "close" {
             return call.yes_answer(self.associations.close(id));
@@ -47,7 +47,7 @@ impl AssociationDesk {
         }
     }
 
-    fn moved(&mut self, call: Call) -> Answer {
+    fn moved(&mut self, call: Call) -> CallAnswer {
         let (id, station, enb_ue_id) = call.three()?;
         match self.associations.move_to(id, station, enb_ue_id) {
             Ok(()) => call.word_answer("moved"),
@@ -56,7 +56,7 @@ impl AssociationDesk {
     }
 
     /// The answer of a call over all associations of a station.
-    fn station_answer(&mut self, call: Call) -> Answer {
+    fn station_answer(&mut self, call: Call) -> CallAnswer {
         let station = call.one()?;
         match call.word {
             "at" => associations_answer(call, self.associations.entries_at(station)),
@@ -71,7 +71,7 @@ impl AssociationDesk {
     }
 
     /// Closes what the items behind a station mean.
-    fn close_listed(&mut self, call: Call) -> Answer {
+    fn close_listed(&mut self, call: Call) -> CallAnswer {
         let (station, others) = call.first()?;
         let mut items = Vec::new(call.alloc);
         for text in others.fields {
@@ -85,7 +85,7 @@ impl AssociationDesk {
     }
 
     /// The answer of a call that has no field.
-    fn plain_answer(&mut self, call: Call) -> Answer {
+    fn plain_answer(&mut self, call: Call) -> CallAnswer {
         call.none()?;
         match call.word {
             "new" => {
@@ -101,13 +101,13 @@ impl AssociationDesk {
         }
     }
 
-    fn copy(&mut self, call: Call) -> Answer {
+    fn copy(&mut self, call: Call) -> CallAnswer {
         let copy = self.associations.copy()?;
         self.kept = std::mem::replace(&mut self.associations, copy);
         call.word_answer("copied")
     }
 
-    fn open(&mut self, call: Call) -> Answer {
+    fn open(&mut self, call: Call) -> CallAnswer {
         match self.associations.open(association_of(call)?) {
             Ok(()) => call.word_answer("opened"),
             Err(fault) => call.fault_answer(&fault),
@@ -115,7 +115,7 @@ impl AssociationDesk {
     }
 
     /// Opens an association whose id is free in room for it.
-    fn open_reserved(&mut self, call: Call) -> Answer {
+    fn open_reserved(&mut self, call: Call) -> CallAnswer {
         let association = association_of(call)?;
         self.associations.reserve(1)?;
         if self.associations.find(association.id).is_some() {
@@ -127,7 +127,7 @@ impl AssociationDesk {
 }
 
 /// Associations in their order, `none` where there is none, unless memory for them was refused.
-fn associations_answer(call: Call, found: Result<Vec<Association>, AllocError>) -> Answer {
+fn associations_answer(call: Call, found: Result<Vec<Association>, AllocError>) -> CallAnswer {
     let associations = found?;
     if associations.is_empty() {
         return call.word_answer("none");

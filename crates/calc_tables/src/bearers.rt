@@ -2,12 +2,12 @@
 
 ghost use Rattle.std.specs.Prelude.{◌<◌, ◌≤◌};
 
-use calc_text::{Answer, Call, Fault};
+use calc_text::{Call, CallAnswer, Fault};
 use esm_machine::{Bearer, Reaction, Requested};
 use std::alloc::AllocError;
 
 /// The answer of a call behind the word `bearer`.
-pub fn bearer_answer(bearer: &mut Bearer, call: Call) -> Answer {
+pub fn bearer_answer(bearer: &mut Bearer, call: Call) -> CallAnswer {
     match call.word {
         "request" | "accept" | "message" | "awaited" => octets_answer(bearer, call),
         "is_of_request" | "disconnect" => transaction_answer(bearer, call),
@@ -17,7 +17,7 @@ pub fn bearer_answer(bearer: &mut Bearer, call: Call) -> Answer {
 }
 
 /// The answer of a call that has no field.
-fn plain_answer(bearer: &mut Bearer, call: Call) -> Answer {
+fn plain_answer(bearer: &mut Bearer, call: Call) -> CallAnswer {
     call.none()?;
     match call.word {
         "new" => {
@@ -32,7 +32,7 @@ fn plain_answer(bearer: &mut Bearer, call: Call) -> Answer {
 }
 
 /// The answer of a call whose field is a message.
-fn octets_answer(bearer: &mut Bearer, call: Call) -> Answer {
+fn octets_answer(bearer: &mut Bearer, call: Call) -> CallAnswer {
     let octets: Vec<u8> = call.one()?;
     match call.word {
         "request" => requested(bearer, call, &octets),
@@ -42,7 +42,7 @@ fn octets_answer(bearer: &mut Bearer, call: Call) -> Answer {
 }
 
 /// The answer of a call whose field is the number of a transaction.
-fn transaction_answer(bearer: &mut Bearer, call: Call) -> Answer {
+fn transaction_answer(bearer: &mut Bearer, call: Call) -> CallAnswer {
     let transaction = call.one()?;
     match call.word {
         "disconnect" => made_answer(call, bearer.on_disconnect(call.alloc, transaction)),
@@ -50,7 +50,7 @@ fn transaction_answer(bearer: &mut Bearer, call: Call) -> Answer {
     }
 }
 
-fn requested(bearer: &mut Bearer, call: Call, esm: &[u8]) -> Answer {
+fn requested(bearer: &mut Bearer, call: Call, esm: &[u8]) -> CallAnswer {
     match bearer.on_request(call.alloc, esm) {
         Ok(Requested::Unreadable) => call.word_answer("unreadable"),
         Ok(Requested::Refused(octets)) => Ok(call.text("refused ").octets("", &octets)),
@@ -59,7 +59,7 @@ fn requested(bearer: &mut Bearer, call: Call, esm: &[u8]) -> Answer {
     }
 }
 
-fn activated(bearer: &mut Bearer, call: Call) -> Answer {
+fn activated(bearer: &mut Bearer, call: Call) -> CallAnswer {
     let (apn, address): (&str, _) = call.two()?;
     let apn = apn.as_bytes();
     if apn.is_empty() || apn.len() > 63 {
@@ -68,7 +68,7 @@ fn activated(bearer: &mut Bearer, call: Call) -> Answer {
     made_answer(call, bearer.activate(call.alloc, apn, address))
 }
 
-fn reaction_answer(bearer: &Bearer, call: Call, octets: &[u8], waiting: bool) -> Answer {
+fn reaction_answer(bearer: &Bearer, call: Call, octets: &[u8], waiting: bool) -> CallAnswer {
     match bearer.on_message(call.alloc, octets, waiting) {
         Ok(Reaction::Nothing) => call.word_answer("nothing"),
         Ok(Reaction::Informed) => call.word_answer("informed"),
@@ -78,7 +78,7 @@ fn reaction_answer(bearer: &Bearer, call: Call, octets: &[u8], waiting: bool) ->
 }
 
 /// The octets that were made, unless memory for them was refused.
-fn made_answer(call: Call, made: Result<Vec<u8>, AllocError>) -> Answer {
+fn made_answer(call: Call, made: Result<Vec<u8>, AllocError>) -> CallAnswer {
     match made {
         Ok(octets) => call.octets_answer(&octets),
         Err(error) => Err(Fault::NoMemory(error)),

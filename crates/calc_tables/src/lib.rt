@@ -10,7 +10,7 @@ mod timers;
 
 use associations::AssociationDesk;
 use bearers::bearer_answer;
-use calc_text::{Answer, Call};
+use calc_text::{Call, CallAnswer};
 use contexts::{context_answer, context_of};
 use esm_machine::Bearer;
 use identity_slots::Provision;
@@ -41,7 +41,7 @@ impl Desk {
     }
 
     /// The answer of a call on an object, which is its word, the call's word and the fields, or of a call of ids.
-    pub fn answer(&mut self, call: Call) -> Answer {
+    pub fn answer(&mut self, call: Call) -> CallAnswer {
         match call.word {
             "timers" => self.timers.answer(call.inner()),
             "associations" => self.associations.answer(call.inner()),

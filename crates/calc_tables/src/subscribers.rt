@@ -2,7 +2,7 @@
 
 ghost use Rattle.std.specs.Prelude.{◌<◌, ◌^◌};
 
-use calc_text::{Answer, Call, Fault, Field};
+use calc_text::{Call, CallAnswer, Fault, Field};
 use identity_slots::{AssociationId, COUNTERS, Profile, Provision, Slot, Tmsi, Vector, Xres};
 use nas_elements::Imsi;
 use std::alloc::Global;
@@ -34,7 +34,7 @@ impl<'a> Field<'a> for Digits {
 }
 
 /// The answer of a call of ids.
-pub fn id_answer(call: Call) -> Answer {
+pub fn id_answer(call: Call) -> CallAnswer {
     match call.word {
         "slot" => call.yes_answer(Slot::try_new(call.one()?).is_some()),
         "association_id" | "tmsi" => counted_answer(call),
@@ -48,7 +48,7 @@ pub fn id_answer(call: Call) -> Answer {
 }
 
 /// The next association id or TMSI of a slot, behind a counter.
-fn counted_answer(call: Call) -> Answer {
+fn counted_answer(call: Call) -> CallAnswer {
     let (SlotWord(slot), counter) = call.two()?;
     if counter >= COUNTERS {
         return Err(Fault::Number);
@@ -62,7 +62,7 @@ fn counted_answer(call: Call) -> Answer {
     Ok(call.text("").with("", &id.get()).with(" counter ", &next))
 }
 
-fn stranger_answer(call: Call) -> Answer {
+fn stranger_answer(call: Call) -> CallAnswer {
     let (station, enb_ue_id) = call.two()?;
     if station > 127 || enb_ue_id > 0xff_ffff {
         return Err(Fault::Number);
@@ -71,7 +71,7 @@ fn stranger_answer(call: Call) -> Answer {
 }
 
 /// The answer of a call behind the word `provision`.
-pub fn answer(provision: &mut Provision, call: Call) -> Answer {
+pub fn answer(provision: &mut Provision, call: Call) -> CallAnswer {
     match call.word {
         "add" => added(provision, call),
         "give" => given(provision, call),
@@ -83,7 +83,7 @@ pub fn answer(provision: &mut Provision, call: Call) -> Answer {
 }
 
 /// The answer of a call that has no field.
-fn plain_answer(provision: &mut Provision, call: Call) -> Answer {
+fn plain_answer(provision: &mut Provision, call: Call) -> CallAnswer {
     call.none()?;
     match call.word {
         "new" => {
@@ -95,7 +95,7 @@ fn plain_answer(provision: &mut Provision, call: Call) -> Answer {
     }
 }
 
-fn added(provision: &mut Provision, call: Call) -> Answer {
+fn added(provision: &mut Provision, call: Call) -> CallAnswer {
     let (Digits(imsi), address, gateway, teid) = call.four()?;
     let profile = Profile {
         imsi,
@@ -110,7 +110,7 @@ fn added(provision: &mut Provision, call: Call) -> Answer {
 }
 
 /// The slot of who has an IMSI, a TMSI or an association.
-fn slot_of(provision: &Provision, call: Call) -> Answer {
+fn slot_of(provision: &Provision, call: Call) -> CallAnswer {
     let slot = match call.word {
         "slot_of_imsi" => {
             let Digits(imsi) = call.one()?;
@@ -125,7 +125,7 @@ fn slot_of(provision: &Provision, call: Call) -> Answer {
     }
 }
 
-fn given(provision: &mut Provision, call: Call) -> Answer {
+fn given(provision: &mut Provision, call: Call) -> CallAnswer {
     let (slot, vector) = slot_and_vector(call)?;
     if slot.get() as usize >= provision.len() {
         return Err(Fault::Order);
@@ -155,7 +155,7 @@ fn slot_and_vector(call: Call) -> Result<(Slot, Vector), Fault> {
     Ok((slot, vector))
 }
 
-fn profile_answer(provision: &Provision, call: Call) -> Answer {
+fn profile_answer(provision: &Provision, call: Call) -> CallAnswer {
     let SlotWord(slot) = call.one()?;
     if slot.get() as usize >= provision.len() {
         return Err(Fault::Order);
@@ -172,7 +172,7 @@ fn profile_answer(provision: &Provision, call: Call) -> Answer {
     )
 }
 
-fn vector_answer(provision: &Provision, call: Call) -> Answer {
+fn vector_answer(provision: &Provision, call: Call) -> CallAnswer {
     let (SlotWord(slot), place): (_, u8) = call.two()?;
     if slot.get() as usize >= provision.len() {
         return Err(Fault::Order);

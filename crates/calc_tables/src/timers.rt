@@ -2,7 +2,7 @@
 
 ghost use Rattle.std.specs.Prelude.{◌<◌, ◌≤◌, ◌^◌};
 
-use calc_text::{Answer, Call, Fault, Field, Text};
+use calc_text::{Call, CallAnswer, Fault, Field, Text};
 use std::alloc::Global;
 use timer_queue::{Kind, Timer, TimerOwner, Timers};
 
@@ -26,7 +26,7 @@ impl TimerDesk {
     }
 
     /// The answer of a call behind the word `timers`.
-    pub fn answer(&mut self, call: Call) -> Answer {
+    pub fn answer(&mut self, call: Call) -> CallAnswer {
         match call.word {
             "new" => self.renew(call),
             "start" | "start_reserved" => self.start(call),
@@ -36,7 +36,7 @@ impl TimerDesk {
     }
 
     /// The answer of a call that has no field.
-    fn plain_answer(&mut self, call: Call) -> Answer {
+    fn plain_answer(&mut self, call: Call) -> CallAnswer {
         call.none()?;
         match call.word {
             "clock" => call.value_answer("", &self.timers.clock()),
@@ -53,7 +53,7 @@ impl TimerDesk {
     }
 
     /// The answer of a call of one timer.
-    fn timer_answer(&mut self, call: Call) -> Answer {
+    fn timer_answer(&mut self, call: Call) -> CallAnswer {
         let (OwnerWord(owner), KindWord(kind)) = call.two()?;
         if call.word == "left" {
             return self.left(call, owner, kind);
@@ -62,14 +62,14 @@ impl TimerDesk {
         call.word_answer("stopped")
     }
 
-    fn tick(&mut self, call: Call) -> Answer {
+    fn tick(&mut self, call: Call) -> CallAnswer {
         match self.timers.tick() {
             Ok(due) => timers_answer(call, &due),
             Err(fault) => call.fault_answer(&fault),
         }
     }
 
-    fn renew(&mut self, call: Call) -> Answer {
+    fn renew(&mut self, call: Call) -> CallAnswer {
         let clock = call.one()?;
         if clock > LAST_CLOCK {
             return Err(Fault::Number);
@@ -79,7 +79,7 @@ impl TimerDesk {
     }
 
     /// Starts a timer, also in room that was reserved for it.
-    fn start(&mut self, call: Call) -> Answer {
+    fn start(&mut self, call: Call) -> CallAnswer {
         let (OwnerWord(owner), KindWord(kind), ticks) = call.three()?;
         if ticks < 1 || ticks > 3480 {
             return Err(Fault::Number);
@@ -93,14 +93,14 @@ impl TimerDesk {
         self.left(call, owner, kind)
     }
 
-    fn left(&self, call: Call, owner: TimerOwner, kind: Kind) -> Answer {
+    fn left(&self, call: Call, owner: TimerOwner, kind: Kind) -> CallAnswer {
         match self.timers.left(owner, kind) {
             Some(ticks) => call.value_answer("", &ticks),
             None => call.word_answer("none"),
         }
     }
 
-    fn pass(&mut self, call: Call) -> Answer {
+    fn pass(&mut self, call: Call) -> CallAnswer {
         if self.timers.clock() >= LAST_CLOCK {
             return Err(Fault::Order);
         }
@@ -108,7 +108,7 @@ impl TimerDesk {
         call.value_answer("", &self.timers.clock())
     }
 
-    fn copy(&mut self, call: Call) -> Answer {
+    fn copy(&mut self, call: Call) -> CallAnswer {
         let copy = self.timers.copy()?;
         self.kept = std::mem::replace(&mut self.timers, copy);
         call.word_answer("copied")
@@ -116,7 +116,7 @@ impl TimerDesk {
 }
 
 /// Timers in their order, `none` where there is none.
-fn timers_answer(call: Call, timers: &[Timer]) -> Answer {
+fn timers_answer(call: Call, timers: &[Timer]) -> CallAnswer {
     if timers.is_empty() {
         return call.word_answer("none");
     }

@@ -2,7 +2,7 @@
 
 use crate::fault::Fault;
 use crate::field::Field;
-use crate::text::{Answer, Text};
+use crate::text::{CallAnswer, Text};
 use std::alloc::Global;
 use std::fmt;
 
@@ -92,27 +92,27 @@ impl<'a> Call<'a> {
     }
 
     /// An answer of one word.
-    pub fn word_answer(self, word: &str) -> Answer {
+    pub fn word_answer(self, word: &str) -> CallAnswer {
         Ok(self.text(word))
     }
 
     /// An answer of one value behind a text.
-    pub fn value_answer(self, before: &str, value: &impl fmt::Display) -> Answer {
+    pub fn value_answer(self, before: &str, value: &impl fmt::Display) -> CallAnswer {
         Ok(self.text(before).with("", value))
     }
 
     /// An answer of octets.
-    pub fn octets_answer(self, octets: &[u8]) -> Answer {
+    pub fn octets_answer(self, octets: &[u8]) -> CallAnswer {
         Ok(self.text("").octets("", octets))
     }
 
     /// `yes` or `no`.
-    pub fn yes_answer(self, yes: bool) -> Answer {
+    pub fn yes_answer(self, yes: bool) -> CallAnswer {
         self.word_answer(if yes { "yes" } else { "no" })
     }
 
     /// The name of a fault that a call answered.
-    pub fn fault_answer(self, fault: &impl fmt::Debug) -> Answer {
+    pub fn fault_answer(self, fault: &impl fmt::Debug) -> CallAnswer {
         Ok(self.text("fault ").named("", fault))
     }
 }

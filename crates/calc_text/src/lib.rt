@@ -11,5 +11,5 @@ mod turned;
 pub use call::Call;
 pub use fault::Fault;
 pub use field::Field;
-pub use text::{Answer, Text};
+pub use text::{CallAnswer, Text};
 pub use turned::{Codec, turned_answer};

@@ -11,7 +11,7 @@ pub struct Text {
 }
 
 /// What a call answers, or why it was not made.
-pub type Answer = Result<Text, Fault>;
+pub type CallAnswer = Result<Text, Fault>;
 
 /// Octets as hex, or `-` where there is none.
 #[derive(Clone, Copy)]

@@ -1,7 +1,7 @@
 //! Messages with one bit turned.
 
 use crate::call::Call;
-use crate::text::Answer;
+use crate::text::CallAnswer;
 use std::alloc::{AllocError, Global};
 
 /// How messages are read and written.
@@ -12,7 +12,7 @@ pub trait Codec {
 
 /// How many octets there are with one bit turned, and how many of these are neither refused nor written so that what is written
 /// is read, and written the same.
-pub fn turned_answer<C: Codec>(call: Call, codec: &C, octets: &[u8]) -> Answer {
+pub fn turned_answer<C: Codec>(call: Call, codec: &C, octets: &[u8]) -> CallAnswer {
     let mut turned = 0u64;
     let mut unstable = 0u64;
     for place in 0..octets.len() {

@@ -2,7 +2,7 @@
 
 use crate::identities::{with_guti, with_identity, with_tai_list};
 use crate::messages;
-use calc_text::{Answer, Call, Fault, Field, Text};
+use calc_text::{Call, CallAnswer, Fault, Field, Text};
 use nas_elements::{
     Domain, Guti, Imsi, MobileIdentity, NasFault, Optional, Plmn, TaiList, UeCapability,
 };
@@ -96,7 +96,7 @@ impl Element for UeCapability {
 }
 
 /// The answer of a call of this module, or of one of messages or lines.
-pub fn answer(call: Call) -> Answer {
+pub fn answer(call: Call) -> CallAnswer {
     match call.word {
         "imsi" => imsi_answer(call),
         "imsi_octets" => element_answer::<Imsi>(call),
@@ -112,14 +112,14 @@ pub fn answer(call: Call) -> Answer {
     }
 }
 
-fn imsi_answer(call: Call) -> Answer {
+fn imsi_answer(call: Call) -> CallAnswer {
     match Imsi::try_from_digits(call.one()?) {
         Some(imsi) => written_answer(call, &imsi),
         None => call.word_answer("none"),
     }
 }
 
-fn element_answer<T: Element>(call: Call) -> Answer {
+fn element_answer<T: Element>(call: Call) -> CallAnswer {
     let octets: Vec<u8> = call.one()?;
     match T::parse(&octets) {
         Ok(element) => written_answer(call, &element),
@@ -127,13 +127,13 @@ fn element_answer<T: Element>(call: Call) -> Answer {
     }
 }
 
-fn written_answer<T: Element>(call: Call, element: &T) -> Answer {
+fn written_answer<T: Element>(call: Call, element: &T) -> CallAnswer {
     let mut written = Vec::new(call.alloc);
     element.put(&mut written)?;
     Ok(element.shown(call.text("")).octets("; written ", &written))
 }
 
-fn plmn_answer(call: Call) -> Answer {
+fn plmn_answer(call: Call) -> CallAnswer {
     let octets: Vec<u8> = call.one()?;
     match Plmn::read(&octets) {
         Ok(plmn) => call.octets_answer(&plmn.octets),
@@ -142,7 +142,7 @@ fn plmn_answer(call: Call) -> Answer {
 }
 
 /// The number and the name of a fault that a call answered.
-pub fn fault_answer(call: Call, fault: NasFault) -> Answer {
+pub fn fault_answer(call: Call, fault: NasFault) -> CallAnswer {
     Ok(with_fault(call.text("fault "), fault))
 }
 
@@ -153,7 +153,7 @@ fn with_fault(text: Text, fault: NasFault) -> Text {
 }
 
 /// All faults.
-fn faults_answer(call: Call) -> Answer {
+fn faults_answer(call: Call) -> CallAnswer {
     call.none()?;
     let mut text = call.text("faults");
     for fault in [
@@ -183,7 +183,7 @@ impl<'a> Field<'a> for DomainWord {
 }
 
 /// Each of the elements that are asked for by their identifiers.
-fn optional_answer(call: Call) -> Answer {
+fn optional_answer(call: Call) -> CallAnswer {
     let (DomainWord(domain), behind) = call.first()?;
     let (octets, asked): (Vec<u8>, Call) = behind.first()?;
     match Optional::read(domain, &octets) {
@@ -192,7 +192,7 @@ fn optional_answer(call: Call) -> Answer {
     }
 }
 
-fn found_answer(asked: Call, optional: &Optional) -> Answer {
+fn found_answer(asked: Call, optional: &Optional) -> CallAnswer {
     let mut text = asked.text("read");
     for identifier in asked.fields {
         let [iei] = <[u8; 1] as Field>::read(asked.alloc, identifier)?;

@@ -1,7 +1,7 @@
 //! Calls of `eps_keys`: AES-128, CMAC, 128-EIA2, HMAC-SHA-256 and the key derivations.
 
 use crate::elements;
-use calc_text::{Answer, Call, Fault, Field};
+use calc_text::{Call, CallAnswer, Fault, Field};
 use eps_keys::{
     DirectionBit, MacKey, aes_encrypt, cmac, eia2, hmac_sha256, kenb, nas_integrity_key, next_hop,
     same_octets,
@@ -23,7 +23,7 @@ impl<'a> Field<'a> for Way {
 }
 
 /// The answer of a call of this module, or of one of elements, messages or lines.
-pub fn answer(call: Call) -> Answer {
+pub fn answer(call: Call) -> CallAnswer {
     match call.word {
         "aes" => {
             let (key, block) = call.two()?;
@@ -38,7 +38,7 @@ pub fn answer(call: Call) -> Answer {
 }
 
 /// A key that is derived of KASME.
-fn derived_answer(call: Call) -> Answer {
+fn derived_answer(call: Call) -> CallAnswer {
     let (kasme, behind): (_, Call) = call.first()?;
     match call.word {
         "kenb" => call.octets_answer(&kenb(&kasme, behind.one()?)),
@@ -51,7 +51,7 @@ fn derived_answer(call: Call) -> Answer {
 }
 
 /// What is made of two strings of octets.
-fn pair_answer(call: Call) -> Answer {
+fn pair_answer(call: Call) -> CallAnswer {
     let (left, right): (Vec<u8>, Vec<u8>) = call.two()?;
     match call.word {
         "hmac" => call.octets_answer(&hmac_sha256(&left, &right)),
@@ -60,7 +60,7 @@ fn pair_answer(call: Call) -> Answer {
 }
 
 /// A CMAC, by the key or by what is kept of it.
-fn cmac_answer(call: Call) -> Answer {
+fn cmac_answer(call: Call) -> CallAnswer {
     let (key, message): (_, Vec<u8>) = call.two()?;
     let mac = match call.word {
         "cmac" => cmac(&key, &message),
@@ -70,7 +70,7 @@ fn cmac_answer(call: Call) -> Answer {
 }
 
 /// The MAC of a message of NAS, by the key or by what is kept of it.
-fn eia2_answer(call: Call) -> Answer {
+fn eia2_answer(call: Call) -> CallAnswer {
     let (key, count, Way(direction), message): (_, _, _, Vec<u8>) = call.four()?;
     let mac = match call.word {
         "eia2" => eia2(&key, count, direction, &message),

@@ -9,10 +9,10 @@ mod keys;
 mod lines;
 mod messages;
 
-use calc_text::{Answer, Call};
+use calc_text::{Call, CallAnswer};
 pub use lines::line_answer;
 
 /// The answer of a call of values alone.
-pub fn answer(call: Call) -> Answer {
+pub fn answer(call: Call) -> CallAnswer {
     keys::answer(call)
 }

@@ -1,6 +1,6 @@
 //! Calls of `trace_words`: lines of a trace, the lines of its answers, and what stands in them.
 
-use calc_text::{Answer, Call, Fault, Field};
+use calc_text::{Call, CallAnswer, Fault, Field};
 use identity_slots::StationNumber;
 use nas_elements::Imsi;
 use std::alloc::Global;
@@ -10,7 +10,7 @@ use trace_text::{
 };
 
 /// What a line of a trace says, written again, with the octets of its network, or its fault. A comment says nothing.
-pub fn line_answer(call: Call, text: &[u8]) -> Answer {
+pub fn line_answer(call: Call, text: &[u8]) -> CallAnswer {
     let line = match parse_line(call.alloc, text) {
         Ok(line) => line,
         Err(fault) => {
@@ -27,7 +27,7 @@ pub fn line_answer(call: Call, text: &[u8]) -> Answer {
 }
 
 /// The answer of a call of this module.
-pub fn answer(call: Call) -> Answer {
+pub fn answer(call: Call) -> CallAnswer {
     match call.word {
         "line_octets" => {
             let octets: Vec<u8> = call.one()?;
@@ -42,7 +42,7 @@ pub fn answer(call: Call) -> Answer {
 }
 
 /// Whether a value is in the range of its kind.
-fn range_answer(call: Call) -> Answer {
+fn range_answer(call: Call) -> CallAnswer {
     match call.word {
         "trace_station" => call.yes_answer(StationNumber::try_new(call.one()?).is_some()),
         "bit_rate" => call.yes_answer(BitRate::try_new(call.one()?).is_some()),
@@ -56,7 +56,7 @@ fn range_answer(call: Call) -> Answer {
 }
 
 /// The line of an answer, whose LF is shown as `\n`.
-fn shown(call: Call, answer: &Answer) -> Answer {
+fn shown(call: Call, answer: &Answer) -> CallAnswer {
     let line = write_answer(Vec::new(call.alloc), answer)?;
     match str::from_utf8(line.as_slice())
         .ok()
@@ -68,7 +68,7 @@ fn shown(call: Call, answer: &Answer) -> Answer {
 }
 
 /// All faults by their numbers.
-fn faults_answer(call: Call) -> Answer {
+fn faults_answer(call: Call) -> CallAnswer {
     call.none()?;
     let mut text = call.text("faults");
     for fault in [
@@ -86,12 +86,12 @@ fn faults_answer(call: Call) -> Answer {
     Ok(text)
 }
 
-fn out_answer(call: Call) -> Answer {
+fn out_answer(call: Call) -> CallAnswer {
     let (OwnerWord(owner), station, octets): (_, _, Vec<u8>) = call.three()?;
     shown(call, &Answer::Sent(owner, station, &octets))
 }
 
-fn state_answer(call: Call) -> Answer {
+fn state_answer(call: Call) -> CallAnswer {
     let (digits, EmmField(emm), EcmField(ecm), EsmField(esm)) = call.four()?;
     match Imsi::try_from_digits(digits) {
         Some(imsi) => shown(call, &Answer::State(imsi, emm, ecm, esm)),

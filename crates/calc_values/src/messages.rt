@@ -4,7 +4,7 @@ use crate::elements::fault_answer;
 use crate::emm::emm_text;
 use crate::esm::esm_text;
 use crate::lines;
-use calc_text::{Answer, Call, Codec, Fault, Field, Text, turned_answer};
+use calc_text::{Call, CallAnswer, Codec, Fault, Field, Text, turned_answer};
 use nas_messages::{
     Direction, Protected, decode_emm, decode_esm, encode_emm, encode_esm, join_protected,
     split_protected,
@@ -45,7 +45,7 @@ impl Codec for NasCodec {
 }
 
 /// The answer of a call of this module, or of one of lines.
-pub fn answer(call: Call) -> Answer {
+pub fn answer(call: Call) -> CallAnswer {
     match call.word {
         "emm" => match call.two()? {
             (NasCodec::Emm(direction), octets) => emm_answer(call, direction, octets),
@@ -61,7 +61,7 @@ pub fn answer(call: Call) -> Answer {
     }
 }
 
-fn emm_answer(call: Call, direction: Direction, octets: Vec<u8>) -> Answer {
+fn emm_answer(call: Call, direction: Direction, octets: Vec<u8>) -> CallAnswer {
     match decode_emm(&octets, direction) {
         Ok(message) => {
             let written = encode_emm(call.alloc, &message);
@@ -71,7 +71,7 @@ fn emm_answer(call: Call, direction: Direction, octets: Vec<u8>) -> Answer {
     }
 }
 
-fn esm_answer(call: Call, octets: Vec<u8>) -> Answer {
+fn esm_answer(call: Call, octets: Vec<u8>) -> CallAnswer {
     match decode_esm(&octets) {
         Ok(message) => {
             let written = encode_esm(call.alloc, &message);
@@ -81,7 +81,7 @@ fn esm_answer(call: Call, octets: Vec<u8>) -> Answer {
     }
 }
 
-fn protected_answer(call: Call, octets: Vec<u8>) -> Answer {
+fn protected_answer(call: Call, octets: Vec<u8>) -> CallAnswer {
     match split_protected(&octets) {
         Some(protected) => {
             let written = join_protected(call.alloc, &protected);
@@ -100,7 +100,7 @@ fn protected_text(call: Call, protected: &Protected<&[u8]>) -> Text {
 }
 
 /// The text and what is written of a message that was read, unless memory for it was refused.
-fn again_answer(text: Text, octets: &[u8], written: Result<Vec<u8>, AllocError>) -> Answer {
+fn again_answer(text: Text, octets: &[u8], written: Result<Vec<u8>, AllocError>) -> CallAnswer {
     match written {
         Ok(written) => Ok(text.again("; written ", octets, &written)),
         Err(error) => Err(Fault::NoMemory(error)),

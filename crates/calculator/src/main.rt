@@ -5,7 +5,7 @@
 mod usage;
 
 use calc_tables::Desk;
-use calc_text::{Answer, Call, Fault};
+use calc_text::{Call, CallAnswer, Fault};
 use std::alloc::Global;
 use std::io::{BufRead, BufReader, ErrorKind};
 use std::{env, io};
@@ -60,14 +60,14 @@ fn answer(alloc: Global, desk: &mut Desk, line: &str) -> Result<String, Fault> {
 }
 
 /// The answer of a call on an object, or of a call that needs none.
-fn object_answer(desk: &mut Desk, call: Call) -> Answer {
+fn object_answer(desk: &mut Desk, call: Call) -> CallAnswer {
     match desk.answer(call) {
         Err(Fault::NoCall) => plain_answer(call),
         answer => answer,
     }
 }
 
-fn plain_answer(call: Call) -> Answer {
+fn plain_answer(call: Call) -> CallAnswer {
     match calc_s1ap::answer(call) {
         Err(Fault::NoCall) => calc_values::answer(call),
         answer => answer,

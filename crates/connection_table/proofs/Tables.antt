@@ -17,7 +17,8 @@ abbrev pub AreKnown : List Whereabouts → Type 0
 AreKnown ws = (i : ℕ) → HasIds (whereabouts_at i ws).connection
 
 -- one slot more
-pub pushed : (ws xs : List Whereabouts) (radio ids pages : Sorted Seat) → AreKnown ws → IsIndex (map radio_of ws ++ None ∷ []) radio → IsIndex (map ids_of ws ++ None ∷ []) ids → IsIndex (map page_of ws ++ None ∷ []) pages
+pub pushed : (ws xs : List Whereabouts) (radio ids pages : Sorted Seat) → AreKnown ws → IsIndex (map radio_of ws ++ None ∷ []) radio
+    → IsIndex (map ids_of ws ++ None ∷ []) ids → IsIndex (map page_of ws ++ None ∷ []) pages
     → xs ≡ ws ++ nowhere ∷ [] → IsTable xs radio ids pages
 pushed ws xs radio ids pages known r i p e =
     subst (λ ys. IsTable ys radio ids pages) (sym e)
@@ -29,15 +30,20 @@ pushed ws xs radio ids pages known r i p e =
     })
 
 -- a slot's phone is elsewhere
-known_by : (ws : List Whereabouts) (slot i : ℕ) (w : Whereabouts) (b : Bool) → (slot == i) ≡ b → slot < length ws → HasIds w.connection → AreKnown ws → HasIds (whereabouts_at i (set ws slot w)).connection
+known_by : (ws : List Whereabouts) (slot i : ℕ) (w : Whereabouts) (b : Bool) → (slot == i) ≡ b → slot < length ws
+    → HasIds w.connection → AreKnown ws → HasIds (whereabouts_at i (set ws slot w)).connection
 known_by ws slot i w true e lt h known =
-    subst (λ j. HasIds (whereabouts_at j (set ws slot w)).connection) (eqb-true slot i e) (subst (λ (v : Whereabouts). HasIds v.connection) (sym (get_or-set_same ws slot w nowhere lt)) h)
+    subst (λ j. HasIds (whereabouts_at j (set ws slot w)).connection) (eqb-true slot i e)
+    (subst (λ (v : Whereabouts). HasIds v.connection) (sym (get_or-set_same ws slot w nowhere lt)) h)
 known_by ws slot i w false e lt h known =
     let other : i ≢ slot = λ q. grind (arith, nat_tests) in
     subst (λ (v : Whereabouts). HasIds v.connection) (sym (get_or-set_other ws slot i w nowhere other)) (known i)
 
-pub moved : (ws : List Whereabouts) (slot : ℕ) (w : Whereabouts) (radio ids pages : Sorted Seat) → slot < length ws → AreKnown ws → HasIds w.connection
-    → SitsOn (set (map radio_of ws) slot (radio_of w)) slot (radio_of w) radio → SitsOn (set (map ids_of ws) slot (ids_of w)) slot (ids_of w) ids → SitsOn (set (map page_of ws) slot (page_of w)) slot (page_of w) pages
+pub moved : (ws : List Whereabouts) (slot : ℕ) (w : Whereabouts) (radio ids pages : Sorted Seat) → slot < length ws → AreKnown ws
+    → HasIds w.connection
+    → SitsOn (set (map radio_of ws) slot (radio_of w)) slot (radio_of w) radio
+    → SitsOn (set (map ids_of ws) slot (ids_of w)) slot (ids_of w) ids
+    → SitsOn (set (map page_of ws) slot (page_of w)) slot (page_of w) pages
     → IsTable (set ws slot w) radio ids pages
 moved ws slot w radio ids pages lt known h r i p = record {
   radio = subst (λ bs. IsIndex bs radio) (sym (map-set radio_of ws slot w)) r.index;
@@ -65,5 +71,6 @@ sits f ws xs slot place w seats b none lt same at is bench k =
 
 -- a change of seat, by where the phone was and is
 pub seated : (f : Whereabouts → Option ℕ) (ws : List Whereabouts) (slot : ℕ) (w : Whereabouts) (old new : Sorted Seat) (a b : Option ℕ) → SitsOn (map f ws) slot a old → b ≡ f w
-    → ((benches : List (Option ℕ)) → SitsOn benches slot a old → SitsOn (set benches slot b) slot b new) → SitsOn (set (map f ws) slot (f w)) slot (f w) new
+    → ((benches : List (Option ℕ)) → SitsOn benches slot a old → SitsOn (set benches slot b) slot b new)
+    → SitsOn (set (map f ws) slot (f w)) slot (f w) new
 seated f ws slot w old new a b s is so = subst (λ o. SitsOn (set (map f ws) slot o) slot o new) is (so (map f ws) s)

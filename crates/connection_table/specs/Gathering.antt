@@ -46,7 +46,9 @@ is_item e item (Some k) = k.station == e && matches k.id k.enb_ue_id item
 
 -- where those that items mean were gathered, those that a next item means are now, too
 abbrev pub GathersNext : ℕ → ToReset → ListedAssociation → List Whereabouts → List GatheredSlot → List GatheredSlot → Type 0
-GathersNext e items item ws old new = Holds (λ i. is_meant e items (whereabouts_at i ws)) old → Holds (λ i. is_meant e items (whereabouts_at i ws) || is_item e item (whereabouts_at i ws).connection) new
+GathersNext e items item ws old new =
+    Holds (λ i. is_meant e items (whereabouts_at i ws)) old
+    → Holds (λ i. is_meant e items (whereabouts_at i ws) || is_item e item (whereabouts_at i ws).connection) new
 
 -- the same items
 abbrev pub is_same_id : Option ℕ → Option ℕ → Bool

@@ -56,7 +56,9 @@ pub(crate) fn gather_between(
 ) -> Result<(), AllocError>
     requires order { low ≤ high }
     requires rising { Rising seat_rank seats.now.items }
-    ensures { OnOk result ((benches : List (Option ℕ)) → IsIndex benches seats.now → Gathers (λ i. is_between low high (bench_at i benches)) gathered.old.items gathered.new.items) }
+    ensures { OnOk result
+        ((benches : List (Option ℕ)) → IsIndex benches seats.now
+        → Gathers (λ i. is_between low high (bench_at i benches)) gathered.old.items gathered.new.items) }
 {
     let end = u128::from(high) * 0x1_0000_0000;
     let mut from = u128::from(low) * 0x1_0000_0000;

@@ -98,7 +98,8 @@ pub(crate) fn page_of(whereabouts: &Whereabouts) -> Option<u64>
 
 /// A slot leaves its bench, if it sits on one. Takes no memory.
 fn stand_up(seats: &mut SortedList<Seat>, slot: Slot, bench: Option<u64>)
-    ensures { (benches : List (Option ℕ)) → SitsOn benches slot bench seats.old → SitsOn (slice_set benches slot None) slot None seats.new }
+    ensures { (benches : List (Option ℕ)) → SitsOn benches slot bench seats.old
+        → SitsOn (slice_set benches slot None) slot None seats.new }
 {
     let Some(bench) = bench else {
         return;
@@ -109,7 +110,8 @@ fn stand_up(seats: &mut SortedList<Seat>, slot: Slot, bench: Option<u64>)
 /// A slot that sits nowhere takes a seat on a bench, if there is one for it. Takes no memory.
 fn sit_down(seats: &mut SortedList<Seat>, slot: Slot, bench: Option<u64>)
     requires { (benches : List (Option ℕ)) × SitsOn benches slot None seats.old }
-    ensures { (benches : List (Option ℕ)) → SitsOn benches slot None seats.old → SitsOn (slice_set benches slot bench) slot bench seats.new }
+    ensures { (benches : List (Option ℕ)) → SitsOn benches slot None seats.old
+        → SitsOn (slice_set benches slot bench) slot bench seats.new }
 {
     let Some(bench) = bench else {
         return;
@@ -125,7 +127,8 @@ pub(crate) fn move_seat(
     new: Option<u64>,
 )
     requires { (benches : List (Option ℕ)) × SitsOn benches slot old seats.old }
-    ensures { (benches : List (Option ℕ)) → SitsOn benches slot old seats.old → SitsOn (slice_set benches slot new) slot new seats.new }
+    ensures { (benches : List (Option ℕ)) → SitsOn benches slot old seats.old
+        → SitsOn (slice_set benches slot new) slot new seats.new }
 {
     if old == new {
         return;
@@ -137,7 +140,9 @@ pub(crate) fn move_seat(
 /// Makes room in a list for so many slots in all. Where that is refused, each slot sits where it sat.
 pub(crate) fn make_room(seats: &mut SortedList<Seat>, count: usize) -> Result<(), AllocError>
     ensures kept { (benches : List (Option ℕ)) → IsIndex benches seats.old → IsIndex benches seats.new }
-    ensures more { OnOk result ((benches : List (Option ℕ)) → IsIndex benches seats.old → length benches < slots → count ≡ length benches + 1 → IsIndex (benches ++ None ∷ []) seats.new) }
+    ensures more { OnOk result
+        ((benches : List (Option ℕ)) → IsIndex benches seats.old → length benches < slots → count ≡ length benches + 1
+        → IsIndex (benches ++ None ∷ []) seats.new) }
 {
     let more = count.saturating_sub(seats.len());
     seats.reserve(more)

@@ -148,7 +148,8 @@ impl Connections {
         item: ListedAssociation,
         gathered: &mut SortedList<GatheredSlot>,
     ) -> Result<(), AllocError>
-        ensures { OnOk result (Gathers (λ i. is_item station item (whereabouts_at i self.now).connection) gathered.old.items gathered.new.items) }
+        ensures { OnOk result
+            (Gathers (λ i. is_item station item (whereabouts_at i self.now).connection) gathered.old.items gathered.new.items) }
     {
         if let Some(id) = item.mme_ue_id {
             let id = AssociationId::new(id.get() as u32);
@@ -168,7 +169,9 @@ impl Connections {
         enb_ue_id: Option<EnbUeId>,
         gathered: &mut SortedList<GatheredSlot>,
     ) -> Result<(), AllocError>
-        ensures { OnOk result (Gathers (λ i. is_item station (record { mme_ue_id = Some id; enb_ue_id = enb_ue_id }) (whereabouts_at i self.now).connection) gathered.old.items gathered.new.items) }
+        ensures { OnOk result
+            (Gathers (λ i. is_item station (record { mme_ue_id = Some id; enb_ue_id = enb_ue_id })
+            (whereabouts_at i self.now).connection) gathered.old.items gathered.new.items) }
     {
         if let Some(enb_ue_id) = enb_ue_id {
             let bench = ids_bench(station, id, enb_ue_id);
@@ -185,7 +188,9 @@ impl Connections {
         enb_ue_id: EnbUeId,
         gathered: &mut SortedList<GatheredSlot>,
     ) -> Result<(), AllocError>
-        ensures { OnOk result (Gathers (λ i. is_item station (record { mme_ue_id = None; enb_ue_id = Some enb_ue_id }) (whereabouts_at i self.now).connection) gathered.old.items gathered.new.items) }
+        ensures { OnOk result
+            (Gathers (λ i. is_item station (record { mme_ue_id = None; enb_ue_id = Some enb_ue_id })
+            (whereabouts_at i self.now).connection) gathered.old.items gathered.new.items) }
     {
         let bench = radio_bench(station, enb_ue_id);
         gather_between(&self.by_radio, bench, bench + 1, gathered)

@@ -69,13 +69,15 @@ same_context : {K : Type 0} (f : K → Draft) (d : Draft) (o : Option K) → ((k
 same_context f d None each = refl
 same_context f d (Some k) each = each k
 
-cond_context : (x y : Draft) (c : Option Context) (t : Bool) → x.solo.context ≡ c → y.solo.context ≡ c → (cond t x y).solo.context ≡ c
+cond_context : (x y : Draft) (c : Option Context) (t : Bool) → x.solo.context ≡ c → y.solo.context ≡ c
+    → (cond t x y).solo.context ≡ c
 cond_context x y c true p q = p
 cond_context x y c false p q = q
 
 leave_context : (station enb_ue_id : ℕ) (d : Draft) → (leave_old station enb_ue_id d).solo.context ≡ d.solo.context
 unfolding leave_old emit
-leave_context station enb_ue_id d = same_context _ d d.solo.connection (λ k. cond_context _ _ d.solo.context (is_at k station enb_ue_id) refl refl)
+leave_context station enb_ue_id d =
+    same_context _ d d.solo.connection (λ k. cond_context _ _ d.solo.context (is_at k station enb_ue_id) refl refl)
 
 connect_context : (slot station enb_ue_id : ℕ) (d : Draft) → (connect slot station enb_ue_id d).solo.context ≡ d.solo.context
 unfolding connect connect_on association_counted
@@ -84,7 +86,8 @@ connect_context slot station enb_ue_id d = leave_context station enb_ue_id (asso
 module _ {b : Solo} where
   -- ---- attaching
 
-  fresh_attach_refused : {d : Draft} (cause : EmmCause) (esm : Option (List ℕ)) → IsFresh b d → IsFresh b (attaching.attach_refused cause esm d)
+  fresh_attach_refused : {d : Draft} (cause : EmmCause) (esm : Option (List ℕ)) → IsFresh b d
+      → IsFresh b (attaching.attach_refused cause esm d)
   unfolding attaching.attach_refused
   fresh_attach_refused cause esm h = fresh_wipe (fresh_release _ (fresh_send _ h))
 
@@ -94,20 +97,24 @@ module _ {b : Solo} where
 
   fresh_challenge : {d : Draft} (s : Setting) → IsFresh b d → IsFresh b (attaching.challenge s d)
   unfolding attaching.challenge
-  fresh_challenge {d} s h = at_some (slice_get s.vectors d.solo.next_vector) (λ v _. fresh_challenged v h) (fresh_attach_refused _ _ h)
+  fresh_challenge {d} s h =
+      at_some (slice_get s.vectors d.solo.next_vector) (λ v _. fresh_challenged v h) (fresh_attach_refused _ _ h)
 
-  fresh_attach_by : {d : Draft} (asked : Requested (List ℕ)) (s : Setting) (combined : Bool) (capability : List ℕ) (tai : Tai) → IsFresh b d
+  fresh_attach_by : {d : Draft} (asked : Requested (List ℕ)) (s : Setting) (combined : Bool) (capability : List ℕ) (tai : Tai)
+      → IsFresh b d
       → IsFresh b (attaching.attach_by asked s combined capability tai d)
   unfolding attaching.attach_by attaching.asking
   fresh_attach_by Unreadable s combined capability tai h = fresh_attach_refused _ _ h
   fresh_attach_by (Refused esm) s combined capability tai h = fresh_attach_refused _ _ h
   fresh_attach_by Taken s combined capability tai h = either _ (fresh_challenge s (quiet h refl)) (fresh_attach_refused _ _ h)
 
-  fresh_attach : {d : Draft} (s : Setting) (combined : Bool) (capability esm : List ℕ) (tai : Tai) → IsFresh b d → IsFresh b (attaching.attach s combined capability esm tai d)
+  fresh_attach : {d : Draft} (s : Setting) (combined : Bool) (capability esm : List ℕ) (tai : Tai) → IsFresh b d
+      → IsFresh b (attaching.attach s combined capability esm tai d)
   unfolding attaching.attach attaching.requesting
   fresh_attach s combined capability esm tai h = fresh_attach_by _ s combined capability tai (quiet (fresh_wipe h) refl)
 
-  fresh_authenticated : {d : Draft} (v : Vector) → d.solo.phase ≡ Authenticating → IsFresh b d → IsFreshIf b (attaching.authenticated (d.solo.next_vector - 1) v d)
+  fresh_authenticated : {d : Draft} (v : Vector) → d.solo.phase ≡ Authenticating → IsFresh b d
+      → IsFreshIf b (attaching.authenticated (d.solo.next_vector - 1) v d)
   unfolding attaching.authenticated attaching.new_context
   fresh_authenticated v is h = then (fresh_protect _ _ (fresh_context _ is refl h)) (λ e f. fresh_start _ _ f)
 
@@ -115,10 +122,12 @@ module _ {b : Solo} where
   unfolding attaching.not_authenticated
   fresh_not_authenticated h = fresh_wipe (fresh_release _ (fresh_send _ h))
 
-  fresh_response : {d : Draft} (s : Setting) (res : List ℕ) → d.solo.phase ≡ Authenticating → IsFresh b d → IsFreshIf b (attaching.response s res d)
+  fresh_response : {d : Draft} (s : Setting) (res : List ℕ) → d.solo.phase ≡ Authenticating → IsFresh b d
+      → IsFreshIf b (attaching.response s res d)
   unfolding attaching.response attaching.response_to
   fresh_response {d} s res is h =
-      at_some_if (slice_get s.vectors (d.solo.next_vector - 1)) (λ v _. either_if _ (fresh_authenticated v is h) (some (fresh_not_authenticated h))) (some h)
+      at_some_if (slice_get s.vectors (d.solo.next_vector - 1))
+      (λ v _. either_if _ (fresh_authenticated v is h) (some (fresh_not_authenticated h))) (some h)
 
   fresh_failure : {d : Draft} (s : Setting) (cause : ℕ) → IsFresh b d → IsFresh b (attaching.failure s cause d)
   unfolding attaching.failure
@@ -132,7 +141,8 @@ module _ {b : Solo} where
   unfolding attaching.status_plainly
   fresh_status_plainly cause h = at_some cause (λ c _. fresh_send _ h) h
 
-  fresh_authenticating : {d : Draft} (s : Setting) (m : Heard (List ℕ)) → d.solo.phase ≡ Authenticating → IsFresh b d → IsFreshIf b (attaching.authenticating s m d)
+  fresh_authenticating : {d : Draft} (s : Setting) (m : Heard (List ℕ)) → d.solo.phase ≡ Authenticating → IsFresh b d
+      → IsFreshIf b (attaching.authenticating s m d)
   unfolding attaching.authenticating
   fresh_authenticating s (heards.AuthenticationResponse res) is h = fresh_response s res is h
   fresh_authenticating s (heards.AuthenticationFailure cause) is h = some (fresh_failure s cause h)
@@ -153,7 +163,8 @@ module _ {b : Solo} where
   unfolding attaching.not_secured
   fresh_not_secured nas h = either _ (fresh_fall _ h) h
 
-  fresh_secured_by : {d : Draft} (r : Acceptance) (s : Setting) (x : Context) (nas : List ℕ) → d.solo.context ≡ Some x → IsHigh x r → IsFresh b d
+  fresh_secured_by : {d : Draft} (r : Acceptance) (s : Setting) (x : Context) (nas : List ℕ) → d.solo.context ≡ Some x → IsHigh x r
+      → IsFresh b d
       → IsFreshIf b (attaching.secured_by r s x nas d)
   unfolding attaching.secured_by attaching.secured
   fresh_secured_by (Ok found) s x nas is high h =
@@ -163,7 +174,8 @@ module _ {b : Solo} where
 
   -- ---- a phone that is known
 
-  fresh_served_by : {d : Draft} (r : Result ℕ SecurityFault) (s : Setting) (x : Context) (m : Entry (List ℕ)) → d.solo.context ≡ Some x
+  fresh_served_by : {d : Draft} (r : Result ℕ SecurityFault) (s : Setting) (x : Context) (m : Entry (List ℕ))
+      → d.solo.context ≡ Some x
       → ((count : ℕ) → r ≡ Ok count → next_up x ≤ count) → IsFresh b d → IsFresh b (serving.served_by r s x m d)
   unfolding serving.served_by serving.served serving.active ended
   fresh_served_by {d} (Ok count) s x m is high h =
@@ -171,11 +183,14 @@ module _ {b : Solo} where
       (quiet (fresh_in Registered refl tt (fresh_connect s.slot m.station m.enb_ue_id h)) refl))
   fresh_served_by (Err fault) s x m is high h = fresh_refuse s.slot m.station m.enb_ue_id _ h
 
-  fresh_update : {d : Draft} (s : Setting) (tai : Tai) (combined initial : Bool) → IsFresh b d → IsFreshIf b (serving.update s tai combined initial d)
+  fresh_update : {d : Draft} (s : Setting) (tai : Tai) (combined initial : Bool) → IsFresh b d
+      → IsFreshIf b (serving.update s tai combined initial d)
   unfolding serving.update serving.updating serving.active ended attaching.given_tmsi
-  fresh_update s tai combined initial h = then (fresh_protect _ _ (quiet (fresh_in Updating refl tt h) refl)) (λ e f. fresh_start _ _ f)
+  fresh_update s tai combined initial h =
+      then (fresh_protect _ _ (quiet (fresh_in Updating refl tt h) refl)) (λ e f. fresh_start _ _ f)
 
-  fresh_updated_by : {d : Draft} (r : Acceptance) (s : Setting) (x : Context) (m : Entry (List ℕ)) (combined : Bool) → d.solo.context ≡ Some x → IsHigh x r → IsFresh b d
+  fresh_updated_by : {d : Draft} (r : Acceptance) (s : Setting) (x : Context) (m : Entry (List ℕ)) (combined : Bool)
+      → d.solo.context ≡ Some x → IsHigh x r → IsFresh b d
       → IsFreshIf b (serving.updated_by r s x m combined d)
   unfolding serving.updated_by
   fresh_updated_by {d} (Ok found) s x m combined is high h =
@@ -187,7 +202,8 @@ module _ {b : Solo} where
   unfolding serving.detach serving.detach_answered
   fresh_detach switch_off h = then (either_if switch_off (some h) (fresh_protect _ _ h)) (λ e f. fresh_wipe (fresh_release _ f))
 
-  fresh_detached_by : {d : Draft} (r : Acceptance) (s : Setting) (x : Context) (m : Entry (List ℕ)) (switch_off : Bool) → d.solo.context ≡ Some x → IsHigh x r → IsFresh b d
+  fresh_detached_by : {d : Draft} (r : Acceptance) (s : Setting) (x : Context) (m : Entry (List ℕ)) (switch_off : Bool)
+      → d.solo.context ≡ Some x → IsHigh x r → IsFresh b d
       → IsFreshIf b (serving.detached_by r s x m switch_off d)
   unfolding serving.detached_by
   fresh_detached_by {d} (Ok found) s x m switch_off is high h =
@@ -195,9 +211,11 @@ module _ {b : Solo} where
       (fresh_took x found.0 (connect_context s.slot m.station m.enb_ue_id d ∙ is) (high found refl) (fresh_connect s.slot m.station m.enb_ue_id h))
   fresh_detached_by (Err fault) s x m switch_off is high h = some (fresh_turn_away s.slot m.station m.enb_ue_id h)
 
-  fresh_claimed : {d : Draft} (m : Heard (List ℕ)) (s : Setting) (id : ℕ) (e : Entry (List ℕ)) → IsFresh b d → IsFresh b (serving.claimed m s id e d)
+  fresh_claimed : {d : Draft} (m : Heard (List ℕ)) (s : Setting) (id : ℕ) (e : Entry (List ℕ)) → IsFresh b d
+      → IsFresh b (serving.claimed m s id e d)
   unfolding serving.claimed
-  fresh_claimed (heards.AttachRequest combined capability esm) s id e h = fresh_attach s combined capability esm e.tai (fresh_connect_on id e.station e.enb_ue_id h)
+  fresh_claimed (heards.AttachRequest combined capability esm) s id e h =
+      fresh_attach s combined capability esm e.tai (fresh_connect_on id e.station e.enb_ue_id h)
   fresh_claimed _ s id e h = h
 
   fresh_status : {d : Draft} (cause : Option EmmCause) → IsFresh b d → IsFreshIf b (serving.status_protected cause d)
@@ -208,12 +226,15 @@ module _ {b : Solo} where
   unfolding serving.registered ended
   fresh_registered h = quiet (fresh_in Registered refl tt h) refl
 
-  fresh_told_emm : {d : Draft} (m : Heard (List ℕ)) (s : Setting) (tai : Tai) → IsFresh b d → IsFreshIf b (serving.inner_emm m s tai d)
+  fresh_told_emm : {d : Draft} (m : Heard (List ℕ)) (s : Setting) (tai : Tai) → IsFresh b d
+      → IsFreshIf b (serving.inner_emm m s tai d)
   unfolding serving.inner_emm serving.attach_completed serving.update_completed
-  fresh_told_emm (heards.AttachComplete esm) s tai h = either_if _ (some (either _ (fresh_registered (quiet h refl)) (fresh_fall _ h))) (fresh_status _ h)
+  fresh_told_emm (heards.AttachComplete esm) s tai h =
+      either_if _ (some (either _ (fresh_registered (quiet h refl)) (fresh_fall _ h))) (fresh_status _ h)
   fresh_told_emm heards.TrackingAreaUpdateComplete s tai h =
       let r = fresh_registered h in either_if _ (some (either _ (fresh_fall _ r) r)) (fresh_status _ h)
-  fresh_told_emm (heards.TrackingAreaUpdateRequest combined) s tai h = either_if _ (fresh_update s tai combined false h) (fresh_status _ h)
+  fresh_told_emm (heards.TrackingAreaUpdateRequest combined) s tai h =
+      either_if _ (fresh_update s tai combined false h) (fresh_status _ h)
   fresh_told_emm (heards.DetachRequest switch_off) s tai h = fresh_detach switch_off h
   fresh_told_emm heards.DetachAccept s tai h = either_if _ (some (fresh_wipe (fresh_release _ h))) (fresh_status _ h)
   fresh_told_emm heards.Unasked s tai h = some h
@@ -226,11 +247,13 @@ module _ {b : Solo} where
   fresh_reacted {d} reactions.Informed s h = at_some_if d.solo.context (λ x _. fresh_accept s _ h) (some h)
   fresh_reacted (reactions.Answer octets) s h = fresh_protect _ octets h
 
-  fresh_told : {d : Draft} (octets : List ℕ) (s : Setting) (tai : Tai) → IsFresh b d → IsFreshIf b (serving.inner_message octets s tai d)
+  fresh_told : {d : Draft} (octets : List ℕ) (s : Setting) (tai : Tai) → IsFresh b d
+      → IsFreshIf b (serving.inner_message octets s tai d)
   unfolding serving.inner_message serving.inner_esm
   fresh_told octets s tai h = either_if _ (fresh_reacted _ s h) (fresh_told_emm (heard octets) s tai h)
 
-  fresh_told_by : {d : Draft} (r : Acceptance) (s : Setting) (x : Context) (tai : Tai) → d.solo.context ≡ Some x → IsHigh x r → IsFresh b d
+  fresh_told_by : {d : Draft} (r : Acceptance) (s : Setting) (x : Context) (tai : Tai) → d.solo.context ≡ Some x → IsHigh x r
+      → IsFresh b d
       → IsFreshIf b (serving.inner_message_by r s x tai d)
   unfolding serving.inner_message_by
   fresh_told_by (Ok found) s x tai is high h = fresh_told found.1 s tai (fresh_took x found.0 is (high found refl) h)
@@ -238,7 +261,8 @@ module _ {b : Solo} where
 
   -- ---- what ends a connection, and the path switch
 
-  fresh_switched : {d : Draft} (m : UeMessage (List ℕ)) (x : Context) → d.solo.context ≡ Some x → IsFresh b d → IsFresh b (connected.switched m x d)
+  fresh_switched : {d : Draft} (m : UeMessage (List ℕ)) (x : Context) → d.solo.context ≡ Some x → IsFresh b d
+      → IsFresh b (connected.switched m x d)
   unfolding connected.switched
   fresh_switched m x is h = fresh_emit m.station _ (quiet (fresh_radio x (connected.hopped x) is h) refl)
 
@@ -255,9 +279,11 @@ module _ {b : Solo} where
 
   fresh_station_gone : {d : Draft} (station : ℕ) → IsFresh b d → IsFresh b (connected.station_gone station d)
   unfolding connected.station_gone connected.strike
-  fresh_station_gone {d} station h = at_some d.solo.connection (λ k _. either _ (fresh_lost (quiet h refl)) (quiet h refl)) (quiet h refl)
+  fresh_station_gone {d} station h =
+      at_some d.solo.connection (λ k _. either _ (fresh_lost (quiet h refl)) (quiet h refl)) (quiet h refl)
 
-  fresh_connections_gone : {d : Draft} (station : ℕ) (items : ToReset) → IsFresh b d → IsFresh b (connected.connections_gone station items d)
+  fresh_connections_gone : {d : Draft} (station : ℕ) (items : ToReset) → IsFresh b d
+      → IsFresh b (connected.connections_gone station items d)
   unfolding connected.connections_gone
   fresh_connections_gone {d} station items h = at_some d.solo.connection (λ k _. either _ (fresh_lost h) h) h
 
@@ -271,7 +297,8 @@ module _ {b : Solo} where
   unfolding idle.page
   fresh_page {d} s es h = at_some d.solo.tmsi (λ t _. fresh_emit_each _ es d h) h
 
-  fresh_data_waits : {d : Draft} (s : Setting) (stations : List StationState) → IsFresh b d → IsFresh b (idle.data_waits s stations d)
+  fresh_data_waits : {d : Draft} (s : Setting) (stations : List StationState) → IsFresh b d
+      → IsFresh b (idle.data_waits s stations d)
   unfolding idle.data_waits idle.paged
   fresh_data_waits s stations h = either _ (fresh_start _ _ (fresh_page s _ h)) h
 
@@ -295,7 +322,8 @@ module _ {b : Solo} where
 
   fresh_expired : {d : Draft} (c : Countdown) (s : Setting) → IsFresh b d → IsFreshIf b (idle.expired c s d)
   unfolding idle.expired idle.restarted
-  fresh_expired {d} c s h = either_if _ (some (fresh_given_up _ h)) (at_some_if d.solo.repeat (λ r _. fresh_again r s (quiet h refl)) (some h))
+  fresh_expired {d} c s h =
+      either_if _ (some (fresh_given_up _ h)) (at_some_if d.solo.repeat (λ r _. fresh_again r s (quiet h refl)) (some h))
 
   fresh_tick : {d : Draft} (s : Setting) → IsFresh b d → IsFreshIf b (idle.tick s d)
   unfolding idle.tick idle.procedure_ticks idle.reachable_ticks_out
@@ -328,48 +356,57 @@ module _ (whole : WholeIsFresh) (short : ShortIsFresh) {b : Solo} where
   fresh_in_security_mode : {d : Draft} (s : Setting) (nas : List ℕ) → IsFresh b d → IsFreshIf b (attaching.in_security_mode s nas d)
   unfolding attaching.in_security_mode
   fresh_in_security_mode {d} s nas h =
-      at_some_if d.solo.context (λ x is. fresh_secured_by _ s x nas is (λ found e. (whole _ _ _ _ found.0 found.1 e).0) h) (some (fresh_not_secured nas h))
+      at_some_if d.solo.context (λ x is. fresh_secured_by _ s x nas is (λ found e. (whole _ _ _ _ found.0 found.1 e).0) h)
+      (some (fresh_not_secured nas h))
 
   fresh_in_later : {d : Draft} (s : Setting) (tai : Tai) (nas : List ℕ) → IsFresh b d → IsFreshIf b (serving.in_later s tai nas d)
   unfolding serving.in_later
   fresh_in_later {d} s tai nas h =
       at_some_if d.solo.context (λ x is. fresh_told_by _ s x tai is (λ found e. (whole _ _ _ _ found.0 found.1 e).0) h) (some h)
 
-  fresh_service : {d : Draft} (s : Setting) (m : Entry (List ℕ)) (octets : List ℕ) → IsFresh b d → IsFresh b (serving.service s m octets d)
+  fresh_service : {d : Draft} (s : Setting) (m : Entry (List ℕ)) (octets : List ℕ) → IsFresh b d
+      → IsFresh b (serving.service s m octets d)
   unfolding serving.service
   fresh_service {d} s m octets h =
       either _ (at_some d.solo.context (λ x is. fresh_served_by _ s x m is (λ count e. (short _ _ _ _ count e).0) h) (fresh_refuse s.slot m.station m.enb_ue_id _ h))
       (fresh_refuse s.slot m.station m.enb_ue_id _ h)
 
-  fresh_initial_update : {d : Draft} (s : Setting) (m : Entry (List ℕ)) (combined : Bool) → IsFresh b d → IsFreshIf b (serving.initial_update s m combined d)
+  fresh_initial_update : {d : Draft} (s : Setting) (m : Entry (List ℕ)) (combined : Bool) → IsFresh b d
+      → IsFreshIf b (serving.initial_update s m combined d)
   unfolding serving.initial_update
   fresh_initial_update {d} s m combined h =
-      either_if _ (at_some_if d.solo.context (λ x is. fresh_updated_by _ s x m combined is (λ found e. (whole _ _ _ _ found.0 found.1 e).0) h)
+      either_if _
+      (at_some_if d.solo.context (λ x is. fresh_updated_by _ s x m combined is (λ found e. (whole _ _ _ _ found.0 found.1 e).0) h)
       (some (fresh_refuse s.slot m.station m.enb_ue_id _ h))) (some (fresh_refuse s.slot m.station m.enb_ue_id _ h))
 
-  fresh_initial_detach : {d : Draft} (s : Setting) (m : Entry (List ℕ)) (switch_off : Bool) → IsFresh b d → IsFreshIf b (serving.initial_detach s m switch_off d)
+  fresh_initial_detach : {d : Draft} (s : Setting) (m : Entry (List ℕ)) (switch_off : Bool) → IsFresh b d
+      → IsFreshIf b (serving.initial_detach s m switch_off d)
   unfolding serving.initial_detach
   fresh_initial_detach {d} s m switch_off h =
       either_if _ (some (fresh_detach_plainly switch_off (fresh_connect s.slot m.station m.enb_ue_id h)))
       (at_some_if d.solo.context (λ x is. fresh_detached_by _ s x m switch_off is (λ found e. (whole _ _ _ _ found.0 found.1 e).0) h)
       (some (fresh_turn_away s.slot m.station m.enb_ue_id h)))
 
-  fresh_entered : {d : Draft} (heard : Heard (List ℕ)) (s : Setting) (m : Entry (List ℕ)) → IsFresh b d → IsFreshIf b (serving.entered heard s m d)
+  fresh_entered : {d : Draft} (heard : Heard (List ℕ)) (s : Setting) (m : Entry (List ℕ)) → IsFresh b d
+      → IsFreshIf b (serving.entered heard s m d)
   unfolding serving.entered
-  fresh_entered (heards.AttachRequest combined capability esm) s m h = some (fresh_attach s combined capability esm m.tai (fresh_connect s.slot m.station m.enb_ue_id h))
+  fresh_entered (heards.AttachRequest combined capability esm) s m h =
+      some (fresh_attach s combined capability esm m.tai (fresh_connect s.slot m.station m.enb_ue_id h))
   fresh_entered (heards.ServiceRequest octets) s m h = some (fresh_service s m octets h)
   fresh_entered (heards.TrackingAreaUpdateRequest combined) s m h = fresh_initial_update s m combined h
   fresh_entered (heards.DetachRequest switch_off) s m h = fresh_initial_detach s m switch_off h
   fresh_entered _ s m h = some h
 
-  fresh_uplink : {d : Draft} (phase : Phase) (s : Setting) (tai : Tai) (nas : List ℕ) → d.solo.phase ≡ phase → IsFresh b d → IsFreshIf b (serving.uplink phase s tai nas d)
+  fresh_uplink : {d : Draft} (phase : Phase) (s : Setting) (tai : Tai) (nas : List ℕ) → d.solo.phase ≡ phase → IsFresh b d
+      → IsFreshIf b (serving.uplink phase s tai nas d)
   unfolding serving.uplink attaching.in_authenticating
   fresh_uplink Deregistered s tai nas is h = some h
   fresh_uplink Authenticating s tai nas is h = either_if _ (fresh_authenticating s _ is h) (some h)
   fresh_uplink SecurityMode s tai nas is h = fresh_in_security_mode s nas h
   fresh_uplink _ s tai nas is h = fresh_in_later s tai nas h
 
-  fresh_on_connection : {d : Draft} (body : UeBody (List ℕ)) (s : Setting) → IsFresh b d → IsFreshIf b (connected.on_connection body s d)
+  fresh_on_connection : {d : Draft} (body : UeBody (List ℕ)) (s : Setting) → IsFresh b d
+      → IsFreshIf b (connected.on_connection body s d)
   unfolding connected.on_connection
   fresh_on_connection {d} (bodies.Uplink nas tai) s h = fresh_uplink d.solo.phase s tai nas refl h
   fresh_on_connection (bodies.UeContextReleaseRequest cause) s h = some (fresh_fall _ h)
@@ -378,9 +415,11 @@ module _ (whole : WholeIsFresh) (short : ShortIsFresh) {b : Solo} where
 
   fresh_checked : {d : Draft} (s : Setting) (m : UeMessage (List ℕ)) → IsFresh b d → IsFreshIf b (connected.checked s m d)
   unfolding connected.checked connected.indicate
-  fresh_checked s m h = either_if _ (some (fresh_emit m.station _ h)) (either_if _ (fresh_on_connection m.body s h) (some (fresh_emit m.station _ h)))
+  fresh_checked s m h =
+      either_if _ (some (fresh_emit m.station _ h)) (either_if _ (fresh_on_connection m.body s h) (some (fresh_emit m.station _ h)))
 
-  fresh_message_of : {d : Draft} (body : UeBody (List ℕ)) (s : Setting) (m : UeMessage (List ℕ)) → IsFresh b d → IsFreshIf b (connected.message_of body s m d)
+  fresh_message_of : {d : Draft} (body : UeBody (List ℕ)) (s : Setting) (m : UeMessage (List ℕ)) → IsFresh b d
+      → IsFreshIf b (connected.message_of body s m d)
   unfolding connected.message_of
   fresh_message_of bodies.UeContextReleaseComplete s m h = some h
   fresh_message_of bodies.PathSwitch s m h = some (fresh_path_switch m h)
@@ -404,10 +443,12 @@ module _ (whole : WholeIsFresh) (short : ShortIsFresh) {b : Solo} where
   unless (Some e) f h = f.fresh e refl
 
   fresh_untouched : IsInUse b → IsFresh b (untouched b)
-  fresh_untouched h = record { in_use = h; onward = le_refl (next_place b.phase b.next_vector); sent = λ m a. a; accepted = λ m a. a }
+  fresh_untouched h =
+      record { in_use = h; onward = le_refl (next_place b.phase b.next_vector); sent = λ m a. a; accepted = λ m a. a }
 
 -- from a state in use each step is fresh
-pub fresh_step : WholeIsFresh → ShortIsFresh → (s : Setting) (b : Solo) (item : events.Item) → IsInUse b → IsFresh b (steps.solo_step s b item)
+pub fresh_step : WholeIsFresh → ShortIsFresh → (s : Setting) (b : Solo) (item : events.Item) → IsInUse b
+    → IsFresh b (steps.solo_step s b item)
 unfolding steps.solo_step
 fresh_step whole short s b item h =
     let u = fresh_untouched whole short h in

@@ -72,19 +72,29 @@ module _ (whole : WholeIsFresh) (short : ShortIsFresh) where
       (makes s d.solo items f.in_use)
 
   pub sends_ahead : SendsAhead
-  sends_ahead s solo items h = run_all IsBefore (IsAhead next_down solo) (IsAhead next_down (solo_after s solo items)) (sent_marks s solo items) (sends s solo items h)
+  sends_ahead s solo items h =
+      run_all IsBefore (IsAhead next_down solo) (IsAhead next_down (solo_after s solo items)) (sent_marks s solo items)
+      (sends s solo items h)
 
   pub sends_once : SendsOnce
-  sends_once s solo items h = run_pairs IsBefore (IsAhead next_down solo) (IsAhead next_down (solo_after s solo items)) (sent_marks s solo items) (sends s solo items h)
+  sends_once s solo items h =
+      run_pairs IsBefore (IsAhead next_down solo) (IsAhead next_down (solo_after s solo items)) (sent_marks s solo items)
+      (sends s solo items h)
 
   pub accepts_ahead : AcceptsAhead
-  accepts_ahead s solo items h = run_all IsBefore (IsAhead next_up solo) (IsAhead next_up (solo_after s solo items)) (accepted_marks s solo items) (accepts s solo items h)
+  accepts_ahead s solo items h =
+      run_all IsBefore (IsAhead next_up solo) (IsAhead next_up (solo_after s solo items)) (accepted_marks s solo items)
+      (accepts s solo items h)
 
   pub accepts_once : AcceptsOnce
-  accepts_once s solo items h = run_pairs IsBefore (IsAhead next_up solo) (IsAhead next_up (solo_after s solo items)) (accepted_marks s solo items) (accepts s solo items h)
+  accepts_once s solo items h =
+      run_pairs IsBefore (IsAhead next_up solo) (IsAhead next_up (solo_after s solo items)) (accepted_marks s solo items)
+      (accepts s solo items h)
 
   pub makes_ahead : MakesAhead
-  makes_ahead s solo items h = run_all ◌<◌ (IsOpen solo) (IsOpen (solo_after s solo items)) (places_made s solo items) (makes s solo items h)
+  makes_ahead s solo items h =
+      run_all ◌<◌ (IsOpen solo) (IsOpen (solo_after s solo items)) (places_made s solo items) (makes s solo items h)
 
   pub makes_once : MakesOnce
-  makes_once s solo items h = run_pairs ◌<◌ (IsOpen solo) (IsOpen (solo_after s solo items)) (places_made s solo items) (makes s solo items h)
+  makes_once s solo items h =
+      run_pairs ◌<◌ (IsOpen solo) (IsOpen (solo_after s solo items)) (places_made s solo items) (makes s solo items h)

@@ -57,7 +57,8 @@ marks_more : (sends : List Answer) (a : Answer) → marks_of (sends ++ a ∷ [])
 marks_more sends a = simp (append-nil, flat_map-append)
 
 sent_more : (f t : Mark → Type 0) (sends : List Answer) (under : Option Mark) (station : ℕ) (o : Option (List ℕ))
-    → IsRun IsBefore f t (marks_of sends ++ option_to_list under) → IsRun IsBefore f t (marks_of (sends ++ answer_of station under o) ++ [])
+    → IsRun IsBefore f t (marks_of sends ++ option_to_list under)
+    → IsRun IsBefore f t (marks_of (sends ++ answer_of station under o) ++ [])
 sent_more f t sends under station None h = simp append-nil (run_front IsBefore f t (marks_of sends) (option_to_list under) h)
 sent_more f t sends under station (Some octets) h =
     subst (IsRun IsBefore f t) (sym (marks_more sends (record { station = station; octets = octets; under = under }))) h
@@ -107,9 +108,13 @@ module _ {b : Solo} where
       record {
         in_use = used;
         onward = omega arith;
-        sent = subst (λ (sends : List Answer). IsRun IsBefore (IsAhead next_down b) (IsAhead next_down e.solo) (marks_of sends ++ [])) (sym same_sent)
+        sent =
+            subst (λ (sends : List Answer). IsRun IsBefore (IsAhead next_down b) (IsAhead next_down e.solo) (marks_of sends ++ []))
+            (sym same_sent)
             (run_narrow IsBefore (IsAhead next_down b) (IsAhead next_down d.solo) (IsAhead next_down e.solo) (marks_of d.sent ++ []) h.sent (ahead next_down));
-        accepted = subst (λ (o : Option Mark). IsRun IsBefore (IsAhead next_up b) (IsAhead next_up e.solo) (option_to_list o)) (sym same_accepted)
+        accepted =
+            subst (λ (o : Option Mark). IsRun IsBefore (IsAhead next_up b) (IsAhead next_up e.solo) (option_to_list o))
+            (sym same_accepted)
             (run_narrow IsBefore (IsAhead next_up b) (IsAhead next_up d.solo) (IsAhead next_up e.solo) (option_to_list d.accepted) h.accepted (ahead next_up));
       }
 
@@ -118,11 +123,13 @@ module _ {b : Solo} where
   fresh_wipe {d} h = later h refl refl (tt, tt) (floor_le d.solo.phase d.solo.next_vector) (λ next m q. absurd q)
 
   -- in a phase without a challenge
-  pub fresh_in : {d : Draft} (phase : Phase) → next_place phase d.solo.next_vector ≡ d.solo.next_vector → HasVector phase d.solo.next_vector
+  pub fresh_in : {d : Draft} (phase : Phase) → next_place phase d.solo.next_vector ≡ d.solo.next_vector
+      → HasVector phase d.solo.next_vector
       → IsFresh b d → IsFresh b (in_phase phase d)
   fresh_in {d} phase next vector h =
       let low = floor_le d.solo.phase d.solo.next_vector in
-      later h refl refl (rw next (below_le d.solo.context (next_place d.solo.phase d.solo.next_vector) d.solo.next_vector low h.in_use.0), vector)
+      later h refl refl
+      (rw next (below_le d.solo.context (next_place d.solo.phase d.solo.next_vector) d.solo.next_vector low h.in_use.0), vector)
       (rw next low) (λ next m q. inl q)
 
   -- a vector is taken
@@ -145,7 +152,8 @@ module _ {b : Solo} where
 
   -- ---- sending
 
-  pub fresh_emit : {d : Draft} {under : Option Mark} (station : ℕ) (message : Pdu (List ℕ)) → IsReady b d under → IsFresh b (emit station message under d)
+  pub fresh_emit : {d : Draft} {under : Option Mark} (station : ℕ) (message : Pdu (List ℕ)) → IsReady b d under
+      → IsFresh b (emit station message under d)
   unfolding emit
   fresh_emit {d} {under} station message h = record {
     in_use = h.in_use;
@@ -173,7 +181,9 @@ module _ {b : Solo} where
       record {
         in_use = h.in_use;
         onward = h.onward;
-        sent = run_append IsBefore (IsAhead next_down b) (IsAhead next_down (having d (Some x)).solo) (IsAhead next_down e.solo) (marks_of d.sent) (k ∷ [])
+        sent =
+            run_append IsBefore (IsAhead next_down b) (IsAhead next_down (having d (Some x)).solo) (IsAhead next_down e.solo)
+            (marks_of d.sent) (k ∷ [])
             (rw append-nil at h.sent) (
               inl (refl, le_refl x.security.down_next),
               λ m a. elim a [
@@ -189,7 +199,8 @@ module _ {b : Solo} where
       → IsFresh b (took (record x { radio = radio; security = record x.security { up_last = Some count } }) count d)
   unfolding took
   take d x radio count high h =
-      let from = run_onward IsBefore (IsAhead next_up b) (IsAhead next_up (having d (Some x)).solo) (option_to_list d.accepted) h.accepted in
+      let from =
+      run_onward IsBefore (IsAhead next_up b) (IsAhead next_up (having d (Some x)).solo) (option_to_list d.accepted) h.accepted in
       let below : x.place < next_place d.solo.phase d.solo.next_vector = h.in_use.0 in
       record {
         in_use = h.in_use;
@@ -208,14 +219,17 @@ module _ {b : Solo} where
   at_context : {d : Draft} {x : Context} → d.solo.context ≡ Some x → IsFresh b d → IsFresh b (having d (Some x))
   at_context {d} {x} is h = subst (λ (o : Option Context). IsFresh b (having d o)) is h
 
-  pub fresh_took : {d : Draft} (x : Context) (count : ℕ) → d.solo.context ≡ Some x → next_up x ≤ count → IsFresh b d → IsFresh b (took (counted_up x count) count d)
+  pub fresh_took : {d : Draft} (x : Context) (count : ℕ) → d.solo.context ≡ Some x → next_up x ≤ count → IsFresh b d
+      → IsFresh b (took (counted_up x count) count d)
   fresh_took {d} x count is high h = take d x x.radio count high (at_context is h)
 
-  pub fresh_keyed : {d : Draft} (x : Context) (count : ℕ) → d.solo.context ≡ Some x → next_up x ≤ count → IsFresh b d → IsFresh b (keyed (counted_up x count) count d)
+  pub fresh_keyed : {d : Draft} (x : Context) (count : ℕ) → d.solo.context ≡ Some x → next_up x ≤ count → IsFresh b d
+      → IsFresh b (keyed (counted_up x count) count d)
   unfolding keyed
   fresh_keyed {d} x count is high h = take d x _ count high (at_context is h)
 
-  pub fresh_radio : {d : Draft} (x : Context) (radio : RadioKeys) → d.solo.context ≡ Some x → IsFresh b d → IsFresh b (having d (Some (record x { radio = radio })))
+  pub fresh_radio : {d : Draft} (x : Context) (radio : RadioKeys) → d.solo.context ≡ Some x → IsFresh b d
+      → IsFresh b (having d (Some (record x { radio = radio })))
   fresh_radio {d} x radio is h =
       let f = at_context is h in record { in_use = f.in_use; onward = f.onward; sent = f.sent; accepted = f.accepted }
 
@@ -229,11 +243,13 @@ module _ {b : Solo} where
   either_if true f g = f
   either_if false f g = g
 
-  pub at_some : {K : Type 0} {f : K → Draft} {d : Draft} (o : Option K) → ((k : K) → o ≡ Some k → IsFresh b (f k)) → IsFresh b d → IsFresh b (option_map_or f o d)
+  pub at_some : {K : Type 0} {f : K → Draft} {d : Draft} (o : Option K) → ((k : K) → o ≡ Some k → IsFresh b (f k)) → IsFresh b d
+      → IsFresh b (option_map_or f o d)
   at_some None each h = h
   at_some (Some k) each h = each k refl
 
-  pub at_some_if : {K : Type 0} {f : K → Option Draft} {d : Option Draft} (o : Option K) → ((k : K) → o ≡ Some k → IsFreshIf b (f k)) → IsFreshIf b d
+  pub at_some_if : {K : Type 0} {f : K → Option Draft} {d : Option Draft} (o : Option K)
+      → ((k : K) → o ≡ Some k → IsFreshIf b (f k)) → IsFreshIf b d
       → IsFreshIf b (option_map_or f o d)
   at_some_if None each h = h
   at_some_if (Some k) each h = each k refl
@@ -241,11 +257,13 @@ module _ {b : Solo} where
   pub some : {d : Draft} → IsFresh b d → IsFreshIf b (Some d)
   some {d} h = record { fresh = λ e is. subst (IsFresh b) (same_Some d e is) h }
 
-  pub then : {o : Option Draft} {f : Draft → Draft} → IsFreshIf b o → ((d : Draft) → IsFresh b d → IsFresh b (f d)) → IsFreshIf b (o >>= λ d. Some (f d))
+  pub then : {o : Option Draft} {f : Draft → Draft} → IsFreshIf b o → ((d : Draft) → IsFresh b d → IsFresh b (f d))
+      → IsFreshIf b (o >>= λ d. Some (f d))
   then {o = None} h each = record { fresh = λ e is. absurd (cc) }
   then {o = Some d} h each = some (each d (h.fresh d refl))
 
-  sealed_then : {o : Option (Sealed × Draft)} {f : Sealed × Draft → Draft} → IsSealed b o → ((s : Sealed × Draft) → IsReady b s.1 s.0.under → IsFresh b (f s))
+  sealed_then : {o : Option (Sealed × Draft)} {f : Sealed × Draft → Draft} → IsSealed b o
+      → ((s : Sealed × Draft) → IsReady b s.1 s.0.under → IsFresh b (f s))
       → IsFreshIf b (o >>= λ s. Some (f s))
   sealed_then {o = None} h each = record { fresh = λ e is. absurd (cc) }
   sealed_then {o = Some s} h each = some (each s (h.ready s refl))
@@ -291,7 +309,8 @@ module _ {b : Solo} where
   unfolding turn_away
   fresh_turn_away slot station enb_ue_id h = fresh_emit station _ (fresh_counted h)
 
-  pub fresh_refuse : {d : Draft} (slot station enb_ue_id : ℕ) (nas : List ℕ) → IsFresh b d → IsFresh b (refuse slot station enb_ue_id nas d)
+  pub fresh_refuse : {d : Draft} (slot station enb_ue_id : ℕ) (nas : List ℕ) → IsFresh b d
+      → IsFresh b (refuse slot station enb_ue_id nas d)
   unfolding refuse
   fresh_refuse slot station enb_ue_id nas h = fresh_emit station _ (fresh_emit station _ (fresh_counted h))
 
@@ -327,9 +346,11 @@ module _ {b : Solo} where
 
   pub fresh_protect : {d : Draft} (header : SecurityHeader) (nas : List ℕ) → IsFresh b d → IsFreshIf b (protect header nas d)
   unfolding protect
-  fresh_protect header nas h = sealed_then (fresh_seal header nas h) (λ s r. at_some s.1.solo.connection (λ k _. fresh_emit k.station _ r) (unsent r))
+  fresh_protect header nas h =
+      sealed_then (fresh_seal header nas h) (λ s r. at_some s.1.solo.connection (λ k _. fresh_emit k.station _ r) (unsent r))
 
-  pub fresh_set_up : {d : Draft} {under : Option Mark} (s : Setting) (kenb : List ℕ) (nas : Option (List ℕ)) → IsReady b d under → IsFresh b (set_up s kenb nas under d)
+  pub fresh_set_up : {d : Draft} {under : Option Mark} (s : Setting) (kenb : List ℕ) (nas : Option (List ℕ)) → IsReady b d under
+      → IsFresh b (set_up s kenb nas under d)
   unfolding set_up
   fresh_set_up {d} s kenb nas r = at_some d.solo.connection (λ k _. fresh_emit k.station _ r) (unsent r)
 

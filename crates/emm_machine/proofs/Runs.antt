@@ -19,7 +19,8 @@ module _ {A : Type 0} (before : A → A → Type 0) where
 
   run_widen : (f g t : A → Type 0) (ks : List A) → ((m : A) → f m → g m) → IsRun f t ks → IsRun g t ks
   run_widen f g t [] w h = λ m q. w m (h m q)
-  run_widen f g t (k ∷ ks) w h = (w k h.0, run_widen (λ m. f m × before k m) (λ m. g m × before k m) t ks (λ m q. (w m q.0, q.1)) h.1)
+  run_widen f g t (k ∷ ks) w h =
+      (w k h.0, run_widen (λ m. f m × before k m) (λ m. g m × before k m) t ks (λ m q. (w m q.0, q.1)) h.1)
 
   pub run_append : (f t u : A → Type 0) (ks js : List A) → IsRun f t ks → IsRun t u js → IsRun f u (ks ++ js)
   run_append f t u [] js h g = run_widen t f u js h g
@@ -38,4 +39,5 @@ module _ {A : Type 0} (before : A → A → Type 0) where
   run_pairs f t [] h = λ i j d lt within. absurd (omega arith)
   run_pairs f t (k ∷ ks) h =
       let rest = run_all (λ m. f m × before k m) t ks h.1 in
-      AllPairs-cons before k ks (All-weaker (λ m. f m × before k m) (before k) (λ m q. q.1) ks rest) (run_pairs (λ m. f m × before k m) t ks h.1)
+      AllPairs-cons before k ks (All-weaker (λ m. f m × before k m) (before k) (λ m q. q.1) ks rest)
+      (run_pairs (λ m. f m × before k m) t ks h.1)

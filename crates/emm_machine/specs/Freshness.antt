@@ -96,7 +96,8 @@ SendsAhead = (s : Setting) (solo : Solo) (items : List Item) → IsInUse solo �
 
 -- and every pair that is accepted under
 abbrev pub AcceptsAhead : Type 0
-AcceptsAhead = (s : Setting) (solo : Solo) (items : List Item) → IsInUse solo → All (IsAhead next_up solo) (accepted_marks s solo items)
+AcceptsAhead =
+    (s : Setting) (solo : Solo) (items : List Item) → IsInUse solo → All (IsAhead next_up solo) (accepted_marks s solo items)
 
 -- each pair that is sent under is before all later ones, so none is sent under twice
 abbrev pub SendsOnce : Type 0

@@ -19,7 +19,8 @@ abbrev counting : Option Countdown → Option ℕ → Solo → Solo
 counting procedure reachable solo = record solo { procedure = procedure; reachable = reachable }
 
 -- no countdown runs
-still_tick : (s : Setting) (solo : Solo) (procedure : Option Countdown) (reachable : Option ℕ) → (not (is_some procedure) && not (is_some reachable)) ≡ true
+still_tick : (s : Setting) (solo : Solo) (procedure : Option Countdown) (reachable : Option ℕ)
+    → (not (is_some procedure) && not (is_some reachable)) ≡ true
     → solo_step s (counting procedure reachable solo) Tick ≡ untouched (counting procedure reachable solo)
 unfolding solo_step row tick lowered procedure_ticks reachable_ticks_out
 still_tick s solo None None h = refl
@@ -35,13 +36,15 @@ not_lost false d h = refl
 
 -- the connection is elsewhere, and nothing is struck
 still_gone : (s : Setting) (solo : Solo) (e : ℕ) (connection : Option Connection) (repeat : Option Repeat)
-    → (not (pages repeat) && is_elsewhere e connection) ≡ true → solo_step s (linked connection repeat solo) (StationGone e) ≡ untouched (linked connection repeat solo)
+    → (not (pages repeat) && is_elsewhere e connection) ≡ true
+    → solo_step s (linked connection repeat solo) (StationGone e) ≡ untouched (linked connection repeat solo)
 unfolding solo_step row station_gone strike
 still_gone s solo e None None h = refl
 still_gone s solo e None (Some (repeats.Nas protection nas)) h = refl
 still_gone s solo e None (Some (repeats.Paging es)) h = cc
 still_gone s solo e (Some k) None h = not_lost (k.station == e) (untouched (linked (Some k) None solo)) h
-still_gone s solo e (Some k) (Some (repeats.Nas protection nas)) h = not_lost (k.station == e) (untouched (linked (Some k) (Some (repeats.Nas protection nas)) solo)) h
+still_gone s solo e (Some k) (Some (repeats.Nas protection nas)) h =
+    not_lost (k.station == e) (untouched (linked (Some k) (Some (repeats.Nas protection nas)) solo)) h
 still_gone s solo e (Some k) (Some (repeats.Paging es)) h = cc
 
 abbrev connected : Option Connection → Solo → Solo
@@ -49,10 +52,12 @@ connected connection solo = record solo { connection = connection }
 
 -- the connection isn't in the list
 still_listed : (s : Setting) (solo : Solo) (e : ℕ) (items : ToReset) (connection : Option Connection)
-    → is_unlisted e items connection ≡ true → solo_step s (connected connection solo) (ConnectionsGone e items) ≡ untouched (connected connection solo)
+    → is_unlisted e items connection ≡ true
+    → solo_step s (connected connection solo) (ConnectionsGone e items) ≡ untouched (connected connection solo)
 unfolding solo_step row connections_gone
 still_listed s solo e items None h = refl
-still_listed s solo e items (Some k) h = not_lost (k.station == e && is_listed k.id k.enb_ue_id items) (untouched (connected (Some k) solo)) h
+still_listed s solo e items (Some k) h =
+    not_lost (k.station == e && is_listed k.id k.enb_ue_id items) (untouched (connected (Some k) solo)) h
 
 pub still_stays : (s : Setting) (solo : Solo) (item : Item) → still solo item ≡ true → solo_step s solo item ≡ untouched solo
 unfolding solo_step row

@@ -20,8 +20,10 @@ counting procedure reachable solo = record solo { procedure = procedure; reachab
 not_last : (n : ℕ) → 1 < n → (n - 1 == 0) ≡ false
 not_last n lt = grind (arith, nat_tests)
 
-quiet_at : (s : Setting) (solo : Solo) (procedure : Option Countdown) (reachable : Option ℕ) → IsAbove 1 (procedure_left procedure) → IsAbove 1 reachable
-    → solo_step s (counting procedure reachable solo) Tick ≡ untouched (counting (procedure_less 1 procedure) (less 1 reachable) solo)
+quiet_at : (s : Setting) (solo : Solo) (procedure : Option Countdown) (reachable : Option ℕ) → IsAbove 1 (procedure_left procedure)
+    → IsAbove 1 reachable
+    → solo_step s (counting procedure reachable solo) Tick
+    ≡ untouched (counting (procedure_less 1 procedure) (less 1 reachable) solo)
 unfolding solo_step row tick lowered procedure_ticks reachable_ticks_out
 quiet_at s solo None None a b = refl
 quiet_at s solo None (Some n) a b = rw (not_last n b) refl
@@ -45,7 +47,8 @@ procedure_less_less n m (Some c) = ap (λ k. Some (record c { left = k })) (omeg
 
 aged_aged : (n m : ℕ) (solo : Solo) → solo_aged m (solo_aged n solo) ≡ solo_aged (n + m) solo
 unfolding solo_aged
-aged_aged n m solo = ap (λ (o : Option Countdown). counting o (less m (less n solo.reachable)) solo) (procedure_less_less n m solo.procedure)
+aged_aged n m solo =
+    ap (λ (o : Option Countdown). counting o (less m (less n solo.reachable)) solo) (procedure_less_less n m solo.procedure)
     ∙ ap (λ (o : Option ℕ). counting (procedure_less (n + m) solo.procedure) o solo) (less_less n m solo.reachable)
 
 none_less : (o : Option ℕ) → less 0 o ≡ o
@@ -84,7 +87,8 @@ unfolding ticks_after
 ticks_are_aged s zero solo h = sym (aged_none solo)
 ticks_are_aged s (suc n) solo h =
     let more : AreAbove (n + 1) (countdowns solo) = rw add-one h in
-    let fewer : AreAbove n (countdowns solo) = (above_fewer n (countdowns solo).0 more.0, above_fewer n (countdowns solo).1 more.1) in
+    let fewer : AreAbove n (countdowns solo) =
+    (above_fewer n (countdowns solo).0 more.0, above_fewer n (countdowns solo).1 more.1) in
     let last : AreAbove 1 (countdowns (solo_aged n solo)) =
     rw countdowns_aged (above_less n (countdowns solo).0 more.0, above_less n (countdowns solo).1 more.1) in
     ap (λ x. (solo_step s x Tick).solo) (ticks_are_aged s n solo fewer) ∙ ap (λ d. d.solo) (quiet_tick s (solo_aged n solo) last)
@@ -95,7 +99,8 @@ pub ticks_more : (s : Setting) (n : ℕ) (solo : Solo) → ticks_after s (n + 1)
 unfolding ticks_after
 ticks_more s n solo = rw add-one refl
 
-countdowns_later : (s : Setting) (n : ℕ) (solo : Solo) → AreAbove n (countdowns solo) → countdowns (ticks_after s n solo) ≡ both_less n (countdowns solo)
+countdowns_later : (s : Setting) (n : ℕ) (solo : Solo) → AreAbove n (countdowns solo)
+    → countdowns (ticks_after s n solo) ≡ both_less n (countdowns solo)
 countdowns_later s n solo h = ap countdowns (ticks_are_aged s n solo h) ∙ countdowns_aged n solo
 
 above_more : (n : ℕ) (o : Option ℕ) → IsAbove n o → IsAbove 1 (less n o) → IsAbove (n + 1) o
@@ -103,14 +108,16 @@ above_more n None h k = tt
 above_more n (Some m) h k = omega arith
 
 -- where more than one tick is left behind n ticks, more than n + 1 were left
-pub above_later : (s : Setting) (n : ℕ) (solo : Solo) → AreAbove n (countdowns solo) → AreAbove 1 (countdowns (ticks_after s n solo)) → AreAbove (n + 1) (countdowns solo)
+pub above_later : (s : Setting) (n : ℕ) (solo : Solo) → AreAbove n (countdowns solo)
+    → AreAbove 1 (countdowns (ticks_after s n solo)) → AreAbove (n + 1) (countdowns solo)
 above_later s n solo h later =
     let k : AreAbove 1 (both_less n (countdowns solo)) = rw (countdowns_later s n solo h) at later in
     (above_more n (countdowns solo).0 h.0 k.0, above_more n (countdowns solo).1 h.1 k.1)
 
 -- ---- countdowns that run
 
-going_timed : (procedure : Option Countdown) (repeat : Option Repeat) → IsGoing procedure repeat → IsTimed (procedure_left procedure)
+going_timed : (procedure : Option Countdown) (repeat : Option Repeat) → IsGoing procedure repeat
+    → IsTimed (procedure_left procedure)
 going_timed None repeat h = tt
 going_timed (Some c) repeat h = h.0
 
@@ -125,9 +132,11 @@ timed_above (Some left) h = h.0
 
 -- and has a tick left
 pub running_above : (solo : Solo) → IsRunning solo → AreAbove 0 (countdowns solo)
-running_above solo h = let both = running_timed solo h in (timed_above (countdowns solo).0 both.0, timed_above (countdowns solo).1 both.1)
+running_above solo h =
+    let both = running_timed solo h in (timed_above (countdowns solo).0 both.0, timed_above (countdowns solo).1 both.1)
 
-going_less : (n : ℕ) (procedure : Option Countdown) (repeat : Option Repeat) → IsAbove n (procedure_left procedure) → IsGoing procedure repeat
+going_less : (n : ℕ) (procedure : Option Countdown) (repeat : Option Repeat) → IsAbove n (procedure_left procedure)
+    → IsGoing procedure repeat
     → IsGoing (procedure_less n procedure) repeat
 going_less n None repeat above h = tt
 going_less n (Some c) repeat above h = let most = h.0.1 in ((omega arith, omega arith), h.1)
@@ -137,8 +146,10 @@ timed_less n None above h = tt
 timed_less n (Some left) above h = let most = h.1 in (omega arith, omega arith)
 
 -- where each countdown has more than n ticks left, it runs on behind n ticks
-pub running_later : (s : Setting) (n : ℕ) (solo : Solo) → AreAbove n (countdowns solo) → IsRunning solo → IsRunning (ticks_after s n solo)
+pub running_later : (s : Setting) (n : ℕ) (solo : Solo) → AreAbove n (countdowns solo) → IsRunning solo
+    → IsRunning (ticks_after s n solo)
 unfolding countdowns solo_aged
 running_later s n solo above h =
-    let aged : IsRunning (solo_aged n solo) = (going_less n solo.procedure solo.repeat above.0 h.0, timed_less n solo.reachable above.1 h.1) in
+    let aged : IsRunning (solo_aged n solo) =
+    (going_less n solo.procedure solo.repeat above.0 h.0, timed_less n solo.reachable above.1 h.1) in
     subst IsRunning (sym (ticks_are_aged s n solo above)) aged

@@ -10,8 +10,7 @@ mod passing;
 mod subscriber;
 
 pub use laws::{
-    accepted_counts_are_fresh, in_use_is_kept, sent_counts_are_fresh,
-    vector_makes_one_context,
+    accepted_counts_are_fresh, in_use_is_kept, sent_counts_are_fresh, vector_makes_one_context,
 };
 pub use mme_types::{Answers, EnbWorld, Network, SoloEvent};
 pub use subscriber::{EcmState, EmmState, States, Subscriber};

@@ -238,8 +238,10 @@ impl Subscriber {
 
     /// One event: what is sent. Where memory is refused nothing changes.
     pub fn step(&mut self, event: &SoloEvent, world: &EnbWorld) -> Result<Answers, AllocError>
-        ensures answers { IfOk result (λ answers. answers ≡ (solo_step self.old.setting self.old.solo (item_of event.now world.now)).sent) }
-        ensures state { OnOk result (self.new ≡ record self.old { solo = (solo_step self.old.setting self.old.solo (item_of event.now world.now)).solo }) }
+        ensures answers { IfOk result
+            (λ answers. answers ≡ (solo_step self.old.setting self.old.solo (item_of event.now world.now)).sent) }
+        ensures state { OnOk result
+            (self.new ≡ record self.old { solo = (solo_step self.old.setting self.old.solo (item_of event.now world.now)).solo }) }
         ensures err { OnErr result (self.new ≡ self.old) }
     {
         let mut draft = self.prepare(None, event, world)?;

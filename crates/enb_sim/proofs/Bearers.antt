@@ -7,11 +7,14 @@ use Rattle.s1ap_elements.specs.Bearers.{erabs_to_be_setup_lists}
 use Rattle.s1ap_pdus.specs.Pdus.{listed}
 use Rattle.enb_sim.specs.Delivering.{first_bearer}
 
-pub first_is : (es : List (Listed (ErabToBeSetup (Bor (List ℕ))) 52 0)) (e : Listed (ErabToBeSetup (Bor (List ℕ))) 52 0) → slice_get es 0 ≡ Some e
+pub first_is : (es : List (Listed (ErabToBeSetup (Bor (List ℕ))) 52 0)) (e : Listed (ErabToBeSetup (Bor (List ℕ))) 52 0)
+    → slice_get es 0 ≡ Some e
     → first_bearer (erabs_to_be_setup_lists es) ≡ Some (e.value.id, listed e.value.nas)
 first_is [] e h = absurd cc
-first_is (x ∷ es) e h = let k : x ≡ e = cc in ap (λ (y : Listed (ErabToBeSetup (Bor (List ℕ))) 52 0). Some (y.value.id, listed y.value.nas)) k
+first_is (x ∷ es) e h =
+    let k : x ≡ e = cc in ap (λ (y : Listed (ErabToBeSetup (Bor (List ℕ))) 52 0). Some (y.value.id, listed y.value.nas)) k
 
-pub none_is : (es : List (Listed (ErabToBeSetup (Bor (List ℕ))) 52 0)) → slice_get es 0 ≡ None → first_bearer (erabs_to_be_setup_lists es) ≡ None
+pub none_is : (es : List (Listed (ErabToBeSetup (Bor (List ℕ))) 52 0)) → slice_get es 0 ≡ None
+    → first_bearer (erabs_to_be_setup_lists es) ≡ None
 none_is [] h = refl
 none_is (x ∷ es) h = absurd cc

@@ -48,7 +48,8 @@ count (suc n) bs = ap suc (count n (drop 8 bs))
 
 pub packed : {bs : List Bool} {m : ℕ} (n : ℕ) → Short m bs → m ≤ 8 * n → Few n (padded bs)
 unfolding padded
-packed {bs = bs} n s h = record { most = (let p = s.most in let c = count ((length bs + 7) / 8) (bs ++ pad (length bs)) in omega (arith, p, h, c)) }
+packed {bs = bs} n s h =
+    record { most = (let p = s.most in let c = count ((length bs + 7) / 8) (bs ++ pad (length bs)) in omega (arith, p, h, c)) }
 
 pub string_fitting : {bs : List Bool} {m : ℕ} → Short m bs → m ≤ 8000 → string_fits (padded bs) ≡ true
 unfolding padded
@@ -93,9 +94,11 @@ two_short n at = bits_short 2 (n - 0)
 
 -- ---- an element: id, criticality, octets
 
-pub raw_short : {os : List ℕ} (id c n at : ℕ) → Few n os → Short (23 + (2 + ((23 + (7 + 8 * n)) + 0))) (written raw (id, (c, (os, tt))) at)
+pub raw_short : {os : List ℕ} (id c n at : ℕ) → Few n os
+    → Short (23 + (2 + ((23 + (7 + 8 * n)) + 0))) (written raw (id, (c, (os, tt))) at)
 raw_short id c n at h =
     let place = at + 0 in
     let first = whole 0 65535 id place in
     let second = whole 0 2 c (place + length first) in
-    plus (double_short id place) (plus (two_short c (place + length first)) (plus (string_short n (place + length first + length second) h) nothing))
+    plus (double_short id place)
+    (plus (two_short c (place + length first)) (plus (string_short n (place + length first + length second) h) nothing))

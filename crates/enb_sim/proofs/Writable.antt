@@ -14,21 +14,24 @@ use Rattle.enb_sim.specs.Sending.{setup_pdu}
 use Rattle.enb_sim.proofs.Lengths.{Few, Short, aligned_short, bits_short, double_short, next, nothing, octets_short, packed, pad_short, plus, raw_short, string_fitting}
 
 few_octets : (n : ℕ) (os : List ℕ) → AreBytes n os → Few n os
-few_octets n os h = record { most = (let e = eqb-true (length os) n (and_parts (eqb (length os) n) (all_below 256 os) h).0 in omega (arith, e)) }
+few_octets n os h =
+    record { most = (let e = eqb-true (length os) n (and_parts (eqb (length os) n) (all_below 256 os) h).0 in omega (arith, e)) }
 
 few_bits : (n : ℕ) (bs : List Bool) → IsLong n bs → Short n bs
 few_bits n bs h = record { most = (let e = eqb-true (length bs) n h in omega (arith, e)) }
 
 -- ---- the station
 
-station_fits : (plmn : List ℕ) (id : List Bool) → AreBytes 3 plmn → IsLong 20 id → writable global_enb_id (plmn, (inl id, tt)) ≡ true
+station_fits : (plmn : List ℕ) (id : List Bool) → AreBytes 3 plmn → IsLong 20 id
+    → writable global_enb_id (plmn, (inl id, tt)) ≡ true
 station_fits plmn id p i = and_from _ _ p (and_from _ _ i refl)
 
 id_short : (id : List Bool) (at : ℕ) → IsLong 20 id → Short 29 (written enb_id (inl id) at)
 unfolding offset_bits width_of bits
 id_short id at h = next (next (plus (pad_short (at + 2)) (few_bits 20 id h)))
 
-station_short : (plmn : List ℕ) (id : List Bool) → AreBytes 3 plmn → IsLong 20 id → Short 62 (written global_enb_id (plmn, (inl id, tt)) 0)
+station_short : (plmn : List ℕ) (id : List Bool) → AreBytes 3 plmn → IsLong 20 id
+    → Short 62 (written global_enb_id (plmn, (inl id, tt)) 0)
 station_short plmn id p i =
     let first = aligned_form plmn 2 in
     next (next (plus (aligned_short 3 2 (few_octets 3 plmn p)) (plus (id_short id (2 + length first) i) nothing)))
@@ -45,11 +48,13 @@ plmns_short : (plmn : List ℕ) (at : ℕ) → AreBytes 3 plmn → Short 34 (wri
 unfolding offset_bits width_of
 plmns_short plmn at p = plus (bits_short 3 0) (plus (aligned_short 3 (at + length (bits 3 0)) (few_octets 3 plmn p)) nothing)
 
-area_short : (tac plmn : List ℕ) (at : ℕ) → AreBytes 2 tac → AreBytes 3 plmn → Short 52 (written supported_ta (tac, (plmn ∷ [], tt)) at)
+area_short : (tac plmn : List ℕ) (at : ℕ) → AreBytes 2 tac → AreBytes 3 plmn
+    → Short 52 (written supported_ta (tac, (plmn ∷ [], tt)) at)
 area_short tac plmn at t p =
     next (next (plus (octets_short 2 (few_octets 2 tac t)) (plus (plmns_short plmn (at + 2 + length (written (octets 2) tac (at + 2))) p) nothing)))
 
-areas_short : (tac plmn : List ℕ) → AreBytes 2 tac → AreBytes 3 plmn → Short 67 (written supported_tas ((tac, (plmn ∷ [], tt)) ∷ []) 0)
+areas_short : (tac plmn : List ℕ) → AreBytes 2 tac → AreBytes 3 plmn
+    → Short 67 (written supported_tas ((tac, (plmn ∷ [], tt)) ∷ []) 0)
 unfolding offset_bits
 areas_short tac plmn t p =
     let counted = whole 1 256 1 0 in
@@ -74,7 +79,8 @@ three_short i j k c d e x y z p q r =
     let third = second + length (written raw (j, (d, (y, tt))) second) in
     next (plus (plus (double_short 3 1) (plus (raw_short i c 9 first p) (plus (raw_short j d 9 second q) (plus (raw_short k e 9 third r) nothing)))) nothing)
 
-pub setup_fits : (s : StationProfile) → AreBytes 3 s.plmn → IsLong 20 s.macro_id → AreBytes 2 s.tac → IsWritableMessage (setup_pdu s)
+pub setup_fits : (s : StationProfile) → AreBytes 3 s.plmn → IsLong 20 s.macro_id → AreBytes 2 s.tac
+    → IsWritableMessage (setup_pdu s)
 unfolding setup_pdu
 setup_fits s p i t =
     let one = station_short s.plmn s.macro_id p i in
@@ -87,5 +93,7 @@ setup_fits s p i t =
     let second = element_fits y (string_fitting two (omega arith)) in
     let third = element_fits z (string_fitting cycle_short (omega arith)) in
     let elements = and_from _ _ (and_from _ _ first (and_from _ _ second (and_from _ _ third refl))) refl in
-    let short = three_short 59 64 137 0 0 1 x y z (packed 9 one (omega arith)) (packed 9 two (omega arith)) (packed 9 cycle_short (omega arith)) in
+    let short =
+    three_short 59 64 137 0 0 1 x y z (packed 9 one (omega arith)) (packed 9 two (omega arith))
+    (packed 9 cycle_short (omega arith)) in
     and_from _ _ values (and_from _ _ elements (string_fitting short (omega arith)))

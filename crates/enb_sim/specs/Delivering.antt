@@ -86,11 +86,13 @@ seen_bearer (Some found) = Some (found.0, listed found.1)
 -- a context for the first bearer
 abbrev pub served : UeIdPair → Option (ℕ × Option (List ℕ)) → StationView → Delivered
 served pair None s = unmoved (holding pair s)
-served pair (Some found) s = record { octets = encoded (context_pdu s.profile pair found.0); nas = handed pair found.1; station = holding pair s }
+served pair (Some found) s =
+    record { octets = encoded (context_pdu s.profile pair found.0); nas = handed pair found.1; station = holding pair s }
 
 abbrev pub ended : Option UeIdPair → StationView → Delivered
 ended None s = unmoved s
-ended (Some pair) s = record { octets = encoded (complete_pdu pair); nas = None; station = record s { pairs = without_pair pair s.pairs } }
+ended (Some pair) s =
+    record { octets = encoded (complete_pdu pair); nas = None; station = record s { pairs = without_pair pair s.pairs } }
 
 abbrev pub named_pair : UeS1apIds → List UeIdPair → Option UeIdPair
 named_pair (Pair pair) pairs = Some pair

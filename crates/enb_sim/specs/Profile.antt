@@ -30,7 +30,8 @@ tunnel_of s id enb_ue_id = record { id = id; address = octet_bits (address_of s)
 
 -- algorithms 1 and 2
 abbrev pub two_algorithms : List Bool
-two_algorithms = true ∷ true ∷ false ∷ false ∷ false ∷ false ∷ false ∷ false ∷ false ∷ false ∷ false ∷ false ∷ false ∷ false ∷ false ∷ false ∷ []
+two_algorithms =
+    true ∷ true ∷ false ∷ false ∷ false ∷ false ∷ false ∷ false ∷ false ∷ false ∷ false ∷ false ∷ false ∷ false ∷ false ∷ false ∷ []
 
 abbrev pub phone_capabilities : SecurityCapabilities
 phone_capabilities = record { encryption = two_algorithms; integrity = two_algorithms }

@@ -32,7 +32,9 @@ initial_pdu s enb_ue_id nas s_tmsi = pdu.InitialUeMessage (record {
 })
 
 unfoldable pub uplink_pdu : StationProfile → UeIdPair → List ℕ → Pdu (List ℕ)
-uplink_pdu s pair nas = pdu.UplinkNasTransport (record { mme_ue_id = pair.mme_ue_id; enb_ue_id = pair.enb_ue_id; nas = nas; cell = cell_of s; tai = area_of s })
+uplink_pdu s pair nas =
+    pdu.UplinkNasTransport
+    (record { mme_ue_id = pair.mme_ue_id; enb_ue_id = pair.enb_ue_id; nas = nas; cell = cell_of s; tai = area_of s })
 
 -- PATH SWITCH REQUEST for the default bearer
 unfoldable pub switch_pdu : StationProfile → UeIdPair → Pdu (List ℕ)
@@ -47,11 +49,17 @@ switch_pdu s pair = pdu.PathSwitchRequest (record {
 
 -- UE CONTEXT RELEASE REQUEST
 unfoldable pub release_pdu : UeIdPair → Pdu (List ℕ)
-release_pdu pair = pdu.UeContextReleaseRequest (record { mme_ue_id = pair.mme_ue_id; enb_ue_id = pair.enb_ue_id; cause = RadioNetwork UserInactivity })
+release_pdu pair =
+    pdu.UeContextReleaseRequest
+    (record { mme_ue_id = pair.mme_ue_id; enb_ue_id = pair.enb_ue_id; cause = RadioNetwork UserInactivity })
 
 -- INITIAL CONTEXT SETUP RESPONSE for a bearer
 unfoldable pub context_pdu : StationProfile → UeIdPair → ℕ → Pdu (List ℕ)
-context_pdu s pair id = pdu.InitialContextSetupResponse (record { mme_ue_id = pair.mme_ue_id; enb_ue_id = pair.enb_ue_id; erabs = record { value = tunnel_of s id pair.enb_ue_id } ∷ [] })
+context_pdu s pair id = pdu.InitialContextSetupResponse (record {
+  mme_ue_id = pair.mme_ue_id;
+  enb_ue_id = pair.enb_ue_id;
+  erabs = record { value = tunnel_of s id pair.enb_ue_id } ∷ [];
+})
 
 -- UE CONTEXT RELEASE COMPLETE
 unfoldable pub complete_pdu : UeIdPair → Pdu (List ℕ)

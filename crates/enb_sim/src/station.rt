@@ -175,7 +175,12 @@ impl Station {
         nas: Option<&'a [u8]>,
     ) -> Result<Delivery<'a>, AllocError>
         ensures ok { IfOk result (λ d. seen_delivery d self.new
-            ≡ record { octets = option_map (λ o. o.items) octets; nas = handed pair (listed nas.entry); station = holding pair self.old }) }
+            ≡ record {
+              octets = option_map (λ o. o.items) octets;
+              nas = handed pair
+                  (listed nas.entry);
+              station = holding pair self.old;
+            }) }
         ensures err { OnErr result (self.new ≡ self.old) }
     {
         hold_pair(&mut self.pairs, &pair)?;

@@ -1,7 +1,8 @@
 //! The substitution (FIPS 197 clause 5.1.1) of the sixteen octets of a vector at once, by permutations of the lanes of a vector: no
 //! octet chooses an address or a branch.
 //!
-//! The method is that of M. Hamburg, "Accelerating AES with Vector Permute Instructions" (2009); the constants are this crate's own.
+//! The method is that of M. Hamburg, "Accelerating AES with Vector Permute Instructions" (2009); the constants are this crate's
+//! own.
 
 ghost use Rattle.std.specs.Prelude.{◌≡◌, ℕ, IsTrue, map};
 ghost use Rattle.std.specs.Simd.Lanes.{Each1};

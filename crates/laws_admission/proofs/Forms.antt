@@ -20,7 +20,8 @@ pub plain_attach_reject : (cause : EmmCause) (esm : Option (List ℕ)) → has_s
 unfolding attach_reject header_of
 plain_attach_reject cause esm = refl
 
-pub plain_authentication_request : (ksi : ℕ) (rand autn : List ℕ) → has_security_header (authentication_request ksi rand autn) ≡ false
+pub plain_authentication_request : (ksi : ℕ) (rand autn : List ℕ)
+    → has_security_header (authentication_request ksi rand autn) ≡ false
 unfolding authentication_request header_of
 plain_authentication_request ksi rand autn = refl
 
@@ -46,7 +47,8 @@ plain_update_reject cause = refl
 
 -- ---- protected forms
 
-form_has_header : (mac : Mac) (count : ℕ) (header : SecurityHeader) (nas : List ℕ) → has_security_header (protected_by mac count header nas) ≡ true
+form_has_header : (mac : Mac) (count : ℕ) (header : SecurityHeader) (nas : List ℕ)
+    → has_security_header (protected_by mac count header nas) ≡ true
 unfolding protected_by protected_form header_of
 form_has_header mac count IntegrityProtected nas = refl
 form_has_header mac count IntegrityProtectedCiphered nas = refl
@@ -54,7 +56,8 @@ form_has_header mac count NewContext nas = refl
 form_has_header mac count NewContextCiphered nas = refl
 
 -- the protected form under a context is one under its vector
-pub form_is_under : (vectors : List Vector) (x : Context) (v : Vector) (count : ℕ) (header : SecurityHeader) (nas : List ℕ) → IsOfVector vectors x v
+pub form_is_under : (vectors : List Vector) (x : Context) (v : Vector) (count : ℕ) (header : SecurityHeader) (nas : List ℕ)
+    → IsOfVector vectors x v
     → AreFormsUnder vectors (Some (record { place = x.place; count = count })) (filter has_security_header (protected_by (mac_of x) count header nas ∷ []))
 form_is_under vectors x v count header nas of =
     let form = protected_by (mac_of x) count header nas in (

@@ -86,7 +86,8 @@ module _ {x : Context} {b : Solo} where
 
   keeps_release : {d : Draft} (cause : Cause) → Keeps x b d → Keeps x b (release cause d)
   unfolding release
-  keeps_release {d} cause h = at_some (Keeps x b) d.solo.connection (λ k is. keeps_disconnected (keeps_emit k.station _ h)) (λ is. h)
+  keeps_release {d} cause h =
+      at_some (Keeps x b) d.solo.connection (λ k is. keeps_disconnected (keeps_emit k.station _ h)) (λ is. h)
 
   keeps_counted : {d : Draft} → Keeps x b d → Keeps x b (association_counted d)
   unfolding association_counted
@@ -99,7 +100,8 @@ module _ {x : Context} {b : Solo} where
   unfolding turn_away
   keeps_turn_away slot station enb_ue_id h = keeps_emit station _ (keeps_counted h)
 
-  keeps_refuse : {d : Draft} (slot station enb_ue_id : ℕ) (nas : List ℕ) → Keeps x b d → Keeps x b (refuse slot station enb_ue_id nas d)
+  keeps_refuse : {d : Draft} (slot station enb_ue_id : ℕ) (nas : List ℕ) → Keeps x b d
+      → Keeps x b (refuse slot station enb_ue_id nas d)
   unfolding refuse
   keeps_refuse slot station enb_ue_id nas h = keeps_emit station _ (keeps_emit station _ (keeps_counted h))
 
@@ -112,7 +114,8 @@ module _ {x : Context} {b : Solo} where
 
   keeps_fallen : {d : Draft} → Keeps x b d → Keeps x b (fallen d)
   keeps_fallen {d} h =
-      either_by (Keeps x b) (is_registered d.solo.phase) (λ t. keeps_resting h) (λ t. absurd (true≢false (sym h.stays.registered ∙ t)))
+      either_by (Keeps x b) (is_registered d.solo.phase) (λ t. keeps_resting h)
+      (λ t. absurd (true≢false (sym h.stays.registered ∙ t)))
 
   keeps_fall : {d : Draft} (cause : Cause) → Keeps x b d → Keeps x b (fall cause d)
   unfolding fall
@@ -124,13 +127,15 @@ module _ {x : Context} {b : Solo} where
 
   -- ---- INITIAL UE MESSAGEs
 
-  keeps_served_by : {d : Draft} (r : Result ℕ SecurityFault) (s : Setting) (y : Context) (m : Entry (List ℕ)) → is_ok r ≡ false → Keeps x b d
+  keeps_served_by : {d : Draft} (r : Result ℕ SecurityFault) (s : Setting) (y : Context) (m : Entry (List ℕ)) → is_ok r ≡ false
+      → Keeps x b d
       → Keeps x b (serving.served_by r s y m d)
   unfolding serving.served_by
   keeps_served_by (Ok count) s y m e h = absurd (cc)
   keeps_served_by (Err fault) s y m e h = keeps_refuse s.slot m.station m.enb_ue_id _ h
 
-  keeps_service : {d : Draft} (s : Setting) (m : Entry (List ℕ)) (octets : List ℕ) → is_ok (short_accepted (mac_of x) x.security.up_last x.security.ksi octets) ≡ false
+  keeps_service : {d : Draft} (s : Setting) (m : Entry (List ℕ)) (octets : List ℕ)
+      → is_ok (short_accepted (mac_of x) x.security.up_last x.security.ksi octets) ≡ false
       → Keeps x b d → Keeps x b (serving.service s m octets d)
   unfolding serving.service
   keeps_service {d} s m octets e h =
@@ -141,13 +146,15 @@ module _ {x : Context} {b : Solo} where
       (λ is. keeps_refuse s.slot m.station m.enb_ue_id _ h))
       (keeps_refuse s.slot m.station m.enb_ue_id _ h)
 
-  keeps_updated_by : {d : Draft} (r : Acceptance) (s : Setting) (y : Context) (m : Entry (List ℕ)) (combined : Bool) → is_ok r ≡ false → Keeps x b d
+  keeps_updated_by : {d : Draft} (r : Acceptance) (s : Setting) (y : Context) (m : Entry (List ℕ)) (combined : Bool)
+      → is_ok r ≡ false → Keeps x b d
       → Within (Keeps x b) (serving.updated_by r s y m combined d)
   unfolding serving.updated_by
   keeps_updated_by (Ok found) s y m combined e h = absurd (cc)
   keeps_updated_by (Err fault) s y m combined e h = here (keeps_refuse s.slot m.station m.enb_ue_id _ h)
 
-  keeps_initial_update : {d : Draft} (s : Setting) (m : Entry (List ℕ)) (combined : Bool) → is_ok (accepted_by_context x m.nas) ≡ false → Keeps x b d
+  keeps_initial_update : {d : Draft} (s : Setting) (m : Entry (List ℕ)) (combined : Bool)
+      → is_ok (accepted_by_context x m.nas) ≡ false → Keeps x b d
       → Within (Keeps x b) (serving.initial_update s m combined d)
   unfolding serving.initial_update
   keeps_initial_update {d} s m combined e h =
@@ -157,22 +164,26 @@ module _ {x : Context} {b : Solo} where
       (λ is. here (keeps_refuse s.slot m.station m.enb_ue_id _ h)))
       (here (keeps_refuse s.slot m.station m.enb_ue_id _ h))
 
-  keeps_detached_by : {d : Draft} (r : Acceptance) (s : Setting) (y : Context) (m : Entry (List ℕ)) (switch_off : Bool) → is_ok r ≡ false → Keeps x b d
+  keeps_detached_by : {d : Draft} (r : Acceptance) (s : Setting) (y : Context) (m : Entry (List ℕ)) (switch_off : Bool)
+      → is_ok r ≡ false → Keeps x b d
       → Within (Keeps x b) (serving.detached_by r s y m switch_off d)
   unfolding serving.detached_by
   keeps_detached_by (Ok found) s y m switch_off e h = absurd (cc)
   keeps_detached_by (Err fault) s y m switch_off e h = here (keeps_turn_away s.slot m.station m.enb_ue_id h)
 
-  keeps_initial_detach : {d : Draft} (s : Setting) (m : Entry (List ℕ)) (switch_off : Bool) → is_ok (accepted_by_context x m.nas) ≡ false → Keeps x b d
+  keeps_initial_detach : {d : Draft} (s : Setting) (m : Entry (List ℕ)) (switch_off : Bool)
+      → is_ok (accepted_by_context x m.nas) ≡ false → Keeps x b d
       → Within (Keeps x b) (serving.initial_detach s m switch_off d)
   unfolding serving.initial_detach
   keeps_initial_detach {d} s m switch_off e h =
-      either_by (Within (Keeps x b)) (serving.is_deregistered d.solo.phase) (λ t. absurd (not_deregistered d.solo.phase h.stays.registered t))
+      either_by (Within (Keeps x b)) (serving.is_deregistered d.solo.phase)
+      (λ t. absurd (not_deregistered d.solo.phase h.stays.registered t))
       (λ t. at_some (Within (Keeps x b)) d.solo.context
       (λ y is. keeps_detached_by _ s y m switch_off (subst (λ (z : Context). is_ok (accepted_by_context z m.nas) ≡ false) (same_Some x y (sym h.context ∙ is)) e) h)
       (λ is. here (keeps_turn_away s.slot m.station m.enb_ue_id h)))
 
-  keeps_entered : {d : Draft} (m : Heard (List ℕ)) (s : Setting) (e : Entry (List ℕ)) → is_proved_entry x e.nas m ≡ false → is_attach_request m ≡ false → Keeps x b d
+  keeps_entered : {d : Draft} (m : Heard (List ℕ)) (s : Setting) (e : Entry (List ℕ)) → is_proved_entry x e.nas m ≡ false
+      → is_attach_request m ≡ false → Keeps x b d
       → Within (Keeps x b) (serving.entered m s e d)
   unfolding serving.entered
   keeps_entered (heards.AttachRequest combined capability esm) s e p a h = absurd (cc)
@@ -181,7 +192,8 @@ module _ {x : Context} {b : Solo} where
   keeps_entered (heards.DetachRequest switch_off) s e p a h = keeps_initial_detach s e switch_off p h
   keeps_entered _ s e p a h = here h
 
-  keeps_claimed : {d : Draft} (m : Heard (List ℕ)) (s : Setting) (id : ℕ) (e : Entry (List ℕ)) → is_attach_request m ≡ false → Keeps x b d → Keeps x b (serving.claimed m s id e d)
+  keeps_claimed : {d : Draft} (m : Heard (List ℕ)) (s : Setting) (id : ℕ) (e : Entry (List ℕ)) → is_attach_request m ≡ false
+      → Keeps x b d → Keeps x b (serving.claimed m s id e d)
   unfolding serving.claimed
   keeps_claimed (heards.AttachRequest combined capability esm) s id e a h = absurd (cc)
   keeps_claimed _ s id e a h = h
@@ -202,14 +214,16 @@ module _ {x : Context} {b : Solo} where
       (λ y is. keeps_inner_message_by _ s y tai (subst (λ (z : Context). is_ok (accepted_by_context z nas) ≡ false) (same_Some x y (sym h.context ∙ is)) e) h)
       (λ is. here h)
 
-  keeps_uplink : {d : Draft} (phase : Phase) (s : Setting) (tai : Tai) (nas : List ℕ) → is_registered phase ≡ true → is_ok (accepted_by_context x nas) ≡ false → Keeps x b d
+  keeps_uplink : {d : Draft} (phase : Phase) (s : Setting) (tai : Tai) (nas : List ℕ) → is_registered phase ≡ true
+      → is_ok (accepted_by_context x nas) ≡ false → Keeps x b d
       → Within (Keeps x b) (serving.uplink phase s tai nas d)
   unfolding serving.uplink
   keeps_uplink Updating s tai nas r e h = keeps_in_later s tai nas e h
   keeps_uplink Registered s tai nas r e h = keeps_in_later s tai nas e h
   keeps_uplink _ s tai nas r e h = absurd (cc)
 
-  keeps_on_connection : {d : Draft} (body : UeBody (List ℕ)) (s : Setting) → is_proved_body x body ≡ false → Keeps x b d → Within (Keeps x b) (connected.on_connection body s d)
+  keeps_on_connection : {d : Draft} (body : UeBody (List ℕ)) (s : Setting) → is_proved_body x body ≡ false → Keeps x b d
+      → Within (Keeps x b) (connected.on_connection body s d)
   unfolding connected.on_connection
   keeps_on_connection {d} (bodies.Uplink nas tai) s e h = keeps_uplink d.solo.phase s tai nas h.stays.registered e h
   keeps_on_connection (bodies.UeContextReleaseRequest cause) s e h = here (keeps_fall _ h)
@@ -220,7 +234,8 @@ module _ {x : Context} {b : Solo} where
   unfolding connected.indicate
   keeps_indicate cause m h = keeps_emit m.station _ h
 
-  keeps_checked : {d : Draft} (s : Setting) (m : UeMessage (List ℕ)) → is_proved_body x m.body ≡ false → Keeps x b d → Within (Keeps x b) (connected.checked s m d)
+  keeps_checked : {d : Draft} (s : Setting) (m : UeMessage (List ℕ)) → is_proved_body x m.body ≡ false → Keeps x b d
+      → Within (Keeps x b) (connected.checked s m d)
   unfolding connected.checked
   keeps_checked s m e h =
       either (Within (Keeps x b)) _ (here (keeps_indicate _ m h))
@@ -238,13 +253,15 @@ module _ {x : Context} {b : Solo} where
   unfolding connected.path_switch connected.not_switched
   leaves_path_switch {d} m h =
       let failed = λ (cause : Cause). leaves true (keeps_emit m.station (path_switch_failure m.mme_ue_id m.enb_ue_id cause) h) in
-      either (Leaves x b true) (not (connected.has_connection_id m d)) (failed _) (either (Leaves x b true) (not (is_of_slot m.mme_ue_id)) (failed _)
+      either (Leaves x b true) (not (connected.has_connection_id m d)) (failed _)
+      (either (Leaves x b true) (not (is_of_slot m.mme_ue_id)) (failed _)
       (either (Leaves x b true) (is_registered d.solo.phase)
       (at_some (Leaves x b true) d.solo.context
       (λ y is. subst (λ (z : Context). Leaves x b true (connected.switched m z d)) (same_Some x y (sym h.context ∙ is)) (leaves_switched m h)) (λ is. leaves true h))
       (failed _)))
 
-  leaves_message_of : {d : Draft} (body : UeBody (List ℕ)) (s : Setting) (m : UeMessage (List ℕ)) → is_proved_body x m.body ≡ false → Keeps x b d
+  leaves_message_of : {d : Draft} (body : UeBody (List ℕ)) (s : Setting) (m : UeMessage (List ℕ)) → is_proved_body x m.body ≡ false
+      → Keeps x b d
       → Within (Leaves x b (is_path_switch_body body)) (connected.message_of body s m d)
   unfolding connected.message_of
   leaves_message_of bodies.UeContextReleaseComplete s m e h = here (leaves false h)
@@ -270,9 +287,11 @@ module _ {x : Context} {b : Solo} where
       let r = keeps_strike station h in
       at_some (Keeps x b) (connected.strike station d).solo.connection (λ k is. either (Keeps x b) _ (keeps_lost r) r) (λ is. r)
 
-  keeps_connections_gone : {d : Draft} (station : ℕ) (items : ToReset) → Keeps x b d → Keeps x b (connected.connections_gone station items d)
+  keeps_connections_gone : {d : Draft} (station : ℕ) (items : ToReset) → Keeps x b d
+      → Keeps x b (connected.connections_gone station items d)
   unfolding connected.connections_gone
-  keeps_connections_gone {d} station items h = at_some (Keeps x b) d.solo.connection (λ k is. either (Keeps x b) _ (keeps_lost h) h) (λ is. h)
+  keeps_connections_gone {d} station items h =
+      at_some (Keeps x b) d.solo.connection (λ k is. either (Keeps x b) _ (keeps_lost h) h) (λ is. h)
 
   keeps_start : {d : Draft} (timer : NasTimer) (repeat : Repeat) → Keeps x b d → Keeps x b (start timer repeat d)
   unfolding start
@@ -289,26 +308,32 @@ module _ {x : Context} {b : Solo} where
   unfolding idle.page
   keeps_page {d} s es h = at_some (Keeps x b) d.solo.tmsi (λ t is. keeps_emit_each _ es d h) (λ is. h)
 
-  keeps_data_waits : {d : Draft} (s : Setting) (stations : List StationState) → Keeps x b d → Keeps x b (idle.data_waits s stations d)
+  keeps_data_waits : {d : Draft} (s : Setting) (stations : List StationState) → Keeps x b d
+      → Keeps x b (idle.data_waits s stations d)
   unfolding idle.data_waits idle.paged
   keeps_data_waits s stations h = either (Keeps x b) _ (keeps_start _ _ (keeps_page s _ h)) h
 
 -- ---- the step
 
 untouched_keeps : (b : Solo) (x : Context) → is_registered b.phase ≡ true → b.context ≡ Some x → Keeps x b (untouched b)
-untouched_keeps b x r is = record { stays = record { registered = r; bearer = refl; tmsi = refl; next_vector = refl; tai = refl }; context = is }
+untouched_keeps b x r is =
+    record { stays = record { registered = r; bearer = refl; tmsi = refl; next_vector = refl; tai = refl }; context = is }
 
 leaves_row : (s : Setting) (b : Solo) (x : Context) (item : events.Item) → is_registered b.phase ≡ true → b.context ≡ Some x
     → is_proved_message x item ≡ false → begins_attach item ≡ false → is_no_message item ≡ false
     → Within (Leaves x b (is_path_switch item)) (steps.row s item (untouched b))
 unfolding steps.row serving.initial serving.claim
 leaves_row s b x events.Nothing r is p a n = here (leaves false (untouched_keeps b x r is))
-leaves_row s b x (events.Initial m) r is p a n = within false (keeps_entered (heard (initial_octets m.nas)) s m p a (untouched_keeps b x r is))
-leaves_row s b x (events.Claim id m) r is p a n = here (leaves false (keeps_claimed (heard (initial_octets m.nas)) s id m a (untouched_keeps b x r is)))
+leaves_row s b x (events.Initial m) r is p a n =
+    within false (keeps_entered (heard (initial_octets m.nas)) s m p a (untouched_keeps b x r is))
+leaves_row s b x (events.Claim id m) r is p a n =
+    here (leaves false (keeps_claimed (heard (initial_octets m.nas)) s id m a (untouched_keeps b x r is)))
 leaves_row s b x (events.Message m) r is p a n = leaves_message_of m.body s m p (untouched_keeps b x r is)
 leaves_row s b x (events.Displaced id) r is p a n = here (leaves false (keeps_displaced id (untouched_keeps b x r is)))
-leaves_row s b x (events.StationGone station) r is p a n = here (leaves false (keeps_station_gone station (untouched_keeps b x r is)))
-leaves_row s b x (events.ConnectionsGone station items) r is p a n = here (leaves false (keeps_connections_gone station items (untouched_keeps b x r is)))
+leaves_row s b x (events.StationGone station) r is p a n =
+    here (leaves false (keeps_station_gone station (untouched_keeps b x r is)))
+leaves_row s b x (events.ConnectionsGone station items) r is p a n =
+    here (leaves false (keeps_connections_gone station items (untouched_keeps b x r is)))
 leaves_row s b x events.Tick r is p a n = absurd (cc)
 leaves_row s b x (events.Data stations) r is p a n = here (leaves false (keeps_data_waits s stations (untouched_keeps b x r is)))
 leaves_row s b x events.Cancel r is p a n = absurd (cc)
@@ -316,5 +341,6 @@ leaves_row s b x events.Cancel r is p a n = absurd (cc)
 pub unproved_leaves : UnprovedLeaves
 unfolding steps.solo_step
 unproved_leaves s solo x item r is p a n =
-    let f = unless {Q = Leaves x solo (is_path_switch item)} (steps.row s item (untouched solo)) _ (leaves_row s solo x item r is p a n) in
+    let f =
+    unless {Q = Leaves x solo (is_path_switch item)} (steps.row s item (untouched solo)) _ (leaves_row s solo x item r is p a n) in
     (f.stays, f.moves, f.same)

@@ -57,9 +57,11 @@ abbrev pub SameIsEqual : Type 0
 SameIsEqual = (xs ys : List ℕ) → same_octets xs ys ≡ true → xs ≡ ys
 
 -- the message goes to the connection
-sent_to : (nas : List ℕ) (d : Draft) (k : Connection) → d.solo.connection ≡ Some k → send nas d ≡ emit k.station (downlink k nas) None d
+sent_to : (nas : List ℕ) (d : Draft) (k : Connection) → d.solo.connection ≡ Some k
+    → send nas d ≡ emit k.station (downlink k nas) None d
 unfolding send
-sent_to nas d k is = ap (λ (o : Option Connection). option_map_or (λ (c : Connection). emit c.station (downlink c nas) None d) o d) is
+sent_to nas d k is =
+    ap (λ (o : Option Connection). option_map_or (λ (c : Connection). emit c.station (downlink c nas) None d) o d) is
 
 some_of : {K : Type 0} (o : Option K) → IsSome o → (k : K) × (o ≡ Some k)
 some_of None e = absurd (cc)
@@ -85,25 +87,32 @@ module _ {b : Solo} where
   here_status cause h = at_some (Whenever (IsHere b)) cause (λ c is. here_protect _ _ h) (λ is. some h)
 
   -- past the proof, whatever the phase was
-  here_accept : (d : Draft) (s : Setting) (key : List ℕ) → part_of b.phase ≡ Past → d.solo.next_vector ≡ b.next_vector → place_of d.solo.context ≡ place_of b.context
+  here_accept : (d : Draft) (s : Setting) (key : List ℕ) → part_of b.phase ≡ Past → d.solo.next_vector ≡ b.next_vector
+      → place_of d.solo.context ≡ place_of b.context
       → Whenever (IsHere b) (attaching.accept s key d)
   unfolding attaching.accept attaching.activating attaching.given_tmsi
-  here_accept d s key past next place = then _ (here_set_up_with s key _ (record { part = sym past; next = next; place = place })) (λ e f. here_start _ _ f)
+  here_accept d s key past next place =
+      then _ (here_set_up_with s key _ (record { part = sym past; next = next; place = place })) (λ e f. here_start _ _ f)
 
-  here_ask_information : (d : Draft) → part_of b.phase ≡ Past → d.solo.next_vector ≡ b.next_vector → place_of d.solo.context ≡ place_of b.context
+  here_ask_information : (d : Draft) → part_of b.phase ≡ Past → d.solo.next_vector ≡ b.next_vector
+      → place_of d.solo.context ≡ place_of b.context
       → Whenever (IsHere b) (attaching.ask_information d)
   unfolding attaching.ask_information
-  here_ask_information d past next place = then _ (here_protect _ _ (record { part = sym past; next = next; place = place })) (λ e f. here_start _ _ f)
+  here_ask_information d past next place =
+      then _ (here_protect _ _ (record { part = sym past; next = next; place = place })) (λ e f. here_start _ _ f)
 
-  here_update : {d : Draft} (s : Setting) (tai : Tai) (combined initial : Bool) → part_of b.phase ≡ Past → IsHere b d → Whenever (IsHere b) (serving.update s tai combined initial d)
+  here_update : {d : Draft} (s : Setting) (tai : Tai) (combined initial : Bool) → part_of b.phase ≡ Past → IsHere b d
+      → Whenever (IsHere b) (serving.update s tai combined initial d)
   unfolding serving.update serving.updating serving.active ended attaching.given_tmsi
-  here_update s tai combined initial past h = then _ (here_protect _ _ (record { part = sym past; next = h.next; place = h.place })) (λ e f. here_start _ _ f)
+  here_update s tai combined initial past h =
+      then _ (here_protect _ _ (record { part = sym past; next = h.next; place = h.place })) (λ e f. here_start _ _ f)
 
   here_registered : {d : Draft} → part_of b.phase ≡ Past → IsHere b d → IsHere b (serving.registered d)
   unfolding serving.registered ended
   here_registered past h = record { part = sym past; next = h.next; place = h.place }
 
-  here_served_by : {d : Draft} (s : Setting) (r : Result ℕ SecurityFault) (x : Context) (m : Entry (List ℕ)) → part_of b.phase ≡ Past → d.solo.context ≡ Some x → IsHere b d
+  here_served_by : {d : Draft} (s : Setting) (r : Result ℕ SecurityFault) (x : Context) (m : Entry (List ℕ))
+      → part_of b.phase ≡ Past → d.solo.context ≡ Some x → IsHere b d
       → IsHere b (serving.served_by r s x m d)
   unfolding serving.served_by serving.served serving.active ended attaching.keyed attaching.took
   here_served_by s (Ok count) x m past is h =
@@ -111,14 +120,16 @@ module _ {b : Solo} where
       here_set_up s (kenb x.kasme count) None None (record { part = sym past; next = c.next; place = sym (ap place_of is) ∙ h.place })
   here_served_by s (Err fault) x m past is h = here_refuse s.slot m.station m.enb_ue_id _ h
 
-  here_service : {d : Draft} (s : Setting) (m : Entry (List ℕ)) (octets : List ℕ) → IsHere b d → IsHere b (serving.service s m octets d)
+  here_service : {d : Draft} (s : Setting) (m : Entry (List ℕ)) (octets : List ℕ) → IsHere b d
+      → IsHere b (serving.service s m octets d)
   unfolding serving.service
   here_service {d} s m octets h =
       either_by (IsHere b) (is_registered d.solo.phase)
       (λ t. at_some (IsHere b) d.solo.context (λ x is. here_served_by s _ x m (sym h.part ∙ registered_part d.solo.phase t) is h) (λ is. here_refuse s.slot m.station m.enb_ue_id _ h))
       (λ t. here_refuse s.slot m.station m.enb_ue_id _ h)
 
-  here_updated_by : {d : Draft} (s : Setting) (r : Acceptance) (x : Context) (m : Entry (List ℕ)) (combined : Bool) → part_of b.phase ≡ Past → d.solo.context ≡ Some x → IsHere b d
+  here_updated_by : {d : Draft} (s : Setting) (r : Acceptance) (x : Context) (m : Entry (List ℕ)) (combined : Bool)
+      → part_of b.phase ≡ Past → d.solo.context ≡ Some x → IsHere b d
       → Whenever (IsHere b) (serving.updated_by r s x m combined d)
   unfolding serving.updated_by attaching.took
   here_updated_by s (Ok found) x m combined past is h =
@@ -126,7 +137,8 @@ module _ {b : Solo} where
       here_update s m.tai combined true past (record { part = c.part; next = c.next; place = sym (ap place_of is) ∙ h.place })
   here_updated_by s (Err fault) x m combined past is h = some (here_refuse s.slot m.station m.enb_ue_id _ h)
 
-  here_initial_update : {d : Draft} (s : Setting) (m : Entry (List ℕ)) (combined : Bool) → IsHere b d → Whenever (IsHere b) (serving.initial_update s m combined d)
+  here_initial_update : {d : Draft} (s : Setting) (m : Entry (List ℕ)) (combined : Bool) → IsHere b d
+      → Whenever (IsHere b) (serving.initial_update s m combined d)
   unfolding serving.initial_update
   here_initial_update {d} s m combined h =
       either_by (Whenever (IsHere b)) (is_registered d.solo.phase)
@@ -134,11 +146,14 @@ module _ {b : Solo} where
       (λ is. some (here_refuse s.slot m.station m.enb_ue_id _ h)))
       (λ t. some (here_refuse s.slot m.station m.enb_ue_id _ h))
 
-  here_information_came : {d : Draft} (s : Setting) → part_of b.phase ≡ Past → IsHere b d → Whenever (IsHere b) (serving.information_came s d)
+  here_information_came : {d : Draft} (s : Setting) → part_of b.phase ≡ Past → IsHere b d
+      → Whenever (IsHere b) (serving.information_came s d)
   unfolding serving.information_came
-  here_information_came {d} s past h = at_some (Whenever (IsHere b)) d.solo.context (λ x is. here_accept d s _ past h.next h.place) (λ is. some h)
+  here_information_came {d} s past h =
+      at_some (Whenever (IsHere b)) d.solo.context (λ x is. here_accept d s _ past h.next h.place) (λ is. some h)
 
-  here_reacted : {d : Draft} (s : Setting) (r : Reaction (List ℕ)) → part_of b.phase ≡ Past → IsHere b d → Whenever (IsHere b) (serving.reacted r s d)
+  here_reacted : {d : Draft} (s : Setting) (r : Reaction (List ℕ)) → part_of b.phase ≡ Past → IsHere b d
+      → Whenever (IsHere b) (serving.reacted r s d)
   unfolding serving.reacted
   here_reacted s reactions.Nothing past h = some h
   here_reacted s reactions.Informed past h = here_information_came s past h
@@ -148,15 +163,18 @@ module _ {b : Solo} where
   unfolding connected.indicate
   here_indicate cause m h = here_emit m.station _ None h
 
-  here_switched : {d : Draft} (m : UeMessage (List ℕ)) (x : Context) → d.solo.context ≡ Some x → IsHere b d → IsHere b (connected.switched m x d)
+  here_switched : {d : Draft} (m : UeMessage (List ℕ)) (x : Context) → d.solo.context ≡ Some x → IsHere b d
+      → IsHere b (connected.switched m x d)
   unfolding connected.switched
-  here_switched m x is h = here_emit m.station _ None (record { part = h.part; next = h.next; place = sym (ap place_of is) ∙ h.place })
+  here_switched m x is h =
+      here_emit m.station _ None (record { part = h.part; next = h.next; place = sym (ap place_of is) ∙ h.place })
 
   here_path_switch : {d : Draft} (m : UeMessage (List ℕ)) → IsHere b d → IsHere b (connected.path_switch m d)
   unfolding connected.path_switch connected.not_switched
   here_path_switch {d} m h =
       let failed = λ (cause : Cause). here_emit m.station (path_switch_failure m.mme_ue_id m.enb_ue_id cause) None h in
-      either (IsHere b) (not (connected.has_connection_id m d)) (failed _) (either (IsHere b) (not (is_of_slot m.mme_ue_id)) (failed _)
+      either (IsHere b) (not (connected.has_connection_id m d)) (failed _)
+      (either (IsHere b) (not (is_of_slot m.mme_ue_id)) (failed _)
       (either (IsHere b) (is_registered d.solo.phase) (at_some (IsHere b) d.solo.context (λ x is. here_switched m x is h) (λ is. h)) (failed _)))
 
   here_strike : {d : Draft} (station : ℕ) → IsHere b d → IsHere b (connected.strike station d)
@@ -191,18 +209,21 @@ module _ {b : Solo} where
 
   here_detach_phone : {d : Draft} → part_of b.phase ≡ Past → IsHere b d → Whenever (IsHere b) (idle.detach_phone d)
   unfolding idle.detach_phone
-  here_detach_phone past h = then _ (here_protect _ _ (record { part = sym past; next = h.next; place = h.place })) (λ e f. here_start _ _ f)
+  here_detach_phone past h =
+      then _ (here_protect _ _ (record { part = sym past; next = h.next; place = h.place })) (λ e f. here_start _ _ f)
 
 -- ---- what a row can do
 
 module _ {s : Setting} {b : Solo} {item : events.Item} where
   -- ---- attaching
 
-  moves_attach_refused : (d : Draft) (cause : EmmCause) (esm : Option (List ℕ)) → Moves s b item (attaching.attach_refused cause esm d)
+  moves_attach_refused : (d : Draft) (cause : EmmCause) (esm : Option (List ℕ))
+      → Moves s b item (attaching.attach_refused cause esm d)
   unfolding attaching.attach_refused
   moves_attach_refused d cause esm = moves_wipe _
 
-  moves_challenged : (d : Draft) (v : Vector) → slice_get s.vectors d.solo.next_vector ≡ Some v → IsSome d.solo.connection → Moves s b item (attaching.challenged v d)
+  moves_challenged : (d : Draft) (v : Vector) → slice_get s.vectors d.solo.next_vector ≡ Some v → IsSome d.solo.connection
+      → Moves s b item (attaching.challenged v d)
   unfolding attaching.challenged start emit
   moves_challenged d v there linked =
       let place = d.solo.next_vector in
@@ -215,16 +236,20 @@ module _ {s : Setting} {b : Solo} {item : events.Item} where
   moves_challenge : (d : Draft) → IsSome d.solo.connection → Moves s b item (attaching.challenge s d)
   unfolding attaching.challenge
   moves_challenge d linked =
-      at_some (Moves s b item) (slice_get s.vectors d.solo.next_vector) (λ v there. moves_challenged _ v there linked) (λ is. moves_attach_refused _ _ _)
+      at_some (Moves s b item) (slice_get s.vectors d.solo.next_vector) (λ v there. moves_challenged _ v there linked)
+      (λ is. moves_attach_refused _ _ _)
 
-  moves_attach_by : (d : Draft) (asked : Requested (List ℕ)) (combined : Bool) (capability : List ℕ) (tai : Tai) → IsSome d.solo.connection
+  moves_attach_by : (d : Draft) (asked : Requested (List ℕ)) (combined : Bool) (capability : List ℕ) (tai : Tai)
+      → IsSome d.solo.connection
       → Moves s b item (attaching.attach_by asked s combined capability tai d)
   unfolding attaching.attach_by attaching.asking
   moves_attach_by d Unreadable combined capability tai linked = moves_attach_refused _ _ _
   moves_attach_by d (Refused esm) combined capability tai linked = moves_attach_refused _ _ _
-  moves_attach_by d Taken combined capability tai linked = either (Moves s b item) _ (moves_challenge _ linked) (moves_attach_refused _ _ _)
+  moves_attach_by d Taken combined capability tai linked =
+      either (Moves s b item) _ (moves_challenge _ linked) (moves_attach_refused _ _ _)
 
-  moves_attach : (d : Draft) (combined : Bool) (capability esm : List ℕ) (tai : Tai) → IsSome d.solo.connection → Moves s b item (attaching.attach s combined capability esm tai d)
+  moves_attach : (d : Draft) (combined : Bool) (capability esm : List ℕ) (tai : Tai) → IsSome d.solo.connection
+      → Moves s b item (attaching.attach s combined capability esm tai d)
   unfolding attaching.attach attaching.requesting wipe
   moves_attach d combined capability esm tai linked = moves_attach_by _ _ combined capability tai linked
 
@@ -244,7 +269,8 @@ module _ {s : Setting} {b : Solo} {item : events.Item} where
   unfolding attaching.not_secured
   moves_not_secured nas h = either (Moves s b item) _ (moves_fall _ h) (stays h)
 
-  moves_authenticated : (v : Vector) → part_of b.phase ≡ Challenged → slice_get s.vectors (b.next_vector - 1) ≡ Some v → Responds v item
+  moves_authenticated : (v : Vector) → part_of b.phase ≡ Challenged → slice_get s.vectors (b.next_vector - 1) ≡ Some v
+      → Responds v item
       → Whenever (Moves s b item) (attaching.authenticated (b.next_vector - 1) v (untouched b))
   unfolding attaching.authenticated attaching.new_context start
   moves_authenticated v is there responds =
@@ -252,7 +278,8 @@ module _ {s : Setting} {b : Solo} {item : events.Item} where
       then _ (here_protect {b = made.solo} NewContext _ (record { part = refl; next = refl; place = refl }))
       (λ e f. responded v is f.part there responds f.place)
 
-  moves_response : SameIsEqual → (res nas : List ℕ) → part_of b.phase ≡ Challenged → uplink_nas item ≡ Some nas → heard nas ≡ heards.AuthenticationResponse res
+  moves_response : SameIsEqual → (res nas : List ℕ) → part_of b.phase ≡ Challenged → uplink_nas item ≡ Some nas
+      → heard nas ≡ heards.AuthenticationResponse res
       → Whenever (Moves s b item) (attaching.response s res (untouched b))
   unfolding attaching.response attaching.response_to
   moves_response equal res nas is up hears =
@@ -262,7 +289,8 @@ module _ {s : Setting} {b : Solo} {item : events.Item} where
       (λ t. some (moves_not_authenticated _)))
       (λ none. some (stays begun))
 
-  moves_authenticating : SameIsEqual → (m : Heard (List ℕ)) (nas : List ℕ) → part_of b.phase ≡ Challenged → IsSome b.connection → uplink_nas item ≡ Some nas → heard nas ≡ m
+  moves_authenticating : SameIsEqual → (m : Heard (List ℕ)) (nas : List ℕ) → part_of b.phase ≡ Challenged → IsSome b.connection
+      → uplink_nas item ≡ Some nas → heard nas ≡ m
       → Whenever (Moves s b item) (attaching.authenticating s m (untouched b))
   unfolding attaching.authenticating
   moves_authenticating equal (heards.AuthenticationResponse res) nas is linked up hears = moves_response equal res nas is up hears
@@ -285,8 +313,10 @@ module _ {s : Setting} {b : Solo} {item : events.Item} where
       either (Whenever (Moves s b item)) _ (after _ (here_ask_information {b = past} k refl refl refl))
       (after _ (here_accept {b = past} k s (kenb x.kasme count) refl refl refl))
 
-  moves_secured_by : (r : Acceptance) (x : Context) (nas : List ℕ) → part_of b.phase ≡ Securing → b.context ≡ Some x → uplink_nas item ≡ Some nas
-      → accepted (mac_of x) x.security.up_last (NewContextCiphered ∷ []) nas ≡ r → Whenever (Moves s b item) (attaching.secured_by r s x nas (untouched b))
+  moves_secured_by : (r : Acceptance) (x : Context) (nas : List ℕ) → part_of b.phase ≡ Securing → b.context ≡ Some x
+      → uplink_nas item ≡ Some nas
+      → accepted (mac_of x) x.security.up_last (NewContextCiphered ∷ []) nas ≡ r
+      → Whenever (Moves s b item) (attaching.secured_by r s x nas (untouched b))
   unfolding attaching.secured_by
   moves_secured_by (Ok found) x nas is at up accepts =
       either_by (Whenever (Moves s b item)) (attaching.is_complete (heard found.1))
@@ -294,10 +324,12 @@ module _ {s : Setting} {b : Solo} {item : events.Item} where
       (λ t. some (stays (here_took x (counted_up x found.0) found.0 at refl begun)))
   moves_secured_by (Err fault) x nas is at up accepts = some (moves_not_secured nas begun)
 
-  moves_in_security_mode : (nas : List ℕ) → part_of b.phase ≡ Securing → uplink_nas item ≡ Some nas → Whenever (Moves s b item) (attaching.in_security_mode s nas (untouched b))
+  moves_in_security_mode : (nas : List ℕ) → part_of b.phase ≡ Securing → uplink_nas item ≡ Some nas
+      → Whenever (Moves s b item) (attaching.in_security_mode s nas (untouched b))
   unfolding attaching.in_security_mode
   moves_in_security_mode nas is up =
-      at_some (Whenever (Moves s b item)) b.context (λ x at. moves_secured_by _ x nas is at up refl) (λ none. some (moves_not_secured nas begun))
+      at_some (Whenever (Moves s b item)) b.context (λ x at. moves_secured_by _ x nas is at up refl)
+      (λ none. some (moves_not_secured nas begun))
 
   -- ---- a phone that is known
 
@@ -307,18 +339,21 @@ module _ {s : Setting} {b : Solo} {item : events.Item} where
       let nothing : Whenever (λ e. Unit {0}) (serving.detach_answered switch_off d) = record { at = λ e is. tt } in
       then _ nothing (λ e f. moves_wipe _)
 
-  moves_detached_by : {d : Draft} (r : Acceptance) (x : Context) (m : Entry (List ℕ)) (switch_off : Bool) → IsHere b d → Whenever (Moves s b item) (serving.detached_by r s x m switch_off d)
+  moves_detached_by : {d : Draft} (r : Acceptance) (x : Context) (m : Entry (List ℕ)) (switch_off : Bool) → IsHere b d
+      → Whenever (Moves s b item) (serving.detached_by r s x m switch_off d)
   unfolding serving.detached_by
   moves_detached_by (Ok found) x m switch_off h = moves_detach _ switch_off
   moves_detached_by (Err fault) x m switch_off h = some (stays (here_turn_away s.slot m.station m.enb_ue_id h))
 
-  moves_initial_detach : {d : Draft} (m : Entry (List ℕ)) (switch_off : Bool) → IsHere b d → Whenever (Moves s b item) (serving.initial_detach s m switch_off d)
+  moves_initial_detach : {d : Draft} (m : Entry (List ℕ)) (switch_off : Bool) → IsHere b d
+      → Whenever (Moves s b item) (serving.initial_detach s m switch_off d)
   unfolding serving.initial_detach
   moves_initial_detach {d} m switch_off h =
       either (Whenever (Moves s b item)) _ (some (moves_detach_plainly _ switch_off))
       (at_some (Whenever (Moves s b item)) d.solo.context (λ x is. moves_detached_by _ x m switch_off h) (λ is. some (stays (here_turn_away s.slot m.station m.enb_ue_id h))))
 
-  moves_entered : {d : Draft} (m : Heard (List ℕ)) (e : Entry (List ℕ)) → IsHere b d → Whenever (Moves s b item) (serving.entered m s e d)
+  moves_entered : {d : Draft} (m : Heard (List ℕ)) (e : Entry (List ℕ)) → IsHere b d
+      → Whenever (Moves s b item) (serving.entered m s e d)
   unfolding serving.entered connect connect_on
   moves_entered (heards.AttachRequest combined capability esm) e h = some (moves_attach _ combined capability esm e.tai refl)
   moves_entered (heards.ServiceRequest octets) e h = some (stays (here_service s e octets h))
@@ -326,55 +361,68 @@ module _ {s : Setting} {b : Solo} {item : events.Item} where
   moves_entered (heards.DetachRequest switch_off) e h = moves_initial_detach e switch_off h
   moves_entered _ e h = some (stays h)
 
-  moves_claimed : {d : Draft} (m : Heard (List ℕ)) (id : ℕ) (e : Entry (List ℕ)) → IsHere b d → Moves s b item (serving.claimed m s id e d)
+  moves_claimed : {d : Draft} (m : Heard (List ℕ)) (id : ℕ) (e : Entry (List ℕ)) → IsHere b d
+      → Moves s b item (serving.claimed m s id e d)
   unfolding serving.claimed connect_on
   moves_claimed (heards.AttachRequest combined capability esm) id e h = moves_attach _ combined capability esm e.tai refl
   moves_claimed _ id e h = stays h
 
   -- ---- protected messages on the connection
 
-  moves_attach_completed : {d : Draft} (esm : List ℕ) → part_of b.phase ≡ Past → IsHere b d → Moves s b item (serving.attach_completed esm d)
+  moves_attach_completed : {d : Draft} (esm : List ℕ) → part_of b.phase ≡ Past → IsHere b d
+      → Moves s b item (serving.attach_completed esm d)
   unfolding serving.attach_completed
-  moves_attach_completed esm past h = either (Moves s b item) _ (stays (here_registered past (here_by refl refl refl h))) (moves_fall _ h)
+  moves_attach_completed esm past h =
+      either (Moves s b item) _ (stays (here_registered past (here_by refl refl refl h))) (moves_fall _ h)
 
   moves_update_completed : {d : Draft} → part_of b.phase ≡ Past → IsHere b d → Moves s b item (serving.update_completed d)
   unfolding serving.update_completed
   moves_update_completed past h = let r = here_registered past h in either (Moves s b item) _ (moves_fall _ r) (stays r)
 
-  moves_inner_emm : {d : Draft} (m : Heard (List ℕ)) (tai : Tai) → part_of b.phase ≡ Past → IsHere b d → Whenever (Moves s b item) (serving.inner_emm m s tai d)
+  moves_inner_emm : {d : Draft} (m : Heard (List ℕ)) (tai : Tai) → part_of b.phase ≡ Past → IsHere b d
+      → Whenever (Moves s b item) (serving.inner_emm m s tai d)
   unfolding serving.inner_emm
-  moves_inner_emm (heards.AttachComplete esm) tai past h = either (Whenever (Moves s b item)) _ (some (moves_attach_completed esm past h)) (stays_if (here_status _ h))
-  moves_inner_emm heards.TrackingAreaUpdateComplete tai past h = either (Whenever (Moves s b item)) _ (some (moves_update_completed past h)) (stays_if (here_status _ h))
+  moves_inner_emm (heards.AttachComplete esm) tai past h =
+      either (Whenever (Moves s b item)) _ (some (moves_attach_completed esm past h)) (stays_if (here_status _ h))
+  moves_inner_emm heards.TrackingAreaUpdateComplete tai past h =
+      either (Whenever (Moves s b item)) _ (some (moves_update_completed past h)) (stays_if (here_status _ h))
   moves_inner_emm (heards.TrackingAreaUpdateRequest combined) tai past h =
       either (Whenever (Moves s b item)) _ (stays_if (here_update s tai combined false past h)) (stays_if (here_status _ h))
   moves_inner_emm (heards.DetachRequest switch_off) tai past h = moves_detach _ switch_off
-  moves_inner_emm heards.DetachAccept tai past h = either (Whenever (Moves s b item)) _ (some (moves_wipe _)) (stays_if (here_status _ h))
+  moves_inner_emm heards.DetachAccept tai past h =
+      either (Whenever (Moves s b item)) _ (some (moves_wipe _)) (stays_if (here_status _ h))
   moves_inner_emm heards.Unasked tai past h = some (stays h)
   moves_inner_emm (heards.Unreadable fault) tai past h = stays_if (here_status _ h)
   moves_inner_emm _ tai past h = stays_if (here_status _ h)
 
-  moves_inner_message : {d : Draft} (octets : List ℕ) (tai : Tai) → part_of b.phase ≡ Past → IsHere b d → Whenever (Moves s b item) (serving.inner_message octets s tai d)
+  moves_inner_message : {d : Draft} (octets : List ℕ) (tai : Tai) → part_of b.phase ≡ Past → IsHere b d
+      → Whenever (Moves s b item) (serving.inner_message octets s tai d)
   unfolding serving.inner_message serving.inner_esm
   moves_inner_message octets tai past h =
       either (Whenever (Moves s b item)) _ (stays_if (here_reacted s _ past h)) (moves_inner_emm (heard octets) tai past h)
 
-  moves_inner_message_by : {d : Draft} (r : Acceptance) (x : Context) (tai : Tai) → part_of b.phase ≡ Past → d.solo.context ≡ Some x → IsHere b d
+  moves_inner_message_by : {d : Draft} (r : Acceptance) (x : Context) (tai : Tai) → part_of b.phase ≡ Past → d.solo.context ≡ Some x
+      → IsHere b d
       → Whenever (Moves s b item) (serving.inner_message_by r s x tai d)
   unfolding serving.inner_message_by
-  moves_inner_message_by (Ok found) x tai past is h = moves_inner_message found.1 tai past (here_took x (counted_up x found.0) found.0 is refl h)
+  moves_inner_message_by (Ok found) x tai past is h =
+      moves_inner_message found.1 tai past (here_took x (counted_up x found.0) found.0 is refl h)
   moves_inner_message_by (Err fault) x tai past is h = some (stays h)
 
-  moves_in_later : {d : Draft} (tai : Tai) (nas : List ℕ) → part_of b.phase ≡ Past → IsHere b d → Whenever (Moves s b item) (serving.in_later s tai nas d)
+  moves_in_later : {d : Draft} (tai : Tai) (nas : List ℕ) → part_of b.phase ≡ Past → IsHere b d
+      → Whenever (Moves s b item) (serving.in_later s tai nas d)
   unfolding serving.in_later
   moves_in_later {d} tai nas past h =
       at_some (Whenever (Moves s b item)) d.solo.context (λ x is. moves_inner_message_by _ x tai past is h) (λ is. some (stays h))
 
-  moves_uplink : SameIsEqual → (phase : Phase) (tai : Tai) (nas : List ℕ) → b.phase ≡ phase → IsSome b.connection → uplink_nas item ≡ Some nas
+  moves_uplink : SameIsEqual → (phase : Phase) (tai : Tai) (nas : List ℕ) → b.phase ≡ phase → IsSome b.connection
+      → uplink_nas item ≡ Some nas
       → Whenever (Moves s b item) (serving.uplink phase s tai nas (untouched b))
   unfolding serving.uplink attaching.in_authenticating
   moves_uplink equal Deregistered tai nas is linked up = some (stays begun)
   moves_uplink equal Authenticating tai nas is linked up =
-      either (Whenever (Moves s b item)) _ (moves_authenticating equal (heard nas) nas (ap part_of is) linked up refl) (some (stays begun))
+      either (Whenever (Moves s b item)) _ (moves_authenticating equal (heard nas) nas (ap part_of is) linked up refl)
+      (some (stays begun))
   moves_uplink equal SecurityMode tai nas is linked up = moves_in_security_mode nas (ap part_of is) up
   moves_uplink equal EsmInformation tai nas is linked up = moves_in_later tai nas (ap part_of is) begun
   moves_uplink equal Accepting tai nas is linked up = moves_in_later tai nas (ap part_of is) begun
@@ -392,10 +440,12 @@ module _ {s : Setting} {b : Solo} {item : events.Item} where
   moves_on_connection equal bodies.InitialContextSetupFailure up linked = some (moves_fall _ begun)
   moves_on_connection equal _ up linked = some (stays begun)
 
-  moves_checked : SameIsEqual → (m : UeMessage (List ℕ)) → nas_of_body m.body ≡ uplink_nas item → Whenever (Moves s b item) (connected.checked s m (untouched b))
+  moves_checked : SameIsEqual → (m : UeMessage (List ℕ)) → nas_of_body m.body ≡ uplink_nas item
+      → Whenever (Moves s b item) (connected.checked s m (untouched b))
   unfolding connected.checked
   moves_checked equal m up =
-      either_by (Whenever (Moves s b item)) (not (connected.has_connection_id m (untouched b))) (λ t. some (stays (here_indicate _ m begun)))
+      either_by (Whenever (Moves s b item)) (not (connected.has_connection_id m (untouched b)))
+      (λ t. some (stays (here_indicate _ m begun)))
       (λ t. let linked = connected_of b.connection _ (true_of (connected.has_connection_id m (untouched b)) t) in
       either (Whenever (Moves s b item)) _ (moves_on_connection equal m.body up linked) (some (stays (here_indicate _ m begun))))
 
@@ -410,17 +460,21 @@ module _ {s : Setting} {b : Solo} {item : events.Item} where
 
   moves_displaced : {d : Draft} (id : ℕ) → IsHere b d → Moves s b item (connected.displaced id d)
   unfolding connected.displaced
-  moves_displaced {d} id h = at_some (Moves s b item) d.solo.connection (λ k is. either (Moves s b item) _ (moves_lost h) (stays h)) (λ is. stays h)
+  moves_displaced {d} id h =
+      at_some (Moves s b item) d.solo.connection (λ k is. either (Moves s b item) _ (moves_lost h) (stays h)) (λ is. stays h)
 
   moves_station_gone : {d : Draft} (station : ℕ) → IsHere b d → Moves s b item (connected.station_gone station d)
   unfolding connected.station_gone
   moves_station_gone {d} station h =
       let r = here_strike station h in
-      at_some (Moves s b item) (connected.strike station d).solo.connection (λ k is. either (Moves s b item) _ (moves_lost r) (stays r)) (λ is. stays r)
+      at_some (Moves s b item) (connected.strike station d).solo.connection
+      (λ k is. either (Moves s b item) _ (moves_lost r) (stays r)) (λ is. stays r)
 
-  moves_connections_gone : {d : Draft} (station : ℕ) (items : ToReset) → IsHere b d → Moves s b item (connected.connections_gone station items d)
+  moves_connections_gone : {d : Draft} (station : ℕ) (items : ToReset) → IsHere b d
+      → Moves s b item (connected.connections_gone station items d)
   unfolding connected.connections_gone
-  moves_connections_gone {d} station items h = at_some (Moves s b item) d.solo.connection (λ k is. either (Moves s b item) _ (moves_lost h) (stays h)) (λ is. stays h)
+  moves_connections_gone {d} station items h =
+      at_some (Moves s b item) d.solo.connection (λ k is. either (Moves s b item) _ (moves_lost h) (stays h)) (λ is. stays h)
 
   moves_given_up : {d : Draft} (timer : NasTimer) → IsHere b d → Moves s b item (idle.given_up timer d)
   unfolding idle.given_up ended
@@ -445,7 +499,8 @@ module _ {s : Setting} {b : Solo} {item : events.Item} where
 
   moves_cancelled : (phase : Phase) → b.phase ≡ phase → Whenever (Moves s b item) (idle.cancelled phase (untouched b))
   unfolding idle.cancelled
-  moves_cancelled Registered is = either (Whenever (Moves s b item)) _ (stays_if (here_detach_phone (ap part_of is) begun)) (some (moves_wipe _))
+  moves_cancelled Registered is =
+      either (Whenever (Moves s b item)) _ (stays_if (here_detach_phone (ap part_of is) begun)) (some (moves_wipe _))
   moves_cancelled Updating is = stays_if (here_detach_phone (ap part_of is) begun)
   moves_cancelled Authenticating is = some (moves_wipe _)
   moves_cancelled SecurityMode is = some (moves_wipe _)

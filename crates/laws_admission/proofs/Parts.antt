@@ -77,15 +77,18 @@ pub record IsHere (b : Solo) (d : Draft) : Type 0 where
 abbrev pub CompletesUnder : Context → Item → Type 0
 CompletesUnder x item =
     (nas : List ℕ) × (inner : List ℕ) × (count : ℕ) × (uplink_nas item ≡ Some nas)
-    × (accepted (mac_of x) x.security.up_last (NewContextCiphered ∷ []) nas ≡ Ok (count, inner)) × (heard inner ≡ heards.SecurityModeComplete)
+    × (accepted (mac_of x) x.security.up_last (NewContextCiphered ∷ []) nas ≡ Ok (count, inner))
+    × (heard inner ≡ heards.SecurityModeComplete)
 
 -- what a step can do
 pub data Moves (s : Setting) (b : Solo) (item : Item) (d : Draft) : Type 0 where
   stays : IsHere b d → Moves s b item d
   leaves : part_of d.solo.phase ≡ Away → Moves s b item d
-  challenged : (place : ℕ) (v : Vector) → part_of d.solo.phase ≡ Challenged → d.solo.next_vector ≡ place + 1 → slice_get s.vectors place ≡ Some v
+  challenged : (place : ℕ) (v : Vector) → part_of d.solo.phase ≡ Challenged → d.solo.next_vector ≡ place + 1
+      → slice_get s.vectors place ≡ Some v
       → Challenges place v d → Moves s b item d
-  responded : (v : Vector) → part_of b.phase ≡ Challenged → part_of d.solo.phase ≡ Securing → slice_get s.vectors (b.next_vector - 1) ≡ Some v
+  responded : (v : Vector) → part_of b.phase ≡ Challenged → part_of d.solo.phase ≡ Securing
+      → slice_get s.vectors (b.next_vector - 1) ≡ Some v
       → Responds v item → place_of d.solo.context ≡ Some (b.next_vector - 1) → Moves s b item d
   completed : (x : Context) → part_of b.phase ≡ Securing → part_of d.solo.phase ≡ Past → b.context ≡ Some x → CompletesUnder x item
       → place_of d.solo.context ≡ Some x.place → Moves s b item d
@@ -99,13 +102,15 @@ pub record IsSealedHere (b : Solo) (o : Option (Sealed × Draft)) : Type 0 where
   pub at : (x : Sealed × Draft) → o ≡ Some x → IsHere b x.1
 
 module _ {b : Solo} where
-  pub here_by : {d e : Draft} → part_of e.solo.phase ≡ part_of d.solo.phase → e.solo.next_vector ≡ d.solo.next_vector → place_of e.solo.context ≡ place_of d.solo.context
+  pub here_by : {d e : Draft} → part_of e.solo.phase ≡ part_of d.solo.phase → e.solo.next_vector ≡ d.solo.next_vector
+      → place_of e.solo.context ≡ place_of d.solo.context
       → IsHere b d → IsHere b e
   here_by part next place h = record { part = part ∙ h.part; next = next ∙ h.next; place = place ∙ h.place }
 
   -- ---- actions
 
-  pub here_emit : {d : Draft} (station : ℕ) (message : Pdu (List ℕ)) (under : Option Mark) → IsHere b d → IsHere b (emit station message under d)
+  pub here_emit : {d : Draft} (station : ℕ) (message : Pdu (List ℕ)) (under : Option Mark) → IsHere b d
+      → IsHere b (emit station message under d)
   unfolding emit
   here_emit station message under h = here_by refl refl refl h
 
@@ -119,11 +124,13 @@ module _ {b : Solo} where
 
   pub here_release : {d : Draft} (cause : Cause) → IsHere b d → IsHere b (release cause d)
   unfolding release
-  here_release {d} cause h = at_some (IsHere b) d.solo.connection (λ k is. here_disconnected (here_emit k.station _ None h)) (λ is. h)
+  here_release {d} cause h =
+      at_some (IsHere b) d.solo.connection (λ k is. here_disconnected (here_emit k.station _ None h)) (λ is. h)
 
   here_leave_old : {d : Draft} (station enb_ue_id : ℕ) → IsHere b d → IsHere b (leave_old station enb_ue_id d)
   unfolding leave_old
-  here_leave_old {d} station enb_ue_id h = at_some (IsHere b) d.solo.connection (λ k is. either (IsHere b) _ h (here_emit k.station _ None h)) (λ is. h)
+  here_leave_old {d} station enb_ue_id h =
+      at_some (IsHere b) d.solo.connection (λ k is. either (IsHere b) _ h (here_emit k.station _ None h)) (λ is. h)
 
   here_connect_on : {d : Draft} (id station enb_ue_id : ℕ) → IsHere b d → IsHere b (connect_on id station enb_ue_id d)
   unfolding connect_on
@@ -141,7 +148,8 @@ module _ {b : Solo} where
   unfolding turn_away
   here_turn_away slot station enb_ue_id h = here_emit station _ None (here_counted h)
 
-  pub here_refuse : {d : Draft} (slot station enb_ue_id : ℕ) (nas : List ℕ) → IsHere b d → IsHere b (refuse slot station enb_ue_id nas d)
+  pub here_refuse : {d : Draft} (slot station enb_ue_id : ℕ) (nas : List ℕ) → IsHere b d
+      → IsHere b (refuse slot station enb_ue_id nas d)
   unfolding refuse
   here_refuse slot station enb_ue_id nas h = here_emit station _ None (here_emit station _ None (here_counted h))
 
@@ -150,10 +158,12 @@ module _ {b : Solo} where
   here_start timer repeat h = here_by refl refl refl h
 
   -- the same context in another state
-  pub here_context : {d : Draft} (x y : Context) → d.solo.context ≡ Some x → x.place ≡ y.place → IsHere b d → IsHere b (record d { solo = record d.solo { context = Some y } })
+  pub here_context : {d : Draft} (x y : Context) → d.solo.context ≡ Some x → x.place ≡ y.place → IsHere b d
+      → IsHere b (record d { solo = record d.solo { context = Some y } })
   here_context x y is same h = record { part = h.part; next = h.next; place = sym (ap place_of is ∙ ap Some same) ∙ h.place }
 
-  pub here_took : {d : Draft} (x y : Context) (count : ℕ) → d.solo.context ≡ Some x → x.place ≡ y.place → IsHere b d → IsHere b (took y count d)
+  pub here_took : {d : Draft} (x y : Context) (count : ℕ) → d.solo.context ≡ Some x → x.place ≡ y.place → IsHere b d
+      → IsHere b (took y count d)
   unfolding took
   here_took x y count is same h = record { part = h.part; next = h.next; place = sym (ap place_of is ∙ ap Some same) ∙ h.place }
 
@@ -171,7 +181,8 @@ module _ {b : Solo} where
   sealed_at header nas d None is h = some_sealed (record { form = []; under = None }, d) h
   sealed_at header nas d (Some x) is h = sealed_if _ (some_sealed _ (here_context x _ is refl h))
 
-  sealed_then : {o : Option (Sealed × Draft)} (f : Sealed × Draft → Draft) → IsSealedHere b o → ((x : Sealed × Draft) → IsHere b x.1 → IsHere b (f x))
+  sealed_then : {o : Option (Sealed × Draft)} (f : Sealed × Draft → Draft) → IsSealedHere b o
+      → ((x : Sealed × Draft) → IsHere b x.1 → IsHere b (f x))
       → Whenever (IsHere b) (o >>= λ x. Some (f x))
   sealed_then {o = None} f h each = record { at = λ e is. absurd (cc) }
   sealed_then {o = Some x} f h each = some (each x (h.at x refl))
@@ -183,9 +194,11 @@ module _ {b : Solo} where
   pub here_protect : {d : Draft} (header : SecurityHeader) (nas : List ℕ) → IsHere b d → Whenever (IsHere b) (protect header nas d)
   unfolding protect
   here_protect header nas h =
-      sealed_then _ (here_seal header nas h) (λ x r. at_some (IsHere b) x.1.solo.connection (λ k is. here_emit k.station _ _ r) (λ is. r))
+      sealed_then _ (here_seal header nas h)
+      (λ x r. at_some (IsHere b) x.1.solo.connection (λ k is. here_emit k.station _ _ r) (λ is. r))
 
-  pub here_set_up : {d : Draft} (s : Setting) (kenb : List ℕ) (nas : Option (List ℕ)) (under : Option Mark) → IsHere b d → IsHere b (set_up s kenb nas under d)
+  pub here_set_up : {d : Draft} (s : Setting) (kenb : List ℕ) (nas : Option (List ℕ)) (under : Option Mark) → IsHere b d
+      → IsHere b (set_up s kenb nas under d)
   unfolding set_up
   here_set_up {d} s kenb nas under h = at_some (IsHere b) d.solo.connection (λ k is. here_emit k.station _ under h) (λ is. h)
 
@@ -202,7 +215,8 @@ module _ {b : Solo} where
 
     moves_resting : {d : Draft} → is_registered d.solo.phase ≡ true → IsHere b d → Moves s b item (resting d)
     unfolding resting ended
-    moves_resting {d} registered h = stays (record { part = sym (registered_part d.solo.phase registered) ∙ h.part; next = h.next; place = h.place })
+    moves_resting {d} registered h =
+        stays (record { part = sym (registered_part d.solo.phase registered) ∙ h.part; next = h.next; place = h.place })
 
     moves_fallen : {d : Draft} → IsHere b d → Moves s b item (fallen d)
     moves_fallen {d} h = either_by (Moves s b item) (is_registered d.solo.phase) (λ t. moves_resting t h) (λ t. moves_wipe d)

@@ -72,12 +72,15 @@ record IsResponding (s : Setting) (b : Solo) (items : List Item) (v : Vector) : 
 -- how a run can end past the proof with the vector at a place
 data Ends (s : Setting) (b : Solo) (items : List Item) (place : ℕ) : Type 0 where
   proved : IsProved s b items place → Ends s b items place
-  responding : (v : Vector) → part_of b.phase ≡ Challenged → place ≡ b.next_vector - 1 → slice_get s.vectors place ≡ Some v → IsResponding s b items v → Ends s b items place
-  completing : (v : Vector) → part_of b.phase ≡ Securing → place_of b.context ≡ Some place → slice_get s.vectors place ≡ Some v → IsCompleting s b items v → Ends s b items place
+  responding : (v : Vector) → part_of b.phase ≡ Challenged → place ≡ b.next_vector - 1 → slice_get s.vectors place ≡ Some v
+      → IsResponding s b items v → Ends s b items place
+  completing : (v : Vector) → part_of b.phase ≡ Securing → place_of b.context ≡ Some place → slice_get s.vectors place ≡ Some v
+      → IsCompleting s b items v → Ends s b items place
   staying : part_of b.phase ≡ Past → place_of b.context ≡ Some place → NeverDeregistered s b items → Ends s b items place
 
 -- what is under a vector's context is under its key
-completes_by : (vectors : List Vector) (x : Context) (v : Vector) (item : Item) → IsOfVector vectors x v → CompletesUnder x item → Completes v item
+completes_by : (vectors : List Vector) (x : Context) (v : Vector) (item : Item) → IsOfVector vectors x v → CompletesUnder x item
+    → Completes v item
 completes_by vectors x v item of c = (
   c.0,
   c.1,
@@ -89,9 +92,11 @@ completes_by vectors x v item of c = (
 )
 
 -- the vector of the context in security mode
-vector_of : (s : Setting) (b : Solo) (x : Context) → IsSound s b → part_of b.phase ≡ Securing → b.context ≡ Some x → (v : Vector) × IsOfVector s.vectors x v
+vector_of : (s : Setting) (b : Solo) (x : Context) → IsSound s b → part_of b.phase ≡ Securing → b.context ≡ Some x
+    → (v : Vector) × IsOfVector s.vectors x v
 vector_of s b x h part is =
-    let c : HasContext SecurityMode s.vectors b.context = subst (λ (p : Phase). HasContext p s.vectors b.context) (securing_phase b.phase part) h.context in
+    let c : HasContext SecurityMode s.vectors b.context =
+    subst (λ (p : Phase). HasContext p s.vectors b.context) (securing_phase b.phase part) h.context in
     (c.1, subst (λ (y : Context). IsOfVector s.vectors y c.1) (same_Some c.0 x (sym c.2 ∙ is)) c.3)
 
 -- one step before
@@ -159,9 +164,12 @@ back s b item items place h (challenged taken w part_now next_now there_now sent
       completed = r.completes;
       throughout = (not_away (solo_step s b item).solo.phase part refl, subst (NeverDeregistered s (solo_step s b item).solo) r.whole r.throughout);
     })
-back s b item items place h (challenged taken w part_now next_now there_now sent) (completing v part at there c) = absurd (clash part_now part refl)
-back s b item items place h (challenged taken w part_now next_now there_now sent) (staying part at never) = absurd (clash part_now part refl)
-back s b item items place h (responded w part_before part_now there_now responds at_now) (responding v part next there r) = absurd (clash part_now part refl)
+back s b item items place h (challenged taken w part_now next_now there_now sent) (completing v part at there c) =
+    absurd (clash part_now part refl)
+back s b item items place h (challenged taken w part_now next_now there_now sent) (staying part at never) =
+    absurd (clash part_now part refl)
+back s b item items place h (responded w part_before part_now there_now responds at_now) (responding v part next there r) =
+    absurd (clash part_now part refl)
 back s b item items place h (responded w part_before part_now there_now responds at_now) (completing v part at there c) =
     let same : place ≡ b.next_vector - 1 = same_Some place (b.next_vector - 1) (sym at ∙ at_now) in
     let vector : w ≡ v = same_Some w v (sym there_now ∙ subst (λ (q : ℕ). slice_get s.vectors q ≡ Some v) same there) in
@@ -176,13 +184,17 @@ back s b item items place h (responded w part_before part_now there_now responds
       completes = c.completes;
       throughout = (not_away (solo_step s b item).solo.phase part refl, c.throughout);
     })
-back s b item items place h (responded w part_before part_now there_now responds at_now) (staying part at never) = absurd (clash part_now part refl)
-back s b item items place h (completed x part_before part_now is completes at_now) (responding v part next there r) = absurd (clash part_now part refl)
-back s b item items place h (completed x part_before part_now is completes at_now) (completing v part at there c) = absurd (clash part_now part refl)
+back s b item items place h (responded w part_before part_now there_now responds at_now) (staying part at never) =
+    absurd (clash part_now part refl)
+back s b item items place h (completed x part_before part_now is completes at_now) (responding v part next there r) =
+    absurd (clash part_now part refl)
+back s b item items place h (completed x part_before part_now is completes at_now) (completing v part at there c) =
+    absurd (clash part_now part refl)
 back s b item items place h (completed x part_before part_now is completes at_now) (staying part at never) =
     let same : x.place ≡ place = same_Some x.place place (sym at_now ∙ at) in
     let v = vector_of s b x h part_before is in
-    completing v.0 part_before (ap place_of is ∙ ap Some same) (subst (λ (q : ℕ). slice_get s.vectors q ≡ Some v.0) same v.1.there) (record {
+    completing v.0 part_before (ap place_of is ∙ ap Some same) (subst (λ (q : ℕ). slice_get s.vectors q ≡ Some v.0) same v.1.there)
+    (record {
       waiting = [];
       completion = item;
       rest = items;
@@ -191,7 +203,8 @@ back s b item items place h (completed x part_before part_now is completes at_no
       throughout = (not_away (solo_step s b item).solo.phase part refl, never);
     })
 
-ends : WholeIsFresh → SameIsEqual → (s : Setting) (b : Solo) (items : List Item) → IsSound s b → part_of (solo_after s b items).phase ≡ Past
+ends : WholeIsFresh → SameIsEqual → (s : Setting) (b : Solo) (items : List Item) → IsSound s b
+    → part_of (solo_after s b items).phase ≡ Past
     → (place : ℕ) × (place_of (solo_after s b items).context ≡ Some place) × Ends s b items place
 ends whole equal s b [] h past =
     let c = keyed_context b.phase s.vectors b.context (past_proof b.phase past) h.context in (c.0.place, ap place_of c.2, staying past (ap place_of c.2) tt)
@@ -200,7 +213,8 @@ ends whole equal s b (item ∷ items) h past =
     (r.0, r.1, back s b item items r.0 h (moves_step equal s b item) r.2)
 
 -- who began deregistered has the whole proof before it
-from_away : (s : Setting) (b : Solo) (items : List Item) (place : ℕ) → b.phase ≡ Deregistered → Ends s b items place → IsProved s b items place
+from_away : (s : Setting) (b : Solo) (items : List Item) (place : ℕ) → b.phase ≡ Deregistered → Ends s b items place
+    → IsProved s b items place
 from_away s b items place is (proved q) = q
 from_away s b items place is (responding v part next there r) = absurd (clash (ap part_of is) part refl)
 from_away s b items place is (completing v part at there c) = absurd (clash (ap part_of is) part refl)
@@ -216,16 +230,21 @@ registered_by_proof whole equal s b items h is past =
 
 -- ---- radio keys
 
-after_more : (s : Setting) (b : Solo) (items : List Item) (item : Item) → solo_after s b (items ++ item ∷ []) ≡ (solo_step s (solo_after s b items) item).solo
+after_more : (s : Setting) (b : Solo) (items : List Item) (item : Item)
+    → solo_after s b (items ++ item ∷ []) ≡ (solo_step s (solo_after s b items) item).solo
 after_more s b [] item = refl
 after_more s b (i ∷ items) item = after_more s (solo_step s b i).solo items item
 
-goes_by_proof : (whole : WholeIsFresh) (equal : SameIsEqual) (s : Setting) (b : Solo) (items : List Item) (item : Item) → IsSound s b → b.phase ≡ Deregistered
+goes_by_proof : (whole : WholeIsFresh) (equal : SameIsEqual) (s : Setting) (b : Solo) (items : List Item) (item : Item)
+    → IsSound s b → b.phase ≡ Deregistered
     → (a : Answer) (m : Pdu (List ℕ)) → GoesToTheProved (solo_step s (solo_after s b items) item).solo a m
-    → (x : Context) × ((solo_after s b (items ++ item ∷ [])).context ≡ Some x) × HasKeyOf x m × IsProved s b (items ++ item ∷ []) x.place
+    → (x : Context) × ((solo_after s b (items ++ item ∷ [])).context ≡ Some x) × HasKeyOf x m
+    × IsProved s b (items ++ item ∷ []) x.place
 goes_by_proof whole equal s b items item h is a m g =
     let same = after_more s b items item in
-    let r = registered_by_proof whole equal s b (items ++ item ∷ []) h is (subst (λ (z : Solo). is_past_proof z.phase ≡ true) (sym same) g.proved) in
+    let r =
+    registered_by_proof whole equal s b (items ++ item ∷ []) h is
+    (subst (λ (z : Solo). is_past_proof z.phase ≡ true) (sym same) g.proved) in
     let context : g.context ≡ r.0 = same_Some g.context r.0 (sym g.kept ∙ sym (ap (λ (z : Solo). z.context) same) ∙ r.1) in
     (r.0, r.1, subst (λ (y : Context). HasKeyOf y m) context g.key, r.2)
 
@@ -235,6 +254,7 @@ keys_by_proof whole what equal s b items item h is =
     let d = solo_step s c item in
     All-weaker (λ a. (m : Pdu (List ℕ)) → decoded a.octets ≡ Ok m → has_radio_key m ≡ true → GoesToTheProved d.solo a m)
     (λ a. (m : Pdu (List ℕ)) → decoded a.octets ≡ Ok m → has_radio_key m ≡ true
-    → (x : Context) × ((solo_after s b (items ++ item ∷ [])).context ≡ Some x) × HasKeyOf x m × IsProved s b (items ++ item ∷ []) x.place)
+    → (x : Context) × ((solo_after s b (items ++ item ∷ [])).context ≡ Some x) × HasKeyOf x m
+    × IsProved s b (items ++ item ∷ []) x.place)
     (λ a g m read key. goes_by_proof whole equal s b items item h is a m (g m read key)) d.sent
     (keys_go_to_the_proved whole what s c item (stays_sound whole s b items h))

@@ -132,10 +132,12 @@ recounted x down up = record x { security = record x.security { down_next = down
 abbrev pub spent : Context → Context
 spent x = record x { security = record x.security { down_next = x.security.down_next + 1 } }
 
-pub vector_recounted : (vectors : List Vector) (x : Context) (v : Vector) (down : ℕ) (up : Option ℕ) → IsOfVector vectors x v → IsOfVector vectors (recounted x down up) v
+pub vector_recounted : (vectors : List Vector) (x : Context) (v : Vector) (down : ℕ) (up : Option ℕ) → IsOfVector vectors x v
+    → IsOfVector vectors (recounted x down up) v
 vector_recounted vectors x v down up of = record { there = of.there; integrity = of.integrity; kasme = of.kasme; ksi = of.ksi }
 
-pub known_recounted : (vectors : List Vector) (x : Context) (down : ℕ) (up : Option ℕ) → IsKnown vectors (Some x) → IsKnown vectors (Some (recounted x down up))
+pub known_recounted : (vectors : List Vector) (x : Context) (down : ℕ) (up : Option ℕ) → IsKnown vectors (Some x)
+    → IsKnown vectors (Some (recounted x down up))
 known_recounted vectors x down up h = (h.0, vector_recounted vectors x h.0 down up h.1)
 
 -- counts that are accepted rise
@@ -151,14 +153,16 @@ pub rises_above : (o : Option ℕ) (count : ℕ) → first_after o ≤ count →
 rises_above None count high = tt
 rises_above (Some last) count high = (count, refl, omega arith)
 
-derived_recounted : (x : Context) (down : ℕ) (up : Option ℕ) → Rises x.security.up_last up → IsDerived x → IsDerived (recounted x down up)
+derived_recounted : (x : Context) (down : ℕ) (up : Option ℕ) → Rises x.security.up_last up → IsDerived x
+    → IsDerived (recounted x down up)
 derived_recounted x down up rises h =
     let r : Rises (Some h.1) up = subst (λ (o : Option ℕ). Rises o up) h.3 rises in
     let low : h.0 ≤ h.1 = h.4 in
     let high : h.1 ≤ r.0 = r.2 in
     (h.0, r.0, h.2, r.1, omega arith, h.5)
 
-pub context_recounted : (phase : Phase) (vectors : List Vector) (o : Option Context) (x : Context) (down : ℕ) (up : Option ℕ) → o ≡ Some x → Rises x.security.up_last up
+pub context_recounted : (phase : Phase) (vectors : List Vector) (o : Option Context) (x : Context) (down : ℕ) (up : Option ℕ)
+    → o ≡ Some x → Rises x.security.up_last up
     → HasContext phase vectors o → HasContext phase vectors (Some (recounted x down up))
 context_recounted Deregistered vectors o x down up is rises h = absurd (none-some x (sym h ∙ is))
 context_recounted Authenticating vectors o x down up is rises h = absurd (none-some x (sym h ∙ is))
@@ -175,7 +179,8 @@ context_recounted _ vectors o x down up is rises h =
     )
 
 -- past the proof a context has given radio keys
-pub keyed_context : (phase : Phase) (vectors : List Vector) (o : Option Context) → is_past_proof phase ≡ true → HasContext phase vectors o → HasContext Registered vectors o
+pub keyed_context : (phase : Phase) (vectors : List Vector) (o : Option Context) → is_past_proof phase ≡ true
+    → HasContext phase vectors o → HasContext Registered vectors o
 keyed_context Deregistered vectors o e h = absurd (cc)
 keyed_context Authenticating vectors o e h = absurd (cc)
 keyed_context SecurityMode vectors o e h = absurd (cc)
@@ -196,7 +201,8 @@ known_context _ vectors o h = subst (IsKnown vectors) (sym h.2) (h.1, h.3)
 abbrev pub Spends : (Solo → Type 0) → Type 0
 Spends P = (solo : Solo) (x : Context) → solo.context ≡ Some x → P solo → P (record solo { context = Some (spent x) })
 
-pub sound_recounted : (s : Setting) (solo : Solo) (x : Context) (down : ℕ) (up : Option ℕ) → solo.context ≡ Some x → Rises x.security.up_last up → IsSound s solo
+pub sound_recounted : (s : Setting) (solo : Solo) (x : Context) (down : ℕ) (up : Option ℕ) → solo.context ≡ Some x
+    → Rises x.security.up_last up → IsSound s solo
     → IsSound s (record solo { context = Some (recounted x down up) })
 sound_recounted s solo x down up is rises h = record {
   context = context_recounted solo.phase s.vectors solo.context x down up is rises h.context;
@@ -207,14 +213,16 @@ sound_recounted s solo x down up is rises h = record {
 }
 
 pub spends_sound : (s : Setting) → Spends (IsSound s)
-spends_sound s solo x is h = sound_recounted s solo x (x.security.down_next + 1) x.security.up_last is (rises_same x.security.up_last) h
+spends_sound s solo x is h =
+    sound_recounted s solo x (x.security.down_next + 1) x.security.up_last is (rises_same x.security.up_last) h
 
 pub spends_whatever : Spends Whatever
 spends_whatever solo x is h = tt
 
 -- ---- choices
 
-pub at_some : {K D : Type 0} (Q : D → Type 0) {f : K → D} {d : D} (o : Option K) → ((k : K) → o ≡ Some k → Q (f k)) → (o ≡ None → Q d) → Q (option_map_or f o d)
+pub at_some : {K D : Type 0} (Q : D → Type 0) {f : K → D} {d : D} (o : Option K) → ((k : K) → o ≡ Some k → Q (f k))
+    → (o ≡ None → Q d) → Q (option_map_or f o d)
 at_some Q None each none = none refl
 at_some Q (Some k) each none = each k refl
 
@@ -237,18 +245,21 @@ connected_of (Some k) f e = refl
 pub some : {Q : Draft → Type 0} {d : Draft} → Q d → Whenever Q (Some d)
 some {Q} {d} h = record { at = λ e is. subst Q (same_Some d e is) h }
 
-pub then : {Q R : Draft → Type 0} {o : Option Draft} (f : Draft → Draft) → Whenever Q o → ((d : Draft) → Q d → R (f d)) → Whenever R (o >>= λ d. Some (f d))
+pub then : {Q R : Draft → Type 0} {o : Option Draft} (f : Draft → Draft) → Whenever Q o → ((d : Draft) → Q d → R (f d))
+    → Whenever R (o >>= λ d. Some (f d))
 then {o = None} f h each = record { at = λ e is. absurd (cc) }
 then {o = Some d} f h each = some (each d (h.at d refl))
 
-pub sealed_then : {s : Setting} {P : Solo → Type 0} {R : Draft → Type 0} {o : Option (Sealed × Draft)} (f : Sealed × Draft → Draft) → IsSealed s P o
+pub sealed_then : {s : Setting} {P : Solo → Type 0} {R : Draft → Type 0} {o : Option (Sealed × Draft)} (f : Sealed × Draft → Draft)
+    → IsSealed s P o
     → ((x : Sealed × Draft) → IsReady s P x.1 → IsUnderIn s x.0 → R (f x)) → Whenever R (o >>= λ x. Some (f x))
 sealed_then {o = None} f h each = record { at = λ e is. absurd (cc) }
 sealed_then {o = Some x} f h each = some (each x (h.at x refl).0 (h.at x refl).1)
 
 module _ {s : Setting} where
   some_sealed : {P : Solo → Type 0} (x : Sealed × Draft) → IsReady s P x.1 → IsUnderIn s x.0 → IsSealed s P (Some x)
-  some_sealed {P} x h u = record { at = λ y is. subst (λ (z : Sealed × Draft). IsReady s P z.1 × IsUnderIn s z.0) (same_Some x y is) (h, u) }
+  some_sealed {P} x h u =
+      record { at = λ y is. subst (λ (z : Sealed × Draft). IsReady s P z.1 × IsUnderIn s z.0) (same_Some x y is) (h, u) }
 
   sealed_if : {P : Solo → Type 0} {o : Option (Sealed × Draft)} (t : Bool) → IsSealed s P o → IsSealed s P (cond t o None)
   sealed_if true h = h
@@ -263,7 +274,8 @@ module _ {s : Setting} where
 
   -- ---- sending
 
-  pub ready_emit : {P : Solo → Type 0} {d : Draft} (station : ℕ) (message : Pdu (List ℕ)) (under : Option Mark) → AreFormsUnder s.vectors under (protected_within message)
+  pub ready_emit : {P : Solo → Type 0} {d : Draft} (station : ℕ) (message : Pdu (List ℕ)) (under : Option Mark)
+      → AreFormsUnder s.vectors under (protected_within message)
       → has_radio_key message ≡ false → IsReady s P d → IsReady s P (emit station message under d)
   unfolding emit
   ready_emit {d = d} station message under form keyless h = record {
@@ -272,14 +284,17 @@ module _ {s : Setting} where
     said = said_more s.vectors Keyless d.sent station under message (encoded message) refl form (λ octets. keyless) h.said;
   }
 
-  pub ready_send : {P : Solo → Type 0} {d : Draft} (nas : List ℕ) → has_security_header nas ≡ false → IsReady s P d → IsReady s P (send nas d)
+  pub ready_send : {P : Solo → Type 0} {d : Draft} (nas : List ℕ) → has_security_header nas ≡ false → IsReady s P d
+      → IsReady s P (send nas d)
   unfolding send downlink
   ready_send {P} {d} nas plain h =
-      at_some (IsReady s P) d.solo.connection (λ k is. ready_emit k.station (downlink k nas) None (plain_is_none nas plain) refl h) (λ is. h)
+      at_some (IsReady s P) d.solo.connection (λ k is. ready_emit k.station (downlink k nas) None (plain_is_none nas plain) refl h)
+      (λ is. h)
 
   -- ---- the connection
 
-  pub ready_release_command : {P : Solo → Type 0} {d : Draft} (station id enb_ue_id : ℕ) (cause : Cause) → IsReady s P d → IsReady s P (emit station (release_command id enb_ue_id cause) None d)
+  pub ready_release_command : {P : Solo → Type 0} {d : Draft} (station id enb_ue_id : ℕ) (cause : Cause) → IsReady s P d
+      → IsReady s P (emit station (release_command id enb_ue_id cause) None d)
   unfolding release_command
   ready_release_command station id enb_ue_id cause h = ready_emit station (release_command id enb_ue_id cause) None refl refl h
 
@@ -302,29 +317,36 @@ module _ {s : Setting} where
   unfolding disconnected
   left_disconnected h = record { solo = record { context = h.solo.context; connection = refl }; known = h.known; said = h.said }
 
-  pub ready_leave_old : {P : Solo → Type 0} {d : Draft} (station enb_ue_id : ℕ) → IsReady s P d → IsReady s P (leave_old station enb_ue_id d)
+  pub ready_leave_old : {P : Solo → Type 0} {d : Draft} (station enb_ue_id : ℕ) → IsReady s P d
+      → IsReady s P (leave_old station enb_ue_id d)
   unfolding leave_old
   ready_leave_old {P} {d} station enb_ue_id h =
       at_some (IsReady s P) d.solo.connection
       (λ k is. either (IsReady s P) _ h (ready_release_command k.station k.id k.enb_ue_id _ h)) (λ is. h)
 
-  pub linked_connect_on : {P : Solo → Type 0} {d : Draft} (id station enb_ue_id : ℕ) → IsReady s P d → IsReady s IsLinked (connect_on id station enb_ue_id d)
+  pub linked_connect_on : {P : Solo → Type 0} {d : Draft} (id station enb_ue_id : ℕ) → IsReady s P d
+      → IsReady s IsLinked (connect_on id station enb_ue_id d)
   unfolding connect_on
   linked_connect_on {d = d} id station enb_ue_id h =
       let r = ready_leave_old {d = d} station enb_ue_id h in record { solo = refl; known = r.known; said = r.said }
 
-  later_connect_on : {d : Draft} (id station enb_ue_id : ℕ) → IsReady s (IsKeyed s) d → IsReady s (IsLater s) (connect_on id station enb_ue_id d)
+  later_connect_on : {d : Draft} (id station enb_ue_id : ℕ) → IsReady s (IsKeyed s) d
+      → IsReady s (IsLater s) (connect_on id station enb_ue_id d)
   unfolding connect_on
   later_connect_on {d} id station enb_ue_id h =
       let r = ready_leave_old {d = d} station enb_ue_id h in record { solo = record { context = r.solo; connection = refl }; known = r.known; said = r.said }
 
-  pub linked_connect : {P : Solo → Type 0} {d : Draft} (slot station enb_ue_id : ℕ) → IsReady s P d → IsReady s IsLinked (connect slot station enb_ue_id d)
+  pub linked_connect : {P : Solo → Type 0} {d : Draft} (slot station enb_ue_id : ℕ) → IsReady s P d
+      → IsReady s IsLinked (connect slot station enb_ue_id d)
   unfolding connect association_counted
-  linked_connect slot station enb_ue_id h = linked_connect_on {P = Whatever} _ station enb_ue_id (record { solo = tt; known = h.known; said = h.said })
+  linked_connect slot station enb_ue_id h =
+      linked_connect_on {P = Whatever} _ station enb_ue_id (record { solo = tt; known = h.known; said = h.said })
 
-  pub later_connect : {d : Draft} (slot station enb_ue_id : ℕ) → IsReady s (IsKeyed s) d → IsReady s (IsLater s) (connect slot station enb_ue_id d)
+  pub later_connect : {d : Draft} (slot station enb_ue_id : ℕ) → IsReady s (IsKeyed s) d
+      → IsReady s (IsLater s) (connect slot station enb_ue_id d)
   unfolding connect association_counted
-  later_connect slot station enb_ue_id h = later_connect_on _ station enb_ue_id (record { solo = h.solo; known = h.known; said = h.said })
+  later_connect slot station enb_ue_id h =
+      later_connect_on _ station enb_ue_id (record { solo = h.solo; known = h.known; said = h.said })
 
   sound_counted : {d : Draft} → IsReady s (IsSound s) d → IsReady s (IsSound s) (association_counted d)
   unfolding association_counted
@@ -334,11 +356,13 @@ module _ {s : Setting} where
     said = h.said;
   }
 
-  pub sound_turn_away : {d : Draft} (slot station enb_ue_id : ℕ) → IsReady s (IsSound s) d → IsReady s (IsSound s) (turn_away slot station enb_ue_id d)
+  pub sound_turn_away : {d : Draft} (slot station enb_ue_id : ℕ) → IsReady s (IsSound s) d
+      → IsReady s (IsSound s) (turn_away slot station enb_ue_id d)
   unfolding turn_away
   sound_turn_away slot station enb_ue_id h = ready_release_command station _ enb_ue_id _ (sound_counted h)
 
-  pub sound_refuse : {d : Draft} (slot station enb_ue_id : ℕ) (nas : List ℕ) → has_security_header nas ≡ false → IsReady s (IsSound s) d
+  pub sound_refuse : {d : Draft} (slot station enb_ue_id : ℕ) (nas : List ℕ) → has_security_header nas ≡ false
+      → IsReady s (IsSound s) d
       → IsReady s (IsSound s) (refuse slot station enb_ue_id nas d)
   unfolding refuse downlink
   sound_refuse slot station enb_ue_id nas plain h =
@@ -354,13 +378,15 @@ module _ {s : Setting} where
   sound_idle h = by (λ solo p. p.sound) h
 
   -- the phone is forgotten
-  pub sound_forgotten : {P : Solo → Type 0} {d : Draft} (cause : Cause) → IsReady s P d → IsReady s (IsSound s) (wipe (release cause d))
+  pub sound_forgotten : {P : Solo → Type 0} {d : Draft} (cause : Cause) → IsReady s P d
+      → IsReady s (IsSound s) (wipe (release cause d))
   sound_forgotten cause h = sound_idle (idle_wipe (ready_release cause h))
 
   -- what was registered is gone, on a new connection
   pub bare_wipe : {d : Draft} → IsReady s IsLinked d → IsReady s IsBare (wipe d)
   unfolding wipe
-  bare_wipe h = record { solo = record { context = refl; connection = h.solo; reachable = tt; repeat = tt }; known = tt; said = h.said }
+  bare_wipe h =
+      record { solo = record { context = refl; connection = h.solo; reachable = tt; repeat = tt }; known = tt; said = h.said }
 
   idle_resting : {d : Draft} → is_registered d.solo.phase ≡ true → IsReady s (IsLeft s) d → IsReady s (IsIdle s) (resting d)
   unfolding resting ended
@@ -380,7 +406,9 @@ module _ {s : Setting} where
   }
 
   pub idle_fallen : {d : Draft} → IsReady s (IsLeft s) d → IsReady s (IsIdle s) (fallen d)
-  idle_fallen {d} h = either_by (IsReady s (IsIdle s)) (is_registered d.solo.phase) (λ t. idle_resting t h) (λ t. idle_wipe (by (λ solo p. p.connection) h))
+  idle_fallen {d} h =
+      either_by (IsReady s (IsIdle s)) (is_registered d.solo.phase) (λ t. idle_resting t h)
+      (λ t. idle_wipe (by (λ solo p. p.connection) h))
 
   pub idle_fall : {d : Draft} (cause : Cause) → IsReady s (IsSound s) d → IsReady s (IsIdle s) (fall cause d)
   unfolding fall
@@ -393,7 +421,8 @@ module _ {s : Setting} where
   unfolding lost
   sound_lost h = sound_idle (idle_fallen (left_disconnected h))
 
-  pub sound_start : {d : Draft} (timer : NasTimer) (repeat : Repeat) → IsPlainRepeat (Some repeat) → IsReady s (IsSound s) d → IsReady s (IsSound s) (start timer repeat d)
+  pub sound_start : {d : Draft} (timer : NasTimer) (repeat : Repeat) → IsPlainRepeat (Some repeat) → IsReady s (IsSound s) d
+      → IsReady s (IsSound s) (start timer repeat d)
   unfolding start
   sound_start timer repeat plain h = record {
     solo = record { context = h.solo.context; connection = h.solo.connection; challenge = h.solo.challenge; reachable = h.solo.reachable; repeat = plain };
@@ -403,7 +432,8 @@ module _ {s : Setting} where
 
   -- ---- protected messages
 
-  sealed_at : {P : Solo → Type 0} (header : SecurityHeader) (nas : List ℕ) (d : Draft) (o : Option Context) → d.solo.context ≡ o → Spends P → IsReady s P d
+  sealed_at : {P : Solo → Type 0} (header : SecurityHeader) (nas : List ℕ) (d : Draft) (o : Option Context) → d.solo.context ≡ o
+      → Spends P → IsReady s P d
       → IsSealed s P (option_map_or (sealed_under header nas d) o (Some (record { form = []; under = None }, d)))
   sealed_at header nas d None is spends h = some_sealed (record { form = []; under = None }, d) h refl
   sealed_at header nas d (Some x) is spends h =
@@ -412,21 +442,25 @@ module _ {s : Setting} where
       (record { solo = spends d.solo x is h.solo; known = known_recounted s.vectors x (x.security.down_next + 1) x.security.up_last known; said = h.said })
       (form_is_under s.vectors x known.0 x.security.down_next header nas known.1))
 
-  pub ready_seal : {P : Solo → Type 0} {d : Draft} (header : SecurityHeader) (nas : List ℕ) → Spends P → IsReady s P d → IsSealed s P (seal header nas d)
+  pub ready_seal : {P : Solo → Type 0} {d : Draft} (header : SecurityHeader) (nas : List ℕ) → Spends P → IsReady s P d
+      → IsSealed s P (seal header nas d)
   unfolding seal
   ready_seal {d = d} header nas spends h = sealed_at header nas d d.solo.context refl spends h
 
-  pub ready_protect : {P : Solo → Type 0} {d : Draft} (header : SecurityHeader) (nas : List ℕ) → Spends P → IsReady s P d → Whenever (IsReady s P) (protect header nas d)
+  pub ready_protect : {P : Solo → Type 0} {d : Draft} (header : SecurityHeader) (nas : List ℕ) → Spends P → IsReady s P d
+      → Whenever (IsReady s P) (protect header nas d)
   unfolding protect downlink
   ready_protect {P} header nas spends h =
       sealed_then _ (ready_seal header nas spends h)
       (λ x r u. at_some (IsReady s P) x.1.solo.connection (λ k is. ready_emit k.station (downlink k x.0.form) x.0.under u refl r) (λ is. r))
 
-  pub sound_protect : {d : Draft} (header : SecurityHeader) (nas : List ℕ) → IsReady s (IsSound s) d → Whenever (IsReady s (IsSound s)) (protect header nas d)
+  pub sound_protect : {d : Draft} (header : SecurityHeader) (nas : List ℕ) → IsReady s (IsSound s) d
+      → Whenever (IsReady s (IsSound s)) (protect header nas d)
   sound_protect header nas h = ready_protect header nas (spends_sound s) h
 
   -- an uplink message was accepted by this context
-  pub ready_took : {P Q : Solo → Type 0} {d : Draft} (x : Context) (count : ℕ) → IsKnown s.vectors (Some x) → ((solo : Solo) → P solo → Q (record solo { context = Some x }))
+  pub ready_took : {P Q : Solo → Type 0} {d : Draft} (x : Context) (count : ℕ) → IsKnown s.vectors (Some x)
+      → ((solo : Solo) → P solo → Q (record solo { context = Some x }))
       → IsReady s P d → IsReady s Q (took x count d)
   unfolding took
   ready_took {d = d} x count known f h = record { solo = f d.solo h.solo; known = known; said = h.said }
@@ -438,7 +472,8 @@ pub record IsDone (s : Setting) (d : Draft) : Type 0 where
   pub sound : IsSound s d.solo
   pub said : All (IsSaid s.vectors (Proved d.solo)) d.sent
 
-pub said_keyless : (vectors : List Vector) (solo : Solo) (sends : List Answer) → All (IsSaid vectors Keyless) sends → All (IsSaid vectors (Proved solo)) sends
+pub said_keyless : (vectors : List Vector) (solo : Solo) (sends : List Answer) → All (IsSaid vectors Keyless) sends
+    → All (IsSaid vectors (Proved solo)) sends
 said_keyless vectors solo sends h =
     All-weaker (IsSaid vectors Keyless) (IsSaid vectors (Proved solo))
     (λ a i. record { message = i.message; written = i.written; under = i.under; key = λ e. absurd (true≢false (sym e ∙ i.key)) }) sends h
@@ -472,13 +507,16 @@ module _ {s : Setting} where
   done_if h = record { at = λ d is. done (h.at d is) }
 
   pub done_set_up : {d : Draft} (kenb : List ℕ) (nas : Option (List ℕ)) (under : Option Mark)
-      → AreFormsUnder s.vectors under (filter has_security_header (option_to_list nas ++ [])) → IsReady s (HasKey s kenb) d → IsDone s (set_up s kenb nas under d)
+      → AreFormsUnder s.vectors under (filter has_security_header (option_to_list nas ++ [])) → IsReady s (HasKey s kenb) d
+      → IsDone s (set_up s kenb nas under d)
   unfolding set_up emit context_setup
   done_set_up {d} kenb nas under form h =
       at_some (IsDone s) d.solo.connection
       (λ k is. record {
         sound = h.solo.sound;
-        said = said_more s.vectors (Proved d.solo) d.sent k.station under (context_setup s.network s.profile d.solo.asked.capability k kenb nas) _ refl form
+        said =
+            said_more s.vectors (Proved d.solo) d.sent k.station under
+            (context_setup s.network s.profile d.solo.asked.capability k kenb nas) _ refl form
             (λ octets e. record {
               proved = h.solo.past;
               connection = k;
@@ -493,7 +531,8 @@ module _ {s : Setting} where
       })
       (λ is. record { sound = h.solo.sound; said = said_keyless s.vectors d.solo d.sent h.said })
 
-  pub done_start : {d : Draft} (timer : NasTimer) (repeat : Repeat) → IsPlainRepeat (Some repeat) → IsDone s d → IsDone s (start timer repeat d)
+  pub done_start : {d : Draft} (timer : NasTimer) (repeat : Repeat) → IsPlainRepeat (Some repeat) → IsDone s d
+      → IsDone s (start timer repeat d)
   unfolding start
   done_start {d} timer repeat plain h = record {
     sound = record { context = h.sound.context; connection = h.sound.connection; challenge = h.sound.challenge; reachable = h.sound.reachable; repeat = plain };

@@ -63,9 +63,11 @@ use Rattle.laws_admission.proofs.Saying.{HasKey, IsBare, IsDone, IsKnown, IsLate
 -- a connection that is there leaves nothing counted
 uncounted : (o : Option ℕ) (c e : Option Connection) → IsCountedIdle o c → IsSome c → IsCountedIdle o e
 uncounted None c e h some_c = tt
-uncounted (Some n) c e h some_c = absurd (true≢false (sym some_c ∙ subst (λ (k : Option Connection). is_some k ≡ false) (sym h) refl))
+uncounted (Some n) c e h some_c =
+    absurd (true≢false (sym some_c ∙ subst (λ (k : Option Connection). is_some k ≡ false) (sym h) refl))
 
-counted_lower : (o : Option ℕ) (c : Option Connection) → IsCountedIdle o c → IsCountedIdle (option_map_or (λ n. Some (n - 1)) o None) c
+counted_lower : (o : Option ℕ) (c : Option Connection) → IsCountedIdle o c
+    → IsCountedIdle (option_map_or (λ n. Some (n - 1)) o None) c
 counted_lower None c h = tt
 counted_lower (Some n) c h = h
 
@@ -84,7 +86,8 @@ proven s solo past linked h =
     record { context = keyed_context solo.phase s.vectors solo.context past h.context; connection = linked; reachable = h.reachable; repeat = h.repeat }
 
 -- one more path switch
-moved_once_more : (moves : ℕ) (x : Context) (count : ℕ) → connected.hopped (record x { radio = keys_after moves x.kasme count }) ≡ keys_after (suc moves) x.kasme count
+moved_once_more : (moves : ℕ) (x : Context) (count : ℕ)
+    → connected.hopped (record x { radio = keys_after moves x.kasme count }) ≡ keys_after (suc moves) x.kasme count
 moved_once_more zero x count = refl
 moved_once_more (suc moves) x count =
     let round : ((suc moves + 1) % 8 + 1) % 8 ≡ (suc (suc moves) + 1) % 8 = omega arith in
@@ -97,7 +100,8 @@ moved_derived x derived =
     let moves = derived.2 in
     (count, derived.1, suc moves, derived.3, derived.4, ap (λ (keys : RadioKeys). connected.hopped (record x { radio = keys })) derived.5 ∙ moved_once_more moves x count)
 
-later_context : (phase : Phase) (vectors : List Vector) (x : Context) (v : Vector) → is_past_proof phase ≡ true → IsOfVector vectors x v → IsDerived x
+later_context : (phase : Phase) (vectors : List Vector) (x : Context) (v : Vector) → is_past_proof phase ≡ true
+    → IsOfVector vectors x v → IsDerived x
     → HasContext phase vectors (Some x)
 later_context Deregistered vectors x v past of derived = absurd (cc)
 later_context Authenticating vectors x v past of derived = absurd (cc)
@@ -109,13 +113,16 @@ past_challenge Authenticating vectors next e = absurd (cc)
 past_challenge _ vectors next e = tt
 
 -- a sound state in a phase
-context_in : (s : Setting) (solo : Solo) (phase : Phase) → solo.phase ≡ phase → IsSound s solo → HasContext phase s.vectors solo.context
+context_in : (s : Setting) (solo : Solo) (phase : Phase) → solo.phase ≡ phase → IsSound s solo
+    → HasContext phase s.vectors solo.context
 context_in s solo phase is h = subst (λ (p : Phase). HasContext p s.vectors solo.context) is h.context
 
-connection_in : (s : Setting) (solo : Solo) (phase : Phase) → solo.phase ≡ phase → IsSound s solo → HasConnection phase solo.connection
+connection_in : (s : Setting) (solo : Solo) (phase : Phase) → solo.phase ≡ phase → IsSound s solo
+    → HasConnection phase solo.connection
 connection_in s solo phase is h = subst (λ (p : Phase). HasConnection p solo.connection) is h.connection
 
-proven_in : (s : Setting) (solo : Solo) (phase : Phase) → solo.phase ≡ phase → is_past_proof phase ≡ true → IsSome solo.connection → IsSound s solo → IsProven s solo
+proven_in : (s : Setting) (solo : Solo) (phase : Phase) → solo.phase ≡ phase → is_past_proof phase ≡ true → IsSome solo.connection
+    → IsSound s solo → IsProven s solo
 proven_in s solo phase is past linked h = proven s solo (subst (λ (p : Phase). is_past_proof p ≡ true) (sym is) past) linked h
 
 -- what nas_security's law says of what is accepted
@@ -130,11 +137,13 @@ IsHigh x r = (found : ℕ × List ℕ) → r ≡ Ok found → first_after x.secu
 module _ (whole : WholeIsFresh) {s : Setting} where
   -- ---- attaching
 
-  sound_attach_refused : {P : Solo → Type 0} {d : Draft} (cause : EmmCause) (esm : Option (List ℕ)) → IsReady s P d → IsReady s (IsSound s) (attaching.attach_refused cause esm d)
+  sound_attach_refused : {P : Solo → Type 0} {d : Draft} (cause : EmmCause) (esm : Option (List ℕ)) → IsReady s P d
+      → IsReady s (IsSound s) (attaching.attach_refused cause esm d)
   unfolding attaching.attach_refused
   sound_attach_refused cause esm h = sound_forgotten _ (ready_send (attach_reject cause esm) (plain_attach_reject cause esm) h)
 
-  sound_challenged : {d : Draft} (v : Vector) → slice_get s.vectors d.solo.next_vector ≡ Some v → IsReady s IsBare d → IsReady s (IsSound s) (attaching.challenged v d)
+  sound_challenged : {d : Draft} (v : Vector) → slice_get s.vectors d.solo.next_vector ≡ Some v → IsReady s IsBare d
+      → IsReady s (IsSound s) (attaching.challenged v d)
   unfolding attaching.challenged
   sound_challenged {d} v there h =
       let plain = plain_authentication_request _ v.rand v.autn in
@@ -146,9 +155,12 @@ module _ (whole : WholeIsFresh) {s : Setting} where
 
   sound_challenge : {d : Draft} → IsReady s IsBare d → IsReady s (IsSound s) (attaching.challenge s d)
   unfolding attaching.challenge
-  sound_challenge {d} h = at_some (IsReady s (IsSound s)) (slice_get s.vectors d.solo.next_vector) (λ v there. sound_challenged v there h) (λ is. sound_attach_refused _ _ h)
+  sound_challenge {d} h =
+      at_some (IsReady s (IsSound s)) (slice_get s.vectors d.solo.next_vector) (λ v there. sound_challenged v there h)
+      (λ is. sound_attach_refused _ _ h)
 
-  sound_attach_by : {d : Draft} (asked : Requested (List ℕ)) (combined : Bool) (capability : List ℕ) (tai : Tai) → IsReady s IsBare d
+  sound_attach_by : {d : Draft} (asked : Requested (List ℕ)) (combined : Bool) (capability : List ℕ) (tai : Tai)
+      → IsReady s IsBare d
       → IsReady s (IsSound s) (attaching.attach_by asked s combined capability tai d)
   unfolding attaching.attach_by attaching.asking
   sound_attach_by Unreadable combined capability tai h = sound_attach_refused _ _ h
@@ -161,7 +173,8 @@ module _ (whole : WholeIsFresh) {s : Setting} where
         said = h.said;
       })) (sound_attach_refused _ _ h)
 
-  sound_attach : {d : Draft} (combined : Bool) (capability esm : List ℕ) (tai : Tai) → IsReady s IsLinked d → IsReady s (IsSound s) (attaching.attach s combined capability esm tai d)
+  sound_attach : {d : Draft} (combined : Bool) (capability esm : List ℕ) (tai : Tai) → IsReady s IsLinked d
+      → IsReady s (IsSound s) (attaching.attach s combined capability esm tai d)
   unfolding attaching.attach attaching.requesting
   sound_attach {d} combined capability esm tai h =
       let w = bare_wipe h in
@@ -171,7 +184,8 @@ module _ (whole : WholeIsFresh) {s : Setting} where
         said = w.said;
       })
 
-  sound_authenticated : {d : Draft} (place : ℕ) (v : Vector) → slice_get s.vectors place ≡ Some v → d.solo.phase ≡ Authenticating → IsReady s (IsSound s) d
+  sound_authenticated : {d : Draft} (place : ℕ) (v : Vector) → slice_get s.vectors place ≡ Some v → d.solo.phase ≡ Authenticating
+      → IsReady s (IsSound s) d
       → Whenever (IsReady s (IsSound s)) (attaching.authenticated place v d)
   unfolding attaching.authenticated attaching.new_context
   sound_authenticated {d} place v there is h =
@@ -191,14 +205,16 @@ module _ (whole : WholeIsFresh) {s : Setting} where
   unfolding attaching.not_authenticated
   sound_not_authenticated h = sound_forgotten _ (ready_send authentication_reject plain_authentication_reject h)
 
-  sound_response : {d : Draft} (res : List ℕ) → d.solo.phase ≡ Authenticating → IsReady s (IsSound s) d → Whenever (IsReady s (IsSound s)) (attaching.response s res d)
+  sound_response : {d : Draft} (res : List ℕ) → d.solo.phase ≡ Authenticating → IsReady s (IsSound s) d
+      → Whenever (IsReady s (IsSound s)) (attaching.response s res d)
   unfolding attaching.response attaching.response_to
   sound_response {d} res is h =
       at_some (Whenever (IsReady s (IsSound s))) (slice_get s.vectors (d.solo.next_vector - 1))
       (λ v there. either (Whenever (IsReady s (IsSound s))) _ (sound_authenticated (d.solo.next_vector - 1) v there is h) (some (sound_not_authenticated h)))
       (λ none. some h)
 
-  sound_failure : {d : Draft} (cause : ℕ) → d.solo.phase ≡ Authenticating → IsReady s (IsSound s) d → IsReady s (IsSound s) (attaching.failure s cause d)
+  sound_failure : {d : Draft} (cause : ℕ) → d.solo.phase ≡ Authenticating → IsReady s (IsSound s) d
+      → IsReady s (IsSound s) (attaching.failure s cause d)
   unfolding attaching.failure
   sound_failure {d} cause is h =
       either (IsReady s (IsSound s)) _
@@ -213,15 +229,20 @@ module _ (whole : WholeIsFresh) {s : Setting} where
         said = h.said;
       })) (sound_not_authenticated h)
 
-  sound_detach_plainly : {P : Solo → Type 0} {d : Draft} (switch_off : Bool) → IsReady s P d → IsReady s (IsSound s) (attaching.detach_plainly switch_off d)
+  sound_detach_plainly : {P : Solo → Type 0} {d : Draft} (switch_off : Bool) → IsReady s P d
+      → IsReady s (IsSound s) (attaching.detach_plainly switch_off d)
   unfolding attaching.detach_plainly attaching.detach_answered_plainly
-  sound_detach_plainly {P} switch_off h = sound_forgotten _ (either (IsReady s P) switch_off h (ready_send detach_accept plain_detach_accept h))
+  sound_detach_plainly {P} switch_off h =
+      sound_forgotten _ (either (IsReady s P) switch_off h (ready_send detach_accept plain_detach_accept h))
 
-  sound_status_plainly : {d : Draft} (cause : Option EmmCause) → IsReady s (IsSound s) d → IsReady s (IsSound s) (attaching.status_plainly cause d)
+  sound_status_plainly : {d : Draft} (cause : Option EmmCause) → IsReady s (IsSound s) d
+      → IsReady s (IsSound s) (attaching.status_plainly cause d)
   unfolding attaching.status_plainly
-  sound_status_plainly cause h = at_some (IsReady s (IsSound s)) cause (λ c is. ready_send (emm_status c) (plain_emm_status c) h) (λ is. h)
+  sound_status_plainly cause h =
+      at_some (IsReady s (IsSound s)) cause (λ c is. ready_send (emm_status c) (plain_emm_status c) h) (λ is. h)
 
-  sound_authenticating : {d : Draft} (m : Heard (List ℕ)) → d.solo.phase ≡ Authenticating → IsReady s (IsSound s) d → Whenever (IsReady s (IsSound s)) (attaching.authenticating s m d)
+  sound_authenticating : {d : Draft} (m : Heard (List ℕ)) → d.solo.phase ≡ Authenticating → IsReady s (IsSound s) d
+      → Whenever (IsReady s (IsSound s)) (attaching.authenticating s m d)
   unfolding attaching.authenticating
   sound_authenticating (heards.AuthenticationResponse res) is h = sound_response res is h
   sound_authenticating (heards.AuthenticationFailure cause) is h = some (sound_failure cause is h)
@@ -231,7 +252,8 @@ module _ (whole : WholeIsFresh) {s : Setting} where
   sound_authenticating _ is h = some (sound_status_plainly _ h)
 
   -- ATTACH ACCEPT goes to the proved, with the context's key
-  done_accept : {d : Draft} (key : List ℕ) (x : Context) → d.solo.context ≡ Some x → key ≡ x.radio.kenb → IsDerived x → IsReady s (IsProven s) d
+  done_accept : {d : Draft} (key : List ℕ) (x : Context) → d.solo.context ≡ Some x → key ≡ x.radio.kenb → IsDerived x
+      → IsReady s (IsProven s) d
       → Whenever (IsDone s) (attaching.accept s key d)
   unfolding attaching.accept attaching.activating attaching.given_tmsi set_up_with
   done_accept {d} key x is same derived h =
@@ -263,7 +285,8 @@ module _ (whole : WholeIsFresh) {s : Setting} where
   sound_not_secured nas h = either (IsReady s (IsSound s)) _ (sound_fall _ h) h
 
   -- a count was accepted by the context
-  sound_took : {d : Draft} (x : Context) (count : ℕ) → d.solo.context ≡ Some x → first_after x.security.up_last ≤ count → IsReady s (IsSound s) d → IsReady s (IsSound s) (attaching.took (counted_up x count) count d)
+  sound_took : {d : Draft} (x : Context) (count : ℕ) → d.solo.context ≡ Some x → first_after x.security.up_last ≤ count
+      → IsReady s (IsSound s) d → IsReady s (IsSound s) (attaching.took (counted_up x count) count d)
   unfolding attaching.took
   sound_took {d} x count is high h = record {
     solo = sound_recounted s d.solo x x.security.down_next (Some count) is (rises_above x.security.up_last count high) h.solo;
@@ -272,7 +295,8 @@ module _ (whole : WholeIsFresh) {s : Setting} where
   }
 
   -- and gives the radio keys
-  proven_keyed : {d : Draft} (x : Context) (count : ℕ) → d.solo.context ≡ Some x → IsSome d.solo.connection → IsReady s (IsSound s) d
+  proven_keyed : {d : Draft} (x : Context) (count : ℕ) → d.solo.context ≡ Some x → IsSome d.solo.connection
+      → IsReady s (IsSound s) d
       → IsReady s (IsProven s) (attaching.keyed (counted_up x count) count d)
   unfolding attaching.keyed attaching.took
   proven_keyed {d} x count is linked h =
@@ -291,7 +315,8 @@ module _ (whole : WholeIsFresh) {s : Setting} where
         said = h.said;
       }
 
-  done_secured : {d : Draft} (x : Context) (count : ℕ) → d.solo.context ≡ Some x → IsSome d.solo.connection → IsReady s (IsSound s) d
+  done_secured : {d : Draft} (x : Context) (count : ℕ) → d.solo.context ≡ Some x → IsSome d.solo.connection
+      → IsReady s (IsSound s) d
       → Whenever (IsDone s) (attaching.secured s (counted_up x count) count d)
   unfolding attaching.secured attaching.keyed attaching.took
   done_secured {d} x count is linked h =
@@ -299,28 +324,35 @@ module _ (whole : WholeIsFresh) {s : Setting} where
       either (Whenever (IsDone s)) _ (done_if (sound_ask_information k))
       (done_accept (kenb x.kasme count) (record (counted_up x count) { radio = keys_of x.kasme count }) refl refl (count, count, 0, refl, le_refl count, refl) k)
 
-  done_secured_by : {d : Draft} (r : Acceptance) (x : Context) (nas : List ℕ) → d.solo.context ≡ Some x → IsHigh x r → IsSome d.solo.connection → IsReady s (IsSound s) d
+  done_secured_by : {d : Draft} (r : Acceptance) (x : Context) (nas : List ℕ) → d.solo.context ≡ Some x → IsHigh x r
+      → IsSome d.solo.connection → IsReady s (IsSound s) d
       → Whenever (IsDone s) (attaching.secured_by r s x nas d)
   unfolding attaching.secured_by
   done_secured_by (Ok found) x nas is high linked h =
-      either (Whenever (IsDone s)) _ (done_secured x found.0 is linked h) (some (done (sound_took x found.0 is (high found refl) h)))
+      either (Whenever (IsDone s)) _ (done_secured x found.0 is linked h)
+      (some (done (sound_took x found.0 is (high found refl) h)))
   done_secured_by (Err fault) x nas is high linked h = some (done (sound_not_secured nas h))
 
-  done_in_security_mode : {d : Draft} (nas : List ℕ) → IsSome d.solo.connection → IsReady s (IsSound s) d → Whenever (IsDone s) (attaching.in_security_mode s nas d)
+  done_in_security_mode : {d : Draft} (nas : List ℕ) → IsSome d.solo.connection → IsReady s (IsSound s) d
+      → Whenever (IsDone s) (attaching.in_security_mode s nas d)
   unfolding attaching.in_security_mode
   done_in_security_mode {d} nas linked h =
-      at_some (Whenever (IsDone s)) d.solo.context (λ x is. done_secured_by _ x nas is (λ found e. (whole _ _ _ _ found.0 found.1 e).0) linked h) (λ is. some (done (sound_not_secured nas h)))
+      at_some (Whenever (IsDone s)) d.solo.context
+      (λ x is. done_secured_by _ x nas is (λ found e. (whole _ _ _ _ found.0 found.1 e).0) linked h)
+      (λ is. some (done (sound_not_secured nas h)))
 
   -- ---- a phone that is known
 
-  done_served_by : {d : Draft} (r : Result ℕ SecurityFault) (x : Context) (m : Entry (List ℕ)) → d.solo.context ≡ Some x → IsReady s (IsSound s) d
+  done_served_by : {d : Draft} (r : Result ℕ SecurityFault) (x : Context) (m : Entry (List ℕ)) → d.solo.context ≡ Some x
+      → IsReady s (IsSound s) d
       → IsDone s (serving.served_by r s x m d)
   unfolding serving.served_by serving.served serving.active ended attaching.keyed attaching.took
   done_served_by {d} (Ok count) x m is h =
       let known : IsKnown s.vectors (Some x) = subst (IsKnown s.vectors) is h.known in
       let of = known.1 in
       let y : Context = record (counted_up x count) { radio = keys_of x.kasme count } in
-      let keyed : IsOfVector s.vectors y known.0 = record { there = of.there; integrity = of.integrity; kasme = of.kasme; ksi = of.ksi } in
+      let keyed : IsOfVector s.vectors y known.0 =
+      record { there = of.there; integrity = of.integrity; kasme = of.kasme; ksi = of.ksi } in
       let c = linked_connect s.slot m.station m.enb_ue_id h in
       done_set_up (kenb x.kasme count) None None refl (record {
         solo = record {
@@ -336,13 +368,16 @@ module _ (whole : WholeIsFresh) {s : Setting} where
       })
   done_served_by (Err fault) x m is h = done (sound_refuse s.slot m.station m.enb_ue_id _ (plain_service_reject _) h)
 
-  done_service : {d : Draft} (m : Entry (List ℕ)) (octets : List ℕ) → IsReady s (IsSound s) d → IsDone s (serving.service s m octets d)
+  done_service : {d : Draft} (m : Entry (List ℕ)) (octets : List ℕ) → IsReady s (IsSound s) d
+      → IsDone s (serving.service s m octets d)
   unfolding serving.service
   done_service {d} m octets h =
       let refused = λ (cause : EmmCause). done (sound_refuse s.slot m.station m.enb_ue_id (service_reject cause) (plain_service_reject cause) h) in
-      either (IsDone s) _ (at_some (IsDone s) d.solo.context (λ x is. done_served_by _ x m is h) (λ is. refused IdentityNotDerived)) (refused ImplicitlyDetached)
+      either (IsDone s) _ (at_some (IsDone s) d.solo.context (λ x is. done_served_by _ x m is h) (λ is. refused IdentityNotDerived))
+      (refused ImplicitlyDetached)
 
-  sound_update : {d : Draft} (tai : Tai) (combined initial : Bool) → IsReady s (IsLater s) d → Whenever (IsReady s (IsSound s)) (serving.update s tai combined initial d)
+  sound_update : {d : Draft} (tai : Tai) (combined initial : Bool) → IsReady s (IsLater s) d
+      → Whenever (IsReady s (IsSound s)) (serving.update s tai combined initial d)
   unfolding serving.update serving.updating serving.active ended attaching.given_tmsi
   sound_update tai combined initial h =
       then _ (sound_protect _ _ (record {
@@ -351,20 +386,25 @@ module _ (whole : WholeIsFresh) {s : Setting} where
         said = h.said;
       })) (λ e f. sound_start _ _ tt f)
 
-  sound_updated_by : {d : Draft} (r : Acceptance) (x : Context) (m : Entry (List ℕ)) (combined : Bool) → d.solo.context ≡ Some x → IsHigh x r → is_registered d.solo.phase ≡ true
+  sound_updated_by : {d : Draft} (r : Acceptance) (x : Context) (m : Entry (List ℕ)) (combined : Bool) → d.solo.context ≡ Some x
+      → IsHigh x r → is_registered d.solo.phase ≡ true
       → IsReady s (IsSound s) d → Whenever (IsReady s (IsSound s)) (serving.updated_by r s x m combined d)
   unfolding serving.updated_by
   sound_updated_by {d} (Ok found) x m combined is high registered h =
       let context = keyed_context d.solo.phase s.vectors d.solo.context (registered_past d.solo.phase registered) h.solo.context in
       let known : IsKnown s.vectors (Some x) = subst (IsKnown s.vectors) is h.known in
-      let up : HasContext Registered s.vectors (Some (counted_up x found.0)) = context_recounted Registered s.vectors d.solo.context x x.security.down_next (Some found.0) is (rises_above x.security.up_last found.0 (high found refl)) context in
+      let up : HasContext Registered s.vectors (Some (counted_up x found.0)) =
+      context_recounted Registered s.vectors d.solo.context x x.security.down_next (Some found.0) is
+      (rises_above x.security.up_last found.0 (high found refl)) context in
       sound_update m.tai combined true
       (ready_took {P = IsLinked} {Q = IsLater s} (counted_up x found.0) found.0 (known_recounted s.vectors x x.security.down_next (Some found.0) known)
       (λ solo linked. record { context = up; connection = linked })
       (linked_connect s.slot m.station m.enb_ue_id h))
-  sound_updated_by (Err fault) x m combined is high registered h = some (sound_refuse s.slot m.station m.enb_ue_id _ (plain_update_reject _) h)
+  sound_updated_by (Err fault) x m combined is high registered h =
+      some (sound_refuse s.slot m.station m.enb_ue_id _ (plain_update_reject _) h)
 
-  sound_initial_update : {d : Draft} (m : Entry (List ℕ)) (combined : Bool) → IsReady s (IsSound s) d → Whenever (IsReady s (IsSound s)) (serving.initial_update s m combined d)
+  sound_initial_update : {d : Draft} (m : Entry (List ℕ)) (combined : Bool) → IsReady s (IsSound s) d
+      → Whenever (IsReady s (IsSound s)) (serving.initial_update s m combined d)
   unfolding serving.initial_update
   sound_initial_update {d} m combined h =
       let refused = λ (cause : EmmCause). some {Q = IsReady s (IsSound s)} (sound_refuse s.slot m.station m.enb_ue_id (update_reject cause) (plain_update_reject cause) h) in
@@ -372,14 +412,16 @@ module _ (whole : WholeIsFresh) {s : Setting} where
       (λ t. at_some (Whenever (IsReady s (IsSound s))) d.solo.context (λ x is. sound_updated_by _ x m combined is (λ found e. (whole _ _ _ _ found.0 found.1 e).0) t h) (λ is. refused IdentityNotDerived)) (λ t. refused ImplicitlyDetached)
 
   -- whatever the state, a phone that is proved may leave
-  sound_detach : {P : Solo → Type 0} {d : Draft} (switch_off : Bool) → IsReady s P d → Whenever (IsReady s (IsSound s)) (serving.detach switch_off d)
+  sound_detach : {P : Solo → Type 0} {d : Draft} (switch_off : Bool) → IsReady s P d
+      → Whenever (IsReady s (IsSound s)) (serving.detach switch_off d)
   unfolding serving.detach serving.detach_answered
   sound_detach switch_off h =
       let w = anyhow h in
       then _ (either (Whenever (IsReady s Whatever)) switch_off (some w) (ready_protect IntegrityProtectedCiphered detach_accept spends_whatever w))
       (λ e f. sound_forgotten _ f)
 
-  sound_detached_by : {d : Draft} (r : Acceptance) (x : Context) (m : Entry (List ℕ)) (switch_off : Bool) → d.solo.context ≡ Some x → IsReady s (IsSound s) d
+  sound_detached_by : {d : Draft} (r : Acceptance) (x : Context) (m : Entry (List ℕ)) (switch_off : Bool) → d.solo.context ≡ Some x
+      → IsReady s (IsSound s) d
       → Whenever (IsReady s (IsSound s)) (serving.detached_by r s x m switch_off d)
   unfolding serving.detached_by
   sound_detached_by {d} (Ok found) x m switch_off is h =
@@ -389,33 +431,41 @@ module _ (whole : WholeIsFresh) {s : Setting} where
       (linked_connect s.slot m.station m.enb_ue_id h))
   sound_detached_by (Err fault) x m switch_off is h = some (sound_turn_away s.slot m.station m.enb_ue_id h)
 
-  sound_initial_detach : {d : Draft} (m : Entry (List ℕ)) (switch_off : Bool) → IsReady s (IsSound s) d → Whenever (IsReady s (IsSound s)) (serving.initial_detach s m switch_off d)
+  sound_initial_detach : {d : Draft} (m : Entry (List ℕ)) (switch_off : Bool) → IsReady s (IsSound s) d
+      → Whenever (IsReady s (IsSound s)) (serving.initial_detach s m switch_off d)
   unfolding serving.initial_detach
   sound_initial_detach {d} m switch_off h =
-      either (Whenever (IsReady s (IsSound s))) _ (some (sound_detach_plainly switch_off (linked_connect s.slot m.station m.enb_ue_id h)))
+      either (Whenever (IsReady s (IsSound s))) _
+      (some (sound_detach_plainly switch_off (linked_connect s.slot m.station m.enb_ue_id h)))
       (at_some (Whenever (IsReady s (IsSound s))) d.solo.context (λ x is. sound_detached_by _ x m switch_off is h) (λ is. some (sound_turn_away s.slot m.station m.enb_ue_id h)))
 
-  done_entered : {d : Draft} (m : Heard (List ℕ)) (e : Entry (List ℕ)) → IsReady s (IsSound s) d → Whenever (IsDone s) (serving.entered m s e d)
+  done_entered : {d : Draft} (m : Heard (List ℕ)) (e : Entry (List ℕ)) → IsReady s (IsSound s) d
+      → Whenever (IsDone s) (serving.entered m s e d)
   unfolding serving.entered
-  done_entered (heards.AttachRequest combined capability esm) e h = some (done (sound_attach combined capability esm e.tai (linked_connect s.slot e.station e.enb_ue_id h)))
+  done_entered (heards.AttachRequest combined capability esm) e h =
+      some (done (sound_attach combined capability esm e.tai (linked_connect s.slot e.station e.enb_ue_id h)))
   done_entered (heards.ServiceRequest octets) e h = some (done_service e octets h)
   done_entered (heards.TrackingAreaUpdateRequest combined) e h = done_if (sound_initial_update e combined h)
   done_entered (heards.DetachRequest switch_off) e h = done_if (sound_initial_detach e switch_off h)
   done_entered _ e h = some (done h)
 
-  sound_claimed : {d : Draft} (m : Heard (List ℕ)) (id : ℕ) (e : Entry (List ℕ)) → IsReady s (IsSound s) d → IsReady s (IsSound s) (serving.claimed m s id e d)
+  sound_claimed : {d : Draft} (m : Heard (List ℕ)) (id : ℕ) (e : Entry (List ℕ)) → IsReady s (IsSound s) d
+      → IsReady s (IsSound s) (serving.claimed m s id e d)
   unfolding serving.claimed
-  sound_claimed (heards.AttachRequest combined capability esm) id e h = sound_attach combined capability esm e.tai (linked_connect_on id e.station e.enb_ue_id h)
+  sound_claimed (heards.AttachRequest combined capability esm) id e h =
+      sound_attach combined capability esm e.tai (linked_connect_on id e.station e.enb_ue_id h)
   sound_claimed _ id e h = h
 
   -- ---- protected messages on the connection
 
-  sound_status : {d : Draft} (cause : Option EmmCause) → IsReady s (IsSound s) d → Whenever (IsReady s (IsSound s)) (serving.status_protected cause d)
+  sound_status : {d : Draft} (cause : Option EmmCause) → IsReady s (IsSound s) d
+      → Whenever (IsReady s (IsSound s)) (serving.status_protected cause d)
   unfolding serving.status_protected
   sound_status cause h = at_some (Whenever (IsReady s (IsSound s))) cause (λ c is. sound_protect _ _ h) (λ is. some h)
 
   -- past the proof a phone may become registered
-  sound_registered : {d : Draft} → is_past_proof d.solo.phase ≡ true → IsReady s (IsSound s) d → IsReady s (IsSound s) (serving.registered d)
+  sound_registered : {d : Draft} → is_past_proof d.solo.phase ≡ true → IsReady s (IsSound s) d
+      → IsReady s (IsSound s) (serving.registered d)
   unfolding serving.registered ended
   sound_registered {d} past h = record {
     solo = record {
@@ -429,7 +479,8 @@ module _ (whole : WholeIsFresh) {s : Setting} where
     said = h.said;
   }
 
-  sound_attach_completed : {d : Draft} (esm : List ℕ) → is_past_proof d.solo.phase ≡ true → IsReady s (IsSound s) d → IsReady s (IsSound s) (serving.attach_completed esm d)
+  sound_attach_completed : {d : Draft} (esm : List ℕ) → is_past_proof d.solo.phase ≡ true → IsReady s (IsSound s) d
+      → IsReady s (IsSound s) (serving.attach_completed esm d)
   unfolding serving.attach_completed
   sound_attach_completed esm past h =
       either (IsReady s (IsSound s)) _
@@ -439,15 +490,19 @@ module _ (whole : WholeIsFresh) {s : Setting} where
         said = h.said;
       })) (sound_fall _ h)
 
-  sound_update_completed : {d : Draft} → is_past_proof d.solo.phase ≡ true → IsReady s (IsSound s) d → IsReady s (IsSound s) (serving.update_completed d)
+  sound_update_completed : {d : Draft} → is_past_proof d.solo.phase ≡ true → IsReady s (IsSound s) d
+      → IsReady s (IsSound s) (serving.update_completed d)
   unfolding serving.update_completed
   sound_update_completed past h = let r = sound_registered past h in either (IsReady s (IsSound s)) _ (sound_fall _ r) r
 
-  sound_inner_emm : {d : Draft} (m : Heard (List ℕ)) (tai : Tai) → is_past_proof d.solo.phase ≡ true → IsSome d.solo.connection → IsReady s (IsSound s) d
+  sound_inner_emm : {d : Draft} (m : Heard (List ℕ)) (tai : Tai) → is_past_proof d.solo.phase ≡ true → IsSome d.solo.connection
+      → IsReady s (IsSound s) d
       → Whenever (IsReady s (IsSound s)) (serving.inner_emm m s tai d)
   unfolding serving.inner_emm
-  sound_inner_emm (heards.AttachComplete esm) tai past linked h = either (Whenever (IsReady s (IsSound s))) _ (some (sound_attach_completed esm past h)) (sound_status _ h)
-  sound_inner_emm heards.TrackingAreaUpdateComplete tai past linked h = either (Whenever (IsReady s (IsSound s))) _ (some (sound_update_completed past h)) (sound_status _ h)
+  sound_inner_emm (heards.AttachComplete esm) tai past linked h =
+      either (Whenever (IsReady s (IsSound s))) _ (some (sound_attach_completed esm past h)) (sound_status _ h)
+  sound_inner_emm heards.TrackingAreaUpdateComplete tai past linked h =
+      either (Whenever (IsReady s (IsSound s))) _ (some (sound_update_completed past h)) (sound_status _ h)
   sound_inner_emm {d} (heards.TrackingAreaUpdateRequest combined) tai past linked h =
       either (Whenever (IsReady s (IsSound s))) _
       (sound_update tai combined false (record {
@@ -457,12 +512,14 @@ module _ (whole : WholeIsFresh) {s : Setting} where
       }))
       (sound_status _ h)
   sound_inner_emm (heards.DetachRequest switch_off) tai past linked h = sound_detach switch_off h
-  sound_inner_emm heards.DetachAccept tai past linked h = either (Whenever (IsReady s (IsSound s))) _ (some (sound_forgotten _ h)) (sound_status _ h)
+  sound_inner_emm heards.DetachAccept tai past linked h =
+      either (Whenever (IsReady s (IsSound s))) _ (some (sound_forgotten _ h)) (sound_status _ h)
   sound_inner_emm heards.Unasked tai past linked h = some h
   sound_inner_emm (heards.Unreadable fault) tai past linked h = sound_status _ h
   sound_inner_emm _ tai past linked h = sound_status _ h
 
-  done_information_came : {d : Draft} → is_past_proof d.solo.phase ≡ true → IsSome d.solo.connection → IsReady s (IsSound s) d → Whenever (IsDone s) (serving.information_came s d)
+  done_information_came : {d : Draft} → is_past_proof d.solo.phase ≡ true → IsSome d.solo.connection → IsReady s (IsSound s) d
+      → Whenever (IsDone s) (serving.information_came s d)
   unfolding serving.information_came
   done_information_came {d} past linked h =
       let context = keyed_context d.solo.phase s.vectors d.solo.context past h.solo.context in
@@ -471,54 +528,69 @@ module _ (whole : WholeIsFresh) {s : Setting} where
       (record { solo = proven s d.solo past linked h.solo; known = h.known; said = h.said }))
       (λ is. some (done h))
 
-  done_reacted : {d : Draft} (r : Reaction (List ℕ)) → is_past_proof d.solo.phase ≡ true → IsSome d.solo.connection → IsReady s (IsSound s) d
+  done_reacted : {d : Draft} (r : Reaction (List ℕ)) → is_past_proof d.solo.phase ≡ true → IsSome d.solo.connection
+      → IsReady s (IsSound s) d
       → Whenever (IsDone s) (serving.reacted r s d)
   unfolding serving.reacted
   done_reacted reactions.Nothing past linked h = some (done h)
   done_reacted reactions.Informed past linked h = done_information_came past linked h
   done_reacted (reactions.Answer octets) past linked h = done_if (sound_protect _ octets h)
 
-  done_inner_message : {d : Draft} (octets : List ℕ) (tai : Tai) → is_past_proof d.solo.phase ≡ true → IsSome d.solo.connection → IsReady s (IsSound s) d
+  done_inner_message : {d : Draft} (octets : List ℕ) (tai : Tai) → is_past_proof d.solo.phase ≡ true → IsSome d.solo.connection
+      → IsReady s (IsSound s) d
       → Whenever (IsDone s) (serving.inner_message octets s tai d)
   unfolding serving.inner_message serving.inner_esm
   done_inner_message octets tai past linked h =
       either (Whenever (IsDone s)) _ (done_reacted _ past linked h) (done_if (sound_inner_emm (heard octets) tai past linked h))
 
-  done_inner_message_by : {d : Draft} (r : Acceptance) (x : Context) (tai : Tai) → d.solo.context ≡ Some x → IsHigh x r → is_past_proof d.solo.phase ≡ true → IsSome d.solo.connection
+  done_inner_message_by : {d : Draft} (r : Acceptance) (x : Context) (tai : Tai) → d.solo.context ≡ Some x → IsHigh x r
+      → is_past_proof d.solo.phase ≡ true → IsSome d.solo.connection
       → IsReady s (IsSound s) d → Whenever (IsDone s) (serving.inner_message_by r s x tai d)
   unfolding serving.inner_message_by attaching.took
-  done_inner_message_by (Ok found) x tai is high past linked h = done_inner_message found.1 tai past linked (sound_took x found.0 is (high found refl) h)
+  done_inner_message_by (Ok found) x tai is high past linked h =
+      done_inner_message found.1 tai past linked (sound_took x found.0 is (high found refl) h)
   done_inner_message_by (Err fault) x tai is high past linked h = some (done h)
 
-  done_in_later : {d : Draft} (tai : Tai) (nas : List ℕ) → is_past_proof d.solo.phase ≡ true → IsSome d.solo.connection → IsReady s (IsSound s) d
+  done_in_later : {d : Draft} (tai : Tai) (nas : List ℕ) → is_past_proof d.solo.phase ≡ true → IsSome d.solo.connection
+      → IsReady s (IsSound s) d
       → Whenever (IsDone s) (serving.in_later s tai nas d)
   unfolding serving.in_later
   done_in_later {d} tai nas past linked h =
-      at_some (Whenever (IsDone s)) d.solo.context (λ x is. done_inner_message_by _ x tai is (λ found e. (whole _ _ _ _ found.0 found.1 e).0) past linked h) (λ is. some (done h))
+      at_some (Whenever (IsDone s)) d.solo.context
+      (λ x is. done_inner_message_by _ x tai is (λ found e. (whole _ _ _ _ found.0 found.1 e).0) past linked h)
+      (λ is. some (done h))
 
-  done_uplink : {d : Draft} (phase : Phase) (tai : Tai) (nas : List ℕ) → d.solo.phase ≡ phase → IsSome d.solo.connection → IsReady s (IsSound s) d
+  done_uplink : {d : Draft} (phase : Phase) (tai : Tai) (nas : List ℕ) → d.solo.phase ≡ phase → IsSome d.solo.connection
+      → IsReady s (IsSound s) d
       → Whenever (IsDone s) (serving.uplink phase s tai nas d)
   unfolding serving.uplink attaching.in_authenticating
   done_uplink Deregistered tai nas is linked h = some (done h)
   done_uplink Authenticating tai nas is linked h =
       either (Whenever (IsDone s)) _ (done_if (sound_authenticating (heard nas) is h)) (some (done h))
   done_uplink SecurityMode tai nas is linked h = done_in_security_mode nas linked h
-  done_uplink {d} EsmInformation tai nas is linked h = done_in_later tai nas (subst (λ (p : Phase). is_past_proof p ≡ true) (sym is) refl) linked h
-  done_uplink {d} Accepting tai nas is linked h = done_in_later tai nas (subst (λ (p : Phase). is_past_proof p ≡ true) (sym is) refl) linked h
-  done_uplink {d} Updating tai nas is linked h = done_in_later tai nas (subst (λ (p : Phase). is_past_proof p ≡ true) (sym is) refl) linked h
-  done_uplink {d} Registered tai nas is linked h = done_in_later tai nas (subst (λ (p : Phase). is_past_proof p ≡ true) (sym is) refl) linked h
-  done_uplink {d} Detaching tai nas is linked h = done_in_later tai nas (subst (λ (p : Phase). is_past_proof p ≡ true) (sym is) refl) linked h
+  done_uplink {d} EsmInformation tai nas is linked h =
+      done_in_later tai nas (subst (λ (p : Phase). is_past_proof p ≡ true) (sym is) refl) linked h
+  done_uplink {d} Accepting tai nas is linked h =
+      done_in_later tai nas (subst (λ (p : Phase). is_past_proof p ≡ true) (sym is) refl) linked h
+  done_uplink {d} Updating tai nas is linked h =
+      done_in_later tai nas (subst (λ (p : Phase). is_past_proof p ≡ true) (sym is) refl) linked h
+  done_uplink {d} Registered tai nas is linked h =
+      done_in_later tai nas (subst (λ (p : Phase). is_past_proof p ≡ true) (sym is) refl) linked h
+  done_uplink {d} Detaching tai nas is linked h =
+      done_in_later tai nas (subst (λ (p : Phase). is_past_proof p ≡ true) (sym is) refl) linked h
 
   -- ---- messages on an association
 
-  done_on_connection : {d : Draft} (body : UeBody (List ℕ)) → IsSome d.solo.connection → IsReady s (IsSound s) d → Whenever (IsDone s) (connected.on_connection body s d)
+  done_on_connection : {d : Draft} (body : UeBody (List ℕ)) → IsSome d.solo.connection → IsReady s (IsSound s) d
+      → Whenever (IsDone s) (connected.on_connection body s d)
   unfolding connected.on_connection
   done_on_connection {d} (bodies.Uplink nas tai) linked h = done_uplink d.solo.phase tai nas refl linked h
   done_on_connection (bodies.UeContextReleaseRequest cause) linked h = some (done (sound_fall _ h))
   done_on_connection bodies.InitialContextSetupFailure linked h = some (done (sound_fall _ h))
   done_on_connection _ linked h = some (done h)
 
-  sound_indicate : {d : Draft} (cause : Cause) (m : UeMessage (List ℕ)) → IsReady s (IsSound s) d → IsReady s (IsSound s) (connected.indicate cause m d)
+  sound_indicate : {d : Draft} (cause : Cause) (m : UeMessage (List ℕ)) → IsReady s (IsSound s) d
+      → IsReady s (IsSound s) (connected.indicate cause m d)
   unfolding connected.indicate error_indication
   sound_indicate cause m h = ready_emit m.station _ None refl refl h
 
@@ -530,7 +602,8 @@ module _ (whole : WholeIsFresh) {s : Setting} where
       either (Whenever (IsDone s)) _ (done_on_connection m.body linked h) (some (done (sound_indicate _ m h))))
 
   -- the next hop of the context, to where the connection now is
-  done_switched : {d : Draft} (m : UeMessage (List ℕ)) (x : Context) → d.solo.context ≡ Some x → is_registered d.solo.phase ≡ true → IsSome d.solo.connection
+  done_switched : {d : Draft} (m : UeMessage (List ℕ)) (x : Context) → d.solo.context ≡ Some x → is_registered d.solo.phase ≡ true
+      → IsSome d.solo.connection
       → IsReady s (IsSound s) d → IsDone s (connected.switched m x d)
   unfolding connected.switched emit path_switch_acknowledge
   done_switched {d} m x is registered linked h =
@@ -539,7 +612,8 @@ module _ (whole : WholeIsFresh) {s : Setting} where
       let past = registered_past d.solo.phase registered in
       let known : IsKnown s.vectors (Some x) = subst (IsKnown s.vectors) is h.known in
       let of = known.1 in
-      let keyed : IsOfVector s.vectors y known.0 = record { there = of.there; integrity = of.integrity; kasme = of.kasme; ksi = of.ksi } in
+      let keyed : IsOfVector s.vectors y known.0 =
+      record { there = of.there; integrity = of.integrity; kasme = of.kasme; ksi = of.ksi } in
       let context = keyed_context d.solo.phase s.vectors d.solo.context past h.solo.context in
       let derived : IsDerived x = subst IsDerived (same_Some context.0 x (sym context.2 ∙ is)) context.4 in
       let moved : IsDerived y = moved_derived x derived in
@@ -569,13 +643,15 @@ module _ (whole : WholeIsFresh) {s : Setting} where
   done_path_switch : {d : Draft} (m : UeMessage (List ℕ)) → IsReady s (IsSound s) d → IsDone s (connected.path_switch m d)
   unfolding connected.path_switch connected.not_switched path_switch_failure
   done_path_switch {d} m h =
-      let failed = λ (cause : Cause). done (ready_emit m.station (path_switch_failure m.mme_ue_id m.enb_ue_id cause) None refl refl h) in
+      let failed =
+      λ (cause : Cause). done (ready_emit m.station (path_switch_failure m.mme_ue_id m.enb_ue_id cause) None refl refl h) in
       either_by (IsDone s) (not (connected.has_connection_id m d)) (λ t. failed _)
       (λ t. let linked = connected_of d.solo.connection _ (true_of (connected.has_connection_id m d) t) in
       either (IsDone s) (not (is_of_slot m.mme_ue_id)) (failed _)
       (either_by (IsDone s) (is_registered d.solo.phase) (λ r. at_some (IsDone s) d.solo.context (λ x is. done_switched m x is r linked h) (λ is. done h)) (λ r. failed _)))
 
-  done_message_of : {d : Draft} (body : UeBody (List ℕ)) (m : UeMessage (List ℕ)) → IsReady s (IsSound s) d → Whenever (IsDone s) (connected.message_of body s m d)
+  done_message_of : {d : Draft} (body : UeBody (List ℕ)) (m : UeMessage (List ℕ)) → IsReady s (IsSound s) d
+      → Whenever (IsDone s) (connected.message_of body s m d)
   unfolding connected.message_of
   done_message_of bodies.UeContextReleaseComplete m h = some (done h)
   done_message_of bodies.PathSwitch m h = some (done_path_switch m h)
@@ -585,7 +661,8 @@ module _ (whole : WholeIsFresh) {s : Setting} where
 
   sound_displaced : {d : Draft} (id : ℕ) → IsReady s (IsSound s) d → IsReady s (IsSound s) (connected.displaced id d)
   unfolding connected.displaced
-  sound_displaced {d} id h = at_some (IsReady s (IsSound s)) d.solo.connection (λ k is. either (IsReady s (IsSound s)) _ (sound_lost h) h) (λ is. h)
+  sound_displaced {d} id h =
+      at_some (IsReady s (IsSound s)) d.solo.connection (λ k is. either (IsReady s (IsSound s)) _ (sound_lost h) h) (λ is. h)
 
   sound_strike : {d : Draft} (station : ℕ) → IsReady s (IsSound s) d → IsReady s (IsSound s) (connected.strike station d)
   unfolding connected.strike
@@ -600,19 +677,24 @@ module _ (whole : WholeIsFresh) {s : Setting} where
       plain_struck (Some (repeats.Paging es)) p = tt
       plain_struck (Some (repeats.Nas protection nas)) p = p
 
-  sound_station_gone : {d : Draft} (station : ℕ) → IsReady s (IsSound s) d → IsReady s (IsSound s) (connected.station_gone station d)
+  sound_station_gone : {d : Draft} (station : ℕ) → IsReady s (IsSound s) d
+      → IsReady s (IsSound s) (connected.station_gone station d)
   unfolding connected.station_gone
   sound_station_gone {d} station h =
       let r = sound_strike station h in
-      at_some (IsReady s (IsSound s)) (connected.strike station d).solo.connection (λ k is. either (IsReady s (IsSound s)) _ (sound_lost r) r) (λ is. r)
+      at_some (IsReady s (IsSound s)) (connected.strike station d).solo.connection
+      (λ k is. either (IsReady s (IsSound s)) _ (sound_lost r) r) (λ is. r)
 
-  sound_connections_gone : {d : Draft} (station : ℕ) (items : ToReset) → IsReady s (IsSound s) d → IsReady s (IsSound s) (connected.connections_gone station items d)
+  sound_connections_gone : {d : Draft} (station : ℕ) (items : ToReset) → IsReady s (IsSound s) d
+      → IsReady s (IsSound s) (connected.connections_gone station items d)
   unfolding connected.connections_gone
-  sound_connections_gone {d} station items h = at_some (IsReady s (IsSound s)) d.solo.connection (λ k is. either (IsReady s (IsSound s)) _ (sound_lost h) h) (λ is. h)
+  sound_connections_gone {d} station items h =
+      at_some (IsReady s (IsSound s)) d.solo.connection (λ k is. either (IsReady s (IsSound s)) _ (sound_lost h) h) (λ is. h)
 
   -- ---- paging, countdowns and a withdrawn subscription
 
-  sound_emit_each : (message : Pdu (List ℕ)) (es : List ℕ) (d : Draft) → ((station : ℕ) (e : Draft) → IsReady s (IsSound s) e → IsReady s (IsSound s) (emit station message None e))
+  sound_emit_each : (message : Pdu (List ℕ)) (es : List ℕ) (d : Draft)
+      → ((station : ℕ) (e : Draft) → IsReady s (IsSound s) e → IsReady s (IsSound s) (emit station message None e))
       → IsReady s (IsSound s) d → IsReady s (IsSound s) (idle.emit_each message es d)
   sound_emit_each message [] d each h = h
   sound_emit_each message (e ∷ es) d each h = sound_emit_each message es (emit e message None d) each (each e d h)
@@ -620,9 +702,11 @@ module _ (whole : WholeIsFresh) {s : Setting} where
   sound_page : {d : Draft} (es : List ℕ) → IsReady s (IsSound s) d → IsReady s (IsSound s) (idle.page s es d)
   unfolding idle.page paging
   sound_page {d} es h =
-      at_some (IsReady s (IsSound s)) d.solo.tmsi (λ t is. sound_emit_each _ es d (λ station e r. ready_emit station _ None refl refl r) h) (λ is. h)
+      at_some (IsReady s (IsSound s)) d.solo.tmsi
+      (λ t is. sound_emit_each _ es d (λ station e r. ready_emit station _ None refl refl r) h) (λ is. h)
 
-  sound_data_waits : {d : Draft} (stations : List StationState) → IsReady s (IsSound s) d → IsReady s (IsSound s) (idle.data_waits s stations d)
+  sound_data_waits : {d : Draft} (stations : List StationState) → IsReady s (IsSound s) d
+      → IsReady s (IsSound s) (idle.data_waits s stations d)
   unfolding idle.data_waits idle.paged
   sound_data_waits stations h = either (IsReady s (IsSound s)) _ (sound_start _ _ tt (sound_page _ h)) h
 
@@ -649,7 +733,8 @@ module _ (whole : WholeIsFresh) {s : Setting} where
   sound_given_up T3460 h = sound_fall _ h
   sound_given_up T3489 h = sound_fall _ h
 
-  sound_again : {d : Draft} (r : Repeat) → IsPlainRepeat (Some r) → IsReady s (IsSound s) d → Whenever (IsReady s (IsSound s)) (idle.again r s d)
+  sound_again : {d : Draft} (r : Repeat) → IsPlainRepeat (Some r) → IsReady s (IsSound s) d
+      → Whenever (IsReady s (IsSound s)) (idle.again r s d)
   unfolding idle.again
   sound_again (repeats.Nas Plain nas) plain h = some (ready_send nas plain h)
   sound_again (repeats.Nas (Under header) nas) plain h = sound_protect header nas h
@@ -688,7 +773,8 @@ module _ (whole : WholeIsFresh) {s : Setting} where
         said = h.said;
       })) (λ e f. sound_start _ _ tt f)
 
-  sound_cancelled : {d : Draft} (phase : Phase) → d.solo.phase ≡ phase → IsReady s (IsSound s) d → Whenever (IsReady s (IsSound s)) (idle.cancelled phase d)
+  sound_cancelled : {d : Draft} (phase : Phase) → d.solo.phase ≡ phase → IsReady s (IsSound s) d
+      → Whenever (IsReady s (IsSound s)) (idle.cancelled phase d)
   unfolding idle.cancelled
   sound_cancelled {d} Registered is h =
       either_by (Whenever (IsReady s (IsSound s))) (is_some d.solo.connection)

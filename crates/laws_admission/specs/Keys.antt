@@ -49,12 +49,15 @@ pub record GoesToTheProved (solo : Solo) (a : Answer) (m : Pdu (List ℕ)) : Typ
 abbrev pub KeysToTheProved : Type 0
 KeysToTheProved =
     (s : Setting) (solo : Solo) (item : Item) → IsSound s solo
-    → All (λ a. (m : Pdu (List ℕ)) → decoded a.octets ≡ Ok m → has_radio_key m ≡ true → GoesToTheProved (solo_step s solo item).solo a m) (solo_step s solo item).sent
+    → All
+    (λ a. (m : Pdu (List ℕ)) → decoded a.octets ≡ Ok m → has_radio_key m ≡ true → GoesToTheProved (solo_step s solo item).solo a m)
+    (solo_step s solo item).sent
 
 -- and over a run from where it was deregistered, the phone has proved by then that it has the key of that context
 abbrev pub KeysByProof : Type 0
 KeysByProof =
     (s : Setting) (solo : Solo) (items : List Item) (item : Item) → IsSound s solo → solo.phase ≡ Deregistered
     → All (λ a. (m : Pdu (List ℕ)) → decoded a.octets ≡ Ok m → has_radio_key m ≡ true
-    → (x : Context) × ((solo_after s solo (items ++ item ∷ [])).context ≡ Some x) × HasKeyOf x m × IsProved s solo (items ++ item ∷ []) x.place)
+    → (x : Context) × ((solo_after s solo (items ++ item ∷ [])).context ≡ Some x) × HasKeyOf x m
+    × IsProved s solo (items ++ item ∷ []) x.place)
     (solo_step s (solo_after s solo items) item).sent

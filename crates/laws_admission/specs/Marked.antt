@@ -1,5 +1,5 @@
--- The NAS messages with a security header that are sent: each is the protected form under the vector and the count that its message is
--- marked with (TS 24.301 clause 4.4.3, 9.1).
+-- The NAS messages with a security header that are sent: each is the protected form under the vector and the count that its message
+-- is marked with (TS 24.301 clause 4.4.3, 9.1).
 use Rattle.std.specs.Prelude.{◌≡◌, ℕ, List, [], ◌∷◌, All, filter, flat_map, slice_get, Option, Some, None, Result, Ok, Err, option_to_list}
 use Rattle.std.specs.List.{AllZip}
 use Rattle.s1ap_pdus.specs.declared.pdu.Pdu.{Pdu}

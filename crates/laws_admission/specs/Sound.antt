@@ -45,7 +45,8 @@ keys_after moves kasme count =
 -- the radio keys come of the context's KASME and of a count up to the last that it accepted
 abbrev pub IsDerived : Context → Type 0
 IsDerived x =
-    (count : ℕ) × (last : ℕ) × (moves : ℕ) × (x.security.up_last ≡ Some last) × (count ≤ last) × (x.radio ≡ keys_after moves x.kasme count)
+    (count : ℕ) × (last : ℕ) × (moves : ℕ) × (x.security.up_last ≡ Some last) × (count ≤ last)
+    × (x.radio ≡ keys_after moves x.kasme count)
 
 -- ---- the phase
 

@@ -1,6 +1,6 @@
 -- What a message without a right MAC can do to a phone that is registered. It leaves the context, the bearer and the M-TMSI as they
--- are, and the phone registered, but for these: an ATTACH REQUEST begins anew, whoever sends it (TS 24.301 clause 5.5.1.2.7 (f)), and a
--- PATH SWITCH REQUEST on the phone's association takes the next hop of its radio keys (TS 36.413 clause 8.4.4).
+-- are, and the phone registered, but for these: an ATTACH REQUEST begins anew, whoever sends it (TS 24.301 clause 5.5.1.2.7 (f)),
+-- and a PATH SWITCH REQUEST on the phone's association takes the next hop of its radio keys (TS 36.413 clause 8.4.4).
 use Rattle.std.specs.Prelude.{◌≡◌, ℕ, Bool, true, false, List, Option, Some, is_ok, ◌⊎◌}
 use Rattle.nas_security.specs.Accepting.{short_accepted}
 use Rattle.mme_types.specs.declared.event.UeBody.{UeBody}

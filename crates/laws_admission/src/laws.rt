@@ -22,7 +22,8 @@ pub fn soundness_is_kept()
 }
 
 /// Over every run each message that is sent is one of the grammar, and the NAS messages with a security header are, one for one and
-/// in order, the protected forms under the marks of what is sent, by the keys of the vectors at their places (TS 24.301 clause 4.4.3).
+/// in order, the protected forms under the marks of what is sent, by the keys of the vectors at their places (TS 24.301 clause
+/// 4.4.3).
 pub fn protected_forms_are_marked()
     ensures each { SendsMarked }
     ensures order { SendsInOrder }

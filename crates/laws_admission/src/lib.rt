@@ -1,5 +1,5 @@
-//! What holds of one subscriber's machine whoever sends: laws over whole runs of it, for those who ask what a phone or a station can
-//! do that has no key.
+//! What holds of one subscriber's machine whoever sends: laws over whole runs of it, for those who ask what a phone or a station
+//! can do that has no key.
 #![tactic(auto)]
 
 mod laws;

@@ -33,7 +33,8 @@ use Rattle.laws_written.proofs.Routed.{DestinationInRange, goes_in_range}
 use Rattle.laws_written.proofs.Turned.{CallInRange, InputInRange, input_in_range, turn_in_range}
 
 -- refused or not
-either_way : {A : Type 0} (P : A → Type 0) (o : Option StepFault) {before after : A} → P before → P after → P (unless o before after)
+either_way : {A : Type 0} (P : A → Type 0) (o : Option StepFault) {before after : A} → P before → P after
+    → P (unless o before after)
 either_way P None h k = k
 either_way P (Some fault) h k = h
 
@@ -51,24 +52,28 @@ told_all Tick = tt
 told_all (Gone e) = tt
 told_all (Listed e listed) = tt
 
-at_slot : (d : Destination) (ps : List Profile) (g : ℕ → Option Stranger) (slot : ℕ) → DestinationInRange d → AreStrangersInRange g → ItemInRange (item_at d ps g slot)
+at_slot : (d : Destination) (ps : List Profile) (g : ℕ → Option Stranger) (slot : ℕ) → DestinationInRange d → AreStrangersInRange g
+    → ItemInRange (item_at d ps g slot)
 at_slot to.Nobody ps g slot fits strangers = tt
 at_slot (to.Subscriber n item) ps g slot fits strangers = one n item slot fits
 at_slot (to.Beginner id m) ps g slot fits strangers =
     called (stranger_step ps id (g id) (Begins m)).call slot (turn_in_range ps id (g id) (Begins m) fits (strangers id)).call
 at_slot (to.Stranger m) ps g slot fits strangers =
-    called (stranger_step ps m.mme_ue_id (g m.mme_ue_id) (Receives m)).call slot (turn_in_range ps m.mme_ue_id (g m.mme_ue_id) (Receives m) fits (strangers m.mme_ue_id)).call
+    called (stranger_step ps m.mme_ue_id (g m.mme_ue_id) (Receives m)).call slot
+    (turn_in_range ps m.mme_ue_id (g m.mme_ue_id) (Receives m) fits (strangers m.mme_ue_id)).call
 at_slot (to.Everyone notice) ps g slot fits strangers = told_all notice
 
 -- ---- as many stations as before
 
-as_many_placed : (o : Option ℕ) (state : Option StationState) (stations : List StationState) → length (placed o state stations) ≡ length stations
+as_many_placed : (o : Option ℕ) (state : Option StationState) (stations : List StationState)
+    → length (placed o state stations) ≡ length stations
 as_many_placed None state stations = refl
 as_many_placed (Some e) state stations = length-set stations e (unwrap_or state (station_at stations e))
 
 as_many_stations : (s : Sight) (event : Event) → length s.stations ≡ 128 → length (sight_after s event).stations ≡ 128
 as_many_stations s event many =
-    either_way (λ (t : Sight). length t.stations ≡ 128) (event_fault s event) many (as_many_placed (station_of event) (happens s event).state s.stations ∙ many)
+    either_way (λ (t : Sight). length t.stations ≡ 128) (event_fault s event) many
+    (as_many_placed (station_of event) (happens s event).state s.stations ∙ many)
 
 -- ---- each stranger goes as its own machine, and the ids rise
 
@@ -79,7 +84,8 @@ turned ps id (to.Stranger m) ks h = laws.one_turned ps id m.mme_ue_id (Receives 
 turned ps id (to.Everyone notice) ks h = laws.all_turned ps id notice ks h
 turned ps id _ ks h = sym (ap (λ t. t.stranger) (laws.at_nothing ps id (stranger_at id ks)))
 
-rising_behind : (ps : List Profile) (d : Destination) (ks : List Known) → Rising known_id ks → Rising known_id (strangers_behind ps d ks)
+rising_behind : (ps : List Profile) (d : Destination) (ks : List Known) → Rising known_id ks
+    → Rising known_id (strangers_behind ps d ks)
 rising_behind ps (to.Beginner id m) ks h = laws.rising_input ps id (Begins m) ks h
 rising_behind ps (to.Stranger m) ks h = laws.rising_input ps m.mme_ue_id (Receives m) ks h
 rising_behind ps (to.Everyone notice) ks h = laws.rising_noted notice ks h
@@ -87,29 +93,37 @@ rising_behind ps _ ks h = h
 
 -- ---- subscribers
 
-each_stays : StaysInRange → (each : ℕ → Item) → ((slot : ℕ) → ItemInRange (each slot)) → (n : ℕ) (xs : List SubscriberView) → AllByRecursion SubscriberInRange xs
+each_stays : StaysInRange → (each : ℕ → Item) → ((slot : ℕ) → ItemInRange (each slot)) → (n : ℕ) (xs : List SubscriberView)
+    → AllByRecursion SubscriberInRange xs
     → AllByRecursion SubscriberInRange (each_after each n xs)
 each_stays kept each fits n [] h = tt
 each_stays kept each fits n (x ∷ xs) h =
     (record { setting = h.0.setting; solo = kept x.setting x.solo (each n ∷ []) h.0.setting h.0.solo (fits n, tt) }, each_stays kept each fits (n + 1) xs h.1)
 
 module _ (entries : EntriesAreInRange) (messages : MessagesAreInRange) where
-  pub item_in_range : (slot : ℕ) (s : Sight) (g : ℕ → Option Stranger) (event : Event) → length s.stations ≡ 128 → AreStrangersInRange g → ItemInRange (item_for slot s g event)
+  pub item_in_range : (slot : ℕ) (s : Sight) (g : ℕ → Option Stranger) (event : Event) → length s.stations ≡ 128
+      → AreStrangersInRange g → ItemInRange (item_for slot s g event)
   item_in_range slot s g event many strangers =
-      either_way ItemInRange (event_fault s event) tt (at_slot (happens s event).destination s.profiles g slot (goes_in_range entries messages s event many) strangers)
+      either_way ItemInRange (event_fault s event) tt
+      (at_slot (happens s event).destination s.profiles g slot (goes_in_range entries messages s event many) strangers)
 
   -- each stranger by its own machine
-  strangers_stay : (s : Sight) (g : ℕ → Option Stranger) (event : Event) → length s.stations ≡ 128 → AreStrangersInRange g → AreStrangersInRange (strangers_after s g event)
+  strangers_stay : (s : Sight) (g : ℕ → Option Stranger) (event : Event) → length s.stations ≡ 128 → AreStrangersInRange g
+      → AreStrangersInRange (strangers_after s g event)
   strangers_stay s g event many strangers id =
-      let fits = either_way (InputInRange id) (event_fault s event) tt (input_in_range (happens s event).destination id (goes_in_range entries messages s event many)) in
+      let fits =
+      either_way (InputInRange id) (event_fault s event) tt
+      (input_in_range (happens s event).destination id (goes_in_range entries messages s event many)) in
       (turn_in_range s.profiles id (g id) (stranger_input s id event) fits (strangers id)).stranger
 
   -- the items of a list
-  pub items_in_range : (slot : ℕ) (s : Sight) (g : ℕ → Option Stranger) (events : List Event) → length s.stations ≡ 128 → AreStrangersInRange g → EachInRange (projection slot s g events)
+  pub items_in_range : (slot : ℕ) (s : Sight) (g : ℕ → Option Stranger) (events : List Event) → length s.stations ≡ 128
+      → AreStrangersInRange g → EachInRange (projection slot s g events)
   items_in_range slot s g [] many strangers = tt
   items_in_range slot s g (event ∷ events) many strangers = (
     item_in_range slot s g event many strangers,
-    items_in_range slot (sight_after s event) (strangers_after s g event) events (as_many_stations s event many) (strangers_stay s g event many strangers),
+    items_in_range slot (sight_after s event) (strangers_after s g event) events (as_many_stations s event many)
+        (strangers_stay s g event many strangers),
   )
 
   -- ---- the MME

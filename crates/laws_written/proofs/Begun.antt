@@ -39,8 +39,10 @@ use Rattle.laws_written.proofs.Routed.{DestinationInRange, goes_in_range}
 -- ---- the beginning
 
 -- subscribers who were never seen, from a slot on
-fresh_each : SoloInRange fresh_solo → (n : Network) (slot : ℕ) (ps : List Profile) (vs : List (List Vector)) → NetworkInRange n → slot + length ps ≤ slots
-    → ((k : ℕ) (p : Profile) → slice_get ps k ≡ Some p → ProfileInRange p) → ((k place : ℕ) (v : Vector) → slice_get (vectors_at k vs) place ≡ Some v → VectorInRange v)
+fresh_each : SoloInRange fresh_solo → (n : Network) (slot : ℕ) (ps : List Profile) (vs : List (List Vector)) → NetworkInRange n
+    → slot + length ps ≤ slots
+    → ((k : ℕ) (p : Profile) → slice_get ps k ≡ Some p → ProfileInRange p)
+    → ((k place : ℕ) (v : Vector) → slice_get (vectors_at k vs) place ≡ Some v → VectorInRange v)
     → AllByRecursion SubscriberInRange (fresh_subscribers n slot ps vs)
 fresh_each solo n slot [] vs network few profiles vectors = tt
 fresh_each solo n slot (p ∷ ps) vs network few profiles vectors = (
@@ -60,12 +62,14 @@ begins_in_range solo config p h = record {
 
 -- ---- the steps of a slot
 
-subscriber_at : (xs : List SubscriberView) (slot : ℕ) (x : SubscriberView) → AllByRecursion SubscriberInRange xs → slice_get xs slot ≡ Some x → SubscriberInRange x
+subscriber_at : (xs : List SubscriberView) (slot : ℕ) (x : SubscriberView) → AllByRecursion SubscriberInRange xs
+    → slice_get xs slot ≡ Some x → SubscriberInRange x
 subscriber_at [] slot x h is = absurd (cc is)
 subscriber_at (y ∷ xs) zero x h is = subst SubscriberInRange (same_Some y x is) h.0
 subscriber_at (y ∷ xs) (suc slot) x h is = subscriber_at xs slot x h.1 is
 
-step_of : StaysInRange → EveryMessageIsSent → (x : SubscriberView) (item : Item) → SubscriberInRange x → ItemInRange item → StepInRange x item
+step_of : StaysInRange → EveryMessageIsSent → (x : SubscriberView) (item : Item) → SubscriberInRange x → ItemInRange item
+    → StepInRange x item
 step_of kept sent x item h fits = record {
   setting = h.setting;
   before = h.solo;
@@ -86,7 +90,8 @@ pub record TellsStrangers : Type 0 where
   pub refusal : RefusedIsSent
   pub release : ReleasedIsSent
   pub unknown : UnknownIsAnswered
-  pub indication : (id enb_ue_id : ℕ) (c : Cause) → id < 2 ^ 32 → enb_ue_id < 2 ^ 24 → is_extended c ≡ false → IsWritten (error_indication id enb_ue_id c)
+  pub indication : (id enb_ue_id : ℕ) (c : Cause) → id < 2 ^ 32 → enb_ue_id < 2 ^ 24 → is_extended c ≡ false
+      → IsWritten (error_indication id enb_ue_id c)
 
 told_whole : TellsStrangers → (k : Connection) → ConnectionInRange k → IsToldWhole k
 told_whole tells k fits =
@@ -108,7 +113,8 @@ module _ (solo : SoloInRange fresh_solo) (kept : StaysInRange) (entries : Entrie
   steps_in_range sent config p seen next slot x given at =
       let w = world_behind config p seen in
       let h : WorldInRange w = stays_in_range (fresh_world config p) seen (begins_in_range solo config p given) in
-      step_of kept sent x _ (subscriber_at w.subscribers slot x h.subscribers at) (item_in_range entries messages slot w.sight (strangers_in w) next h.stations h.strangers)
+      step_of kept sent x _ (subscriber_at w.subscribers slot x h.subscribers at)
+      (item_in_range entries messages slot w.sight (strangers_in w) next h.stations h.strangers)
 
   pub alone_steps_in_range : EveryMessageIsSent → AloneStepsAreInRange
   alone_steps_in_range sent config p events slot x before since item given at whole =
@@ -123,13 +129,15 @@ module _ (solo : SoloInRange fresh_solo) (kept : StaysInRange) (entries : Entrie
       let w = fresh_world config p in
       let h : WorldInRange w = begins_in_range solo config p given in
       let own = subscriber_at w.subscribers slot x h.subscribers at in
-      challenged x.setting x.solo (items_of_run config p events slot) place own.setting own.solo (items_are_in_range w events slot h) proved
+      challenged x.setting x.solo (items_of_run config p events slot) place own.setting own.solo
+      (items_are_in_range w events slot h) proved
 
   pub beginners_told : TellsStrangers → BeginnersAreTold
   beginners_told tells config p seen next id m given goes =
       let w = world_behind config p seen in
       let h : WorldInRange w = stays_in_range (fresh_world config p) seen (begins_in_range solo config p given) in
-      let fits : ItemInRange (Claim id m) = subst DestinationInRange goes (goes_in_range entries messages w.sight next h.stations) in
+      let fits : ItemInRange (Claim id m) =
+      subst DestinationInRange goes (goes_in_range entries messages w.sight next h.stations) in
       told_whole tells (place_of id (as_kept m)) (record { id = fits.0; enb_ue_id = fits.1.enb_ue_id })
 
   pub senders_answered : TellsStrangers → SendersAreAnswered

@@ -15,11 +15,13 @@ before_next P n k before here less = elim (cases_lt k n) [
 ]
 
 -- an element at its place
-pub at_place : {X : Type 0} (P : X → Type 0) (xs : List X) (n : ℕ) (x y : X) → slice_get xs n ≡ Some x → P x → slice_get xs n ≡ Some y → P y
+pub at_place : {X : Type 0} (P : X → Type 0) (xs : List X) (n : ℕ) (x y : X) → slice_get xs n ≡ Some x → P x
+    → slice_get xs n ≡ Some y → P y
 at_place P xs n x y at here other = subst P (same_Some x y (sym at ∙ other)) here
 
 -- who has a vector is one of those who are provisioned
-pub vector_within : (vs : List (List Vector)) (slot place : ℕ) (v : Vector) → slice_get (vectors_at slot vs) place ≡ Some v → slot < length vs
+pub vector_within : (vs : List (List Vector)) (slot place : ℕ) (v : Vector) → slice_get (vectors_at slot vs) place ≡ Some v
+    → slot < length vs
 vector_within [] slot place v at = absurd (cc at)
 vector_within (own ∷ vs) zero place v at = omega arith
 vector_within (own ∷ vs) (suc slot) place v at = let within = vector_within vs slot place v at in omega (arith, within)

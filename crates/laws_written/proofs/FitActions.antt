@@ -35,12 +35,18 @@ use Rattle.laws_written.specs.SubscriberRanges.{ConnectionInRangeIf, ContextInRa
 -- what written_messages' law says of each message
 pub record AreWritten : Type 0 where
   pub nas : (k : Connection) (nas : List ℕ) → ConnectionInRange k → IsBrief 15000 nas → IsWritten (downlink k nas)
-  pub release : (id enb_ue_id : ℕ) (c : Cause) → id < 2 ^ 32 → enb_ue_id < 2 ^ 24 → is_extended c ≡ false → IsWritten (release_command id enb_ue_id c)
-  pub indication : (id enb_ue_id : ℕ) (c : Cause) → id < 2 ^ 32 → enb_ue_id < 2 ^ 24 → is_extended c ≡ false → IsWritten (error_indication id enb_ue_id c)
-  pub not_switched : (id enb_ue_id : ℕ) (c : Cause) → id < 2 ^ 32 → enb_ue_id < 2 ^ 24 → is_extended c ≡ false → IsWritten (path_switch_failure id enb_ue_id c)
-  pub switched : (k : Connection) (hop : List ℕ) (count : ℕ) → ConnectionInRange k → AreBytes 32 hop → count < 8 → IsWritten (path_switch_acknowledge k hop count)
-  pub page : (n : Network) (imsi : List ℕ) (tmsi : ℕ) (tai : Tai) → NetworkInRange n → TaiInRange tai → IsWritten (paging n imsi tmsi tai)
-  pub set_up : (n : Network) (p : Profile) (capability : List ℕ) (k : Connection) (kenb : List ℕ) (nas : Option (List ℕ)) → NetworkInRange n → ProfileInRange p → ConnectionInRange k
+  pub release : (id enb_ue_id : ℕ) (c : Cause) → id < 2 ^ 32 → enb_ue_id < 2 ^ 24 → is_extended c ≡ false
+      → IsWritten (release_command id enb_ue_id c)
+  pub indication : (id enb_ue_id : ℕ) (c : Cause) → id < 2 ^ 32 → enb_ue_id < 2 ^ 24 → is_extended c ≡ false
+      → IsWritten (error_indication id enb_ue_id c)
+  pub not_switched : (id enb_ue_id : ℕ) (c : Cause) → id < 2 ^ 32 → enb_ue_id < 2 ^ 24 → is_extended c ≡ false
+      → IsWritten (path_switch_failure id enb_ue_id c)
+  pub switched : (k : Connection) (hop : List ℕ) (count : ℕ) → ConnectionInRange k → AreBytes 32 hop → count < 8
+      → IsWritten (path_switch_acknowledge k hop count)
+  pub page : (n : Network) (imsi : List ℕ) (tmsi : ℕ) (tai : Tai) → NetworkInRange n → TaiInRange tai
+      → IsWritten (paging n imsi tmsi tai)
+  pub set_up : (n : Network) (p : Profile) (capability : List ℕ) (k : Connection) (kenb : List ℕ) (nas : Option (List ℕ))
+      → NetworkInRange n → ProfileInRange p → ConnectionInRange k
       → AreBytes 32 kenb → IsBriefIf 15000 nas → IsWritten (context_setup n p capability k kenb nas)
 
 -- ---- steps under way
@@ -63,7 +69,8 @@ pub record FitSealed (o : Option (Sealed × Draft)) : Type 0 where
 
 -- ---- choices
 
-pub at_some : {K D : Type 0} (Q : D → Type 0) {f : K → D} {d : D} (o : Option K) → ((k : K) → o ≡ Some k → Q (f k)) → (o ≡ None → Q d) → Q (option_map_or f o d)
+pub at_some : {K D : Type 0} (Q : D → Type 0) {f : K → D} {d : D} (o : Option K) → ((k : K) → o ≡ Some k → Q (f k))
+    → (o ≡ None → Q d) → Q (option_map_or f o d)
 at_some Q None each none = none refl
 at_some Q (Some k) each none = each k refl
 
@@ -91,7 +98,8 @@ sealed_if : (b : Bool) (o : Option (Sealed × Draft)) → FitSealed o → FitSea
 sealed_if true o h = h
 sealed_if false o h = none_sealed
 
-pub sealed_then : {o : Option (Sealed × Draft)} (f : Sealed × Draft → Draft) → FitSealed o → ((x : Sealed × Draft) → IsFitSealed x → IsFit (f x)) → FitIf (o >>= λ x. Some (f x))
+pub sealed_then : {o : Option (Sealed × Draft)} (f : Sealed × Draft → Draft) → FitSealed o
+    → ((x : Sealed × Draft) → IsFitSealed x → IsFit (f x)) → FitIf (o >>= λ x. Some (f x))
 sealed_then {o = None} f h g = none
 sealed_then {o = Some x} f h g = some (g x (h.at x refl))
 
@@ -102,7 +110,8 @@ connection_at None k is h = absurd (cc is)
 connection_at (Some j) k is h = subst ConnectionInRange (same_Some j k is) h
 
 -- the state with another connection
-pub connected_in : (solo : Solo) (o : Option Connection) → ConnectionInRangeIf o → SoloInRange solo → SoloInRange (record solo { connection = o })
+pub connected_in : (solo : Solo) (o : Option Connection) → ConnectionInRangeIf o → SoloInRange solo
+    → SoloInRange (record solo { connection = o })
 connected_in solo o fits h = record { connection = fits; context = h.context; tai = h.tai; capability = h.capability; transaction = h.transaction; repeat = h.repeat }
 
 pub fit_disconnected : {d : Draft} → IsFit d → IsFit (disconnected d)
@@ -142,16 +151,19 @@ pub fit_lost : {d : Draft} → IsFit d → IsFit (lost d)
 unfolding lost
 fit_lost h = fit_fallen (fit_disconnected h)
 
-pub fit_start : {d : Draft} (timer : NasTimer) (repeat : Repeat) → RepeatInRange (Some repeat) → IsFit d → IsFit (start timer repeat d)
+pub fit_start : {d : Draft} (timer : NasTimer) (repeat : Repeat) → RepeatInRange (Some repeat) → IsFit d
+    → IsFit (start timer repeat d)
 unfolding start
 fit_start timer repeat fits h = let r = h.solo in
     record { solo = record { connection = r.connection; context = r.context; tai = r.tai; capability = r.capability; transaction = r.transaction; repeat = fits }; sent = h.sent }
 
 -- ---- messages
 
-pub fit_emit : {d : Draft} (station : ℕ) (message : Pdu (List ℕ)) (under : Option Mark) → IsWritten message → IsFit d → IsFit (emit station message under d)
+pub fit_emit : {d : Draft} (station : ℕ) (message : Pdu (List ℕ)) (under : Option Mark) → IsWritten message → IsFit d
+    → IsFit (emit station message under d)
 unfolding emit
-fit_emit {d} station message under w h = record { solo = h.solo; sent = ap (λ (o : Option (List ℕ)). is_none o || d.unwritten) w.1 ∙ h.sent }
+fit_emit {d} station message under w h =
+    record { solo = h.solo; sent = ap (λ (o : Option (List ℕ)). is_none o || d.unwritten) w.1 ∙ h.sent }
 
 -- ---- protected messages
 
@@ -159,12 +171,15 @@ pub known_in : (o : Option Context) (x : Context) → o ≡ Some x → ContextIn
 known_in None x is h = absurd (cc is)
 known_in (Some y) x is h = subst ContextInRange (same_Some y x is) h
 
-pub with_context : (solo : Solo) (x : Context) → ContextInRange x → SoloInRange solo → SoloInRange (record solo { context = Some x })
+pub with_context : (solo : Solo) (x : Context) → ContextInRange x → SoloInRange solo
+    → SoloInRange (record solo { context = Some x })
 with_context solo x fits h = record { connection = h.connection; context = fits; tai = h.tai; capability = h.capability; transaction = h.transaction; repeat = h.repeat }
 
-sealed_at : (header : SecurityHeader) (nas : List ℕ) (d : Draft) (o : Option Context) → d.solo.context ≡ o → IsBrief 1000 nas → IsFit d
+sealed_at : (header : SecurityHeader) (nas : List ℕ) (d : Draft) (o : Option Context) → d.solo.context ≡ o → IsBrief 1000 nas
+    → IsFit d
     → FitSealed (option_map_or (sealed_under header nas d) o (Some (record { form = []; under = None }, d)))
-sealed_at header nas d None is brief h = some_sealed (record { form = []; under = None }) d h (brief_within brief_none (omega arith))
+sealed_at header nas d None is brief h =
+    some_sealed (record { form = []; under = None }) d h (brief_within brief_none (omega arith))
 sealed_at header nas d (Some x) is brief h =
     let known : ContextInRange x = known_in d.solo.context x is h.solo.context in
     sealed_if _ _ (some_sealed _ _
@@ -205,25 +220,31 @@ module _ (written : AreWritten) where
   fit_leave_old {d} station enb_ue_id h =
       at_some IsFit d.solo.connection
       (λ k is. let ids = connection_at d.solo.connection k is h.solo.connection in
-      either IsFit (is_at k station enb_ue_id) h (fit_emit k.station _ None (written.release k.id k.enb_ue_id (Nas NormalRelease) ids.id ids.enb_ue_id refl) h))
+      either IsFit (is_at k station enb_ue_id) h
+      (fit_emit k.station _ None (written.release k.id k.enb_ue_id (Nas NormalRelease) ids.id ids.enb_ue_id refl) h))
       (λ is. h)
 
-  pub fit_connect_on : {d : Draft} (id station enb_ue_id : ℕ) → id < 2 ^ 32 → enb_ue_id < 2 ^ 24 → IsFit d → IsFit (connect_on id station enb_ue_id d)
+  pub fit_connect_on : {d : Draft} (id station enb_ue_id : ℕ) → id < 2 ^ 32 → enb_ue_id < 2 ^ 24 → IsFit d
+      → IsFit (connect_on id station enb_ue_id d)
   unfolding connect_on
   fit_connect_on {d} id station enb_ue_id low less h =
       let left = fit_leave_old {d = d} station enb_ue_id h in
       record { solo = connected_in (leave_old station enb_ue_id d).solo (Some (record { id = id; station = station; enb_ue_id = enb_ue_id })) (record { id = low; enb_ue_id = less }) left.solo; sent = left.sent }
 
-  pub fit_connect : {d : Draft} (s : Setting) (station enb_ue_id : ℕ) → SettingInRange s → enb_ue_id < 2 ^ 24 → IsFit d → IsFit (connect s.slot station enb_ue_id d)
+  pub fit_connect : {d : Draft} (s : Setting) (station enb_ue_id : ℕ) → SettingInRange s → enb_ue_id < 2 ^ 24 → IsFit d
+      → IsFit (connect s.slot station enb_ue_id d)
   unfolding connect
-  fit_connect {d} s station enb_ue_id setting less h = fit_connect_on _ station enb_ue_id (id_in_range s.slot d.solo.associations setting.slot) less (fit_association_counted h)
+  fit_connect {d} s station enb_ue_id setting less h =
+      fit_connect_on _ station enb_ue_id (id_in_range s.slot d.solo.associations setting.slot) less (fit_association_counted h)
 
-  pub fit_turn_away : {d : Draft} (s : Setting) (station enb_ue_id : ℕ) → SettingInRange s → enb_ue_id < 2 ^ 24 → IsFit d → IsFit (turn_away s.slot station enb_ue_id d)
+  pub fit_turn_away : {d : Draft} (s : Setting) (station enb_ue_id : ℕ) → SettingInRange s → enb_ue_id < 2 ^ 24 → IsFit d
+      → IsFit (turn_away s.slot station enb_ue_id d)
   unfolding turn_away
   fit_turn_away {d} s station enb_ue_id setting less h =
       fit_emit station _ None (written.release (next_id s.slot d) enb_ue_id (Nas NormalRelease) (id_in_range s.slot d.solo.associations setting.slot) less refl) (fit_association_counted h)
 
-  pub fit_refuse : {d : Draft} (s : Setting) (station enb_ue_id : ℕ) (nas : List ℕ) → SettingInRange s → enb_ue_id < 2 ^ 24 → IsBrief 1000 nas → IsFit d → IsFit (refuse s.slot station enb_ue_id nas d)
+  pub fit_refuse : {d : Draft} (s : Setting) (station enb_ue_id : ℕ) (nas : List ℕ) → SettingInRange s → enb_ue_id < 2 ^ 24
+      → IsBrief 1000 nas → IsFit d → IsFit (refuse s.slot station enb_ue_id nas d)
   unfolding refuse
   fit_refuse {d} s station enb_ue_id nas setting less brief h =
       let low = id_in_range s.slot d.solo.associations setting.slot in
@@ -245,7 +266,8 @@ module _ (written : AreWritten) where
       (λ x r. at_some IsFit x.1.solo.connection
       (λ k is. fit_emit k.station _ x.0.under (written.nas k x.0.form (connection_at x.1.solo.connection k is r.0.solo.connection) (brief_within r.1 (omega arith))) r.0) (λ is. r.0))
 
-  pub fit_set_up : {d : Draft} (s : Setting) (kenb : List ℕ) (nas : Option (List ℕ)) (under : Option Mark) → SettingInRange s → AreBytes 32 kenb → IsBriefIf 1100 nas → IsFit d
+  pub fit_set_up : {d : Draft} (s : Setting) (kenb : List ℕ) (nas : Option (List ℕ)) (under : Option Mark) → SettingInRange s
+      → AreBytes 32 kenb → IsBriefIf 1100 nas → IsFit d
       → IsFit (set_up s kenb nas under d)
   unfolding set_up
   fit_set_up {d} s kenb nas under setting key brief h =
@@ -254,6 +276,8 @@ module _ (written : AreWritten) where
       (written.set_up s.network s.profile d.solo.asked.capability k kenb nas setting.network setting.profile (connection_at d.solo.connection k is h.solo.connection) key (brief_if nas brief)) h)
       (λ is. h)
 
-  pub fit_set_up_with : {d : Draft} (s : Setting) (kenb nas : List ℕ) → SettingInRange s → AreBytes 32 kenb → IsBrief 1000 nas → IsFit d → FitIf (set_up_with s kenb nas d)
+  pub fit_set_up_with : {d : Draft} (s : Setting) (kenb nas : List ℕ) → SettingInRange s → AreBytes 32 kenb → IsBrief 1000 nas
+      → IsFit d → FitIf (set_up_with s kenb nas d)
   unfolding set_up_with
-  fit_set_up_with s kenb nas setting key brief h = sealed_then _ (fit_seal _ nas brief h) (λ x r. fit_set_up s kenb (Some x.0.form) x.0.under setting key r.1 r.0)
+  fit_set_up_with s kenb nas setting key brief h =
+      sealed_then _ (fit_seal _ nas brief h) (λ x r. fit_set_up s kenb (Some x.0.form) x.0.under setting key r.1 r.0)

@@ -86,18 +86,21 @@ hopped_in_range : (x : Context) → ContextInRange x → KeysInRange (connected.
 hopped_in_range x h = record { kenb = h.radio.kenb; next_hop = hop_bytes x; chaining_count = omega arith }
 
 -- a bearer that is accepted keeps its request
-either_low : (b : Bool) (x y : Session) → transaction_of x.request < 256 → transaction_of y.request < 256 → transaction_of (cond b x y).request < 256
+either_low : (b : Bool) (x y : Session) → transaction_of x.request < 256 → transaction_of y.request < 256
+    → transaction_of (cond b x y).request < 256
 either_low true x y p q = p
 either_low false x y p q = q
 
 module _ (written : AreWritten) (spelled : DecodedIsSpelled) (esm_spelled : DecodedEsmIsSpelled) {s : Setting} (setting : SettingInRange s) where
   -- ---- attaching
 
-  fit_attach_refused : {d : Draft} (cause : EmmCause) (esm : Option (List ℕ)) → IsBriefIf 200 esm → IsFit d → IsFit (attaching.attach_refused cause esm d)
+  fit_attach_refused : {d : Draft} (cause : EmmCause) (esm : Option (List ℕ)) → IsBriefIf 200 esm → IsFit d
+      → IsFit (attaching.attach_refused cause esm d)
   unfolding attaching.attach_refused
   fit_attach_refused cause esm brief h = fit_forgotten written _ refl (fit_send written _ (brief_attach_reject cause esm brief) h)
 
-  fit_challenged : {d : Draft} (v : Vector) → slice_get s.vectors d.solo.next_vector ≡ Some v → IsFit d → IsFit (attaching.challenged v d)
+  fit_challenged : {d : Draft} (v : Vector) → slice_get s.vectors d.solo.next_vector ≡ Some v → IsFit d
+      → IsFit (attaching.challenged v d)
   unfolding attaching.challenged
   fit_challenged {d} v there h =
       let r = h.solo in
@@ -108,9 +111,12 @@ module _ (written : AreWritten) (spelled : DecodedIsSpelled) (esm_spelled : Deco
 
   fit_challenge : {d : Draft} → IsFit d → IsFit (attaching.challenge s d)
   unfolding attaching.challenge
-  fit_challenge {d} h = at_some IsFit (slice_get s.vectors d.solo.next_vector) (λ v there. fit_challenged v there h) (λ is. fit_attach_refused _ None tt h)
+  fit_challenge {d} h =
+      at_some IsFit (slice_get s.vectors d.solo.next_vector) (λ v there. fit_challenged v there h)
+      (λ is. fit_attach_refused _ None tt h)
 
-  fit_attach_by : {d : Draft} (asked : Requested (List ℕ)) (combined : Bool) (capability : List ℕ) (tai : Tai) → RequestedInRange asked → all_below 256 capability ≡ true → TaiInRange tai → IsFit d
+  fit_attach_by : {d : Draft} (asked : Requested (List ℕ)) (combined : Bool) (capability : List ℕ) (tai : Tai)
+      → RequestedInRange asked → all_below 256 capability ≡ true → TaiInRange tai → IsFit d
       → IsFit (attaching.attach_by asked s combined capability tai d)
   unfolding attaching.attach_by attaching.asking
   fit_attach_by Unreadable combined capability tai brief octets area h = fit_attach_refused _ None tt h
@@ -126,11 +132,13 @@ module _ (written : AreWritten) (spelled : DecodedIsSpelled) (esm_spelled : Deco
       let r = h.solo in
       record { solo = record { connection = r.connection; context = r.context; tai = r.tai; capability = r.capability; transaction = request_in_range esm_spelled d.solo.bearer esm octets r.transaction; repeat = r.repeat }; sent = h.sent }
 
-  fit_attach : {d : Draft} (combined : Bool) (capability esm : List ℕ) (tai : Tai) → all_below 256 capability ≡ true → all_below 256 esm ≡ true → TaiInRange tai → IsFit d
+  fit_attach : {d : Draft} (combined : Bool) (capability esm : List ℕ) (tai : Tai) → all_below 256 capability ≡ true
+      → all_below 256 esm ≡ true → TaiInRange tai → IsFit d
       → IsFit (attaching.attach s combined capability esm tai d)
   unfolding attaching.attach
   fit_attach {d} combined capability esm tai octets esm_octets area h =
-      fit_attach_by _ combined capability tai (requested_in_range esm_spelled (wipe d).solo.bearer esm esm_octets) octets area (fit_requesting esm esm_octets (fit_wipe h))
+      fit_attach_by _ combined capability tai (requested_in_range esm_spelled (wipe d).solo.bearer esm esm_octets) octets area
+      (fit_requesting esm esm_octets (fit_wipe h))
 
   fit_authenticated : {d : Draft} (place : ℕ) (v : Vector) → IsFit d → FitIf (attaching.authenticated place v d)
   unfolding attaching.authenticated attaching.new_context
@@ -156,7 +164,8 @@ module _ (written : AreWritten) (spelled : DecodedIsSpelled) (esm_spelled : Deco
   fit_response : {d : Draft} (res : List ℕ) → IsFit d → FitIf (attaching.response s res d)
   unfolding attaching.response attaching.response_to
   fit_response {d} res h =
-      at_some FitIf (slice_get s.vectors (d.solo.next_vector - 1)) (λ v there. either FitIf _ (fit_authenticated (d.solo.next_vector - 1) v h) (some (fit_not_authenticated h))) (λ is. some h)
+      at_some FitIf (slice_get s.vectors (d.solo.next_vector - 1))
+      (λ v there. either FitIf _ (fit_authenticated (d.solo.next_vector - 1) v h) (some (fit_not_authenticated h))) (λ is. some h)
 
   fit_failure : {d : Draft} (cause : ℕ) → IsFit d → IsFit (attaching.failure s cause d)
   unfolding attaching.failure
@@ -164,7 +173,8 @@ module _ (written : AreWritten) (spelled : DecodedIsSpelled) (esm_spelled : Deco
 
   fit_detach_plainly : {d : Draft} (switch_off : Bool) → IsFit d → IsFit (attaching.detach_plainly switch_off d)
   unfolding attaching.detach_plainly attaching.detach_answered_plainly
-  fit_detach_plainly switch_off h = fit_forgotten written _ refl (either IsFit switch_off h (fit_send written _ brief_detach_accept h))
+  fit_detach_plainly switch_off h =
+      fit_forgotten written _ refl (either IsFit switch_off h (fit_send written _ brief_detach_accept h))
 
   fit_status_plainly : {d : Draft} (cause : Option EmmCause) → IsFit d → IsFit (attaching.status_plainly cause d)
   unfolding attaching.status_plainly
@@ -183,7 +193,8 @@ module _ (written : AreWritten) (spelled : DecodedIsSpelled) (esm_spelled : Deco
   unfolding attaching.accept attaching.activating attaching.given_tmsi
   fit_accept {d} key octets h =
       let r = h.solo in
-      let esm = brief_activation d.solo.bearer s.network.apn s.profile.address r.transaction setting.network.apn setting.profile.address in
+      let esm =
+      brief_activation d.solo.bearer s.network.apn s.profile.address r.transaction setting.network.apn setting.profile.address in
       let brief = brief_attach_accept s.network (attaching.attach_grant s d) _ setting.network r.tai esm in
       then _ (fit_set_up_with written s key _ setting octets brief (record { solo = record { connection = r.connection; context = r.context; tai = r.tai; capability = r.capability; transaction = r.transaction; repeat = r.repeat }; sent = h.sent }))
       (λ e f. fit_start _ _ brief f)
@@ -206,16 +217,21 @@ module _ (written : AreWritten) (spelled : DecodedIsSpelled) (esm_spelled : Deco
 
   fit_secured : {d : Draft} (x : Context) (count : ℕ) → ContextInRange x → IsFit d → FitIf (attaching.secured s x count d)
   unfolding attaching.secured
-  fit_secured x count known h = let k = fit_keyed x count known h in either FitIf _ (fit_ask_information k) (fit_accept _ (kenb_bytes x.kasme count) k)
+  fit_secured x count known h =
+      let k = fit_keyed x count known h in either FitIf _ (fit_ask_information k) (fit_accept _ (kenb_bytes x.kasme count) k)
 
-  fit_secured_by : {d : Draft} (r : Acceptance) (x : Context) (nas : List ℕ) → ContextInRange x → IsFit d → FitIf (attaching.secured_by r s x nas d)
+  fit_secured_by : {d : Draft} (r : Acceptance) (x : Context) (nas : List ℕ) → ContextInRange x → IsFit d
+      → FitIf (attaching.secured_by r s x nas d)
   unfolding attaching.secured_by
-  fit_secured_by (Ok found) x nas known h = let y = counted x found.0 known in either FitIf _ (fit_secured _ found.0 y h) (some (fit_took _ found.0 y h))
+  fit_secured_by (Ok found) x nas known h =
+      let y = counted x found.0 known in either FitIf _ (fit_secured _ found.0 y h) (some (fit_took _ found.0 y h))
   fit_secured_by (Err fault) x nas known h = some (fit_not_secured nas h)
 
   fit_in_security_mode : {d : Draft} (nas : List ℕ) → IsFit d → FitIf (attaching.in_security_mode s nas d)
   unfolding attaching.in_security_mode
-  fit_in_security_mode {d} nas h = at_some FitIf d.solo.context (λ x is. fit_secured_by _ x nas (known_in d.solo.context x is h.solo.context) h) (λ is. some (fit_not_secured nas h))
+  fit_in_security_mode {d} nas h =
+      at_some FitIf d.solo.context (λ x is. fit_secured_by _ x nas (known_in d.solo.context x is h.solo.context) h)
+      (λ is. some (fit_not_secured nas h))
 
   -- ---- a phone that is known
 
@@ -223,11 +239,13 @@ module _ (written : AreWritten) (spelled : DecodedIsSpelled) (esm_spelled : Deco
   unfolding serving.active ended
   fit_active phase h = let r = h.solo in record { solo = record { connection = r.connection; context = r.context; tai = r.tai; capability = r.capability; transaction = r.transaction; repeat = tt }; sent = h.sent }
 
-  fit_served_by : {d : Draft} (r : Result ℕ SecurityFault) (x : Context) (m : Entry (List ℕ)) → ContextInRange x → EntryInRange m → IsFit d → IsFit (serving.served_by r s x m d)
+  fit_served_by : {d : Draft} (r : Result ℕ SecurityFault) (x : Context) (m : Entry (List ℕ)) → ContextInRange x → EntryInRange m
+      → IsFit d → IsFit (serving.served_by r s x m d)
   unfolding serving.served_by serving.served
   fit_served_by (Ok count) x m known entry h =
       fit_set_up written s _ None None setting (kenb_bytes x.kasme count) tt (fit_keyed _ count (counted x count known) (fit_active _ (fit_connect written s m.station m.enb_ue_id setting entry.enb_ue_id h)))
-  fit_served_by (Err fault) x m known entry h = fit_refuse written s m.station m.enb_ue_id _ setting entry.enb_ue_id (brief_service_reject _) h
+  fit_served_by (Err fault) x m known entry h =
+      fit_refuse written s m.station m.enb_ue_id _ setting entry.enb_ue_id (brief_service_reject _) h
 
   fit_service : {d : Draft} (m : Entry (List ℕ)) (octets : List ℕ) → EntryInRange m → IsFit d → IsFit (serving.service s m octets d)
   unfolding serving.service
@@ -235,7 +253,8 @@ module _ (written : AreWritten) (spelled : DecodedIsSpelled) (esm_spelled : Deco
       let refused = λ (cause : EmmCause). fit_refuse written s m.station m.enb_ue_id (service_reject cause) setting entry.enb_ue_id (brief_service_reject cause) h in
       either IsFit _ (at_some IsFit d.solo.context (λ x is. fit_served_by _ x m (known_in d.solo.context x is h.solo.context) entry h) (λ is. refused _)) (refused _)
 
-  fit_update : {d : Draft} (tai : Tai) (combined initial : Bool) → TaiInRange tai → IsFit d → FitIf (serving.update s tai combined initial d)
+  fit_update : {d : Draft} (tai : Tai) (combined initial : Bool) → TaiInRange tai → IsFit d
+      → FitIf (serving.update s tai combined initial d)
   unfolding serving.update serving.updating serving.active ended attaching.given_tmsi
   fit_update {d} tai combined initial area h =
       let r = h.solo in
@@ -243,13 +262,17 @@ module _ (written : AreWritten) (spelled : DecodedIsSpelled) (esm_spelled : Deco
       then _ (fit_protect written _ _ brief (record { solo = record { connection = r.connection; context = r.context; tai = area; capability = r.capability; transaction = r.transaction; repeat = tt }; sent = h.sent }))
       (λ e f. fit_start _ _ brief f)
 
-  fit_updated_by : {d : Draft} (r : Acceptance) (x : Context) (m : Entry (List ℕ)) (combined : Bool) → ContextInRange x → EntryInRange m → IsFit d → FitIf (serving.updated_by r s x m combined d)
+  fit_updated_by : {d : Draft} (r : Acceptance) (x : Context) (m : Entry (List ℕ)) (combined : Bool) → ContextInRange x
+      → EntryInRange m → IsFit d → FitIf (serving.updated_by r s x m combined d)
   unfolding serving.updated_by
   fit_updated_by (Ok found) x m combined known entry h =
-      fit_update m.tai combined true entry.tai (fit_took _ found.0 (counted x found.0 known) (fit_connect written s m.station m.enb_ue_id setting entry.enb_ue_id h))
-  fit_updated_by (Err fault) x m combined known entry h = some (fit_refuse written s m.station m.enb_ue_id _ setting entry.enb_ue_id (brief_update_reject _) h)
+      fit_update m.tai combined true entry.tai
+      (fit_took _ found.0 (counted x found.0 known) (fit_connect written s m.station m.enb_ue_id setting entry.enb_ue_id h))
+  fit_updated_by (Err fault) x m combined known entry h =
+      some (fit_refuse written s m.station m.enb_ue_id _ setting entry.enb_ue_id (brief_update_reject _) h)
 
-  fit_initial_update : {d : Draft} (m : Entry (List ℕ)) (combined : Bool) → EntryInRange m → IsFit d → FitIf (serving.initial_update s m combined d)
+  fit_initial_update : {d : Draft} (m : Entry (List ℕ)) (combined : Bool) → EntryInRange m → IsFit d
+      → FitIf (serving.initial_update s m combined d)
   unfolding serving.initial_update
   fit_initial_update {d} m combined entry h =
       let refused = λ (cause : EmmCause). some (fit_refuse written s m.station m.enb_ue_id (update_reject cause) setting entry.enb_ue_id (brief_update_reject cause) h) in
@@ -257,20 +280,28 @@ module _ (written : AreWritten) (spelled : DecodedIsSpelled) (esm_spelled : Deco
 
   fit_detach : {d : Draft} (switch_off : Bool) → IsFit d → FitIf (serving.detach switch_off d)
   unfolding serving.detach serving.detach_answered
-  fit_detach switch_off h = then _ (either FitIf switch_off (some h) (fit_protect written _ _ brief_detach_accept h)) (λ e f. fit_forgotten written _ refl f)
+  fit_detach switch_off h =
+      then _ (either FitIf switch_off (some h) (fit_protect written _ _ brief_detach_accept h))
+      (λ e f. fit_forgotten written _ refl f)
 
-  fit_detached_by : {d : Draft} (r : Acceptance) (x : Context) (m : Entry (List ℕ)) (switch_off : Bool) → ContextInRange x → EntryInRange m → IsFit d → FitIf (serving.detached_by r s x m switch_off d)
+  fit_detached_by : {d : Draft} (r : Acceptance) (x : Context) (m : Entry (List ℕ)) (switch_off : Bool) → ContextInRange x
+      → EntryInRange m → IsFit d → FitIf (serving.detached_by r s x m switch_off d)
   unfolding serving.detached_by
-  fit_detached_by (Ok found) x m switch_off known entry h = fit_detach switch_off (fit_took _ found.0 (counted x found.0 known) (fit_connect written s m.station m.enb_ue_id setting entry.enb_ue_id h))
-  fit_detached_by (Err fault) x m switch_off known entry h = some (fit_turn_away written s m.station m.enb_ue_id setting entry.enb_ue_id h)
+  fit_detached_by (Ok found) x m switch_off known entry h =
+      fit_detach switch_off
+      (fit_took _ found.0 (counted x found.0 known) (fit_connect written s m.station m.enb_ue_id setting entry.enb_ue_id h))
+  fit_detached_by (Err fault) x m switch_off known entry h =
+      some (fit_turn_away written s m.station m.enb_ue_id setting entry.enb_ue_id h)
 
-  fit_initial_detach : {d : Draft} (m : Entry (List ℕ)) (switch_off : Bool) → EntryInRange m → IsFit d → FitIf (serving.initial_detach s m switch_off d)
+  fit_initial_detach : {d : Draft} (m : Entry (List ℕ)) (switch_off : Bool) → EntryInRange m → IsFit d
+      → FitIf (serving.initial_detach s m switch_off d)
   unfolding serving.initial_detach
   fit_initial_detach {d} m switch_off entry h =
       either FitIf _ (some (fit_detach_plainly switch_off (fit_connect written s m.station m.enb_ue_id setting entry.enb_ue_id h)))
       (at_some FitIf d.solo.context (λ x is. fit_detached_by _ x m switch_off (known_in d.solo.context x is h.solo.context) entry h) (λ is. some (fit_turn_away written s m.station m.enb_ue_id setting entry.enb_ue_id h)))
 
-  fit_entered : {d : Draft} (m : Heard (List ℕ)) (e : Entry (List ℕ)) → HeardInRange m → EntryInRange e → IsFit d → FitIf (serving.entered m s e d)
+  fit_entered : {d : Draft} (m : Heard (List ℕ)) (e : Entry (List ℕ)) → HeardInRange m → EntryInRange e → IsFit d
+      → FitIf (serving.entered m s e d)
   unfolding serving.entered
   fit_entered (heards.AttachRequest combined capability esm) e parts entry h =
       some (fit_attach combined capability esm e.tai parts.0 parts.1 entry.tai (fit_connect written s e.station e.enb_ue_id setting entry.enb_ue_id h))
@@ -279,9 +310,12 @@ module _ (written : AreWritten) (spelled : DecodedIsSpelled) (esm_spelled : Deco
   fit_entered (heards.DetachRequest switch_off) e parts entry h = fit_initial_detach e switch_off entry h
   fit_entered _ e parts entry h = some h
 
-  fit_claimed : {d : Draft} (m : Heard (List ℕ)) (id : ℕ) (e : Entry (List ℕ)) → HeardInRange m → id < 2 ^ 32 → EntryInRange e → IsFit d → IsFit (serving.claimed m s id e d)
+  fit_claimed : {d : Draft} (m : Heard (List ℕ)) (id : ℕ) (e : Entry (List ℕ)) → HeardInRange m → id < 2 ^ 32 → EntryInRange e
+      → IsFit d → IsFit (serving.claimed m s id e d)
   unfolding serving.claimed
-  fit_claimed (heards.AttachRequest combined capability esm) id e parts low entry h = fit_attach combined capability esm e.tai parts.0 parts.1 entry.tai (fit_connect_on written id e.station e.enb_ue_id low entry.enb_ue_id h)
+  fit_claimed (heards.AttachRequest combined capability esm) id e parts low entry h =
+      fit_attach combined capability esm e.tai parts.0 parts.1 entry.tai
+      (fit_connect_on written id e.station e.enb_ue_id low entry.enb_ue_id h)
   fit_claimed _ id e parts low entry h = h
 
   -- ---- protected messages on the connection
@@ -311,7 +345,8 @@ module _ (written : AreWritten) (spelled : DecodedIsSpelled) (esm_spelled : Deco
   unfolding serving.inner_emm
   fit_inner_emm (heards.AttachComplete esm) tai area h = either FitIf _ (some (fit_attach_completed esm h)) (fit_status _ h)
   fit_inner_emm heards.TrackingAreaUpdateComplete tai area h = either FitIf _ (some (fit_update_completed h)) (fit_status _ h)
-  fit_inner_emm (heards.TrackingAreaUpdateRequest combined) tai area h = either FitIf _ (fit_update tai combined false area h) (fit_status _ h)
+  fit_inner_emm (heards.TrackingAreaUpdateRequest combined) tai area h =
+      either FitIf _ (fit_update tai combined false area h) (fit_status _ h)
   fit_inner_emm (heards.DetachRequest switch_off) tai area h = fit_detach switch_off h
   fit_inner_emm heards.DetachAccept tai area h = either FitIf _ (some (fit_forgotten written _ refl h)) (fit_status _ h)
   fit_inner_emm heards.Unasked tai area h = some h
@@ -320,7 +355,9 @@ module _ (written : AreWritten) (spelled : DecodedIsSpelled) (esm_spelled : Deco
 
   fit_information_came : {d : Draft} → IsFit d → FitIf (serving.information_came s d)
   unfolding serving.information_came
-  fit_information_came {d} h = at_some FitIf d.solo.context (λ x is. fit_accept x.radio.kenb (known_in d.solo.context x is h.solo.context).radio.kenb h) (λ is. some h)
+  fit_information_came {d} h =
+      at_some FitIf d.solo.context (λ x is. fit_accept x.radio.kenb (known_in d.solo.context x is h.solo.context).radio.kenb h)
+      (λ is. some h)
 
   fit_reacted : {d : Draft} (r : Reaction (List ℕ)) → ReactionInRange r → IsFit d → FitIf (serving.reacted r s d)
   unfolding serving.reacted
@@ -328,21 +365,28 @@ module _ (written : AreWritten) (spelled : DecodedIsSpelled) (esm_spelled : Deco
   fit_reacted reactions.Informed brief h = fit_information_came h
   fit_reacted (reactions.Answer octets) brief h = fit_protect written _ octets (brief_within brief (omega arith)) h
 
-  fit_inner_message : {d : Draft} (octets : List ℕ) (tai : Tai) → all_below 256 octets ≡ true → TaiInRange tai → IsFit d → FitIf (serving.inner_message octets s tai d)
+  fit_inner_message : {d : Draft} (octets : List ℕ) (tai : Tai) → all_below 256 octets ≡ true → TaiInRange tai → IsFit d
+      → FitIf (serving.inner_message octets s tai d)
   unfolding serving.inner_message serving.inner_esm
-  fit_inner_message {d} octets tai below area h = either FitIf _ (fit_reacted _ (reaction_in_range esm_spelled d.solo.bearer _ octets below) h) (fit_inner_emm (heard octets) tai area h)
+  fit_inner_message {d} octets tai below area h =
+      either FitIf _ (fit_reacted _ (reaction_in_range esm_spelled d.solo.bearer _ octets below) h)
+      (fit_inner_emm (heard octets) tai area h)
 
-  fit_inner_message_by : {d : Draft} (r : Acceptance) (x : Context) (tai : Tai) → AcceptanceInRange r → ContextInRange x → TaiInRange tai → IsFit d → FitIf (serving.inner_message_by r s x tai d)
+  fit_inner_message_by : {d : Draft} (r : Acceptance) (x : Context) (tai : Tai) → AcceptanceInRange r → ContextInRange x
+      → TaiInRange tai → IsFit d → FitIf (serving.inner_message_by r s x tai d)
   unfolding serving.inner_message_by
-  fit_inner_message_by (Ok found) x tai below known area h = fit_inner_message found.1 tai below area (fit_took _ found.0 (counted x found.0 known) h)
+  fit_inner_message_by (Ok found) x tai below known area h =
+      fit_inner_message found.1 tai below area (fit_took _ found.0 (counted x found.0 known) h)
   fit_inner_message_by (Err fault) x tai below known area h = some h
 
-  fit_in_later : {d : Draft} (tai : Tai) (nas : List ℕ) → all_below 256 nas ≡ true → TaiInRange tai → IsFit d → FitIf (serving.in_later s tai nas d)
+  fit_in_later : {d : Draft} (tai : Tai) (nas : List ℕ) → all_below 256 nas ≡ true → TaiInRange tai → IsFit d
+      → FitIf (serving.in_later s tai nas d)
   unfolding serving.in_later
   fit_in_later {d} tai nas below area h =
       at_some FitIf d.solo.context (λ x is. fit_inner_message_by _ x tai (accepted_in_range (mac_of x) x.security.up_last serving.in_use nas below) (known_in d.solo.context x is h.solo.context) area h) (λ is. some h)
 
-  fit_uplink : {d : Draft} (phase : Phase) (tai : Tai) (nas : List ℕ) → all_below 256 nas ≡ true → TaiInRange tai → IsFit d → FitIf (serving.uplink phase s tai nas d)
+  fit_uplink : {d : Draft} (phase : Phase) (tai : Tai) (nas : List ℕ) → all_below 256 nas ≡ true → TaiInRange tai → IsFit d
+      → FitIf (serving.uplink phase s tai nas d)
   unfolding serving.uplink attaching.in_authenticating
   fit_uplink Deregistered tai nas below area h = some h
   fit_uplink Authenticating tai nas below area h = either FitIf _ (fit_authenticating (heard nas) h) (some h)
@@ -358,25 +402,33 @@ module _ (written : AreWritten) (spelled : DecodedIsSpelled) (esm_spelled : Deco
   fit_on_connection bodies.InitialContextSetupFailure parts h = some (fit_fall written _ refl h)
   fit_on_connection _ parts h = some h
 
-  fit_indicate : {d : Draft} (cause : Cause) (m : UeMessage (List ℕ)) → is_extended cause ≡ false → MessageInRange m → IsFit d → IsFit (connected.indicate cause m d)
+  fit_indicate : {d : Draft} (cause : Cause) (m : UeMessage (List ℕ)) → is_extended cause ≡ false → MessageInRange m → IsFit d
+      → IsFit (connected.indicate cause m d)
   unfolding connected.indicate
-  fit_indicate cause m known message h = fit_emit m.station _ None (written.indication m.mme_ue_id m.enb_ue_id cause message.mme_ue_id message.enb_ue_id known) h
+  fit_indicate cause m known message h =
+      fit_emit m.station _ None (written.indication m.mme_ue_id m.enb_ue_id cause message.mme_ue_id message.enb_ue_id known) h
 
   fit_checked : {d : Draft} (m : UeMessage (List ℕ)) → MessageInRange m → IsFit d → FitIf (connected.checked s m d)
   unfolding connected.checked
-  fit_checked m message h = either FitIf _ (some (fit_indicate _ m refl message h)) (either FitIf _ (fit_on_connection m.body message.body h) (some (fit_indicate _ m refl message h)))
+  fit_checked m message h =
+      either FitIf _ (some (fit_indicate _ m refl message h))
+      (either FitIf _ (fit_on_connection m.body message.body h) (some (fit_indicate _ m refl message h)))
 
-  fit_switched : {d : Draft} (m : UeMessage (List ℕ)) (x : Context) → ContextInRange x → MessageInRange m → IsFit d → IsFit (connected.switched m x d)
+  fit_switched : {d : Draft} (m : UeMessage (List ℕ)) (x : Context) → ContextInRange x → MessageInRange m → IsFit d
+      → IsFit (connected.switched m x d)
   unfolding connected.switched
   fit_switched {d} m x known message h =
-      let moved : ContextInRange (record x { radio = connected.hopped x }) = record { integrity = known.integrity; radio = hopped_in_range x known } in
+      let moved : ContextInRange (record x { radio = connected.hopped x }) =
+      record { integrity = known.integrity; radio = hopped_in_range x known } in
       let ids : ConnectionInRange (connected.connection_of m) = record { id = message.mme_ue_id; enb_ue_id = message.enb_ue_id } in
       fit_emit m.station _ None (written.switched (connected.connection_of m) (connected.hop_behind x) (connected.next_chaining_count x.radio.chaining_count) ids (hop_bytes x) (omega arith))
       (record { solo = with_context (record d.solo { connection = Some (connected.connection_of m) }) _ moved (connected_in d.solo (Some (connected.connection_of m)) ids h.solo); sent = h.sent })
 
-  fit_not_switched : {d : Draft} (cause : Cause) (m : UeMessage (List ℕ)) → is_extended cause ≡ false → MessageInRange m → IsFit d → IsFit (connected.not_switched cause m d)
+  fit_not_switched : {d : Draft} (cause : Cause) (m : UeMessage (List ℕ)) → is_extended cause ≡ false → MessageInRange m → IsFit d
+      → IsFit (connected.not_switched cause m d)
   unfolding connected.not_switched
-  fit_not_switched cause m known message h = fit_emit m.station _ None (written.not_switched m.mme_ue_id m.enb_ue_id cause message.mme_ue_id message.enb_ue_id known) h
+  fit_not_switched cause m known message h =
+      fit_emit m.station _ None (written.not_switched m.mme_ue_id m.enb_ue_id cause message.mme_ue_id message.enb_ue_id known) h
 
   fit_path_switch : {d : Draft} (m : UeMessage (List ℕ)) → MessageInRange m → IsFit d → IsFit (connected.path_switch m d)
   unfolding connected.path_switch
@@ -388,7 +440,8 @@ module _ (written : AreWritten) (spelled : DecodedIsSpelled) (esm_spelled : Deco
       (at_some IsFit d.solo.context (λ x is. fit_switched m x (known_in d.solo.context x is h.solo.context) message h) (λ is. h))
       (fit_not_switched (causes.Protocol protocol.MessageNotCompatible) m refl message h)))
 
-  fit_message_of : {d : Draft} (body : UeBody (List ℕ)) (m : UeMessage (List ℕ)) → MessageInRange m → IsFit d → FitIf (connected.message_of body s m d)
+  fit_message_of : {d : Draft} (body : UeBody (List ℕ)) (m : UeMessage (List ℕ)) → MessageInRange m → IsFit d
+      → FitIf (connected.message_of body s m d)
   unfolding connected.message_of
   fit_message_of bodies.UeContextReleaseComplete m message h = some h
   fit_message_of bodies.PathSwitch m message h = some (fit_path_switch m message h)
@@ -422,13 +475,16 @@ module _ (written : AreWritten) (spelled : DecodedIsSpelled) (esm_spelled : Deco
 
   -- ---- paging, countdowns and a withdrawn subscription
 
-  fit_emit_each : (message : Pdu (List ℕ)) (es : List ℕ) (d : Draft) → IsWritten message → IsFit d → IsFit (idle.emit_each message es d)
+  fit_emit_each : (message : Pdu (List ℕ)) (es : List ℕ) (d : Draft) → IsWritten message → IsFit d
+      → IsFit (idle.emit_each message es d)
   fit_emit_each message [] d w h = h
   fit_emit_each message (e ∷ es) d w h = fit_emit_each message es (emit e message None d) w (fit_emit e message None w h)
 
   fit_page : {d : Draft} (es : List ℕ) → IsFit d → IsFit (idle.page s es d)
   unfolding idle.page
-  fit_page {d} es h = at_some IsFit d.solo.tmsi (λ t is. fit_emit_each _ es d (written.page s.network s.profile.imsi t d.solo.tai setting.network h.solo.tai) h) (λ is. h)
+  fit_page {d} es h =
+      at_some IsFit d.solo.tmsi
+      (λ t is. fit_emit_each _ es d (written.page s.network s.profile.imsi t d.solo.tai setting.network h.solo.tai) h) (λ is. h)
 
   fit_data_waits : {d : Draft} (stations : List StationState) → IsFit d → IsFit (idle.data_waits s stations d)
   unfolding idle.data_waits idle.paged
@@ -458,7 +514,9 @@ module _ (written : AreWritten) (spelled : DecodedIsSpelled) (esm_spelled : Deco
 
   fit_expired : {d : Draft} (c : Countdown) → IsFit d → FitIf (idle.expired c s d)
   unfolding idle.expired
-  fit_expired {d} c h = either FitIf _ (some (fit_given_up _ h)) (at_some FitIf d.solo.repeat (λ r is. fit_again r (subst RepeatInRange is h.solo.repeat) (fit_restarted c h)) (λ is. some h))
+  fit_expired {d} c h =
+      either FitIf _ (some (fit_given_up _ h))
+      (at_some FitIf d.solo.repeat (λ r is. fit_again r (subst RepeatInRange is h.solo.repeat) (fit_restarted c h)) (λ is. some h))
 
   fit_tick : {d : Draft} → IsFit d → FitIf (idle.tick s d)
   unfolding idle.tick idle.procedure_ticks idle.reachable_ticks_out
@@ -491,7 +549,8 @@ module _ (written : AreWritten) (spelled : DecodedIsSpelled) (esm_spelled : Deco
   unfolding steps.row serving.initial serving.claim
   fit_row events.Nothing fits h = some h
   fit_row (events.Initial m) fits h = fit_entered _ m (heard_in_range spelled _ (initial_in_range m.nas fits.nas)) fits h
-  fit_row (events.Claim id m) fits h = some (fit_claimed _ id m (heard_in_range spelled _ (initial_in_range m.nas fits.1.nas)) fits.0 fits.1 h)
+  fit_row (events.Claim id m) fits h =
+      some (fit_claimed _ id m (heard_in_range spelled _ (initial_in_range m.nas fits.1.nas)) fits.0 fits.1 h)
   fit_row (events.Message m) fits h = fit_message_of m.body m fits h
   fit_row (events.Displaced id) fits h = some (fit_displaced id h)
   fit_row (events.StationGone station) fits h = some (fit_station_gone station h)
@@ -513,7 +572,9 @@ module _ (written : AreWritten) (spelled : DecodedIsSpelled) (esm_spelled : Deco
 pub stays_in_range : AreWritten → DecodedIsSpelled → DecodedEsmIsSpelled → StaysInRange
 stays_in_range written spelled esm_spelled s solo [] setting h fits = h
 stays_in_range written spelled esm_spelled s solo (item ∷ items) setting h fits =
-    stays_in_range written spelled esm_spelled s (steps.solo_step s solo item).solo items setting (fit_step written spelled esm_spelled setting solo item fits.0 h).solo fits.1
+    stays_in_range written spelled esm_spelled s (steps.solo_step s solo item).solo items setting
+    (fit_step written spelled esm_spelled setting solo item fits.0 h).solo fits.1
 
 pub every_message_sent : AreWritten → DecodedIsSpelled → DecodedEsmIsSpelled → EveryMessageIsSent
-every_message_sent written spelled esm_spelled s solo item setting h fits = (fit_step written spelled esm_spelled setting solo item fits h).sent
+every_message_sent written spelled esm_spelled s solo item setting h fits =
+    (fit_step written spelled esm_spelled setting solo item fits h).sent

@@ -46,7 +46,8 @@ abbrev PartsInRange : Option (Protected (List ℕ)) → Type 0
 PartsInRange None = Unit {0}
 PartsInRange (Some p) = all_below 256 p.message ≡ true
 
-parts_if : (b : Bool) (os : List ℕ) (o : Option SecurityHeader) → all_below 256 os ≡ true → PartsInRange (cond b (option_map (λ header. protected_from header os) o) None)
+parts_if : (b : Bool) (os : List ℕ) (o : Option SecurityHeader) → all_below 256 os ≡ true
+    → PartsInRange (cond b (option_map (λ header. protected_from header os) o) None)
 parts_if false os o e = tt
 parts_if true os None e = tt
 parts_if true os (Some header) e = below_drop 6 os e
@@ -55,11 +56,13 @@ parts_in_range : (os : List ℕ) → all_below 256 os ≡ true → PartsInRange 
 unfolding split
 parts_in_range os e = parts_if _ os (header_of (slice_index os 0 / 16)) e
 
-inner_in_range : (b : Bool) (os message : List ℕ) → all_below 256 os ≡ true → all_below 256 message ≡ true → all_below 256 (cond b message os) ≡ true
+inner_in_range : (b : Bool) (os message : List ℕ) → all_below 256 os ≡ true → all_below 256 message ≡ true
+    → all_below 256 (cond b message os) ≡ true
 inner_in_range true os message e f = f
 inner_in_range false os message e f = e
 
-initial_parts : (os : List ℕ) (o : Option (Protected (List ℕ))) → all_below 256 os ≡ true → PartsInRange o → all_below 256 (inner_octets os o) ≡ true
+initial_parts : (os : List ℕ) (o : Option (Protected (List ℕ))) → all_below 256 os ≡ true → PartsInRange o
+    → all_below 256 (inner_octets os o) ≡ true
 initial_parts os None e h = e
 initial_parts os (Some p) e h = inner_in_range (is_initial_header p.header) os p.message e h
 
@@ -72,23 +75,30 @@ abbrev pub AcceptanceInRange : Acceptance → Type 0
 AcceptanceInRange (Ok found) = all_below 256 found.1 ≡ true
 AcceptanceInRange (Err fault) = Unit {0}
 
-mac_if : (b : Bool) (count : ℕ) (message : List ℕ) (fault : Acceptance) → all_below 256 message ≡ true → AcceptanceInRange fault → AcceptanceInRange (cond b (Ok (count, message)) fault)
+mac_if : (b : Bool) (count : ℕ) (message : List ℕ) (fault : Acceptance) → all_below 256 message ≡ true → AcceptanceInRange fault
+    → AcceptanceInRange (cond b (Ok (count, message)) fault)
 mac_if true count message fault e h = e
 mac_if false count message fault e h = h
 
-under_in_range : (mac : Mac) (p : Protected (List ℕ)) (o : Option ℕ) → all_below 256 p.message ≡ true → AcceptanceInRange (accepted_under mac p o)
+under_in_range : (mac : Mac) (p : Protected (List ℕ)) (o : Option ℕ) → all_below 256 p.message ≡ true
+    → AcceptanceInRange (accepted_under mac p o)
 under_in_range mac p None e = tt
-under_in_range mac p (Some count) e = mac_if (same_octets p.mac (mac count directions.Uplink (p.sequence ∷ p.message))) count p.message _ e tt
+under_in_range mac p (Some count) e =
+    mac_if (same_octets p.mac (mac count directions.Uplink (p.sequence ∷ p.message))) count p.message _ e tt
 
 allowed_if : (b : Bool) (r fault : Acceptance) → AcceptanceInRange r → AcceptanceInRange fault → AcceptanceInRange (cond b r fault)
 allowed_if true r fault g h = g
 allowed_if false r fault g h = h
 
-parts_accepted : (mac : Mac) (last : Option ℕ) (allowed : List SecurityHeader) (o : Option (Protected (List ℕ))) → PartsInRange o → AcceptanceInRange (accepted_parts mac last allowed o)
+parts_accepted : (mac : Mac) (last : Option ℕ) (allowed : List SecurityHeader) (o : Option (Protected (List ℕ))) → PartsInRange o
+    → AcceptanceInRange (accepted_parts mac last allowed o)
 parts_accepted mac last allowed None h = tt
-parts_accepted mac last allowed (Some p) h = allowed_if (is_allowed allowed p.header) (accepted_under mac p (estimate last p.sequence (2 ^ 8))) _ (under_in_range mac p _ h) tt
+parts_accepted mac last allowed (Some p) h =
+    allowed_if (is_allowed allowed p.header) (accepted_under mac p (estimate last p.sequence (2 ^ 8))) _
+    (under_in_range mac p _ h) tt
 
-pub accepted_in_range : (mac : Mac) (last : Option ℕ) (allowed : List SecurityHeader) (os : List ℕ) → all_below 256 os ≡ true → AcceptanceInRange (accepted mac last allowed os)
+pub accepted_in_range : (mac : Mac) (last : Option ℕ) (allowed : List SecurityHeader) (os : List ℕ) → all_below 256 os ≡ true
+    → AcceptanceInRange (accepted mac last allowed os)
 unfolding accepted
 accepted_in_range mac last allowed os e = parts_accepted mac last allowed (split os) (parts_in_range os e)
 
@@ -116,7 +126,8 @@ tail_below x os e = (and_parts (ltb x 256) (all_below 256 os) e).1
 below_same : (xs ys : List ℕ) → xs ≡ ys → all_below 256 xs ≡ true → all_below 256 ys ≡ true
 below_same xs ys is e = subst IsOctets is e
 
-attach_in_range : (m : AttachRequest (List ℕ)) (os : List ℕ) → all_below 256 os ≡ true → SpellsEmm Uplink (emm.AttachRequest m) os → (all_below 256 m.capability ≡ true) × (all_below 256 m.esm ≡ true)
+attach_in_range : (m : AttachRequest (List ℕ)) (os : List ℕ) → all_below 256 os ≡ true → SpellsEmm Uplink (emm.AttachRequest m) os
+    → (all_below 256 m.capability ≡ true) × (all_below 256 m.esm ≡ true)
 attach_in_range m os e h =
     let row = h.3 in
     let whole : all_below 256 (7 ∷ 0x41 ∷ h.1) ≡ true = below_same os _ h.2 e in
@@ -127,9 +138,11 @@ attach_in_range m os e h =
     let third = second.4 in
     let fourth = third.4 in
     let behind_halves : all_below 256 first.1 ≡ true = below_right first.0 first.1 (below_same row.front _ first.2 front) in
-    let behind_identity : all_below 256 second.1 ≡ true = below_right second.0 second.1 (below_same first.1 _ second.2 behind_halves) in
+    let behind_identity : all_below 256 second.1 ≡ true =
+    below_right second.0 second.1 (below_same first.1 _ second.2 behind_halves) in
     let capability : all_below 256 third.0 ≡ true = below_left third.0 third.1 (below_same second.1 _ third.2 behind_identity) in
-    let behind_capability : all_below 256 third.1 ≡ true = below_right third.0 third.1 (below_same second.1 _ third.2 behind_identity) in
+    let behind_capability : all_below 256 third.1 ≡ true =
+    below_right third.0 third.1 (below_same second.1 _ third.2 behind_identity) in
     let esm : all_below 256 fourth.0 ≡ true = below_left fourth.0 fourth.1 (below_same third.1 _ fourth.2 behind_capability) in
     let content = third.3 in
     let long = fourth.3 in
@@ -140,13 +153,15 @@ attach_in_range m os e h =
 
 -- the law that what is decoded is spelled so
 abbrev pub DecodedIsSpelled : Type 0
-DecodedIsSpelled = (direction : Direction) (os : List ℕ) (m : Emm (List ℕ)) → decoded_emm direction os ≡ Ok m → SpellsEmm direction m os
+DecodedIsSpelled =
+    (direction : Direction) (os : List ℕ) (m : Emm (List ℕ)) → decoded_emm direction os ≡ Ok m → SpellsEmm direction m os
 
 sorted_in_range : (m : Emm (List ℕ)) (os : List ℕ) → all_below 256 os ≡ true → SpellsEmm Uplink m os → HeardInRange (sorted m)
 sorted_in_range (emm.AttachRequest m) os e h = attach_in_range m os e h
 sorted_in_range _ os e h = tt
 
-heard_by : (os : List ℕ) (r : Result (Emm (List ℕ)) NasFault) → all_below 256 os ≡ true → ((m : Emm (List ℕ)) → r ≡ Ok m → SpellsEmm Uplink m os) → HeardInRange (heard_of r)
+heard_by : (os : List ℕ) (r : Result (Emm (List ℕ)) NasFault) → all_below 256 os ≡ true
+    → ((m : Emm (List ℕ)) → r ≡ Ok m → SpellsEmm Uplink m os) → HeardInRange (heard_of r)
 heard_by os (Ok m) e h = sorted_in_range m os e (h m refl)
 heard_by os (Err fault) e h = tt
 
@@ -163,14 +178,16 @@ pub record EsmInRange (bearer transaction : ℕ) : Type 0 where
   pub bearer_low : bearer < 16
   pub transaction_low : transaction < 256
 
-body_in_range : (bearer transaction : ℕ) (body : TypedBody) (os : List ℕ) → all_below 256 os ≡ true → SpellsBody bearer transaction body os → EsmInRange bearer transaction
+body_in_range : (bearer transaction : ℕ) (body : TypedBody) (os : List ℕ) → all_below 256 os ≡ true
+    → SpellsBody bearer transaction body os → EsmInRange bearer transaction
 body_in_range bearer transaction (of_type t v) os e h =
     let whole : all_below 256 ((bearer * 16 + 2) ∷ transaction ∷ esm_code_of t ∷ h.0) ≡ true = below_same os _ h.1 e in
     let first = and_parts (ltb (bearer * 16 + 2) 256) (all_below 256 (transaction ∷ esm_code_of t ∷ h.0)) whole in
     let second = and_parts (ltb transaction 256) (all_below 256 (esm_code_of t ∷ h.0)) first.1 in
     record { bearer_low = omega (arith, ltb-true (bearer * 16 + 2) 256 first.0); transaction_low = ltb-true transaction 256 second.0 }
 
-esm_in_range : DecodedEsmIsSpelled → (os : List ℕ) (m : Esm (List ℕ)) → all_below 256 os ≡ true → decoded_esm os ≡ Ok m → EsmInRange m.bearer m.transaction
+esm_in_range : DecodedEsmIsSpelled → (os : List ℕ) (m : Esm (List ℕ)) → all_below 256 os ≡ true → decoded_esm os ≡ Ok m
+    → EsmInRange m.bearer m.transaction
 esm_in_range spelled os m e is = body_in_range m.bearer m.transaction (typed_body m.body) os e (spelled os m is)
 
 abbrev AskedInRange : Option Connectivity → Type 0
@@ -181,7 +198,8 @@ asked_body : (transaction : ℕ) (body : EsmBody (List ℕ)) → transaction < 2
 asked_body transaction (bodies.ConnectivityRequest request_type pdn_type information) low = low
 asked_body transaction _ low = tt
 
-asked_result : (r : Result (Esm (List ℕ)) NasFault) → ((m : Esm (List ℕ)) → r ≡ Ok m → EsmInRange m.bearer m.transaction) → AskedInRange (asked_by r)
+asked_result : (r : Result (Esm (List ℕ)) NasFault) → ((m : Esm (List ℕ)) → r ≡ Ok m → EsmInRange m.bearer m.transaction)
+    → AskedInRange (asked_by r)
 asked_result (Ok m) h = asked_body m.transaction m.body (h m refl).transaction_low
 asked_result (Err fault) h = tt
 
@@ -203,7 +221,8 @@ requested_by before None h = tt
 requested_by None (Some wanted) h = requested_if (eqb wanted.pdn_type 2) _ (brief_connectivity_reject _ wanted.transaction h)
 requested_by (Some first) (Some wanted) h = brief_connectivity_reject _ wanted.transaction h
 
-pub requested_in_range : DecodedEsmIsSpelled → (session : Session) (os : List ℕ) → all_below 256 os ≡ true → RequestedInRange (requested session os)
+pub requested_in_range : DecodedEsmIsSpelled → (session : Session) (os : List ℕ) → all_below 256 os ≡ true
+    → RequestedInRange (requested session os)
 unfolding requested
 requested_in_range spelled session os e = requested_by session.request (asked os) (asked_in_range spelled os e)
 
@@ -211,12 +230,14 @@ taken_if : (b : Bool) (request : Request) → request.transaction < 256 → tran
 taken_if true request low = omega arith
 taken_if false request low = low
 
-after_by : (before : Option Request) (o : Option Connectivity) → AskedInRange o → transaction_of before < 256 → transaction_of (request_after before o) < 256
+after_by : (before : Option Request) (o : Option Connectivity) → AskedInRange o → transaction_of before < 256
+    → transaction_of (request_after before o) < 256
 after_by before None h low = low
 after_by None (Some wanted) h low = taken_if (eqb wanted.pdn_type 2) (request_taken wanted) h
 after_by (Some first) (Some wanted) h low = low
 
-pub request_in_range : DecodedEsmIsSpelled → (session : Session) (os : List ℕ) → all_below 256 os ≡ true → transaction_of session.request < 256
+pub request_in_range : DecodedEsmIsSpelled → (session : Session) (os : List ℕ) → all_below 256 os ≡ true
+    → transaction_of session.request < 256
     → transaction_of (after_request session os).request < 256
 unfolding after_request
 request_in_range spelled session os e low = after_by session.request (asked os) (asked_in_range spelled os e) low
@@ -229,15 +250,20 @@ reaction_if : (b : Bool) (r q : Reaction (List ℕ)) → ReactionInRange r → R
 reaction_if true r q g h = g
 reaction_if false r q g h = h
 
-reacts_to : (request : Option Request) (waiting : Bool) (bearer transaction : ℕ) (body : EsmBody (List ℕ)) → EsmInRange bearer transaction → ReactionInRange (reaction_to request waiting bearer transaction body)
-reacts_to request waiting bearer transaction (bodies.ConnectivityRequest request_type pdn_type information) h = brief_connectivity_reject _ transaction h.transaction_low
-reacts_to request waiting bearer transaction (bodies.DisconnectRequest linked) h = brief_disconnect_reject transaction h.transaction_low
+reacts_to : (request : Option Request) (waiting : Bool) (bearer transaction : ℕ) (body : EsmBody (List ℕ))
+    → EsmInRange bearer transaction → ReactionInRange (reaction_to request waiting bearer transaction body)
+reacts_to request waiting bearer transaction (bodies.ConnectivityRequest request_type pdn_type information) h =
+    brief_connectivity_reject _ transaction h.transaction_low
+reacts_to request waiting bearer transaction (bodies.DisconnectRequest linked) h =
+    brief_disconnect_reject transaction h.transaction_low
 reacts_to request waiting bearer transaction bodies.InformationResponse h =
-    reaction_if waiting _ _ (reaction_if (is_transaction_of request transaction) reactions.Informed reactions.Nothing tt tt) (brief_esm_status _ bearer transaction h.bearer_low h.transaction_low)
+    reaction_if waiting _ _ (reaction_if (is_transaction_of request transaction) reactions.Informed reactions.Nothing tt tt)
+    (brief_esm_status _ bearer transaction h.bearer_low h.transaction_low)
 reacts_to request waiting bearer transaction (bodies.EsmStatus cause) h = tt
 reacts_to request waiting bearer transaction _ h = brief_esm_status _ bearer transaction h.bearer_low h.transaction_low
 
-reacts_to_fault : (bearer transaction : ℕ) (fault : NasFault) → EsmInRange bearer transaction → ReactionInRange (reaction_to_fault bearer transaction fault)
+reacts_to_fault : (bearer transaction : ℕ) (fault : NasFault) → EsmInRange bearer transaction
+    → ReactionInRange (reaction_to_fault bearer transaction fault)
 reacts_to_fault bearer transaction faults.TooShort h = tt
 reacts_to_fault bearer transaction faults.NoMemory h = tt
 reacts_to_fault bearer transaction _ h = brief_esm_status _ bearer transaction h.bearer_low h.transaction_low
@@ -249,7 +275,9 @@ reacts_by session waiting os (Err fault) e h =
     let first = below_at os 0 e in
     reacts_to_fault (slice_index os 0 / 16) (slice_index os 1) fault (record { bearer_low = omega (arith, first); transaction_low = below_at os 1 e })
 
-pub reaction_in_range : DecodedEsmIsSpelled → (session : Session) (waiting : Bool) (os : List ℕ) → all_below 256 os ≡ true → ReactionInRange (reaction session waiting os)
+pub reaction_in_range : DecodedEsmIsSpelled → (session : Session) (waiting : Bool) (os : List ℕ) → all_below 256 os ≡ true
+    → ReactionInRange (reaction session waiting os)
 unfolding reaction
 reaction_in_range spelled session waiting os e =
-    reaction_if (ltb (length os) 3) reactions.Nothing _ tt (reacts_by session waiting os (decoded_esm os) e (λ m is. esm_in_range spelled os m e is))
+    reaction_if (ltb (length os) 3) reactions.Nothing _ tt
+    (reacts_by session waiting os (decoded_esm os) e (λ m is. esm_in_range spelled os m e is))

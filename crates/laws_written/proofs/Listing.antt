@@ -1,4 +1,5 @@
--- RESET ACKNOWLEDGE of a list in range is short, by induction on the list: an item has at most 48 octets, and 256 items some 12,000.
+-- RESET ACKNOWLEDGE of a list in range is short, by induction on the list: an item has at most 48 octets, and 256 items some
+-- 12,000.
 use Rattle.std.proofs.Common.{◌≡◌, ℕ, ◌*◌, ◌^◌, ◌≤◌, ◌&&◌, Bool, true, [], ◌∷◌, length, Option, Some, None, refl, ◌∙◌, arith}
 use Rattle.std.specs.List.{AllByRecursion}
 use Rattle.std.proofs.lemmas.Bool.{and_from}
@@ -39,7 +40,8 @@ enb_few : (o : Option ℕ) → most_of_optional (most_octets enb_ue_id) o ≤ 10
 enb_few None = omega arith
 enb_few (Some id) = omega arith
 
-item_fits : (a : ListedAssociation) → AssociationInRange a → in_range (item 91 1 listed_association) (typed_listed_association a, tt) ≡ true
+item_fits : (a : ListedAssociation) → AssociationInRange a
+    → in_range (item 91 1 listed_association) (typed_listed_association a, tt) ≡ true
 item_fits a h = then_done _ (and_from _ _ (mme_fits a.mme_ue_id h.mme_ue_id) (then_done _ (enb_fits a.enb_ue_id h.enb_ue_id)))
 
 item_few : (a : ListedAssociation) → most_octets (item 91 1 listed_association) (typed_listed_association a, tt) ≤ 48
@@ -50,7 +52,8 @@ item_few a =
 
 -- ---- all items
 
-each_item_fits : (items : ToReset) → AllByRecursion (λ i. AssociationInRange i.value) items → each_fits (in_range (item 91 1 listed_association)) (written_items items) ≡ true
+each_item_fits : (items : ToReset) → AllByRecursion (λ i. AssociationInRange i.value) items
+    → each_fits (in_range (item 91 1 listed_association)) (written_items items) ≡ true
 each_item_fits [] h = refl
 each_item_fits (i ∷ more) h = and_from _ _ (item_fits i.value h.0) (each_item_fits more h.1)
 
@@ -74,5 +77,6 @@ count_fits items h =
 pub short_part_acknowledge : (items : ToReset) → ListInRange items → IsShortMessage (part_acknowledge items)
 short_part_acknowledge items h =
     let few : length items ≤ 256 = h.few in
-    let size : most_of_each (most_octets (item 91 1 listed_association)) (written_items items) ≤ 48 * length items = all_few items in
+    let size : most_of_each (most_octets (item 91 1 listed_association)) (written_items items) ≤ 48 * length items =
+    all_few items in
     record { ranges = then_done _ (and_from _ _ (count_fits items h) (each_item_fits items h.each)); size = omega (arith, few, size) }

@@ -64,12 +64,14 @@ abbrev mutual
   ChosenRanged (either f alts) (inl v) = Ranged f v
   ChosenRanged (either f alts) (inr v) = ChosenRanged alts v
 
-each_ranged : {A : Type 0} (S : A → ℕ → List Bool → Type 0) (P : A → Type 0) → ((a : A) (at : ℕ) (bs : List Bool) → S a at bs → P a) → (vs : List A) (at : ℕ) (bs : List Bool) → SpellsEach S vs at bs
+each_ranged : {A : Type 0} (S : A → ℕ → List Bool → Type 0) (P : A → Type 0) → ((a : A) (at : ℕ) (bs : List Bool) → S a at bs → P a)
+    → (vs : List A) (at : ℕ) (bs : List Bool) → SpellsEach S vs at bs
     → AllByRecursion P vs
 each_ranged S P one [] at bs h = tt
 each_ranged S P one (a ∷ more) at bs h = (one a at h.0 h.3, each_ranged S P one more (at + length h.0) h.1 h.4)
 
-optional_ranged : {A : Type 0} (S : A → ℕ → List Bool → Type 0) (P : A → Type 0) → ((a : A) (at : ℕ) (bs : List Bool) → S a at bs → P a) → (flag : Bool) (o : Option A) (at : ℕ) (bs : List Bool)
+optional_ranged : {A : Type 0} (S : A → ℕ → List Bool → Type 0) (P : A → Type 0)
+    → ((a : A) (at : ℕ) (bs : List Bool) → S a at bs → P a) → (flag : Bool) (o : Option A) (at : ℕ) (bs : List Bool)
     → SpellsOptional flag S o at bs → RangedIf P o
 optional_ranged S P one flag None at bs h = tt
 optional_ranged S P one false (Some a) at bs h = absurd (cc h.0)
@@ -85,22 +87,26 @@ mutual
   spelled_ranged (bits_between lo hi) b at bs h = tt
   spelled_ranged (enumerated n) v at bs h = tt
   spelled_ranged (closed f) v at bs h = spelled_ranged f v (at + 1) h.0 h.2
-  spelled_ranged (items lo hi f) vs at bs h = (h.3.0, h.3.1, each_ranged (Spells f) (Ranged f) (spelled_ranged f) vs (at + length h.0) h.1 h.4)
+  spelled_ranged (items lo hi f) vs at bs h =
+      (h.3.0, h.3.1, each_ranged (Spells f) (Ranged f) (spelled_ranged f) vs (at + length h.0) h.1 h.4)
   spelled_ranged (open_type f) v at bs h = spelled_ranged f v 0 h.2.0 h.2.2
   spelled_ranged (plain fs) v at bs h = fields_ranged fs h.0 v (at + length h.0) h.1 h.4
   spelled_ranged (sequence fs) v at bs h = fields_ranged fs (flags_after h.0) v (at + length h.0) h.1 h.5
   spelled_ranged (choice alts) v at bs h = chosen_ranged alts h.0 v (at + length h.1) h.2 h.5
 
-  fields_ranged : (fs : Fields) (flags : List Bool) (v : Values fs) (at : ℕ) (bs : List Bool) → SpellsFields fs flags v at bs → AreRanged fs v
+  fields_ranged : (fs : Fields) (flags : List Bool) (v : Values fs) (at : ℕ) (bs : List Bool) → SpellsFields fs flags v at bs
+      → AreRanged fs v
   fields_ranged done flags v at bs h = tt
-  fields_ranged (must f fs) flags v at bs h = (spelled_ranged f v.0 at h.0 h.3, fields_ranged fs flags v.1 (at + length h.0) h.1 h.4)
+  fields_ranged (must f fs) flags v at bs h =
+      (spelled_ranged f v.0 at h.0 h.3, fields_ranged fs flags v.1 (at + length h.0) h.1 h.4)
   fields_ranged (may f fs) flags v at bs h =
       (optional_ranged (Spells f) (Ranged f) (spelled_ranged f) (flag_of flags) v.0 at h.0 h.3, fields_ranged fs (flags_after flags) v.1 (at + length h.0) h.1 h.4)
   fields_ranged (skip f fs) flags v at bs h = fields_ranged fs (flags_after flags) v (at + length h.0) h.1 h.4
   fields_ranged (fixed lo hi n fs) flags v at bs h = fields_ranged fs flags v (at + length h.0) h.1 h.4
   fields_ranged (marked lo hi n fs) flags v at bs h = fields_ranged fs flags v (at + length h.1) h.2 h.5
 
-  chosen_ranged : (alts : Alternatives) (i : ℕ) (v : Chosen alts) (at : ℕ) (bs : List Bool) → SpellsChosen alts i v at bs → ChosenRanged alts v
+  chosen_ranged : (alts : Alternatives) (i : ℕ) (v : Chosen alts) (at : ℕ) (bs : List Bool) → SpellsChosen alts i v at bs
+      → ChosenRanged alts v
   chosen_ranged (last f) i v at bs h = spelled_ranged f v at bs h.1
   chosen_ranged (either f alts) zero (inl v) at bs h = spelled_ranged f v at bs h
   chosen_ranged (either f alts) zero (inr v) at bs h = absurd h
@@ -119,7 +125,8 @@ row_ranged : (f : Format) (o : Option (Value f)) (es : List Raw) (v : Value f) �
 row_ranged f None es v h is = absurd (cc is)
 row_ranged f (Some w) es v h is = subst (Ranged f) (same_Some w v is) (spelled_ranged f w 0 h.2.0 h.2.2)
 
-rows_ranged : (rs : Rows) (v : Kept rs) (slots : Slots rs) (es : List Raw) → AreElements rs slots es → IsKept rs slots v → RowsRanged rs v
+rows_ranged : (rs : Rows) (v : Kept rs) (slots : Slots rs) (es : List Raw) → AreElements rs slots es → IsKept rs slots v
+    → RowsRanged rs v
 rows_ranged end v slots es h k = tt
 rows_ranged (ie id c needed f rs) v slots es h k = (row_ranged f slots.0 (filter (has_id id) es) v.0 h.0 k.0, rows_ranged rs v.1 slots.1 (filter (λ e. not (has_id id e)) es) h.1 k.1)
 rows_ranged (ie id c optional f rs) v slots es h k = rows_ranged rs v.1 slots.1 (filter (λ e. not (has_id id e)) es) h.1 k.1
@@ -159,7 +166,8 @@ below_enb (Some id) h = enb_ue_id_of id h
 association_of : (a : ListedAssociation) → Ranged listed_association (typed_listed_association a) → AssociationInRange a
 association_of a h = record { mme_ue_id = below_mme a.mme_ue_id h.0; enb_ue_id = below_enb a.enb_ue_id h.1.0 }
 
-each_of : (xs : ToReset) → AllByRecursion (Ranged (item 91 0 listed_association)) (typed_associations_to_reset xs) → AllByRecursion (λ i. AssociationInRange i.value) xs
+each_of : (xs : ToReset) → AllByRecursion (Ranged (item 91 0 listed_association)) (typed_associations_to_reset xs)
+    → AllByRecursion (λ i. AssociationInRange i.value) xs
 each_of [] h = tt
 each_of (i ∷ more) h = (association_of i.value h.0.0, each_of more h.1)
 
@@ -181,13 +189,16 @@ entries_are_in_range spelled os e m is =
     let r = message_ranged (pdu.InitialUeMessage m) os (spelled (pdu.InitialUeMessage m) os is) in
     record { enb_ue_id = enb_ue_id_of m.enb_ue_id r.0; nas = bytes_below m.nas r.1.0; tai = tai_of m.tai r.1.1.0 }
 
-in_range_of : (e mme enb : ℕ) (body : UeBody (List ℕ)) (m : UeMessage (List ℕ)) → Some (ue_message e mme enb body) ≡ Some m → Ranged mme_ue_id mme → Ranged enb_ue_id enb
+in_range_of : (e mme enb : ℕ) (body : UeBody (List ℕ)) (m : UeMessage (List ℕ)) → Some (ue_message e mme enb body) ≡ Some m
+    → Ranged mme_ue_id mme → Ranged enb_ue_id enb
     → BodyInRange body → MessageInRange m
 in_range_of e mme enb body m is a b fits =
     subst MessageInRange (same_Some (ue_message e mme enb body) m is) (record { mme_ue_id = mme_ue_id_of mme a; enb_ue_id = enb_ue_id_of enb b; body = fits })
 
-told_in_range : (os : List ℕ) (e : ℕ) (p : Pdu (List ℕ)) (m : UeMessage (List ℕ)) → RowsRanged (rows_of (typed p).0) (typed p).1 → ue_message_in e p ≡ Some m → MessageInRange m
-told_in_range os e (pdu.UplinkNasTransport x) m r is = in_range_of e x.mme_ue_id x.enb_ue_id _ m is r.0 r.1.0 (bytes_below x.nas r.1.1.0, tai_of x.tai r.1.1.1.1.0)
+told_in_range : (os : List ℕ) (e : ℕ) (p : Pdu (List ℕ)) (m : UeMessage (List ℕ)) → RowsRanged (rows_of (typed p).0) (typed p).1
+    → ue_message_in e p ≡ Some m → MessageInRange m
+told_in_range os e (pdu.UplinkNasTransport x) m r is =
+    in_range_of e x.mme_ue_id x.enb_ue_id _ m is r.0 r.1.0 (bytes_below x.nas r.1.1.0, tai_of x.tai r.1.1.1.1.0)
 told_in_range os e (pdu.NasNonDeliveryIndication x) m r is = in_range_of e x.mme_ue_id x.enb_ue_id _ m is r.0 r.1.0 tt
 told_in_range os e (pdu.UeCapabilityInfoIndication x) m r is = in_range_of e x.mme_ue_id x.enb_ue_id _ m is r.0 r.1.0 tt
 told_in_range os e (pdu.InitialContextSetupResponse x) m r is = in_range_of e x.mme_ue_id x.enb_ue_id _ m is r.0 r.1.0 tt

@@ -37,7 +37,8 @@ DestinationInRange (to.Stranger m) = MessageInRange m
 DestinationInRange (to.Everyone notice) = Unit {0}
 
 -- a station that is set up is one of those that there are
-ready_below : (stations : List StationState) (e : ℕ) (tas : List SupportedTa) → station_at stations e ≡ Ready tas → e < length stations
+ready_below : (stations : List StationState) (e : ℕ) (tas : List SupportedTa) → station_at stations e ≡ Ready tas
+    → e < length stations
 ready_below [] e tas is = absurd (cc is)
 ready_below (s ∷ stations) zero tas is = omega arith
 ready_below (s ∷ stations) (suc e) tas is = let less = ready_below stations e tas is in omega (arith, less)
@@ -48,11 +49,13 @@ stranger_id_below e enb_ue_id low less = omega (arith, low, less)
 
 -- ---- by message
 
-entry_goes : (o : Option ℕ) (e : ℕ) (m : InitialUeMessage (List ℕ)) → e < 128 → EntryInRange (entry_of e m) → DestinationInRange (entry_routed o e m).destination
+entry_goes : (o : Option ℕ) (e : ℕ) (m : InitialUeMessage (List ℕ)) → e < 128 → EntryInRange (entry_of e m)
+    → DestinationInRange (entry_routed o e m).destination
 entry_goes (Some slot) e m low fits = fits
 entry_goes None e m low fits = (stranger_id_below e m.enb_ue_id low fits.enb_ue_id, fits)
 
-enters_so : (n : Network) (ps : List Profile) (e : ℕ) (state : StationState) (m : InitialUeMessage (List ℕ)) → ((tas : List SupportedTa) → state ≡ Ready tas → e < 128)
+enters_so : (n : Network) (ps : List Profile) (e : ℕ) (state : StationState) (m : InitialUeMessage (List ℕ))
+    → ((tas : List SupportedTa) → state ≡ Ready tas → e < 128)
     → EntryInRange (entry_of e m) → DestinationInRange (enters n ps e state m).destination
 enters_so n ps e Down m low fits = tt
 enters_so n ps e Up m low fits = tt
@@ -62,11 +65,13 @@ of_slot : (o : Option ℕ) (m : UeMessage (List ℕ)) → MessageInRange m → D
 of_slot (Some slot) m fits = fits
 of_slot None m fits = tt
 
-by_id : (b : Bool) (o : Option ℕ) (m : UeMessage (List ℕ)) → MessageInRange m → DestinationInRange (cond b (message_of_slot o m) (goes_to (to.Stranger m))).destination
+by_id : (b : Bool) (o : Option ℕ) (m : UeMessage (List ℕ)) → MessageInRange m
+    → DestinationInRange (cond b (message_of_slot o m) (goes_to (to.Stranger m))).destination
 by_id true o m fits = of_slot o m fits
 by_id false o m fits = fits
 
-phone_goes : (ps : List Profile) (e : ℕ) (state : StationState) (o : Option (UeMessage (List ℕ))) → ((m : UeMessage (List ℕ)) → o ≡ Some m → MessageInRange m)
+phone_goes : (ps : List Profile) (e : ℕ) (state : StationState) (o : Option (UeMessage (List ℕ)))
+    → ((m : UeMessage (List ℕ)) → o ≡ Some m → MessageInRange m)
     → DestinationInRange (phone_message_if ps e state o).destination
 phone_goes ps e state None fits = tt
 phone_goes ps e Down (Some m) fits = tt
@@ -79,23 +84,28 @@ reset_goes e Up t = tt
 reset_goes e (Ready tas) (All a) = tt
 reset_goes e (Ready tas) (Part items) = tt
 
-set_up_goes : (b : Bool) (x y : Outcome) → DestinationInRange x.destination → DestinationInRange y.destination → DestinationInRange (cond b x y).destination
+set_up_goes : (b : Bool) (x y : Outcome) → DestinationInRange x.destination → DestinationInRange y.destination
+    → DestinationInRange (cond b x y).destination
 set_up_goes true x y h k = h
 set_up_goes false x y h k = k
 
 -- ---- by event
 
 module _ (entries : EntriesAreInRange) (messages : MessagesAreInRange) where
-  message_goes : (n : Network) (ps : List Profile) (e : ℕ) (state : StationState) (os : List ℕ) (p : Pdu (List ℕ)) → decoded os ≡ Ok p
-      → ((tas : List SupportedTa) → state ≡ Ready tas → e < 128) → DestinationInRange (outcome_of_message n ps e state p).destination
-  message_goes n ps e state os (pdu.S1SetupRequest m) is low = set_up_goes (broadcasts n.plmn m.supported_tas) (begins_anew e _ _) (begins_anew e _ _) tt tt
+  message_goes : (n : Network) (ps : List Profile) (e : ℕ) (state : StationState) (os : List ℕ) (p : Pdu (List ℕ))
+      → decoded os ≡ Ok p
+      → ((tas : List SupportedTa) → state ≡ Ready tas → e < 128)
+      → DestinationInRange (outcome_of_message n ps e state p).destination
+  message_goes n ps e state os (pdu.S1SetupRequest m) is low =
+      set_up_goes (broadcasts n.plmn m.supported_tas) (begins_anew e _ _) (begins_anew e _ _) tt tt
   message_goes n ps e state os (pdu.Reset m) is low = reset_goes e state m.reset_type
   message_goes n ps e state os (pdu.ErrorIndication m) is low = tt
   message_goes n ps e state os (pdu.ResetAcknowledge m) is low = tt
   message_goes n ps e state os (pdu.InitialUeMessage m) is low = enters_so n ps e state m low (entries os e m is)
   message_goes n ps e state os p is low = phone_goes ps e state (ue_message_in e p) (λ m told. messages os e p m is told)
 
-  octets_go : (n : Network) (ps : List Profile) (e : ℕ) (state : StationState) (os : List ℕ) (r : Result (Pdu (List ℕ)) S1apFault) → decoded os ≡ r
+  octets_go : (n : Network) (ps : List Profile) (e : ℕ) (state : StationState) (os : List ℕ) (r : Result (Pdu (List ℕ)) S1apFault)
+      → decoded os ≡ r
       → ((tas : List SupportedTa) → state ≡ Ready tas → e < 128) → DestinationInRange (outcome_of n ps e state r).destination
   octets_go n ps e state os (Ok p) is low = message_goes n ps e state os p is low
   octets_go n ps e state os (Err fault) is low = tt

@@ -17,7 +17,8 @@ use Rattle.laws_written.proofs.FitActions.{AreWritten}
 use Rattle.laws_written.proofs.Whole.{release_whole, send_whole}
 
 -- what is sent leaves the state
-solo_at : (o : Option Connection) (f : Connection → Draft) (d : Draft) → ((k : Connection) → (f k).solo ≡ d.solo) → (option_map_or f o d).solo ≡ d.solo
+solo_at : (o : Option Connection) (f : Connection → Draft) (d : Draft) → ((k : Connection) → (f k).solo ≡ d.solo)
+    → (option_map_or f o d).solo ≡ d.solo
 solo_at None f d h = refl
 solo_at (Some k) f d h = h k
 
@@ -38,7 +39,8 @@ module _ (written : AreWritten) where
       let nas = attach_reject cause esm in (
         send nas d,
         send_whole written d k nas range is (brief_attach_reject cause esm brief),
-        release_whole written (send nas d) k (causes.Nas NormalRelease) (range_behind nas d range) (connection_behind nas d k is) refl,
+        release_whole written (send nas d) k (causes.Nas NormalRelease) (range_behind nas d range)
+            (connection_behind nas d k is) refl,
       )
 
   pub not_authenticated_whole : NotAuthenticatedIsWhole
@@ -46,7 +48,8 @@ module _ (written : AreWritten) where
   not_authenticated_whole d k range is = (
     send authentication_reject d,
     send_whole written d k authentication_reject range is brief_authentication_reject,
-    release_whole written (send authentication_reject d) k (causes.Nas AuthenticationFailure) (range_behind authentication_reject d range) (connection_behind authentication_reject d k is) refl,
+    release_whole written (send authentication_reject d) k (causes.Nas AuthenticationFailure)
+        (range_behind authentication_reject d range) (connection_behind authentication_reject d k is) refl,
   )
 
   pub challenged_whole : ChallengedIsWhole
@@ -56,4 +59,5 @@ module _ (written : AreWritten) where
       let taken : Draft = record d { solo = record d.solo { phase = Authenticating; next_vector = place + 1 } } in
       let same : SoloInRange taken.solo =
       record { connection = range.connection; context = range.context; tai = range.tai; capability = range.capability; transaction = range.transaction; repeat = range.repeat } in
-      send_whole written taken k (authentication_request (place % 7) v.rand v.autn) same is (brief_authentication_request (place % 7) v.rand v.autn (omega arith) fits.rand fits.autn)
+      send_whole written taken k (authentication_request (place % 7) v.rand v.autn) same is
+      (brief_authentication_request (place % 7) v.rand v.autn (omega arith) fits.rand fits.autn)

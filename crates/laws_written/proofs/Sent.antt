@@ -41,14 +41,16 @@ use Rattle.laws_written.proofs.Listing.{short_part_acknowledge}
 answers : (station : ℕ) (message : Pdu (List ℕ)) → IsWritten message → AnswersWith station message (sent_to station message)
 answers station message w = (w.0, w.1, ap (answer_of station None) w.1)
 
-both : (station : ℕ) (first second : Pdu (List ℕ)) → IsWritten first → IsWritten second → AnswersWithBoth station first second (sent_to station first ++ sent_to station second)
+both : (station : ℕ) (first second : Pdu (List ℕ)) → IsWritten first → IsWritten second
+    → AnswersWithBoth station first second (sent_to station first ++ sent_to station second)
 both station first second v w =
     let one : Answer = record { station = station; octets = v.0; under = None } in (
       v.0,
       w.0,
       v.1,
       w.1,
-      ap (λ (o : Option (List ℕ)). answer_of station None o ++ sent_to station second) v.1 ∙ ap (λ (o : Option (List ℕ)). one ∷ answer_of station None o) w.1,
+      ap (λ (o : Option (List ℕ)). answer_of station None o ++ sent_to station second) v.1
+          ∙ ap (λ (o : Option (List ℕ)). one ∷ answer_of station None o) w.1,
     )
 
 -- ---- the messages for stations
@@ -103,7 +105,8 @@ module _ (short : ShortIsWritten) where
   set_up_by : (n : Network) (e : ℕ) (tas : List SupportedTa) (b : Bool) → broadcasts n.plmn tas ≡ b → NetworkInRange n
       → AnswersWith e (cond b (setup_response n) setup_failure) (station_set_up n e tas).sent
   set_up_by n e tas b is h =
-      subst (λ (c : Bool). AnswersWith e (cond c (setup_response n) setup_failure) (station_set_up n e tas).sent) is (set_up_if n e tas (broadcasts n.plmn tas) h)
+      subst (λ (c : Bool). AnswersWith e (cond c (setup_response n) setup_failure) (station_set_up n e tas).sent) is
+      (set_up_if n e tas (broadcasts n.plmn tas) h)
 
   pub setup_is_answered : SetupIsAnswered
   setup_is_answered n e tas h = (λ is. set_up_by n e tas true is h, λ is. set_up_by n e tas false is h)
@@ -112,37 +115,48 @@ module _ (short : ShortIsWritten) where
   reset_is_answered e tas a = answers e whole_acknowledge (short whole_acknowledge short_whole_acknowledge)
 
   part_answered : (e : ℕ) (items : ToReset) → ListInRange items → AnswersWith e (part_acknowledge items) (ends_listed e items).sent
-  part_answered e items fits = answers e (part_acknowledge items) (short (part_acknowledge items) (short_part_acknowledge items fits))
+  part_answered e items fits =
+      answers e (part_acknowledge items) (short (part_acknowledge items) (short_part_acknowledge items fits))
 
   pub part_reset_is_answered : ResetsAreInRange → PartResetIsAnswered
   part_reset_is_answered ranged os e tas m items is part =
-      subst (λ (t : ResetType). AnswersWith e (part_acknowledge items) (reset e (Ready tas) t).sent) (sym part) (part_answered e items (ranged os m items is part))
+      subst (λ (t : ResetType). AnswersWith e (part_acknowledge items) (reset e (Ready tas) t).sent) (sym part)
+      (part_answered e items (ranged os m items is part))
 
   fault_by : (e : ℕ) (o : Option Cause) (c : Cause) → o ≡ Some c → IsKnownIf o → AnswersWith e (indication c) (indicated e o)
   fault_by e None c is known = absurd (cc is)
-  fault_by e (Some d) c is known = subst (λ (x : Cause). AnswersWith e (indication x) (sent_to e (indication d))) (same_Some d c is) (answers e (indication d) (short (indication d) (short_indication d known)))
+  fault_by e (Some d) c is known =
+      subst (λ (x : Cause). AnswersWith e (indication x) (sent_to e (indication d))) (same_Some d c is)
+      (answers e (indication d) (short (indication d) (short_indication d known)))
 
   pub fault_is_answered : FaultIsAnswered
   fault_is_answered n ps e state fault c is = fault_by e (cause_of fault) c is (cause_known fault)
 
   pub incompatible_is_answered : IncompatibleIsAnswered
-  incompatible_is_answered e = answers e (indication (Protocol MessageNotCompatible)) (short (indication (Protocol MessageNotCompatible)) (short_indication (Protocol MessageNotCompatible) refl))
+  incompatible_is_answered e =
+      answers e (indication (Protocol MessageNotCompatible))
+      (short (indication (Protocol MessageNotCompatible)) (short_indication (Protocol MessageNotCompatible) refl))
 
 -- ---- a message with the id of nobody
 
 -- what written_messages' law says
 pub record TellsPhones : Type 0 where
   pub nas : (k : Connection) (nas : List ℕ) → ConnectionInRange k → IsBrief 15000 nas → IsWritten (downlink k nas)
-  pub release : (id enb_ue_id : ℕ) (c : Cause) → id < 2 ^ 32 → enb_ue_id < 2 ^ 24 → is_extended c ≡ false → IsWritten (release_command id enb_ue_id c)
-  pub indication : (id enb_ue_id : ℕ) (c : Cause) → id < 2 ^ 32 → enb_ue_id < 2 ^ 24 → is_extended c ≡ false → IsWritten (error_indication id enb_ue_id c)
-  pub not_switched : (id enb_ue_id : ℕ) (c : Cause) → id < 2 ^ 32 → enb_ue_id < 2 ^ 24 → is_extended c ≡ false → IsWritten (path_switch_failure id enb_ue_id c)
+  pub release : (id enb_ue_id : ℕ) (c : Cause) → id < 2 ^ 32 → enb_ue_id < 2 ^ 24 → is_extended c ≡ false
+      → IsWritten (release_command id enb_ue_id c)
+  pub indication : (id enb_ue_id : ℕ) (c : Cause) → id < 2 ^ 32 → enb_ue_id < 2 ^ 24 → is_extended c ≡ false
+      → IsWritten (error_indication id enb_ue_id c)
+  pub not_switched : (id enb_ue_id : ℕ) (c : Cause) → id < 2 ^ 32 → enb_ue_id < 2 ^ 24 → is_extended c ≡ false
+      → IsWritten (path_switch_failure id enb_ue_id c)
 
 module _ (tells : TellsPhones) where
   pub unknown_is_answered : UnknownIsAnswered
   unfolding unknown
   unknown_is_answered m bodies.UeContextReleaseComplete low less = refl
-  unknown_is_answered m bodies.PathSwitch low less = answers m.station _ (tells.not_switched m.mme_ue_id m.enb_ue_id (RadioNetwork UnknownMmeUeS1apId) low less refl)
-  unknown_is_answered m _ low less = answers m.station _ (tells.indication m.mme_ue_id m.enb_ue_id (RadioNetwork UnknownMmeUeS1apId) low less refl)
+  unknown_is_answered m bodies.PathSwitch low less =
+      answers m.station _ (tells.not_switched m.mme_ue_id m.enb_ue_id (RadioNetwork UnknownMmeUeS1apId) low less refl)
+  unknown_is_answered m _ low less =
+      answers m.station _ (tells.indication m.mme_ue_id m.enb_ue_id (RadioNetwork UnknownMmeUeS1apId) low less refl)
 
   -- ---- strangers
 
@@ -153,7 +167,8 @@ module _ (tells : TellsPhones) where
   pub refused_is_sent : RefusedIsSent
   unfolding refused released
   refused_is_sent k nas ids brief =
-      both k.station (downlink k nas) (release_command k.id k.enb_ue_id (Nas NormalRelease)) (tells.nas k nas ids brief) (tells.release k.id k.enb_ue_id (Nas NormalRelease) ids.id ids.enb_ue_id refl)
+      both k.station (downlink k nas) (release_command k.id k.enb_ue_id (Nas NormalRelease)) (tells.nas k nas ids brief)
+      (tells.release k.id k.enb_ue_id (Nas NormalRelease) ids.id ids.enb_ue_id refl)
 
   pub identity_asked_is_sent : IdentityAskedIsSent
   unfolding identity_asked identity_request

@@ -35,8 +35,10 @@ InputInRange id (inputs.Notes notice) = Unit {0}
 
 pub input_in_range : (d : Destination) (id : ℕ) → DestinationInRange d → InputInRange id (input_for d id)
 input_in_range (to.Beginner n m) id fits =
-    cond_both (n == id) (inputs.Begins m) inputs.Nothing (InputInRange id) (λ is. (subst (λ (k : ℕ). k < 2 ^ 32) (eqb-true n id is) fits.0, fits.1)) (λ is. tt)
-input_in_range (to.Stranger m) id fits = cond_both (m.mme_ue_id == id) (inputs.Receives m) inputs.Nothing (InputInRange id) (λ is. fits) (λ is. tt)
+    cond_both (n == id) (inputs.Begins m) inputs.Nothing (InputInRange id)
+    (λ is. (subst (λ (k : ℕ). k < 2 ^ 32) (eqb-true n id is) fits.0, fits.1)) (λ is. tt)
+input_in_range (to.Stranger m) id fits =
+    cond_both (m.mme_ue_id == id) (inputs.Receives m) inputs.Nothing (InputInRange id) (λ is. fits) (λ is. tt)
 input_in_range _ id fits = tt
 
 abbrev pub CallInRange : Option Call → Type 0
@@ -59,7 +61,8 @@ either id false h k = k
 
 -- ---- an INITIAL UE MESSAGE
 
-welcomed_so : (id : ℕ) (m : Entry (List ℕ)) (w : Welcome) → ItemInRange (Claim id m) → StrangerInRange id (welcomed id (as_kept m) w).stranger
+welcomed_so : (id : ℕ) (m : Entry (List ℕ)) (w : Welcome) → ItemInRange (Claim id m)
+    → StrangerInRange id (welcomed id (as_kept m) w).stranger
 unfolding welcomed
 welcomed_so id m Ask h = (h.0, record { enb_ue_id = h.1.enb_ue_id; nas = h.1.nas; tai = h.1.tai })
 welcomed_so id m (Refuse nas) h = tt
@@ -81,29 +84,36 @@ unfolding claimed_by
 claimed id n None k fits = closes id _
 claimed id n (Some slot) k fits = record { stranger = tt; call = fits }
 
-identified_so : (id n : ℕ) (o : Option (List ℕ)) (ps : List Profile) (k : KeptEntry) (s : Stranger) → ItemInRange (Claim n (as_entry k)) → StrangerInRange id (Some s) → TurnInRange id (identified o ps n k s)
+identified_so : (id n : ℕ) (o : Option (List ℕ)) (ps : List Profile) (k : KeptEntry) (s : Stranger)
+    → ItemInRange (Claim n (as_entry k)) → StrangerInRange id (Some s) → TurnInRange id (identified o ps n k s)
 unfolding identified
 identified_so id n None ps k s fits h = stays_so id (Some s) [] h
 identified_so id n (Some imsi) ps k s fits h = claimed id n (slot_of_imsi imsi ps) k fits
 
-own : (id n : ℕ) (body : UeBody (List ℕ)) (ps : List Profile) (k : KeptEntry) (s : Stranger) → ItemInRange (Claim n (as_entry k)) → StrangerInRange id (Some s) → TurnInRange id (receives_own body ps n k s)
+own : (id n : ℕ) (body : UeBody (List ℕ)) (ps : List Profile) (k : KeptEntry) (s : Stranger) → ItemInRange (Claim n (as_entry k))
+    → StrangerInRange id (Some s) → TurnInRange id (receives_own body ps n k s)
 unfolding receives_own
 own id n (Uplink nas tai) ps k s fits h = identified_so id n _ ps k s fits h
 own id n (UeContextReleaseRequest cause) ps k s fits h = closes id _
 own id n _ ps k s fits h = stays_so id (Some s) [] h
 
-paired : (id : ℕ) (ps : List Profile) (m : UeMessage (List ℕ)) (k : KeptEntry) (s : Stranger) → ItemInRange (Claim m.mme_ue_id (as_entry k)) → StrangerInRange id (Some s) → TurnInRange id (checked_for_pair ps m k s)
+paired : (id : ℕ) (ps : List Profile) (m : UeMessage (List ℕ)) (k : KeptEntry) (s : Stranger)
+    → ItemInRange (Claim m.mme_ue_id (as_entry k)) → StrangerInRange id (Some s) → TurnInRange id (checked_for_pair ps m k s)
 unfolding checked_for_pair
-paired id ps m k s fits h = either id (k.station == m.station && k.enb_ue_id == m.enb_ue_id) (own id m.mme_ue_id m.body ps k s fits h) (stays_so id (Some s) _ h)
+paired id ps m k s fits h =
+    either id (k.station == m.station && k.enb_ue_id == m.enb_ue_id) (own id m.mme_ue_id m.body ps k s fits h)
+    (stays_so id (Some s) _ h)
 
-waiting : (id : ℕ) (body : UeBody (List ℕ)) (ps : List Profile) (m : UeMessage (List ℕ)) (k : KeptEntry) (s : Stranger) → ItemInRange (Claim m.mme_ue_id (as_entry k)) → StrangerInRange id (Some s)
+waiting : (id : ℕ) (body : UeBody (List ℕ)) (ps : List Profile) (m : UeMessage (List ℕ)) (k : KeptEntry) (s : Stranger)
+    → ItemInRange (Claim m.mme_ue_id (as_entry k)) → StrangerInRange id (Some s)
     → TurnInRange id (receives_waiting body ps m k s)
 unfolding receives_waiting
 waiting id UeContextReleaseComplete ps m k s fits h = stays_so id (Some s) [] h
 waiting id PathSwitch ps m k s fits h = stays_so id (Some s) _ h
 waiting id _ ps m k s fits h = paired id ps m k s fits h
 
-received : (id : ℕ) (ps : List Profile) (s : Option Stranger) (m : UeMessage (List ℕ)) → MessageInRange m → StrangerInRange id s → TurnInRange id (receives ps s m)
+received : (id : ℕ) (ps : List Profile) (s : Option Stranger) (m : UeMessage (List ℕ)) → MessageInRange m → StrangerInRange id s
+    → TurnInRange id (receives ps s m)
 unfolding receives
 received id ps None m fits h = closes id _
 received id ps (Some (Waiting k left repeats)) m fits h = waiting id m.body ps m k (Waiting k left repeats) (fits.mme_ue_id, h.1) h
@@ -114,7 +124,9 @@ received id ps (Some (Held slot)) m fits h = record { stranger = tt; call = fits
 ticked : (id : ℕ) (s : Option Stranger) → StrangerInRange id s → TurnInRange id (ticks id s)
 unfolding ticks waits
 ticked id None h = stays_so id None [] tt
-ticked id (Some (Waiting k left repeats)) h = either id (nat_lt 1 left) (stays_so id (Some (Waiting k _ repeats)) [] h) (either id (nat_lt 0 repeats) (stays_so id (Some (Waiting k _ _)) _ h) (closes id _))
+ticked id (Some (Waiting k left repeats)) h =
+    either id (nat_lt 1 left) (stays_so id (Some (Waiting k _ repeats)) [] h)
+    (either id (nat_lt 0 repeats) (stays_so id (Some (Waiting k _ _)) _ h) (closes id _))
 ticked id (Some (Held slot)) h = stays_so id (Some (Held slot)) [] tt
 
 noted : (id : ℕ) (s : Option Stranger) (notice : Notice) → StrangerInRange id s → TurnInRange id (notes id s notice)
@@ -125,7 +137,8 @@ noted id s (Listed e items) h = either id (is_meant id e items) (closes id []) (
 
 -- ---- the turn
 
-pub turn_in_range : (ps : List Profile) (id : ℕ) (s : Option Stranger) (input : Input) → InputInRange id input → StrangerInRange id s → TurnInRange id (stranger_step ps id s input)
+pub turn_in_range : (ps : List Profile) (id : ℕ) (s : Option Stranger) (input : Input) → InputInRange id input
+    → StrangerInRange id s → TurnInRange id (stranger_step ps id s input)
 unfolding stranger_step
 turn_in_range ps id s inputs.Nothing fits h = stays_so id s [] h
 turn_in_range ps id s (inputs.Begins m) fits h = begun id s m fits

@@ -35,7 +35,8 @@ use Rattle.laws_written.proofs.Heard.{DecodedEsmIsSpelled, DecodedIsSpelled}
 
 -- ---- at a connection that is there
 
-with_some : {K : Type 0} (Q : Draft → Type 0) (f : K → Draft) (d : Draft) (o : Option K) (k : K) → o ≡ Some k → Q (f k) → Q (option_map_or f o d)
+with_some : {K : Type 0} (Q : Draft → Type 0) (f : K → Draft) (d : Draft) (o : Option K) (k : K) → o ≡ Some k → Q (f k)
+    → Q (option_map_or f o d)
 with_some Q f d o k is h = subst (λ (p : Option _). Q (option_map_or f p d)) (sym is) h
 
 with_false : (Q : Draft → Type 0) (b : Bool) (x y : Draft) → b ≡ false → Q y → Q (cond b x y)
@@ -44,7 +45,8 @@ with_false Q true x y is h = absurd (cc is)
 
 -- ---- the actions
 
-emit_whole : (d : Draft) (station : ℕ) (message : Pdu (List ℕ)) (under : Option Mark) → IsWritten message → SendsWhole station under message d (emit station message under d)
+emit_whole : (d : Draft) (station : ℕ) (message : Pdu (List ℕ)) (under : Option Mark) → IsWritten message
+    → SendsWhole station under message d (emit station message under d)
 unfolding emit
 emit_whole d station message under w = (w.0, w.1, ap (λ (o : Option (List ℕ)). d.sent ++ answer_of station under o) w.1)
 
@@ -53,14 +55,16 @@ module _ (written : AreWritten) where
   unfolding send
   send_whole d k nas range is brief =
       let ids = connection_at d.solo.connection k is range.connection in
-      with_some (SendsWhole k.station None (downlink k nas) d) (λ k. emit k.station (downlink k nas) None d) d d.solo.connection k is
+      with_some (SendsWhole k.station None (downlink k nas) d)
+      (λ k. emit k.station (downlink k nas) None d) d d.solo.connection k is
       (emit_whole d k.station (downlink k nas) None (written.nas k nas ids (brief_within brief (omega arith))))
 
   pub release_whole : ReleaseIsWhole
   unfolding release disconnected
   release_whole d k cause range is known =
       let ids = connection_at d.solo.connection k is range.connection in
-      with_some (SendsWhole k.station None (release_command k.id k.enb_ue_id cause) d) (λ k. disconnected (emit k.station (release_command k.id k.enb_ue_id cause) None d)) d d.solo.connection k is
+      with_some (SendsWhole k.station None (release_command k.id k.enb_ue_id cause) d)
+      (λ k. disconnected (emit k.station (release_command k.id k.enb_ue_id cause) None d)) d d.solo.connection k is
       (emit_whole d k.station (release_command k.id k.enb_ue_id cause) None (written.release k.id k.enb_ue_id cause ids.id ids.enb_ue_id known))
 
   pub leave_whole : LeaveIsWhole
@@ -86,7 +90,8 @@ module _ (written : AreWritten) where
       let between = emit station (downlink k nas) None (association_counted d) in (
         between,
         emit_whole (association_counted d) station (downlink k nas) None (written.nas k nas (record { id = low; enb_ue_id = less }) (brief_within brief (omega arith))),
-        emit_whole between station (release_command (next_id s.slot d) enb_ue_id (Nas NormalRelease)) None (written.release (next_id s.slot d) enb_ue_id (Nas NormalRelease) low less refl),
+        emit_whole between station (release_command (next_id s.slot d) enb_ue_id (Nas NormalRelease)) None
+            (written.release (next_id s.slot d) enb_ue_id (Nas NormalRelease) low less refl),
       )
 
   brief_if : (nas : Option (List ℕ)) → IsBriefIf 1100 nas → IsBriefIf 15000 nas
@@ -98,16 +103,19 @@ module _ (written : AreWritten) where
   set_up_whole s d k kenb nas under setting range is key brief =
       let ids = connection_at d.solo.connection k is range.connection in
       let message = context_setup s.network s.profile d.solo.asked.capability k kenb nas in
-      with_some (SendsWhole k.station under message d) (λ k. emit k.station (context_setup s.network s.profile d.solo.asked.capability k kenb nas) under d) d d.solo.connection k is
+      with_some (SendsWhole k.station under message d)
+      (λ k. emit k.station (context_setup s.network s.profile d.solo.asked.capability k kenb nas) under d) d d.solo.connection k is
       (emit_whole d k.station message under (written.set_up s.network s.profile d.solo.asked.capability k kenb nas setting.network setting.profile ids key (brief_if nas brief)))
 
   pub indicate_whole : IndicateIsWhole
   unfolding indicate
-  indicate_whole d m cause fits known = emit_whole d m.station _ None (written.indication m.mme_ue_id m.enb_ue_id cause fits.mme_ue_id fits.enb_ue_id known)
+  indicate_whole d m cause fits known =
+      emit_whole d m.station _ None (written.indication m.mme_ue_id m.enb_ue_id cause fits.mme_ue_id fits.enb_ue_id known)
 
   pub not_switched_whole : NotSwitchedIsWhole
   unfolding not_switched
-  not_switched_whole d m cause fits known = emit_whole d m.station _ None (written.not_switched m.mme_ue_id m.enb_ue_id cause fits.mme_ue_id fits.enb_ue_id known)
+  not_switched_whole d m cause fits known =
+      emit_whole d m.station _ None (written.not_switched m.mme_ue_id m.enb_ue_id cause fits.mme_ue_id fits.enb_ue_id known)
 
   pub switched_whole : SwitchedIsWhole
   unfolding switched
@@ -145,7 +153,8 @@ module _ (written : AreWritten) where
   record SealsBriefly (d : Draft) (o : Option (Sealed × Draft)) : Type 0 where
     at : (x : Sealed × Draft) → o ≡ Some x → (x.1.solo.connection ≡ d.solo.connection) × (x.1.sent ≡ d.sent) × IsBrief 1100 x.0.form
 
-  seals : (d : Draft) (x : Sealed) (f : Draft) → f.solo.connection ≡ d.solo.connection → f.sent ≡ d.sent → IsBrief 1100 x.form → SealsBriefly d (Some (x, f))
+  seals : (d : Draft) (x : Sealed) (f : Draft) → f.solo.connection ≡ d.solo.connection → f.sent ≡ d.sent → IsBrief 1100 x.form
+      → SealsBriefly d (Some (x, f))
   seals d x f connection sent brief =
       record { at = λ y is. subst (λ (z : Sealed × Draft). (z.1.solo.connection ≡ d.solo.connection) × (z.1.sent ≡ d.sent) × IsBrief 1100 z.0.form) (same_Some (x, f) y is) (connection, sent, brief) }
 
@@ -153,18 +162,22 @@ module _ (written : AreWritten) where
   seals_if true d o h = h
   seals_if false d o h = record { at = λ y is. absurd (cc is) }
 
-  seals_at : (header : SecurityHeader) (nas : List ℕ) (d : Draft) (o : Option Context) → d.solo.context ≡ o → SoloInRange d.solo → IsBrief 1000 nas
+  seals_at : (header : SecurityHeader) (nas : List ℕ) (d : Draft) (o : Option Context) → d.solo.context ≡ o → SoloInRange d.solo
+      → IsBrief 1000 nas
       → SealsBriefly d (option_map_or (sealed_under header nas d) o (Some (record { form = []; under = None }, d)))
-  seals_at header nas d None is range brief = seals d (record { form = []; under = None }) d refl refl (brief_within brief_none (omega arith))
+  seals_at header nas d None is range brief =
+      seals d (record { form = []; under = None }) d refl refl (brief_within brief_none (omega arith))
   seals_at header nas d (Some x) is range brief =
       let known : ContextInRange x = known_in d.solo.context x is range.context in
       seals_if _ d _ (seals d _ _ refl refl (brief_protected (mac_of x) x.security.down_next header nas (λ octets. brief_mac x.security.integrity known.integrity x.security.down_next Downlink octets) brief))
 
-  seal_briefly : (header : SecurityHeader) (nas : List ℕ) (d : Draft) → SoloInRange d.solo → IsBrief 1000 nas → SealsBriefly d (seal header nas d)
+  seal_briefly : (header : SecurityHeader) (nas : List ℕ) (d : Draft) → SoloInRange d.solo → IsBrief 1000 nas
+      → SealsBriefly d (seal header nas d)
   unfolding seal
   seal_briefly header nas d range brief = seals_at header nas d d.solo.context refl range brief
 
-  protect_by : (d e : Draft) (k : Connection) (o : Option (Sealed × Draft)) → ConnectionInRange k → d.solo.connection ≡ Some k → SealsBriefly d o
+  protect_by : (d e : Draft) (k : Connection) (o : Option (Sealed × Draft)) → ConnectionInRange k → d.solo.connection ≡ Some k
+      → SealsBriefly d o
       → (o >>= λ x. Some (option_map_or (λ k. emit k.station (downlink k x.0.form) x.0.under x.1) x.1.solo.connection x.1)) ≡ Some e
       → (x : Sealed) × (f : Draft) × (o ≡ Some (x, f)) × SendsWhole k.station x.under (downlink k x.form) d e
   protect_by d e k None ids is h same = absurd (cc same)
@@ -183,7 +196,8 @@ module _ (written : AreWritten) where
   pub protect_whole : ProtectIsWhole
   unfolding protect
   protect_whole d e k header nas range is brief same =
-      protect_by d e k (seal header nas d) (connection_at d.solo.connection k is range.connection) is (seal_briefly header nas d range brief) same
+      protect_by d e k (seal header nas d) (connection_at d.solo.connection k is range.connection) is
+      (seal_briefly header nas d range brief) same
 
   -- ---- over a run
 
@@ -193,7 +207,9 @@ module _ (written : AreWritten) where
 
   pub proved_were_challenged : DecodedIsSpelled → DecodedEsmIsSpelled → TheProvedWereChallenged
   proved_were_challenged spelled esm_spelled s solo items place setting h fits p =
-      let all = each_front (p.before ++ p.challenge ∷ p.between ++ p.response ∷ p.waiting) (p.completion ∷ p.since) (subst EachInRange p.whole fits) in
+      let all =
+      each_front (p.before ++ p.challenge ∷ p.between ++ p.response ∷ p.waiting) (p.completion ∷ p.since)
+      (subst EachInRange p.whole fits) in
       let most = each_front (p.before ++ p.challenge ∷ p.between) (p.response ∷ p.waiting) all.0 in
       let parts = each_front p.before (p.challenge ∷ p.between) most.0 in
       let before = stays_in_range written spelled esm_spelled s solo p.before setting h parts.0 in

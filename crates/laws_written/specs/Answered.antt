@@ -39,7 +39,8 @@ AnswersWith station message sent =
 abbrev pub AnswersWithBoth : ℕ → Pdu (List ℕ) → Pdu (List ℕ) → List Answer → Type 0
 AnswersWithBoth station first second sent =
     (one : List ℕ) × (two : List ℕ) × (encoded first ≡ Some one) × (encoded second ≡ Some two)
-    × (sent ≡ record { station = station; octets = one; under = None } ∷ record { station = station; octets = two; under = None } ∷ [])
+    × (sent ≡ record { station = station; octets = one; under = None } ∷ record { station = station; octets = two; under = None }
+    ∷ [])
 
 -- ---- stations (TS 36.413 clauses 8.7.3, 8.7.1, 8.7.2)
 
@@ -64,7 +65,8 @@ PartResetIsAnswered =
 -- octets that are no message, by the cause of their fault
 abbrev pub FaultIsAnswered : Type 0
 FaultIsAnswered =
-    (n : Network) (ps : List Profile) (e : ℕ) (state : StationState) (fault : S1apFault) (cause : Cause) → cause_of fault ≡ Some cause
+    (n : Network) (ps : List Profile) (e : ℕ) (state : StationState) (fault : S1apFault) (cause : Cause)
+    → cause_of fault ≡ Some cause
     → AnswersWith e (indication cause) (outcome_of n ps e state (Err fault)).sent
 
 -- a message that the station's state doesn't take
@@ -77,7 +79,8 @@ IncompatibleIsAnswered = (e : ℕ) → AnswersWith e (indication (Protocol Messa
 abbrev pub IsUnknownAnswered : UeMessage (List ℕ) → UeBody (List ℕ) → Type 0
 IsUnknownAnswered m bodies.UeContextReleaseComplete = unknown bodies.UeContextReleaseComplete m ≡ []
 IsUnknownAnswered m bodies.PathSwitch =
-    AnswersWith m.station (path_switch_failure m.mme_ue_id m.enb_ue_id (RadioNetwork UnknownMmeUeS1apId)) (unknown bodies.PathSwitch m)
+    AnswersWith m.station (path_switch_failure m.mme_ue_id m.enb_ue_id (RadioNetwork UnknownMmeUeS1apId))
+    (unknown bodies.PathSwitch m)
 IsUnknownAnswered m body =
     AnswersWith m.station (error_indication m.mme_ue_id m.enb_ue_id (RadioNetwork UnknownMmeUeS1apId)) (unknown body m)
 
@@ -98,4 +101,5 @@ RefusedIsSent =
     → AnswersWithBoth k.station (downlink k nas) (release_command k.id k.enb_ue_id (Nas NormalRelease)) (refused k nas)
 
 abbrev pub IdentityAskedIsSent : Type 0
-IdentityAskedIsSent = (k : Connection) → ConnectionInRange k → AnswersWith k.station (downlink k identity_request) (identity_asked k)
+IdentityAskedIsSent =
+    (k : Connection) → ConnectionInRange k → AnswersWith k.station (downlink k identity_request) (identity_asked k)

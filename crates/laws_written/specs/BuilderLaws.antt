@@ -68,32 +68,50 @@ pub short_downlink : (k : Connection) (nas : List ℕ) → ConnectionInRange k �
 unfolding downlink
 short_downlink k nas ids brief =
     let few : length nas ≤ 15000 = brief.few in
-    record { ranges = mme_then k.id _ ids.id (enb_then k.enb_ue_id _ ids.enb_ue_id (then_done _ brief.octets)); size = omega (arith, few) }
+    record {
+      ranges = mme_then k.id _ ids.id (enb_then k.enb_ue_id _ ids.enb_ue_id (then_done _ brief.octets));
+      size = omega (arith, few);
+    }
 
-pub short_release_command : (id enb_ue_id : ℕ) (c : Cause) → id < 2 ^ 32 → enb_ue_id < 2 ^ 24 → is_extended c ≡ false → IsShortMessage (release_command id enb_ue_id c)
+pub short_release_command : (id enb_ue_id : ℕ) (c : Cause) → id < 2 ^ 32 → enb_ue_id < 2 ^ 24 → is_extended c ≡ false
+    → IsShortMessage (release_command id enb_ue_id c)
 unfolding release_command
 short_release_command id enb_ue_id c low less known =
     let size : most_octets cause (typed_cause c) ≡ 22 = cause_size c in
-    record { ranges = and_from _ _ (mme_then id _ low (enb_then enb_ue_id _ less refl)) (then_done _ (cause_in_range c known)); size = omega (arith, size) }
+    record {
+      ranges = and_from _ _ (mme_then id _ low (enb_then enb_ue_id _ less refl)) (then_done _ (cause_in_range c known));
+      size = omega (arith, size);
+    }
 
-pub short_path_switch_failure : (id enb_ue_id : ℕ) (c : Cause) → id < 2 ^ 32 → enb_ue_id < 2 ^ 24 → is_extended c ≡ false → IsShortMessage (path_switch_failure id enb_ue_id c)
+pub short_path_switch_failure : (id enb_ue_id : ℕ) (c : Cause) → id < 2 ^ 32 → enb_ue_id < 2 ^ 24 → is_extended c ≡ false
+    → IsShortMessage (path_switch_failure id enb_ue_id c)
 unfolding path_switch_failure
 short_path_switch_failure id enb_ue_id c low less known =
     let size : most_octets cause (typed_cause c) ≡ 22 = cause_size c in
-    record { ranges = mme_then id _ low (enb_then enb_ue_id _ less (then_done _ (cause_in_range c known))); size = omega (arith, size) }
+    record {
+      ranges = mme_then id _ low (enb_then enb_ue_id _ less (then_done _ (cause_in_range c known)));
+      size = omega (arith, size);
+    }
 
-pub short_error_indication : (id enb_ue_id : ℕ) (c : Cause) → id < 2 ^ 32 → enb_ue_id < 2 ^ 24 → is_extended c ≡ false → IsShortMessage (error_indication id enb_ue_id c)
+pub short_error_indication : (id enb_ue_id : ℕ) (c : Cause) → id < 2 ^ 32 → enb_ue_id < 2 ^ 24 → is_extended c ≡ false
+    → IsShortMessage (error_indication id enb_ue_id c)
 unfolding error_indication
 short_error_indication id enb_ue_id c low less known =
     let size : most_octets cause (typed_cause c) ≡ 22 = cause_size c in
-    record { ranges = mme_then id _ low (enb_then enb_ue_id _ less (then_done _ (cause_in_range c known))); size = omega (arith, size) }
+    record {
+      ranges = mme_then id _ low (enb_then enb_ue_id _ less (then_done _ (cause_in_range c known)));
+      size = omega (arith, size);
+    }
 
-pub short_path_switch_acknowledge : (k : Connection) (hop : List ℕ) (count : ℕ) → ConnectionInRange k → AreBytes 32 hop → count < 8 → IsShortMessage (path_switch_acknowledge k hop count)
+pub short_path_switch_acknowledge : (k : Connection) (hop : List ℕ) (count : ℕ) → ConnectionInRange k → AreBytes 32 hop → count < 8
+    → IsShortMessage (path_switch_acknowledge k hop count)
 unfolding path_switch_acknowledge
 short_path_switch_acknowledge k hop count ids key low =
     let long : length hop ≡ 32 = bytes_long 32 hop key in
     record {
-      ranges = mme_then k.id _ ids.id (enb_then k.enb_ue_id _ ids.enb_ue_id (then_done _ (number_then 7 count _ (omega (arith, low)) (omega arith) (then_done _ key))));
+      ranges = mme_then k.id _ ids.id
+          (enb_then k.enb_ue_id _ ids.enb_ue_id
+          (then_done _ (number_then 7 count _ (omega (arith, low)) (omega arith) (then_done _ key))));
       size = omega (arith, long);
     }
 
@@ -103,7 +121,8 @@ below_then n b rest = and_from (ltb (n % 256) 256) b (lt-ltb (n % 256) 256 (omeg
 pub four_bytes : (n : ℕ) → AreBytes 4 (to_be_bytes w32 n)
 four_bytes n = below_then (n / 256 ^ 3) _ (below_then (n / 256 ^ 2) _ (below_then (n / 256 ^ 1) _ (below_then n true refl)))
 
-pub short_paging : (n : Network) (imsi : List ℕ) (tmsi : ℕ) (tai : Tai) → NetworkInRange n → TaiInRange tai → IsShortMessage (paging n imsi tmsi tai)
+pub short_paging : (n : Network) (imsi : List ℕ) (tmsi : ℕ) (tai : Tai) → NetworkInRange n → TaiInRange tai
+    → IsShortMessage (paging n imsi tmsi tai)
 unfolding paging
 short_paging n imsi tmsi tai network area =
     let code : length n.code ≡ 1 = bytes_long 1 n.code network.code in
@@ -111,7 +130,8 @@ short_paging n imsi tmsi tai network area =
     let tac : length tai.tac ≡ 2 = bytes_long 2 tai.tac area.tac in
     let four : length (to_be_bytes w32 tmsi) ≡ 4 = bytes_long 4 (to_be_bytes w32 tmsi) (four_bytes tmsi) in
     record {
-      ranges = and_from _ _ (and_from _ _ network.code (then_done _ (four_bytes tmsi))) (then_done _ (then_done _ (then_done _ (then_done _ (and_from _ _ area.plmn (then_done _ area.tac))))));
+      ranges = and_from _ _ (and_from _ _ network.code (then_done _ (four_bytes tmsi)))
+          (then_done _ (then_done _ (then_done _ (then_done _ (and_from _ _ area.plmn (then_done _ area.tac))))));
       size = omega (arith, code, plmn, tac, four);
     }
 
@@ -128,9 +148,11 @@ address_bits : (os : List ℕ) → AreBytes 4 os → length (octet_bits os) ≡ 
 address_bits os e = omega (arith, length-octet_bits os, bytes_long 4 os e)
 
 address_fits : (os : List ℕ) → AreBytes 4 os → number_fits 1 160 (length (octet_bits os)) ≡ true
-address_fits os e = let long : length (octet_bits os) ≡ 32 = address_bits os e in number_allowed 1 160 (length (octet_bits os)) (omega arith) (omega arith) (omega arith)
+address_fits os e = let long : length (octet_bits os) ≡ 32 = address_bits os e
+    in number_allowed 1 160 (length (octet_bits os)) (omega arith) (omega arith) (omega arith)
 
-pub short_context_setup : (n : Network) (p : Profile) (capability : List ℕ) (k : Connection) (kenb : List ℕ) (nas : Option (List ℕ)) → NetworkInRange n → ProfileInRange p → ConnectionInRange k
+pub short_context_setup : (n : Network) (p : Profile) (capability : List ℕ) (k : Connection) (kenb : List ℕ) (nas : Option (List ℕ))
+    → NetworkInRange n → ProfileInRange p → ConnectionInRange k
     → AreBytes 32 kenb → IsBriefIf 15000 nas → IsShortMessage (context_setup n p capability k kenb nas)
 unfolding context_setup
 short_context_setup n p capability k kenb nas network profile ids key brief =
@@ -140,9 +162,12 @@ short_context_setup n p capability k kenb nas network profile ids key brief =
     let few : most_of_optional (most_octets octet_string) nas ≤ 15004 = optional_few nas brief in
     record {
       ranges = mme_then k.id _ ids.id (enb_then k.enb_ue_id _ ids.enb_ue_id
-          (and_from _ _ (number_then 10000000000 n.down _ network.down (omega arith) (number_then 10000000000 n.up _ network.up (omega arith) refl))
+          (and_from _ _ (number_then 10000000000 n.down _ network.down (omega arith)
+          (number_then 10000000000 n.up _ network.up (omega arith) refl))
           (and_from _ _
-          (then_done _ (then_done _ (and_from _ _ (address_fits p.gateway profile.gateway) (and_from _ _ profile.teid (then_done _ (optional_in_range nas brief))))))
+          (then_done _ (then_done _
+          (and_from _ _ (address_fits p.gateway profile.gateway)
+          (and_from _ _ profile.teid (then_done _ (optional_in_range nas brief))))))
           (then_done _ key))));
       size = omega (arith, key_long, teid_long, address_long, few);
     }

@@ -24,14 +24,20 @@ unfolding digest_bytes
 digest_long h zero = refl
 digest_long h (suc n) =
     let before = digest_long h n in
-    omega (arith, before, bytes_long 4 (to_be_bytes w32 (slice_index h n)) (four_bytes (slice_index h n)), length-append (digest_bytes h n) (to_be_bytes w32 (slice_index h n)))
+    omega (
+      arith,
+      before,
+      bytes_long 4 (to_be_bytes w32 (slice_index h n)) (four_bytes (slice_index h n)),
+      length-append (digest_bytes h n) (to_be_bytes w32 (slice_index h n)),
+    )
 
 digest_below : (h : List ℕ) (n : ℕ) → all_below 256 (digest_bytes h n) ≡ true
 unfolding digest_bytes
 digest_below h zero = refl
 digest_below h (suc n) =
     let word = to_be_bytes w32 (slice_index h n) in
-    below_append (digest_bytes h n) word (digest_below h n) (and_parts (eqb (length word) 4) (all_below 256 word) (four_bytes (slice_index h n))).1
+    below_append (digest_bytes h n) word (digest_below h n)
+    (and_parts (eqb (length word) 4) (all_below 256 word) (four_bytes (slice_index h n))).1
 
 digest_bytes_are : (h : List ℕ) → AreBytes 32 (digest_bytes h 8)
 digest_bytes_are h = and_from (eqb (length (digest_bytes h 8)) 32) _ (eq-eqb _ 32 (digest_long h 8)) (digest_below h 8)
@@ -60,7 +66,8 @@ pub integrity_key_below : (kasme : List ℕ) → all_below 256 (nas_integrity_ke
 unfolding nas_integrity_key
 integrity_key_below kasme =
     let m = 0x15 ∷ parameters ((2 ∷ []) ∷ (2 ∷ []) ∷ []) in
-    below_drop 16 (hmac_sha256 kasme m) (and_parts (eqb (length (hmac_sha256 kasme m)) 32) (all_below 256 (hmac_sha256 kasme m)) (hmac_bytes kasme m)).1
+    below_drop 16 (hmac_sha256 kasme m)
+    (and_parts (eqb (length (hmac_sha256 kasme m)) 32) (all_below 256 (hmac_sha256 kasme m)) (hmac_bytes kasme m)).1
 
 -- ---- the cipher
 
@@ -72,7 +79,9 @@ more_below x os p q = and_from (ltb x 256) (all_below 256 os) (lt-ltb x 256 p) q
 
 word_below : (f : ℕ → ℕ) → ((i : ℕ) → f i < 256) → all_below 256 (word_of f) ≡ true
 word_below f h =
-    let four : IsBrief 4 (word_of f) = brief_more (lt-ltb (f 0) 256 (h 0)) (brief_more (lt-ltb (f 1) 256 (h 1)) (brief_more (lt-ltb (f 2) 256 (h 2)) (brief_more (lt-ltb (f 3) 256 (h 3)) brief_none))) in
+    let four : IsBrief 4 (word_of f) =
+    brief_more (lt-ltb (f 0) 256 (h 0))
+    (brief_more (lt-ltb (f 1) 256 (h 1)) (brief_more (lt-ltb (f 2) 256 (h 2)) (brief_more (lt-ltb (f 3) 256 (h 3)) brief_none))) in
     four.octets
 
 block_below : (f : ℕ → ℕ) → ((i : ℕ) → f i < 256) → all_below 256 (block_of f) ≡ true
@@ -88,18 +97,23 @@ block_below f h =
 remainder : (n : ℕ) → n % 2 < 2
 remainder n = omega arith
 
-eight_bits : (a b c d e f g h : ℕ) → a < 2 → b < 2 → c < 2 → d < 2 → e < 2 → f < 2 → g < 2 → h < 2 → a + 2 * b + 4 * c + 8 * d + 16 * e + 32 * f + 64 * g + 128 * h < 256
+eight_bits : (a b c d e f g h : ℕ) → a < 2 → b < 2 → c < 2 → d < 2 → e < 2 → f < 2 → g < 2 → h < 2
+    → a + 2 * b + 4 * c + 8 * d + 16 * e + 32 * f + 64 * g + 128 * h < 256
 eight_bits a b c d e f g h p q r s t u v w = omega arith
 
 substitute_below : (a : ℕ) → substitute a < 256
 unfolding substitute
-substitute_below a = eight_bits _ _ _ _ _ _ _ _ (remainder _) (remainder _) (remainder _) (remainder _) (remainder _) (remainder _) (remainder _) (remainder _)
+substitute_below a =
+    eight_bits _ _ _ _ _ _ _ _ (remainder _) (remainder _) (remainder _) (remainder _) (remainder _) (remainder _) (remainder _)
+    (remainder _)
 
 xor_words_below : (a b : List ℕ) → all_below 256 a ≡ true → all_below 256 b ≡ true → all_below 256 (xor_words a b) ≡ true
-xor_words_below a b p q = word_below (λ i. bit_xor (slice_index a i) (slice_index b i)) (λ i. xor_below _ _ (below_at a i p) (below_at b i q))
+xor_words_below a b p q =
+    word_below (λ i. bit_xor (slice_index a i) (slice_index b i)) (λ i. xor_below _ _ (below_at a i p) (below_at b i q))
 
 xor_blocks_below : (a b : List ℕ) → all_below 256 a ≡ true → all_below 256 b ≡ true → all_below 256 (xor_blocks a b) ≡ true
-xor_blocks_below a b p q = block_below (λ i. bit_xor (slice_index a i) (slice_index b i)) (λ i. xor_below _ _ (below_at a i p) (below_at b i q))
+xor_blocks_below a b p q =
+    block_below (λ i. bit_xor (slice_index a i) (slice_index b i)) (λ i. xor_below _ _ (below_at a i p) (below_at b i q))
 
 part_below : (k : List ℕ) (j : ℕ) → all_below 256 k ≡ true → all_below 256 (word k j) ≡ true
 part_below k j p = word_below (λ i. slice_index k (4 * j + i)) (λ i. below_at k (4 * j + i) p)
@@ -120,34 +134,42 @@ next_key_below c k low p =
     let two = xor_words_below (word k 1) first (part_below k 1 p) one in
     let three = xor_words_below (word k 2) second (part_below k 2 p) two in
     let four = xor_words_below (word k 3) third (part_below k 3 p) three in
-    below_append first (second ++ third ++ fourth) one (below_append second (third ++ fourth) two (below_append third fourth three four))
+    below_append first (second ++ third ++ fourth) one
+    (below_append second (third ++ fourth) two (below_append third fourth three four))
 
 last_round_below : (s k : List ℕ) → all_below 256 k ≡ true → all_below 256 (last_round s k) ≡ true
 unfolding last_round
 last_round_below s k p =
-    let substituted : all_below 256 (sub_bytes s) ≡ true = block_below (λ i. substitute (slice_index s i)) (λ i. substitute_below _) in
-    let shifted : all_below 256 (shift_rows (sub_bytes s)) ≡ true = block_below (λ i. slice_index (sub_bytes s) ((i + 4 * (i % 4)) % 16)) (λ i. below_at (sub_bytes s) _ substituted) in
+    let substituted : all_below 256 (sub_bytes s) ≡ true =
+    block_below (λ i. substitute (slice_index s i)) (λ i. substitute_below _) in
+    let shifted : all_below 256 (shift_rows (sub_bytes s)) ≡ true =
+    block_below (λ i. slice_index (sub_bytes s) ((i + 4 * (i % 4)) % 16)) (λ i. below_at (sub_bytes s) _ substituted) in
     xor_blocks_below (shift_rows (sub_bytes s)) k shifted p
 
-rounds_below : (cs k s : List ℕ) → all_below 256 cs ≡ true → all_below 256 k ≡ true → all_below 256 (rounds (keys_from cs k) s) ≡ true
+rounds_below : (cs k s : List ℕ) → all_below 256 cs ≡ true → all_below 256 k ≡ true
+    → all_below 256 (rounds (keys_from cs k) s) ≡ true
 unfolding rounds keys_from
 rounds_below [] k s low p = last_round_below s k p
 rounds_below (c ∷ []) k s low p = last_round_below (round s k) (next_key c k) (next_key_below c k (below_at (c ∷ []) 0 low) p)
 rounds_below (c ∷ d ∷ cs) k s low p =
-    rounds_below (d ∷ cs) (next_key c k) (round s k) (and_parts (ltb c 256) (all_below 256 (d ∷ cs)) low).1 (next_key_below c k (below_at (c ∷ d ∷ cs) 0 low) p)
+    rounds_below (d ∷ cs) (next_key c k) (round s k) (and_parts (ltb c 256) (all_below 256 (d ∷ cs)) low).1
+    (next_key_below c k (below_at (c ∷ d ∷ cs) 0 low) p)
 
 aes_below : (key block : List ℕ) → all_below 256 key ≡ true → all_below 256 (aes key block) ≡ true
 unfolding aes keys_from
-aes_below key block p = rounds_below (drop 1 round_constants) (next_key 1 key) (xor_blocks block key) refl (next_key_below 1 key (omega arith) p)
+aes_below key block p =
+    rounds_below (drop 1 round_constants) (next_key 1 key) (xor_blocks block key) refl (next_key_below 1 key (omega arith) p)
 
 below_take : (n : ℕ) (os : List ℕ) → all_below 256 os ≡ true → all_below 256 (take n os) ≡ true
 below_take zero os e = refl
 below_take (suc n) [] e = refl
-below_take (suc n) (o ∷ os) e = let parts = and_parts (ltb o 256) (all_below 256 os) e in and_from (ltb o 256) _ parts.0 (below_take n os parts.1)
+below_take (suc n) (o ∷ os) e =
+    let parts = and_parts (ltb o 256) (all_below 256 os) e in and_from (ltb o 256) _ parts.0 (below_take n os parts.1)
 
 first_four : (os : List ℕ) → all_below 256 os ≡ true → IsBrief 16 (take 4 os)
 first_four os e = record { few = omega (arith, length-take 4 os); octets = below_take 4 os e }
 
-pub brief_mac : (key : List ℕ) → all_below 256 key ≡ true → (count : ℕ) (direction : DirectionBit) (octets : List ℕ) → IsBrief 16 (eia2 key count direction octets)
+pub brief_mac : (key : List ℕ) → all_below 256 key ≡ true → (count : ℕ) (direction : DirectionBit) (octets : List ℕ)
+    → IsBrief 16 (eia2 key count direction octets)
 unfolding cmac_from
 brief_mac key p count direction octets = first_four _ (aes_below key _ p)

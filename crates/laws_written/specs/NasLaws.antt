@@ -37,7 +37,8 @@ pub brief_none : IsBrief 0 []
 brief_none = record { few = omega arith; octets = refl }
 
 pub brief_more : {n x : ℕ} {os : List ℕ} → ltb x 256 ≡ true → IsBrief n os → IsBrief (1 + n) (x ∷ os)
-brief_more {x = x} {os = os} e h = let few = h.few in record { few = omega (arith, few); octets = and_from (ltb x 256) (all_below 256 os) e h.octets }
+brief_more {x = x} {os = os} e h =
+    let few = h.few in record { few = omega (arith, few); octets = and_from (ltb x 256) (all_below 256 os) e h.octets }
 
 pub brief_within : {a b : ℕ} {os : List ℕ} → IsBrief a os → a ≤ b → IsBrief b os
 brief_within h le = let few = h.few in record { few = omega (arith, few, le); octets = h.octets }
@@ -95,15 +96,20 @@ esm_code_below _ = refl
 
 pub brief_attach_reject : (cause : EmmCause) (esm : Option (List ℕ)) → IsBriefIf 200 esm → IsBrief 1000 (attach_reject cause esm)
 unfolding attach_reject rule_of
-brief_attach_reject cause None brief = brief_within (brief_more refl (brief_more refl (brief_more (emm_code_below cause) brief_none))) (omega arith)
+brief_attach_reject cause None brief =
+    brief_within (brief_more refl (brief_more refl (brief_more (emm_code_below cause) brief_none))) (omega arith)
 brief_attach_reject cause (Some esm) brief =
-    brief_within (brief_more refl (brief_more refl (brief_more (emm_code_below cause) (brief_more refl (brief_append (brief_wide brief (omega arith)) brief_none))))) (omega arith)
+    brief_within (brief_more refl
+    (brief_more refl (brief_more (emm_code_below cause)
+    (brief_more refl (brief_append (brief_wide brief (omega arith)) brief_none))))) (omega arith)
 
-pub brief_authentication_request : (ksi : ℕ) (rand autn : List ℕ) → ksi < 7 → AreBytes 16 rand → AreBytes 16 autn → IsBrief 1000 (authentication_request ksi rand autn)
+pub brief_authentication_request : (ksi : ℕ) (rand autn : List ℕ) → ksi < 7 → AreBytes 16 rand → AreBytes 16 autn
+    → IsBrief 1000 (authentication_request ksi rand autn)
 unfolding authentication_request
 brief_authentication_request ksi rand autn low r a =
     brief_within (brief_more refl (brief_more refl (brief_more (lt-ltb (0 * 16 + ksi) 256 (omega (arith, low)))
-    (brief_append (brief_append (brief_bytes r) (brief_append (brief_short (brief_bytes a) (omega arith)) brief_none)) brief_none)))) (omega arith)
+    (brief_append (brief_append (brief_bytes r)
+    (brief_append (brief_short (brief_bytes a) (omega arith)) brief_none)) brief_none)))) (omega arith)
 
 pub brief_authentication_reject : IsBrief 1000 authentication_reject
 unfolding authentication_reject
@@ -119,27 +125,34 @@ brief_network_detach = record { few = omega arith; octets = refl }
 
 pub brief_emm_status : (cause : EmmCause) → IsBrief 1000 (emm_status cause)
 unfolding emm_status
-brief_emm_status cause = brief_within (brief_more refl (brief_more refl (brief_more (emm_code_below cause) brief_none))) (omega arith)
+brief_emm_status cause =
+    brief_within (brief_more refl (brief_more refl (brief_more (emm_code_below cause) brief_none))) (omega arith)
 
 pub brief_service_reject : (cause : EmmCause) → IsBrief 1000 (service_reject cause)
 unfolding service_reject
-brief_service_reject cause = brief_within (brief_more refl (brief_more refl (brief_more (emm_code_below cause) brief_none))) (omega arith)
+brief_service_reject cause =
+    brief_within (brief_more refl (brief_more refl (brief_more (emm_code_below cause) brief_none))) (omega arith)
 
 pub brief_update_reject : (cause : EmmCause) → IsBrief 1000 (update_reject cause)
 unfolding update_reject
-brief_update_reject cause = brief_within (brief_more refl (brief_more refl (brief_more (emm_code_below cause) brief_none))) (omega arith)
+brief_update_reject cause =
+    brief_within (brief_more refl (brief_more refl (brief_more (emm_code_below cause) brief_none))) (omega arith)
 
 brief_replayed_if : (b : Bool) (os : List ℕ) → all_below 256 os ≡ true
-    → IsBrief 4 (cond b (slice_index os 0 ∷ slice_index os 1 ∷ slice_index os 2 ∷ (slice_index os 3 % 128) ∷ []) (slice_index os 0 ∷ slice_index os 1 ∷ []))
+    → IsBrief 4 (cond b (slice_index os 0 ∷ slice_index os 1 ∷ slice_index os 2 ∷ (slice_index os 3 % 128) ∷ [])
+    (slice_index os 0 ∷ slice_index os 1 ∷ []))
 brief_replayed_if true os e =
-    brief_more (at_below os 0 e) (brief_more (at_below os 1 e) (brief_more (at_below os 2 e) (brief_more (lt-ltb (slice_index os 3 % 128) 256 (omega arith)) brief_none)))
+    brief_more (at_below os 0 e)
+    (brief_more (at_below os 1 e)
+    (brief_more (at_below os 2 e) (brief_more (lt-ltb (slice_index os 3 % 128) 256 (omega arith)) brief_none)))
 brief_replayed_if false os e = brief_within (brief_more (at_below os 0 e) (brief_more (at_below os 1 e) brief_none)) (omega arith)
 
 brief_replayed : (os : List ℕ) → all_below 256 os ≡ true → IsBrief 4 (replayed os)
 unfolding replayed
 brief_replayed os e = brief_replayed_if (leb 4 (length os)) os e
 
-pub brief_security_mode_command : (ksi : ℕ) (capability : List ℕ) → ksi < 7 → all_below 256 capability ≡ true → IsBrief 1000 (security_mode_command ksi capability)
+pub brief_security_mode_command : (ksi : ℕ) (capability : List ℕ) → ksi < 7 → all_below 256 capability ≡ true
+    → IsBrief 1000 (security_mode_command ksi capability)
 unfolding security_mode_command
 brief_security_mode_command ksi capability low e =
     brief_within (brief_more refl (brief_more refl (brief_more refl (brief_more (lt-ltb (0 * 16 + ksi) 256 (omega (arith, low)))
@@ -147,7 +160,8 @@ brief_security_mode_command ksi capability low e =
 
 -- the three octets of a network as NAS has them
 brief_plmn_if : (b : Bool) (os : List ℕ) → IsBrief 3 os
-    → IsBrief 3 (cond b os (slice_index os 0 ∷ (slice_index os 2 / 16 * 16 + slice_index os 1 % 16) ∷ (slice_index os 2 % 16 * 16 + slice_index os 1 / 16) ∷ []))
+    → IsBrief 3 (cond b os (slice_index os 0 ∷ (slice_index os 2 / 16 * 16 + slice_index os 1 % 16)
+    ∷ (slice_index os 2 % 16 * 16 + slice_index os 1 / 16) ∷ []))
 brief_plmn_if true os h = h
 brief_plmn_if false os h =
     let one = below_at os 1 h.octets in
@@ -165,7 +179,9 @@ brief_guti n tmsi h =
     let code : IsBrief 1 n.code = brief_bytes h.code in
     let group : IsBrief 2 n.group = brief_bytes h.group in
     let number : IsBrief 4 (to_be_bytes w32 tmsi) = brief_bytes (four_bytes tmsi) in
-    brief_within (brief_more refl (brief_append (brief_append (brief_plmn n.plmn h.plmn) group) (brief_more (at_below n.code 0 code.octets) number))) (omega arith)
+    brief_within (brief_more refl
+    (brief_append (brief_append (brief_plmn n.plmn h.plmn) group) (brief_more (at_below n.code 0 code.octets) number)))
+    (omega arith)
 
 brief_tai_list : (tai : Tai) → TaiInRange tai → IsBrief 6 (tai_list_octets (tai_list tai))
 unfolding tai_list_octets
@@ -177,50 +193,68 @@ unfolding rule_of
 brief_combined true = record { few = omega arith; octets = refl }
 brief_combined false = record { few = omega arith; octets = refl }
 
-pub brief_attach_accept : (n : Network) (g : Grant) (esm : List ℕ) → NetworkInRange n → TaiInRange g.tai → IsBrief 200 esm → IsBrief 1000 (attach_accept n g esm)
+pub brief_attach_accept : (n : Network) (g : Grant) (esm : List ℕ) → NetworkInRange n → TaiInRange g.tai → IsBrief 200 esm
+    → IsBrief 1000 (attach_accept n g esm)
 unfolding attach_accept rule_of
 brief_attach_accept n g esm network area brief =
     brief_within (brief_more refl (brief_more refl (brief_append
-    (brief_more refl (brief_more refl (brief_append (brief_short (brief_tai_list g.tai area) (omega arith)) (brief_append (brief_wide brief (omega arith)) brief_none))))
-    (brief_append (brief_more refl (brief_short (brief_guti n g.tmsi network) (omega arith))) (brief_append (brief_combined g.combined) brief_none))))) (omega arith)
+    (brief_more refl (brief_more refl
+    (brief_append (brief_short (brief_tai_list g.tai area) (omega arith))
+    (brief_append (brief_wide brief (omega arith)) brief_none))))
+    (brief_append (brief_more refl (brief_short (brief_guti n g.tmsi network) (omega arith)))
+    (brief_append (brief_combined g.combined) brief_none))))) (omega arith)
 
 pub brief_update_accept : (n : Network) (g : Grant) → NetworkInRange n → TaiInRange g.tai → IsBrief 1000 (update_accept n g)
 unfolding update_accept rule_of
 brief_update_accept n g network area =
     brief_within (brief_more refl (brief_more refl (brief_more refl (brief_more refl (brief_more refl
     (brief_append (brief_more refl (brief_short (brief_guti n g.tmsi network) (omega arith)))
-    (brief_append (brief_more refl (brief_short (brief_tai_list g.tai area) (omega arith))) (brief_append (brief_combined g.combined) brief_none)))))))) (omega arith)
+    (brief_append (brief_more refl (brief_short (brief_tai_list g.tai area) (omega arith)))
+    (brief_append (brief_combined g.combined) brief_none)))))))) (omega arith)
 
 -- ---- session management
 
-pub brief_information_request : (session : Session) → transaction_of session.request < 256 → IsBrief 200 (information_request session)
+pub brief_information_request : (session : Session) → transaction_of session.request < 256
+    → IsBrief 200 (information_request session)
 unfolding information_request
-brief_information_request session low = brief_within (brief_more refl (brief_more (lt-ltb (transaction_of session.request) 256 low) (brief_more refl brief_none))) (omega arith)
+brief_information_request session low =
+    brief_within (brief_more refl (brief_more (lt-ltb (transaction_of session.request) 256 low) (brief_more refl brief_none)))
+    (omega arith)
 
-pub brief_connectivity_reject : (cause : EsmCause) (transaction : ℕ) → transaction < 256 → IsBrief 200 (connectivity_reject cause transaction)
+pub brief_connectivity_reject : (cause : EsmCause) (transaction : ℕ) → transaction < 256
+    → IsBrief 200 (connectivity_reject cause transaction)
 unfolding connectivity_reject
 brief_connectivity_reject cause transaction low =
-    brief_within (brief_more refl (brief_more (lt-ltb transaction 256 low) (brief_more refl (brief_more (esm_code_below cause) brief_none)))) (omega arith)
+    brief_within
+    (brief_more refl (brief_more (lt-ltb transaction 256 low) (brief_more refl (brief_more (esm_code_below cause) brief_none))))
+    (omega arith)
 
 pub brief_disconnect_reject : (transaction : ℕ) → transaction < 256 → IsBrief 200 (disconnect_reject transaction)
 unfolding disconnect_reject
-brief_disconnect_reject transaction low = brief_within (brief_more refl (brief_more (lt-ltb transaction 256 low) (brief_more refl (brief_more refl brief_none)))) (omega arith)
+brief_disconnect_reject transaction low =
+    brief_within (brief_more refl (brief_more (lt-ltb transaction 256 low) (brief_more refl (brief_more refl brief_none))))
+    (omega arith)
 
-pub brief_esm_status : (cause : EsmCause) (bearer transaction : ℕ) → bearer < 16 → transaction < 256 → IsBrief 200 (status cause bearer transaction)
+pub brief_esm_status : (cause : EsmCause) (bearer transaction : ℕ) → bearer < 16 → transaction < 256
+    → IsBrief 200 (status cause bearer transaction)
 unfolding status
 brief_esm_status cause bearer transaction less low =
-    brief_within (brief_more (lt-ltb (bearer * 16 + 2) 256 (omega (arith, less))) (brief_more (lt-ltb transaction 256 low) (brief_more refl (brief_more (esm_code_below cause) brief_none)))) (omega arith)
+    brief_within (brief_more (lt-ltb (bearer * 16 + 2) 256 (omega (arith, less)))
+    (brief_more (lt-ltb transaction 256 low) (brief_more refl (brief_more (esm_code_below cause) brief_none)))) (omega arith)
 
 brief_dual : (dual : Bool) → IsBrief 2 (write_optional Esm 0x58 (address_cause dual))
 unfolding rule_of
 brief_dual true = record { few = omega arith; octets = refl }
 brief_dual false = record { few = omega arith; octets = refl }
 
-pub brief_activation : (session : Session) (apn address : List ℕ) → transaction_of session.request < 256 → IsBrief 63 apn → AreBytes 4 address → IsBrief 200 (activation session apn address)
+pub brief_activation : (session : Session) (apn address : List ℕ) → transaction_of session.request < 256 → IsBrief 63 apn
+    → AreBytes 4 address → IsBrief 200 (activation session apn address)
 unfolding activation
 brief_activation session apn address low name bytes =
     brief_within (brief_more refl (brief_more (lt-ltb (transaction_of session.request) 256 low) (brief_more refl (brief_append
-    (brief_more refl (brief_more refl (brief_append (brief_short (brief_short name (omega arith)) (omega arith)) (brief_more refl (brief_more refl (brief_append (brief_bytes bytes) brief_none))))))
+    (brief_more refl (brief_more refl
+    (brief_append (brief_short (brief_short name (omega arith)) (omega arith))
+    (brief_more refl (brief_more refl (brief_append (brief_bytes bytes) brief_none))))))
     (brief_append (brief_dual (is_dual session.request)) brief_none))))) (omega arith)
 
 -- ---- protected
@@ -231,8 +265,11 @@ header_below IntegrityProtectedCiphered = refl
 header_below NewContext = refl
 header_below NewContextCiphered = refl
 
-pub brief_protected : (mac : Mac) (count : ℕ) (header : SecurityHeader) (nas : List ℕ) → ((octets : List ℕ) → IsBrief 16 (mac count Downlink octets)) → IsBrief 1000 nas
+pub brief_protected : (mac : Mac) (count : ℕ) (header : SecurityHeader) (nas : List ℕ)
+    → ((octets : List ℕ) → IsBrief 16 (mac count Downlink octets)) → IsBrief 1000 nas
     → IsBrief 1100 (protected_by mac count header nas)
 unfolding protected_by protected_form
 brief_protected mac count header nas brief h =
-    brief_within (brief_more (header_below header) (brief_append (brief _) (brief_more (lt-ltb (count % 2 ^ 8) 256 (omega arith)) h))) (omega arith)
+    brief_within
+    (brief_more (header_below header) (brief_append (brief _) (brief_more (lt-ltb (count % 2 ^ 8) 256 (omega arith)) h)))
+    (omega arith)

@@ -54,6 +54,7 @@ items_of_run config p events slot = projection slot (fresh_world config p).sight
 -- and at each of those
 abbrev pub AloneStepsAreInRange : Type 0
 AloneStepsAreInRange =
-    (config : Config) (p : Provisioned) (events : List Event) (slot : ℕ) (x : SubscriberView) (before since : List Item) (item : Item)
+    (config : Config) (p : Provisioned) (events : List Event) (slot : ℕ) (x : SubscriberView) (before since : List Item)
+    (item : Item)
     → IsProvisionedInRange config p → slice_get (fresh_world config p).subscribers slot ≡ Some x
     → items_of_run config p events slot ≡ before ++ item ∷ since → StepInRange (alone_after x before) item

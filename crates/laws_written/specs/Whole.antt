@@ -68,7 +68,8 @@ LeaveIsWhole =
 abbrev pub TurnAwayIsWhole : Type 0
 TurnAwayIsWhole =
     (s : Setting) (d : Draft) (station enb_ue_id : ℕ) → SettingInRange s → enb_ue_id < 2 ^ 24
-    → SendsWhole station None (release_command (next_id s.slot d) enb_ue_id (Nas NormalRelease)) d (turn_away s.slot station enb_ue_id d)
+    → SendsWhole station None (release_command (next_id s.slot d) enb_ue_id (Nas NormalRelease)) d
+    (turn_away s.slot station enb_ue_id d)
 
 -- the refusal of a phone, and the release behind it
 abbrev pub RefuseIsWhole : Type 0
@@ -84,7 +85,8 @@ abbrev pub SetUpIsWhole : Type 0
 SetUpIsWhole =
     (s : Setting) (d : Draft) (k : Connection) (kenb : List ℕ) (nas : Option (List ℕ)) (under : Option Mark) → SettingInRange s
     → SoloInRange d.solo → d.solo.connection ≡ Some k → AreBytes 32 kenb → IsBriefIf 1100 nas
-    → SendsWhole k.station under (context_setup s.network s.profile d.solo.asked.capability k kenb nas) d (set_up s kenb nas under d)
+    → SendsWhole k.station under (context_setup s.network s.profile d.solo.asked.capability k kenb nas) d
+    (set_up s kenb nas under d)
 
 -- PAGING to each of the stations
 abbrev pub PageIsWhole : Type 0
@@ -156,4 +158,6 @@ TheProvedWereChallenged =
 
 -- each message that a step in range builds is sent: none is without a written form
 abbrev pub EveryMessageIsSent : Type 0
-EveryMessageIsSent = (s : Setting) (solo : Solo) (item : Item) → SettingInRange s → SoloInRange solo → ItemInRange item → (solo_step s solo item).unwritten ≡ false
+EveryMessageIsSent =
+    (s : Setting) (solo : Solo) (item : Item) → SettingInRange s → SoloInRange solo → ItemInRange item
+    → (solo_step s solo item).unwritten ≡ false

@@ -48,7 +48,8 @@ pub fn phone_messages_are_written()
 /// Each NAS message of mobility management that is built of parts in range has at most 1000 octets, where the ESM message in it has
 /// at most 200 (TS 24.301 clause 8.2).
 pub fn nas_messages_are_brief()
-    ensures attach_rejected { (cause : EmmCause) (esm : Option (List ℕ)) → IsBriefIf 200 esm → IsBrief 1000 (attach_reject cause esm) }
+    ensures attach_rejected { (cause : EmmCause) (esm : Option (List ℕ)) → IsBriefIf 200 esm
+        → IsBrief 1000 (attach_reject cause esm) }
     ensures challenge { (ksi : ℕ) (v : Vector) → ksi < 7 → VectorInRange v
         → IsBrief 1000 (authentication_request ksi v.rand v.autn) }
     ensures not_authenticated { IsBrief 1000 authentication_reject }

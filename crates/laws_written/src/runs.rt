@@ -21,8 +21,8 @@ pub fn runs_are_in_range()
 }
 
 /// At every step of every slot over such a run the setting, the state before it, its item and the state behind it are in range: so
-/// the laws of one subscriber's machine apply to it, and each message that it builds is sent. By the event that comes next in a run,
-/// and by the slot's items alone.
+/// the laws of one subscriber's machine apply to it, and each message that it builds is sent. By the event that comes next in a
+/// run, and by the slot's items alone.
 pub fn steps_are_in_range()
     ensures next { StepsAreInRange }
     ensures alone { AloneStepsAreInRange }
@@ -41,8 +41,8 @@ pub fn challenges_are_sent()
     proved_were_challenged();
 }
 
-/// Over such a run whatever a stranger is told is sent: IDENTITY REQUEST, a refusal, the release of its association, and what answers
-/// a message with the id of nobody or from elsewhere (TS 24.301 clause 5.4.4, TS 36.413 clause 10.6).
+/// Over such a run whatever a stranger is told is sent: IDENTITY REQUEST, a refusal, the release of its association, and what
+/// answers a message with the id of nobody or from elsewhere (TS 24.301 clause 5.4.4, TS 36.413 clause 10.6).
 pub fn strangers_are_told()
     ensures begins { BeginnersAreTold }
     ensures sends { SendersAreAnswered }

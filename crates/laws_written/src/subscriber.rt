@@ -44,8 +44,8 @@ pub fn actions_send_whole()
     phone_messages_are_written();
 }
 
-/// What a refused attach, a challenge and a wrong response send on the phone's connection, in order; and the cause of a release that
-/// a station asks for is one that is written (TS 24.301 clauses 5.5.1.2.5, 5.4.2).
+/// What a refused attach, a challenge and a wrong response send on the phone's connection, in order; and the cause of a release
+/// that a station asks for is one that is written (TS 24.301 clauses 5.5.1.2.5, 5.4.2).
 pub fn rows_send_whole()
     ensures attach_refused { AttachRefusedIsWhole }
     ensures challenged { ChallengedIsWhole }

@@ -35,19 +35,23 @@ due_known ks h = all_give_as_ending (known_sent Tick) ks h quiet_sent ∙ each_g
 pub none_known : (notice : Notice) (ks : List Known) → is_of_station notice ≡ true → each_known notice ks ≡ []
 none_known notice [] h = refl
 none_known notice (k ∷ ks) h =
-    ap (λ sent. map (stranger_out k.id) sent ++ each_known notice ks) (station_silent k.id (Some k.stranger) notice h) ∙ none_known notice ks h
+    ap (λ sent. map (stranger_out k.id) sent ++ each_known notice ks) (station_silent k.id (Some k.stranger) notice h)
+    ∙ none_known notice ks h
 
 -- ---- one of them
 
-found_by : (id : ℕ) (s : Stranger) (o : Option Known) (ks : List Known) → at known_id id ks ≡ o → option_map (λ (k : Known). k.stranger) o ≡ Some s
+found_by : (id : ℕ) (s : Stranger) (o : Option Known) (ks : List Known) → at known_id id ks ≡ o
+    → option_map (λ (k : Known). k.stranger) o ≡ Some s
     → option_map_or (known_sent Tick) o [] ≡ map (stranger_out id) (notes id (Some s) Tick).sent
 found_by id s None ks h q = absurd cc
 found_by id s (Some k) ks h q =
     let own : k.id ≡ id = at_key known_id id k ks h in
     let same : k.stranger ≡ s = cc in
-    ap (λ i. map (stranger_out i) (notes i (Some k.stranger) Tick).sent) own ∙ ap (λ x. map (stranger_out id) (notes id (Some x) Tick).sent) same
+    ap (λ i. map (stranger_out i) (notes i (Some k.stranger) Tick).sent) own
+    ∙ ap (λ x. map (stranger_out id) (notes id (Some x) Tick).sent) same
 
-pub found_sent : (id : ℕ) (s : Stranger) (ks : List Known) → stranger_at id ks ≡ Some s → option_map_or (known_sent Tick) (at known_id id ks) [] ≡ map (stranger_out id) (notes id (Some s) Tick).sent
+pub found_sent : (id : ℕ) (s : Stranger) (ks : List Known) → stranger_at id ks ≡ Some s
+    → option_map_or (known_sent Tick) (at known_id id ks) [] ≡ map (stranger_out id) (notes id (Some s) Tick).sent
 found_sent id s ks q = found_by id s (at known_id id ks) ks refl q
 
 none_by : (o : Option Known) → option_map (λ (k : Known). k.stranger) o ≡ None → option_map_or (known_sent Tick) o [] ≡ []

@@ -39,12 +39,14 @@ module _ (kept : StaysClocked) (runs : ClockedRuns) where
       subst (λ (e : Draft). IsCounting e.solo) is (counting_after w item h.2)
   counting_if (suc slot) item (w ∷ ws) d h at = counting_if slot item ws d h.3 at
 
-  pub counting_at : (slot : ℕ) (item : Item) (ws : List SubscriberView) (d : Draft) → AreInUse ws → step_at slot item ws ≡ Some d → IsCounting d.solo
+  pub counting_at : (slot : ℕ) (item : Item) (ws : List SubscriberView) (d : Draft) → AreInUse ws → step_at slot item ws ≡ Some d
+      → IsCounting d.solo
   counting_at slot item ws d h at = counting_if slot item ws d h at
 
 -- ---- each is that of a subscriber, and they are as many as before
 
-fit_each : (m : ℕ) (xs : List SteppedView) → Every (λ k. k < m) (slots_stepped xs) → Every (λ (x : SteppedView). IsCounting x.solo) xs → AreFit m xs
+fit_each : (m : ℕ) (xs : List SteppedView) → Every (λ k. k < m) (slots_stepped xs)
+    → Every (λ (x : SteppedView). IsCounting x.solo) xs → AreFit m xs
 fit_each m [] h k = tt
 fit_each m (x ∷ xs) h k = ((h.0, k.0), fit_each m xs h.1 k.1)
 
@@ -52,7 +54,8 @@ pub slots_many : (xs : List SteppedView) → length (slots_stepped xs) ≡ lengt
 slots_many [] = refl
 slots_many (x ∷ xs) = ap suc (slots_many xs)
 
-pub touched_fit : (item : Item) (xs : List SteppedView) (ws : List SubscriberView) → slots_stepped xs ≡ touched_slots item ws → Every (λ (x : SteppedView). IsCounting x.solo) xs
+pub touched_fit : (item : Item) (xs : List SteppedView) (ws : List SubscriberView) → slots_stepped xs ≡ touched_slots item ws
+    → Every (λ (x : SteppedView). IsCounting x.solo) xs
     → AreFit (length ws) xs × (length xs ≤ length ws)
 touched_fit item xs ws touched k =
     let many = slots_many xs in
@@ -61,19 +64,23 @@ touched_fit item xs ws touched k =
 
 -- ---- one alone is called
 
-stepped_at : {P : Type 0} (item : Item) (s : Solo) (o : Option SubscriberView) → option_map (λ (d : Draft). d.solo) (option_map (λ v. subscriber_step v item) o) ≡ Some s
+stepped_at : {P : Type 0} (item : Item) (s : Solo) (o : Option SubscriberView)
+    → option_map (λ (d : Draft). d.solo) (option_map (λ v. subscriber_step v item) o) ≡ Some s
     → ((w : SubscriberView) → o ≡ Some w → (subscriber_step w item).solo ≡ s → P) → P
 stepped_at item s None h k = absurd (cc)
 stepped_at item s (Some w) h k = let is : (subscriber_step w item).solo ≡ s = cc in k w refl is
 
-pub called_after : (slot : ℕ) (item : Item) (ws : List SubscriberView) (s : Solo) → solo_at slot item ws ≡ Some s → with_solo slot s ws ≡ each_after (for_one slot item) 0 ws
+pub called_after : (slot : ℕ) (item : Item) (ws : List SubscriberView) (s : Solo) → solo_at slot item ws ≡ Some s
+    → with_solo slot s ws ≡ each_after (for_one slot item) 0 ws
 called_after slot item ws s h = stepped_at item s (slice_get ws slot) h (λ w at is.
     ap (λ (o : Option SubscriberView). option_map_or (λ v. slice_set ws slot (in_state s v)) o ws) at
     ∙ ap (λ (t : Solo). slice_set ws slot (in_state t w)) (sym is) ∙ after_call slot item ws w at)
 
-pub called_sends : (slot : ℕ) (item : Item) (ws : List SubscriberView) (s : Solo) → solo_at slot item ws ≡ Some s → sent_at slot item ws ≡ each_sent (for_one slot item) 0 ws
+pub called_sends : (slot : ℕ) (item : Item) (ws : List SubscriberView) (s : Solo) → solo_at slot item ws ≡ Some s
+    → sent_at slot item ws ≡ each_sent (for_one slot item) 0 ws
 called_sends slot item ws s h = stepped_at item s (slice_get ws slot) h (λ w at is.
-    ap (λ (o : Option SubscriberView). option_map_or (λ v. map (slot_out slot) (subscriber_step v item).sent) o []) at ∙ sends_call slot item ws w at)
+    ap (λ (o : Option SubscriberView). option_map_or (λ v. map (slot_out slot) (subscriber_step v item).sent) o []) at
+    ∙ sends_call slot item ws w at)
 
 -- ---- what some do is what all do: at a tick those who are due, at a notice of a station those whom it touches
 
@@ -83,20 +90,24 @@ quiet_gives n w e = ap (map (slot_out n)) (quiet_sent w e)
 still_gives : (item : Item) (n : ℕ) (w : SubscriberView) → still w.solo item ≡ true → item_sent item n w ≡ []
 still_gives item n w h = ap (λ (d : Draft). map (slot_out n) d.sent) (still_stays w.setting w.solo item h)
 
-each_gives_sent : (item : Item) (n : ℕ) (ws : List SubscriberView) → each_gives (item_sent item) n ws ≡ each_sent (for_all item) n ws
+each_gives_sent : (item : Item) (n : ℕ) (ws : List SubscriberView)
+    → each_gives (item_sent item) n ws ≡ each_sent (for_all item) n ws
 each_gives_sent item n [] = refl
 each_gives_sent item n (w ∷ ws) = ap (λ os. item_sent item n w ++ os) (each_gives_sent item (n + 1) ws)
 
 pub due_send : (ws : List SubscriberView) → some_give (item_sent Tick) (due_slots ws) ws ≡ each_sent (for_all Tick) 0 ws
 due_send ws = all_give_as_due (item_sent Tick) ws quiet_gives ∙ each_gives_sent Tick 0 ws
 
-pub touched_send : (item : Item) (ws : List SubscriberView) → some_give (item_sent item) (touched_slots item ws) ws ≡ each_sent (for_all item) 0 ws
+pub touched_send : (item : Item) (ws : List SubscriberView)
+    → some_give (item_sent item) (touched_slots item ws) ws ≡ each_sent (for_all item) 0 ws
 touched_send item ws = all_give_as_touched item (item_sent item) ws (still_gives item) ∙ each_gives_sent item 0 ws
 
-pub ticks_all : (xs : List SteppedView) (ws : List SubscriberView) → slots_stepped xs ≡ due_slots ws → Every (IsStepped Tick ws) xs → tick_settled xs ws ≡ each_after (for_all Tick) 0 ws
+pub ticks_all : (xs : List SteppedView) (ws : List SubscriberView) → slots_stepped xs ≡ due_slots ws → Every (IsStepped Tick ws) xs
+    → tick_settled xs ws ≡ each_after (for_all Tick) 0 ws
 ticks_all xs ws due h = tick_is_of_all xs ws due h
 
-pub touches_all : (item : Item) (xs : List SteppedView) (ws : List SubscriberView) → slots_stepped xs ≡ touched_slots item ws → Every (IsStepped item ws) xs
+pub touches_all : (item : Item) (xs : List SteppedView) (ws : List SubscriberView) → slots_stepped xs ≡ touched_slots item ws
+    → Every (IsStepped item ws) xs
     → with_stepped xs ws ≡ each_after (for_all item) 0 ws
 touches_all item xs ws touched h = touched_is_of_all item xs ws touched h
 

@@ -33,7 +33,8 @@ item_other slot m item ne = grind (arith, nat_tests)
 
 -- ---- as many subscribers as before
 
-solo_many_if : (n : ℕ) (s : Solo) (ws : List SubscriberView) (o : Option SubscriberView) → length (option_map_or (λ w. slice_set ws n (in_state s w)) o ws) ≡ length ws
+solo_many_if : (n : ℕ) (s : Solo) (ws : List SubscriberView) (o : Option SubscriberView)
+    → length (option_map_or (λ w. slice_set ws n (in_state s w)) o ws) ≡ length ws
 solo_many_if n s ws None = refl
 solo_many_if n s ws (Some w) = length-set ws n (in_state s w)
 

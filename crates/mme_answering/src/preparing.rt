@@ -72,7 +72,8 @@ fn prepare_each(
     ensures slots { IfOk result (λ xs. slots_stepped xs.items ≡ called.now) }
     ensures stepped { IfOk result (λ xs. Every (IsStepped (item_of event.now stations.now) subscribers.old.subscribers) xs.items) }
     ensures counting { IfOk result (λ xs. Every (λ (x : Stepped). IsCounting x.solo) xs.items) }
-    ensures sends { OnOk result (outs.new ≡ outs.old ++ some_give (item_sent (item_of event.now stations.now)) called.now subscribers.old.subscribers) }
+    ensures sends { OnOk result
+        (outs.new ≡ outs.old ++ some_give (item_sent (item_of event.now stations.now)) called.now subscribers.old.subscribers) }
     ensures same { subscribers.new ≡ subscribers.old }
 {
     let mut stepped = Vec::new(alloc);
@@ -93,9 +94,12 @@ fn prepare_one(
     outs: &mut Outs,
 ) -> Result<Option<Stepped>, AllocError>
     requires { AreInUse subscribers.old.subscribers }
-    ensures after { IfOk result (λ x. with_one x subscribers.old.subscribers ≡ each_after (for_one slot (item_of event.now stations.now)) 0 subscribers.old.subscribers) }
+    ensures after { IfOk result
+        (λ x. with_one x subscribers.old.subscribers
+        ≡ each_after (for_one slot (item_of event.now stations.now)) 0 subscribers.old.subscribers) }
     ensures fits { IfOk result (λ x. IsFitIf (length subscribers.old.subscribers) x) }
-    ensures sends { OnOk result (outs.new ≡ outs.old ++ each_sent (for_one slot (item_of event.now stations.now)) 0 subscribers.old.subscribers) }
+    ensures sends { OnOk result
+        (outs.new ≡ outs.old ++ each_sent (for_one slot (item_of event.now stations.now)) 0 subscribers.old.subscribers) }
     ensures same { subscribers.new ≡ subscribers.old }
 {
     let place = slot.get() as usize;
@@ -116,9 +120,12 @@ fn prepare_called(
     outs: &mut Outs,
 ) -> Result<Option<Stepped>, AllocError>
     requires { AreInUse subscribers.old.subscribers }
-    ensures after { IfOk result (λ x. with_one x subscribers.old.subscribers ≡ each_after (if_called (call_of stations.now call.now)) 0 subscribers.old.subscribers) }
+    ensures after { IfOk result
+        (λ x. with_one x subscribers.old.subscribers
+        ≡ each_after (if_called (call_of stations.now call.now)) 0 subscribers.old.subscribers) }
     ensures fits { IfOk result (λ x. IsFitIf (length subscribers.old.subscribers) x) }
-    ensures sends { OnOk result (outs.new ≡ outs.old ++ each_sent (if_called (call_of stations.now call.now)) 0 subscribers.old.subscribers) }
+    ensures sends { OnOk result
+        (outs.new ≡ outs.old ++ each_sent (if_called (call_of stations.now call.now)) 0 subscribers.old.subscribers) }
     ensures same { subscribers.new ≡ subscribers.old }
 {
     match call {
@@ -141,9 +148,15 @@ fn prepare_turn(
     outs: &mut Outs,
 ) -> Result<Prepared, AllocError>
     requires { AreInUse subscribers.old.subscribers }
-    ensures sends { OnOk result (outs.new ≡ outs.old ++ (map (stranger_out id) turn.entry.sent ++ each_sent (if_called (call_of stations.now turn.entry.call)) 0 subscribers.old.subscribers)) }
-    ensures strangers { IfOk result (λ p. (ks : List Known) → settled_strangers p ks ≡ with_stranger id (after_of turn.entry.after (stranger_at id ks)) ks) }
-    ensures subscribers { IfOk result (λ p. settled_subscribers p subscribers.old.subscribers ≡ each_after (if_called (call_of stations.now turn.entry.call)) 0 subscribers.old.subscribers) }
+    ensures sends { OnOk result
+        (outs.new ≡ outs.old
+        ++ (map (stranger_out id) turn.entry.sent
+        ++ each_sent (if_called (call_of stations.now turn.entry.call)) 0 subscribers.old.subscribers)) }
+    ensures strangers { IfOk result
+        (λ p. (ks : List Known) → settled_strangers p ks ≡ with_stranger id (after_of turn.entry.after (stranger_at id ks)) ks) }
+    ensures subscribers { IfOk result
+        (λ p. settled_subscribers p subscribers.old.subscribers
+        ≡ each_after (if_called (call_of stations.now turn.entry.call)) 0 subscribers.old.subscribers) }
     ensures fits { IfOk result (λ p. IsFor p subscribers.old.subscribers) }
     ensures passing { IfOk result (λ p. (d : DestinationInSpecs) → IsPassing d p) }
     ensures same { subscribers.new ≡ subscribers.old }
@@ -170,9 +183,13 @@ fn prepare_tick(
 ) -> Result<Prepared, AllocError>
     requires tick { item_of event.now stations.now ≡ items.Tick }
     requires in_use { AreInUse subscribers.old.subscribers }
-    ensures sends { OnOk result (outs.new ≡ outs.old ++ (each_known notices.Tick strangers.now.strangers ++ each_sent (for_all items.Tick) 0 subscribers.old.subscribers)) }
-    ensures strangers { IfOk result (λ p. settled_strangers p strangers.now.strangers ≡ noted notices.Tick strangers.now.strangers) }
-    ensures subscribers { IfOk result (λ p. settled_subscribers p subscribers.old.subscribers ≡ each_after (for_all items.Tick) 0 subscribers.old.subscribers) }
+    ensures sends { OnOk result
+        (outs.new ≡ outs.old
+        ++ (each_known notices.Tick strangers.now.strangers ++ each_sent (for_all items.Tick) 0 subscribers.old.subscribers)) }
+    ensures strangers { IfOk result
+        (λ p. settled_strangers p strangers.now.strangers ≡ noted notices.Tick strangers.now.strangers) }
+    ensures subscribers { IfOk result
+        (λ p. settled_subscribers p subscribers.old.subscribers ≡ each_after (for_all items.Tick) 0 subscribers.old.subscribers) }
     ensures fits { IfOk result (λ p. IsFor p subscribers.old.subscribers) }
     ensures passing { IfOk result (λ p. IsPassing (Everyone notices.Tick) p) }
     ensures same { subscribers.new ≡ subscribers.old }
@@ -222,9 +239,13 @@ fn prepare_all(
     requires station { is_of_station notice.now ≡ true }
     requires event { item_of event.now stations.now ≡ item_of_notice notice.now }
     requires in_use { AreInUse subscribers.old.subscribers }
-    ensures sends { OnOk result (outs.new ≡ outs.old ++ each_sent (for_all (item_of_notice notice.now)) 0 subscribers.old.subscribers) }
-    ensures subscribers { IfOk result (λ xs. with_stepped xs.items subscribers.old.subscribers ≡ each_after (for_all (item_of_notice notice.now)) 0 subscribers.old.subscribers) }
-    ensures fits { IfOk result (λ xs. AreFit (length subscribers.old.subscribers) xs.items × (length xs.items ≤ length subscribers.old.subscribers)) }
+    ensures sends { OnOk result
+        (outs.new ≡ outs.old ++ each_sent (for_all (item_of_notice notice.now)) 0 subscribers.old.subscribers) }
+    ensures subscribers { IfOk result
+        (λ xs. with_stepped xs.items subscribers.old.subscribers
+        ≡ each_after (for_all (item_of_notice notice.now)) 0 subscribers.old.subscribers) }
+    ensures fits { IfOk result
+        (λ xs. AreFit (length subscribers.old.subscribers) xs.items × (length xs.items ≤ length subscribers.old.subscribers)) }
     ensures same { subscribers.new ≡ subscribers.old }
 {
     let touched = touched_by(subscribers, notice)?;
@@ -244,12 +265,17 @@ fn prepare_beginner(
     outs: &mut Outs,
 ) -> Result<Prepared, AllocError>
     requires { AreInUse subscribers.old.subscribers }
-    ensures sends { OnOk result (outs.new ≡ outs.old ++ (map (stranger_out id) (begins id (stranger_at id strangers.now.strangers) (entry_lists entry.now)).sent
-        ++ each_sent (if_called (begins id (stranger_at id strangers.now.strangers) (entry_lists entry.now)).call) 0 subscribers.old.subscribers)) }
+    ensures sends { OnOk result
+        (outs.new ≡ outs.old
+        ++ (map (stranger_out id) (begins id (stranger_at id strangers.now.strangers) (entry_lists entry.now)).sent
+        ++ each_sent (if_called
+        (begins id (stranger_at id strangers.now.strangers) (entry_lists entry.now)).call) 0 subscribers.old.subscribers)) }
     ensures strangers { IfOk result (λ p. settled_strangers p strangers.now.strangers
-        ≡ with_stranger id (begins id (stranger_at id strangers.now.strangers) (entry_lists entry.now)).stranger strangers.now.strangers) }
+        ≡ with_stranger id (begins id (stranger_at id strangers.now.strangers)
+        (entry_lists entry.now)).stranger strangers.now.strangers) }
     ensures subscribers { IfOk result (λ p. settled_subscribers p subscribers.old.subscribers
-        ≡ each_after (if_called (begins id (stranger_at id strangers.now.strangers) (entry_lists entry.now)).call) 0 subscribers.old.subscribers) }
+        ≡ each_after (if_called
+        (begins id (stranger_at id strangers.now.strangers) (entry_lists entry.now)).call) 0 subscribers.old.subscribers) }
     ensures fits { IfOk result (λ p. IsFor p subscribers.old.subscribers) }
     ensures passing { IfOk result (λ p. (d : DestinationInSpecs) → IsPassing d p) }
     ensures same { subscribers.new ≡ subscribers.old }
@@ -270,12 +296,22 @@ fn prepare_stranger(
     outs: &mut Outs,
 ) -> Result<Prepared, AllocError>
     requires { AreInUse subscribers.old.subscribers }
-    ensures sends { OnOk result (outs.new ≡ outs.old ++ (map (stranger_out message.now.mme_ue_id) (receives provision.now.profiles (stranger_at message.now.mme_ue_id strangers.now.strangers) (message_lists message.now)).sent
-        ++ each_sent (if_called (receives provision.now.profiles (stranger_at message.now.mme_ue_id strangers.now.strangers) (message_lists message.now)).call) 0 subscribers.old.subscribers)) }
+    ensures sends { OnOk result
+        (outs.new ≡ outs.old
+        ++ (map (stranger_out message.now.mme_ue_id)
+        (receives provision.now.profiles (stranger_at message.now.mme_ue_id strangers.now.strangers)
+        (message_lists message.now)).sent
+        ++ each_sent (if_called
+        (receives provision.now.profiles (stranger_at message.now.mme_ue_id strangers.now.strangers)
+        (message_lists message.now)).call) 0 subscribers.old.subscribers)) }
     ensures strangers { IfOk result (λ p. settled_strangers p strangers.now.strangers
-        ≡ with_stranger message.now.mme_ue_id (receives provision.now.profiles (stranger_at message.now.mme_ue_id strangers.now.strangers) (message_lists message.now)).stranger strangers.now.strangers) }
+        ≡ with_stranger message.now.mme_ue_id
+        (receives provision.now.profiles (stranger_at message.now.mme_ue_id strangers.now.strangers)
+        (message_lists message.now)).stranger strangers.now.strangers) }
     ensures subscribers { IfOk result (λ p. settled_subscribers p subscribers.old.subscribers
-        ≡ each_after (if_called (receives provision.now.profiles (stranger_at message.now.mme_ue_id strangers.now.strangers) (message_lists message.now)).call) 0 subscribers.old.subscribers) }
+        ≡ each_after (if_called
+        (receives provision.now.profiles (stranger_at message.now.mme_ue_id strangers.now.strangers)
+        (message_lists message.now)).call) 0 subscribers.old.subscribers) }
     ensures fits { IfOk result (λ p. IsFor p subscribers.old.subscribers) }
     ensures passing { IfOk result (λ p. (d : DestinationInSpecs) → IsPassing d p) }
     ensures same { subscribers.new ≡ subscribers.old }
@@ -297,11 +333,17 @@ fn prepare_own<'a>(
 ) -> Result<Prepared, AllocError>
     requires own { is_own destination.now ≡ true }
     requires in_use { AreInUse subscribers.old.subscribers }
-    ensures sends { OnOk result (outs.new ≡ outs.old ++ (strangers_sent provision.now.profiles (destination_of stations.now destination.now) strangers.entry.now.strangers
-        ++ each_sent (item_at (destination_of stations.now destination.now) provision.now.profiles (λ id. stranger_at id strangers.entry.now.strangers)) 0 subscribers.old.subscribers)) }
-    ensures strangers { IfOk result (λ p. settled_strangers p strangers.entry.now.strangers ≡ strangers_behind provision.now.profiles (destination_of stations.now destination.now) strangers.entry.now.strangers) }
+    ensures sends { OnOk result
+        (outs.new ≡ outs.old
+        ++ (strangers_sent provision.now.profiles (destination_of stations.now destination.now) strangers.entry.now.strangers
+        ++ each_sent (item_at (destination_of stations.now destination.now) provision.now.profiles
+        (λ id. stranger_at id strangers.entry.now.strangers)) 0 subscribers.old.subscribers)) }
+    ensures strangers { IfOk result
+        (λ p. settled_strangers p strangers.entry.now.strangers
+        ≡ strangers_behind provision.now.profiles (destination_of stations.now destination.now) strangers.entry.now.strangers) }
     ensures subscribers { IfOk result (λ p. settled_subscribers p subscribers.old.subscribers
-        ≡ each_after (item_at (destination_of stations.now destination.now) provision.now.profiles (λ id. stranger_at id strangers.entry.now.strangers)) 0 subscribers.old.subscribers) }
+        ≡ each_after (item_at (destination_of stations.now destination.now) provision.now.profiles
+        (λ id. stranger_at id strangers.entry.now.strangers)) 0 subscribers.old.subscribers) }
     ensures fits { IfOk result (λ p. IsFor p subscribers.old.subscribers) }
     ensures passing { IfOk result (λ p. IsPassing (destination_of stations.now destination.now) p) }
     ensures same { subscribers.new ≡ subscribers.old }
@@ -343,11 +385,17 @@ pub fn prepare<'a>(
     outs: &mut Outs,
 ) -> Result<Prepared, AllocError>
     requires in_use { AreInUse subscribers.old.subscribers }
-    ensures sends { OnOk result (outs.new ≡ outs.old ++ (strangers_sent provision.now.profiles (destination_of stations.now destination.entry) strangers.entry.now.strangers
-        ++ each_sent (item_at (destination_of stations.now destination.entry) provision.now.profiles (λ id. stranger_at id strangers.entry.now.strangers)) 0 subscribers.old.subscribers)) }
-    ensures strangers { IfOk result (λ p. settled_strangers p strangers.entry.now.strangers ≡ strangers_behind provision.now.profiles (destination_of stations.now destination.entry) strangers.entry.now.strangers) }
+    ensures sends { OnOk result
+        (outs.new ≡ outs.old
+        ++ (strangers_sent provision.now.profiles (destination_of stations.now destination.entry) strangers.entry.now.strangers
+        ++ each_sent (item_at (destination_of stations.now destination.entry) provision.now.profiles
+        (λ id. stranger_at id strangers.entry.now.strangers)) 0 subscribers.old.subscribers)) }
+    ensures strangers { IfOk result
+        (λ p. settled_strangers p strangers.entry.now.strangers
+        ≡ strangers_behind provision.now.profiles (destination_of stations.now destination.entry) strangers.entry.now.strangers) }
     ensures subscribers { IfOk result (λ p. settled_subscribers p subscribers.old.subscribers
-        ≡ each_after (item_at (destination_of stations.now destination.entry) provision.now.profiles (λ id. stranger_at id strangers.entry.now.strangers)) 0 subscribers.old.subscribers) }
+        ≡ each_after (item_at (destination_of stations.now destination.entry) provision.now.profiles
+        (λ id. stranger_at id strangers.entry.now.strangers)) 0 subscribers.old.subscribers) }
     ensures fits { IfOk result (λ p. IsFor p subscribers.old.subscribers) }
     ensures passing { IfOk result (λ p. IsPassing (destination_of stations.now destination.entry) p) }
     ensures same { subscribers.new ≡ subscribers.old }

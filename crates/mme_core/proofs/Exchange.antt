@@ -35,7 +35,8 @@ use Rattle.mme_answering.specs.Laws.{at_nothing, item_other, stays}
 
 -- ---- subscribers, each of whom one of two events has nothing for
 
-after_apart : (w : SubscriberView) (i j : Item) → (i ≡ Nothing) ⊎ (j ≡ Nothing) → subscriber_after (subscriber_after w i) j ≡ subscriber_after (subscriber_after w j) i
+after_apart : (w : SubscriberView) (i j : Item) → (i ≡ Nothing) ⊎ (j ≡ Nothing)
+    → subscriber_after (subscriber_after w i) j ≡ subscriber_after (subscriber_after w j) i
 after_apart w i j (inl e) =
     ap (λ k. subscriber_after (subscriber_after w k) j) e ∙ ap (λ x. subscriber_after x j) (stays w)
     ∙ sym (ap (λ k. subscriber_after (subscriber_after w j) k) e ∙ stays (subscriber_after w j))
@@ -50,13 +51,17 @@ each_after_apart i j apart n (w ∷ ws) =
     ap (λ x. x ∷ each_after j (n + 1) (each_after i (n + 1) ws)) (after_apart w (i n) (j n) (apart n))
     ∙ ap (λ xs. subscriber_after (subscriber_after w (j n)) (i n) ∷ xs) (each_after_apart i j apart (n + 1) ws)
 
-sent_apart : (w : SubscriberView) (i j : Item) → (i ≡ Nothing) ⊎ (j ≡ Nothing) → (subscriber_step (subscriber_after w i) j).sent ≡ (subscriber_step w j).sent
-sent_apart w i j (inl e) = ap (λ k. (subscriber_step (subscriber_after w k) j).sent) e ∙ ap (λ x. (subscriber_step x j).sent) (stays w)
+sent_apart : (w : SubscriberView) (i j : Item) → (i ≡ Nothing) ⊎ (j ≡ Nothing)
+    → (subscriber_step (subscriber_after w i) j).sent ≡ (subscriber_step w j).sent
+sent_apart w i j (inl e) =
+    ap (λ k. (subscriber_step (subscriber_after w k) j).sent) e ∙ ap (λ x. (subscriber_step x j).sent) (stays w)
 sent_apart w i j (inr e) =
-    ap (λ k. (subscriber_step (subscriber_after w i) k).sent) e ∙ ap (λ d. d.sent) (at_nothing w.setting (subscriber_after w i).solo)
+    ap (λ k. (subscriber_step (subscriber_after w i) k).sent) e
+    ∙ ap (λ d. d.sent) (at_nothing w.setting (subscriber_after w i).solo)
     ∙ sym (ap (λ k. (subscriber_step w k).sent) e ∙ ap (λ d. d.sent) (at_nothing w.setting w.solo))
 
-each_sends_apart : (i j : ℕ → Item) → ((m : ℕ) → (i m ≡ Nothing) ⊎ (j m ≡ Nothing)) → (n : ℕ) (ws : List SubscriberView) → each_sent j n (each_after i n ws) ≡ each_sent j n ws
+each_sends_apart : (i j : ℕ → Item) → ((m : ℕ) → (i m ≡ Nothing) ⊎ (j m ≡ Nothing)) → (n : ℕ) (ws : List SubscriberView)
+    → each_sent j n (each_after i n ws) ≡ each_sent j n ws
 each_sends_apart i j apart n [] = refl
 each_sends_apart i j apart n (w ∷ ws) =
     ap (λ sent. map (slot_out n) sent ++ each_sent j (n + 1) (each_after i (n + 1) ws)) (sent_apart w (i n) (j n) (apart n))
@@ -79,23 +84,27 @@ record NamesIn (state : StationState) (h : Outcome) (slot : ℕ) : Type 0 where
   goes : h.destination ≡ Subscriber slot item
 
 -- a station that is ready names one
-named_in : (state : StationState) (n slot : ℕ) (item : Item) → if_down state (Some NotUp) None ≡ None → Some n ≡ Some slot → NamesIn state (goes_to (Subscriber n item)) slot
+named_in : (state : StationState) (n slot : ℕ) (item : Item) → if_down state (Some NotUp) None ≡ None → Some n ≡ Some slot
+    → NamesIn state (goes_to (Subscriber n item)) slot
 named_in state n slot item up is =
     let same : n ≡ slot = cc in
     record { accepted = up; same = refl; silent = refl; item = item; goes = ap (λ k. Subscriber k item) same }
 
-named_set_up : (b : Bool) (x y : Outcome) (state : StationState) (slot : ℕ) → slot_named x.destination ≡ None → slot_named y.destination ≡ None
+named_set_up : (b : Bool) (x y : Outcome) (state : StationState) (slot : ℕ) → slot_named x.destination ≡ None
+    → slot_named y.destination ≡ None
     → slot_named (if b then x else y).destination ≡ Some slot → NamesIn state (if b then x else y) slot
 named_set_up true x y state slot h k is = cc
 named_set_up false x y state slot h k is = cc
 
-named_reset : (e : ℕ) (state : StationState) (t : ResetType) (slot : ℕ) → slot_named (reset e state t).destination ≡ Some slot → NamesIn state (reset e state t) slot
+named_reset : (e : ℕ) (state : StationState) (t : ResetType) (slot : ℕ) → slot_named (reset e state t).destination ≡ Some slot
+    → NamesIn state (reset e state t) slot
 named_reset e Down t slot is = cc
 named_reset e Up t slot is = cc
 named_reset e (Ready tas) (All all) slot is = cc
 named_reset e (Ready tas) (Part items) slot is = cc
 
-named_entry : (o : Option ℕ) (e : ℕ) (state : StationState) (m : InitialUeMessage (List ℕ)) (slot : ℕ) → if_down state (Some NotUp) None ≡ None
+named_entry : (o : Option ℕ) (e : ℕ) (state : StationState) (m : InitialUeMessage (List ℕ)) (slot : ℕ)
+    → if_down state (Some NotUp) None ≡ None
     → slot_named (entry_routed o e m).destination ≡ Some slot → NamesIn state (entry_routed o e m) slot
 named_entry None e state m slot up is = cc
 named_entry (Some n) e state m slot up is = named_in state n slot (Initial (entry_of e m)) up is
@@ -106,16 +115,20 @@ named_enters n ps e Down m slot is = cc
 named_enters n ps e Up m slot is = cc
 named_enters n ps e (Ready tas) m slot is = named_entry (named_slot n ps m.nas m.s_tmsi) e (Ready tas) m slot refl is
 
-named_by_slot : (b : Bool) (o : Option ℕ) (r : Outcome) (state : StationState) (m : UeMessage (List ℕ)) (slot : ℕ) → if_down state (Some NotUp) None ≡ None → slot_named r.destination ≡ None
-    → slot_named (if b then message_of_slot o m else r).destination ≡ Some slot → NamesIn state (if b then message_of_slot o m else r) slot
+named_by_slot : (b : Bool) (o : Option ℕ) (r : Outcome) (state : StationState) (m : UeMessage (List ℕ)) (slot : ℕ)
+    → if_down state (Some NotUp) None ≡ None → slot_named r.destination ≡ None
+    → slot_named (if b then message_of_slot o m else r).destination ≡ Some slot
+    → NamesIn state (if b then message_of_slot o m else r) slot
 named_by_slot true (Some n) r state m slot up none is = named_in state n slot (Message m) up is
 named_by_slot true None r state m slot up none is = cc
 named_by_slot false o r state m slot up none is = cc
 
-named_phone : (ps : List Profile) (state : StationState) (m : UeMessage (List ℕ)) (slot : ℕ) → slot_named (phone_message ps state m).destination ≡ Some slot → NamesIn state (phone_message ps state m) slot
+named_phone : (ps : List Profile) (state : StationState) (m : UeMessage (List ℕ)) (slot : ℕ)
+    → slot_named (phone_message ps state m).destination ≡ Some slot → NamesIn state (phone_message ps state m) slot
 named_phone ps Down m slot is = cc
 named_phone ps Up m slot is = cc
-named_phone ps (Ready tas) m slot is = named_by_slot (is_of_slot m.mme_ue_id) (slot_of_id m.mme_ue_id ps) (goes_to (Stranger m)) (Ready tas) m slot refl refl is
+named_phone ps (Ready tas) m slot is =
+    named_by_slot (is_of_slot m.mme_ue_id) (slot_of_id m.mme_ue_id ps) (goes_to (Stranger m)) (Ready tas) m slot refl refl is
 
 named_phone_if : (ps : List Profile) (e : ℕ) (state : StationState) (o : Option (UeMessage (List ℕ))) (slot : ℕ)
     → slot_named (phone_message_if ps e state o).destination ≡ Some slot → NamesIn state (phone_message_if ps e state o) slot
@@ -123,9 +136,11 @@ named_phone_if ps e state (Some m) slot is = named_phone ps state m slot is
 named_phone_if ps e state None slot is = cc
 
 named_message : (n : Network) (ps : List Profile) (e : ℕ) (state : StationState) (m : Pdu (List ℕ)) (slot : ℕ)
-    → slot_named (outcome_of_message n ps e state m).destination ≡ Some slot → NamesIn state (outcome_of_message n ps e state m) slot
+    → slot_named (outcome_of_message n ps e state m).destination ≡ Some slot
+    → NamesIn state (outcome_of_message n ps e state m) slot
 named_message n ps e state (pdu.S1SetupRequest m) slot is =
-    named_set_up (broadcasts n.plmn m.supported_tas) (begins_anew e (Some (Ready m.supported_tas)) (sent_to e (setup_response n))) (begins_anew e (Some Up) (sent_to e setup_failure)) state slot refl refl is
+    named_set_up (broadcasts n.plmn m.supported_tas) (begins_anew e (Some (Ready m.supported_tas)) (sent_to e (setup_response n)))
+    (begins_anew e (Some Up) (sent_to e setup_failure)) state slot refl refl is
 named_message n ps e state (pdu.Reset m) slot is = named_reset e state m.reset_type slot is
 named_message n ps e state (pdu.ErrorIndication m) slot is = cc
 named_message n ps e state (pdu.ResetAcknowledge m) slot is = cc
@@ -147,7 +162,8 @@ record Names (s : Sight) (event : Event) (slot : ℕ) : Type 0 where
   item : Item
   goes : (happens s event).destination ≡ Subscriber slot item
 
-named_if : (o : Option ℕ) (item : Item) (slot : ℕ) → slot_named (to_slot o item) ≡ Some slot → (if_known o ≡ None) × (to_slot o item ≡ Subscriber slot item)
+named_if : (o : Option ℕ) (item : Item) (slot : ℕ) → slot_named (to_slot o item) ≡ Some slot
+    → (if_known o ≡ None) × (to_slot o item ≡ Subscriber slot item)
 named_if None item slot is = absurd cc
 named_if (Some n) item slot is =
     let same : n ≡ slot = cc in
@@ -177,7 +193,8 @@ names s (CancelEvent imsi) slot is =
 
 -- ---- the MME at such an event
 
-named_items : (w : World) (event : Event) (slot : ℕ) (n : Names w.sight event slot) → items_of w.sight (strangers_in w) event ≡ for_one slot n.item
+named_items : (w : World) (event : Event) (slot : ℕ) (n : Names w.sight event slot)
+    → items_of w.sight (strangers_in w) event ≡ for_one slot n.item
 named_items w event slot n = ap (λ d. item_at d w.sight.profiles (strangers_in w)) n.goes
 
 named_after : (w : World) (event : Event) (slot : ℕ) (n : Names w.sight event slot)
@@ -193,7 +210,8 @@ nothing_said : (o : Option ℕ) → station_sent o [] ≡ []
 nothing_said None = refl
 nothing_said (Some e) = refl
 
-named_reply : (w : World) (event : Event) (slot : ℕ) (n : Names w.sight event slot) → reply w event ≡ Ok (each_sent (for_one slot n.item) 0 w.subscribers)
+named_reply : (w : World) (event : Event) (slot : ℕ) (n : Names w.sight event slot)
+    → reply w event ≡ Ok (each_sent (for_one slot n.item) 0 w.subscribers)
 named_reply w event slot n =
     let others = strangers_sent w.sight.profiles (happens w.sight event).destination w.strangers in
     let each = each_sent (items_of w.sight (strangers_in w) event) 0 w.subscribers in
@@ -204,7 +222,8 @@ named_reply w event slot n =
     ∙ ap (λ items. Ok (each_sent items 0 w.subscribers)) (named_items w event slot n)
 
 exchanged : (w : World) (a b : Event) (s t : ℕ) → Names w.sight a s → Names w.sight b t → s ≢ t
-    → (world_after (world_after w a) b ≡ world_after (world_after w b) a) × (reply (world_after w a) b ≡ reply w b) × (reply (world_after w b) a ≡ reply w a)
+    → (world_after (world_after w a) b ≡ world_after (world_after w b) a) × (reply (world_after w a) b ≡ reply w b)
+    × (reply (world_after w b) a ≡ reply w a)
 exchanged w a b s t p q ne =
     let i = for_one s p.item in
     let j = for_one t q.item in
@@ -215,8 +234,10 @@ exchanged w a b s t p q ne =
       ap (λ v. world_after v b) (named_after w a s p) ∙ named_after first b t q
           ∙ ap (λ (ws : List SubscriberView). record { sight = w.sight; strangers = w.strangers; subscribers = ws }) (each_after_apart i j apart 0 w.subscribers)
           ∙ sym (ap (λ v. world_after v a) (named_after w b t q) ∙ named_after second a s p),
-      ap (λ v. reply v b) (named_after w a s p) ∙ named_reply first b t q ∙ ap Ok (each_sends_apart i j apart 0 w.subscribers) ∙ sym (named_reply w b t q),
-      ap (λ v. reply v a) (named_after w b t q) ∙ named_reply second a s p ∙ ap Ok (each_sends_apart j i back 0 w.subscribers) ∙ sym (named_reply w a s p),
+      ap (λ v. reply v b) (named_after w a s p) ∙ named_reply first b t q ∙ ap Ok (each_sends_apart i j apart 0 w.subscribers)
+          ∙ sym (named_reply w b t q),
+      ap (λ v. reply v a) (named_after w b t q) ∙ named_reply second a s p ∙ ap Ok (each_sends_apart j i back 0 w.subscribers)
+          ∙ sym (named_reply w a s p),
     )
 
 pub exchanges : Exchanges

@@ -14,7 +14,8 @@ use Rattle.laws_ends.specs.Clocked.{IsClocked, StaysClocked}
 use Rattle.mme_core.specs.FreshRuns.{AreInUse}
 use Rattle.mme_core.specs.World.{each_after, fresh_subscribers}
 
-pub each_in_use : StaysInUse → StaysSound → StaysClocked → (items : ℕ → Item) (n : ℕ) (ws : List SubscriberView) → AreInUse ws → AreInUse (each_after items n ws)
+pub each_in_use : StaysInUse → StaysSound → StaysClocked → (items : ℕ → Item) (n : ℕ) (ws : List SubscriberView) → AreInUse ws
+    → AreInUse (each_after items n ws)
 each_in_use used sound clocked items n [] h = tt
 each_in_use used sound clocked items n (w ∷ ws) h = (
   used w.setting w.solo (items n ∷ []) h.0,

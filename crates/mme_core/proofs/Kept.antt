@@ -1,8 +1,8 @@
 -- What always holds of an MME holds from its beginning on, and after each event.
-use Rattle.std.proofs.Common.{◌≡◌, ℕ, suc, ◌+◌, ◌==◌, Bool, true, false, cond, List, [], ◌∷◌, length, Option, Some, None, nat_lt, refl, sym, subst, ap, ◌∙◌}
+use Rattle.std.proofs.Common.{◌≡◌, ℕ, suc, ◌+◌, ◌==◌, Bool, true, false, cond, List, [], ◌∷◌, length, Option, Some, None, Result, Ok, Err, IfOk, nat_lt, refl, sym, subst, ap, ◌∙◌}
 use Rattle.std.specs.Prelude.{option_map}
 use Rattle.std.proofs.lemmas.List.{length-replicate}
-use Rattle.sorted_list.specs.Ordered.{Every, at, put, without}
+use Rattle.sorted_list.specs.Ordered.{Every, put, without}
 use Rattle.identity_slots.specs.declared.profile.Profile.{Profile}
 use Rattle.identity_slots.specs.declared.profile.Vector.{Vector}
 use Rattle.mme_types.specs.declared.network.Network.{Network}
@@ -25,10 +25,12 @@ use Rattle.laws_ends.specs.Clocked.{IsClocked, StaysClocked}
 use Rattle.laws_ends.specs.Strangers.{IsTimed, StaysTimed}
 use Rattle.mme_core.specs.declared.event.Event.{Event}
 use Rattle.mme_core.specs.declared.event.StepFault.{StepFault}
+use Rattle.mme_core.specs.declared.mme.Ready.{Ready}
 use Rattle.mme_core.specs.Kept.{BeginsKept, IsKept, IsKnownTimed, StaysKept}
-use Rattle.mme_core.specs.World.{World, each_after, event_fault, fresh_subscribers, happens, items_of, strangers_in, unless, world_after, world_moved, world_run}
+use Rattle.mme_core.specs.Ready.{ready_world}
+use Rattle.mme_core.specs.World.{World, each_after, event_fault, fresh_subscribers, happens, items_of, strangers_in, unless, world_after, world_moved}
 use Rattle.mme_core.proofs.InUse.{each_in_use, fresh_in_use}
-use Rattle.mme_core.proofs.Stations.{as_many_stations, placed_many}
+use Rattle.mme_core.proofs.Stations.{placed_many}
 use Rattle.mme_core.proofs.Turns.{rising_behind}
 
 either : {A : Type 0} (Q : A → Type 0) {x y : A} (t : Bool) → Q x → Q y → Q (cond t x y)
@@ -53,9 +55,11 @@ every_without P id (y ∷ ys) each = either (Every P) (known_id y == id) each.1 
 
 timed_at : (id : ℕ) (ks : List Known) → Every IsKnownTimed ks → IsTimed (stranger_at id ks)
 timed_at id [] each = tt
-timed_at id (k ∷ ks) each = either (λ (o : Option Known). IsTimed (option_map (λ x. x.stranger) o)) (known_id k == id) each.0 (timed_at id ks each.1)
+timed_at id (k ∷ ks) each =
+    either (λ (o : Option Known). IsTimed (option_map (λ x. x.stranger) o)) (known_id k == id) each.0 (timed_at id ks each.1)
 
-timed_with : (id : ℕ) (s : Option Stranger) (ks : List Known) → IsTimed s → Every IsKnownTimed ks → Every IsKnownTimed (with_stranger id s ks)
+timed_with : (id : ℕ) (s : Option Stranger) (ks : List Known) → IsTimed s → Every IsKnownTimed ks
+    → Every IsKnownTimed (with_stranger id s ks)
 timed_with id None ks h each = every_without IsKnownTimed id ks each
 timed_with id (Some s) ks h each = every_put IsKnownTimed _ ks h each
 
@@ -64,7 +68,8 @@ abbrev IfKnown : (Known → Type 0) → ℕ → Option Stranger → Type 0
 IfKnown P id None = Unit {0}
 IfKnown P id (Some s) = P (record { id = id; stranger = s })
 
-every_known_if : (P : Known → Type 0) (id : ℕ) (s : Option Stranger) (ks : List Known) → IfKnown P id s → Every P ks → Every P (known_if id s ks)
+every_known_if : (P : Known → Type 0) (id : ℕ) (s : Option Stranger) (ks : List Known) → IfKnown P id s → Every P ks
+    → Every P (known_if id s ks)
 every_known_if P id None ks h each = each
 every_known_if P id (Some s) ks h each = (h, each)
 
@@ -73,7 +78,8 @@ if_timed id None h = tt
 if_timed id (Some s) h = h
 
 module _ (stay : StaysTimed) where
-  timed_input : (ps : List Profile) (id : ℕ) (input : Input) (ks : List Known) → Every IsKnownTimed ks → Every IsKnownTimed (with_input ps id input ks)
+  timed_input : (ps : List Profile) (id : ℕ) (input : Input) (ks : List Known) → Every IsKnownTimed ks
+      → Every IsKnownTimed (with_input ps id input ks)
   timed_input ps id input ks each = timed_with id _ ks (stay ps id (stranger_at id ks) (input ∷ []) (timed_at id ks each)) each
 
   timed_notice : (id : ℕ) (s : Option Stranger) (notice : Notice) → IsTimed s → IsTimed (notes id s notice).stranger
@@ -83,9 +89,11 @@ module _ (stay : StaysTimed) where
   timed_noted : (notice : Notice) (ks : List Known) → Every IsKnownTimed ks → Every IsKnownTimed (noted notice ks)
   timed_noted notice [] each = tt
   timed_noted notice (k ∷ ks) each =
-      every_known_if IsKnownTimed k.id _ (noted notice ks) (if_timed k.id _ (timed_notice k.id (Some k.stranger) notice each.0)) (timed_noted notice ks each.1)
+      every_known_if IsKnownTimed k.id _ (noted notice ks) (if_timed k.id _ (timed_notice k.id (Some k.stranger) notice each.0))
+      (timed_noted notice ks each.1)
 
-  timed_behind : (ps : List Profile) (d : Destination) (ks : List Known) → Every IsKnownTimed ks → Every IsKnownTimed (strangers_behind ps d ks)
+  timed_behind : (ps : List Profile) (d : Destination) (ks : List Known) → Every IsKnownTimed ks
+      → Every IsKnownTimed (strangers_behind ps d ks)
   timed_behind ps (to.Beginner id m) ks each = timed_input ps id (Begins m) ks each
   timed_behind ps (to.Stranger m) ks each = timed_input ps m.mme_ue_id (Receives m) ks each
   timed_behind ps (to.Everyone notice) ks each = timed_noted notice ks each
@@ -97,7 +105,8 @@ as_many_after : (each : ℕ → Item) (n : ℕ) (xs : List SubscriberView) → l
 as_many_after each n [] = refl
 as_many_after each n (x ∷ xs) = ap suc (as_many_after each (n + 1) xs)
 
-as_many_fresh : (n : Network) (slot : ℕ) (ps : List Profile) (vs : List (List Vector)) → length (fresh_subscribers n slot ps vs) ≡ length ps
+as_many_fresh : (n : Network) (slot : ℕ) (ps : List Profile) (vs : List (List Vector))
+    → length (fresh_subscribers n slot ps vs) ≡ length ps
 as_many_fresh n slot [] vs = refl
 as_many_fresh n slot (p ∷ ps) vs = ap suc (as_many_fresh n (slot + 1) ps vs)
 
@@ -127,3 +136,10 @@ module _ (used : StaysInUse) (sound : StaysSound) (clocked : StaysClocked) (stay
   stays_kept w [] h = h
   stays_kept w (event ∷ events) h =
       stays_kept (world_after w event) events (either_way IsKept (event_fault w.sight event) h (moved_kept w event h))
+
+-- ---- what was prepared
+
+pub kept_ready : {E : Type 0} (res : Result Ready E) (w : World) (event : Event) → StaysKept → IsKept w
+    → IfOk res (λ r. ready_world r w ≡ world_after w event) → IfOk res (λ r. IsKept (ready_world r w))
+kept_ready (Ok r) w event stays h after = subst IsKept (sym after) (stays w (event ∷ []) h)
+kept_ready (Err e) w event stays h after = tt

@@ -42,13 +42,15 @@ named_by_identity s e octets tas m ready is =
 
 -- an id of a slot, provisioned or not
 slot_if : (low here : Bool) (slot : ℕ) (r : Outcome) (m : UeMessage (List ℕ)) → slot_named r.destination ≡ None
-    → slot_named (if low then message_of_slot (if low && here then Some slot else None) m else r).destination ≡ (if low && here then Some slot else None)
+    → slot_named (if low then message_of_slot (if low && here then Some slot else None) m else r).destination
+    ≡ (if low && here then Some slot else None)
 slot_if true true slot r m none = refl
 slot_if true false slot r m none = refl
 slot_if false here slot r m none = none
 
 phone_named : (ps : List Profile) (m : UeMessage (List ℕ)) → slot_named (message_by_id ps m).destination ≡ slot_of_id m.mme_ue_id ps
-phone_named ps m = slot_if (is_of_slot m.mme_ue_id) (nat_lt (slot_in m.mme_ue_id) (length ps)) (slot_in m.mme_ue_id) (goes_to (Stranger m)) m refl
+phone_named ps m =
+    slot_if (is_of_slot m.mme_ue_id) (nat_lt (slot_in m.mme_ue_id) (length ps)) (slot_in m.mme_ue_id) (goes_to (Stranger m)) m refl
 
 id_named : (ps : List Profile) (e mme_ue_id enb_ue_id : ℕ) (body : UeBody (List ℕ)) (id : ℕ) → Some mme_ue_id ≡ Some id
     → slot_named (message_by_id ps (ue_message e mme_ue_id enb_ue_id body)).destination ≡ slot_of_id id ps
@@ -62,8 +64,10 @@ heard_named n ps e tas (pdu.UplinkNasTransport m) id is = id_named ps e m.mme_ue
 heard_named n ps e tas (pdu.NasNonDeliveryIndication m) id is = id_named ps e m.mme_ue_id m.enb_ue_id Notice id is
 heard_named n ps e tas (pdu.UeCapabilityInfoIndication m) id is = id_named ps e m.mme_ue_id m.enb_ue_id Notice id is
 heard_named n ps e tas (pdu.InitialContextSetupResponse m) id is = id_named ps e m.mme_ue_id m.enb_ue_id Notice id is
-heard_named n ps e tas (pdu.InitialContextSetupFailure m) id is = id_named ps e m.mme_ue_id m.enb_ue_id InitialContextSetupFailure id is
-heard_named n ps e tas (pdu.UeContextReleaseRequest m) id is = id_named ps e m.mme_ue_id m.enb_ue_id (UeContextReleaseRequest m.cause) id is
+heard_named n ps e tas (pdu.InitialContextSetupFailure m) id is =
+    id_named ps e m.mme_ue_id m.enb_ue_id InitialContextSetupFailure id is
+heard_named n ps e tas (pdu.UeContextReleaseRequest m) id is =
+    id_named ps e m.mme_ue_id m.enb_ue_id (UeContextReleaseRequest m.cause) id is
 heard_named n ps e tas (pdu.UeContextReleaseComplete m) id is = id_named ps e m.mme_ue_id m.enb_ue_id UeContextReleaseComplete id is
 heard_named n ps e tas (pdu.PathSwitchRequest m) id is = id_named ps e m.source_mme_ue_id m.enb_ue_id PathSwitch id is
 heard_named n ps e tas m id is = cc

@@ -86,25 +86,30 @@ between (Subscriber a) (Station b) h k = absurd h
 between (Subscriber a) (Stranger b) h k = absurd h
 between (Subscriber a) (Subscriber b) h k = ap Subscriber (omega arith)
 
-map_if : (b : Bool) (x : Out) (xs : List Out) → map told_of (if b then x ∷ xs else xs) ≡ (if b then told_of x ∷ map told_of xs else map told_of xs)
+map_if : (b : Bool) (x : Out) (xs : List Out)
+    → map told_of (if b then x ∷ xs else xs) ≡ (if b then told_of x ∷ map told_of xs else map told_of xs)
 map_if true x xs = refl
 map_if false x xs = refl
 
-sent_cons : (o : Owner) (x : Out) (xs : List Out) → sent_by o (x ∷ xs) ≡ (if is_owner o x.owner then told_of x ∷ sent_by o xs else sent_by o xs)
+sent_cons : (o : Owner) (x : Out) (xs : List Out)
+    → sent_by o (x ∷ xs) ≡ (if is_owner o x.owner then told_of x ∷ sent_by o xs else sent_by o xs)
 sent_cons o x xs = map_if (is_owner o x.owner) x (filter (λ (y : Out). is_owner o y.owner) xs)
 
 sent_first : (x : Out) (xs : List Out) → sent_by x.owner (x ∷ xs) ≡ told_of x ∷ sent_by x.owner xs
-sent_first x xs = sent_cons x.owner x xs ∙ ap (λ b. if b then told_of x ∷ sent_by x.owner xs else sent_by x.owner xs) (owner_itself x.owner)
+sent_first x xs =
+    sent_cons x.owner x xs ∙ ap (λ b. if b then told_of x ∷ sent_by x.owner xs else sent_by x.owner xs) (owner_itself x.owner)
 
 -- an owner that sends something is reached by the one that all are from
-from_if : (p o : Owner) (y : Out) (ys : List Out) (a : Told) (rest : List Told) (b : Bool) → is_owner o y.owner ≡ b → IsNotBehind p y.owner → (sent_by o ys ≡ a ∷ rest → IsNotBehind p o)
+from_if : (p o : Owner) (y : Out) (ys : List Out) (a : Told) (rest : List Told) (b : Bool) → is_owner o y.owner ≡ b
+    → IsNotBehind p y.owner → (sent_by o ys ≡ a ∷ rest → IsNotBehind p o)
     → (if b then told_of y ∷ sent_by o ys else sent_by o ys) ≡ a ∷ rest → IsNotBehind p o
 from_if p o y ys a rest true e r next h = subst (IsNotBehind p) (owner_is o y.owner e) r
 from_if p o y ys a rest false e r next h = next h
 
 from_sent : (p o : Owner) (ys : List Out) (a : Told) (rest : List Told) → AllFrom p ys → sent_by o ys ≡ a ∷ rest → IsNotBehind p o
 from_sent p o [] a rest f h = absurd cc
-from_sent p o (y ∷ ys) a rest f h = from_if p o y ys a rest (is_owner o y.owner) refl f.0 (from_sent p o ys a rest f.1) (sym (sent_cons o y ys) ∙ h)
+from_sent p o (y ∷ ys) a rest f h =
+    from_if p o y ys a rest (is_owner o y.owner) refl f.0 (from_sent p o ys a rest f.1) (sym (sent_cons o y ys) ∙ h)
 
 tails : (b : Bool) (a c : Told) (u v : List Told) → (if b then a ∷ u else u) ≡ (if b then c ∷ v else v) → u ≡ v
 tails true a c u v h = cc
@@ -130,8 +135,12 @@ one [] [] h k same = refl
 one [] (y ∷ ys) h k same = absurd (nothing_more y ys (same y.owner))
 one (x ∷ xs) [] h k same = absurd (nothing_more x xs (sym (same x.owner)))
 one (x ∷ xs) (y ∷ ys) h k same =
-    let there : IsNotBehind y.owner x.owner = from_sent y.owner x.owner (y ∷ ys) (told_of x) (sent_by x.owner xs) (reaches_itself y.owner, k.0) (sym (same x.owner) ∙ sent_first x xs) in
-    let back : IsNotBehind x.owner y.owner = from_sent x.owner y.owner (x ∷ xs) (told_of y) (sent_by y.owner ys) (reaches_itself x.owner, h.0) (same y.owner ∙ sent_first y ys) in
+    let there : IsNotBehind y.owner x.owner =
+    from_sent y.owner x.owner (y ∷ ys) (told_of x) (sent_by x.owner xs) (reaches_itself y.owner, k.0)
+    (sym (same x.owner) ∙ sent_first x xs) in
+    let back : IsNotBehind x.owner y.owner =
+    from_sent x.owner y.owner (x ∷ xs) (told_of y) (sent_by y.owner ys) (reaches_itself x.owner, h.0)
+    (same y.owner ∙ sent_first y ys) in
     let owner : x.owner ≡ y.owner = between x.owner y.owner back there in
     let first : told_of x ≡ told_of y =
     heads (told_of x) (told_of y) (sent_by x.owner xs) (sent_by y.owner ys)
@@ -143,7 +152,8 @@ one (x ∷ xs) (y ∷ ys) h k same =
     in
     ap (λ z. z ∷ xs) (out_is x y owner first) ∙ ap (λ zs. y ∷ zs) (one xs ys h.1 k.1 rest)
 
-same_by : (w : World) (event : Event) (xs ys : List Out) → IsOutput w event xs → IsOutput w event ys → (o : Owner) → sent_by o xs ≡ sent_by o ys
+same_by : (w : World) (event : Event) (xs ys : List Out) → IsOutput w event xs → IsOutput w event ys → (o : Owner)
+    → sent_by o xs ≡ sent_by o ys
 same_by w event xs ys a b (Station e) = a.stations e ∙ sym (b.stations e)
 same_by w event xs ys a b (Stranger id) = a.strangers id ∙ sym (b.strangers id)
 same_by w event xs ys a b (Subscriber slot) = a.subscribers slot ∙ sym (b.subscribers slot)

@@ -59,11 +59,13 @@ before_own o (a ∷ sent) ys f = (f, before_own o sent ys f)
 
 -- ---- subscribers by slot
 
-from_each : (p : Owner) (items : ℕ → Item) (n : ℕ) (ws : List SubscriberView) → ((m : ℕ) → n ≤ m → IsNotBehind p (Subscriber m)) → AllFrom p (each_sent items n ws)
+from_each : (p : Owner) (items : ℕ → Item) (n : ℕ) (ws : List SubscriberView) → ((m : ℕ) → n ≤ m → IsNotBehind p (Subscriber m))
+    → AllFrom p (each_sent items n ws)
 from_each p items n [] r = tt
 from_each p items n (w ∷ ws) r =
     let own = (subscriber_step w (items n)).sent in
-    from_append p (map (slot_out n) own) (each_sent items (n + 1) ws) (from_own p (Subscriber n) own (r n (omega arith))) (from_each p items (n + 1) ws (λ m le. r m (omega arith)))
+    from_append p (map (slot_out n) own) (each_sent items (n + 1) ws) (from_own p (Subscriber n) own (r n (omega arith)))
+    (from_each p items (n + 1) ws (λ m le. r m (omega arith)))
 
 order_each : (items : ℕ → Item) (n : ℕ) (ws : List SubscriberView) → AreInOrder (each_sent items n ws)
 order_each items n [] = tt
@@ -74,11 +76,13 @@ order_each items n (w ∷ ws) =
 
 -- ---- strangers by id
 
-from_known : (p : Owner) (notice : Notice) (ks : List Known) (n : ℕ) → AllOver known_id n ks → ((m : ℕ) → n < m → IsNotBehind p (Stranger m)) → AllFrom p (each_known notice ks)
+from_known : (p : Owner) (notice : Notice) (ks : List Known) (n : ℕ) → AllOver known_id n ks
+    → ((m : ℕ) → n < m → IsNotBehind p (Stranger m)) → AllFrom p (each_known notice ks)
 from_known p notice [] n h r = tt
 from_known p notice (k ∷ ks) n h r =
     let own = (notes k.id (Some k.stranger) notice).sent in
-    from_append p (map (stranger_out k.id) own) (each_known notice ks) (from_own p (Stranger k.id) own (r k.id h.0)) (from_known p notice ks n h.1 r)
+    from_append p (map (stranger_out k.id) own) (each_known notice ks) (from_own p (Stranger k.id) own (r k.id h.0))
+    (from_known p notice ks n h.1 r)
 
 order_known : (notice : Notice) (ks : List Known) → Rising known_id ks → AreInOrder (each_known notice ks)
 order_known notice [] h = tt
@@ -87,25 +91,31 @@ order_known notice (k ∷ ks) h =
     order_append (map (stranger_out k.id) own) (each_known notice ks) (order_own (Stranger k.id) own) (order_known notice ks h.1)
     (before_own (Stranger k.id) own (each_known notice ks) (from_known (Stranger k.id) notice ks k.id h.0 (λ m lt. omega arith)))
 
-known_before : (notice : Notice) (ks : List Known) (ys : List Out) → ((id : ℕ) → AllFrom (Stranger id) ys) → AllBefore (each_known notice ks) ys
+known_before : (notice : Notice) (ks : List Known) (ys : List Out) → ((id : ℕ) → AllFrom (Stranger id) ys)
+    → AllBefore (each_known notice ks) ys
 known_before notice [] ys f = tt
 known_before notice (k ∷ ks) ys f =
     let own = (notes k.id (Some k.stranger) notice).sent in
-    before_append (map (stranger_out k.id) own) (each_known notice ks) ys (before_own (Stranger k.id) own ys (f k.id)) (known_before notice ks ys f)
+    before_append (map (stranger_out k.id) own) (each_known notice ks) ys (before_own (Stranger k.id) own ys (f k.id))
+    (known_before notice ks ys f)
 
-all_known : (p : Owner) (notice : Notice) (ks : List Known) → ((m : ℕ) → IsNotBehind p (Stranger m)) → AllFrom p (each_known notice ks)
+all_known : (p : Owner) (notice : Notice) (ks : List Known) → ((m : ℕ) → IsNotBehind p (Stranger m))
+    → AllFrom p (each_known notice ks)
 all_known p notice [] r = tt
 all_known p notice (k ∷ ks) r =
     let own = (notes k.id (Some k.stranger) notice).sent in
-    from_append p (map (stranger_out k.id) own) (each_known notice ks) (from_own p (Stranger k.id) own (r k.id)) (all_known p notice ks r)
+    from_append p (map (stranger_out k.id) own) (each_known notice ks) (from_own p (Stranger k.id) own (r k.id))
+    (all_known p notice ks r)
 
 order_input : (ps : List Profile) (id : ℕ) (input : Input) (ks : List Known) → AreInOrder (input_sent ps id input ks)
 order_input ps id input ks = order_own (Stranger id) (stranger_step ps id (stranger_at id ks) input).sent
 
-input_before : (ps : List Profile) (id : ℕ) (input : Input) (ks : List Known) (ys : List Out) → AllFrom (Stranger id) ys → AllBefore (input_sent ps id input ks) ys
+input_before : (ps : List Profile) (id : ℕ) (input : Input) (ks : List Known) (ys : List Out) → AllFrom (Stranger id) ys
+    → AllBefore (input_sent ps id input ks) ys
 input_before ps id input ks ys f = before_own (Stranger id) (stranger_step ps id (stranger_at id ks) input).sent ys f
 
-from_input : (p : Owner) (ps : List Profile) (id : ℕ) (input : Input) (ks : List Known) → IsNotBehind p (Stranger id) → AllFrom p (input_sent ps id input ks)
+from_input : (p : Owner) (ps : List Profile) (id : ℕ) (input : Input) (ks : List Known) → IsNotBehind p (Stranger id)
+    → AllFrom p (input_sent ps id input ks)
 from_input p ps id input ks f = from_own p (Stranger id) (stranger_step ps id (stranger_at id ks) input).sent f
 
 order_strangers : (ps : List Profile) (d : Destination) (ks : List Known) → Rising known_id ks → AreInOrder (strangers_sent ps d ks)
@@ -115,14 +125,16 @@ order_strangers ps (to.Beginner id m) ks h = order_input ps id (Begins m) ks
 order_strangers ps (to.Stranger m) ks h = order_input ps m.mme_ue_id (Receives m) ks
 order_strangers ps (to.Everyone notice) ks h = order_known notice ks h
 
-strangers_before : (ps : List Profile) (d : Destination) (ks : List Known) (ys : List Out) → ((id : ℕ) → AllFrom (Stranger id) ys) → AllBefore (strangers_sent ps d ks) ys
+strangers_before : (ps : List Profile) (d : Destination) (ks : List Known) (ys : List Out) → ((id : ℕ) → AllFrom (Stranger id) ys)
+    → AllBefore (strangers_sent ps d ks) ys
 strangers_before ps to.Nobody ks ys f = tt
 strangers_before ps (to.Subscriber n item) ks ys f = tt
 strangers_before ps (to.Beginner id m) ks ys f = input_before ps id (Begins m) ks ys (f id)
 strangers_before ps (to.Stranger m) ks ys f = input_before ps m.mme_ue_id (Receives m) ks ys (f m.mme_ue_id)
 strangers_before ps (to.Everyone notice) ks ys f = known_before notice ks ys f
 
-from_strangers : (p : Owner) (ps : List Profile) (d : Destination) (ks : List Known) → ((m : ℕ) → IsNotBehind p (Stranger m)) → AllFrom p (strangers_sent ps d ks)
+from_strangers : (p : Owner) (ps : List Profile) (d : Destination) (ks : List Known) → ((m : ℕ) → IsNotBehind p (Stranger m))
+    → AllFrom p (strangers_sent ps d ks)
 from_strangers p ps to.Nobody ks f = tt
 from_strangers p ps (to.Subscriber n item) ks f = tt
 from_strangers p ps (to.Beginner id m) ks f = from_input p ps id (Begins m) ks (f id)
@@ -135,7 +147,8 @@ order_station : (o : Option ℕ) (sent : List Answer) → AreInOrder (station_se
 order_station None sent = tt
 order_station (Some e) sent = order_own (Station e) sent
 
-before_station : (o : Option ℕ) (sent : List Answer) (ys : List Out) → ((e : ℕ) → AllFrom (Station e) ys) → AllBefore (station_sent o sent) ys
+before_station : (o : Option ℕ) (sent : List Answer) (ys : List Out) → ((e : ℕ) → AllFrom (Station e) ys)
+    → AllBefore (station_sent o sent) ys
 before_station None sent ys f = tt
 before_station (Some e) sent ys f = before_own (Station e) sent ys (f e)
 
@@ -152,18 +165,22 @@ parts_order o sent ps d ks items ws h =
     (λ n. from_append (Station n) others each (from_strangers (Station n) ps d ks (λ m. tt)) (from_each (Station n) items 0 ws (λ m le. tt))))
 
 pub output_order : (w : World) (e : Event) → Rising known_id w.strangers → AreInOrder (outputs w e)
-output_order w e h = parts_order (station_of e) (happens w.sight e).sent w.sight.profiles (happens w.sight e).destination w.strangers (items_of w.sight (strangers_in w) e) w.subscribers h
+output_order w e h =
+    parts_order (station_of e) (happens w.sight e).sent w.sight.profiles (happens w.sight e).destination w.strangers
+    (items_of w.sight (strangers_in w) e) w.subscribers h
 
 -- ---- a list of replies
 
-order_cons : (o : Option StepFault) (outs : List Out) (rs : List (Result (List Out) StepFault)) → AreInOrder outs → AllInOrder rs → AllInOrder (reply_of o outs ∷ rs)
+order_cons : (o : Option StepFault) (outs : List Out) (rs : List (Result (List Out) StepFault)) → AreInOrder outs → AllInOrder rs
+    → AllInOrder (reply_of o outs ∷ rs)
 order_cons None outs rs h k = (h, k)
 order_cons (Some fault) outs rs h k = k
 
 replies_order : (w : World) (es : List Event) → Rising known_id w.strangers → AllInOrder (replies w es)
 replies_order w [] h = tt
 replies_order w (e ∷ es) h =
-    order_cons (event_fault w.sight e) (outputs w e) (replies (world_after w e) es) (output_order w e h) (replies_order (world_after w e) es (rising_once w e h))
+    order_cons (event_fault w.sight e) (outputs w e) (replies (world_after w e) es) (output_order w e h)
+    (replies_order (world_after w e) es (rising_once w e h))
 
 of_given : (rs : List (Result (List Out) StepFault)) → AllInOrder (replies_given rs) → AllInOrder rs
 of_given [] h = tt
@@ -175,5 +192,6 @@ of_given (Err ClockSpent ∷ rs) h = of_given rs h
 of_given (Err UnknownImsi ∷ rs) h = of_given rs h
 
 -- all replies of a run
-pub run_order : (w : World) (es : List Event) (rs : List (Result (List Out) StepFault)) → Rising known_id w.strangers → replies_given rs ≡ replies w es → AllInOrder rs
+pub run_order : (w : World) (es : List Event) (rs : List (Result (List Out) StepFault)) → Rising known_id w.strangers
+    → replies_given rs ≡ replies w es → AllInOrder rs
 run_order w es rs r h = of_given rs (subst AllInOrder (sym h) (replies_order w es r))

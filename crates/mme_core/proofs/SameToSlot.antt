@@ -16,7 +16,8 @@ told_busy w (i ∷ is) = ap (λ zs. map answer_told (subscriber_step w i).sent +
 
 after_busy : (w : SubscriberView) (is : List Item) → alone_after w is ≡ alone_after w (busy is)
 after_busy w [] = refl
-after_busy w (Nothing ∷ is) = ap (λ d. alone_after (record { setting = w.setting; solo = d.solo }) is) (at_nothing w.setting w.solo) ∙ after_busy w is
+after_busy w (Nothing ∷ is) =
+    ap (λ d. alone_after (record { setting = w.setting; solo = d.solo }) is) (at_nothing w.setting w.solo) ∙ after_busy w is
 after_busy w (i ∷ is) = after_busy (subscriber_after w i) is
 
 pub same_to_slot : SameToSlot

@@ -24,7 +24,8 @@ not_past (prepared.Everyone notice xs) t c m le h = let e = h.1 in omega arith
 not_past (prepared.Tick xs) t c m le h = let e = h.1 in omega arith
 
 -- a tick was prepared where everyone was told of one
-pub in_time : (d : Destination) (p : Prepared) (c m : ℕ) → IsPassing d p → (d ≡ Everyone notices.Tick → (c < 2 ^ 62) × (m ≡ c + 1)) → c ≤ m → IsInTime p c m
+pub in_time : (d : Destination) (p : Prepared) (c m : ℕ) → IsPassing d p → (d ≡ Everyone notices.Tick → (c < 2 ^ 62) × (m ≡ c + 1))
+    → c ≤ m → IsInTime p c m
 in_time d prepared.Nobody c m h moves le = (tt, le)
 in_time d (prepared.Subscriber x) c m h moves le = (tt, le)
 in_time d (prepared.Stranger id after x) c m h moves le = (tt, le)

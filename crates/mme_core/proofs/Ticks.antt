@@ -54,7 +54,8 @@ no_tick_entry : (o : Option ℕ) (e : ℕ) (m : InitialUeMessage (List ℕ)) →
 no_tick_entry None e m = refl
 no_tick_entry (Some slot) e m = refl
 
-no_tick_enters : (n : Network) (ps : List Profile) (e : ℕ) (state : StationState) (m : InitialUeMessage (List ℕ)) → IsNoTick (enters n ps e state m)
+no_tick_enters : (n : Network) (ps : List Profile) (e : ℕ) (state : StationState) (m : InitialUeMessage (List ℕ))
+    → IsNoTick (enters n ps e state m)
 no_tick_enters n ps e Down m = refl
 no_tick_enters n ps e Up m = refl
 no_tick_enters n ps e (Ready tas) m = no_tick_entry (named_slot n ps m.nas m.s_tmsi) e m
@@ -66,13 +67,17 @@ no_tick_slot (Some slot) m = refl
 no_tick_phone : (ps : List Profile) (state : StationState) (m : UeMessage (List ℕ)) → IsNoTick (phone_message ps state m)
 no_tick_phone ps Down m = refl
 no_tick_phone ps Up m = refl
-no_tick_phone ps (Ready tas) m = no_tick_if (is_of_slot m.mme_ue_id) (message_of_slot (slot_of_id m.mme_ue_id ps) m) (goes_to (Stranger m)) (no_tick_slot (slot_of_id m.mme_ue_id ps) m) refl
+no_tick_phone ps (Ready tas) m =
+    no_tick_if (is_of_slot m.mme_ue_id) (message_of_slot (slot_of_id m.mme_ue_id ps) m) (goes_to (Stranger m))
+    (no_tick_slot (slot_of_id m.mme_ue_id ps) m) refl
 
-no_tick_phone_if : (ps : List Profile) (e : ℕ) (state : StationState) (o : Option (UeMessage (List ℕ))) → IsNoTick (phone_message_if ps e state o)
+no_tick_phone_if : (ps : List Profile) (e : ℕ) (state : StationState) (o : Option (UeMessage (List ℕ)))
+    → IsNoTick (phone_message_if ps e state o)
 no_tick_phone_if ps e state (Some m) = no_tick_phone ps state m
 no_tick_phone_if ps e state None = refl
 
-no_tick_message : (n : Network) (ps : List Profile) (e : ℕ) (state : StationState) (m : Pdu (List ℕ)) → IsNoTick (outcome_of_message n ps e state m)
+no_tick_message : (n : Network) (ps : List Profile) (e : ℕ) (state : StationState) (m : Pdu (List ℕ))
+    → IsNoTick (outcome_of_message n ps e state m)
 no_tick_message n ps e state (pdu.S1SetupRequest m) = no_tick_if (broadcasts n.plmn m.supported_tas) _ _ refl refl
 no_tick_message n ps e state (pdu.Reset m) = no_tick_reset e state m.reset_type
 no_tick_message n ps e state (pdu.ErrorIndication m) = refl
@@ -80,7 +85,8 @@ no_tick_message n ps e state (pdu.ResetAcknowledge m) = refl
 no_tick_message n ps e state (pdu.InitialUeMessage m) = no_tick_enters n ps e state m
 no_tick_message n ps e state m = no_tick_phone_if ps e state (ue_message_in e m)
 
-no_tick_heard : (n : Network) (ps : List Profile) (e : ℕ) (state : StationState) (r : Result (Pdu (List ℕ)) S1apFault) → IsNoTick (outcome_of n ps e state r)
+no_tick_heard : (n : Network) (ps : List Profile) (e : ℕ) (state : StationState) (r : Result (Pdu (List ℕ)) S1apFault)
+    → IsNoTick (outcome_of n ps e state r)
 no_tick_heard n ps e state (Err fault) = refl
 no_tick_heard n ps e state (Ok m) = no_tick_message n ps e state m
 
@@ -95,7 +101,8 @@ below true h = refl
 below false h = cc
 
 -- the clock moves, and below 2^62
-ticks_if : (s : Sight) (event : Event) → is_tick (happens s event).destination ≡ true → event_fault s event ≡ None → (s.clock < 2 ^ 62) × (clock_after s.clock event ≡ s.clock + 1)
+ticks_if : (s : Sight) (event : Event) → is_tick (happens s event).destination ≡ true → event_fault s event ≡ None
+    → (s.clock < 2 ^ 62) × (clock_after s.clock event ≡ s.clock + 1)
 unfolding happens
 ticks_if s (UpEvent e) h fine = absurd cc
 ticks_if s (LostEvent e) h fine = absurd cc
@@ -112,5 +119,6 @@ ticks_if s (CancelEvent imsi) h fine =
     let other = no_tick_called (slot_of_imsi imsi s.profiles) Cancel in
     absurd cc
 
-pub ticks_alone : (s : Sight) (event : Event) → (happens s event).destination ≡ Everyone notices.Tick → event_fault s event ≡ None → (s.clock < 2 ^ 62) × (clock_after s.clock event ≡ s.clock + 1)
+pub ticks_alone : (s : Sight) (event : Event) → (happens s event).destination ≡ Everyone notices.Tick → event_fault s event ≡ None
+    → (s.clock < 2 ^ 62) × (clock_after s.clock event ≡ s.clock + 1)
 ticks_alone s event h fine = ticks_if s event (ap is_tick h) fine

@@ -28,14 +28,16 @@ IsProvedRun w items = (x : Context) × ((state_after w items).context ≡ Some x
 -- at one item: a radio key goes to the proved
 abbrev pub GivesKeysToTheProved : SubscriberView → List Item → Item → Type 0
 GivesKeysToTheProved w seen item =
-    All (λ a. (m : Pdu (List ℕ)) → decoded a.octets ≡ Ok m → has_radio_key m ≡ true → GoesToTheProved (solo_step w.setting (state_after w seen) item).solo a m)
+    All (λ a. (m : Pdu (List ℕ)) → decoded a.octets ≡ Ok m → has_radio_key m ≡ true
+    → GoesToTheProved (solo_step w.setting (state_after w seen) item).solo a m)
     (solo_step w.setting (state_after w seen) item).sent
 
 -- and, where the phone was deregistered before, only behind its proof that it has the key of that context
 abbrev pub GivesKeysByProof : SubscriberView → List Item → Item → Type 0
 GivesKeysByProof w seen item =
     All (λ a. (m : Pdu (List ℕ)) → decoded a.octets ≡ Ok m → has_radio_key m ≡ true
-    → (x : Context) × ((state_after w (seen ++ item ∷ [])).context ≡ Some x) × HasKeyOf x m × IsProved w.setting w.solo (seen ++ item ∷ []) x.place)
+    → (x : Context) × ((state_after w (seen ++ item ∷ [])).context ≡ Some x) × HasKeyOf x m
+    × IsProved w.setting w.solo (seen ++ item ∷ []) x.place)
     (solo_step w.setting (state_after w seen) item).sent
 
 -- and what isn't proved leaves a phone that is registered
@@ -51,9 +53,12 @@ pub record IsGuardedRun (w : SubscriberView) (items : List Item) : Type 0 where
   -- every message that is sent decodes, and its NAS with a security header is the protected form under its mark
   pub marked : All (IsMarked w.setting.vectors) (flat_map (λ sent. sent) (solo_answers w.setting w.solo items))
   -- those are, one for one and in order, the protected forms under the marks that are sent
-  pub in_order : AllZip (IsFormUnder w.setting.vectors) (sent_marks w.setting w.solo items) (flat_map protected_among (solo_answers w.setting w.solo items))
+  pub in_order : AllZip (IsFormUnder w.setting.vectors) (sent_marks w.setting w.solo items)
+      (flat_map protected_among (solo_answers w.setting w.solo items))
   -- at each place of the list
-  pub proved : (seen unseen : List Item) → items ≡ seen ++ unseen → w.solo.phase ≡ Deregistered → is_past_proof (state_after w seen).phase ≡ true → IsProvedRun w seen
+  pub proved : (seen unseen : List Item) → items ≡ seen ++ unseen → w.solo.phase ≡ Deregistered
+      → is_past_proof (state_after w seen).phase ≡ true → IsProvedRun w seen
   pub keys : (seen unseen : List Item) (item : Item) → items ≡ seen ++ item ∷ unseen → GivesKeysToTheProved w seen item
-  pub keys_by_proof : (seen unseen : List Item) (item : Item) → items ≡ seen ++ item ∷ unseen → w.solo.phase ≡ Deregistered → GivesKeysByProof w seen item
+  pub keys_by_proof : (seen unseen : List Item) (item : Item) → items ≡ seen ++ item ∷ unseen → w.solo.phase ≡ Deregistered
+      → GivesKeysByProof w seen item
   pub unproved : (seen unseen : List Item) (item : Item) → items ≡ seen ++ item ∷ unseen → LeavesTheRegistered w seen item

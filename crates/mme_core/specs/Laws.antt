@@ -61,7 +61,8 @@ SameFromMme =
 -- behind a list of events each subscriber is in the state of its machine over what the list has for its slot
 abbrev pub GoesAlone : Type 0
 GoesAlone =
-    (w : World) (events : List Event) (slot : ℕ) (x : SubscriberView) → Rising known_id w.strangers → slice_get w.subscribers slot ≡ Some x
+    (w : World) (events : List Event) (slot : ℕ) (x : SubscriberView) → Rising known_id w.strangers
+    → slice_get w.subscribers slot ≡ Some x
     → slice_get (world_run w events).subscribers slot ≡ Some (alone_after x (projection slot w.sight (strangers_in w) events))
 
 -- ---- events that name a slot
@@ -79,7 +80,8 @@ event_name s event = slot_named (happens s event).destination
 abbrev pub NamedByImsi : Type 0
 NamedByImsi =
     (s : Sight) (imsi : List ℕ)
-    → (event_name s (DataEvent imsi) ≡ slot_of_imsi imsi s.profiles) × (event_name s (CancelEvent imsi) ≡ slot_of_imsi imsi s.profiles)
+    → (event_name s (DataEvent imsi) ≡ slot_of_imsi imsi s.profiles)
+    × (event_name s (CancelEvent imsi) ≡ slot_of_imsi imsi s.profiles)
 
 -- an INITIAL UE MESSAGE of a station that is set up names the slot that it names by its identity
 abbrev pub NamedByIdentity : Type 0
@@ -124,14 +126,18 @@ told_if (Some x) item = map answer_told (subscriber_step x item).sent
 
 -- each owner's messages are those of its machine, and the owners stand in their order
 pub record IsOutput (w : World) (event : Event) (outs : List Out) : Type 0 where
-  pub stations : (e : ℕ) → owned_by (is_station e) outs ≡ unless (event_fault w.sight event) [] (own_told (station_of event) e (happens w.sight event).sent)
-  pub strangers : (id : ℕ) → owned_by (is_stranger id) outs ≡ map answer_told (stranger_step w.sight.profiles id (stranger_at id w.strangers) (stranger_input w.sight id event)).sent
-  pub subscribers : (slot : ℕ) → owned_by (is_slot slot) outs ≡ told_if (slice_get w.subscribers slot) (item_for slot w.sight (strangers_in w) event)
+  pub stations : (e : ℕ) → owned_by (is_station e) outs
+      ≡ unless (event_fault w.sight event) [] (own_told (station_of event) e (happens w.sight event).sent)
+  pub strangers : (id : ℕ) → owned_by (is_stranger id) outs
+      ≡ map answer_told (stranger_step w.sight.profiles id (stranger_at id w.strangers) (stranger_input w.sight id event)).sent
+  pub subscribers : (slot : ℕ)
+      → owned_by (is_slot slot) outs ≡ told_if (slice_get w.subscribers slot) (item_for slot w.sight (strangers_in w) event)
   pub order : AreInOrder outs
 
 -- the output of an event that is not refused is one
 abbrev pub RepliesSo : Type 0
-RepliesSo = (w : World) (event : Event) (outs : List Out) → Rising known_id w.strangers → reply w event ≡ Ok outs → IsOutput w event outs
+RepliesSo =
+    (w : World) (event : Event) (outs : List Out) → Rising known_id w.strangers → reply w event ≡ Ok outs → IsOutput w event outs
 
 -- and there is no other
 abbrev pub OneOutput : Type 0

@@ -32,7 +32,8 @@ strangers_after s g event id = (stranger_step s.profiles id (g id) (stranger_inp
 -- one stranger over a list of events
 abbrev pub stranger_run : Sight → ℕ → Option StrangerState → List Event → Option StrangerState
 stranger_run s id x [] = x
-stranger_run s id x (event ∷ events) = stranger_run (sight_after s event) id (stranger_step s.profiles id x (stranger_input s id event)).stranger events
+stranger_run s id x (event ∷ events) =
+    stranger_run (sight_after s event) id (stranger_step s.profiles id x (stranger_input s id event)).stranger events
 
 -- ---- one subscriber
 
@@ -44,7 +45,8 @@ item_for slot s g event = unless (event_fault s event) Nothing (items_of s g eve
 -- strangers, who are so too
 abbrev pub projection : ℕ → Sight → (ℕ → Option StrangerState) → List Event → List Item
 projection slot s g [] = []
-projection slot s g (event ∷ events) = item_for slot s g event ∷ projection slot (sight_after s event) (strangers_after s g event) events
+projection slot s g (event ∷ events) =
+    item_for slot s g event ∷ projection slot (sight_after s event) (strangers_after s g event) events
 
 -- ---- what of an output is an owner's
 
@@ -108,7 +110,9 @@ own_told (Some n) e sent = if n == e then map answer_told sent else []
 
 abbrev pub station_told : Sight → ℕ → List Event → List (List Told)
 station_told s e [] = []
-station_told s e (event ∷ events) = unless (event_fault s event) [] (own_told (station_of event) e (happens s event).sent) ∷ station_told (sight_after s event) e events
+station_told s e (event ∷ events) =
+    unless (event_fault s event) [] (own_told (station_of event) e (happens s event).sent)
+    ∷ station_told (sight_after s event) e events
 
 -- nothing at each event
 abbrev pub silence : List Event → List (List Told)
@@ -153,7 +157,8 @@ own_state (Some n) e state after = if n == e then unwrap_or after state else sta
 abbrev pub station_run : Sight → ℕ → StationState → List Event → StationState
 station_run s e state [] = state
 station_run s e state (event ∷ events) =
-    station_run (sight_after s event) e (unless (event_fault s event) state (own_state (station_of event) e state (happens s event).state)) events
+    station_run (sight_after s event) e
+    (unless (event_fault s event) state (own_state (station_of event) e state (happens s event).state)) events
 
 -- the states of a subscriber behind each of a list of items
 abbrev pub states_run : SubscriberView → List Item → List (Option States)

@@ -122,7 +122,8 @@ sight_run s (event ∷ events) = sight_run (sight_after s event) events
 abbrev pub fresh_subscribers : Network → ℕ → List Profile → List (List Vector) → List SubscriberView
 fresh_subscribers n slot [] vectors = []
 fresh_subscribers n slot (p ∷ ps) vectors =
-    record { setting = record { network = n; slot = slot; profile = p; vectors = vectors_at slot vectors }; solo = fresh_solo } ∷ fresh_subscribers n (slot + 1) ps vectors
+    record { setting = record { network = n; slot = slot; profile = p; vectors = vectors_at slot vectors }; solo = fresh_solo }
+    ∷ fresh_subscribers n (slot + 1) ps vectors
 
 -- ---- the MME
 

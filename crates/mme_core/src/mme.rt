@@ -119,7 +119,9 @@ impl Mme {
     pub fn new(alloc: Global, config: Config, provision: Provision) -> Result<Mme, AllocError>
         ensures { IfOk result (λ m. m ≡ fresh_world config provision) }
     {
-        worlds_are_kept();
+        in_use_is_kept();
+        soundness_is_kept();
+        clocks_are_kept();
         let mut provision = provision;
         let network = SharedNetwork::new(alloc, config.network.clone()?)?;
         let subscribers = fresh_subscribers(alloc, &network, &mut provision)?;
@@ -179,7 +181,6 @@ impl Mme {
         ensures refused { IfErr result (λ fault. fault ≢ NoMemory → reply self.old event.now ≡ Err fault) }
         ensures err { OnErr result (self.new ≡ self.old) }
     {
-        worlds_are_kept();
         let ready = self.ready(event)?;
         self.take(ready)
     }
@@ -194,7 +195,8 @@ impl Mme {
         ensures faults { IfOk result (λ rs. HasEachFault self.old events.now rs.items) }
         ensures after { IfOk result (λ rs. self.new ≡ world_run self.old (events_taken events.now rs.items)) }
         ensures told { IfOk result (λ rs. (slot : ℕ) (w : SubscriberView) → slice_get self.old.subscribers slot ≡ Some w →
-            told (is_slot slot) (replies_given rs.items) ≡ subscriber_told w (projection slot self.old.sight (strangers_in self.old) (events_taken events.now rs.items))) }
+            told (is_slot slot) (replies_given rs.items)
+            ≡ subscriber_told w (projection slot self.old.sight (strangers_in self.old) (events_taken events.now rs.items))) }
         ensures fresh { IfOk result (λ rs. (slot : ℕ) (w : SubscriberView) → slice_get self.old.subscribers slot ≡ Some w →
             IsFreshRun w (projection slot self.old.sight (strangers_in self.old) (events_taken events.now rs.items))) }
         ensures guarded { IfOk result (λ rs. (slot : ℕ) (w : SubscriberView) → slice_get self.old.subscribers slot ≡ Some w →
@@ -202,18 +204,25 @@ impl Mme {
         ensures ends { IfOk result (λ rs. (slot : ℕ) (w : SubscriberView) → slice_get self.old.subscribers slot ≡ Some w →
             IsEndingRun w (projection slot self.old.sight (strangers_in self.old) (events_taken events.now rs.items))) }
         ensures each_states { IfOk result (λ rs. (slot : ℕ) (w : SubscriberView) → slice_get self.old.subscribers slot ≡ Some w →
-            states_along slot self.old (events_taken events.now rs.items) ≡ states_run w (projection slot self.old.sight (strangers_in self.old) (events_taken events.now rs.items))) }
+            states_along slot self.old (events_taken events.now rs.items)
+            ≡ states_run w (projection slot self.old.sight (strangers_in self.old) (events_taken events.now rs.items))) }
         ensures states { IfOk result (λ rs. (slot : ℕ) (w : SubscriberView) → slice_get self.old.subscribers slot ≡ Some w →
-            slice_get self.new.subscribers slot ≡ Some (alone_after w (projection slot self.old.sight (strangers_in self.old) (events_taken events.now rs.items)))) }
+            slice_get self.new.subscribers slot
+            ≡ Some (alone_after w (projection slot self.old.sight (strangers_in self.old) (events_taken events.now rs.items)))) }
         ensures absent { IfOk result (λ rs. (slot : ℕ) → slice_get self.old.subscribers slot ≡ None →
             told (is_slot slot) (replies_given rs.items) ≡ silence (events_taken events.now rs.items)) }
         ensures strangers { IfOk result (λ rs. (id : ℕ) →
-            told (is_stranger id) (replies_given rs.items) ≡ stranger_told self.old.sight id (stranger_at id self.old.strangers) (events_taken events.now rs.items)) }
+            told (is_stranger id) (replies_given rs.items)
+            ≡ stranger_told self.old.sight id (stranger_at id self.old.strangers) (events_taken events.now rs.items)) }
         ensures stranger_states { IfOk result (λ rs. (id : ℕ) →
-            stranger_at id self.new.strangers ≡ stranger_run self.old.sight id (stranger_at id self.old.strangers) (events_taken events.now rs.items)) }
-        ensures stations { IfOk result (λ rs. (e : ℕ) → told (is_station e) (replies_given rs.items) ≡ station_told self.old.sight e (events_taken events.now rs.items)) }
+            stranger_at id self.new.strangers
+            ≡ stranger_run self.old.sight id (stranger_at id self.old.strangers) (events_taken events.now rs.items)) }
+        ensures stations { IfOk result
+            (λ rs. (e : ℕ) → told (is_station e) (replies_given rs.items)
+            ≡ station_told self.old.sight e (events_taken events.now rs.items)) }
         ensures station_states { IfOk result (λ rs. (e : ℕ) → e < 128 →
-            station_at self.new.sight.stations e ≡ station_run self.old.sight e (station_at self.old.sight.stations e) (events_taken events.now rs.items)) }
+            station_at self.new.sight.stations e
+            ≡ station_run self.old.sight e (station_at self.old.sight.stations e) (events_taken events.now rs.items)) }
         ensures order { IfOk result (λ rs. AllInOrder rs.items) }
         ensures err { OnErr result (self.new ≡ self.old) }
     {
@@ -246,7 +255,9 @@ impl Mme {
         ensures refused { IfErr result (λ fault. (event_fault self.old.sight event.now ≡ Some fault)
             ⊎ ((fault ≡ NoMemory) × (event_fault self.old.sight event.now ≡ None))) }
         ensures same { self.new ≡ self.old }
+        ensures kept { IfOk result (λ r. IsKept (ready_world r self.new)) }
     {
+        worlds_are_kept();
         self.surroundings.ready(&mut self.subscribers, event)
     }
 
@@ -381,12 +392,18 @@ impl Surroundings {
         outs: &mut Outs,
     ) -> Result<Prepared, AllocError>
         requires { AreInUse subscribers.old.subscribers }
-        ensures sends { OnOk result (outs.new ≡ outs.old ++ (strangers_sent self.entry.now.sight.profiles (destination_of self.entry.now.sight.stations destination.entry) self.entry.now.strangers
-            ++ each_sent (item_at (destination_of self.entry.now.sight.stations destination.entry) self.entry.now.sight.profiles (λ id. stranger_at id self.entry.now.strangers)) 0 subscribers.old.subscribers)) }
+        ensures sends { OnOk result
+            (outs.new ≡ outs.old
+            ++ (strangers_sent self.entry.now.sight.profiles
+            (destination_of self.entry.now.sight.stations destination.entry) self.entry.now.strangers
+            ++ each_sent (item_at (destination_of self.entry.now.sight.stations destination.entry) self.entry.now.sight.profiles
+            (λ id. stranger_at id self.entry.now.strangers)) 0 subscribers.old.subscribers)) }
         ensures strangers { IfOk result (λ p. settled_strangers p self.entry.now.strangers
-            ≡ strangers_behind self.entry.now.sight.profiles (destination_of self.entry.now.sight.stations destination.entry) self.entry.now.strangers) }
+            ≡ strangers_behind self.entry.now.sight.profiles
+            (destination_of self.entry.now.sight.stations destination.entry) self.entry.now.strangers) }
         ensures subscribers { IfOk result (λ p. settled_subscribers p subscribers.old.subscribers
-            ≡ each_after (item_at (destination_of self.entry.now.sight.stations destination.entry) self.entry.now.sight.profiles (λ id. stranger_at id self.entry.now.strangers)) 0 subscribers.old.subscribers) }
+            ≡ each_after (item_at (destination_of self.entry.now.sight.stations destination.entry) self.entry.now.sight.profiles
+            (λ id. stranger_at id self.entry.now.strangers)) 0 subscribers.old.subscribers) }
         ensures fits { IfOk result (λ p. IsFor p subscribers.old.subscribers) }
         ensures passing { IfOk result (λ p. IsPassing (destination_of self.entry.now.sight.stations destination.entry) p) }
         ensures same { subscribers.new ≡ subscribers.old }
@@ -410,7 +427,9 @@ impl Surroundings {
     ) -> Result<Ready, StepFault>
         requires { AreInUse subscribers.old.subscribers }
         ensures reply { IfOk result (λ r. reply (world_of self.entry.now subscribers.old.subscribers) event.entry.now ≡ Ok r.outs) }
-        ensures after { IfOk result (λ r. ready_world r (world_of self.entry.now subscribers.old.subscribers) ≡ world_after (world_of self.entry.now subscribers.old.subscribers) event.entry.now) }
+        ensures after { IfOk result
+            (λ r. ready_world r (world_of self.entry.now subscribers.old.subscribers)
+            ≡ world_after (world_of self.entry.now subscribers.old.subscribers) event.entry.now) }
         ensures fits { IfOk result (λ r. IsFor r.prepared subscribers.old.subscribers) }
         ensures in_time { IfOk result (λ r. IsInTime r.prepared self.entry.now.sight.clock r.moves.clock) }
         ensures order { IfOk result (λ r. AreInOrder r.outs) }
@@ -449,7 +468,8 @@ impl Surroundings {
         requires clock { subscribers.old.clock ≤ self.old.sight.clock }
         requires in_time { IsInTime ready.prepared self.old.sight.clock ready.moves.clock }
         requires rising { Rising known_id (settled_strangers ready.prepared self.old.strangers) }
-        ensures after { OnOk result (world_of self.new subscribers.new.subscribers ≡ ready_world ready (world_of self.old subscribers.old.subscribers)) }
+        ensures after { OnOk result
+            (world_of self.new subscribers.new.subscribers ≡ ready_world ready (world_of self.old subscribers.old.subscribers)) }
         ensures clock { OnOk result (subscribers.new.clock ≤ self.new.sight.clock) }
         ensures outs { IfOk result (λ outs. outs ≡ ready.outs) }
         ensures short { IfOk result (λ outs. AreShort outs) }

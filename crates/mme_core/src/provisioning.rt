@@ -29,7 +29,8 @@ pub(crate) fn fresh_subscribers(
     provision: &mut Provision,
 ) -> Result<Subscribers, AllocError>
     ensures clock { IfOk result (λ t. t.clock ≡ 0) }
-    ensures value { IfOk result (λ t. t.subscribers ≡ fresh_subscribers network.now 0 provision.old.profiles provision.old.vectors) }
+    ensures value { IfOk result
+        (λ t. t.subscribers ≡ fresh_subscribers network.now 0 provision.old.profiles provision.old.vectors) }
     ensures count { IfOk result (λ t. length t.subscribers ≡ length provision.old.profiles) }
     ensures profiles { OnOk result (provision.new.profiles ≡ provision.old.profiles) }
 {

@@ -91,7 +91,8 @@ fn outcome_of_fault<'a>(
     station: StationNumber,
     fault: S1apFault,
 ) -> Result<Outcome<'a>, AllocError>
-    ensures rows { IfOk result (λ h. (stations : List StationState) → seen_outcome stations h ≡ answered (indicated station (cause_of fault))) }
+    ensures rows { IfOk result
+        (λ h. (stations : List StationState) → seen_outcome stations h ≡ answered (indicated station (cause_of fault))) }
     ensures other { OnOk result (fault ≢ faults.NoMemory) }
 {
     match fault {
@@ -137,7 +138,8 @@ fn station_set_up<'a>(
     station: StationNumber,
     supported_tas: SupportedTas,
 ) -> Result<Outcome<'a>, AllocError>
-    ensures { IfOk result (λ h. (stations : List StationState) → seen_outcome stations h ≡ station_set_up network.now station supported_tas) }
+    ensures { IfOk result
+        (λ h. (stations : List StationState) → seen_outcome stations h ≡ station_set_up network.now station supported_tas) }
 {
     if broadcasts(network.plmn, supported_tas.as_slice()) {
         station_taken(alloc, network, station, supported_tas)
@@ -209,7 +211,9 @@ fn message_by_id<'a>(
     provision: &Provision,
     message: &UeMessage<&'a [u8]>,
 ) -> Result<Outcome<'a>, AllocError>
-    ensures { IfOk result (λ h. (stations : List StationState) → seen_outcome stations h ≡ message_by_id provision.now.profiles (message_lists message.now)) }
+    ensures { IfOk result
+        (λ h. (stations : List StationState) → seen_outcome stations h
+        ≡ message_by_id provision.now.profiles (message_lists message.now)) }
 {
     if !message.mme_ue_id.is_of_slot() {
         return Ok(Outcome {

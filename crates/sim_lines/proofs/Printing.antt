@@ -7,15 +7,18 @@ use Rattle.trace_player.specs.declared.progress.Progress.{Progress}
 use Rattle.sim_printing.specs.Printed.{AddsComments, IsBegun, PrintsOn}
 use Rattle.sim_printing.specs.PrintLaws.{Prints-then, Prints-comments}
 
-pub PrintsOn-then : (a b c : Progress) (s t u : List ℕ) (kept : List (Result Line TraceFault)) → PrintsOn a s b t kept → PrintsOn b t c u [] → PrintsOn a s c u kept
+pub PrintsOn-then : (a b c : Progress) (s t u : List ℕ) (kept : List (Result Line TraceFault)) → PrintsOn a s b t kept
+    → PrintsOn b t c u [] → PrintsOn a s c u kept
 PrintsOn-then a b c s t u kept p q = (q.0, Prints-then a b c s t u kept p.1 q.1)
 
 -- a comment that answers nothing
-pub PrintsOn-remark : (progress : Progress) (before after : List ℕ) → IsBegun progress → AddsComments before after [] → PrintsOn progress before progress after []
+pub PrintsOn-remark : (progress : Progress) (before after : List ℕ) → IsBegun progress → AddsComments before after []
+    → PrintsOn progress before progress after []
 PrintsOn-remark progress before after h adds = (h, Prints-comments progress before after adds)
 
 -- the line that was played
-pub PrintsOn-line : {E : Type 0} (result : Result (Unit {0}) E) (line same : Line) (old new : Progress) (before after : List ℕ) → line ≡ same
+pub PrintsOn-line : {E : Type 0} (result : Result (Unit {0}) E) (line same : Line) (old new : Progress) (before after : List ℕ)
+    → line ≡ same
     → OnOk result (PrintsOn old before new after (kept_line same)) → OnOk result (PrintsOn old before new after (kept_line line))
 PrintsOn-line result line same old new before after e h =
     subst (λ (v : Line). OnOk result (PrintsOn old before new after (kept_line v))) (sym e) h

@@ -57,7 +57,8 @@ fn provide_network(
     out: &mut Vec<u8>,
 ) -> Result<(), PlayFault>
     requires { ReadsAs (Mme fields.now) text.now }
-    ensures { PrintsScriptLine number (kept_line (Mme fields.now)) script.old.progress out.old.items result script.new.progress out.new.items }
+    ensures { PrintsScriptLine number
+        (kept_line (Mme fields.now)) script.old.progress out.old.items result script.new.progress out.new.items }
 {
     if script.acted {
         return Err(PlayFault::Trace(number, TraceFault::Order));
@@ -78,7 +79,8 @@ fn provide_phone(
     out: &mut Vec<u8>,
 ) -> Result<(), PlayFault>
     requires { ReadsAs (Sub profile) text.now }
-    ensures { PrintsScriptLine number (kept_line (Sub profile)) script.old.progress out.old.items result script.new.progress out.new.items }
+    ensures { PrintsScriptLine number
+        (kept_line (Sub profile)) script.old.progress out.old.items result script.new.progress out.new.items }
 {
     if script.acted {
         return Err(PlayFault::Trace(number, TraceFault::Order));
@@ -103,7 +105,8 @@ fn provide_vector(
     out: &mut Vec<u8>,
 ) -> Result<(), PlayFault>
     requires { ReadsAs (Vec imsi vector) text.now }
-    ensures { PrintsScriptLine number (kept_line (Vec imsi vector)) script.old.progress out.old.items result script.new.progress out.new.items }
+    ensures { PrintsScriptLine number
+        (kept_line (Vec imsi vector)) script.old.progress out.old.items result script.new.progress out.new.items }
 {
     if script.acted {
         return Err(PlayFault::Trace(number, TraceFault::Order));
@@ -132,7 +135,8 @@ fn answer_question(
     out: &mut Vec<u8>,
 ) -> Result<(), PlayFault>
     requires { ReadsAs (Show imsi) text.now }
-    ensures { PrintsScriptLine number (kept_line (Show imsi)) script.old.progress out.old.items result script.new.progress out.new.items }
+    ensures { PrintsScriptLine number
+        (kept_line (Show imsi)) script.old.progress out.old.items result script.new.progress out.new.items }
 {
     if !is_begun(&script.progress) {
         return Err(PlayFault::Trace(number, TraceFault::Order));

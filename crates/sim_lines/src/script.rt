@@ -51,7 +51,8 @@ pub fn play_script_line(
     out: &mut Vec<u8>,
 ) -> Result<(), PlayFault>
     requires { breaks text.now ≡ 0 }
-    ensures { PrintsScriptLine number (kept_in (text.now ∷ [])) script.old.progress out.old.items result script.new.progress out.new.items }
+    ensures { PrintsScriptLine number
+        (kept_in (text.now ∷ [])) script.old.progress out.old.items result script.new.progress out.new.items }
 {
     first_word_tells();
     match parse_script_line(alloc, text) {

@@ -76,8 +76,10 @@ esm_saying r c (Ok m) = session_saying r c m.transaction m.body
 esm_saying r c (Err fault) = silent (with_context r c)
 
 abbrev pub mobility_saying : Card → Registration → PhoneContextView → Emm (List ℕ) → Spoken
-mobility_saying card r c (emm.AttachAccept m) = protected_saying (with_given_guti r m.guti) c IntegrityProtected attach_complete_octets
-mobility_saying card r c (emm.TrackingAreaUpdateAccept m) = protected_saying (with_given_guti r m.guti) c IntegrityProtected update_complete_octets
+mobility_saying card r c (emm.AttachAccept m) =
+    protected_saying (with_given_guti r m.guti) c IntegrityProtected attach_complete_octets
+mobility_saying card r c (emm.TrackingAreaUpdateAccept m) =
+    protected_saying (with_given_guti r m.guti) c IntegrityProtected update_complete_octets
 mobility_saying card r c emm.NetworkDetach = leaving (protected_saying r c IntegrityProtected detach_accept_octets)
 mobility_saying card r c m = plain_saying card (with_context r c) m
 

@@ -47,8 +47,10 @@ identity_by imsi None = identity.Imsi imsi
 identity_by imsi (Some guti) = identity.Temporary guti
 
 abbrev pub detach_by : List ℕ → Registration → Bool → Option PhoneContextView → Spoken
-detach_by imsi r switch_off None = record { octets = Some (detach_octets (identity_by imsi r.guti) switch_off no_key_set); registration = r }
-detach_by imsi r switch_off (Some c) = protected_saying r c IntegrityProtected (detach_octets (identity_by imsi r.guti) switch_off (c.ksi % 8))
+detach_by imsi r switch_off None =
+    record { octets = Some (detach_octets (identity_by imsi r.guti) switch_off no_key_set); registration = r }
+detach_by imsi r switch_off (Some c) =
+    protected_saying r c IntegrityProtected (detach_octets (identity_by imsi r.guti) switch_off (c.ksi % 8))
 
 abbrev pub detach_saying : List ℕ → Registration → Bool → Spoken
 detach_saying imsi r switch_off = detach_by imsi r switch_off r.context

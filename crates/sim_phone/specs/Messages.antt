@@ -14,7 +14,8 @@ unregistered = record { challenge = None; context = None; guti = None }
 
 -- PDN CONNECTIVITY REQUEST of transaction 1: an initial request, for IPv4; the flag asks that ESM information be asked for
 abbrev pub connectivity_octets : Bool → List ℕ
-connectivity_octets information = encoded_esm (record { bearer = 0; transaction = 1; body = esm.ConnectivityRequest 1 1 information })
+connectivity_octets information =
+    encoded_esm (record { bearer = 0; transaction = 1; body = esm.ConnectivityRequest 1 1 information })
 
 -- no key set (TS 24.301 clause 9.9.3.21)
 abbrev pub no_key_set : ℕ
@@ -40,11 +41,13 @@ foreign_guti = record { plmn = record { octets = 0x02 ∷ 0xf8 ∷ 0x39 ∷ [] }
 
 -- TRACKING AREA UPDATE REQUEST, a TA updating
 unfoldable pub update_octets : ℕ → Guti → List ℕ
-update_octets ksi guti = encoded_emm (emm.TrackingAreaUpdateRequest (record { update_type = 0; active = false; ksi = ksi; guti = guti }))
+update_octets ksi guti =
+    encoded_emm (emm.TrackingAreaUpdateRequest (record { update_type = 0; active = false; ksi = ksi; guti = guti }))
 
 -- DETACH REQUEST, an EPS detach
 unfoldable pub detach_octets : MobileIdentity → Bool → ℕ → List ℕ
-detach_octets who switch_off ksi = encoded_emm (emm.DetachRequest (record { detach_type = 1; switch_off = switch_off; ksi = ksi; identity = who }))
+detach_octets who switch_off ksi =
+    encoded_emm (emm.DetachRequest (record { detach_type = 1; switch_off = switch_off; ksi = ksi; identity = who }))
 
 unfoldable pub identity_octets_of : MobileIdentity → List ℕ
 identity_octets_of who = encoded_emm (emm.IdentityResponse who)
@@ -61,7 +64,8 @@ mode_complete_octets = encoded_emm emm.SecurityModeComplete
 
 -- ATTACH COMPLETE with ACTIVATE DEFAULT EPS BEARER CONTEXT ACCEPT of the bearer 5
 unfoldable pub attach_complete_octets : List ℕ
-attach_complete_octets = encoded_emm (emm.AttachComplete (encoded_esm (record { bearer = 5; transaction = 0; body = esm.ActivateAccept })))
+attach_complete_octets =
+    encoded_emm (emm.AttachComplete (encoded_esm (record { bearer = 5; transaction = 0; body = esm.ActivateAccept })))
 
 unfoldable pub update_complete_octets : List ℕ
 update_complete_octets = encoded_emm emm.TrackingAreaUpdateComplete

@@ -46,7 +46,11 @@ uplink_parts c header message = record {
 unfoldable pub protected_saying : Registration → PhoneContextView → SecurityHeader → List ℕ → Spoken
 protected_saying r c header message =
     if nat_le (2 ^ 24) c.down_next then silent (with_context r c)
-    else record { octets = Some (protected_form (uplink_parts c header message)); registration = with_context r (with_count_spent c) }
+    else record {
+      octets = Some (protected_form (uplink_parts c header message));
+      registration =
+          with_context r (with_count_spent c);
+    }
 
 -- SERVICE REQUEST under the next count (TS 24.301 clause 8.2.25): c7, the key set identifier with the count's low 5 bits, and
 -- the last two octets of the MAC over these two

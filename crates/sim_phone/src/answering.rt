@@ -158,7 +158,8 @@ fn mobility_saying(
     context: PhoneContext,
     message: &EmmMessage,
 ) -> Result<Saying, AllocError>
-    ensures { IfOk result (λ s. s ≡ mobility_saying (record { imsi = imsi; vectors = vectors.now }) registration context (lists message.now)) }
+    ensures { IfOk result
+        (λ s. s ≡ mobility_saying (record { imsi = imsi; vectors = vectors.now }) registration context (lists message.now)) }
 {
     let header = SecurityHeader::IntegrityProtected;
     match message {
@@ -196,7 +197,8 @@ fn context_saying(
     context: PhoneContext,
     octets: &[u8],
 ) -> Result<Saying, AllocError>
-    ensures { IfOk result (λ s. s ≡ context_saying (record { imsi = imsi; vectors = vectors.now }) registration (context, octets.now)) }
+    ensures { IfOk result
+        (λ s. s ≡ context_saying (record { imsi = imsi; vectors = vectors.now }) registration (context, octets.now)) }
 {
     match decode_emm(octets, Direction::Downlink) {
         Ok(message) => mobility_saying(alloc, imsi, vectors, registration, context, &message),

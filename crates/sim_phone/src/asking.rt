@@ -114,8 +114,8 @@ fn update_with(
     protected_saying(alloc, registration, context, header, &request)
 }
 
-/// TRACKING AREA UPDATE REQUEST (TS 24.301 clause 8.2.29), with a context of which a count is left, and a GUTI; else nothing. Refused
-/// for want of memory alone.
+/// TRACKING AREA UPDATE REQUEST (TS 24.301 clause 8.2.29), with a context of which a count is left, and a GUTI; else nothing.
+/// Refused for want of memory alone.
 pub fn update_saying(alloc: Global, registration: Registration) -> Result<Saying, AllocError>
     ensures { IfOk result (λ s. s ≡ update_saying registration) }
 {

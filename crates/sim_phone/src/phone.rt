@@ -69,7 +69,13 @@ impl Model for Phone {
 
     ghost Value = { PhoneView };
 
-    ghost view = { λ p. record { imsi = p.imsi; vectors = p.vectors.items; deaf = p.deaf; registration = p.registration; sent = option_map (λ o. o.items) p.sent } };
+    ghost view = { λ p. record {
+      imsi = p.imsi;
+      vectors = p.vectors.items;
+      deaf = p.deaf;
+      registration = p.registration;
+      sent = option_map (λ o. o.items) p.sent;
+    } };
 }
 
 // A copy of octets that are in the protected form.

@@ -27,8 +27,10 @@ use Rattle.sim_printing.specs.Printed.{AddsComments, IfSent, Prints, PrintsFrom,
 use Rattle.sim_printing.specs.PrintLaws.{AddsComments-none, Prints-line}
 
 -- one tick is an event
-one_then : (world : World) (r : Result (List Out) StepFault) → tick_then world r (λ after. (after, [])) ≡ (left_by world event.Tick r, reply_text r)
-one_then world (Ok outs) = ap (λ (v : List ℕ). let p : World × List ℕ = (world_after world event.Tick, v) in p) (append-nil (answers_of outs))
+one_then : (world : World) (r : Result (List Out) StepFault)
+    → tick_then world r (λ after. (after, [])) ≡ (left_by world event.Tick r, reply_text r)
+one_then world (Ok outs) =
+    ap (λ (v : List ℕ). let p : World × List ℕ = (world_after world event.Tick, v) in p) (append-nil (answers_of outs))
 one_then world (Err fault) = refl
 
 ticked-one : (world : World) → ticked 1 world ≡ event_played world event.Tick
@@ -40,22 +42,27 @@ unfolding line_of
 tick_reads = (refl, refl)
 
 -- where octets lie in memory is nothing to the MME
-played-octets : (world : World) (e : ℕ) (octets : Bor (List ℕ)) → event_played world (in_event e octets.now) ≡ event_played world (event.In e octets)
+played-octets : (world : World) (e : ℕ) (octets : Bor (List ℕ))
+    → event_played world (in_event e octets.now) ≡ event_played world (event.In e octets)
 unfolding happens
 played-octets world e octets = refl
 
-reply-octets : (world : World) (e : ℕ) (octets : Bor (List ℕ)) → reply world (in_event e octets.now) ≡ reply world (event.In e octets)
+reply-octets : (world : World) (e : ℕ) (octets : Bor (List ℕ))
+    → reply world (in_event e octets.now) ≡ reply world (event.In e octets)
 unfolding happens
 reply-octets world e octets = refl
 
-pub IfSent-octets : (progress : Progress) (e : ℕ) (octets : Bor (List ℕ)) (sent : Option (List Out)) → IfSent progress (event.In e octets) sent → IfSent progress (in_event e octets.now) sent
+pub IfSent-octets : (progress : Progress) (e : ℕ) (octets : Bor (List ℕ)) (sent : Option (List Out))
+    → IfSent progress (event.In e octets) sent → IfSent progress (in_event e octets.now) sent
 IfSent-octets progress e octets None h = tt
 IfSent-octets progress e octets (Some s) h = λ world r. reply-octets world e octets ∙ h world r
 
-after_run : (progress : Progress) (world : World) (f : World → Effect) → running progress ≡ Ok world → (running progress >>= f) ≡ f world
+after_run : (progress : Progress) (world : World) (f : World → Effect) → running progress ≡ Ok world
+    → (running progress >>= f) ≡ f world
 after_run progress world f r = ap (λ (v : Result World TraceFault). v >>= f) r
 
-event_effect : (progress : Progress) (world : World) (event : Event) → running progress ≡ Ok world → effect_of progress (event_line event) ≡ left (event_played world event)
+event_effect : (progress : Progress) (world : World) (event : Event) → running progress ≡ Ok world
+    → effect_of progress (event_line event) ≡ left (event_played world event)
 unfolding effect_of
 event_effect progress world (event.Up e) r = after_run progress world (λ w. left (event_played w (event.Up e))) r
 event_effect progress world (event.Lost e) r = after_run progress world (λ w. left (event_played w (event.Lost e))) r
@@ -78,36 +85,46 @@ made world said = Ok (Running world, said)
 
 -- an event by the answer of the MME
 Prints-played : FirstWordTells → (old new : World) (event : Event) (before mid after l said : List ℕ) → ReadsAs (event_line event) l
-    → new ≡ left_by old event (reply old event) → said ≡ reply_text (reply old event) → mid ≡ before ++ (l ++ 10 ∷ []) → AddsComments mid after said
+    → new ≡ left_by old event (reply old event) → said ≡ reply_text (reply old event) → mid ≡ before ++ (l ++ 10 ∷ [])
+    → AddsComments mid after said
     → PrintsFrom old before new after (kept_line (event_line event))
 unfolding made
 Prints-played law old new event before mid after l said reads n s m adds progress r =
     Prints-line law progress (Running new) before mid after l said (event_line event) reads (event_says event)
     (event_effect progress old event r ∙ sym (ap (λ w. made w said) n ∙ ap (made (left_by old event (reply old event))) s)) m adds
 
-pub Prints-taken : FirstWordTells → (old new : World) (event : Event) (outs : List Out) (before mid after l : List ℕ) → ReadsAs (event_line event) l
-    → reply old event ≡ Ok outs → new ≡ world_after old event → mid ≡ before ++ (l ++ 10 ∷ []) → AddsComments mid after (answers_of outs)
+pub Prints-taken : FirstWordTells → (old new : World) (event : Event) (outs : List Out) (before mid after l : List ℕ)
+    → ReadsAs (event_line event) l
+    → reply old event ≡ Ok outs → new ≡ world_after old event → mid ≡ before ++ (l ++ 10 ∷ [])
+    → AddsComments mid after (answers_of outs)
     → PrintsFrom old before new after (kept_line (event_line event))
 Prints-taken law old new event outs before mid after l reads r n m adds =
-    Prints-played law old new event before mid after l (answers_of outs) reads (n ∙ ap (left_by old event) (sym r)) (ap reply_text (sym r)) m adds
+    Prints-played law old new event before mid after l (answers_of outs) reads (n ∙ ap (left_by old event) (sym r))
+    (ap reply_text (sym r)) m adds
 
-pub Prints-refused : FirstWordTells → (old new : World) (event : Event) (fault : StepFault) (before mid after l : List ℕ) → ReadsAs (event_line event) l
-    → reply old event ≡ Err fault → new ≡ old → mid ≡ before ++ (l ++ 10 ∷ []) → AddsComments mid after (refused_text (refusal_number fault))
+pub Prints-refused : FirstWordTells → (old new : World) (event : Event) (fault : StepFault) (before mid after l : List ℕ)
+    → ReadsAs (event_line event) l
+    → reply old event ≡ Err fault → new ≡ old → mid ≡ before ++ (l ++ 10 ∷ [])
+    → AddsComments mid after (refused_text (refusal_number fault))
     → PrintsFrom old before new after (kept_line (event_line event))
 Prints-refused law old new event fault before mid after l reads r n m adds =
-    Prints-played law old new event before mid after l (refused_text (refusal_number fault)) reads (n ∙ ap (left_by old event) (sym r)) (ap reply_text (sym r)) m adds
+    Prints-played law old new event before mid after l (refused_text (refusal_number fault)) reads
+    (n ∙ ap (left_by old event) (sym r)) (ap reply_text (sym r)) m adds
 
-show_effect : (progress : Progress) (world : World) (imsi : List ℕ) (states : States) → running progress ≡ Ok world → states_of_imsi imsi world ≡ Some states
+show_effect : (progress : Progress) (world : World) (imsi : List ℕ) (states : States) → running progress ≡ Ok world
+    → states_of_imsi imsi world ≡ Some states
     → effect_of progress (Show imsi) ≡ Ok (Running world, states_text imsi states)
 unfolding effect_of
 show_effect progress world imsi states r e =
     after_run progress world (λ w. states_shown imsi w (states_of_imsi imsi w)) r ∙ ap (states_shown imsi world) e
 
-pub Prints-show : FirstWordTells → (world : World) (imsi : List ℕ) (states : States) (before mid after l : List ℕ) → ReadsAs (Show imsi) l
+pub Prints-show : FirstWordTells → (world : World) (imsi : List ℕ) (states : States) (before mid after l : List ℕ)
+    → ReadsAs (Show imsi) l
     → states_of_imsi imsi world ≡ Some states → mid ≡ before ++ (l ++ 10 ∷ []) → AddsComments mid after (states_text imsi states)
     → PrintsFrom world before world after (kept_line (Show imsi))
 Prints-show law world imsi states before mid after l reads e m adds progress r =
-    Prints-line law progress (Running world) before mid after l (states_text imsi states) (Show imsi) reads (λ s. cc s) (show_effect progress world imsi states r e) m adds
+    Prints-line law progress (Running world) before mid after l (states_text imsi states) (Show imsi) reads (λ s. cc s)
+    (show_effect progress world imsi states r e) m adds
 
 -- ---- provisioning
 
@@ -119,18 +136,21 @@ pub sub_effect : (progress : Progress) (profile : Profile) → effect_of progres
 unfolding effect_of
 sub_effect progress profile = refl
 
-pub vec_effect : (progress : Progress) (imsi : List ℕ) (vector : Vector) → effect_of progress (Vec imsi vector) ≡ vector_given progress imsi vector
+pub vec_effect : (progress : Progress) (imsi : List ℕ) (vector : Vector)
+    → effect_of progress (Vec imsi vector) ≡ vector_given progress imsi vector
 unfolding effect_of
 vec_effect progress imsi vector = refl
 
 -- a line that writes nothing
-pub Prints-provisioned : FirstWordTells → (old new : Progress) (before after l : List ℕ) (line : Line) → ReadsAs line l → line ≢ Skip
+pub Prints-provisioned : FirstWordTells → (old new : Progress) (before after l : List ℕ) (line : Line) → ReadsAs line l
+    → line ≢ Skip
     → effect_of old line ≡ Ok (new, []) → after ≡ before ++ (l ++ 10 ∷ []) → Prints old before new after (kept_line line)
 Prints-provisioned law old new before after l line reads some effect e =
     Prints-line law old new before after after l [] line reads some effect e (AddsComments-none after)
 
 -- a line that is refused
-pub PrintsLine-fault : (number : ℕ) (line : Line) (effect : Effect) (old new : Progress) (out : List ℕ) (fault : PlayFault) → effect_of old line ≡ effect
+pub PrintsLine-fault : (number : ℕ) (line : Line) (effect : Effect) (old new : Progress) (out : List ℕ) (fault : PlayFault)
+    → effect_of old line ≡ effect
     → Acts number effect (Err fault) new [] → fault ≢ Write → PrintsLine number line old out (Err fault) new out
 PrintsLine-fault number line effect old new out (Trace place fault) e acts other = (e ∙ acts.0, acts.1, refl)
 PrintsLine-fault number line effect old new out NoMemory e acts other = tt

@@ -52,7 +52,8 @@ hash_skip rest h =
     let fits : nat_lt 40000 (length (35 ∷ rest)) ≡ false = grind (arith, nat_tests) in
     rw fits refl
 
-tested : (P : Type 0) (b : Bool) (first second : Result Line TraceFault) (line : Line) → cond b first second ≡ Ok line → (b ≡ true → first ≡ Ok line → P) → (b ≡ false → second ≡ Ok line → P) → P
+tested : (P : Type 0) (b : Bool) (first second : Result Line TraceFault) (line : Line) → cond b first second ≡ Ok line
+    → (b ≡ true → first ≡ Ok line → P) → (b ≡ false → second ≡ Ok line → P) → P
 tested P true first second line e f g = f refl e
 tested P false first second line e f g = g refl e
 
@@ -61,7 +62,8 @@ pub not_skipped : (text : List ℕ) (line : Line) → line_of text ≡ Ok line �
 unfolding line_of
 not_skipped text line e other =
     let P : Type 0 = is_skipped text ≡ false in
-    tested P (nat_lt 40000 (length text)) (Err TooLong) (cond (is_skipped text) (Ok Skip) (read_words (slice_split (λ c. c == 32) text))) line e
+    tested P (nat_lt 40000 (length text)) (Err TooLong)
+    (cond (is_skipped text) (Ok Skip) (read_words (slice_split (λ c. c == 32) text))) line e
     (λ _ e1. absurd (cc e1))
     (λ _ e1. tested P (is_skipped text) (Ok Skip) (read_words (slice_split (λ c. c == 32) text)) line e1
     (λ b h. absurd (other (let s : Skip ≡ line = cc h in sym s)))

@@ -20,18 +20,21 @@ kept_nil xs = append-nil xs
 pub kept_assoc : (a b c : List (Result Line TraceFault)) → (a ++ b) ++ c ≡ a ++ (b ++ c)
 kept_assoc a b c = append_assoc a b c
 
-cond_append : (b : Bool) (x : Result Line TraceFault) (xs ys : List (Result Line TraceFault)) → cond b (x ∷ (xs ++ ys)) (xs ++ ys) ≡ cond b (x ∷ xs) xs ++ ys
+cond_append : (b : Bool) (x : Result Line TraceFault) (xs ys : List (Result Line TraceFault))
+    → cond b (x ∷ (xs ++ ys)) (xs ++ ys) ≡ cond b (x ∷ xs) xs ++ ys
 cond_append true x xs ys = refl
 cond_append false x xs ys = refl
 
 pub kept_in-append : (xs ys : List (List ℕ)) → kept_in (xs ++ ys) ≡ kept_in xs ++ kept_in ys
 kept_in-append [] ys = refl
 kept_in-append (x ∷ xs) ys =
-    ap (λ v. cond (is_kept_text x) (line_of x ∷ v) v) (kept_in-append xs ys) ∙ cond_append (is_kept_text x) (line_of x) (kept_in xs) (kept_in ys)
+    ap (λ v. cond (is_kept_text x) (line_of x ∷ v) v) (kept_in-append xs ys)
+    ∙ cond_append (is_kept_text x) (line_of x) (kept_in xs) (kept_in ys)
 
 answers_in-append : (xs ys : List (List ℕ)) → answers_in (xs ++ ys) ≡ answers_in xs ++ answers_in ys
 answers_in-append [] ys = refl
-answers_in-append (x ∷ xs) ys = ap (λ v. answer_in x ++ v) (answers_in-append xs ys) ∙ sym (append_assoc (answer_in x) (answers_in xs) (answers_in ys))
+answers_in-append (x ∷ xs) ys =
+    ap (λ v. answer_in x ++ v) (answers_in-append xs ys) ∙ sym (append_assoc (answer_in x) (answers_in xs) (answers_in ys))
 
 lines_assoc : (a b c : List (List ℕ)) → (a ++ b) ++ c ≡ a ++ (b ++ c)
 lines_assoc a b c = append_assoc a b c
@@ -46,7 +49,8 @@ AreComments-nil = record {
   none_kept = ap kept_in lines_of-nil;
 }
 
-AreComments-line : (l said : List ℕ) → breaks l ≡ 0 → line_of l ≡ Ok Skip → is_kept_text l ≡ false → answer_in l ≡ said → AreComments (l ++ 10 ∷ []) said
+AreComments-line : (l said : List ℕ) → breaks l ≡ 0 → line_of l ≡ Ok Skip → is_kept_text l ≡ false → answer_in l ≡ said
+    → AreComments (l ++ 10 ∷ []) said
 AreComments-line l said h skip other e = record {
   whole = λ more. first_line l more h ∙ ap (λ ls. ls ++ lines_of more) (sym (one_line l h));
   silent = λ progress n more.
@@ -65,13 +69,18 @@ AreComments-append a b x y p q =
           ap lines_of (append_assoc a b more) ∙ p.whole (b ++ more) ∙ ap (λ ls. lines_of a ++ ls) (q.whole more)
           ∙ sym (lines_assoc (lines_of a) (lines_of b) (lines_of more)) ∙ ap (λ ls. ls ++ lines_of more) (sym both);
       silent = λ progress n more.
-          ap (λ t. play progress n (lines_of t)) (append_assoc a b more) ∙ p.silent progress n (b ++ more) ∙ q.silent progress (n + breaks a) more
-          ∙ ap (λ m. play progress m (lines_of more)) (let s : n + breaks a + breaks b ≡ n + breaks (a ++ b) = omega (arith, breaks-append a b) in s);
-      said_so = ap answers_in both ∙ answers_in-append (lines_of a) (lines_of b) ∙ ap (λ v. v ++ answers_in (lines_of b)) p.said_so ∙ ap (λ v. x ++ v) q.said_so;
-      none_kept = ap kept_in both ∙ kept_in-append (lines_of a) (lines_of b) ∙ ap (λ v. v ++ kept_in (lines_of b)) p.none_kept ∙ q.none_kept;
+          ap (λ t. play progress n (lines_of t)) (append_assoc a b more) ∙ p.silent progress n (b ++ more)
+          ∙ q.silent progress (n + breaks a) more
+          ∙ ap (λ m. play progress m (lines_of more))
+          (let s : n + breaks a + breaks b ≡ n + breaks (a ++ b) = omega (arith, breaks-append a b) in s);
+      said_so = ap answers_in both ∙ answers_in-append (lines_of a) (lines_of b) ∙ ap (λ v. v ++ answers_in (lines_of b)) p.said_so
+          ∙ ap (λ v. x ++ v) q.said_so;
+      none_kept = ap kept_in both ∙ kept_in-append (lines_of a) (lines_of b) ∙ ap (λ v. v ++ kept_in (lines_of b)) p.none_kept
+          ∙ q.none_kept;
     }
 
-unbroken_by : (b : Bool) (cs : List ℕ) → (is_unbroken cs ≡ true → breaks cs ≡ 0) → cond b false (is_unbroken cs) ≡ true → cond b (1 + breaks cs) (breaks cs) ≡ 0
+unbroken_by : (b : Bool) (cs : List ℕ) → (is_unbroken cs ≡ true → breaks cs ≡ 0) → cond b false (is_unbroken cs) ≡ true
+    → cond b (1 + breaks cs) (breaks cs) ≡ 0
 unbroken_by true cs ih h = absurd (cc h)
 unbroken_by false cs ih h = ih h
 
@@ -80,21 +89,25 @@ unbroken_breaks [] h = refl
 unbroken_breaks (c ∷ cs) h = unbroken_by (c == 10) cs (unbroken_breaks cs) h
 
 -- a text that was written of a line
-pub ReadsAs-text : (line : Line) (text same : List ℕ) → same ≡ text → line_of text ≡ Ok line → is_unbroken text ≡ true → ReadsAs line same
+pub ReadsAs-text : (line : Line) (text same : List ℕ) → same ≡ text → line_of text ≡ Ok line → is_unbroken text ≡ true
+    → ReadsAs line same
 ReadsAs-text line text same e read unbroken = subst (λ (v : List ℕ). ReadsAs line v) (sym e) (unbroken_breaks text unbroken, read)
 
 -- an answer line behind `# `
-AreComments-body : CommentsAreNotKept → (body : List ℕ) → breaks body ≡ 0 → length body ≤ 39998 → AreComments (35 ∷ 32 ∷ (body ++ 10 ∷ [])) (body ++ 10 ∷ [])
+AreComments-body : CommentsAreNotKept → (body : List ℕ) → breaks body ≡ 0 → length body ≤ 39998
+    → AreComments (35 ∷ 32 ∷ (body ++ 10 ∷ [])) (body ++ 10 ∷ [])
 AreComments-body law body h short =
     AreComments-line (35 ∷ 32 ∷ body) (body ++ 10 ∷ []) h (hash_skip (32 ∷ body) (omega arith)) (law (32 ∷ body)) refl
 
-pub AreComments-answer : CommentsAreNotKept → (most : ℕ) (text : List ℕ) → most ≤ 39998 → IsLineWithin most text → AreComments (35 ∷ 32 ∷ text) text
+pub AreComments-answer : CommentsAreNotKept → (most : ℕ) (text : List ℕ) → most ≤ 39998 → IsLineWithin most text
+    → AreComments (35 ∷ 32 ∷ text) text
 AreComments-answer law most text h line =
     subst (λ (v : List ℕ). AreComments (35 ∷ 32 ∷ v) v) (sym line.ends)
     (AreComments-body law line.body (unbroken_breaks line.body line.unbroken) (let s = line.short in omega (arith, s, h)))
 
 -- a remark: a line that begins with `##`
-pub AreComments-remark : CommentsAreNotKept → (body : List ℕ) → breaks body ≡ 0 → length body ≤ 39998 → AreComments (35 ∷ 35 ∷ (body ++ 10 ∷ [])) []
+pub AreComments-remark : CommentsAreNotKept → (body : List ℕ) → breaks body ≡ 0 → length body ≤ 39998
+    → AreComments (35 ∷ 35 ∷ (body ++ 10 ∷ [])) []
 AreComments-remark law body h short =
     AreComments-line (35 ∷ 35 ∷ body) [] h (hash_skip (35 ∷ body) (omega arith)) (law (35 ∷ body)) refl
 
@@ -105,7 +118,8 @@ pub AddsComments-then : (a b c x y : List ℕ) → AddsComments a b x → AddsCo
 AddsComments-then a b c x y p q =
     (p.0 ++ q.0, q.1 ∙ ap (λ v. v ++ q.0) p.1 ∙ append_assoc a p.0 q.0, AreComments-append p.0 q.0 x y p.2 q.2)
 
-pub AddsComments-said : (before after said same : List ℕ) → said ≡ same → AddsComments before after said → AddsComments before after same
+pub AddsComments-said : (before after said same : List ℕ) → said ≡ same → AddsComments before after said
+    → AddsComments before after same
 AddsComments-said before after said same e h = subst (λ (v : List ℕ). AddsComments before after v) e h
 
 -- ---- lines that are played
@@ -121,7 +135,8 @@ Speaks-nil progress = record {
 Speaks-comments : (progress : Progress) (text : List ℕ) → AreComments text [] → Speaks progress text progress
 Speaks-comments progress text c = record {
   whole = c.whole;
-  plays = λ n more. c.silent progress n more ∙ ap (λ v. prepended v (play progress (n + breaks text) (lines_of more))) (sym c.said_so);
+  plays = λ n more. c.silent progress n more
+      ∙ ap (λ v. prepended v (play progress (n + breaks text) (lines_of more))) (sym c.said_so);
 }
 
 pub Speaks-then : (a b c : Progress) (s t : List ℕ) → Speaks a s b → Speaks b t c → Speaks a (s ++ t) c
@@ -135,8 +150,10 @@ Speaks-then a b c s t p q =
           ap (λ v. play a n (lines_of v)) (append_assoc s t more) ∙ p.plays n (t ++ more)
           ∙ ap (prepended (answers_in (lines_of s))) (q.plays (n + breaks s) more)
           ∙ prepended-then (answers_in (lines_of s)) (answers_in (lines_of t)) (play c (n + breaks s + breaks t) (lines_of more))
-          ∙ ap (λ v. prepended v (play c (n + breaks s + breaks t) (lines_of more))) (sym (ap answers_in both ∙ answers_in-append (lines_of s) (lines_of t)))
-          ∙ ap (λ m. prepended (answers_in (lines_of (s ++ t))) (play c m (lines_of more))) (let e : n + breaks s + breaks t ≡ n + breaks (s ++ t) = omega (arith, breaks-append s t) in e);
+          ∙ ap (λ v. prepended v (play c (n + breaks s + breaks t) (lines_of more)))
+          (sym (ap answers_in both ∙ answers_in-append (lines_of s) (lines_of t)))
+          ∙ ap (λ m. prepended (answers_in (lines_of (s ++ t))) (play c m (lines_of more)))
+          (let e : n + breaks s + breaks t ≡ n + breaks (s ++ t) = omega (arith, breaks-append s t) in e);
     }
 
 no_answer : (l : List ℕ) → is_skipped l ≡ false → answer_in l ≡ []
@@ -151,7 +168,8 @@ Speaks-line old new l said c line reads some effect comments =
     let h = reads.0 in
     let none = no_answer l (not_skipped l line reads.1 some) in
     let all : lines_of ((l ++ 10 ∷ []) ++ c) ≡ l ∷ lines_of c = first_line l c h in
-    let said_all : answers_in (lines_of ((l ++ 10 ∷ []) ++ c)) ≡ said = ap answers_in all ∙ ap (λ v. v ++ answers_in (lines_of c)) none ∙ comments.said_so in
+    let said_all : answers_in (lines_of ((l ++ 10 ∷ []) ++ c)) ≡ said =
+    ap answers_in all ∙ ap (λ v. v ++ answers_in (lines_of c)) none ∙ comments.said_so in
     let rest = λ (more : List ℕ). ap lines_of (append_assoc (l ++ 10 ∷ []) c more) ∙ first_line l (c ++ more) h in
     let done : line_effect old l ≡ Ok (new, said) = ap (λ (r : Result Line TraceFault). r >>= effect_of old) reads.1 ∙ effect in
     record {
@@ -161,7 +179,8 @@ Speaks-line old new l said c line reads some effect comments =
           ∙ ap (λ f. then_play n f (λ w. play w (n + 1) (lines_of (c ++ more)))) done
           ∙ ap (prepended said) (comments.silent new (n + 1) more)
           ∙ ap (λ m. prepended said (play new m (lines_of more)))
-          (let e : n + 1 + breaks c ≡ n + breaks ((l ++ 10 ∷ []) ++ c) = omega (arith, one_break l h, breaks-append (l ++ 10 ∷ []) c) in e)
+          (let e : n + 1 + breaks c ≡ n + breaks ((l ++ 10 ∷ []) ++ c) =
+          omega (arith, one_break l h, breaks-append (l ++ 10 ∷ []) c) in e)
           ∙ ap (λ v. prepended v (play new (n + breaks ((l ++ 10 ∷ []) ++ c)) (lines_of more))) (sym said_all);
     }
 
@@ -170,32 +189,41 @@ Speaks-line old new l said c line reads some effect comments =
 pub Prints-none : (progress : Progress) (out : List ℕ) → Prints progress out progress out []
 Prints-none progress out first s = (s, sym (kept_nil (kept_in (lines_of out))))
 
-pub Prints-then : (a b c : Progress) (s t u : List ℕ) (kept : List (Result Line TraceFault)) → Prints a s b t kept → Prints b t c u [] → Prints a s c u kept
+pub Prints-then : (a b c : Progress) (s t u : List ℕ) (kept : List (Result Line TraceFault)) → Prints a s b t kept
+    → Prints b t c u [] → Prints a s c u kept
 Prints-then a b c s t u kept p q first h =
     let one = p first h in
     let two = q first one.0 in
     (two.0, two.1 ∙ kept_nil (kept_in (lines_of t)) ∙ one.1)
 
-Prints-add : (old new : Progress) (before text after : List ℕ) (kept : List (Result Line TraceFault)) → after ≡ before ++ text → Speaks old text new
+Prints-add : (old new : Progress) (before text after : List ℕ) (kept : List (Result Line TraceFault)) → after ≡ before ++ text
+    → Speaks old text new
     → kept_in (lines_of text) ≡ kept → Prints old before new after kept
 Prints-add old new before text after kept e speaks k first h =
     let goes : Speaks first (before ++ text) new = Speaks-then first old new before text h speaks in (
       subst (λ (v : List ℕ). Speaks first v new) (sym e) goes,
-      ap (λ v. kept_in (lines_of v)) e ∙ ap kept_in (h.whole text) ∙ kept_in-append (lines_of before) (lines_of text) ∙ ap (λ v. kept_in (lines_of before) ++ v) k,
+      ap (λ v. kept_in (lines_of v)) e ∙ ap kept_in (h.whole text) ∙ kept_in-append (lines_of before) (lines_of text)
+          ∙ ap (λ v. kept_in (lines_of before) ++ v) k,
     )
 
 -- comments that answer nothing leave the trace where it is
-pub Prints-comments : (progress : Progress) (before after : List ℕ) → AddsComments before after [] → Prints progress before progress after []
-Prints-comments progress before after h = Prints-add progress progress before h.0 after [] h.1 (Speaks-comments progress h.0 h.2) h.2.none_kept
+pub Prints-comments : (progress : Progress) (before after : List ℕ) → AddsComments before after []
+    → Prints progress before progress after []
+Prints-comments progress before after h =
+    Prints-add progress progress before h.0 after [] h.1 (Speaks-comments progress h.0 h.2) h.2.none_kept
 
 kept_in-read : FirstWordTells → (text : List ℕ) (line : Line) → line_of text ≡ Ok line → kept_in (text ∷ []) ≡ kept_line line
 kept_in-read law text line e = rw (law text line e, e) refl
 
 -- a line and its answers
-pub Prints-line : FirstWordTells → (old new : Progress) (before mid after l said : List ℕ) (line : Line) → ReadsAs line l → line ≢ Skip
-    → effect_of old line ≡ Ok (new, said) → mid ≡ before ++ (l ++ 10 ∷ []) → AddsComments mid after said → Prints old before new after (kept_line line)
+pub Prints-line : FirstWordTells → (old new : Progress) (before mid after l said : List ℕ) (line : Line) → ReadsAs line l
+    → line ≢ Skip
+    → effect_of old line ≡ Ok (new, said) → mid ≡ before ++ (l ++ 10 ∷ []) → AddsComments mid after said
+    → Prints old before new after (kept_line line)
 Prints-line law old new before mid after l said line reads some effect m adds =
     let c = adds.0 in
-    Prints-add old new before ((l ++ 10 ∷ []) ++ c) after (kept_line line) (adds.1 ∙ ap (λ v. v ++ c) m ∙ append_assoc before (l ++ 10 ∷ []) c)
+    Prints-add old new before ((l ++ 10 ∷ []) ++ c) after (kept_line line)
+    (adds.1 ∙ ap (λ v. v ++ c) m ∙ append_assoc before (l ++ 10 ∷ []) c)
     (Speaks-line old new l said c line reads some effect adds.2)
-    (ap kept_in (first_line l c reads.0) ∙ kept_in-append (l ∷ []) (lines_of c) ∙ ap (λ v. kept_in (l ∷ []) ++ v) adds.2.none_kept ∙ kept_nil (kept_in (l ∷ [])) ∙ kept_in-read law l line reads.1)
+    (ap kept_in (first_line l c reads.0) ∙ kept_in-append (l ∷ []) (lines_of c) ∙ ap (λ v. kept_in (l ∷ []) ++ v) adds.2.none_kept
+    ∙ kept_nil (kept_in (l ∷ [])) ∙ kept_in-read law l line reads.1)

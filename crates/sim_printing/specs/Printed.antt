@@ -31,7 +31,8 @@ answers_in (line ∷ lines) = answer_in line ++ answers_in lines
 -- whole lines that do nothing in a trace: what stands behind `# ` on them; none is a kept line
 pub record AreComments (text said : List ℕ) : Type 0 where
   pub whole : (more : List ℕ) → lines_of (text ++ more) ≡ lines_of text ++ lines_of more
-  pub silent : (progress : Progress) (n : ℕ) (more : List ℕ) → play progress n (lines_of (text ++ more)) ≡ play progress (n + breaks text) (lines_of more)
+  pub silent : (progress : Progress) (n : ℕ) (more : List ℕ)
+      → play progress n (lines_of (text ++ more)) ≡ play progress (n + breaks text) (lines_of more)
   pub said_so : answers_in (lines_of text) ≡ said
   pub none_kept : kept_in (lines_of text) ≡ []
 
@@ -44,21 +45,25 @@ AddsComments before after said = (text : List ℕ) × (after ≡ before ++ text)
 -- whole lines that lead a trace from one state to another, and whose comments are its answers
 pub record Speaks (old : Progress) (text : List ℕ) (new : Progress) : Type 0 where
   pub whole : (more : List ℕ) → lines_of (text ++ more) ≡ lines_of text ++ lines_of more
-  pub plays : (n : ℕ) (more : List ℕ) → play old n (lines_of (text ++ more)) ≡ prepended (answers_in (lines_of text)) (play new (n + breaks text) (lines_of more))
+  pub plays : (n : ℕ) (more : List ℕ)
+      → play old n (lines_of (text ++ more)) ≡ prepended (answers_in (lines_of text)) (play new (n + breaks text) (lines_of more))
 
 -- what a call that prints leaves: the output speaks on as it began, wherever that was, with these further kept lines
 abbrev pub Prints : Progress → List ℕ → Progress → List ℕ → List (Result Line TraceFault) → Type 0
 Prints old before new after kept =
-    (first : Progress) → Speaks first before old → Speaks first after new × (kept_in (lines_of after) ≡ kept_in (lines_of before) ++ kept)
+    (first : Progress) → Speaks first before old
+    → Speaks first after new × (kept_in (lines_of after) ≡ kept_in (lines_of before) ++ kept)
 
 -- the same of a call that an MME takes part in, which ran already or is made of what is provisioned
 abbrev pub PrintsFrom : World → List ℕ → World → List ℕ → List (Result Line TraceFault) → Type 0
-PrintsFrom old before new after kept = (progress : Progress) → running progress ≡ Ok old → Prints progress before (Running new) after kept
+PrintsFrom old before new after kept =
+    (progress : Progress) → running progress ≡ Ok old → Prints progress before (Running new) after kept
 
 -- what the trace line of that number leaves: it is printed with its answers, or at its fault nothing is
 abbrev pub PrintsLine : ℕ → Line → Progress → List ℕ → Result (Unit {0}) PlayFault → Progress → List ℕ → Type 0
 PrintsLine number line old before (Ok _) new after = Prints old before new after (kept_line line)
-PrintsLine number line old before (Err (Trace place fault)) new after = (effect_of old line ≡ Err fault) × (place ≡ number) × (after ≡ before)
+PrintsLine number line old before (Err (Trace place fault)) new after =
+    (effect_of old line ≡ Err fault) × (place ≡ number) × (after ≡ before)
 PrintsLine number line old before (Err NoMemory) new after = ⊤
 PrintsLine number line old before (Err Read) new after = ⊥
 PrintsLine number line old before (Err Write) new after = ⊥
@@ -74,7 +79,8 @@ abbrev pub PrintsOn : Progress → List ℕ → Progress → List ℕ → List (
 PrintsOn old before new after kept = IsBegun new × Prints old before new after kept
 
 -- what the script line of that number leaves: what it stands for is printed, or at its fault nothing is
-abbrev pub PrintsScriptLine : ℕ → List (Result Line TraceFault) → Progress → List ℕ → Result (Unit {0}) PlayFault → Progress → List ℕ → Type 0
+abbrev pub PrintsScriptLine : ℕ → List (Result Line TraceFault) → Progress → List ℕ → Result (Unit {0}) PlayFault → Progress
+    → List ℕ → Type 0
 PrintsScriptLine number kept old before (Ok _) new after = Prints old before new after kept
 PrintsScriptLine number kept old before (Err (Trace place fault)) new after = (place ≡ number) × (after ≡ before)
 PrintsScriptLine number kept old before (Err NoMemory) new after = ⊤

@@ -53,7 +53,8 @@ pub fn print_show(
 ) -> Result<bool, AllocError>
     requires { ReadsAs (Show imsi) text.now }
     ensures known { IfOk result (λ known. known ≡ is_some (states_of_imsi imsi mme.now)) }
-    ensures printed { IfOk result (λ known. known ≡ true → PrintsFrom mme.now out.old.items mme.now out.new.items (kept_line (Show imsi))) }
+    ensures printed { IfOk result
+        (λ known. known ≡ true → PrintsFrom mme.now out.old.items mme.now out.new.items (kept_line (Show imsi))) }
     ensures unknown { IfOk result (λ known. known ≡ false → out.new.items ≡ out.old.items) }
 {
     first_word_tells();

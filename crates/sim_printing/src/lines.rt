@@ -211,7 +211,8 @@ fn play_event(
 ) -> Result<Option<Outs>, AllocError>
     requires begun { IsBegun progress.old }
     requires says { ReadsAs (event_line event.now) text.now }
-    ensures printed { OnOk result (PrintsOn progress.old out.old.items progress.new out.new.items (kept_line (event_line event.now))) }
+    ensures printed { OnOk result
+        (PrintsOn progress.old out.old.items progress.new out.new.items (kept_line (event_line event.now))) }
     ensures sent { IfOk result (IfSent progress.old event.now) }
 {
     let Ok(()) = run(alloc, progress, 0) else {
@@ -236,9 +237,11 @@ pub fn play_show(
 ) -> Result<bool, AllocError>
     requires begun { IsBegun progress.old }
     requires says { ReadsAs (Show imsi) text.now }
-    ensures printed { IfOk result (λ known. known ≡ true → PrintsOn progress.old out.old.items progress.new out.new.items (kept_line (Show imsi))) }
+    ensures printed { IfOk result
+        (λ known. known ≡ true → PrintsOn progress.old out.old.items progress.new out.new.items (kept_line (Show imsi))) }
     ensures unknown { IfOk result (λ known. known ≡ false → out.new.items ≡ out.old.items) }
-    ensures known { IfOk result (λ known. (world : World) → running progress.old ≡ Ok world → known ≡ is_some (states_of_imsi imsi world)) }
+    ensures known { IfOk result
+        (λ known. (world : World) → running progress.old ≡ Ok world → known ≡ is_some (states_of_imsi imsi world)) }
 {
     let Ok(()) = run(alloc, progress, 0) else {
         return Err(AllocError);

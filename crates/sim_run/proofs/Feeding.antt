@@ -23,19 +23,22 @@ pub kept_none : kept_in (lines_of []) ≡ []
 kept_none = ap kept_in lines_of-nil
 
 -- the kept lines of an output that goes on behind whole lines
-pub kept_both : (old new : Progress) (written added : List ℕ) → Speaks old written new → kept_in (lines_of (written ++ added)) ≡ kept_in (lines_of written) ++ kept_in (lines_of added)
+pub kept_both : (old new : Progress) (written added : List ℕ) → Speaks old written new
+    → kept_in (lines_of (written ++ added)) ≡ kept_in (lines_of written) ++ kept_in (lines_of added)
 kept_both old new written added s = ap kept_in (s.whole added) ∙ kept_in-append (lines_of written) (lines_of added)
 
 pub GoesOn-nothing : (progress : Progress) (written : List ℕ) → written ≡ [] → GoesOn progress written
 GoesOn-nothing progress written e = (progress, subst (λ (v : List ℕ). Speaks progress v progress) (sym e) (Speaks-nil progress))
 
-pub GoesOn-then : (old mid : Progress) (before after : List ℕ) → Speaks old before mid → GoesOn mid after → GoesOn old (before ++ after)
+pub GoesOn-then : (old mid : Progress) (before after : List ℕ) → Speaks old before mid → GoesOn mid after
+    → GoesOn old (before ++ after)
 GoesOn-then old mid before after p q = (q.0, Speaks-then old mid q.0 before after p q.1)
 
 -- ---- a line
 
 -- what was printed onto nothing
-pub WritesLine-printed : (number : ℕ) (kept : List (Result Line TraceFault)) (old new : Progress) (before after : List ℕ) → before ≡ []
+pub WritesLine-printed : (number : ℕ) (kept : List (Result Line TraceFault)) (old new : Progress) (before after : List ℕ)
+    → before ≡ []
     → Prints old before new after kept → WritesLine number kept old (Ok tt) new after
 WritesLine-printed number kept old new before after e prints =
     let onto_nothing : Prints old [] new after kept = subst (λ (v : List ℕ). Prints old v new after kept) e prints in
@@ -72,12 +75,14 @@ Feeds-line old new written ready writes l p =
     )
 
 -- a line that has a fault, or is too long however it goes on
-pub Feeds-fault : (old new : ScriptPlayer) (piece written : List ℕ) (line : ℕ) (fault : TraceFault) → line ≡ old.line → written ≡ [] → Feeds old piece (Err (Trace line fault)) new written
+pub Feeds-fault : (old new : ScriptPlayer) (piece written : List ℕ) (line : ℕ) (fault : TraceFault) → line ≡ old.line → written ≡ []
+    → Feeds old piece (Err (Trace line fault)) new written
 Feeds-fault old new piece written line fault l w = (
   GoesOn-nothing old.script.progress written w,
   (λ more.
       let none : line - old.line ≡ zero = omega (arith, l) in
-      ap (λ n. kept_in (take n (lines_of (old.pending.items ++ (piece ++ more))))) none ∙ sym (ap (λ v. kept_in (lines_of v)) w ∙ kept_none)),
+      ap (λ n. kept_in (take n (lines_of (old.pending.items ++ (piece ++ more))))) none
+      ∙ sym (ap (λ v. kept_in (lines_of v)) w ∙ kept_none)),
   omega (arith, l),
 )
 
@@ -89,15 +94,19 @@ Feeds-line_fault old new kept progress written NoMemory h = tt
 Feeds-line_fault old new kept progress written Write h = tt
 Feeds-line_fault old new kept progress written Read h = absurd h
 
-pub WritesLine-text : (number : ℕ) (old new : Progress) (text same written : List ℕ) (result : Result (Unit {0}) PlayFault) → text ≡ same
-    → WritesLine number (kept_in (text ∷ [])) old result new written → WritesLine number (kept_in (same ∷ [])) old result new written
-WritesLine-text number old new text same written result e h = let P : List ℕ → Type 0 = λ v. WritesLine number (kept_in (v ∷ [])) old result new written in subst P e h
+pub WritesLine-text : (number : ℕ) (old new : Progress) (text same written : List ℕ) (result : Result (Unit {0}) PlayFault)
+    → text ≡ same
+    → WritesLine number (kept_in (text ∷ [])) old result new written
+    → WritesLine number (kept_in (same ∷ [])) old result new written
+WritesLine-text number old new text same written result e h =
+    let P : List ℕ → Type 0 = λ v. WritesLine number (kept_in (v ∷ [])) old result new written in subst P e h
 
 -- ---- pieces
 
 -- one piece after another
 pub Feeds-then : (old mid new : ScriptPlayer) (before after first second : List ℕ) (result : Result (Unit {0}) PlayFault)
-    → Feeds old first (Ok tt) mid before → Feeds mid second result new after → Feeds old (first ++ second) result new (before ++ after)
+    → Feeds old first (Ok tt) mid before → Feeds mid second result new after
+    → Feeds old (first ++ second) result new (before ++ after)
 Feeds-then old mid new before after first second (Ok _) p q = (
   Speaks-then old.script.progress mid.script.progress new.script.progress before after p.0 q.0,
   (λ last more le.
@@ -125,8 +134,10 @@ Feeds-then old mid new before after first second (Err Write) p q = tt
 Feeds-then old mid new before after first second (Err Read) p q = absurd q
 
 -- what comes after a fault is not looked at
-pub Feeds-stop : (old new : ScriptPlayer) (written first second : List ℕ) (fault : PlayFault) → Feeds old first (Err fault) new written → Feeds old (first ++ second) (Err fault) new written
-Feeds-stop old new written first second (Trace line fault) p = (p.0, (λ more. ap (kept_before line old) (append_assoc first second more) ∙ p.1 (second ++ more)), p.2)
+pub Feeds-stop : (old new : ScriptPlayer) (written first second : List ℕ) (fault : PlayFault)
+    → Feeds old first (Err fault) new written → Feeds old (first ++ second) (Err fault) new written
+Feeds-stop old new written first second (Trace line fault) p =
+    (p.0, (λ more. ap (kept_before line old) (append_assoc first second more) ∙ p.1 (second ++ more)), p.2)
 Feeds-stop old new written first second NoMemory p = tt
 Feeds-stop old new written first second Write p = tt
 Feeds-stop old new written first second Read p = absurd p
@@ -134,17 +145,20 @@ Feeds-stop old new written first second Read p = absurd p
 pub Feeds-none : (player : ScriptPlayer) → IsWaiting player → Feeds player [] (Ok tt) player []
 Feeds-none player ready = (Speaks-nil player.script.progress, (λ last more le. sym (ap (λ v. v ++ kept_before last player more) kept_none)), ready, omega arith)
 
-pub Feeds-piece : (old new : ScriptPlayer) (written piece same : List ℕ) (result : Result (Unit {0}) PlayFault) → piece ≡ same → Feeds old piece result new written → Feeds old same result new written
+pub Feeds-piece : (old new : ScriptPlayer) (written piece same : List ℕ) (result : Result (Unit {0}) PlayFault) → piece ≡ same
+    → Feeds old piece result new written → Feeds old same result new written
 Feeds-piece old new written piece same result e h = let P : List ℕ → Type 0 = λ v. Feeds old v result new written in subst P e h
 
 -- ---- a part of a line, as a piece
 
-pub Feeds-part : (old new : ScriptPlayer) (part : List ℕ) → IsWaiting old → new.script.progress ≡ old.script.progress → new.line ≡ old.line
+pub Feeds-part : (old new : ScriptPlayer) (part : List ℕ) → IsWaiting old → new.script.progress ≡ old.script.progress
+    → new.line ≡ old.line
     → GoesOnBy part old.pending.items new.pending.items → Feeds old part (Ok tt) new []
 Feeds-part old new part ready s l goes_on = (
   subst (λ (w : Progress). Speaks old.script.progress [] w) (sym s) (Speaks-nil old.script.progress),
   (λ last more le.
-      ap (λ v. kept_in (take (last - old.line) (lines_of v))) (sym (append_assoc old.pending.items part more) ∙ ap (λ v. v ++ more) (sym goes_on.1))
+      ap (λ v. kept_in (take (last - old.line) (lines_of v)))
+      (sym (append_assoc old.pending.items part more) ∙ ap (λ v. v ++ more) (sym goes_on.1))
       ∙ ap (λ n. kept_in (take (last - n) (lines_of (new.pending.items ++ more)))) (sym l)
       ∙ sym (ap (λ v. v ++ kept_before last new more) kept_none)),
   (ap breaks goes_on.1 ∙ omega (arith, breaks-append old.pending.items part, ready.0, goes_on.0), goes_on.2),
@@ -172,12 +186,14 @@ Closes-none player e = (
 )
 
 -- a last line counts as one that has its LF
-kept-last : (player : ScriptPlayer) (last : ℕ) → IsWaiting player → 0 < length player.pending.items → kept_before last player [] ≡ kept_before last player (10 ∷ [])
+kept-last : (player : ScriptPlayer) (last : ℕ) → IsWaiting player → 0 < length player.pending.items
+    → kept_before last player [] ≡ kept_before last player (10 ∷ [])
 kept-last player last ready some =
     let text = player.pending.items in
     ap (λ ls. kept_in (take (last - player.line) ls)) (ap lines_of (append-nil text) ∙ lines_of-last text ready.0 some)
 
-pub Closes-line : (old new : ScriptPlayer) (written : List ℕ) (result : Result (Unit {0}) PlayFault) → IsWaiting old → 0 < length old.pending.items
+pub Closes-line : (old new : ScriptPlayer) (written : List ℕ) (result : Result (Unit {0}) PlayFault) → IsWaiting old
+    → 0 < length old.pending.items
     → Feeds old (10 ∷ []) result new written → OnOk result (new.pending.items ≡ []) → Closes old result written
 Closes-line old new written (Ok _) ready some p e =
     let ours = kept_in (lines_of written) in (

@@ -23,11 +23,13 @@ pub record Simulating (left_old left_new held_old held_new : Option (List ℕ)) 
   pub consumed : Consumes left_old left_new read
   pub appended : Appends held_old held_new written
   pub speaks : Speaks Nothing written player.script.progress
-  pub passed : (last : ℕ) (more : List ℕ) → player.line ≤ last → kept_in (take (last - 1) (lines_of (read ++ more))) ≡ kept_in (lines_of written) ++ kept_before last player more
+  pub passed : (last : ℕ) (more : List ℕ) → player.line ≤ last
+      → kept_in (take (last - 1) (lines_of (read ++ more))) ≡ kept_in (lines_of written) ++ kept_before last player more
   pub ready : IsWaiting player
   pub counted : player.line ≡ 1 + breaks read
 
-pub Simulating-start : (left held : Option (List ℕ)) (player : ScriptPlayer) → player.script.progress ≡ Nothing → player.line ≡ 1 → player.pending.items ≡ []
+pub Simulating-start : (left held : Option (List ℕ)) (player : ScriptPlayer) → player.script.progress ≡ Nothing → player.line ≡ 1
+    → player.pending.items ≡ []
     → Simulating left left held held player
 Simulating-start left held player s l p = record {
   read = [];
@@ -55,13 +57,17 @@ module _ (left_old left_mid left_new held_old held_mid held_new : Option (List �
     (piece added : List ℕ) (consumed : Consumes left_mid left_new piece) (appended : Appends held_mid held_new added) where
   -- the kept lines of the script, by those of what was written and of what is still to be played
   turn_passed : (last : ℕ) (more : List ℕ) → player.line ≤ last
-      → kept_in (take (last - 1) (lines_of ((playing.read ++ piece) ++ more))) ≡ kept_in (lines_of playing.written) ++ kept_before last player (piece ++ more)
-  turn_passed last more le = ap (λ v. kept_in (take (last - 1) (lines_of v))) (append_assoc playing.read piece more) ∙ playing.passed last (piece ++ more) le
+      → kept_in (take (last - 1) (lines_of ((playing.read ++ piece) ++ more)))
+      ≡ kept_in (lines_of playing.written) ++ kept_before last player (piece ++ more)
+  turn_passed last more le =
+      ap (λ v. kept_in (take (last - 1) (lines_of v))) (append_assoc playing.read piece more)
+      ∙ playing.passed last (piece ++ more) le
 
   turn_both : kept_in (lines_of (playing.written ++ added)) ≡ kept_in (lines_of playing.written) ++ kept_in (lines_of added)
   turn_both = kept_both Nothing player.script.progress playing.written added playing.speaks
 
-  pub Simulating-turn : (new : ScriptPlayer) → Feeds player piece (Ok tt) new added → Simulating left_old left_new held_old held_new new
+  pub Simulating-turn : (new : ScriptPlayer) → Feeds player piece (Ok tt) new added
+      → Simulating left_old left_new held_old held_new new
   Simulating-turn new fed = record {
     read = playing.read ++ piece;
     written = playing.written ++ added;
@@ -77,7 +83,8 @@ module _ (left_old left_mid left_new held_old held_mid held_new : Option (List �
     counted = omega (arith, playing.counted, fed.3, breaks-append playing.read piece);
   }
 
-  turn_simulates : (ended : Bool) (fault : PlayFault) → SimTells (playing.read ++ piece) (playing.written ++ added) (Err fault) → Simulates left_old left_new held_old held_new ended (Err fault)
+  turn_simulates : (ended : Bool) (fault : PlayFault) → SimTells (playing.read ++ piece) (playing.written ++ added) (Err fault)
+      → Simulates left_old left_new held_old held_new ended (Err fault)
   turn_simulates ended fault told = (
     playing.read ++ piece,
     playing.written ++ added,
@@ -87,7 +94,8 @@ module _ (left_old left_mid left_new held_old held_mid held_new : Option (List �
     tt,
   )
 
-  pub Simulates-fault : (new : ScriptPlayer) (ended : Bool) (fault : PlayFault) → Feeds player piece (Err fault) new added → Simulates left_old left_new held_old held_new ended (Err fault)
+  pub Simulates-fault : (new : ScriptPlayer) (ended : Bool) (fault : PlayFault) → Feeds player piece (Err fault) new added
+      → Simulates left_old left_new held_old held_new ended (Err fault)
   Simulates-fault new ended (Trace line fault) fed = turn_simulates ended (Trace line fault) (
     told_by (playing.written ++ added) (GoesOn-then Nothing player.script.progress playing.written added playing.speaks fed.0),
     turn_both ∙ ap (λ v. kept_in (lines_of playing.written) ++ v) (sym (fed.1 []))
@@ -99,7 +107,8 @@ module _ (left_old left_mid left_new held_old held_mid held_new : Option (List �
   Simulates-fault new ended Read fed = absurd fed
 
 -- a read that gave nothing
-pub Simulating-idle : (left_old left_mid left_new held_old held_new : Option (List ℕ)) (player : ScriptPlayer) → Simulating left_old left_mid held_old held_new player
+pub Simulating-idle : (left_old left_mid left_new held_old held_new : Option (List ℕ)) (player : ScriptPlayer)
+    → Simulating left_old left_mid held_old held_new player
     → Consumes left_mid left_new [] → Simulating left_old left_new held_old held_new player
 Simulating-idle left_old left_mid left_new held_old held_new player playing none = record {
   read = playing.read;
@@ -117,10 +126,13 @@ module _ (left_old left_new held_old held_mid held_new : Option (List ℕ)) (pla
   last_both : kept_in (lines_of (playing.written ++ added)) ≡ kept_in (lines_of playing.written) ++ kept_in (lines_of added)
   last_both = kept_both Nothing player.script.progress playing.written added playing.speaks
 
-  last_told : GoesOn player.script.progress added → played_of (playing.written ++ added) ≡ played_text (answers_in (lines_of (playing.written ++ added))) None
-  last_told goes = told_by (playing.written ++ added) (GoesOn-then Nothing player.script.progress playing.written added playing.speaks goes)
+  last_told : GoesOn player.script.progress added
+      → played_of (playing.written ++ added) ≡ played_text (answers_in (lines_of (playing.written ++ added))) None
+  last_told goes =
+      told_by (playing.written ++ added) (GoesOn-then Nothing player.script.progress playing.written added playing.speaks goes)
 
-  last_simulates : (ended : Bool) (result : Result (Unit {0}) PlayFault) → SimTells playing.read (playing.written ++ added) result → OnlyAtEnd ended result
+  last_simulates : (ended : Bool) (result : Result (Unit {0}) PlayFault) → SimTells playing.read (playing.written ++ added) result
+      → OnlyAtEnd ended result
       → Simulates left_old left_new held_old held_new ended result
   last_simulates ended result told only = (
     playing.read,
@@ -131,7 +143,8 @@ module _ (left_old left_new held_old held_mid held_new : Option (List ℕ)) (pla
     only,
   )
 
-  pub Simulates-last : (ended : Bool) (result : Result (Unit {0}) PlayFault) → ended ≡ true → Closes player result added → Simulates left_old left_new held_old held_new ended result
+  pub Simulates-last : (ended : Bool) (result : Result (Unit {0}) PlayFault) → ended ≡ true → Closes player result added
+      → Simulates left_old left_new held_old held_new ended result
   Simulates-last ended (Ok _) end closes =
       let all = lines_of (playing.read ++ []) in
       let past = 1 + player.line + length all in
@@ -153,12 +166,14 @@ module _ (left_old left_new held_old held_mid held_new : Option (List ℕ)) (pla
   Simulates-last ended (Err Read) end closes = absurd closes
 
 -- a read that failed
-pub Simulates-read : (left_old left_mid left_new held_old held_new : Option (List ℕ)) (player : ScriptPlayer) (ended : Bool) → Simulating left_old left_mid held_old held_new player
+pub Simulates-read : (left_old left_mid left_new held_old held_new : Option (List ℕ)) (player : ScriptPlayer) (ended : Bool)
+    → Simulating left_old left_mid held_old held_new player
     → Keeps left_mid left_new → Simulates left_old left_new held_old held_new ended (Err Read)
 Simulates-read left_old left_mid left_new held_old held_new player ended playing kept = (
   playing.read,
   playing.written,
-  Consumes-same left_old left_new _ _ (append-nil playing.read) (Consumes-then left_old left_mid left_new playing.read [] playing.consumed (Consumes-keeps left_mid left_new kept)),
+  Consumes-same left_old left_new _ _ (append-nil playing.read)
+      (Consumes-then left_old left_mid left_new playing.read [] playing.consumed (Consumes-keeps left_mid left_new kept)),
   playing.appended,
   tt,
   tt,

@@ -40,7 +40,8 @@ GoesOn old written = (reached : Progress) × Speaks old written reached
 abbrev pub Feeds : ScriptPlayer → List ℕ → Result (Unit {0}) PlayFault → ScriptPlayer → List ℕ → Type 0
 Feeds old piece (Ok _) new written =
     Speaks old.script.progress written new.script.progress
-    × ((last : ℕ) (more : List ℕ) → new.line ≤ last → kept_before last old (piece ++ more) ≡ kept_in (lines_of written) ++ kept_before last new more)
+    × ((last : ℕ) (more : List ℕ) → new.line ≤ last → kept_before last old (piece ++ more) ≡ kept_in (lines_of written)
+    ++ kept_before last new more)
     × IsWaiting new × (new.line ≡ old.line + breaks piece)
 Feeds old piece (Err (Trace line fault)) new written =
     GoesOn old.script.progress written
@@ -74,7 +75,8 @@ abbrev pub SimTells : List ℕ → List ℕ → Result (Unit {0}) PlayFault → 
 SimTells read written (Ok _) =
     (played_of written ≡ played_text (answers_in (lines_of written)) None) × (kept_in (lines_of written) ≡ kept_in (lines_of read))
 SimTells read written (Err (Trace line fault)) =
-    (played_of written ≡ played_text (answers_in (lines_of written)) None) × (kept_in (lines_of written) ≡ kept_in (take (line - 1) (lines_of read)))
+    (played_of written ≡ played_text (answers_in (lines_of written)) None)
+    × (kept_in (lines_of written) ≡ kept_in (take (line - 1) (lines_of read)))
 SimTells read written (Err Read) = ⊤
 SimTells read written (Err Write) = ⊤
 SimTells read written (Err NoMemory) = ⊤
@@ -85,6 +87,8 @@ OnlyAtEnd ended (Ok _) = ended ≡ true
 OnlyAtEnd ended (Err fault) = ⊤
 
 -- what a simulation read and wrote, in the known octets of its reader and its writer
-abbrev pub Simulates : Option (List ℕ) → Option (List ℕ) → Option (List ℕ) → Option (List ℕ) → Bool → Result (Unit {0}) PlayFault → Type 0
+abbrev pub Simulates : Option (List ℕ) → Option (List ℕ) → Option (List ℕ) → Option (List ℕ) → Bool → Result (Unit {0}) PlayFault
+    → Type 0
 Simulates left_old left_new held_old held_new ended result =
-    (read : List ℕ) × (written : List ℕ) × Consumes left_old left_new read × Appends held_old held_new written × SimTells read written result × OnlyAtEnd ended result
+    (read : List ℕ) × (written : List ℕ) × Consumes left_old left_new read × Appends held_old held_new written
+    × SimTells read written result × OnlyAtEnd ended result

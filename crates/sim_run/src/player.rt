@@ -47,7 +47,8 @@ impl ScriptPlayer {
     ) -> Result<(), PlayFault>
         requires ready { IsWaiting self.old }
         requires counted { self.old.line + length piece.now < 2 ^ 64 }
-        ensures feeds { GrowsBy (W.contents writer.old.inner) (W.contents writer.new.inner) (Feeds self.old piece.now result self.new) }
+        ensures feeds { GrowsBy (W.contents writer.old.inner) (W.contents writer.new.inner)
+            (Feeds self.old piece.now result self.new) }
         ensures write { IsErrOf result PlayFault.Write → writer.new.failed ≡ true }
     {
         let mut rest = piece;
@@ -70,7 +71,8 @@ impl ScriptPlayer {
         requires ready { IsWaiting self.old }
         requires some { 0 < length piece.now }
         requires counted { self.old.line + length piece.now < 2 ^ 64 }
-        ensures feeds { GrowsBy (W.contents writer.old.inner) (W.contents writer.new.inner) (FeedsLine self.old piece.now result self.new) }
+        ensures feeds { GrowsBy (W.contents writer.old.inner) (W.contents writer.new.inner)
+            (FeedsLine self.old piece.now result self.new) }
         ensures write { IsErrOf result PlayFault.Write → writer.new.failed ≡ true }
     {
         match take_part(&mut self.pending, self.line, piece) {
@@ -107,7 +109,8 @@ impl ScriptPlayer {
     ) -> Result<(), PlayFault>
         requires ready { IsWaiting self.old }
         requires counted { self.old.line + 1 < 2 ^ 64 }
-        ensures feeds { GrowsBy (W.contents writer.old.inner) (W.contents writer.new.inner) (Feeds self.old (10 ∷ []) result self.new) }
+        ensures feeds { GrowsBy (W.contents writer.old.inner) (W.contents writer.new.inner)
+            (Feeds self.old (10 ∷ []) result self.new) }
         ensures cleared { OnOk result (self.new.pending.items ≡ []) }
         ensures write { IsErrOf result PlayFault.Write → writer.new.failed ≡ true }
     {
@@ -133,7 +136,8 @@ fn play_and_write<W: Write>(
     writer: &mut Watched<W>,
 ) -> Result<(), PlayFault>
     requires { breaks text.now ≡ 0 }
-    ensures writes { GrowsBy (W.contents writer.old.inner) (W.contents writer.new.inner) (WritesLine number (kept_in (text.now ∷ [])) script.old.progress result script.new.progress) }
+    ensures writes { GrowsBy (W.contents writer.old.inner) (W.contents writer.new.inner)
+        (WritesLine number (kept_in (text.now ∷ [])) script.old.progress result script.new.progress) }
     ensures write { IsErrOf result PlayFault.Write → writer.new.failed ≡ true }
 {
     let mut out = Vec::new(alloc);

@@ -71,7 +71,8 @@ fn feed_turn<W: Write>(
 ) -> Result<(), PlayFault>
     requires ready { IsWaiting player.old }
     requires counted { player.old.line + length piece.now < 2 ^ 64 }
-    ensures feeds { GrowsBy (W.contents writer.old.inner) (W.contents writer.new.inner) (Feeds player.old piece.now result player.new) }
+    ensures feeds { GrowsBy (W.contents writer.old.inner) (W.contents writer.new.inner)
+        (Feeds player.old piece.now result player.new) }
     ensures write { IsErrOf result PlayFault.Write → writer.new.failed ≡ true }
 {
     let result = player.feed(alloc, piece, writer);

@@ -26,7 +26,8 @@ refused b fault line e = absurd (cc e)
 same : (b : Bool) (found : Line) → is_kept_line found ≡ b → KeptAs b (Ok found)
 same b found h line e = let s : found ≡ line = cc e in ap is_kept_line (sym s) ∙ h
 
-bind_kept : {A : Type 0} (b : Bool) (r : Result A TraceFault) (f : A → Result Line TraceFault) → ((x : A) → KeptAs b (f x)) → KeptAs b (r >>= f)
+bind_kept : {A : Type 0} (b : Bool) (r : Result A TraceFault) (f : A → Result Line TraceFault) → ((x : A) → KeptAs b (f x))
+    → KeptAs b (r >>= f)
 bind_kept b (Ok x) f k line e = k x line e
 bind_kept b (Err fault) f k line e = absurd (cc e)
 
@@ -135,7 +136,8 @@ same_word : (w v : List ℕ) (fields : List (List ℕ)) (b : Bool) → bytes_eq 
 same_word w v fields b e h = let s : w ≡ v = (bytes_eq-Decides w v).0 e in ap is_kept_word s ∙ h
 
 -- one test of a chain
-tested : (P : Type 0) (b : Bool) (first second : Result Line TraceFault) (line : Line) → cond b first second ≡ Ok line → (b ≡ true → first ≡ Ok line → P) → (b ≡ false → second ≡ Ok line → P) → P
+tested : (P : Type 0) (b : Bool) (first second : Result Line TraceFault) (line : Line) → cond b first second ≡ Ok line
+    → (b ≡ true → first ≡ Ok line → P) → (b ≡ false → second ≡ Ok line → P) → P
 tested P true first second line e f g = f refl e
 tested P false first second line e f g = g refl e
 
@@ -211,7 +213,8 @@ pub first_word : FirstWordTells
 unfolding line_of
 first_word text line e =
     let P : Type 0 = is_kept_text text ≡ is_kept_line line in
-    tested P (nat_lt 40000 (length text)) (Err TooLong) (cond (is_skipped text) (Ok Skip) (read_words (slice_split (λ c. c == 32) text))) line e
+    tested P (nat_lt 40000 (length text)) (Err TooLong)
+    (cond (is_skipped text) (Ok Skip) (read_words (slice_split (λ c. c == 32) text))) line e
     (λ _ e1. absurd (cc e1))
     (λ _ e1. tested P (is_skipped text) (Ok Skip) (read_words (slice_split (λ c. c == 32) text)) line e1
     (λ b h. skipped_kept text b ∙ sym (same false Skip refl line h))
@@ -221,34 +224,41 @@ kept_alone : FirstWordTells → (text : List ℕ) (line : Line) → line_of text
 kept_alone law text line e = rw (law text line e, e) refl
 
 pub written_kept : WrittenIsRead → WrittenIsKept
-written_kept read text line e = kept_alone first_word (line_text line) line (read text line e).again ∙ sym (kept_alone first_word text line e)
+written_kept read text line e =
+    kept_alone first_word (line_text line) line (read text line e).again ∙ sym (kept_alone first_word text line e)
 
 -- ---- scripts
 
 -- one test of a script
-asked : (P : Type 0) (b : Bool) (first second : Result ScriptLine TraceFault) (line : ScriptLine) → cond b first second ≡ Ok line → (b ≡ true → first ≡ Ok line → P) → (b ≡ false → second ≡ Ok line → P) → P
+asked : (P : Type 0) (b : Bool) (first second : Result ScriptLine TraceFault) (line : ScriptLine) → cond b first second ≡ Ok line
+    → (b ≡ true → first ≡ Ok line → P) → (b ≡ false → second ≡ Ok line → P) → P
 asked P true first second line e f g = f refl e
 asked P false first second line e f g = g refl e
 
 -- a line of a trace is told by its fields being read
-traced : (text : List ℕ) (r : Result Line TraceFault) (line : ScriptLine) → line_of text ≡ r → (r >>= (λ l. Ok (Trace l))) ≡ Ok line → Says text line
+traced : (text : List ℕ) (r : Result Line TraceFault) (line : ScriptLine) → line_of text ≡ r → (r >>= (λ l. Ok (Trace l))) ≡ Ok line
+    → Says text line
 traced text (Ok l) (Trace line) h e = let s : l ≡ line = cc e in h ∙ ap Ok s
 traced text (Ok l) (Act act) h e = absurd (cc e)
 traced text (Err fault) line h e = absurd (cc e)
 
-acted : (text : List ℕ) (r : Result ScriptAct TraceFault) (line : ScriptLine) → is_kept_text text ≡ false → (r >>= (λ a. Ok (Act a))) ≡ Ok line → Says text line
+acted : (text : List ℕ) (r : Result ScriptAct TraceFault) (line : ScriptLine) → is_kept_text text ≡ false
+    → (r >>= (λ a. Ok (Act a))) ≡ Ok line → Says text line
 acted text (Ok a) (Trace line) h e = absurd (cc e)
 acted text (Ok a) (Act act) h e = h
 acted text (Err fault) line h e = absurd (cc e)
 
-words_say : (text : List ℕ) (words : List (List ℕ)) (line : ScriptLine) → line_of text ≡ read_words words → is_kept_text text ≡ begins_kept words → script_words words ≡ Ok line → Says text line
+words_say : (text : List ℕ) (words : List (List ℕ)) (line : ScriptLine) → line_of text ≡ read_words words
+    → is_kept_text text ≡ begins_kept words → script_words words ≡ Ok line → Says text line
 words_say text [] line h k e = absurd (cc e)
 words_say text (w ∷ f) line h k e =
-    asked (Says text line) (is_trace_word w) (read_words (w ∷ f) >>= (λ l. Ok (Trace l))) (read_act w f >>= (λ a. Ok (Act a))) line e
+    asked (Says text line) (is_trace_word w) (read_words (w ∷ f) >>= (λ l. Ok (Trace l)))
+    (read_act w f >>= (λ a. Ok (Act a))) line e
     (λ _ e1. traced text (read_words (w ∷ f)) line h e1)
     (λ b e1. acted text (read_act w f) line (k ∙ (or_parts (is_kept_word w) (bytes_eq w (codes "lost")) (or_parts (is_kept_word w || bytes_eq w (codes "lost")) (bytes_eq w (codes "tick")) b).0).0) e1)
 
-skip_says : (text : List ℕ) (line : ScriptLine) → line_of text ≡ Ok Skip → (let r : Result ScriptLine TraceFault = Ok (Trace Skip) in r) ≡ Ok line → Says text line
+skip_says : (text : List ℕ) (line : ScriptLine) → line_of text ≡ Ok Skip
+    → (let r : Result ScriptLine TraceFault = Ok (Trace Skip) in r) ≡ Ok line → Says text line
 skip_says text (Trace line) h e = let s : Skip ≡ line = cc e in h ∙ ap Ok s
 skip_says text (Act act) h e = absurd (cc e)
 
@@ -256,7 +266,8 @@ pub script_says : ScriptSays
 unfolding line_of script_line_of
 script_says text line e =
     let P : Type 0 = Says text line in
-    asked P (nat_lt 40000 (length text)) (Err TooLong) (cond (is_skipped text) (Ok (Trace Skip)) (script_words (slice_split (λ c. c == 32) text))) line e
+    asked P (nat_lt 40000 (length text)) (Err TooLong)
+    (cond (is_skipped text) (Ok (Trace Skip)) (script_words (slice_split (λ c. c == 32) text))) line e
     (λ _ e1. absurd (cc e1))
     (λ short e1. asked P (is_skipped text) (Ok (Trace Skip)) (script_words (slice_split (λ c. c == 32) text)) line e1
     (λ skipped e2. skip_says text line (rw (short, skipped) refl) e2)
@@ -275,7 +286,8 @@ unfolding line_of script_line_of
 read_alike text h = go (nat_lt 40000 (length text)) (is_skipped text) h
   where
     go : (long skipped : Bool) → (skipped || begins_traced (slice_split (λ c. c == 32) text)) ≡ true
-        → cond long (Err TooLong) (cond skipped (Ok (Trace Skip)) (script_words (slice_split (λ c. c == 32) text))) ≡ as_traced (cond long (Err TooLong) (cond skipped (Ok Skip) (read_words (slice_split (λ c. c == 32) text))))
+        → cond long (Err TooLong) (cond skipped (Ok (Trace Skip)) (script_words (slice_split (λ c. c == 32) text)))
+        ≡ as_traced (cond long (Err TooLong) (cond skipped (Ok Skip) (read_words (slice_split (λ c. c == 32) text))))
     go true skipped k = refl
     go false true k = refl
     go false false k = words_alike (slice_split (λ c. c == 32) text) k

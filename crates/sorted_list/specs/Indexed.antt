@@ -8,17 +8,21 @@ use Rattle.sorted_list.specs.Laws.{add-add, at_key, over-add, over_more, without
 module _ {X : Type 0} (P : X → Type 0) (key : X → ℕ) where
   pub every-add : (x : X) (xs : List X) → P x → Every P xs → Every P (add key x xs)
   every-add x [] p h = (p, tt)
-  every-add x (y ∷ ys) p h = elim (nat_lt (key y) (key x)) as (λ b. Every P (cond b (y ∷ add key x ys) (x ∷ y ∷ ys))) [ true ↦ (h.0, every-add x ys p h.1) | false ↦ (p, h) ]
+  every-add x (y ∷ ys) p h =
+      elim (nat_lt (key y) (key x)) as (λ b. Every P (cond b (y ∷ add key x ys) (x ∷ y ∷ ys)))
+      [ true ↦ (h.0, every-add x ys p h.1) | false ↦ (p, h) ]
 
   pub every-without : (k : ℕ) (xs : List X) → Every P xs → Every P (without key k xs)
   every-without k [] h = tt
-  every-without k (y ∷ ys) h = elim (key y == k) as (λ b. Every P (cond b ys (y ∷ without key k ys))) [ true ↦ h.1 | false ↦ (h.0, every-without k ys h.1) ]
+  every-without k (y ∷ ys) h =
+      elim (key y == k) as (λ b. Every P (cond b ys (y ∷ without key k ys))) [ true ↦ h.1 | false ↦ (h.0, every-without k ys h.1) ]
 
   pub every-ordered : (xs : List X) → Every P xs → Every P (ordered key xs)
   every-ordered [] h = tt
   every-ordered (y ∷ ys) h = every-add y (ordered key ys) h.0 (every-ordered ys h.1)
 
-  every_at_by : (k : ℕ) (x y : X) (ys : List X) (b : Bool) → cond b (Some y) (at key k ys) ≡ Some x → P y → (at key k ys ≡ Some x → P x) → P x
+  every_at_by : (k : ℕ) (x y : X) (ys : List X) (b : Bool) → cond b (Some y) (at key k ys) ≡ Some x → P y
+      → (at key k ys ≡ Some x → P x) → P x
   every_at_by k x y ys true e p ih = let s : y ≡ x = cc in subst P s p
   every_at_by k x y ys false e p ih = ih e
 
@@ -28,7 +32,8 @@ module _ {X : Type 0} (P : X → Type 0) (key : X → ℕ) where
 
 module _ {X : Type 0} (key : X → ℕ) where
   -- where an element was added
-  pub at-add : (k : ℕ) (x : X) (xs : List X) → at key (key x) xs ≡ None → (q : X → ℕ) → at key k (add q x xs) ≡ (if key x == k then Some x else at key k xs)
+  pub at-add : (k : ℕ) (x : X) (xs : List X) → at key (key x) xs ≡ None → (q : X → ℕ)
+      → at key k (add q x xs) ≡ (if key x == k then Some x else at key k xs)
   at-add k x [] h q = refl
   at-add k x (y ∷ ys) h q = let ih = at-add k x ys in grind (arith, nat_tests)
 
@@ -44,13 +49,15 @@ module _ {X : Type 0} (k q : X → ℕ) where
 
   pub without_named : (r : ℕ) (e : X) (xs : List X) → Rising k xs → at q r xs ≡ Some e → without k (k e) xs ≡ without q r xs
   without_named r e [] h p = refl
-  without_named r e (y ∷ ys) h p = let ih = without_named r e ys h.1 in let over = over_found (k y) r e ys h.0 in grind (arith, nat_tests)
+  without_named r e (y ∷ ys) h p =
+      let ih = without_named r e ys h.1 in let over = over_found (k y) r e ys h.0 in grind (arith, nat_tests)
 
   over_all : (r : ℕ) (x : X) (xs : List X) → at q r (x ∷ xs) ≡ None → at q r xs ≡ None
   over_all r x xs h = grind (arith, nat_tests)
 
   -- the second order does not see where the first one puts
-  ordered_add_by : (x y : X) (ys : List X) (b : Bool) → at q (q x) (y ∷ ys) ≡ None → (at q (q x) ys ≡ None → ordered q (add k x ys) ≡ add q x (ordered q ys))
+  ordered_add_by : (x y : X) (ys : List X) (b : Bool) → at q (q x) (y ∷ ys) ≡ None
+      → (at q (q x) ys ≡ None → ordered q (add k x ys) ≡ add q x (ordered q ys))
       → ordered q (cond b (y ∷ add k x ys) (x ∷ y ∷ ys)) ≡ add q x (add q y (ordered q ys))
   ordered_add_by x y ys true h ih =
       let other : q y ≡ q x → ⊥ = λ s. grind (arith, nat_tests) in
@@ -70,7 +77,8 @@ module _ {X : Type 0} (k q : X → ℕ) where
       let other : q y ≡ q e → ⊥ = λ s. grind (arith, nat_tests) in
       ap (add q y) (ih h) ∙ add-add q y e (ordered q (without q r ys)) other
 
-  pub ordered_taken : (r : ℕ) (e : X) (xs : List X) → Distinct q xs → at q r xs ≡ Some e → ordered q xs ≡ add q e (ordered q (without q r xs))
+  pub ordered_taken : (r : ℕ) (e : X) (xs : List X) → Distinct q xs → at q r xs ≡ Some e
+      → ordered q xs ≡ add q e (ordered q (without q r xs))
   ordered_taken r e [] d h = absurd (cc)
   ordered_taken r e (y ∷ ys) d h = ordered_taken_by r e y ys (q y == r) refl h (ordered_taken r e ys d.1)
 
@@ -108,11 +116,13 @@ module _ {X : Type 0} (q : X → ℕ) where
   add_over x [] h = refl
   add_over x (y ∷ ys) h = let lt : q x < q y = h.0 in grind (arith, nat_tests)
 
-  put_is_add_by : (x y : X) (ys : List X) (b : Bool) → nat_lt (q y) (q x) ≡ b → (c : Bool) → (q y == q x) ≡ c → Rising q (y ∷ ys) → put q x ys ≡ add q x (without q (q x) ys)
+  put_is_add_by : (x y : X) (ys : List X) (b : Bool) → nat_lt (q y) (q x) ≡ b → (c : Bool) → (q y == q x) ≡ c → Rising q (y ∷ ys)
+      → put q x ys ≡ add q x (without q (q x) ys)
       → cond b (y ∷ put q x ys) (cond c (x ∷ ys) (x ∷ y ∷ ys)) ≡ add q x (cond c ys (y ∷ without q (q x) ys))
   put_is_add_by x y ys true e true f r ih = absurd (grind (arith, nat_tests))
   put_is_add_by x y ys true e false f r ih = grind (arith, nat_tests)
-  put_is_add_by x y ys false e true f r ih = let le : q x ≤ q y = grind (arith, nat_tests) in sym (add_over x ys (over_more q (q x) (q y) ys le r.0))
+  put_is_add_by x y ys false e true f r ih =
+      let le : q x ≤ q y = grind (arith, nat_tests) in sym (add_over x ys (over_more q (q x) (q y) ys le r.0))
   put_is_add_by x y ys false e false f r ih =
       let le : q x ≤ q y = grind (arith, nat_tests) in
       let same = without_over q (q x) ys (over_more q (q x) (q y) ys le r.0) in
@@ -146,7 +156,8 @@ module _ {X : Type 0} (q : X → ℕ) where
   distinct-add k x [] h d = (refl, tt)
   distinct-add k x (y ∷ ys) h d = distinct_add_by k x y ys (nat_lt (k y) (k x)) h d (distinct-add k x ys)
 
-  distinct_without_by : (r : ℕ) (y : X) (ys : List X) (b : Bool) → Distinct q (y ∷ ys) → Distinct q (without q r ys) → Distinct q (cond b ys (y ∷ without q r ys))
+  distinct_without_by : (r : ℕ) (y : X) (ys : List X) (b : Bool) → Distinct q (y ∷ ys) → Distinct q (without q r ys)
+      → Distinct q (cond b ys (y ∷ without q r ys))
   distinct_without_by r y ys true d ih = d.1
   distinct_without_by r y ys false d ih =
       let w = at-without_distinct r (q y) ys d.1 in
@@ -202,13 +213,16 @@ module _ {X : Type 0} (k q : X → ℕ) where
 
   pub distinct_other : (r : ℕ) (xs : List X) → Distinct q xs → Distinct q (without k r xs)
   distinct_other r [] d = tt
-  distinct_other r (y ∷ ys) d = elim (k y == r) as (λ b. Distinct q (cond b ys (y ∷ without k r ys))) [ true ↦ d.1 | false ↦ (none_without (q y) r ys d.0, distinct_other r ys d.1) ]
+  distinct_other r (y ∷ ys) d =
+      elim (k y == r) as (λ b. Distinct q (cond b ys (y ∷ without k r ys)))
+      [ true ↦ d.1 | false ↦ (none_without (q y) r ys d.0, distinct_other r ys d.1) ]
 
   pub not_member : (j r : ℕ) (e : X) (xs : List X) → at k r xs ≡ Some e → at q j xs ≡ None → q e ≡ j → ⊥
   not_member j r e [] h n s = absurd (cc)
   not_member j r e (y ∷ ys) h n s = let ih = not_member j r e ys in grind (arith, nat_tests)
 
-  gone_other_by : (r : ℕ) (e y : X) (ys : List X) (b : Bool) → cond b (Some y) (at k r ys) ≡ Some e → Distinct q (y ∷ ys) → (at k r ys ≡ Some e → at q (q e) (without k r ys) ≡ None)
+  gone_other_by : (r : ℕ) (e y : X) (ys : List X) (b : Bool) → cond b (Some y) (at k r ys) ≡ Some e → Distinct q (y ∷ ys)
+      → (at k r ys ≡ Some e → at q (q e) (without k r ys) ≡ None)
       → at q (q e) (cond b ys (y ∷ without k r ys)) ≡ None
   gone_other_by r e y ys true h d ih = let s : y ≡ e = cc in let n = d.0 in subst (λ z. at q (q z) ys ≡ None) s n
   gone_other_by r e y ys false h d ih =
@@ -241,7 +255,8 @@ module _ {X : Type 0} (k q : X → ℕ) (ok : X → Type 0) (apart : (x y : X) �
   apart_distinct [] h d = tt
   apart_distinct (y ∷ ys) h d = (apart_none y ys h.0 h.1 d.0, apart_distinct ys h.1 d.1)
 
-  ordered_left_by : (r : ℕ) (x y : X) (ys : List X) (b : Bool) → (k y == r) ≡ b → Every ok (y ∷ ys) → cond b (Some y) (at k r ys) ≡ Some x
+  ordered_left_by : (r : ℕ) (x y : X) (ys : List X) (b : Bool) → (k y == r) ≡ b → Every ok (y ∷ ys)
+      → cond b (Some y) (at k r ys) ≡ Some x
       → (at k r ys ≡ Some x → ordered q ys ≡ add q x (ordered q (without k r ys)))
       → add q y (ordered q ys) ≡ add q x (ordered q (cond b ys (y ∷ without k r ys)))
   ordered_left_by r x y ys true e o h ih = let s : y ≡ x = cc in ap (λ z. add q z (ordered q ys)) s
@@ -251,6 +266,7 @@ module _ {X : Type 0} (k q : X → ℕ) (ok : X → Type 0) (apart : (x y : X) �
       let other : q y ≡ q x → ⊥ = λ s. let t = apart y x o.0 fine s in grind (arith, nat_tests) in
       ap (add q y) (ih h) ∙ add-add q y x (ordered q (without k r ys)) other
 
-  pub ordered_left : (r : ℕ) (x : X) (xs : List X) → Every ok xs → at k r xs ≡ Some x → ordered q xs ≡ add q x (ordered q (without k r xs))
+  pub ordered_left : (r : ℕ) (x : X) (xs : List X) → Every ok xs → at k r xs ≡ Some x
+      → ordered q xs ≡ add q x (ordered q (without k r xs))
   ordered_left r x [] o h = absurd (cc)
   ordered_left r x (y ∷ ys) o h = ordered_left_by r x y ys (k y == r) refl o h (ordered_left r x ys o.1)

@@ -17,10 +17,13 @@ module _ {X : Type 0} (key : X → ℕ) where
 
   pub over-put : (j : ℕ) (x : X) (xs : List X) → j < key x → AllOver key j xs → AllOver key j (put key x xs)
   over-put j x [] lt h = (lt, tt)
-  over-put j x (y ∷ ys) lt h = elim (nat_lt (key y) (key x)) as (λ b. AllOver key j (cond b (y ∷ put key x ys) (cond (key y == key x) (x ∷ ys) (x ∷ y ∷ ys)))) [
-    | true ↦ (h.0, over-put j x ys lt h.1)
-    | false ↦ elim (key y == key x) as (λ b. AllOver key j (cond b (x ∷ ys) (x ∷ y ∷ ys))) [ true ↦ (lt, h.1) | false ↦ (lt, h) ]
-  ]
+  over-put j x (y ∷ ys) lt h =
+      elim (nat_lt (key y) (key x)) as
+      (λ b. AllOver key j (cond b (y ∷ put key x ys) (cond (key y == key x) (x ∷ ys) (x ∷ y ∷ ys)))) [
+        | true ↦ (h.0, over-put j x ys lt h.1)
+        | false ↦ elim (key y == key x) as (λ b. AllOver key j (cond b (x ∷ ys) (x ∷ y ∷ ys)))
+            [ true ↦ (lt, h.1) | false ↦ (lt, h) ]
+      ]
 
   pub over-add : (j : ℕ) (x : X) (xs : List X) → j < key x → AllOver key j xs → AllOver key j (add key x xs)
   over-add j x [] lt h = (lt, tt)
@@ -31,12 +34,17 @@ module _ {X : Type 0} (key : X → ℕ) where
 
   pub over-without : (j k : ℕ) (xs : List X) → AllOver key j xs → AllOver key j (without key k xs)
   over-without j k [] h = tt
-  over-without j k (y ∷ ys) h = elim (key y == k) as (λ b. AllOver key j (cond b ys (y ∷ without key k ys))) [ true ↦ h.1 | false ↦ (h.0, over-without j k ys h.1) ]
+  over-without j k (y ∷ ys) h =
+      elim (key y == k) as (λ b. AllOver key j (cond b ys (y ∷ without key k ys)))
+      [ true ↦ h.1 | false ↦ (h.0, over-without j k ys h.1) ]
 
-  rising_put_at : (x y : X) (ys : List X) (b c : Bool) → nat_lt (key y) (key x) ≡ b → (key y == key x) ≡ c → AllOver key (key y) ys → Rising key ys → Rising key (put key x ys)
+  rising_put_at : (x y : X) (ys : List X) (b c : Bool) → nat_lt (key y) (key x) ≡ b → (key y == key x) ≡ c → AllOver key (key y) ys
+      → Rising key ys → Rising key (put key x ys)
       → Rising key (cond b (y ∷ put key x ys) (cond c (x ∷ ys) (x ∷ y ∷ ys)))
-  rising_put_at x y ys true c e f over h ih = let lt : key y < key x = grind (arith, nat_tests) in (over-put (key y) x ys lt over, ih)
-  rising_put_at x y ys false true e f over h ih = let same : key x ≤ key y = grind (arith, nat_tests) in (over_more (key x) (key y) ys same over, h)
+  rising_put_at x y ys true c e f over h ih =
+      let lt : key y < key x = grind (arith, nat_tests) in (over-put (key y) x ys lt over, ih)
+  rising_put_at x y ys false true e f over h ih =
+      let same : key x ≤ key y = grind (arith, nat_tests) in (over_more (key x) (key y) ys same over, h)
   rising_put_at x y ys false false e f over h ih =
       let lt : key x < key y = grind (arith, nat_tests) in
       let le : key x ≤ key y = omega arith in
@@ -77,7 +85,8 @@ module _ {X : Type 0} (key : X → ℕ) where
   place_le k [] = omega arith
   place_le k (y ∷ ys) = let ih = place_le k ys in grind (arith, nat_tests)
 
-  pub place_above : (k i : ℕ) (x : X) (xs : List X) → Rising key xs → i < length xs → x ≡ get_or xs i x → key x < k → i < place key k xs
+  pub place_above : (k i : ℕ) (x : X) (xs : List X) → Rising key xs → i < length xs → x ≡ get_or xs i x → key x < k
+      → i < place key k xs
   place_above k i x [] h lt e less = absurd (omega arith)
   place_above k zero x (y ∷ ys) h lt e less = let same : key x ≡ key y = ap key e in grind (arith, nat_tests)
   place_above k (suc i) x (y ∷ ys) h lt e less =
@@ -91,12 +100,14 @@ module _ {X : Type 0} (key : X → ℕ) where
   place_below k (suc i) x (y ∷ ys) lt e le = let ih = place_below k i x ys (omega arith) e le in grind (arith, nat_tests)
 
   -- the element at its place
-  pub at_place : (k i : ℕ) (x : X) (xs : List X) → i ≡ place key k xs → i < length xs → x ≡ get_or xs i x → key x ≡ k → at key k xs ≡ Some x
+  pub at_place : (k i : ℕ) (x : X) (xs : List X) → i ≡ place key k xs → i < length xs → x ≡ get_or xs i x → key x ≡ k
+      → at key k xs ≡ Some x
   at_place k i x [] p lt e same = absurd (omega arith)
   at_place k zero x (y ∷ ys) p lt e same = let eq : key x ≡ key y = ap key e in grind (arith, nat_tests)
   at_place k (suc i) x (y ∷ ys) p lt e same = let ih = at_place k i x ys in grind (arith, nat_tests)
 
-  pub at_absent : (k i : ℕ) (x : X) (xs : List X) → Rising key xs → i ≡ place key k xs → i < length xs → x ≡ get_or xs i x → (key x ≡ k → ⊥) → at key k xs ≡ None
+  pub at_absent : (k i : ℕ) (x : X) (xs : List X) → Rising key xs → i ≡ place key k xs → i < length xs → x ≡ get_or xs i x
+      → (key x ≡ k → ⊥) → at key k xs ≡ None
   at_absent k i x [] h p lt e other = refl
   at_absent k zero x (y ∷ ys) h p lt e other =
       let eq : key x ≡ key y = ap key e in
@@ -113,12 +124,14 @@ module _ {X : Type 0} (key : X → ℕ) where
   without_absent k (y ∷ ys) h = let ih = without_absent k ys in grind (arith, nat_tests)
 
   -- what a write, an insertion and a removal at the place make
-  pub put_set : (k i : ℕ) (x z : X) (xs : List X) → i ≡ place key k xs → i < length xs → x ≡ get_or xs i x → key x ≡ k → key z ≡ k → set xs i z ≡ put key z xs
+  pub put_set : (k i : ℕ) (x z : X) (xs : List X) → i ≡ place key k xs → i < length xs → x ≡ get_or xs i x → key x ≡ k → key z ≡ k
+      → set xs i z ≡ put key z xs
   put_set k i x z [] p lt e same new = absurd (omega arith)
   put_set k zero x z (y ∷ ys) p lt e same new = let eq : key x ≡ key y = ap key e in grind (arith, nat_tests)
   put_set k (suc i) x z (y ∷ ys) p lt e same new = let ih = put_set k i x z ys in grind (arith, nat_tests)
 
-  add_insert_at : (z y : X) (ys : List X) (b : Bool) → nat_lt (key y) (key z) ≡ b → insert ys (place key (key z) ys) z ≡ add key z ys
+  add_insert_at : (z y : X) (ys : List X) (b : Bool) → nat_lt (key y) (key z) ≡ b
+      → insert ys (place key (key z) ys) z ≡ add key z ys
       → insert (y ∷ ys) (cond b (place key (key z) ys + 1) 0) z ≡ cond b (y ∷ add key z ys) (z ∷ y ∷ ys)
   add_insert_at z y ys true e ih = rw (add-one) (ap (λ zs. y ∷ zs) ih)
   add_insert_at z y ys false e ih = refl
@@ -131,14 +144,17 @@ module _ {X : Type 0} (key : X → ℕ) where
   put_add z [] h = refl
   put_add z (y ∷ ys) h = let ih = put_add z ys in grind (arith, nat_tests)
 
-  pub remove_without : (k i : ℕ) (x : X) (xs : List X) → i ≡ place key k xs → i < length xs → x ≡ get_or xs i x → key x ≡ k → remove xs i ≡ without key k xs
+  pub remove_without : (k i : ℕ) (x : X) (xs : List X) → i ≡ place key k xs → i < length xs → x ≡ get_or xs i x → key x ≡ k
+      → remove xs i ≡ without key k xs
   remove_without k i x [] p lt e same = absurd (omega arith)
   remove_without k zero x (y ∷ ys) p lt e same = let eq : key x ≡ key y = ap key e in grind (arith, nat_tests)
   remove_without k (suc i) x (y ∷ ys) p lt e same = let ih = remove_without k i x ys in grind (arith, nat_tests)
 
-  remove_at_by : (k : ℕ) (e y : X) (ys : List X) (b : Bool) → nat_lt (key y) k ≡ b → (c : Bool) → (key y == k) ≡ c → Rising key (y ∷ ys) → cond c (Some y) (at key k ys) ≡ Some e
+  remove_at_by : (k : ℕ) (e y : X) (ys : List X) (b : Bool) → nat_lt (key y) k ≡ b → (c : Bool) → (key y == k) ≡ c
+      → Rising key (y ∷ ys) → cond c (Some y) (at key k ys) ≡ Some e
       → (at key k ys ≡ Some e → (place key k ys < length ys) × (remove ys (place key k ys) ≡ without key k ys))
-      → (cond b (place key k ys + 1) 0 < length (y ∷ ys)) × (remove (y ∷ ys) (cond b (place key k ys + 1) 0) ≡ cond c ys (y ∷ without key k ys))
+      → (cond b (place key k ys + 1) 0 < length (y ∷ ys))
+      × (remove (y ∷ ys) (cond b (place key k ys + 1) 0) ≡ cond c ys (y ∷ without key k ys))
   remove_at_by k e y ys true l true f h a ih = absurd (grind (arith, nat_tests))
   remove_at_by k e y ys true l false f h a ih = let r = ih a in (omega (arith, r.0), rw (add-one) (ap (λ zs. y ∷ zs) r.1))
   remove_at_by k e y ys false l true f h a ih = (omega arith, refl)
@@ -147,12 +163,14 @@ module _ {X : Type 0} (key : X → ℕ) where
       let none = at_over k ys (over_more k (key y) ys (omega arith) h.0) in
       absurd (cc)
 
-  pub remove_at : (k : ℕ) (e : X) (xs : List X) → Rising key xs → at key k xs ≡ Some e → (place key k xs < length xs) × (remove xs (place key k xs) ≡ without key k xs)
+  pub remove_at : (k : ℕ) (e : X) (xs : List X) → Rising key xs → at key k xs ≡ Some e
+      → (place key k xs < length xs) × (remove xs (place key k xs) ≡ without key k xs)
   remove_at k e [] h a = absurd (cc)
   remove_at k e (y ∷ ys) h a = remove_at_by k e y ys (nat_lt (key y) k) refl (key y == k) refl h a (remove_at k e ys h.1)
 
   -- a look-up after a write
-  pub at-put : (k : ℕ) (x : X) (xs : List X) → Rising key xs → at key k (put key x xs) ≡ (if key x == k then Some x else at key k xs)
+  pub at-put : (k : ℕ) (x : X) (xs : List X) → Rising key xs
+      → at key k (put key x xs) ≡ (if key x == k then Some x else at key k xs)
   at-put k x [] h = refl
   at-put k x (y ∷ ys) h = let ih = at-put k x ys h.1 in grind (arith, nat_tests)
 
@@ -170,7 +188,8 @@ module _ {X : Type 0} (key : X → ℕ) where
 module _ {X : Type 0} (k q : X → ℕ) (apart : (x y : X) → q x ≡ q y → k x ≡ k y) where
   ordered_put_by : (x y : X) (ys : List X) (b : Bool) → nat_lt (k y) (k x) ≡ b → (c : Bool) → (k y == k x) ≡ c → Rising k (y ∷ ys)
       → ordered q (put k x ys) ≡ add q x (ordered q (without k (k x) ys))
-      → ordered q (cond b (y ∷ put k x ys) (cond c (x ∷ ys) (x ∷ y ∷ ys))) ≡ add q x (ordered q (cond c ys (y ∷ without k (k x) ys)))
+      → ordered q (cond b (y ∷ put k x ys) (cond c (x ∷ ys) (x ∷ y ∷ ys)))
+      ≡ add q x (ordered q (cond c ys (y ∷ without k (k x) ys)))
   ordered_put_by x y ys true e true f h ih = absurd (grind (arith, nat_tests))
   ordered_put_by x y ys true e false f h ih =
       let other : q y ≡ q x → ⊥ = λ s. let t = apart y x s in grind (arith, nat_tests) in

@@ -77,7 +77,8 @@ pub(crate) fn hold<T: Keyed>(
     requires { Every IsEmpty spares.old.items }
     ensures items { chunks.new.items ≡ chunks.old.items }
     ensures empty { Every IsEmpty spares.new.items }
-    ensures ok { OnOk result (IsSteady steady count (vec_len chunks.new + vec_len spares.new) (vec_capacity chunks.new) (vec_capacity spares.new)) }
+    ensures ok { OnOk result
+        (IsSteady steady count (vec_len chunks.new + vec_len spares.new) (vec_capacity chunks.new) (vec_capacity spares.new)) }
     ensures kept { vec_len spares.old ≤ vec_len spares.new }
     ensures places { vec_capacity chunks.old ≤ vec_capacity chunks.new }
     ensures held { vec_capacity spares.old ≤ vec_capacity spares.new }

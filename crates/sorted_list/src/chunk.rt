@@ -106,7 +106,8 @@ impl<T: Keyed> Model for Chunk<T> {
 
     ghost view = { λ c. c.items.items };
 
-    ghost invariant = { λ c. (256 ≤ vec_capacity c.items) × (vec_len c.items ≤ 256) × (IsFilled c.items.items → c.head ≡ head_key T.rank c.items.items) };
+    ghost invariant = { λ c. (256 ≤ vec_capacity c.items) × (vec_len c.items ≤ 256)
+        × (IsFilled c.items.items → c.head ≡ head_key T.rank c.items.items) };
 }
 
 impl<T: Keyed> Chunk<T> {

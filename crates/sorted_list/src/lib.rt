@@ -8,8 +8,8 @@
 //! A list made by `SortedList::steady` holds chunks enough for all that it has and has room for, however they are spread: there
 //! is room for another where an element is taken out, so what is moved from one key to another needs no reserve.
 //!
-//! `specs/Ordered.antt` has the words in which contracts of tables speak of lists in the order of a number of each element, its key;
-//! `specs/Laws.antt` and `specs/Indexed.antt` say what is true of them.
+//! `specs/Ordered.antt` has the words in which contracts of tables speak of lists in the order of a number of each element, its
+//! key; `specs/Laws.antt` and `specs/Indexed.antt` say what is true of them.
 #![tactic(auto)]
 
 mod adding;

@@ -42,7 +42,11 @@ impl<T: Keyed> Model for SortedList<T> {
 
     ghost view = { λ l. record { items = flat l.chunks.items; room = l.room; steady = l.steady } };
 
-    ghost invariant = { λ l. IsChunked T.rank l.chunks.items l.spares.items l.len × IsRoom (weight l.chunks.items) (vec_len l.chunks) (vec_len l.chunks + vec_len l.spares) (vec_capacity l.chunks) (vec_capacity l.spares) l.len l.room × IsPaired l.chunks.items × IsSteady l.steady (l.len + l.room) (vec_len l.chunks + vec_len l.spares) (vec_capacity l.chunks) (vec_capacity l.spares) };
+    ghost invariant = { λ l. IsChunked T.rank l.chunks.items l.spares.items l.len
+        × IsRoom (weight l.chunks.items) (vec_len l.chunks) (vec_len l.chunks + vec_len l.spares) (vec_capacity l.chunks)
+        (vec_capacity l.spares) l.len l.room × IsPaired l.chunks.items
+        × IsSteady l.steady (l.len + l.room) (vec_len l.chunks + vec_len l.spares) (vec_capacity l.chunks)
+        (vec_capacity l.spares) };
 }
 
 impl<T: Keyed> SortedList<T> {

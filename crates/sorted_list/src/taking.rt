@@ -47,7 +47,8 @@ fn join_next<T: Keyed>(
     ensures upper { IsPairedFrom (at + 1) chunks.old.items → IsPairedFrom at chunks.new.items }
     ensures weight { weight chunks.new.items ≤ weight chunks.old.items }
     ensures used { vec_len chunks.new ≤ vec_len chunks.old }
-    ensures spares { min (vec_len chunks.old + vec_len spares.old) (vec_len chunks.new + enough) ≤ vec_len chunks.new + vec_len spares.new }
+    ensures spares { min (vec_len chunks.old + vec_len spares.old) (vec_len chunks.new + enough)
+        ≤ vec_len chunks.new + vec_len spares.new }
     ensures places { vec_capacity chunks.old ≤ vec_capacity chunks.new }
     ensures held { vec_capacity spares.old ≤ vec_capacity spares.new }
 {
@@ -84,7 +85,8 @@ fn join_around<T: Keyed>(
     ensures paired { IsPaired chunks.new.items }
     ensures weight { weight chunks.new.items ≤ weight chunks.old.items }
     ensures used { vec_len chunks.new ≤ vec_len chunks.old }
-    ensures spares { min (vec_len chunks.old + vec_len spares.old) (vec_len chunks.new + enough) ≤ vec_len chunks.new + vec_len spares.new }
+    ensures spares { min (vec_len chunks.old + vec_len spares.old) (vec_len chunks.new + enough)
+        ≤ vec_len chunks.new + vec_len spares.new }
     ensures places { vec_capacity chunks.old ≤ vec_capacity chunks.new }
     ensures held { vec_capacity spares.old ≤ vec_capacity spares.new }
 {
@@ -114,7 +116,8 @@ pub(crate) fn take_from<T: Keyed>(
     ensures paired { IsPaired chunks.new.items }
     ensures weight { weight chunks.new.items ≤ weight chunks.old.items }
     ensures used { vec_len chunks.new ≤ vec_len chunks.old }
-    ensures spares { min (vec_len chunks.old + vec_len spares.old) (vec_len chunks.new + enough) ≤ vec_len chunks.new + vec_len spares.new }
+    ensures spares { min (vec_len chunks.old + vec_len spares.old) (vec_len chunks.new + enough)
+        ≤ vec_len chunks.new + vec_len spares.new }
     ensures places { vec_capacity chunks.old ≤ vec_capacity chunks.new }
     ensures held { vec_capacity spares.old ≤ vec_capacity spares.new }
 {
@@ -138,7 +141,8 @@ pub(crate) fn replace_in<T: Keyed>(chunks: &mut Vec<Chunk<T>>, item: T) -> Optio
     requires paired { IsPaired chunks.old.items }
     requires filled { Every IsFilled chunks.old.items }
     ensures was { result ≡ at T.rank (T.rank item) (flat chunks.old.items) }
-    ensures after { flat chunks.new.items ≡ (if is_some result then put T.rank item (flat chunks.old.items) else flat chunks.old.items) }
+    ensures after { flat chunks.new.items
+        ≡ (if is_some result then put T.rank item (flat chunks.old.items) else flat chunks.old.items) }
     ensures filled { Every IsFilled chunks.new.items }
     ensures paired { IsPaired chunks.new.items }
     ensures weight { weight chunks.new.items ≤ weight chunks.old.items }

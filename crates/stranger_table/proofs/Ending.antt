@@ -27,12 +27,14 @@ met_by : (c t l : ℕ) (b : Bool) → nat_lt 1 (l - (c - t)) ≡ b → t ≤ c �
 met_by c t l true e le a = grind (arith, nat_tests)
 met_by c t l false e le a = grind (arith, nat_tests)
 
-met_in : (c i t : ℕ) (s : Stranger) → t ≤ c → IsAsleep (c - t) s → is_met (c + 1) (deadline_in i t s) ≡ is_ending (stranger_aged (c - t) s)
+met_in : (c i t : ℕ) (s : Stranger) → t ≤ c → IsAsleep (c - t) s
+    → is_met (c + 1) (deadline_in i t s) ≡ is_ending (stranger_aged (c - t) s)
 met_in c i t (Held slot) le a = refl
 met_in c i t (Waiting k l r) le a = met_by c t l (nat_lt 1 (l - (c - t))) refl le a
 
 -- they are those whose T3470 it ends
-pub met_is_ending : (clock : ℕ) (r : Row) → IsSleeping clock r.sleeper → is_met (clock + 1) (deadline_of r.id r.sleeper) ≡ is_ending (sleeper_now clock r.sleeper)
+pub met_is_ending : (clock : ℕ) (r : Row) → IsSleeping clock r.sleeper
+    → is_met (clock + 1) (deadline_of r.id r.sleeper) ≡ is_ending (sleeper_now clock r.sleeper)
 met_is_ending clock r h = met_in clock r.id r.sleeper.touched r.sleeper.stranger h.past h.asleep
 
 pub met_is_due : (clock : ℕ) (rs : List Row) → AreSleeping clock rs → met_ids (clock + 1) rs ≡ due_ids (all_now clock rs)
@@ -43,18 +45,23 @@ met_is_due clock (r ∷ rs) h =
 
 -- ---- all, as they are behind the tick
 
-row_now : (id next : ℕ) (o : Option Stranger) (rs : List Row) → all_now next (row_if id (option_map (touched_at next) o) rs) ≡ known_if id o (all_now next rs)
+row_now : (id next : ℕ) (o : Option Stranger) (rs : List Row)
+    → all_now next (row_if id (option_map (touched_at next) o) rs) ≡ known_if id o (all_now next rs)
 row_now id next None rs = refl
 row_now id next (Some x) rs = ap (λ y. record { id = id; stranger = y } ∷ all_now next rs) (touched_now next x)
 
 back : (clock : ℕ) → clock + 1 - 1 ≡ clock
 back clock = omega arith
 
-later_now : (clock t : ℕ) (s : Stranger) → t ≤ clock → stranger_aged 1 (stranger_aged (clock - t) s) ≡ stranger_aged (clock + 1 - t) s
-later_now clock t s le = let same : clock - t + 1 ≡ clock + 1 - t = omega arith in aged_again (clock - t) 1 s ∙ ap (λ n. stranger_aged n s) same
+later_now : (clock t : ℕ) (s : Stranger) → t ≤ clock
+    → stranger_aged 1 (stranger_aged (clock - t) s) ≡ stranger_aged (clock + 1 - t) s
+later_now clock t s le =
+    let same : clock - t + 1 ≡ clock + 1 - t = omega arith in aged_again (clock - t) 1 s ∙ ap (λ n. stranger_aged n s) same
 
-ended_by : (clock : ℕ) (r : Row) (rs : List Row) (ks : List Known) (b : Bool) → is_ending (sleeper_now clock r.sleeper) ≡ b → IsSleeping clock r.sleeper → all_now (clock + 1) rs ≡ ks
-    → all_now (clock + 1) (cond b (row_if r.id (sleeper_ended r.id (clock + 1) r.sleeper) rs) (r ∷ rs)) ≡ known_if r.id (notes r.id (Some (sleeper_now clock r.sleeper)) Tick).stranger ks
+ended_by : (clock : ℕ) (r : Row) (rs : List Row) (ks : List Known) (b : Bool) → is_ending (sleeper_now clock r.sleeper) ≡ b
+    → IsSleeping clock r.sleeper → all_now (clock + 1) rs ≡ ks
+    → all_now (clock + 1) (cond b (row_if r.id (sleeper_ended r.id (clock + 1) r.sleeper) rs) (r ∷ rs))
+    ≡ known_if r.id (notes r.id (Some (sleeper_now clock r.sleeper)) Tick).stranger ks
 ended_by clock r rs ks true e h ih =
     row_now r.id (clock + 1) (notes r.id (Some (sleeper_now (clock + 1 - 1) r.sleeper)) Tick).stranger rs
     ∙ ap (λ c. known_if r.id (notes r.id (Some (sleeper_now c r.sleeper)) Tick).stranger (all_now (clock + 1) rs)) (back clock)
@@ -64,11 +71,13 @@ ended_by clock r rs ks false e h ih =
     ∙ ap (λ zs. record { id = r.id; stranger = stranger_aged 1 (sleeper_now clock r.sleeper) } ∷ zs) ih
     ∙ sym (ap (λ (t : Turn). known_if r.id t.stranger ks) (quiet_notice r.id (sleeper_now clock r.sleeper) e))
 
-pub all_ended_now : (clock : ℕ) (rs : List Row) → AreSleeping clock rs → all_now (clock + 1) (all_ended (clock + 1) rs) ≡ noted Tick (all_now clock rs)
+pub all_ended_now : (clock : ℕ) (rs : List Row) → AreSleeping clock rs
+    → all_now (clock + 1) (all_ended (clock + 1) rs) ≡ noted Tick (all_now clock rs)
 all_ended_now clock [] h = refl
 all_ended_now clock (r ∷ rs) h =
     ap (λ b. all_now (clock + 1) (cond b (row_if r.id (sleeper_ended r.id (clock + 1) r.sleeper) (all_ended (clock + 1) rs)) (r ∷ all_ended (clock + 1) rs))) (met_is_ending clock r h.0)
-    ∙ ended_by clock r (all_ended (clock + 1) rs) (noted Tick (all_now clock rs)) (is_ending (sleeper_now clock r.sleeper)) refl h.0 (all_ended_now clock rs h.1)
+    ∙ ended_by clock r (all_ended (clock + 1) rs) (noted Tick (all_now clock rs)) (is_ending (sleeper_now clock r.sleeper)) refl h.0
+    (all_ended_now clock rs h.1)
 
 -- ---- one of them
 
@@ -87,7 +96,8 @@ past id (Some s) y ys lt = grind (arith, nat_tests)
 
 -- where it touches one of those whom it ends, it still ends the others
 here : (next id : ℕ) (o : Option Stranger) (y : Row) (ys : List Row) → y.id ≡ id
-    → all_ended next (with_row id (option_map (touched_at next) o) (y ∷ ys)) ≡ row_if id (option_map (touched_at next) o) (all_ended next ys)
+    → all_ended next (with_row id (option_map (touched_at next) o) (y ∷ ys))
+    ≡ row_if id (option_map (touched_at next) o) (all_ended next ys)
 here next id None y ys e =
     let goes : without row_id id (y ∷ ys) ≡ ys = grind (arith, nat_tests) in
     ap (all_ended next) goes
@@ -96,13 +106,15 @@ here next id (Some x) y ys e =
     let there : put row_id new (y ∷ ys) ≡ new ∷ ys = grind (arith, nat_tests) in
     ap (all_ended next) there ∙ rw (fresh_in id next x) refl
 
-step_by : (next id : ℕ) (r y : Row) (ys : List Row) (b : Bool) → (y.id == id) ≡ b → Rising row_id (y ∷ ys) → cond b (Some y) (at row_id id ys) ≡ Some r → is_met next (deadline_of id r.sleeper) ≡ true
+step_by : (next id : ℕ) (r y : Row) (ys : List Row) (b : Bool) → (y.id == id) ≡ b → Rising row_id (y ∷ ys)
+    → cond b (Some y) (at row_id id ys) ≡ Some r → is_met next (deadline_of id r.sleeper) ≡ true
     → (at row_id id ys ≡ Some r → all_ended next (with_row id (sleeper_ended id next r.sleeper) ys) ≡ all_ended next ys)
     → all_ended next (with_row id (sleeper_ended id next r.sleeper) (y ∷ ys)) ≡ all_ended next (y ∷ ys)
 step_by next id r y ys true e h q met ih =
     let same : y ≡ r = cc in
     let own : y.id ≡ id = eqb-true _ _ e in
-    let its : is_met next (deadline_of y.id y.sleeper) ≡ true = ap (λ i. is_met next (deadline_of i y.sleeper)) own ∙ ap (λ (z : Row). is_met next (deadline_of id z.sleeper)) same ∙ met in
+    let its : is_met next (deadline_of y.id y.sleeper) ≡ true =
+    ap (λ i. is_met next (deadline_of i y.sleeper)) own ∙ ap (λ (z : Row). is_met next (deadline_of id z.sleeper)) same ∙ met in
     here next id (notes id (Some (sleeper_now (next - 1) r.sleeper)) Tick).stranger y ys own
     ∙ ap (λ (z : Row). row_if id (sleeper_ended id next z.sleeper) (all_ended next ys)) (sym same)
     ∙ ap (λ i. row_if i (sleeper_ended i next y.sleeper) (all_ended next ys)) (sym own)
@@ -110,9 +122,11 @@ step_by next id r y ys true e h q met ih =
 step_by next id r y ys false e h q met ih =
     let lt : y.id < id = over_at y.id id r ys h.0 q in
     ap (all_ended next) (past id (sleeper_ended id next r.sleeper) y ys lt)
-    ∙ ap (λ zs. cond (is_met next (deadline_of y.id y.sleeper)) (row_if y.id (sleeper_ended y.id next y.sleeper) zs) (y ∷ zs)) (ih q)
+    ∙ ap (λ zs. cond (is_met next (deadline_of y.id y.sleeper)) (row_if y.id (sleeper_ended y.id next y.sleeper) zs) (y ∷ zs))
+    (ih q)
 
-pub ended_step : (next id : ℕ) (r : Row) (rs : List Row) → Rising row_id rs → at row_id id rs ≡ Some r → is_met next (deadline_of id r.sleeper) ≡ true
+pub ended_step : (next id : ℕ) (r : Row) (rs : List Row) → Rising row_id rs → at row_id id rs ≡ Some r
+    → is_met next (deadline_of id r.sleeper) ≡ true
     → all_ended next (with_row id (sleeper_ended id next r.sleeper) rs) ≡ all_ended next rs
 ended_step next id r [] h q met = absurd cc
 ended_step next id r (y ∷ ys) h q met = step_by next id r y ys (y.id == id) refl h q met (λ p. ended_step next id r ys h.1 p met)
@@ -126,11 +140,15 @@ awake_at n (Waiting k left repeats) e = let lt : n < left - 1 + 1 = omega arith 
 pub fresh_around : (next : ℕ) (x : Stranger) → IsAround next (record { stranger = x; touched = next })
 fresh_around next x = record { past = omega arith; asleep = awake_at (next - 1 - next) x (omega arith) }
 
-around_by : (next id : ℕ) (o : Option Stranger) (rs : List Row) → Rising row_id rs → AreAround next rs → AreAround next (with_row id (option_map (touched_at next) o) rs)
+around_by : (next id : ℕ) (o : Option Stranger) (rs : List Row) → Rising row_id rs → AreAround next rs
+    → AreAround next (with_row id (option_map (touched_at next) o) rs)
 around_by next id None rs h a = every-without (λ (r : Row). IsAround next r.sleeper) row_id id rs a
-around_by next id (Some x) rs h a = every_put (λ (r : Row). IsAround next r.sleeper) (record { id = id; sleeper = record { stranger = x; touched = next } }) rs h (fresh_around next x) a
+around_by next id (Some x) rs h a =
+    every_put (λ (r : Row). IsAround next r.sleeper) (record { id = id; sleeper = record { stranger = x; touched = next } }) rs h
+    (fresh_around next x) a
 
-pub around_step : (next id : ℕ) (s : Sleeper) (rs : List Row) → Rising row_id rs → AreAround next rs → AreAround next (with_row id (sleeper_ended id next s) rs)
+pub around_step : (next id : ℕ) (s : Sleeper) (rs : List Row) → Rising row_id rs → AreAround next rs
+    → AreAround next (with_row id (sleeper_ended id next s) rs)
 around_step next id s rs h a = around_by next id (notes id (Some (sleeper_now (next - 1) s)) Tick).stranger rs h a
 
 -- it begins with those who sleep
@@ -160,7 +178,8 @@ pub record IsOver (next : ℕ) (rs : List Row) : Type 0 where
   pub same : all_ended next rs ≡ rs
   pub sleeping : AreSleeping next rs
 
-over_by : (next : ℕ) (r : Row) (rs : List Row) (b : Bool) → is_met next (deadline_of r.id r.sleeper) ≡ b → IsAround next r.sleeper → cond b (r.id ∷ met_ids next rs) (met_ids next rs) ≡ []
+over_by : (next : ℕ) (r : Row) (rs : List Row) (b : Bool) → is_met next (deadline_of r.id r.sleeper) ≡ b → IsAround next r.sleeper
+    → cond b (r.id ∷ met_ids next rs) (met_ids next rs) ≡ []
     → (met_ids next rs ≡ [] → IsOver next rs) → IsOver next (r ∷ rs)
 over_by next r rs true e a h ih = absurd cc
 over_by next r rs false e a h ih = record {
@@ -174,12 +193,14 @@ is_over next (r ∷ rs) a h = over_by next r rs (is_met next (deadline_of r.id r
 
 -- ---- what it leaves of one
 
-ticked_by : (id next : ℕ) (s : Sleeper) (o : Option Stranger) → (notes id (Some (sleeper_now (next - 1) s)) Tick).stranger ≡ o → is_some o ≡ true
+ticked_by : (id next : ℕ) (s : Sleeper) (o : Option Stranger) → (notes id (Some (sleeper_now (next - 1) s)) Tick).stranger ≡ o
+    → is_some o ≡ true
     → option_map (touched_at next) o ≡ Some (touched_at next (unwrap_or o (sleeper_now (next - 1) s)))
 ticked_by id next s None e h = absurd cc
 ticked_by id next s (Some x) e h = refl
 
-pub ended_open : (id next : ℕ) (s : Sleeper) → stays_ticked id next s ≡ true → sleeper_ended id next s ≡ Some (sleeper_ticked id next s)
+pub ended_open : (id next : ℕ) (s : Sleeper) → stays_ticked id next s ≡ true
+    → sleeper_ended id next s ≡ Some (sleeper_ticked id next s)
 ended_open id next s h = ticked_by id next s (notes id (Some (sleeper_now (next - 1) s)) Tick).stranger refl h
 
 none_by : (next : ℕ) (o : Option Stranger) → is_some o ≡ false → option_map (touched_at next) o ≡ None

@@ -21,15 +21,20 @@ mapped clock None = refl
 mapped clock (Some r) = refl
 
 -- a look-up
-pub stranger_now : (clock id : ℕ) (rs : List Row) → stranger_at id (all_now clock rs) ≡ option_map (sleeper_now clock) (sleeper_at id rs)
-stranger_now clock id rs = ap (option_map (λ (k : Known). k.stranger)) (at-map (known_now clock) known_id id rs) ∙ mapped clock (at row_id id rs)
+pub stranger_now : (clock id : ℕ) (rs : List Row)
+    → stranger_at id (all_now clock rs) ≡ option_map (sleeper_now clock) (sleeper_at id rs)
+stranger_now clock id rs =
+    ap (option_map (λ (k : Known). k.stranger)) (at-map (known_now clock) known_id id rs) ∙ mapped clock (at row_id id rs)
 
-lowest_by : (clock n : ℕ) (r : Row) (rs : List Row) (b : Bool) → option_map known_id (lowest_from known_id n (all_now clock rs)) ≡ option_map row_id (lowest_from row_id n rs)
-    → option_map known_id (cond b (lowest_from known_id n (all_now clock rs)) (Some (known_now clock r))) ≡ option_map row_id (cond b (lowest_from row_id n rs) (Some r))
+lowest_by : (clock n : ℕ) (r : Row) (rs : List Row) (b : Bool)
+    → option_map known_id (lowest_from known_id n (all_now clock rs)) ≡ option_map row_id (lowest_from row_id n rs)
+    → option_map known_id (cond b (lowest_from known_id n (all_now clock rs)) (Some (known_now clock r)))
+    ≡ option_map row_id (cond b (lowest_from row_id n rs) (Some r))
 lowest_by clock n r rs true ih = ih
 lowest_by clock n r rs false ih = refl
 
-pub lowest_now : (clock n : ℕ) (rs : List Row) → option_map known_id (lowest_from known_id n (all_now clock rs)) ≡ option_map row_id (lowest_from row_id n rs)
+pub lowest_now : (clock n : ℕ) (rs : List Row)
+    → option_map known_id (lowest_from known_id n (all_now clock rs)) ≡ option_map row_id (lowest_from row_id n rs)
 lowest_now clock n [] = refl
 lowest_now clock n (r ∷ rs) = lowest_by clock n r rs (nat_lt r.id n) (lowest_now clock n rs)
 
@@ -53,7 +58,9 @@ put_now clock id x rs h =
 -- ---- what holds of each
 
 pub every_put : (P : Row → Type 0) (r : Row) (rs : List Row) → Rising row_id rs → P r → Every P rs → Every P (put row_id r rs)
-every_put P r rs h p all = subst (Every P) (sym (put_is_add row_id r rs h)) (every-add P row_id r (without row_id r.id rs) p (every-without P row_id r.id rs all))
+every_put P r rs h p all =
+    subst (Every P) (sym (put_is_add row_id r rs h))
+    (every-add P row_id r (without row_id r.id rs) p (every-without P row_id r.id rs all))
 
 awake_by : (n : ℕ) (x : Stranger) → n ≡ 0 → IsAsleep n x
 awake_by n (Held slot) e = tt
@@ -62,24 +69,29 @@ awake_by n (Waiting k left repeats) e = let lt : n < left - 1 + 1 = omega arith 
 pub just_awake : (clock : ℕ) (x : Stranger) → IsSleeping clock (record { stranger = x; touched = clock })
 just_awake clock x = record { past = omega arith; asleep = awake_by (clock - clock) x (omega arith) }
 
-pub touched_small : (clock : ℕ) (rs : List Row) → clock ≤ 2 ^ 62 → AreSleeping clock rs → Every (λ (r : Row). r.sleeper.touched ≤ 2 ^ 62) rs
+pub touched_small : (clock : ℕ) (rs : List Row) → clock ≤ 2 ^ 62 → AreSleeping clock rs
+    → Every (λ (r : Row). r.sleeper.touched ≤ 2 ^ 62) rs
 touched_small clock [] le h = tt
 touched_small clock (r ∷ rs) le h = let past = h.0.past in (omega arith, touched_small clock rs le h.1)
 
-sleeping_by : (clock id : ℕ) (s : Sleeper) (rs : List Row) (o : Option Row) → at row_id id rs ≡ o → option_map (λ (r : Row). r.sleeper) o ≡ Some s → AreSleeping clock rs → IsSleeping clock s
+sleeping_by : (clock id : ℕ) (s : Sleeper) (rs : List Row) (o : Option Row) → at row_id id rs ≡ o
+    → option_map (λ (r : Row). r.sleeper) o ≡ Some s → AreSleeping clock rs → IsSleeping clock s
 sleeping_by clock id s rs None h q all = absurd cc
 sleeping_by clock id s rs (Some r) h q all =
     let same : r.sleeper ≡ s = cc in
     subst (IsSleeping clock) same (every_at (λ (x : Row). IsSleeping clock x.sleeper) row_id id r rs h all)
 
-pub sleeping_at : (clock id : ℕ) (s : Sleeper) (rs : List Row) → sleeper_at id rs ≡ Some s → AreSleeping clock rs → IsSleeping clock s
+pub sleeping_at : (clock id : ℕ) (s : Sleeper) (rs : List Row) → sleeper_at id rs ≡ Some s → AreSleeping clock rs
+    → IsSleeping clock s
 sleeping_at clock id s rs q all = sleeping_by clock id s rs (at row_id id rs) refl q all
 
-small_by : (id : ℕ) (s : Sleeper) (rs : List Row) (o : Option Row) → at row_id id rs ≡ o → option_map (λ (r : Row). r.sleeper) o ≡ Some s → Every (λ (r : Row). r.sleeper.touched ≤ 2 ^ 62) rs → s.touched ≤ 2 ^ 62
+small_by : (id : ℕ) (s : Sleeper) (rs : List Row) (o : Option Row) → at row_id id rs ≡ o
+    → option_map (λ (r : Row). r.sleeper) o ≡ Some s → Every (λ (r : Row). r.sleeper.touched ≤ 2 ^ 62) rs → s.touched ≤ 2 ^ 62
 small_by id s rs None h q all = absurd cc
 small_by id s rs (Some r) h q all =
     let same : r.sleeper ≡ s = cc in
     subst (λ (x : Sleeper). x.touched ≤ 2 ^ 62) same (every_at (λ (x : Row). x.sleeper.touched ≤ 2 ^ 62) row_id id r rs h all)
 
-pub small_at : (id : ℕ) (s : Sleeper) (rs : List Row) → sleeper_at id rs ≡ Some s → Every (λ (r : Row). r.sleeper.touched ≤ 2 ^ 62) rs → s.touched ≤ 2 ^ 62
+pub small_at : (id : ℕ) (s : Sleeper) (rs : List Row) → sleeper_at id rs ≡ Some s
+    → Every (λ (r : Row). r.sleeper.touched ≤ 2 ^ 62) rs → s.touched ≤ 2 ^ 62
 small_at id s rs q all = small_by id s rs (at row_id id rs) refl q all

@@ -34,7 +34,8 @@ abbrev pub stays_ticked : ℕ → ℕ → Sleeper → Bool
 stays_ticked id next s = stays_open Tick (record { id = id; stranger = sleeper_now (next - 1) s })
 
 abbrev pub sleeper_ticked : ℕ → ℕ → Sleeper → Sleeper
-sleeper_ticked id next s = record { stranger = (passed Tick (record { id = id; stranger = sleeper_now (next - 1) s })).stranger; touched = next }
+sleeper_ticked id next s =
+    record { stranger = (passed Tick (record { id = id; stranger = sleeper_now (next - 1) s })).stranger; touched = next }
 
 abbrev pub row_if : ℕ → Option Sleeper → List Row → List Row
 row_if id None rs = rs
@@ -44,7 +45,8 @@ row_if id (Some s) rs = record { id = id; sleeper = s } ∷ rs
 abbrev pub all_ended : ℕ → List Row → List Row
 all_ended next [] = []
 all_ended next (r ∷ rs) =
-    if is_met next (deadline_of r.id r.sleeper) then row_if r.id (sleeper_ended r.id next r.sleeper) (all_ended next rs) else r ∷ all_ended next rs
+    if is_met next (deadline_of r.id r.sleeper) then row_if r.id (sleeper_ended r.id next r.sleeper) (all_ended next rs) else r
+    ∷ all_ended next rs
 
 -- and so the one with the id, if there is one
 abbrev pub ended_if : ℕ → ℕ → Option Sleeper → List Row → List Row

@@ -60,7 +60,8 @@ fn end_at(slab: &mut Slab<Sleeper>, place: &StrangerPlace, next: u64) -> bool
     requires there { ContainsKey slab.old place.now.key }
     requires ending { IsEnding next (row_at slab.old place.now).sleeper }
     ensures open { result ≡ stays_ticked place.now.id next (row_at slab.old place.now).sleeper }
-    ensures updates { Updates slab.old slab.new place.now.key (Some (sleeper_ticked place.now.id next (row_at slab.old place.now).sleeper)) }
+    ensures updates { Updates slab.old slab.new place.now.key
+        (Some (sleeper_ticked place.now.id next (row_at slab.old place.now).sleeper)) }
     ensures len { slab_len slab.new ≡ slab_len slab.old }
 {
     slab[place.key].end(place.id, next)
@@ -76,7 +77,9 @@ fn end_one(
     requires table { IsTable slab.old places.old.items }
     requires there { at place_id place.now.id places.old.items ≡ Some place.now }
     requires ending { IsEnding next (row_at slab.old place.now).sleeper }
-    ensures rows { rows_of slab.new places.new.items ≡ with_row place.now.id (sleeper_ended place.now.id next (row_at slab.old place.now).sleeper) (rows_of slab.old places.old.items) }
+    ensures rows { rows_of slab.new places.new.items
+        ≡ with_row place.now.id (sleeper_ended place.now.id next (row_at slab.old place.now).sleeper)
+        (rows_of slab.old places.old.items) }
     ensures table { IsTable slab.new places.new.items }
 {
     if end_at(slab, place, next) {

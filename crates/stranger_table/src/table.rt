@@ -116,7 +116,8 @@ impl Strangers {
     /// The stranger with an id is that from now on; refused, all are as they were.
     pub fn settle(&mut self, id: AssociationId, after: After) -> Result<(), AllocError>
         ensures clock { self.new.clock ≡ self.old.clock }
-        ensures ok { OnOk result (self.new.strangers ≡ with_stranger id (after_of after (stranger_at id self.old.strangers)) self.old.strangers) }
+        ensures ok { OnOk result
+            (self.new.strangers ≡ with_stranger id (after_of after (stranger_at id self.old.strangers)) self.old.strangers) }
         ensures err { OnErr result (self.new ≡ self.old) }
     {
         match after {
@@ -194,7 +195,8 @@ impl Strangers {
         requires station { is_of_station notice.now ≡ true }
         requires there { IsSome (stranger_at id self.old.strangers) }
         ensures clock { self.new.clock ≡ self.old.clock }
-        ensures strangers { self.new.strangers ≡ (if closes id notice.now then without known_id id self.old.strangers else self.old.strangers) }
+        ensures strangers { self.new.strangers
+            ≡ (if closes id notice.now then without known_id id self.old.strangers else self.old.strangers) }
     {
         if self.is_closed_by(id, notice) {
             self.close(id);

@@ -17,7 +17,8 @@ use Rattle.subscriber_table.specs.Running.{with_countdown, running_from, is_this
 
 -- ---- a tick
 
-aged_with : (n : ℕ) (k : Kind) (o : Option ℕ) (cs : List Countdown) → aged (with_countdown n k o cs) ≡ with_countdown n k (left_by_tick o) (aged cs)
+aged_with : (n : ℕ) (k : Kind) (o : Option ℕ) (cs : List Countdown)
+    → aged (with_countdown n k o cs) ≡ with_countdown n k (left_by_tick o) (aged cs)
 aged_with n k None cs = refl
 aged_with n k (Some t) cs = elim (nat_le t 1) as (λ b. cond b (aged cs) (record { timer = timer_of (Subscriber n) k; ticks = t - 1 } ∷ aged cs) ≡ with_countdown n k (cond b None (Some (t - 1))) (aged cs)) [ true ↦ refl | false ↦ refl ]
 
@@ -25,11 +26,13 @@ pub aged_is : (n : ℕ) (ps : List (Option ℕ × Option ℕ)) → aged (running
 aged_is n [] = refl
 aged_is n (p ∷ ps) =
     aged_with n Procedure p.0 (with_countdown n Reachable p.1 (running_from (n + 1) ps))
-    ∙ ap (with_countdown n Procedure (left_by_tick p.0)) (aged_with n Reachable p.1 (running_from (n + 1) ps) ∙ ap (with_countdown n Reachable (left_by_tick p.1)) (aged_is (n + 1) ps))
+    ∙ ap (with_countdown n Procedure (left_by_tick p.0))
+    (aged_with n Reachable p.1 (running_from (n + 1) ps) ∙ ap (with_countdown n Reachable (left_by_tick p.1)) (aged_is (n + 1) ps))
 
 -- ---- who is due
 
-due_with : (n : ℕ) (k : Kind) (o : Option ℕ) (cs : List Countdown) → due_of (with_countdown n k o cs) ≡ cond (is_last o) (timer_of (Subscriber n) k ∷ due_of cs) (due_of cs)
+due_with : (n : ℕ) (k : Kind) (o : Option ℕ) (cs : List Countdown)
+    → due_of (with_countdown n k o cs) ≡ cond (is_last o) (timer_of (Subscriber n) k ∷ due_of cs) (due_of cs)
 due_with n k None cs = refl
 due_with n k (Some t) cs = refl
 
@@ -56,17 +59,25 @@ past_more : (n : ℕ) (last : Option ℕ) → IsPast n last → IsPast (n + 1) l
 past_more n None h = tt
 past_more n (Some m) h = omega arith
 
-due_split : (n : ℕ) (p : Option ℕ × Option ℕ) (cs : List Countdown) → due_of (with_countdown n Procedure p.0 (with_countdown n Reachable p.1 cs))
-    ≡ cond (is_last p.0) (timer_of (Subscriber n) Procedure ∷ cond (is_last p.1) (timer_of (Subscriber n) Reachable ∷ due_of cs) (due_of cs)) (cond (is_last p.1) (timer_of (Subscriber n) Reachable ∷ due_of cs) (due_of cs))
-due_split n p cs = due_with n Procedure p.0 (with_countdown n Reachable p.1 cs) ∙ ap (λ ts. cond (is_last p.0) (timer_of (Subscriber n) Procedure ∷ ts) ts) (due_with n Reachable p.1 cs)
+due_split : (n : ℕ) (p : Option ℕ × Option ℕ) (cs : List Countdown)
+    → due_of (with_countdown n Procedure p.0 (with_countdown n Reachable p.1 cs))
+    ≡ cond (is_last p.0)
+    (timer_of (Subscriber n) Procedure ∷ cond (is_last p.1) (timer_of (Subscriber n) Reachable ∷ due_of cs) (due_of cs))
+    (cond (is_last p.1) (timer_of (Subscriber n) Reachable ∷ due_of cs) (due_of cs))
+due_split n p cs =
+    due_with n Procedure p.0 (with_countdown n Reachable p.1 cs)
+    ∙ ap (λ ts. cond (is_last p.0) (timer_of (Subscriber n) Procedure ∷ ts) ts) (due_with n Reachable p.1 cs)
 
-pub once_is : (n : ℕ) (last : Option ℕ) (ps : List (Option ℕ × Option ℕ)) → IsPast n last → slots_once last (due_of (running_from n ps)) ≡ due_from n ps
+pub once_is : (n : ℕ) (last : Option ℕ) (ps : List (Option ℕ × Option ℕ)) → IsPast n last
+    → slots_once last (due_of (running_from n ps)) ≡ due_from n ps
 once_is n last [] h = refl
 once_is n last (p ∷ ps) h =
     let ts = due_of (running_from (n + 1) ps) in
     let now : n < n + 1 = omega arith in
-    ap (slots_once last) (due_split n p (running_from (n + 1) ps)) ∙ once_by n last (is_last p.0) (is_last p.1) ts (not_past n last h)
-    ∙ ap (λ xs. cond (is_due p) (n ∷ xs) (slots_once last ts)) (once_is (n + 1) (Some n) ps now) ∙ ap (λ xs. cond (is_due p) (n ∷ due_from (n + 1) ps) xs) (once_is (n + 1) last ps (past_more n last h))
+    ap (slots_once last) (due_split n p (running_from (n + 1) ps))
+    ∙ once_by n last (is_last p.0) (is_last p.1) ts (not_past n last h)
+    ∙ ap (λ xs. cond (is_due p) (n ∷ xs) (slots_once last ts)) (once_is (n + 1) (Some n) ps now)
+    ∙ ap (λ xs. cond (is_due p) (n ∷ due_from (n + 1) ps) xs) (once_is (n + 1) last ps (past_more n last h))
 
 of_slots_by : (m n : ℕ) (a b : Bool) (ts : List Timer) → n < m → AreOfSlots m ts
     → AreOfSlots m (cond a (timer_of (Subscriber n) Procedure ∷ cond b (timer_of (Subscriber n) Reachable ∷ ts) ts) (cond b (timer_of (Subscriber n) Reachable ∷ ts) ts))
@@ -92,12 +103,14 @@ kind_small : (k : Kind) → kind_rank k < 2
 kind_small Procedure = omega arith
 kind_small Reachable = omega arith
 
-over_with : (j n : ℕ) (k : Kind) (o : Option ℕ) (cs : List Countdown) → n < 2 ^ 32 → j < 2 * (2 ^ 40 + n) + kind_rank k → AllOver countdown_rank j cs → AllOver countdown_rank j (with_countdown n k o cs)
+over_with : (j n : ℕ) (k : Kind) (o : Option ℕ) (cs : List Countdown) → n < 2 ^ 32 → j < 2 * (2 ^ 40 + n) + kind_rank k
+    → AllOver countdown_rank j cs → AllOver countdown_rank j (with_countdown n k o cs)
 over_with j n k None cs small lt h = h
 over_with j n k (Some t) cs small lt h = let e = rank_is n k small in (omega arith, h)
 
 -- what stands for the slots from n on stands behind the ranks of those before
-over_from : (j n : ℕ) (ps : List (Option ℕ × Option ℕ)) → n + length ps ≤ 2 ^ 32 → j < 2 * (2 ^ 40 + n) → AllOver countdown_rank j (running_from n ps)
+over_from : (j n : ℕ) (ps : List (Option ℕ × Option ℕ)) → n + length ps ≤ 2 ^ 32 → j < 2 * (2 ^ 40 + n)
+    → AllOver countdown_rank j (running_from n ps)
 over_from j n [] small lt = tt
 over_from j n (p ∷ ps) small lt =
     over_with j n Procedure p.0 (with_countdown n Reachable p.1 (running_from (n + 1) ps)) (omega arith) (omega arith)
@@ -127,7 +140,8 @@ module _ {X : Type 0} (key : X → ℕ) where
   at_same k y ys e = grind (arith, nat_tests)
 
 -- what a change behind a countdown makes
-put_with : (x : Countdown) (n : ℕ) (k : Kind) (o : Option ℕ) (cs : List Countdown) → rank (timer_of (Subscriber n) k) < countdown_rank x
+put_with : (x : Countdown) (n : ℕ) (k : Kind) (o : Option ℕ) (cs : List Countdown)
+    → rank (timer_of (Subscriber n) k) < countdown_rank x
     → put countdown_rank x (with_countdown n k o cs) ≡ with_countdown n k o (put countdown_rank x cs)
 put_with x n k None cs lt = refl
 put_with x n k (Some t) cs lt = put_past countdown_rank x (record { timer = timer_of (Subscriber n) k; ticks = t }) cs lt
@@ -137,20 +151,26 @@ without_with : (r n : ℕ) (k : Kind) (o : Option ℕ) (cs : List Countdown) →
 without_with r n k None cs lt = refl
 without_with r n k (Some t) cs lt = without_past countdown_rank r (record { timer = timer_of (Subscriber n) k; ticks = t }) cs lt
 
-at_with : (r n : ℕ) (k : Kind) (o : Option ℕ) (cs : List Countdown) → rank (timer_of (Subscriber n) k) < r → at countdown_rank r (with_countdown n k o cs) ≡ at countdown_rank r cs
+at_with : (r n : ℕ) (k : Kind) (o : Option ℕ) (cs : List Countdown) → rank (timer_of (Subscriber n) k) < r
+    → at countdown_rank r (with_countdown n k o cs) ≡ at countdown_rank r cs
 at_with r n k None cs lt = refl
 at_with r n k (Some t) cs lt = at_past countdown_rank r (record { timer = timer_of (Subscriber n) k; ticks = t }) cs lt
 
 -- and what it makes at its own place
-put_here : (n : ℕ) (k : Kind) (o : Option ℕ) (t : ℕ) (cs : List Countdown) → AllOver countdown_rank (rank (timer_of (Subscriber n) k)) cs
+put_here : (n : ℕ) (k : Kind) (o : Option ℕ) (t : ℕ) (cs : List Countdown)
+    → AllOver countdown_rank (rank (timer_of (Subscriber n) k)) cs
     → put countdown_rank (record { timer = timer_of (Subscriber n) k; ticks = t }) (with_countdown n k o cs) ≡ with_countdown n k (Some t) cs
 put_here n k None t cs h = put_over countdown_rank (record { timer = timer_of (Subscriber n) k; ticks = t }) cs h
-put_here n k (Some m) t cs h = put_same countdown_rank (record { timer = timer_of (Subscriber n) k; ticks = t }) (record { timer = timer_of (Subscriber n) k; ticks = m }) cs refl
+put_here n k (Some m) t cs h =
+    put_same countdown_rank (record { timer = timer_of (Subscriber n) k; ticks = t })
+    (record { timer = timer_of (Subscriber n) k; ticks = m }) cs refl
 
-without_here : (n : ℕ) (k : Kind) (o : Option ℕ) (cs : List Countdown) → AllOver countdown_rank (rank (timer_of (Subscriber n) k)) cs
+without_here : (n : ℕ) (k : Kind) (o : Option ℕ) (cs : List Countdown)
+    → AllOver countdown_rank (rank (timer_of (Subscriber n) k)) cs
     → without countdown_rank (rank (timer_of (Subscriber n) k)) (with_countdown n k o cs) ≡ cs
 without_here n k None cs h = without_over countdown_rank (rank (timer_of (Subscriber n) k)) cs h
-without_here n k (Some m) cs h = without_same countdown_rank (rank (timer_of (Subscriber n) k)) (record { timer = timer_of (Subscriber n) k; ticks = m }) cs refl
+without_here n k (Some m) cs h =
+    without_same countdown_rank (rank (timer_of (Subscriber n) k)) (record { timer = timer_of (Subscriber n) k; ticks = m }) cs refl
 
 abbrev left_in : Option Countdown → Option ℕ
 left_in o = option_map (λ (c : Countdown). c.ticks) o
@@ -158,7 +178,9 @@ left_in o = option_map (λ (c : Countdown). c.ticks) o
 at_here : (n : ℕ) (k : Kind) (o : Option ℕ) (cs : List Countdown) → AllOver countdown_rank (rank (timer_of (Subscriber n) k)) cs
     → left_in (at countdown_rank (rank (timer_of (Subscriber n) k)) (with_countdown n k o cs)) ≡ o
 at_here n k None cs h = ap left_in (at_over countdown_rank (rank (timer_of (Subscriber n) k)) cs h)
-at_here n k (Some m) cs h = ap left_in (at_same countdown_rank (rank (timer_of (Subscriber n) k)) (record { timer = timer_of (Subscriber n) k; ticks = m }) cs refl)
+at_here n k (Some m) cs h =
+    ap left_in
+    (at_same countdown_rank (rank (timer_of (Subscriber n) k)) (record { timer = timer_of (Subscriber n) k; ticks = m }) cs refl)
 
 -- ranks rise with slots, and the procedure's is the first of a slot
 rank_rises : (n m : ℕ) (k l : Kind) → n < m → m < 2 ^ 32 → rank (timer_of (Subscriber n) k) < rank (timer_of (Subscriber m) l)
@@ -174,7 +196,8 @@ procedure_first n small =
     let b = rank_is n Reachable small in
     omega arith
 
-over_slot : (n : ℕ) (k : Kind) (ps : List (Option ℕ × Option ℕ)) → (n + 1) + length ps ≤ 2 ^ 32 → AllOver countdown_rank (rank (timer_of (Subscriber n) k)) (running_from (n + 1) ps)
+over_slot : (n : ℕ) (k : Kind) (ps : List (Option ℕ × Option ℕ)) → (n + 1) + length ps ≤ 2 ^ 32
+    → AllOver countdown_rank (rank (timer_of (Subscriber n) k)) (running_from (n + 1) ps)
 over_slot n k ps small =
     let a = rank_is n k (omega arith) in
     let c = kind_small k in
@@ -184,12 +207,14 @@ over_procedure : (n : ℕ) (o : Option ℕ) (ps : List (Option ℕ × Option ℕ
     → AllOver countdown_rank (rank (timer_of (Subscriber n) Procedure)) (with_countdown n Reachable o (running_from (n + 1) ps))
 over_procedure n o ps small =
     let a = rank_is n Procedure (omega arith) in
-    over_with (rank (timer_of (Subscriber n) Procedure)) n Reachable o (running_from (n + 1) ps) (omega arith) (omega arith) (over_slot n Procedure ps small)
+    over_with (rank (timer_of (Subscriber n) Procedure)) n Reachable o (running_from (n + 1) ps) (omega arith) (omega arith)
+    (over_slot n Procedure ps small)
 
 -- one of the slots counts from now on
 put_first : (n t : ℕ) (k : Kind) (p : Option ℕ × Option ℕ) (ps : List (Option ℕ × Option ℕ)) → (n + 1) + length ps ≤ 2 ^ 32
     → started (Subscriber n) k t (running_from n (p ∷ ps)) ≡ running_from n (with_part k (Some t) p ∷ ps)
-put_first n t Procedure p ps small = put_here n Procedure p.0 t (with_countdown n Reachable p.1 (running_from (n + 1) ps)) (over_procedure n p.1 ps small)
+put_first n t Procedure p ps small =
+    put_here n Procedure p.0 t (with_countdown n Reachable p.1 (running_from (n + 1) ps)) (over_procedure n p.1 ps small)
 put_first n t Reachable p ps small =
     put_with (record { timer = timer_of (Subscriber n) Reachable; ticks = t }) n Procedure p.0 (with_countdown n Reachable p.1 (running_from (n + 1) ps)) (procedure_first n (omega arith))
     ∙ ap (with_countdown n Procedure p.0) (put_here n Reachable p.1 t (running_from (n + 1) ps) (over_slot n Reachable ps small))
@@ -209,9 +234,11 @@ put_at slot t n (suc j) k (p ∷ ps) e lt small =
 -- or counts no longer
 without_first : (n : ℕ) (k : Kind) (p : Option ℕ × Option ℕ) (ps : List (Option ℕ × Option ℕ)) → (n + 1) + length ps ≤ 2 ^ 32
     → stopped (Subscriber n) k (running_from n (p ∷ ps)) ≡ running_from n (with_part k None p ∷ ps)
-without_first n Procedure p ps small = without_here n Procedure p.0 (with_countdown n Reachable p.1 (running_from (n + 1) ps)) (over_procedure n p.1 ps small)
+without_first n Procedure p ps small =
+    without_here n Procedure p.0 (with_countdown n Reachable p.1 (running_from (n + 1) ps)) (over_procedure n p.1 ps small)
 without_first n Reachable p ps small =
-    without_with (rank (timer_of (Subscriber n) Reachable)) n Procedure p.0 (with_countdown n Reachable p.1 (running_from (n + 1) ps)) (procedure_first n (omega arith))
+    without_with (rank (timer_of (Subscriber n) Reachable)) n Procedure p.0
+    (with_countdown n Reachable p.1 (running_from (n + 1) ps)) (procedure_first n (omega arith))
     ∙ ap (with_countdown n Procedure p.0) (without_here n Reachable p.1 (running_from (n + 1) ps) (over_slot n Reachable ps small))
 
 pub without_at : (slot n j : ℕ) (k : Kind) (ps : List (Option ℕ × Option ℕ)) → slot ≡ n + j → j < length ps → n + length ps ≤ 2 ^ 32
@@ -232,13 +259,16 @@ left_at j k [] = None
 left_at zero k (p ∷ ps) = part_of k p
 left_at (suc j) k (p ∷ ps) = left_at j k ps
 
-left_first : (n : ℕ) (k : Kind) (p : Option ℕ × Option ℕ) (ps : List (Option ℕ × Option ℕ)) → (n + 1) + length ps ≤ 2 ^ 32 → ticks_left (Subscriber n) k (running_from n (p ∷ ps)) ≡ part_of k p
-left_first n Procedure p ps small = at_here n Procedure p.0 (with_countdown n Reachable p.1 (running_from (n + 1) ps)) (over_procedure n p.1 ps small)
+left_first : (n : ℕ) (k : Kind) (p : Option ℕ × Option ℕ) (ps : List (Option ℕ × Option ℕ)) → (n + 1) + length ps ≤ 2 ^ 32
+    → ticks_left (Subscriber n) k (running_from n (p ∷ ps)) ≡ part_of k p
+left_first n Procedure p ps small =
+    at_here n Procedure p.0 (with_countdown n Reachable p.1 (running_from (n + 1) ps)) (over_procedure n p.1 ps small)
 left_first n Reachable p ps small =
     ap left_in (at_with (rank (timer_of (Subscriber n) Reachable)) n Procedure p.0 (with_countdown n Reachable p.1 (running_from (n + 1) ps)) (procedure_first n (omega arith)))
     ∙ at_here n Reachable p.1 (running_from (n + 1) ps) (over_slot n Reachable ps small)
 
-pub left_is : (slot n j : ℕ) (k : Kind) (ps : List (Option ℕ × Option ℕ)) → slot ≡ n + j → j < length ps → n + length ps ≤ 2 ^ 32 → ticks_left (Subscriber slot) k (running_from n ps) ≡ left_at j k ps
+pub left_is : (slot n j : ℕ) (k : Kind) (ps : List (Option ℕ × Option ℕ)) → slot ≡ n + j → j < length ps → n + length ps ≤ 2 ^ 32
+    → ticks_left (Subscriber slot) k (running_from n ps) ≡ left_at j k ps
 left_is slot n j k [] e lt small = absurd (omega arith)
 left_is slot n zero k (p ∷ ps) e lt small =
     let same : slot ≡ n = omega arith in
@@ -253,7 +283,8 @@ same_part : (k : Kind) (o : Option ℕ) (p : Option ℕ × Option ℕ) → part_
 same_part Procedure o p e = ap (λ (a : Option ℕ). (a, p.1)) (sym e)
 same_part Reachable o p e = ap (λ (a : Option ℕ). (p.0, a)) (sym e)
 
-stays : (j : ℕ) (k : Kind) (o : Option ℕ) (ps : List (Option ℕ × Option ℕ)) → left_at j k ps ≡ o → changed_at j (with_part k o) ps ≡ ps
+stays : (j : ℕ) (k : Kind) (o : Option ℕ) (ps : List (Option ℕ × Option ℕ)) → left_at j k ps ≡ o
+    → changed_at j (with_part k o) ps ≡ ps
 stays j k o [] e = refl
 stays zero k o (p ∷ ps) e = ap (λ q. q ∷ ps) (same_part k o p e)
 stays (suc j) k o (p ∷ ps) e = ap (λ qs. p ∷ qs) (stays j k o ps e)
@@ -262,19 +293,24 @@ is_left : (t : ℕ) (o : Option ℕ) → is_this t o ≡ true → o ≡ Some t
 is_left t None e = absurd (cc)
 is_left t (Some m) e = let same : m ≡ t = grind (arith, nat_tests) in ap Some same
 
-retimed_by : (slot t j : ℕ) (k : Kind) (ps : List (Option ℕ × Option ℕ)) (b : Bool) → is_this t (ticks_left (Subscriber slot) k (running_from 0 ps)) ≡ b → slot ≡ 0 + j → j < length ps → length ps ≤ 2 ^ 32
-    → cond b (running_from 0 ps) (started (Subscriber slot) k t (running_from 0 ps)) ≡ running_from 0 (changed_at j (with_part k (Some t)) ps)
+retimed_by : (slot t j : ℕ) (k : Kind) (ps : List (Option ℕ × Option ℕ)) (b : Bool)
+    → is_this t (ticks_left (Subscriber slot) k (running_from 0 ps)) ≡ b → slot ≡ 0 + j → j < length ps → length ps ≤ 2 ^ 32
+    → cond b (running_from 0 ps) (started (Subscriber slot) k t (running_from 0 ps))
+    ≡ running_from 0 (changed_at j (with_part k (Some t)) ps)
 retimed_by slot t j k ps true e at lt small =
-    let there = sym (left_is slot 0 j k ps at lt (omega arith)) ∙ is_left t (ticks_left (Subscriber slot) k (running_from 0 ps)) e in
+    let there =
+    sym (left_is slot 0 j k ps at lt (omega arith)) ∙ is_left t (ticks_left (Subscriber slot) k (running_from 0 ps)) e in
     ap (running_from 0) (sym (stays j k (Some t) ps there))
 retimed_by slot t j k ps false e at lt small = put_at slot t 0 j k ps at lt (omega arith)
 
 pub retimed_is : (j : ℕ) (k : Kind) (o : Option ℕ) (ps : List (Option ℕ × Option ℕ)) → j < length ps → length ps ≤ 2 ^ 32
     → retimed j k o (running_from 0 ps) ≡ running_from 0 (changed_at j (with_part k o) ps)
 retimed_is j k None ps lt small = without_at j 0 j k ps (omega arith) lt (omega arith)
-retimed_is j k (Some t) ps lt small = retimed_by j t j k ps (is_this t (ticks_left (Subscriber j) k (running_from 0 ps))) refl (omega arith) lt small
+retimed_is j k (Some t) ps lt small =
+    retimed_by j t j k ps (is_this t (ticks_left (Subscriber j) k (running_from 0 ps))) refl (omega arith) lt small
 
-both_changed : (j : ℕ) (q : Option ℕ × Option ℕ) (ps : List (Option ℕ × Option ℕ)) → changed_at j (with_part Reachable q.1) (changed_at j (with_part Procedure q.0) ps) ≡ changed_at j (λ _. q) ps
+both_changed : (j : ℕ) (q : Option ℕ × Option ℕ) (ps : List (Option ℕ × Option ℕ))
+    → changed_at j (with_part Reachable q.1) (changed_at j (with_part Procedure q.0) ps) ≡ changed_at j (λ _. q) ps
 both_changed j q [] = refl
 both_changed zero q (p ∷ ps) = refl
 both_changed (suc j) q (p ∷ ps) = ap (λ qs. p ∷ qs) (both_changed j q ps)
@@ -291,7 +327,8 @@ none_there None e = refl
 none_there (Some c) e = absurd (cc)
 
 -- one that is so already stays
-pub retimed_same : (slot : ℕ) (k : Kind) (o : Option ℕ) (cs : List Countdown) → ticks_left (Subscriber slot) k cs ≡ o → retimed slot k o cs ≡ cs
+pub retimed_same : (slot : ℕ) (k : Kind) (o : Option ℕ) (cs : List Countdown) → ticks_left (Subscriber slot) k cs ≡ o
+    → retimed slot k o cs ≡ cs
 retimed_same slot k None cs e =
     let r = rank (timer_of (Subscriber slot) k) in
     without_absent countdown_rank r cs (none_there (at countdown_rank r cs) e)
@@ -307,7 +344,8 @@ same_left (Some a) None e = absurd (cc)
 same_left (Some a) (Some b) e = let same : a ≡ b = grind (arith, nat_tests) in ap Some same
 
 -- where a slot's procedure is timed anew, the queue has its other countdown as it had
-kinds_apart : (slot : ℕ) → slot < 2 ^ 32 → (rank (timer_of (Subscriber slot) Procedure) == rank (timer_of (Subscriber slot) Reachable)) ≡ false
+kinds_apart : (slot : ℕ) → slot < 2 ^ 32
+    → (rank (timer_of (Subscriber slot) Procedure) == rank (timer_of (Subscriber slot) Reachable)) ≡ false
 kinds_apart slot small = let lt = procedure_first slot small in grind (arith, nat_tests)
 
 started_beside : (slot t : ℕ) (cs : List Countdown) → slot < 2 ^ 32 → Rising countdown_rank cs
@@ -334,4 +372,5 @@ pub both_retimed_is : (j : ℕ) (q : Option ℕ × Option ℕ) (ps : List (Optio
 both_retimed_is j q ps lt small =
     let same = changed_length j (with_part Procedure q.0) ps in
     ap (retimed j Reachable q.1) (retimed_is j Procedure q.0 ps lt small)
-    ∙ retimed_is j Reachable q.1 (changed_at j (with_part Procedure q.0) ps) (omega arith) (omega arith) ∙ ap (running_from 0) (both_changed j q ps)
+    ∙ retimed_is j Reachable q.1 (changed_at j (with_part Procedure q.0) ps) (omega arith) (omega arith)
+    ∙ ap (running_from 0) (both_changed j q ps)

@@ -68,7 +68,8 @@ own_setting : (c : ℕ) (b : Bool) (r : Record) (w : SubscriberView) → IsKept 
 own_setting c true r w h = h
 own_setting c false r w h = ap (λ (v : SubscriberView). v.setting) h.same
 
-renewed_is : (c : ℕ) (b : Bool) (solo : Solo) (r : Record) (w : SubscriberView) → IsCounting solo → IsKept c b r w → IsSeen c (renewed c solo r) (in_state solo w)
+renewed_is : (c : ℕ) (b : Bool) (solo : Solo) (r : Record) (w : SubscriberView) → IsCounting solo → IsKept c b r w
+    → IsSeen c (renewed c solo r) (in_state solo w)
 renewed_is c b solo r w k h = record {
   fresh = fresh_now c (in_state solo r.subscriber) k;
   same = seen_now c (in_state solo r.subscriber) ∙ ap (λ (s : Setting). record { setting = s; solo = solo }) (own_setting c b r w h);
@@ -87,7 +88,9 @@ counted_less None h = refl
 counted_less (Some n) h = let t : nat_le n 1 ≡ false = grind (arith, nat_tests) in rw t refl
 
 both_less_is : (p : Option ℕ × Option ℕ) → AreAbove 1 p → both_left_by_tick p ≡ both_less 1 p
-both_less_is p h = ap (λ (o : Option ℕ). (o, left_by_tick p.1)) (counted_less p.0 h.0) ∙ ap (λ (o : Option ℕ). (less 1 p.0, o)) (counted_less p.1 h.1)
+both_less_is p h =
+    ap (λ (o : Option ℕ). (o, left_by_tick p.1)) (counted_less p.0 h.0)
+    ∙ ap (λ (o : Option ℕ). (less 1 p.0, o)) (counted_less p.1 h.1)
 
 less_in_range : (o : Option ℕ) → IsAbove 1 o → IsInRange o → IsInRange (less 1 o)
 less_in_range None a h = tt
@@ -98,14 +101,16 @@ above_more n None h k = tt
 above_more n (Some m) h k = omega arith
 
 -- a countdown that is above the ticks slept, and isn't due, is above one more
-above_next : (s : Setting) (n : ℕ) (solo : Solo) → AreAbove n (countdowns solo) → AreAbove 1 (countdowns (ticks_after s n solo)) → AreAbove (n + 1) (countdowns solo)
+above_next : (s : Setting) (n : ℕ) (solo : Solo) → AreAbove n (countdowns solo) → AreAbove 1 (countdowns (ticks_after s n solo))
+    → AreAbove (n + 1) (countdowns solo)
 above_next s n solo h k =
     let e = ap countdowns (ticks_are_aged s n solo h) ∙ countdowns_aged n solo in
     let l = subst (AreAbove 1) e k in
     (above_more n (countdowns solo).0 h.0 l.0, above_more n (countdowns solo).1 h.1 l.1)
 
 -- who isn't due has one tick less
-pub quiet_is : (c : ℕ) (r : Record) (w : SubscriberView) → IsSeen c r w → is_due (countdowns w.solo) ≡ false → IsSeen (c + 1) r (one_less w)
+pub quiet_is : (c : ℕ) (r : Record) (w : SubscriberView) → IsSeen c r w → is_due (countdowns w.solo) ≡ false
+    → IsSeen (c + 1) r (one_less w)
 quiet_is c r w h e =
     let s = r.subscriber.setting in
     let n = c - r.touched in
@@ -117,17 +122,21 @@ quiet_is c r w h e =
     let here : AreAbove 1 (countdowns (ticks_after s n solo)) = subst (λ (x : Solo). AreAbove 1 (countdowns x)) (sym own) above in
     let next = above_next s n solo h.fresh.above here in
     let solo_next = ticks_more s n solo ∙ ap (λ d. d.solo) (quiet_tick s (ticks_after s n solo) here) ∙ ap (solo_aged 1) own in
-    let r_range : AreInRange (both_less 1 (countdowns w.solo)) = (less_in_range (countdowns w.solo).0 above.0 h.counting.0, less_in_range (countdowns w.solo).1 above.1 h.counting.1) in
+    let r_range : AreInRange (both_less 1 (countdowns w.solo)) =
+    (less_in_range (countdowns w.solo).0 above.0 h.counting.0, less_in_range (countdowns w.solo).1 above.1 h.counting.1) in
     record {
       fresh = record { past = omega (arith, le); above = subst (λ m. AreAbove m (countdowns solo)) (sym later) next };
-      same = ap (λ m. record { setting = s; solo = ticks_after s m solo }) later ∙ ap (λ (x : Solo). record { setting = s; solo = x }) solo_next
+      same =
+          ap (λ m. record { setting = s; solo = ticks_after s m solo }) later
+          ∙ ap (λ (x : Solo). record { setting = s; solo = x }) solo_next
           ∙ ap (λ (t : Setting). record { setting = t; solo = solo_aged 1 w.solo }) (ap (λ (v : SubscriberView). v.setting) h.same);
       counting = subst AreInRange (sym (countdowns_aged 1 w.solo)) r_range;
     }
 
 -- ---- all records
 
-seen_all : (c : ℕ) (rs : List Record) → AreFresh c rs → AreCounting (views c rs) → Match (IsKept c) (map (λ _. false) rs) rs (views c rs)
+seen_all : (c : ℕ) (rs : List Record) → AreFresh c rs → AreCounting (views c rs)
+    → Match (IsKept c) (map (λ _. false) rs) rs (views c rs)
 seen_all c [] f k = tt
 seen_all c (r ∷ rs) f k = (record { fresh = f.0; same = refl; counting = k.0 }, seen_all c rs f.1 k.1)
 
@@ -139,7 +148,8 @@ seen_of : (c : ℕ) (b : Bool) (r : Record) (w : SubscriberView) → b ≡ false
 seen_of c true r w e h = absurd (cc)
 seen_of c false r w e h = h
 
-fresh_of : (c : ℕ) (bs : List Bool) (rs : List Record) (ws : List SubscriberView) → AreOff bs → Match (IsKept c) bs rs ws → AreFresh c rs
+fresh_of : (c : ℕ) (bs : List Bool) (rs : List Record) (ws : List SubscriberView) → AreOff bs → Match (IsKept c) bs rs ws
+    → AreFresh c rs
 fresh_of c [] [] [] off m = tt
 fresh_of c [] [] (w ∷ ws) off m = absurd m
 fresh_of c [] (r ∷ rs) ws off m = absurd m
@@ -147,7 +157,8 @@ fresh_of c (b ∷ bs) [] ws off m = absurd m
 fresh_of c (b ∷ bs) (r ∷ rs) [] off m = absurd m
 fresh_of c (b ∷ bs) (r ∷ rs) (w ∷ ws) off m = let s = seen_of c b r w off.0 m.0 in (s.fresh, fresh_of c bs rs ws off.1 m.1)
 
-views_of : (c : ℕ) (bs : List Bool) (rs : List Record) (ws : List SubscriberView) → AreOff bs → Match (IsKept c) bs rs ws → views c rs ≡ ws
+views_of : (c : ℕ) (bs : List Bool) (rs : List Record) (ws : List SubscriberView) → AreOff bs → Match (IsKept c) bs rs ws
+    → views c rs ≡ ws
 views_of c [] [] [] off m = refl
 views_of c [] [] (w ∷ ws) off m = absurd m
 views_of c [] (r ∷ rs) ws off m = absurd m
@@ -157,7 +168,8 @@ views_of c (b ∷ bs) (r ∷ rs) (w ∷ ws) off m =
     let s = seen_of c b r w off.0 m.0 in
     ap (λ v. v ∷ views c rs) s.same ∙ ap (λ vs. w ∷ vs) (views_of c bs rs ws off.1 m.1)
 
-counting_of : (c : ℕ) (bs : List Bool) (rs : List Record) (ws : List SubscriberView) → AreOff bs → Match (IsKept c) bs rs ws → AreCounting ws
+counting_of : (c : ℕ) (bs : List Bool) (rs : List Record) (ws : List SubscriberView) → AreOff bs → Match (IsKept c) bs rs ws
+    → AreCounting ws
 counting_of c [] [] [] off m = tt
 counting_of c [] [] (w ∷ ws) off m = absurd m
 counting_of c [] (r ∷ rs) ws off m = absurd m
@@ -175,7 +187,8 @@ timed_now : (ws : List SubscriberView) → Match IsTimed (map (λ _. false) ws) 
 timed_now [] = tt
 timed_now (w ∷ ws) = (refl, timed_now ws)
 
-timed_of : (bs : List Bool) (ps : List (Option ℕ × Option ℕ)) (ws : List SubscriberView) → AreOff bs → Match IsTimed bs ps ws → ps ≡ all_countdowns ws
+timed_of : (bs : List Bool) (ps : List (Option ℕ × Option ℕ)) (ws : List SubscriberView) → AreOff bs → Match IsTimed bs ps ws
+    → ps ≡ all_countdowns ws
 timed_of [] [] [] off m = refl
 timed_of [] [] (w ∷ ws) off m = absurd m
 timed_of [] (p ∷ ps) ws off m = absurd m
@@ -200,18 +213,25 @@ countdowns_length : (ws : List SubscriberView) → length (all_countdowns ws) �
 countdowns_length [] = refl
 countdowns_length (w ∷ ws) = ap suc (countdowns_length ws)
 
-pub settled : (c slot : ℕ) (solo : Solo) (running after : List Countdown) (rs new : List Record) → IsSubscriberTable c running rs → slot < length rs → IsCounting solo
-    → new ≡ changed_at slot (renewed c solo) rs → after ≡ both_retimed slot (countdowns solo) running → IsSubscriberTableOf c after new (with_solo slot solo (views c rs))
+pub settled : (c slot : ℕ) (solo : Solo) (running after : List Countdown) (rs new : List Record) → IsSubscriberTable c running rs
+    → slot < length rs → IsCounting solo
+    → new ≡ changed_at slot (renewed c solo) rs → after ≡ both_retimed slot (countdowns solo) running
+    → IsSubscriberTableOf c after new (with_solo slot solo (views c rs))
 settled c slot solo running after rs new t lt k e g =
     let ws = views c rs in
     let ps = all_countdowns ws in
-    let m = match_changed (IsKept c) slot (renewed c solo) (in_state solo) (map (λ _. false) rs) rs ws (λ b r w at h. renewed_is c b solo r w k h) (seen_all c rs t.fresh t.counting) in
+    let m =
+    match_changed (IsKept c) slot (renewed c solo) (in_state solo) (map (λ _. false) rs) rs ws
+    (λ b r w at h. renewed_is c b solo r w k h) (seen_all c rs t.fresh t.counting) in
     let off = off_changed slot (map (λ _. false) rs) (off_all rs) in
     let done = changed_at slot (renewed c solo) rs in
     let target = changed_at slot (in_state solo) ws in
     let seen : views c done ≡ target = views_of c _ done target off m in
-    let q = match_changed IsTimed slot (λ _. countdowns solo) (in_state solo) (map (λ _. false) ws) ps ws (λ b p w at h. refl) (timed_now ws) in
-    let timed : changed_at slot (λ _. countdowns solo) ps ≡ all_countdowns target = timed_of _ _ target (off_changed slot (map (λ _. false) ws) (off_all ws)) q in
+    let q =
+    match_changed IsTimed slot (λ _. countdowns solo) (in_state solo) (map (λ _. false) ws) ps ws (λ b p w at h. refl)
+    (timed_now ws) in
+    let timed : changed_at slot (λ _. countdowns solo) ps ≡ all_countdowns target =
+    timed_of _ _ target (off_changed slot (map (λ _. false) ws) (off_all ws)) q in
     let many = views_length c rs in
     let more = countdowns_length ws in
     let few = t.few in
@@ -237,7 +257,8 @@ woken_fresh c k [] f h = tt
 woken_fresh c zero (r ∷ rs) f h = (fresh_now c (view_at c r) h.0, f.1)
 woken_fresh c (suc k) (r ∷ rs) f h = (f.0, woken_fresh c k rs f.1 h.1)
 
-pub awake : (c k : ℕ) (running : List Countdown) (rs new : List Record) → IsSubscriberTable c running rs → new ≡ changed_at k (woken c) rs → IsSubscriberTableOf c running new (views c rs)
+pub awake : (c k : ℕ) (running : List Countdown) (rs new : List Record) → IsSubscriberTable c running rs
+    → new ≡ changed_at k (woken c) rs → IsSubscriberTableOf c running new (views c rs)
 awake c k running rs new t e =
     let seen = woken_views c k rs in
     let few = t.few in
@@ -256,51 +277,62 @@ every_push : {X : Type 0} (P : X → Type 0) (xs : List X) (x : X) → Every P x
 every_push P [] x h p = (p, tt)
 every_push P (y ∷ ys) x h p = (h.0, every_push P ys x h.1 p)
 
-off_one : (n : ℕ) (q : Option ℕ × Option ℕ) (ps : List (Option ℕ × Option ℕ)) → q ≡ (None, None) → running_from n (ps ++ q ∷ []) ≡ running_from n ps
+off_one : (n : ℕ) (q : Option ℕ × Option ℕ) (ps : List (Option ℕ × Option ℕ)) → q ≡ (None, None)
+    → running_from n (ps ++ q ∷ []) ≡ running_from n ps
 off_one n q [] e = ap (λ p. running_from n (p ∷ [])) e
 off_one n q (p ∷ ps) e = ap (λ cs. with_countdown n Procedure p.0 (with_countdown n Reachable p.1 cs)) (off_one (n + 1) q ps e)
 
-pub pushed : (c : ℕ) (w : SubscriberView) (running : List Countdown) (rs new : List Record) → IsSubscriberTable c running rs → length rs < slots → countdowns w.solo ≡ (None, None)
+pub pushed : (c : ℕ) (w : SubscriberView) (running : List Countdown) (rs new : List Record) → IsSubscriberTable c running rs
+    → length rs < slots → countdowns w.solo ≡ (None, None)
     → new ≡ rs ++ record { subscriber = w; touched = c } ∷ [] → IsSubscriberTableOf c running new (views c rs ++ w ∷ [])
 pushed c w running rs new t lt off e =
     let r : Record = record { subscriber = w; touched = c } in
     let k : IsCounting w.solo = subst AreInRange (sym off) (tt, tt) in
-    let seen : views c (rs ++ r ∷ []) ≡ views c rs ++ w ∷ [] = map-append (view_at c) rs (r ∷ []) ∙ ap (λ v. views c rs ++ v ∷ []) (seen_now c w) in
+    let seen : views c (rs ++ r ∷ []) ≡ views c rs ++ w ∷ [] =
+    map-append (view_at c) rs (r ∷ []) ∙ ap (λ v. views c rs ++ v ∷ []) (seen_now c w) in
     let longer = length_push rs r in
     let table : IsSubscriberTable c running (rs ++ r ∷ []) = record {
       few = omega arith;
       fresh = every_push (IsFresh c) rs r t.fresh (fresh_now c w k);
       counting = subst AreCounting (sym seen) (every_push (λ (v : SubscriberView). IsCounting v.solo) (views c rs) w t.counting k);
       timed = t.timed ∙ sym (off_one 0 (countdowns w.solo) (all_countdowns (views c rs)) off)
-          ∙ ap (running_from 0) (sym (map-append (λ (v : SubscriberView). countdowns v.solo) (views c rs) (w ∷ [])) ∙ ap all_countdowns (sym seen));
+          ∙ ap (running_from 0)
+          (sym (map-append (λ (v : SubscriberView). countdowns v.solo) (views c rs) (w ∷ [])) ∙ ap all_countdowns (sym seen));
     } in
     record { table = subst (IsSubscriberTable c running) (sym e) table; seen = ap (views c) e ∙ seen }
 
 -- ---- a tick
 
-setting_kept : (c : ℕ) (r : Record) (w : SubscriberView) (b : Bool) → is_due (countdowns w.solo) ≡ b → IsSeen c r w → IsKept (c + 1) b r (one_less w)
+setting_kept : (c : ℕ) (r : Record) (w : SubscriberView) (b : Bool) → is_due (countdowns w.solo) ≡ b → IsSeen c r w
+    → IsKept (c + 1) b r (one_less w)
 setting_kept c r w true e h = ap (λ (v : SubscriberView). v.setting) h.same
 setting_kept c r w false e h = quiet_is c r w h e
 
-quiet_all : (c : ℕ) (rs : List Record) → AreFresh c rs → AreCounting (views c rs) → Match (IsKept (c + 1)) (map is_due (all_countdowns (views c rs))) rs (map one_less (views c rs))
+quiet_all : (c : ℕ) (rs : List Record) → AreFresh c rs → AreCounting (views c rs)
+    → Match (IsKept (c + 1)) (map is_due (all_countdowns (views c rs))) rs (map one_less (views c rs))
 quiet_all c [] f k = tt
 quiet_all c (r ∷ rs) f k =
     (setting_kept c r (view_at c r) (is_due (countdowns (view_at c r).solo)) refl (record { fresh = f.0; same = refl; counting = k.0 }), quiet_all c rs f.1 k.1)
 
-timed_later : (w : SubscriberView) (b : Bool) → is_due (countdowns w.solo) ≡ b → IsTimed b (both_left_by_tick (countdowns w.solo)) (one_less w)
+timed_later : (w : SubscriberView) (b : Bool) → is_due (countdowns w.solo) ≡ b
+    → IsTimed b (both_left_by_tick (countdowns w.solo)) (one_less w)
 timed_later w true e = tt
 timed_later w false e = both_less_is (countdowns w.solo) (due_no (countdowns w.solo) e) ∙ sym (countdowns_aged 1 w.solo)
 
-timed_all : (ws : List SubscriberView) → Match IsTimed (map is_due (all_countdowns ws)) (map both_left_by_tick (all_countdowns ws)) (map one_less ws)
+timed_all : (ws : List SubscriberView)
+    → Match IsTimed (map is_due (all_countdowns ws)) (map both_left_by_tick (all_countdowns ws)) (map one_less ws)
 timed_all [] = tt
 timed_all (w ∷ ws) = (timed_later w (is_due (countdowns w.solo)) refl, timed_all ws)
 
 -- those who were prepared are changed one by one
-kept_along : (c : ℕ) (xs : List SteppedView) (bs : List Bool) (rs : List Record) (ws : List SubscriberView) → Every (λ (x : SteppedView). IsCounting x.solo) xs
+kept_along : (c : ℕ) (xs : List SteppedView) (bs : List Bool) (rs : List Record) (ws : List SubscriberView)
+    → Every (λ (x : SteppedView). IsCounting x.solo) xs
     → Match (IsKept c) bs rs ws → Match (IsKept c) (cleared (slots_stepped xs) bs) (with_records c xs rs) (with_stepped xs ws)
 kept_along c [] bs rs ws k m = m
 kept_along c (x ∷ xs) bs rs ws k m =
-    let own = match_changed (IsKept c) x.slot (renewed c x.solo) (in_state x.solo) bs rs ws (λ b r w at h. renewed_is c b x.solo r w k.0 h) m in
+    let own =
+    match_changed (IsKept c) x.slot (renewed c x.solo) (in_state x.solo) bs rs ws
+    (λ b r w at h. renewed_is c b x.solo r w k.0 h) m in
     kept_along c xs (changed_at x.slot (λ _. false) bs) (changed_at x.slot (renewed c x.solo) rs) (with_solo x.slot x.solo ws) k.1
     (subst (Match (IsKept c) (changed_at x.slot (λ _. false) bs) (changed_at x.slot (renewed c x.solo) rs)) (sym (with_solo_is x.slot x.solo ws)) own)
 
@@ -316,7 +348,8 @@ timed_along (x ∷ xs) bs ps ws m =
     timed_along xs (changed_at x.slot (λ _. false) bs) (changed_at x.slot (λ _. countdowns x.solo) ps) (with_solo x.slot x.solo ws)
     (subst (Match IsTimed (changed_at x.slot (λ _. false) bs) (changed_at x.slot (λ _. countdowns x.solo) ps)) (sym (with_solo_is x.slot x.solo ws)) own)
 
-queued_along : (n : ℕ) (xs : List SteppedView) (ps : List (Option ℕ × Option ℕ)) → Every (λ (x : SteppedView). x.slot < n) xs → length ps ≡ n → n ≤ 2 ^ 32 → all_retimed xs (running_from 0 ps) ≡ running_from 0 (replaced xs ps)
+queued_along : (n : ℕ) (xs : List SteppedView) (ps : List (Option ℕ × Option ℕ)) → Every (λ (x : SteppedView). x.slot < n) xs
+    → length ps ≡ n → n ≤ 2 ^ 32 → all_retimed xs (running_from 0 ps) ≡ running_from 0 (replaced xs ps)
 queued_along n [] ps h e small = refl
 queued_along n (x ∷ xs) ps h e small =
     let lt : x.slot < n = h.0 in
@@ -329,20 +362,24 @@ every_slot P [] h = tt
 every_slot P (x ∷ xs) h = (h.0, every_slot P xs h.1)
 
 -- the slots that are due are those of subscribers
-pub slots_below : (c : ℕ) (xs : List SteppedView) (rs : List Record) → slots_stepped xs ≡ due_slots (views c rs) → Every (λ (x : SteppedView). x.slot < length rs) xs
+pub slots_below : (c : ℕ) (xs : List SteppedView) (rs : List Record) → slots_stepped xs ≡ due_slots (views c rs)
+    → Every (λ (x : SteppedView). x.slot < length rs) xs
 slots_below c xs rs e =
     every_slot (λ k. k < length rs) xs (subst (λ n. Every (λ k. k < n) (slots_stepped xs)) (views_length c rs) (subst (Every (λ k. k < length (views c rs))) (sym e) (due_below (views c rs))))
 
 with_records_length : (c : ℕ) (xs : List SteppedView) (rs : List Record) → length (with_records c xs rs) ≡ length rs
 with_records_length c [] rs = refl
-with_records_length c (x ∷ xs) rs = with_records_length c xs (changed_at x.slot (renewed c x.solo) rs) ∙ changed_length x.slot (renewed c x.solo) rs
+with_records_length c (x ∷ xs) rs =
+    with_records_length c xs (changed_at x.slot (renewed c x.solo) rs) ∙ changed_length x.slot (renewed c x.solo) rs
 
 counted_length : (ps : List (Option ℕ × Option ℕ)) → length (map both_left_by_tick ps) ≡ length ps
 counted_length [] = refl
 counted_length (p ∷ ps) = ap suc (counted_length ps)
 
-pub all_ticked : (c : ℕ) (xs : List SteppedView) (running after : List Countdown) (rs new : List Record) → IsSubscriberTable c running rs → slots_stepped xs ≡ due_slots (views c rs) → Every (λ (x : SteppedView). IsCounting x.solo) xs
-    → new ≡ with_records (c + 1) xs rs → after ≡ all_retimed xs (aged running) → IsSubscriberTableOf (c + 1) after new (tick_settled xs (views c rs))
+pub all_ticked : (c : ℕ) (xs : List SteppedView) (running after : List Countdown) (rs new : List Record)
+    → IsSubscriberTable c running rs → slots_stepped xs ≡ due_slots (views c rs) → Every (λ (x : SteppedView). IsCounting x.solo) xs
+    → new ≡ with_records (c + 1) xs rs → after ≡ all_retimed xs (aged running)
+    → IsSubscriberTableOf (c + 1) after new (tick_settled xs (views c rs))
 all_ticked c xs running after rs new t due k e g =
     let ws = views c rs in
     let ps = all_countdowns ws in
@@ -360,7 +397,8 @@ all_ticked c xs running after rs new t due k e g =
     let few = t.few in
     let longer = with_records_length (c + 1) xs rs in
     let queue = g ∙ ap (λ cs. all_retimed xs (aged cs)) t.timed ∙ ap (all_retimed xs) (aged_is 0 ps)
-    ∙ queued_along (length rs) xs (map both_left_by_tick ps) (slots_below c xs rs due) (omega arith) (omega arith) ∙ ap (running_from 0) (timed ∙ ap all_countdowns (sym seen)) in
+    ∙ queued_along (length rs) xs (map both_left_by_tick ps) (slots_below c xs rs due) (omega arith) (omega arith)
+    ∙ ap (running_from 0) (timed ∙ ap all_countdowns (sym seen)) in
     let table : IsSubscriberTable (c + 1) after done = record {
       few = omega arith;
       fresh = fresh_of (c + 1) _ done target off m;
@@ -372,7 +410,8 @@ all_ticked c xs running after rs new t due k e g =
 -- ---- looks
 
 -- a slot's record, and what is seen of it
-view_slot : (c k : ℕ) (rs : List Record) (r : Record) → k < length rs → r ≡ get_or rs k r → slice_get (views c rs) k ≡ Some (view_at c r)
+view_slot : (c k : ℕ) (rs : List Record) (r : Record) → k < length rs → r ≡ get_or rs k r
+    → slice_get (views c rs) k ≡ Some (view_at c r)
 view_slot c k rs r lt e = slice_get-map (view_at c) rs k ∙ ap (option_map (view_at c)) (slice_get_read rs (length rs) k r refl lt e)
 
 pub fresh_at : (c k : ℕ) (rs : List Record) (r : Record) → AreFresh c rs → slice_get rs k ≡ Some r → IsFresh c r
@@ -384,24 +423,29 @@ fresh_slot : (c k : ℕ) (rs : List Record) (r : Record) → AreFresh c rs → k
 fresh_slot c k rs r f lt e = fresh_at c k rs r f (slice_get_read rs (length rs) k r refl lt e)
 
 -- the queue has the countdowns of a record as it is now
-left_seen : (j : ℕ) (k : Kind) (ws : List SubscriberView) (w : SubscriberView) → slice_get ws j ≡ Some w → left_at j k (all_countdowns ws) ≡ part_of k (countdowns w.solo)
+left_seen : (j : ℕ) (k : Kind) (ws : List SubscriberView) (w : SubscriberView) → slice_get ws j ≡ Some w
+    → left_at j k (all_countdowns ws) ≡ part_of k (countdowns w.solo)
 left_seen j k [] w e = absurd (cc)
 left_seen zero k (v ∷ ws) w e = let same : v ≡ w = cc in ap (λ (x : SubscriberView). part_of k (countdowns x.solo)) same
 left_seen (suc j) k (v ∷ ws) w e = left_seen j k ws w e
 
-queued_as : (c slot : ℕ) (k : Kind) (running : List Countdown) (rs : List Record) (r : Record) → IsSubscriberTable c running rs → slot < length rs → r ≡ get_or rs slot r
+queued_as : (c slot : ℕ) (k : Kind) (running : List Countdown) (rs : List Record) (r : Record) → IsSubscriberTable c running rs
+    → slot < length rs → r ≡ get_or rs slot r
     → ticks_left (Subscriber slot) k running ≡ part_of k (countdowns (view_at c r).solo)
 queued_as c slot k running rs r t lt e =
     let ws = views c rs in
     let many = views_length c rs in
     let more = countdowns_length ws in
     let few = t.few in
-    ap (ticks_left (Subscriber slot) k) t.timed ∙ left_is slot 0 slot k (all_countdowns ws) (omega arith) (omega arith) (omega arith)
+    ap (ticks_left (Subscriber slot) k) t.timed
+    ∙ left_is slot 0 slot k (all_countdowns ws) (omega arith) (omega arith) (omega arith)
     ∙ left_seen slot k ws (view_at c r) (view_slot c slot rs r lt e)
 
-pub queued_read : (c slot : ℕ) (running : List Countdown) (rs : List Record) (r : Record) → IsSubscriberTable c running rs → slot < length rs → r ≡ get_or rs slot r
+pub queued_read : (c slot : ℕ) (running : List Countdown) (rs : List Record) (r : Record) → IsSubscriberTable c running rs
+    → slot < length rs → r ≡ get_or rs slot r
     → AreQueued slot (countdowns (view_at c r).solo) running
-queued_read c slot running rs r t lt e = (queued_as c slot Procedure running rs r t lt e, queued_as c slot Reachable running rs r t lt e)
+queued_read c slot running rs r t lt e =
+    (queued_as c slot Procedure running rs r t lt e, queued_as c slot Reachable running rs r t lt e)
 
 seen_aged : (c : ℕ) (r : Record) → IsFresh c r → (view_at c r).solo ≡ solo_aged (c - r.touched) r.subscriber.solo
 seen_aged c r f = ticks_are_aged r.subscriber.setting (c - r.touched) r.subscriber.solo f.above
@@ -410,38 +454,45 @@ states_aged : (n : ℕ) (solo : Solo) → states_of (solo_aged n solo) ≡ state
 unfolding solo_aged
 states_aged n solo = refl
 
-pub states_seen : (c k : ℕ) (running : List Countdown) (rs : List Record) (r : Record) → IsSubscriberTable c running rs → k < length rs → r ≡ get_or rs k r
+pub states_seen : (c k : ℕ) (running : List Countdown) (rs : List Record) (r : Record) → IsSubscriberTable c running rs
+    → k < length rs → r ≡ get_or rs k r
     → option_map (λ (w : SubscriberView). states_of w.solo) (slice_get (views c rs) k) ≡ Some (states_of r.subscriber.solo)
 states_seen c k running rs r t lt e =
     let f = fresh_slot c k rs r t.fresh lt e in
     ap (option_map (λ (w : SubscriberView). states_of w.solo)) (view_slot c k rs r lt e)
     ∙ ap (λ s. Some (states_of s)) (seen_aged c r f) ∙ ap Some (states_aged (c - r.touched) r.subscriber.solo)
 
-pub states_past : (c k : ℕ) (rs : List Record) → length rs ≤ k → option_map (λ (w : SubscriberView). states_of w.solo) (slice_get (views c rs) k) ≡ None
+pub states_past : (c k : ℕ) (rs : List Record) → length rs ≤ k
+    → option_map (λ (w : SubscriberView). states_of w.solo) (slice_get (views c rs) k) ≡ None
 states_past c k rs le =
     let many = views_length c rs in
     ap (option_map (λ (w : SubscriberView). states_of w.solo)) (slice_get_past (views c rs) k (omega arith))
 
-pub fresh_read : (c k : ℕ) (running : List Countdown) (rs : List Record) (r : Record) → IsSubscriberTable c running rs → k < length rs → r ≡ get_or rs k r → IsFresh c r
+pub fresh_read : (c k : ℕ) (running : List Countdown) (rs : List Record) (r : Record) → IsSubscriberTable c running rs
+    → k < length rs → r ≡ get_or rs k r → IsFresh c r
 fresh_read c k running rs r t lt e = fresh_slot c k rs r t.fresh lt e
 
 -- the step of what is seen
-pub step_seen : (c k : ℕ) (rs : List Record) (r : Record) (item : Item) → k < length rs → r ≡ get_or rs k r → step_at k item (views c rs) ≡ Some (subscriber_step (view_at c r) item)
+pub step_seen : (c k : ℕ) (rs : List Record) (r : Record) (item : Item) → k < length rs → r ≡ get_or rs k r
+    → step_at k item (views c rs) ≡ Some (subscriber_step (view_at c r) item)
 step_seen c k rs r item lt e = ap (option_map (λ w. subscriber_step w item)) (view_slot c k rs r lt e)
 
-pub boxed_some : {T E : Type 0} (res : Result (Box T Global) E) (x : T) (o : Option T) → IfOk res (λ b. b.value ≡ x) → o ≡ Some x → IfOk res (λ b. o ≡ Some b.value)
+pub boxed_some : {T E : Type 0} (res : Result (Box T Global) E) (x : T) (o : Option T) → IfOk res (λ b. b.value ≡ x) → o ≡ Some x
+    → IfOk res (λ b. o ≡ Some b.value)
 boxed_some (Ok b) x o h e = e ∙ ap Some (sym h)
 boxed_some (Err f) x o h e = tt
 
 -- a write of what is made of the record that was read
-pub set_changed : {X : Type 0} (f : X → X) (xs : List X) (k : ℕ) (x z : X) → k < length xs → x ≡ get_or xs k x → z ≡ f x → set xs k z ≡ changed_at k f xs
+pub set_changed : {X : Type 0} (f : X → X) (xs : List X) (k : ℕ) (x z : X) → k < length xs → x ≡ get_or xs k x → z ≡ f x
+    → set xs k z ≡ changed_at k f xs
 set_changed f [] k x z lt e g = absurd (omega arith)
 set_changed f (y ∷ ys) zero x z lt e g = ap (λ u. u ∷ ys) (g ∙ ap f e)
 set_changed f (y ∷ ys) (suc k) x z lt e g = ap (λ us. y ∷ us) (set_changed f ys k x z (omega arith) e g)
 
 -- ---- who is due
 
-pub all_of_slots : (c : ℕ) (running : List Countdown) (rs : List Record) (ts : List Timer) → IsSubscriberTable c running rs → ts ≡ due_of running → AreOfSlots slots ts
+pub all_of_slots : (c : ℕ) (running : List Countdown) (rs : List Record) (ts : List Timer) → IsSubscriberTable c running rs
+    → ts ≡ due_of running → AreOfSlots slots ts
 all_of_slots c running rs ts t e =
     let ps = all_countdowns (views c rs) in
     let many = views_length c rs in
@@ -449,10 +500,12 @@ all_of_slots c running rs ts t e =
     let few = t.few in
     subst (AreOfSlots slots) (sym (e ∙ ap due_of t.timed)) (due_of_slots slots 0 ps (omega arith))
 
-pub due_seen : (c : ℕ) (running : List Countdown) (rs : List Record) (ts : List Timer) → IsSubscriberTable c running rs → ts ≡ due_of running → slots_once None ts ≡ due_slots (views c rs)
+pub due_seen : (c : ℕ) (running : List Countdown) (rs : List Record) (ts : List Timer) → IsSubscriberTable c running rs
+    → ts ≡ due_of running → slots_once None ts ≡ due_slots (views c rs)
 due_seen c running rs ts t e = ap (slots_once None) (e ∙ ap due_of t.timed) ∙ once_is 0 None (all_countdowns (views c rs)) tt
 
 -- ---- at another clock
 
-pub at_clock : (c d : ℕ) (running : List Countdown) (rs : List Record) (ws : List SubscriberView) → d ≡ c → IsSubscriberTableOf c running rs ws → IsSubscriberTableOf d running rs ws
+pub at_clock : (c d : ℕ) (running : List Countdown) (rs : List Record) (ws : List SubscriberView) → d ≡ c
+    → IsSubscriberTableOf c running rs ws → IsSubscriberTableOf d running rs ws
 at_clock c d running rs ws e t = subst (λ n. IsSubscriberTableOf n running rs ws) (sym e) t

@@ -16,7 +16,8 @@ Match P (b ∷ bs) (x ∷ xs) [] = ⊥
 Match P (b ∷ bs) (x ∷ xs) (y ∷ ys) = P b x y × Match P bs xs ys
 
 -- both are changed at one place
-pub match_changed : {X Y : Type 0} (P : Bool → X → Y → Type 0) (k : ℕ) (f : X → X) (g : Y → Y) (bs : List Bool) (xs : List X) (ys : List Y)
+pub match_changed : {X Y : Type 0} (P : Bool → X → Y → Type 0) (k : ℕ) (f : X → X) (g : Y → Y) (bs : List Bool) (xs : List X)
+    (ys : List Y)
     → ((b : Bool) (x : X) (y : Y) → slice_get ys k ≡ Some y → P b x y → P false (f x) (g y))
     → Match P bs xs ys → Match P (changed_at k (λ _. false) bs) (changed_at k f xs) (changed_at k g ys)
 match_changed P k f g [] [] [] h m = tt
@@ -46,21 +47,26 @@ off_push : (bs : List Bool) → AreOff bs → AreOff (bs ++ false ∷ [])
 off_push [] h = (refl, tt)
 off_push (b ∷ bs) h = (h.0, off_push bs h.1)
 
-changed_here : (n : ℕ) (old bs : List Bool) (b : Bool) → length old ≡ n → changed_at n (λ _. false) (old ++ b ∷ bs) ≡ old ++ false ∷ bs
+changed_here : (n : ℕ) (old bs : List Bool) (b : Bool) → length old ≡ n
+    → changed_at n (λ _. false) (old ++ b ∷ bs) ≡ old ++ false ∷ bs
 changed_here zero [] bs b e = refl
 changed_here zero (o ∷ old) bs b e = absurd (omega arith)
 changed_here (suc n) [] bs b e = absurd (omega arith)
 changed_here (suc n) (o ∷ old) bs b e = ap (λ cs. o ∷ cs) (changed_here n old bs b (omega arith))
 
-cleared_by : (n : ℕ) (old bs : List Bool) (b : Bool) (ks : List ℕ) → length old ≡ n → AreOff (cleared ks ((old ++ false ∷ []) ++ bs)) → AreOff (cleared (cond b (n ∷ ks) ks) (old ++ b ∷ bs))
-cleared_by n old bs true ks e h = subst (λ cs. AreOff (cleared ks cs)) (append_assoc old (false ∷ []) bs ∙ sym (changed_here n old bs true e)) h
+cleared_by : (n : ℕ) (old bs : List Bool) (b : Bool) (ks : List ℕ) → length old ≡ n
+    → AreOff (cleared ks ((old ++ false ∷ []) ++ bs)) → AreOff (cleared (cond b (n ∷ ks) ks) (old ++ b ∷ bs))
+cleared_by n old bs true ks e h =
+    subst (λ cs. AreOff (cleared ks cs)) (append_assoc old (false ∷ []) bs ∙ sym (changed_here n old bs true e)) h
 cleared_by n old bs false ks e h = subst (λ cs. AreOff (cleared ks cs)) (append_assoc old (false ∷ []) bs) h
 
-cleared_from : {X : Type 0} (p : X → Bool) (n : ℕ) (old : List Bool) (xs : List X) → length old ≡ n → AreOff old → AreOff (cleared (slots_where p n xs) (old ++ map p xs))
+cleared_from : {X : Type 0} (p : X → Bool) (n : ℕ) (old : List Bool) (xs : List X) → length old ≡ n → AreOff old
+    → AreOff (cleared (slots_where p n xs) (old ++ map p xs))
 cleared_from p n old [] e h = subst AreOff (sym (append-nil old)) h
 cleared_from p n old (x ∷ xs) e h =
     let next : length (old ++ false ∷ []) ≡ n + 1 = length_push old false ∙ ap (λ m. m + 1) e in
-    cleared_by n old (map p xs) (p x) (slots_where p (n + 1) xs) e (cleared_from p (n + 1) (old ++ false ∷ []) xs next (off_push old h))
+    cleared_by n old (map p xs) (p x) (slots_where p (n + 1) xs) e
+    (cleared_from p (n + 1) (old ++ false ∷ []) xs next (off_push old h))
 
 -- where all that pass a test are changed, nothing is left to be
 pub cleared_all : {X : Type 0} (p : X → Bool) (xs : List X) → AreOff (cleared (slots_where p 0 xs) (map p xs))

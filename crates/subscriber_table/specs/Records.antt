@@ -14,7 +14,8 @@ use Rattle.subscriber_table.specs.Table.{AreCounting, all_countdowns, in_state}
 
 -- the subscriber as it is now: what it was, and the ticks since then
 abbrev pub view_at : ℕ → Record → SubscriberView
-view_at clock r = record { setting = r.subscriber.setting; solo = ticks_after r.subscriber.setting (clock - r.touched) r.subscriber.solo }
+view_at clock r =
+    record { setting = r.subscriber.setting; solo = ticks_after r.subscriber.setting (clock - r.touched) r.subscriber.solo }
 
 abbrev pub views : ℕ → List Record → List SubscriberView
 views clock rs = map (view_at clock) rs

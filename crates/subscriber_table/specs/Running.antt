@@ -27,7 +27,8 @@ is_this n (Some m) = m == n
 -- with a slot's countdown as it is to be; one that is so already stays in its place
 abbrev pub retimed : ℕ → Kind → Option ℕ → List Countdown → List Countdown
 retimed slot kind None cs = stopped (Subscriber slot) kind cs
-retimed slot kind (Some ticks) cs = if is_this ticks (ticks_left (Subscriber slot) kind cs) then cs else started (Subscriber slot) kind ticks cs
+retimed slot kind (Some ticks) cs =
+    if is_this ticks (ticks_left (Subscriber slot) kind cs) then cs else started (Subscriber slot) kind ticks cs
 
 abbrev pub both_retimed : ℕ → Option ℕ × Option ℕ → List Countdown → List Countdown
 both_retimed slot p cs = retimed slot Reachable p.1 (retimed slot Procedure p.0 cs)
@@ -85,7 +86,8 @@ owner_slot (Subscriber slot) = slot
 -- each once, where they stand side by side, behind the one that was last
 abbrev pub slots_once : Option ℕ → List Timer → List ℕ
 slots_once last [] = []
-slots_once last (t ∷ ts) = if is_this (owner_slot t.owner) last then slots_once last ts else owner_slot t.owner ∷ slots_once (Some (owner_slot t.owner)) ts
+slots_once last (t ∷ ts) =
+    if is_this (owner_slot t.owner) last then slots_once last ts else owner_slot t.owner ∷ slots_once (Some (owner_slot t.owner)) ts
 
 -- the owner is one of the first n slots
 abbrev pub IsSlotBelow : ℕ → TimerOwner → Type 0

@@ -99,7 +99,11 @@ impl Model for Sleepers {
 
     ghost use Rattle.subscriber_table.specs.Records.{views, IsSubscriberTable};
 
-    ghost view = { λ t. record { clock = t.timers.clock; subscribers = views t.timers.clock t.records.items; room = t.timers.room / 2 } };
+    ghost view = { λ t. record {
+      clock = t.timers.clock;
+      subscribers = views t.timers.clock t.records.items;
+      room = t.timers.room / 2;
+    } };
 
     ghost invariant = { λ t. IsSubscriberTable t.timers.clock t.timers.running t.records.items };
 }

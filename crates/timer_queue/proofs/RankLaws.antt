@@ -21,7 +21,8 @@ strangers : (s i t j : ℕ) → i < 2 ^ 32 → j < 2 ^ 32 → s * 2 ^ 32 + i ≡
 strangers s i t j p q e = (omega arith, omega arith)
 
 same_owner : (a b : TimerOwner) → IsOwner a → IsOwner b → owner_rank a ≡ owner_rank b → a ≡ b
-same_owner (Stranger s i) (Stranger t j) p q e = let r = strangers s i t j p.1 q.1 e in ap (λ n. Stranger n i) r.0 ∙ ap (λ n. Stranger t n) r.1
+same_owner (Stranger s i) (Stranger t j) p q e =
+    let r = strangers s i t j p.1 q.1 e in ap (λ n. Stranger n i) r.0 ∙ ap (λ n. Stranger t n) r.1
 same_owner (Stranger s i) (Subscriber n) p q e = absurd (omega (arith, p.0, p.1))
 same_owner (Subscriber n) (Stranger s i) p q e = absurd (omega (arith, q.0, q.1))
 same_owner (Subscriber n) (Subscriber m) p q e = ap (λ k. Subscriber k) (omega arith)
@@ -35,7 +36,9 @@ same_kind Reachable Reachable e = refl
 pub timers_apart : TimersApart
 unfolding rank
 timers_apart a b p q e =
-    let r = parts (owner_rank a.owner) (kind_rank a.kind) (owner_rank b.owner) (kind_rank b.kind) (small a.owner p) (bit a.kind) (small b.owner q) (bit b.kind) e in
+    let r =
+    parts (owner_rank a.owner) (kind_rank a.kind) (owner_rank b.owner) (kind_rank b.kind) (small a.owner p) (bit a.kind)
+    (small b.owner q) (bit b.kind) e in
     ap (λ o. record { owner = o; kind = a.kind }) (same_owner a.owner b.owner p q r.0) ∙ ap (λ k. record { owner = b.owner; kind = k }) (same_kind a.kind b.kind r.1)
 
 pub in_owner_order : InOwnerOrder

@@ -17,7 +17,8 @@ use Rattle.timer_queue.proofs.Changes.{rank_small}
 abbrev IsAfter : ℕ → Deadline → Deadline → Type 0
 IsAfter next e z = z.deadline ≤ next → name e < name z
 
-due_add_by : (c : ℕ) (e y : Deadline) (ys : List Deadline) (b : Bool) → nat_lt (name y) (name e) ≡ b → e.deadline ≤ c + 1 → IsAfter (c + 1) e y
+due_add_by : (c : ℕ) (e y : Deadline) (ys : List Deadline) (b : Bool) → nat_lt (name y) (name e) ≡ b → e.deadline ≤ c + 1
+    → IsAfter (c + 1) e y
     → due_of (map (as_left c) (add name e ys)) ≡ e.timer ∷ due_of (map (as_left c) ys)
     → due_of (map (as_left c) (cond b (y ∷ add name e ys) (e ∷ y ∷ ys))) ≡ e.timer ∷ due_of (map (as_left c) (y ∷ ys))
 due_add_by c e y ys true t due after ih =
@@ -27,11 +28,13 @@ due_add_by c e y ys false t due after ih =
     let now : nat_le (e.deadline - c) 1 ≡ true = grind (arith, nat_tests) in
     rw now refl
 
-due_add : (c : ℕ) (e : Deadline) (zs : List Deadline) → e.deadline ≤ c + 1 → Every (IsAfter (c + 1) e) zs → due_of (map (as_left c) (add name e zs)) ≡ e.timer ∷ due_of (map (as_left c) zs)
+due_add : (c : ℕ) (e : Deadline) (zs : List Deadline) → e.deadline ≤ c + 1 → Every (IsAfter (c + 1) e) zs
+    → due_of (map (as_left c) (add name e zs)) ≡ e.timer ∷ due_of (map (as_left c) zs)
 due_add c e [] due h = let now : nat_le (e.deadline - c) 1 ≡ true = grind (arith, nat_tests) in rw now refl
 due_add c e (y ∷ ys) due h = due_add_by c e y ys (nat_lt (name y) (name e)) refl due h.0 (due_add c e ys due h.1)
 
-aged_add : (c : ℕ) (e : Deadline) (zs : List Deadline) → e.deadline ≤ c + 1 → aged (map (as_left c) (add name e zs)) ≡ aged (map (as_left c) zs)
+aged_add : (c : ℕ) (e : Deadline) (zs : List Deadline) → e.deadline ≤ c + 1
+    → aged (map (as_left c) (add name e zs)) ≡ aged (map (as_left c) zs)
 aged_add c e [] due = let now : nat_le (e.deadline - c) 1 ≡ true = grind (arith, nat_tests) in rw now refl
 aged_add c e (y ∷ ys) due =
     let now : nat_le (e.deadline - c) 1 ≡ true = grind (arith, nat_tests) in
@@ -53,47 +56,58 @@ aged_all c (z ∷ zs) h =
 after_by : (c a r b s : ℕ) → a * 2 ^ 64 + r < b * 2 ^ 64 + s → c < a → a ≤ c + 1 → b ≤ c + 1 → s < 2 ^ 64 → r < s
 after_by c a r b s lt la le me small = omega arith
 
-afters : (c : ℕ) (e : Deadline) (es : List Deadline) → c < e.deadline → e.deadline ≤ c + 1 → AllOver moment (moment e) es → Every (IsAfter (c + 1) e) es
+afters : (c : ℕ) (e : Deadline) (es : List Deadline) → c < e.deadline → e.deadline ≤ c + 1 → AllOver moment (moment e) es
+    → Every (IsAfter (c + 1) e) es
 afters c e [] la le h = tt
 afters c e (z ∷ zs) la le h = ((λ me. after_by c e.deadline (rank e.timer) z.deadline (rank z.timer) h.0 la le me (rank_small z.timer)), afters c e zs la le h.1)
 
 later_by : (n a r b s : ℕ) → a * 2 ^ 64 + r < b * 2 ^ 64 + s → n < a → s < 2 ^ 64 → n < b
 later_by n a r b s lt la small = omega arith
 
-laters : (n : ℕ) (e : Deadline) (es : List Deadline) → n < e.deadline → AllOver moment (moment e) es → Every (λ z. n < z.deadline) es
+laters : (n : ℕ) (e : Deadline) (es : List Deadline) → n < e.deadline → AllOver moment (moment e) es
+    → Every (λ z. n < z.deadline) es
 laters n e [] la h = tt
-laters n e (z ∷ zs) la h = (later_by n e.deadline (rank e.timer) z.deadline (rank z.timer) h.0 la (rank_small z.timer), laters n e zs la h.1)
+laters n e (z ∷ zs) la h =
+    (later_by n e.deadline (rank e.timer) z.deadline (rank z.timer) h.0 la (rank_small z.timer), laters n e zs la h.1)
 
-due_is_by : (c : ℕ) (e : Deadline) (es : List Deadline) (b : Bool) → nat_le e.deadline (c + 1) ≡ b → AllOver moment (moment e) es → c < e.deadline → leading (c + 1) es ≡ due_of (running_at c es)
+due_is_by : (c : ℕ) (e : Deadline) (es : List Deadline) (b : Bool) → nat_le e.deadline (c + 1) ≡ b → AllOver moment (moment e) es
+    → c < e.deadline → leading (c + 1) es ≡ due_of (running_at c es)
     → cond b (e.timer ∷ leading (c + 1) es) [] ≡ due_of (running_at c (e ∷ es))
 due_is_by c e es true t over la ih =
     let le : e.deadline ≤ c + 1 = grind (arith, nat_tests) in
-    ap (λ ts. e.timer ∷ ts) ih ∙ sym (due_add c e (ordered name es) le (every-ordered (IsAfter (c + 1) e) name es (afters c e es la le over)))
+    ap (λ ts. e.timer ∷ ts) ih
+    ∙ sym (due_add c e (ordered name es) le (every-ordered (IsAfter (c + 1) e) name es (afters c e es la le over)))
 due_is_by c e es false t over la ih =
     let gt : c + 1 < e.deadline = grind (arith, nat_tests) in
-    sym (due_none c (ordered name (e ∷ es)) (every-ordered (λ z. c + 1 < z.deadline) name (e ∷ es) (gt, laters (c + 1) e es gt over)))
+    sym
+    (due_none c (ordered name (e ∷ es)) (every-ordered (λ z. c + 1 < z.deadline) name (e ∷ es) (gt, laters (c + 1) e es gt over)))
 
-due_in : (c : ℕ) (queue : List Deadline) → Rising moment queue → AreLate c queue → leading (c + 1) queue ≡ due_of (running_at c queue)
+due_in : (c : ℕ) (queue : List Deadline) → Rising moment queue → AreLate c queue
+    → leading (c + 1) queue ≡ due_of (running_at c queue)
 due_in c [] r l = refl
 due_in c (e ∷ es) r l = due_is_by c e es (nat_le e.deadline (c + 1)) refl r.0 l.0 (due_in c es r.1 l.1)
 
 pub due_is : (c : ℕ) (queue : List Deadline) → IsQueue queue → AreLate c queue → leading (c + 1) queue ≡ due_of (running_at c queue)
 due_is c queue h l = due_in c queue h.rising l
 
-aged_is_by : (c : ℕ) (e : Deadline) (es : List Deadline) (b : Bool) → nat_le e.deadline (c + 1) ≡ b → AllOver moment (moment e) es → running_at (c + 1) (later_than (c + 1) es) ≡ aged (running_at c es)
+aged_is_by : (c : ℕ) (e : Deadline) (es : List Deadline) (b : Bool) → nat_le e.deadline (c + 1) ≡ b → AllOver moment (moment e) es
+    → running_at (c + 1) (later_than (c + 1) es) ≡ aged (running_at c es)
     → running_at (c + 1) (cond b (later_than (c + 1) es) (e ∷ es)) ≡ aged (running_at c (e ∷ es))
 aged_is_by c e es true t over ih =
     let le : e.deadline ≤ c + 1 = grind (arith, nat_tests) in
     ih ∙ sym (aged_add c e (ordered name es) le)
 aged_is_by c e es false t over ih =
     let gt : c + 1 < e.deadline = grind (arith, nat_tests) in
-    sym (aged_all c (ordered name (e ∷ es)) (every-ordered (λ z. c + 1 < z.deadline) name (e ∷ es) (gt, laters (c + 1) e es gt over)))
+    sym
+    (aged_all c (ordered name (e ∷ es)) (every-ordered (λ z. c + 1 < z.deadline) name (e ∷ es) (gt, laters (c + 1) e es gt over)))
 
-pub aged_is : (c : ℕ) (queue : List Deadline) → Rising moment queue → running_at (c + 1) (later_than (c + 1) queue) ≡ aged (running_at c queue)
+pub aged_is : (c : ℕ) (queue : List Deadline) → Rising moment queue
+    → running_at (c + 1) (later_than (c + 1) queue) ≡ aged (running_at c queue)
 aged_is c [] r = refl
 aged_is c (e ∷ es) r = aged_is_by c e es (nat_le e.deadline (c + 1)) refl r.0 (aged_is c es r.1)
 
-late_after_by : (n : ℕ) (e : Deadline) (es : List Deadline) (b : Bool) → nat_le e.deadline n ≡ b → AllOver moment (moment e) es → AreLate n (later_than n es) → AreLate n (cond b (later_than n es) (e ∷ es))
+late_after_by : (n : ℕ) (e : Deadline) (es : List Deadline) (b : Bool) → nat_le e.deadline n ≡ b → AllOver moment (moment e) es
+    → AreLate n (later_than n es) → AreLate n (cond b (later_than n es) (e ∷ es))
 late_after_by n e es true t over ih = ih
 late_after_by n e es false t over ih = let gt : n < e.deadline = grind (arith, nat_tests) in (gt, laters n e es gt over)
 
@@ -101,7 +115,8 @@ pub late_after : (n : ℕ) (queue : List Deadline) → Rising moment queue → A
 late_after n [] r = tt
 late_after n (e ∷ es) r = late_after_by n e es (nat_le e.deadline n) refl r.0 (late_after n es r.1)
 
-counting_by : (c : ℕ) (zs : List Deadline) → Every (λ z. c < z.deadline) zs → Every (λ (x : Countdown). 1 ≤ x.ticks) (map (as_left c) zs)
+counting_by : (c : ℕ) (zs : List Deadline) → Every (λ z. c < z.deadline) zs
+    → Every (λ (x : Countdown). 1 ≤ x.ticks) (map (as_left c) zs)
 counting_by c [] h = tt
 counting_by c (z ∷ zs) h = let lt : c < z.deadline = h.0 in ((omega arith), counting_by c zs h.1)
 
@@ -129,7 +144,8 @@ least_from : (k : ℕ) (e : Deadline) (queue : List Deadline) → lowest_from mo
 least_from k e [] h = absurd (cc)
 least_from k e (y ∷ ys) h = let ih = least_from k e ys in grind (arith, nat_tests)
 
-rest_next_by : (k : ℕ) (e y : Deadline) (ys : List Deadline) (b : Bool) → nat_lt (moment y) k ≡ b → AllOver moment (moment y) ys → cond b (lowest_from moment k ys) (Some y) ≡ Some e
+rest_next_by : (k : ℕ) (e y : Deadline) (ys : List Deadline) (b : Bool) → nat_lt (moment y) k ≡ b → AllOver moment (moment y) ys
+    → cond b (lowest_from moment k ys) (Some y) ≡ Some e
     → (lowest_from moment k ys ≡ Some e → rest_from k ys ≡ e ∷ rest_from (moment e + 1) ys)
     → cond b (rest_from k ys) (y ∷ ys) ≡ e ∷ rest_from (moment e + 1) (y ∷ ys)
 rest_next_by k e y ys true t over h ih =
@@ -142,39 +158,49 @@ rest_next_by k e y ys false t over h ih =
     let own : y ∷ ys ≡ y ∷ rest_from (moment y + 1) (y ∷ ys) = rw under (ap (λ zs. y ∷ zs) (sym (rest_over (moment y) ys over))) in
     subst (λ z. y ∷ ys ≡ z ∷ rest_from (moment z + 1) (y ∷ ys)) same own
 
-pub rest_next : (k : ℕ) (e : Deadline) (queue : List Deadline) → Rising moment queue → lowest_from moment k queue ≡ Some e → rest_from k queue ≡ e ∷ rest_from (moment e + 1) queue
+pub rest_next : (k : ℕ) (e : Deadline) (queue : List Deadline) → Rising moment queue → lowest_from moment k queue ≡ Some e
+    → rest_from k queue ≡ e ∷ rest_from (moment e + 1) queue
 rest_next k e [] r h = absurd (cc)
 rest_next k e (y ∷ ys) r h = rest_next_by k e y ys (nat_lt (moment y) k) refl r.0 h (rest_next k e ys r.1)
 
-leading_now : (clock : ℕ) (e : Deadline) (es : List Deadline) → e.deadline ≤ clock → leading clock (e ∷ es) ≡ e.timer ∷ leading clock es
+leading_now : (clock : ℕ) (e : Deadline) (es : List Deadline) → e.deadline ≤ clock
+    → leading clock (e ∷ es) ≡ e.timer ∷ leading clock es
 leading_now clock e es le = let now : nat_le e.deadline clock ≡ true = grind (arith, nat_tests) in rw now refl
 
 leading_later : (clock : ℕ) (e : Deadline) (es : List Deadline) → clock < e.deadline → leading clock (e ∷ es) ≡ []
 leading_later clock e es lt = let later : nat_le e.deadline clock ≡ false = grind (arith, nat_tests) in rw later refl
 
 -- the walk along the front of the queue: before it, at an entry that is due, at one that is not, and at the end
-pub walk_begins : (clock : ℕ) (due : List Timer) (queue : List Deadline) → due ≡ [] → leading clock queue ≡ due ++ leading clock (rest_from 0 queue)
+pub walk_begins : (clock : ℕ) (due : List Timer) (queue : List Deadline) → due ≡ []
+    → leading clock queue ≡ due ++ leading clock (rest_from 0 queue)
 walk_begins clock due queue h = sym (ap (λ ts. ts ++ leading clock (rest_from 0 queue)) h ∙ ap (leading clock) (rest_all queue))
 
-pub walk_goes : (clock k n : ℕ) (e : Deadline) (due more : List Timer) (queue : List Deadline) → Rising moment queue → lowest_from moment k queue ≡ Some e → e.deadline ≤ clock → n ≡ moment e
-    → more ≡ due ++ e.timer ∷ [] → leading clock queue ≡ due ++ leading clock (rest_from k queue) → leading clock queue ≡ more ++ leading clock (rest_from (n + 1) queue)
+pub walk_goes : (clock k n : ℕ) (e : Deadline) (due more : List Timer) (queue : List Deadline) → Rising moment queue
+    → lowest_from moment k queue ≡ Some e → e.deadline ≤ clock → n ≡ moment e
+    → more ≡ due ++ e.timer ∷ [] → leading clock queue ≡ due ++ leading clock (rest_from k queue)
+    → leading clock queue ≡ more ++ leading clock (rest_from (n + 1) queue)
 walk_goes clock k n e due more queue r f le s m h =
     let rest = leading clock (rest_from (moment e + 1) queue) in
-    h ∙ ap (λ es. due ++ leading clock es) (rest_next k e queue r f) ∙ ap (λ ts. due ++ ts) (leading_now clock e (rest_from (moment e + 1) queue) le)
-    ∙ sym (append_assoc due (e.timer ∷ []) rest) ∙ ap (λ ts. ts ++ rest) (sym m) ∙ ap (λ j. more ++ leading clock (rest_from (j + 1) queue)) (sym s)
+    h ∙ ap (λ es. due ++ leading clock es) (rest_next k e queue r f)
+    ∙ ap (λ ts. due ++ ts) (leading_now clock e (rest_from (moment e + 1) queue) le)
+    ∙ sym (append_assoc due (e.timer ∷ []) rest) ∙ ap (λ ts. ts ++ rest) (sym m)
+    ∙ ap (λ j. more ++ leading clock (rest_from (j + 1) queue)) (sym s)
 
-pub walk_shorter : (k n : ℕ) (e : Deadline) (queue : List Deadline) → Rising moment queue → lowest_from moment k queue ≡ Some e → n ≡ moment e → length (rest_from (n + 1) queue) < length (rest_from k queue)
+pub walk_shorter : (k n : ℕ) (e : Deadline) (queue : List Deadline) → Rising moment queue → lowest_from moment k queue ≡ Some e
+    → n ≡ moment e → length (rest_from (n + 1) queue) < length (rest_from k queue)
 walk_shorter k n e queue r f s =
     let next = ap length (rest_next k e queue r f) in
     let same = ap (λ j. length (rest_from (j + 1) queue)) s in
     omega arith
 
-pub walk_stops : (clock k : ℕ) (e : Deadline) (due : List Timer) (queue : List Deadline) → Rising moment queue → lowest_from moment k queue ≡ Some e → clock < e.deadline
+pub walk_stops : (clock k : ℕ) (e : Deadline) (due : List Timer) (queue : List Deadline) → Rising moment queue
+    → lowest_from moment k queue ≡ Some e → clock < e.deadline
     → leading clock queue ≡ due ++ leading clock (rest_from k queue) → due ≡ leading clock queue
 walk_stops clock k e due queue r f lt h =
     sym (h ∙ ap (λ es. due ++ leading clock es) (rest_next k e queue r f) ∙ ap (λ ts. due ++ ts) (leading_later clock e (rest_from (moment e + 1) queue) lt) ∙ append-nil due)
 
-pub walk_ends : (clock k : ℕ) (due : List Timer) (queue : List Deadline) → lowest_from moment k queue ≡ None → leading clock queue ≡ due ++ leading clock (rest_from k queue) → due ≡ leading clock queue
+pub walk_ends : (clock k : ℕ) (due : List Timer) (queue : List Deadline) → lowest_from moment k queue ≡ None
+    → leading clock queue ≡ due ++ leading clock (rest_from k queue) → due ≡ leading clock queue
 walk_ends clock k due queue f h = sym (h ∙ ap (λ es. due ++ leading clock es) (rest_none k queue f) ∙ append-nil due)
 
 pub moment_fits : (d r clock : ℕ) → d ≤ clock → clock < 2 ^ 63 → r < 2 ^ 64 → d * 2 ^ 64 + r + 1 < 2 ^ 128

@@ -33,4 +33,5 @@ InOwnerOrder = (a b : Timer) → IsOwner a.owner → IsOwner b.owner → owner_r
 
 -- the procedure's timer stands before the reachable one
 abbrev pub ProcedureFirst : Type 0
-ProcedureFirst = (o : TimerOwner) → IsOwner o → rank (record { owner = o; kind = Procedure }) < rank (record { owner = o; kind = Reachable })
+ProcedureFirst =
+    (o : TimerOwner) → IsOwner o → rank (record { owner = o; kind = Procedure }) < rank (record { owner = o; kind = Reachable })

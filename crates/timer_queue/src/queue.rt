@@ -129,9 +129,14 @@ impl Model for Timers {
 
     ghost use Rattle.timer_queue.specs.Queued.{running_at, IsQueue, AreLate, IsDeadlineIndex};
 
-    ghost view = { λ t. record { clock = t.clock; running = running_at t.clock t.queue.items; room = min t.queue.room t.index.room } };
+    ghost view = { λ t. record {
+      clock = t.clock;
+      running = running_at t.clock t.queue.items;
+      room = min t.queue.room t.index.room;
+    } };
 
-    ghost invariant = { λ t. (t.clock ≤ 2 ^ 62) × IsQueue t.queue.items × AreLate t.clock t.queue.items × IsDeadlineIndex t.index.items t.queue.items };
+    ghost invariant = { λ t. (t.clock ≤ 2 ^ 62) × IsQueue t.queue.items × AreLate t.clock t.queue.items
+        × IsDeadlineIndex t.index.items t.queue.items };
 }
 
 impl Timers {

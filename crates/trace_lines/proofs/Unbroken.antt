@@ -15,7 +15,8 @@ is_false false h = refl
 is_lf : (octet : ℕ) → (octet == 10) ≡ true → octet ≡ 10
 is_lf octet h = grind (arith, nat_tests)
 
-unbroken : (xs : List ℕ) (n : ℕ) → n ≤ length xs → ((k : ℕ) → 0 ≤ k → k < n → ¬ ((slice_index xs k == 10) ≡ true)) → breaks (take n xs) ≡ 0
+unbroken : (xs : List ℕ) (n : ℕ) → n ≤ length xs → ((k : ℕ) → 0 ≤ k → k < n → ¬ ((slice_index xs k == 10) ≡ true))
+    → breaks (take n xs) ≡ 0
 unbroken xs zero h none = refl
 unbroken [] (suc n) h none = absurd (omega arith)
 unbroken (x ∷ xs) (suc n) h none =
@@ -23,7 +24,8 @@ unbroken (x ∷ xs) (suc n) h none =
     (unbroken xs n (omega arith) (λ k low high. none (suc k) (omega arith) (omega arith)))
 
 -- the part before the first LF, or the whole piece, has no LF
-pub part_unbroken : (piece : List ℕ) (found : Option ℕ) → IsFirstByte (is_byte 10) piece found → breaks (take (unwrap_or found (length piece)) piece) ≡ 0
+pub part_unbroken : (piece : List ℕ) (found : Option ℕ) → IsFirstByte (is_byte 10) piece found
+    → breaks (take (unwrap_or found (length piece)) piece) ≡ 0
 part_unbroken piece None none = unbroken piece (length piece) (omega arith) none
 part_unbroken piece (Some end) first = let high = first.0.high in unbroken piece end (omega (arith, high)) first.0.before
 
@@ -41,12 +43,15 @@ nothing [] h = refl
 nothing (x ∷ xs) h = absurd (omega (arith, h))
 
 -- the first LF ends a line of which nothing has come
-pub LiesWhole-found : (line piece : List ℕ) (found : Option ℕ) → length line ≡ 0 → IsFirstByte (is_byte 10) piece found → IfSome found (λ end. LiesWhole line piece end)
+pub LiesWhole-found : (line piece : List ℕ) (found : Option ℕ) → length line ≡ 0 → IsFirstByte (is_byte 10) piece found
+    → IfSome found (λ end. LiesWhole line piece end)
 LiesWhole-found line piece None e none = tt
 LiesWhole-found line piece (Some end) e first =
     (nothing line e, first.0.high, is_lf (slice_index piece end) first.1, part_unbroken piece (Some end) first)
 
 -- and without an LF there is none
-pub LiesWhole-none : (line piece : List ℕ) (found : Option ℕ) → IsFirstByte (is_byte 10) piece found → IfNone found ((0 < length line) ⊎ (breaks piece ≡ 0))
-LiesWhole-none line piece None none = inr (ap breaks (sym (take_all (length piece) piece (omega arith))) ∙ part_unbroken piece None none)
+pub LiesWhole-none : (line piece : List ℕ) (found : Option ℕ) → IsFirstByte (is_byte 10) piece found
+    → IfNone found ((0 < length line) ⊎ (breaks piece ≡ 0))
+LiesWhole-none line piece None none =
+    inr (ap breaks (sym (take_all (length piece) piece (omega arith))) ∙ part_unbroken piece None none)
 LiesWhole-none line piece (Some end) first = tt

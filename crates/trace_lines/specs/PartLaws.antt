@@ -6,4 +6,5 @@ use Rattle.std.proofs.lemmas.List.{take_all, take-append-drop, length-drop}
 -- a front and what is behind it
 pub rest_behind : (count : ℕ) (rest : List ℕ) → take count rest ++ slice_range rest count (length rest) ≡ rest
 rest_behind count rest =
-    ap (λ v. take count rest ++ v) (take_all (length rest - count) (drop count rest) (omega (arith, length-drop count rest))) ∙ take-append-drop count rest
+    ap (λ v. take count rest ++ v) (take_all (length rest - count) (drop count rest) (omega (arith, length-drop count rest)))
+    ∙ take-append-drop count rest

@@ -13,9 +13,11 @@ GoesOnBy part old new = (breaks part ≡ 0) × (new ≡ old ++ part) × (length 
 -- of the piece without an LF, or finds no memory, and stays as it was
 abbrev pub TakesPart : ℕ → List ℕ → List ℕ → Result (Option ℕ) PlayFault → List ℕ → Type 0
 TakesPart number old piece (Ok None) new = GoesOnBy piece old new
-TakesPart number old piece (Ok (Some end)) new = (end < length piece) × (slice_index piece end ≡ 10) × GoesOnBy (take end piece) old new
+TakesPart number old piece (Ok (Some end)) new =
+    (end < length piece) × (slice_index piece end ≡ 10) × GoesOnBy (take end piece) old new
 TakesPart number old piece (Err (Trace line fault)) new =
-    (line ≡ number) × (fault ≡ TooLong) × ((count : ℕ) × (breaks (take count piece) ≡ 0) × (40000 < length (old ++ take count piece))) × (new ≡ old)
+    (line ≡ number) × (fault ≡ TooLong)
+    × ((count : ℕ) × (breaks (take count piece) ≡ 0) × (40000 < length (old ++ take count piece))) × (new ≡ old)
 TakesPart number old piece (Err NoMemory) new = new ≡ old
 TakesPart number old piece (Err Read) new = ⊥
 TakesPart number old piece (Err Write) new = ⊥

@@ -51,7 +51,8 @@ with_subscriber config provisioned profile (Some fault) = Err Provision
 
 abbrev pub subscriber_added : Progress → Profile → Effect
 subscriber_added Nothing profile = Err Order
-subscriber_added (Provisioning config provisioned) profile = with_subscriber config provisioned profile (add_fault profile provisioned.profiles)
+subscriber_added (Provisioning config provisioned) profile =
+    with_subscriber config provisioned profile (add_fault profile provisioned.profiles)
 subscriber_added (Running world) profile = Err Order
 
 -- a vector more for the subscriber of this slot, who has 64 at most
@@ -63,7 +64,8 @@ with_vector_at config provisioned vector (Some slot) =
 
 abbrev pub vector_given : Progress → List ℕ → Vector → Effect
 vector_given Nothing imsi vector = Err Order
-vector_given (Provisioning config provisioned) imsi vector = with_vector_at config provisioned vector (slot_of_imsi imsi provisioned.profiles)
+vector_given (Provisioning config provisioned) imsi vector =
+    with_vector_at config provisioned vector (slot_of_imsi imsi provisioned.profiles)
 vector_given (Running world) imsi vector = Err Order
 
 -- ---- events

@@ -4,8 +4,11 @@ use Rattle.std.proofs.lemmas.List.{take-append-drop}
 use Rattle.trace_player.specs.Acts.{IsPrefix}
 
 pub IsPrefix-take : (n : ℕ) (front all : List ℕ) → IsPrefix front all → IsPrefix (take n front) all
-IsPrefix-take n front all p =
-    (drop n front ++ p.0, p.1 ∙ ap (λ v. v ++ p.0) (sym (take-append-drop n front)) ∙ append_assoc (take n front) (drop n front) p.0)
+IsPrefix-take n front all p = (
+  drop n front ++ p.0,
+  p.1 ∙ ap (λ v. v ++ p.0) (sym (take-append-drop n front))
+      ∙ append_assoc (take n front) (drop n front) p.0,
+)
 
 pub IsPrefix-nil : (all : List ℕ) → IsPrefix [] all
 IsPrefix-nil all = (all, refl)

@@ -40,7 +40,8 @@ Consumes-then (Some us) (Some vs) (Some ws) x y p q = p ∙ ap (λ v. x ++ v) q 
 pub take_then_take : (n m : ℕ) (xs : List ℕ) → n ≤ length xs → take n xs ++ take m (drop n xs) ≡ take (n + m) xs
 take_then_take n m xs h =
     let front : take n (take (n + m) xs) ≡ take n xs = grind (arith, common_steps) in
-    ap (λ v. v ++ take m (drop n xs)) (sym front) ∙ ap (λ v. take n (take (n + m) xs) ++ v) (sym (drop-take n m xs)) ∙ take-append-drop n (take (n + m) xs)
+    ap (λ v. v ++ take m (drop n xs)) (sym front) ∙ ap (λ v. take n (take (n + m) xs) ++ v) (sym (drop-take n m xs))
+    ∙ take-append-drop n (take (n + m) xs)
 
 pub take_rest : (at : ℕ) (xs : List ℕ) → take (length xs - at) (drop at xs) ≡ drop at xs
 take_rest at xs = grind (arith, common_steps)

@@ -29,7 +29,8 @@ breaks-le (x ∷ xs) = let h = counts-le (x == 10) (breaks xs) (length xs) (brea
 
 pub split_at : (xs : List ℕ) (i x : ℕ) → i < length xs → x ≡ get_or xs i 0 → xs ≡ (take i xs ++ x ∷ []) ++ drop (i + 1) xs
 split_at xs i x h e =
-    sym (ap (λ y. (take i xs ++ y ∷ []) ++ drop (i + 1) xs) e ∙ ap (λ v. v ++ drop (i + 1) xs) (sym (take_more xs i 0 h)) ∙ take-append-drop (i + 1) xs)
+    sym (ap (λ y. (take i xs ++ y ∷ []) ++ drop (i + 1) xs) e ∙ ap (λ v. v ++ drop (i + 1) xs) (sym (take_more xs i 0 h))
+    ∙ take-append-drop (i + 1) xs)
 
 pub nil-from_length : (xs : List ℕ) → length xs ≡ 0 → xs ≡ []
 nil-from_length [] h = refl
@@ -62,7 +63,8 @@ lines_of-at (c ∷ cs) more h =
     let two = breaks-cons c cs h in
     lines_of-other c (cs ++ 10 ∷ more) two.0 ∙ ap (onto_first c) (lines_of-at cs more two.1)
 
-onto_first-cons : (c : ℕ) (ls : List (List ℕ)) → (rest : List ℕ) × (others : List (List ℕ)) × (onto_first c ls ≡ (c ∷ rest) ∷ others)
+onto_first-cons : (c : ℕ) (ls : List (List ℕ))
+    → (rest : List ℕ) × (others : List (List ℕ)) × (onto_first c ls ≡ (c ∷ rest) ∷ others)
 onto_first-cons c [] = ([], [], refl)
 onto_first-cons c (l ∷ ls) = (l, ls, refl)
 
@@ -84,10 +86,12 @@ pub lines_of-last : (front : List ℕ) → breaks front ≡ 0 → 0 < length fro
 lines_of-last [] h some = absurd (omega arith)
 lines_of-last (c ∷ []) h some =
     let two = breaks-cons c [] h in
-    lines_of-other c [] two.0 ∙ ap (onto_first c) lines_of-nil ∙ sym (lines_of-at (c ∷ []) [] h ∙ ap (λ v. (c ∷ []) ∷ v) lines_of-nil)
+    lines_of-other c [] two.0 ∙ ap (onto_first c) lines_of-nil
+    ∙ sym (lines_of-at (c ∷ []) [] h ∙ ap (λ v. (c ∷ []) ∷ v) lines_of-nil)
 lines_of-last (c ∷ d ∷ ds) h some =
     let two = breaks-cons c (d ∷ ds) h in
-    lines_of-other c (d ∷ ds) two.0 ∙ ap (onto_first c) (lines_of-last (d ∷ ds) two.1 (omega arith)) ∙ sym (lines_of-other c ((d ∷ ds) ++ 10 ∷ []) two.0)
+    lines_of-other c (d ∷ ds) two.0 ∙ ap (onto_first c) (lines_of-last (d ∷ ds) two.1 (omega arith))
+    ∙ sym (lines_of-other c ((d ∷ ds) ++ 10 ∷ []) two.0)
 
 pub line_of-long : (text : List ℕ) → 40000 < length text → line_of text ≡ Err TooLong
 unfolding line_of
@@ -95,7 +99,8 @@ line_of-long text h = grind (arith, nat_tests)
 
 -- ---- lines that are played
 
-pub play-cons : (progress : Progress) (line : ℕ) (text : List ℕ) (texts : List (List ℕ)) → play progress line (text ∷ texts) ≡ then_play line (line_effect progress text) (λ new. play new (line + 1) texts)
+pub play-cons : (progress : Progress) (line : ℕ) (text : List ℕ) (texts : List (List ℕ))
+    → play progress line (text ∷ texts) ≡ then_play line (line_effect progress text) (λ new. play new (line + 1) texts)
 unfolding play
 play-cons progress line text texts = refl
 
@@ -104,7 +109,8 @@ unfolding play
 play-nil progress line = refl
 
 pub prepended-then : (a b : List ℕ) (p : Played) → prepended a (prepended b p) ≡ prepended (a ++ b) p
-prepended-then a b p = ap (λ (v : List ℕ). let r : Played = record { text = v; fault = p.fault } in r) (sym (append_assoc a b p.text))
+prepended-then a b p =
+    ap (λ (v : List ℕ). let r : Played = record { text = v; fault = p.fault } in r) (sym (append_assoc a b p.text))
 
 pub prepended-ends : (a : List ℕ) (fault : Option (ℕ × TraceFault)) → prepended a (played_text [] fault) ≡ played_text a fault
 prepended-ends a fault = ap (λ (v : List ℕ). let r : Played = record { text = v; fault = fault } in r) (append-nil a)

@@ -31,7 +31,8 @@ pub fn act_on_line<W: Write>(
     room: &mut Vec<u8>,
     writer: &mut Watched<W>,
 ) -> Result<(), PlayFault>
-    ensures acts { GrowsBy (W.contents writer.old.inner) (W.contents writer.new.inner) (Acts number (effect_of progress.old line) result progress.new) }
+    ensures acts { GrowsBy (W.contents writer.old.inner) (W.contents writer.new.inner)
+        (Acts number (effect_of progress.old line) result progress.new) }
     ensures write { IsErrOf result PlayFault.Write → writer.new.failed ≡ true }
 {
     match line {
@@ -74,7 +75,8 @@ fn play_event<W: Write>(
     room: &mut Vec<u8>,
     writer: &mut Watched<W>,
 ) -> Result<(), PlayFault>
-    ensures acts { GrowsBy (W.contents writer.old.inner) (W.contents writer.new.inner) (Acts number (happened progress.old event.now) result progress.new) }
+    ensures acts { GrowsBy (W.contents writer.old.inner) (W.contents writer.new.inner)
+        (Acts number (happened progress.old event.now) result progress.new) }
     ensures write { IsErrOf result PlayFault.Write → writer.new.failed ≡ true }
 {
     run(alloc, progress, number)?;
@@ -96,7 +98,8 @@ fn play_ticks<W: Write>(
     room: &mut Vec<u8>,
     writer: &mut Watched<W>,
 ) -> Result<(), PlayFault>
-    ensures acts { GrowsBy (W.contents writer.old.inner) (W.contents writer.new.inner) (Acts number (ticks_passed progress.old count) result progress.new) }
+    ensures acts { GrowsBy (W.contents writer.old.inner) (W.contents writer.new.inner)
+        (Acts number (ticks_passed progress.old count) result progress.new) }
     ensures write { IsErrOf result PlayFault.Write → writer.new.failed ≡ true }
 {
     run(alloc, progress, number)?;
@@ -115,7 +118,8 @@ fn show<W: Write>(
     room: &mut Vec<u8>,
     writer: &mut Watched<W>,
 ) -> Result<(), PlayFault>
-    ensures acts { GrowsBy (W.contents writer.old.inner) (W.contents writer.new.inner) (Acts number (shown progress.old imsi) result progress.new) }
+    ensures acts { GrowsBy (W.contents writer.old.inner) (W.contents writer.new.inner)
+        (Acts number (shown progress.old imsi) result progress.new) }
     ensures write { IsErrOf result PlayFault.Write → writer.new.failed ≡ true }
 {
     run(alloc, progress, number)?;
@@ -133,7 +137,8 @@ fn step_event<W: Write>(
     room: &mut Vec<u8>,
     writer: &mut Watched<W>,
 ) -> Result<bool, PlayFault>
-    ensures put { GrowsBy (W.contents writer.old.inner) (W.contents writer.new.inner) (Puts (reply_text (reply mme.old event.now)) result) }
+    ensures put { GrowsBy (W.contents writer.old.inner) (W.contents writer.new.inner)
+        (Puts (reply_text (reply mme.old event.now)) result) }
     ensures after { OnOk result (mme.new ≡ left_by mme.old event.now (reply mme.old event.now)) }
     ensures taken { IfOk result (λ taken. taken ≡ is_ok (reply mme.old event.now)) }
     ensures write { IsErrOf result PlayFault.Write → writer.new.failed ≡ true }
@@ -181,7 +186,8 @@ fn show_states<W: Write>(
     room: &mut Vec<u8>,
     writer: &mut Watched<W>,
 ) -> Result<(), PlayFault>
-    ensures acts { GrowsBy (W.contents writer.old.inner) (W.contents writer.new.inner) (Acts number (states_shown imsi mme.now (states_of_imsi imsi mme.now)) result (Running mme.now)) }
+    ensures acts { GrowsBy (W.contents writer.old.inner) (W.contents writer.new.inner)
+        (Acts number (states_shown imsi mme.now (states_of_imsi imsi mme.now)) result (Running mme.now)) }
     ensures write { IsErrOf result PlayFault.Write → writer.new.failed ≡ true }
 {
     match states_of_imsi(mme, imsi) {

@@ -68,7 +68,8 @@ impl<W: Write> Watched<W> {
     pub fn write(&mut self, buf: &[u8]) -> io::Result<usize>
         ensures bound { WritesAtMost result buf.now }
         ensures bytes { WriteAppends (W.contents self.old.inner) (W.contents self.new.inner) result buf.now }
-        ensures failed { MatchResult result (λ n. n ≡ 0 → 0 < length buf.now → self.new.failed ≡ true) (λ _. self.new.failed ≡ true) }
+        ensures failed { MatchResult result (λ n. n ≡ 0 → 0 < length buf.now → self.new.failed ≡ true)
+            (λ _. self.new.failed ≡ true) }
         ensures ended { self.new.ended ≡ self.old.ended }
         ensures calls { self.new.calls ≡ min (self.old.calls + 1) (2 ^ 64 - 1) }
     {

@@ -21,7 +21,8 @@ pub record Playing (left_old left_new held_old held_new : Option (List ℕ)) (pl
   pub ready : IsReady player
   pub counted : player.line ≡ 1 + breaks read
 
-pub Playing-start : (left held : Option (List ℕ)) (player : Player) → player.progress ≡ Nothing → player.line ≡ 1 → player.pending.items ≡ [] → Playing left left held held player
+pub Playing-start : (left held : Option (List ℕ)) (player : Player) → player.progress ≡ Nothing → player.line ≡ 1
+    → player.pending.items ≡ [] → Playing left left held held player
 Playing-start left held player m l p = record {
   read = [];
   written = [];
@@ -38,7 +39,8 @@ module _ (left_old left_mid left_new held_old held_mid held_new : Option (List �
   all_read : List ℕ
   all_read = playing.read ++ piece
 
-  turn_whole : (more : List ℕ) → played_of ((playing.read ++ piece) ++ more) ≡ prepended playing.written (played_from player (piece ++ more))
+  turn_whole : (more : List ℕ)
+      → played_of ((playing.read ++ piece) ++ more) ≡ prepended playing.written (played_from player (piece ++ more))
   turn_whole more = ap played_of (append_assoc playing.read piece more) ∙ playing.follows (piece ++ more)
 
   pub Playing-turn : (new : Player) → TakesPiece player piece (Ok tt) new added → Playing left_old left_new held_old held_new new
@@ -56,11 +58,13 @@ module _ (left_old left_mid left_new held_old held_mid held_new : Option (List �
   turn_all : played_of (playing.read ++ piece) ≡ prepended playing.written (played_from player (piece ++ []))
   turn_all = ap played_of (sym (append-nil (playing.read ++ piece))) ∙ turn_whole []
 
-  turn_prefix : IsPrefix added ((played_from player (piece ++ [])).text) → IsPrefix (playing.written ++ added) ((played_of (playing.read ++ piece)).text)
+  turn_prefix : IsPrefix added ((played_from player (piece ++ [])).text)
+      → IsPrefix (playing.written ++ added) ((played_of (playing.read ++ piece)).text)
   turn_prefix p =
       (p.0, ap (λ v. v.text) turn_all ∙ ap (λ v. playing.written ++ v) p.1 ∙ sym (append_assoc playing.written added p.0))
 
-  turn_plays : (ended : Bool) (result : Result (Unit {0}) PlayFault) → WritesFor (playing.read ++ piece) (playing.written ++ added) result → ReadsFarEnough (playing.read ++ piece) ended result
+  turn_plays : (ended : Bool) (result : Result (Unit {0}) PlayFault)
+      → WritesFor (playing.read ++ piece) (playing.written ++ added) result → ReadsFarEnough (playing.read ++ piece) ended result
       → Plays left_old left_new held_old held_new ended result
   turn_plays ended result told reached = (
     playing.read ++ piece,
@@ -71,7 +75,8 @@ module _ (left_old left_mid left_new held_old held_mid held_new : Option (List �
     reached,
   )
 
-  pub Plays-fault : (new : Player) (ended : Bool) (fault : PlayFault) → TakesPiece player piece (Err fault) new added → Plays left_old left_new held_old held_new ended (Err fault)
+  pub Plays-fault : (new : Player) (ended : Bool) (fault : PlayFault) → TakesPiece player piece (Err fault) new added
+      → Plays left_old left_new held_old held_new ended (Err fault)
   Plays-fault new ended (Trace line fault) t =
       turn_plays ended (Err (Trace line fault)) (turn_all ∙ ap (prepended playing.written) (t.0 []))
       (elim t.1 [ inl h ↦ inr (inr h) | inr h ↦ inr (inl (omega (arith, h, playing.counted, breaks-append playing.read piece))) ])
@@ -80,7 +85,8 @@ module _ (left_old left_mid left_new held_old held_mid held_new : Option (List �
   Plays-fault new ended Read t = absurd t
 
 -- a read that gave nothing
-pub Playing-idle : (left_old left_mid left_new held_old held_new : Option (List ℕ)) (player : Player) → Playing left_old left_mid held_old held_new player
+pub Playing-idle : (left_old left_mid left_new held_old held_new : Option (List ℕ)) (player : Player)
+    → Playing left_old left_mid held_old held_new player
     → Consumes left_mid left_new [] → Playing left_old left_new held_old held_new player
 Playing-idle left_old left_mid left_new held_old held_new player playing none = record {
   read = playing.read;
@@ -98,9 +104,11 @@ module _ (left_old left_new held_old held_mid held_new : Option (List ℕ)) (pla
   last_all = ap played_of (sym (append-nil playing.read)) ∙ playing.follows []
 
   last_prefix : IsPrefix added ((played_from player []).text) → IsPrefix (playing.written ++ added) ((played_of playing.read).text)
-  last_prefix p = (p.0, ap (λ v. v.text) last_all ∙ ap (λ v. playing.written ++ v) p.1 ∙ sym (append_assoc playing.written added p.0))
+  last_prefix p =
+      (p.0, ap (λ v. v.text) last_all ∙ ap (λ v. playing.written ++ v) p.1 ∙ sym (append_assoc playing.written added p.0))
 
-  last_plays : (ended : Bool) (result : Result (Unit {0}) PlayFault) → WritesFor playing.read (playing.written ++ added) result → ReadsFarEnough playing.read ended result
+  last_plays : (ended : Bool) (result : Result (Unit {0}) PlayFault) → WritesFor playing.read (playing.written ++ added) result
+      → ReadsFarEnough playing.read ended result
       → Plays left_old left_new held_old held_new ended result
   last_plays ended result told reached = (
     playing.read,
@@ -111,20 +119,24 @@ module _ (left_old left_new held_old held_mid held_new : Option (List ℕ)) (pla
     reached,
   )
 
-  pub Plays-last : (ended : Bool) (result : Result (Unit {0}) PlayFault) → ended ≡ true → Finishes player result added → Plays left_old left_new held_old held_new ended result
+  pub Plays-last : (ended : Bool) (result : Result (Unit {0}) PlayFault) → ended ≡ true → Finishes player result added
+      → Plays left_old left_new held_old held_new ended result
   Plays-last ended (Ok _) end t = last_plays ended (Ok tt) (last_all ∙ ap (prepended playing.written) t) end
-  Plays-last ended (Err (Trace line fault)) end t = last_plays ended (Err (Trace line fault)) (last_all ∙ ap (prepended playing.written) t) (inl end)
+  Plays-last ended (Err (Trace line fault)) end t =
+      last_plays ended (Err (Trace line fault)) (last_all ∙ ap (prepended playing.written) t) (inl end)
   Plays-last ended (Err NoMemory) end t = last_plays ended (Err NoMemory) (last_prefix t) tt
   Plays-last ended (Err Write) end t = last_plays ended (Err Write) (last_prefix t) tt
   Plays-last ended (Err Read) end t = absurd t
 
 -- a read that failed
-pub Plays-read : (left_old left_mid left_new held_old held_new : Option (List ℕ)) (player : Player) (ended : Bool) → Playing left_old left_mid held_old held_new player
+pub Plays-read : (left_old left_mid left_new held_old held_new : Option (List ℕ)) (player : Player) (ended : Bool)
+    → Playing left_old left_mid held_old held_new player
     → Keeps left_mid left_new → Plays left_old left_new held_old held_new ended (Err Read)
 Plays-read left_old left_mid left_new held_old held_new player ended playing kept = (
   playing.read,
   playing.written,
-  Consumes-same left_old left_new _ _ (append-nil playing.read) (Consumes-then left_old left_mid left_new playing.read [] playing.consumed (Consumes-keeps left_mid left_new kept)),
+  Consumes-same left_old left_new _ _ (append-nil playing.read)
+      (Consumes-then left_old left_mid left_new playing.read [] playing.consumed (Consumes-keeps left_mid left_new kept)),
   playing.appended,
   (
     (play player.progress player.line (lines_of (player.pending.items ++ []))).text,

@@ -21,16 +21,19 @@ IsReady player = (breaks player.pending.items ≡ 0) × (length player.pending.i
 -- what a player that takes a piece of the trace leaves and writes
 abbrev pub TakesPiece : Player → List ℕ → Result (Unit {0}) PlayFault → Player → List ℕ → Type 0
 TakesPiece old piece (Ok _) new written =
-    ((more : List ℕ) → played_from old (piece ++ more) ≡ prepended written (played_from new more)) × IsReady new × (new.line ≡ old.line + breaks piece)
+    ((more : List ℕ) → played_from old (piece ++ more) ≡ prepended written (played_from new more)) × IsReady new
+    × (new.line ≡ old.line + breaks piece)
 TakesPiece old piece (Err (Trace line fault)) new written =
-    ((more : List ℕ) → played_from old (piece ++ more) ≡ played_text written (Some (line, fault))) × ((fault ≡ TooLong) ⊎ (line < old.line + breaks piece))
+    ((more : List ℕ) → played_from old (piece ++ more) ≡ played_text written (Some (line, fault)))
+    × ((fault ≡ TooLong) ⊎ (line < old.line + breaks piece))
 TakesPiece old piece (Err NoMemory) new written = (more : List ℕ) → IsPrefix written ((played_from old (piece ++ more)).text)
 TakesPiece old piece (Err Write) new written = (more : List ℕ) → IsPrefix written ((played_from old (piece ++ more)).text)
 TakesPiece old piece (Err Read) new written = ⊥
 
 -- what a player that takes the first octets of a piece, up to the end of the line, leaves and writes: how many they are
 abbrev pub TakesLine : Player → List ℕ → Result ℕ PlayFault → Player → List ℕ → Type 0
-TakesLine old piece (Ok count) new written = (0 < count) × (count ≤ length piece) × TakesPiece old (take count piece) (Ok tt) new written
+TakesLine old piece (Ok count) new written =
+    (0 < count) × (count ≤ length piece) × TakesPiece old (take count piece) (Ok tt) new written
 TakesLine old piece (Err fault) new written = TakesPiece old piece (Err fault) new written
 
 -- what a player writes at the end of the trace
@@ -60,6 +63,8 @@ ReadsFarEnough read ended (Err Write) = ⊤
 ReadsFarEnough read ended (Err NoMemory) = ⊤
 
 -- what a run read and wrote, in the known octets of its reader and its writer
-abbrev pub Plays : Option (List ℕ) → Option (List ℕ) → Option (List ℕ) → Option (List ℕ) → Bool → Result (Unit {0}) PlayFault → Type 0
+abbrev pub Plays : Option (List ℕ) → Option (List ℕ) → Option (List ℕ) → Option (List ℕ) → Bool → Result (Unit {0}) PlayFault
+    → Type 0
 Plays left_old left_new held_old held_new ended result =
-    (read : List ℕ) × (written : List ℕ) × Consumes left_old left_new read × Appends held_old held_new written × WritesFor read written result × ReadsFarEnough read ended result
+    (read : List ℕ) × (written : List ℕ) × Consumes left_old left_new read × Appends held_old held_new written
+    × WritesFor read written result × ReadsFarEnough read ended result

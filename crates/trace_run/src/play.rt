@@ -71,7 +71,8 @@ fn one_turn<W: Write>(
 ) -> Result<(), PlayFault>
     requires ready { IsReady player.old }
     requires counted { player.old.line + length piece.now < 2 ^ 64 }
-    ensures takes { GrowsBy (W.contents writer.old.inner) (W.contents writer.new.inner) (TakesPiece player.old piece.now result player.new) }
+    ensures takes { GrowsBy (W.contents writer.old.inner) (W.contents writer.new.inner)
+        (TakesPiece player.old piece.now result player.new) }
     ensures write { IsErrOf result PlayFault.Write → writer.new.failed ≡ true }
 {
     let result = player.feed(alloc, piece, writer);

@@ -50,7 +50,8 @@ impl Player {
     ) -> Result<(), PlayFault>
         requires ready { IsReady self.old }
         requires counted { self.old.line + length piece.now < 2 ^ 64 }
-        ensures takes { GrowsBy (W.contents writer.old.inner) (W.contents writer.new.inner) (TakesPiece self.old piece.now result self.new) }
+        ensures takes { GrowsBy (W.contents writer.old.inner) (W.contents writer.new.inner)
+            (TakesPiece self.old piece.now result self.new) }
         ensures write { IsErrOf result PlayFault.Write → writer.new.failed ≡ true }
     {
         let mut rest = piece;
@@ -73,7 +74,8 @@ impl Player {
         requires ready { IsReady self.old }
         requires some { 0 < length piece.now }
         requires counted { self.old.line + length piece.now < 2 ^ 64 }
-        ensures takes { GrowsBy (W.contents writer.old.inner) (W.contents writer.new.inner) (TakesLine self.old piece.now result self.new) }
+        ensures takes { GrowsBy (W.contents writer.old.inner) (W.contents writer.new.inner)
+            (TakesLine self.old piece.now result self.new) }
         ensures write { IsErrOf result PlayFault.Write → writer.new.failed ≡ true }
     {
         match whole_line(self.pending.as_slice(), piece) {
@@ -92,7 +94,8 @@ impl Player {
     ) -> Result<usize, PlayFault>
         requires whole { LiesWhole self.old.pending.items piece.now end }
         requires counted { self.old.line + length piece.now < 2 ^ 64 }
-        ensures takes { GrowsBy (W.contents writer.old.inner) (W.contents writer.new.inner) (TakesLine self.old piece.now result self.new) }
+        ensures takes { GrowsBy (W.contents writer.old.inner) (W.contents writer.new.inner)
+            (TakesLine self.old piece.now result self.new) }
         ensures write { IsErrOf result PlayFault.Write → writer.new.failed ≡ true }
     {
         match play_line(
@@ -121,7 +124,8 @@ impl Player {
         requires ready { IsReady self.old }
         requires some { 0 < length piece.now }
         requires counted { self.old.line + length piece.now < 2 ^ 64 }
-        ensures takes { GrowsBy (W.contents writer.old.inner) (W.contents writer.new.inner) (TakesLine self.old piece.now result self.new) }
+        ensures takes { GrowsBy (W.contents writer.old.inner) (W.contents writer.new.inner)
+            (TakesLine self.old piece.now result self.new) }
         ensures write { IsErrOf result PlayFault.Write → writer.new.failed ≡ true }
     {
         match take_part(&mut self.pending, self.line, piece) {
@@ -158,7 +162,8 @@ impl Player {
     ) -> Result<(), PlayFault>
         requires ready { IsReady self.old }
         requires counted { self.old.line + 1 < 2 ^ 64 }
-        ensures takes { GrowsBy (W.contents writer.old.inner) (W.contents writer.new.inner) (TakesPiece self.old (10 ∷ []) result self.new) }
+        ensures takes { GrowsBy (W.contents writer.old.inner) (W.contents writer.new.inner)
+            (TakesPiece self.old (10 ∷ []) result self.new) }
         ensures cleared { OnOk result (self.new.pending.items ≡ []) }
         ensures write { IsErrOf result PlayFault.Write → writer.new.failed ≡ true }
     {
@@ -195,7 +200,8 @@ fn play_line<W: Write>(
     room: &mut Vec<u8>,
     writer: &mut Watched<W>,
 ) -> Result<(), PlayFault>
-    ensures acts { GrowsBy (W.contents writer.old.inner) (W.contents writer.new.inner) (Acts number (line_effect progress.old text.now) result progress.new) }
+    ensures acts { GrowsBy (W.contents writer.old.inner) (W.contents writer.new.inner)
+        (Acts number (line_effect progress.old text.now) result progress.new) }
     ensures write { IsErrOf result PlayFault.Write → writer.new.failed ≡ true }
 {
     match parse_line(alloc, text) {

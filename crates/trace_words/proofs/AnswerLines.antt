@@ -21,7 +21,8 @@ use Rattle.trace_words.specs.Lines.{is_unbroken, IsPartWithin, IsLineWithin, Fit
 use Rattle.trace_words.proofs.Words.{is_word, word_over, decimal_word, shown_word, word_unbroken, unbroken_append}
 
 joined : (m n : ℕ) (s t : List ℕ) → IsPartWithin m s → IsPartWithin n t → IsPartWithin (m + n) (s ++ t)
-joined m n s t a b = record { unbroken = unbroken_append s t a.unbroken b.unbroken; short = omega (arith, length-append s t, a.short, b.short) }
+joined m n s t a b =
+    record { unbroken = unbroken_append s t a.unbroken b.unbroken; short = omega (arith, length-append s t, a.short, b.short) }
 
 within : (m n : ℕ) (t : List ℕ) → m ≤ n → IsPartWithin m t → IsPartWithin n t
 within m n t h a = record { unbroken = a.unbroken; short = omega (arith, a.short) }
@@ -33,10 +34,12 @@ spaced_part : (m n : ℕ) (t f : List ℕ) → IsPartWithin m t → IsPartWithin
 spaced_part m n t f a b = joined m (n + 1) t (32 ∷ f) a (record { unbroken = b.unbroken; short = omega (arith, b.short) })
 
 byte_part : (n : ℕ) → n < 2 ^ 8 → IsPartWithin 3 (decimal n)
-byte_part n h = word_part 3 (decimal n) (decimal_word n (omega arith)) (length-decimal-le 3 n (omega arith) (omega arith) (omega arith))
+byte_part n h =
+    word_part 3 (decimal n) (decimal_word n (omega arith)) (length-decimal-le 3 n (omega arith) (omega arith) (omega arith))
 
 number_part : (n : ℕ) → n < 2 ^ 32 → IsPartWithin 10 (decimal n)
-number_part n h = word_part 10 (decimal n) (decimal_word n (omega arith)) (length-decimal-le 10 n (omega arith) (omega arith) (omega arith))
+number_part n h =
+    word_part 10 (decimal n) (decimal_word n (omega arith)) (length-decimal-le 10 n (omega arith) (omega arith) (omega arith))
 
 literal : (m : ℕ) (t : List ℕ) → is_unbroken t ≡ true → length t ≤ m → IsPartWithin m t
 literal m t h k = record { unbroken = h; short = k }
@@ -61,14 +64,17 @@ octets_short : (octets : List ℕ) → length (octets_text octets) ≤ 1 + 2 * l
 octets_short [] = omega arith
 octets_short (b ∷ bs) = omega (arith, length-encode_with lower_digits (b ∷ bs))
 
-sent_part : (owner : AnswerOwner) (e : ℕ) (octets : List ℕ) → IsPartWithin 20 (owner_text owner) → e < 2 ^ 8 → IsPartWithin (80 + 2 * length octets) (owner_text owner ++ (decimal e ++ codes " ") ++ octets_text octets)
+sent_part : (owner : AnswerOwner) (e : ℕ) (octets : List ℕ) → IsPartWithin 20 (owner_text owner) → e < 2 ^ 8
+    → IsPartWithin (80 + 2 * length octets) (owner_text owner ++ (decimal e ++ codes " ") ++ octets_text octets)
 sent_part owner e octets h k =
-    within (24 + (1 + 2 * length octets)) (80 + 2 * length octets) (owner_text owner ++ (decimal e ++ codes " ") ++ octets_text octets) (omega arith)
+    within (24 + (1 + 2 * length octets)) (80 + 2 * length octets)
+    (owner_text owner ++ (decimal e ++ codes " ") ++ octets_text octets) (omega arith)
     (joined 24 (1 + 2 * length octets) (owner_text owner ++ (decimal e ++ codes " ")) (octets_text octets)
     (joined 20 4 (owner_text owner) (decimal e ++ codes " ") h (joined 3 1 (decimal e) (codes " ") (byte_part e k) (literal 1 (codes " ") refl (omega arith))))
     (word_part (1 + 2 * length octets) (octets_text octets) (shown_word octets) (octets_short octets)))
 
-pub sent_line : (owner : AnswerOwner) (e : ℕ) (octets : List ℕ) → IsPartWithin 20 (owner_text owner) → e < 2 ^ 8 → IsLineWithin (80 + 2 * length octets) (sent_text owner e octets)
+pub sent_line : (owner : AnswerOwner) (e : ℕ) (octets : List ℕ) → IsPartWithin 20 (owner_text owner) → e < 2 ^ 8
+    → IsLineWithin (80 + 2 * length octets) (sent_text owner e octets)
 unfolding sent_text
 sent_line owner e octets h k =
     let p = sent_part owner e octets h k in
@@ -82,7 +88,9 @@ digits_mapped (d ∷ ds) = word_over (48 + d) (map (λ x. 48 + x) ds) (omega ari
 
 imsi_length : (ds : List ℕ) → is_imsi ds ≡ true → length ds ≡ 15
 unfolding is_imsi
-imsi_length ds h = eqb-true (length ds) 15 (and_parts (length ds == 15) (are_digits (take 14 ds) && (nat_lt (slice_index ds 14) 10 || slice_index ds 14 == 15)) h).0
+imsi_length ds h =
+    eqb-true (length ds) 15
+    (and_parts (length ds == 15) (are_digits (take 14 ds) && (nat_lt (slice_index ds 14) 10 || slice_index ds 14 == 15)) h).0
 
 digits_length : (ds : List ℕ) → length ds ≡ 15 → length (digits_of ds) ≤ 15
 digits_length ds h = go (slice_index ds 14 == 15)
@@ -114,7 +122,8 @@ esm_part Inactive = literal 14 (codes "INACTIVE") refl (omega arith)
 esm_part ActivePending = literal 14 (codes "ACTIVE-PENDING") refl (omega arith)
 esm_part Active = literal 14 (codes "ACTIVE") refl (omega arith)
 
-state_part : (imsi : List ℕ) (emm : EmmWord) (ecm : EcmWord) (esm : EsmWord) → length (imsi_text imsi) ≤ 15 → IsPartWithin 80 (codes "state" ␣ imsi_text imsi ␣ emm_word emm ␣ ecm_word ecm ␣ esm_word esm)
+state_part : (imsi : List ℕ) (emm : EmmWord) (ecm : EcmWord) (esm : EsmWord) → length (imsi_text imsi) ≤ 15
+    → IsPartWithin 80 (codes "state" ␣ imsi_text imsi ␣ emm_word emm ␣ ecm_word ecm ␣ esm_word esm)
 state_part imsi emm ecm esm h =
     within 73 80 (codes "state" ␣ imsi_text imsi ␣ emm_word emm ␣ ecm_word ecm ␣ esm_word esm) (omega arith)
     (spaced_part 58 14 (codes "state" ␣ imsi_text imsi ␣ emm_word emm ␣ ecm_word ecm) (esm_word esm)
@@ -125,7 +134,8 @@ state_part imsi emm ecm esm h =
     (ecm_part ecm))
     (esm_part esm))
 
-pub state_line : (imsi : List ℕ) (emm : EmmWord) (ecm : EcmWord) (esm : EsmWord) → length (imsi_text imsi) ≤ 15 → IsLineWithin 80 (state_text imsi emm ecm esm)
+pub state_line : (imsi : List ℕ) (emm : EmmWord) (ecm : EcmWord) (esm : EsmWord) → length (imsi_text imsi) ≤ 15
+    → IsLineWithin 80 (state_text imsi emm ecm esm)
 unfolding state_text
 state_line imsi emm ecm esm h =
     let p = state_part imsi emm ecm esm h in
@@ -134,11 +144,14 @@ state_line imsi emm ecm esm h =
 -- ---- refusals
 
 refused_part : (k : ℕ) → k < 2 ^ 8 → IsPartWithin 80 (codes "refused " ++ decimal k)
-refused_part k h = within 11 80 (codes "refused " ++ decimal k) (omega arith) (joined 8 3 (codes "refused ") (decimal k) (literal 8 (codes "refused ") refl (omega arith)) (byte_part k h))
+refused_part k h =
+    within 11 80 (codes "refused " ++ decimal k) (omega arith)
+    (joined 8 3 (codes "refused ") (decimal k) (literal 8 (codes "refused ") refl (omega arith)) (byte_part k h))
 
 pub refused_line : (k : ℕ) → k < 2 ^ 8 → IsLineWithin 80 (refused_text k)
 unfolding refused_text
-refused_line k h = let p = refused_part k h in record { body = codes "refused " ++ decimal k; ends = refl; unbroken = p.unbroken; short = p.short }
+refused_line k h =
+    let p = refused_part k h in record { body = codes "refused " ++ decimal k; ends = refl; unbroken = p.unbroken; short = p.short }
 
 pub answers_are_lines : AnswersAreLines
 answers_are_lines (Sent owner e octets) h = sent_line owner e octets.now (owner_part owner h.0) h.1

@@ -20,14 +20,17 @@ three_digits e h = length-decimal-le 3 e (omega arith) (omega arith) (omega arit
 pub up_written : (e : ℕ) → e < 128 → IsRewritten (Up e)
 up_written e h =
     let digits = three_digits e h in
-    rewritten (Up e) (3 + spaced (decimal e ∷ [])) (omega (arith, digits)) (up_reread (decimal e ∷ []) (Up e) (ap (λ (r : Result ℕ TraceFault). r >>= (λ n. Ok (Up n))) (station_written e h)))
+    rewritten (Up e) (3 + spaced (decimal e ∷ [])) (omega (arith, digits))
+    (up_reread (decimal e ∷ []) (Up e) (ap (λ (r : Result ℕ TraceFault). r >>= (λ n. Ok (Up n))) (station_written e h)))
 
 pub lost_written : (e : ℕ) → e < 128 → IsRewritten (Lost e)
 lost_written e h =
     let digits = three_digits e h in
-    rewritten (Lost e) (5 + spaced (decimal e ∷ [])) (omega (arith, digits)) (lost_reread (decimal e ∷ []) (Lost e) (ap (λ (r : Result ℕ TraceFault). r >>= (λ n. Ok (Lost n))) (station_written e h)))
+    rewritten (Lost e) (5 + spaced (decimal e ∷ [])) (omega (arith, digits))
+    (lost_reread (decimal e ∷ []) (Lost e) (ap (λ (r : Result ℕ TraceFault). r >>= (λ n. Ok (Lost n))) (station_written e h)))
 
-pub in_written : (e : ℕ) (octets : List ℕ) → e < 128 → IsBytes octets → length (line_text (In e octets)) ≤ 40000 → IsRewritten (In e octets)
+pub in_written : (e : ℕ) (octets : List ℕ) → e < 128 → IsBytes octets → length (line_text (In e octets)) ≤ 40000
+    → IsRewritten (In e octets)
 unfolding line_text
 in_written e octets h bytes short =
     let station = station_written e h in
@@ -35,8 +38,11 @@ in_written e octets h bytes short =
     let read : read_in (decimal e ∷ octets_text octets ∷ []) ≡ Ok (In e octets) = rw (station, shown) refl in
     let behind = length-append (codes "in" ␣ decimal e) (32 ∷ octets_text octets) in
     let before = length-append (codes "in") (32 ∷ decimal e) in
-    rewritten (In e octets) (3 + spaced (decimal e ∷ octets_text octets ∷ [])) (omega (arith, behind, before, short)) (in_reread (decimal e ∷ octets_text octets ∷ []) (In e octets) read)
+    rewritten (In e octets) (3 + spaced (decimal e ∷ octets_text octets ∷ [])) (omega (arith, behind, before, short))
+    (in_reread (decimal e ∷ octets_text octets ∷ []) (In e octets) read)
 
 pub in_unbroken : (e : ℕ) (octets : List ℕ) → e < 128 → is_unbroken (line_text (In e octets)) ≡ true
 unfolding line_text
-in_unbroken e octets h = unbroken_field (codes "in" ␣ decimal e) (octets_text octets) (unbroken_field (codes "in") (decimal e) refl (decimal_word e (omega arith))) (shown_word octets)
+in_unbroken e octets h =
+    unbroken_field (codes "in" ␣ decimal e) (octets_text octets)
+    (unbroken_field (codes "in") (decimal e) refl (decimal_word e (omega arith))) (shown_word octets)

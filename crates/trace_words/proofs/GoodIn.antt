@@ -32,7 +32,8 @@ octets_word text xs e = go (length text == 0) e
     dash true s h = ap is_word (s refl)
     dash false s h = digits_word text (decode_of-ok text xs (hex_read (decode_of text) xs h)).1
 
-    go : (b : Bool) → cond b (Err BadHex) (cond (bytes_eq text (codes "-")) (Ok []) (hex_of (decode_of text))) ≡ Ok xs → is_word text ≡ true
+    go : (b : Bool) → cond b (Err BadHex) (cond (bytes_eq text (codes "-")) (Ok []) (hex_of (decode_of text))) ≡ Ok xs
+        → is_word text ≡ true
     go true h = absurd (cc h)
     go false h = dash (bytes_eq text (codes "-")) (bytes_eq-Decides text (codes "-")).0 h
 

@@ -36,7 +36,8 @@ record Two (t : List ℕ) (n : ℕ × ℕ × ℕ) : Type 0 where
   second : n.1 ≤ 9
   third : n.2 ≤ 9
 
-three_read : (a b c : ℕ) (n : ℕ × ℕ × ℕ) → (digit_of a >>= (λ x. digit_of b >>= (λ y. digit_of c >>= (λ z. Ok (x, y, z))))) ≡ Ok n → Three (a ∷ b ∷ c ∷ []) n
+three_read : (a b c : ℕ) (n : ℕ × ℕ × ℕ) → (digit_of a >>= (λ x. digit_of b >>= (λ y. digit_of c >>= (λ z. Ok (x, y, z))))) ≡ Ok n
+    → Three (a ∷ b ∷ c ∷ []) n
 three_read a b c n e =
     ok_with (Three (a ∷ b ∷ c ∷ []) n) (digit_of a) (λ x. digit_of b >>= (λ y. digit_of c >>= (λ z. Ok (x, y, z)))) n e
     (λ x r0 e0. ok_with (Three (a ∷ b ∷ c ∷ []) n) (digit_of b) (λ y. digit_of c >>= (λ z. Ok (x, y, z))) n e0
@@ -78,21 +79,24 @@ low a b h = omega (arith, h)
 high : (a b : ℕ) → b ≤ 15 → packed b a / 16 ≡ a
 high a b h = omega (arith, h)
 
-country_written : (x y z u : ℕ) (rest : List ℕ) → x ≤ 9 → y ≤ 9 → z ≤ 9 → country_text (packed x y ∷ packed z u ∷ rest) ≡ (48 + x) ∷ (48 + y) ∷ (48 + z) ∷ []
+country_written : (x y z u : ℕ) (rest : List ℕ) → x ≤ 9 → y ≤ 9 → z ≤ 9
+    → country_text (packed x y ∷ packed z u ∷ rest) ≡ (48 + x) ∷ (48 + y) ∷ (48 + z) ∷ []
 country_written x y z u rest hx hy hz =
     let a : decimal (packed x y % 16) ≡ (48 + x) ∷ [] = ap decimal (low y x (omega arith)) ∙ decimal_digit x (omega arith) in
     let b : decimal (packed x y / 16) ≡ (48 + y) ∷ [] = ap decimal (high y x (omega arith)) ∙ decimal_digit y (omega arith) in
     let c : decimal (packed z u % 16) ≡ (48 + z) ∷ [] = ap decimal (low u z (omega arith)) ∙ decimal_digit z (omega arith) in
     rw (a, b, c) refl
 
-two_written : (p z u v w : ℕ) → z ≤ 9 → u ≡ 15 → v ≤ 9 → w ≤ 9 → network_text (p ∷ packed z u ∷ packed v w ∷ []) ≡ (48 + v) ∷ (48 + w) ∷ []
+two_written : (p z u v w : ℕ) → z ≤ 9 → u ≡ 15 → v ≤ 9 → w ≤ 9
+    → network_text (p ∷ packed z u ∷ packed v w ∷ []) ≡ (48 + v) ∷ (48 + w) ∷ []
 two_written p z u v w hz hu hv hw =
     let s : (packed z u / 16 == 15) ≡ true = eq-eqb (packed z u / 16) 15 (high u z (omega arith) ∙ hu) in
     let a : decimal (packed v w % 16) ≡ (48 + v) ∷ [] = ap decimal (low w v (omega arith)) ∙ decimal_digit v (omega arith) in
     let b : decimal (packed v w / 16) ≡ (48 + w) ∷ [] = ap decimal (high w v (omega arith)) ∙ decimal_digit w (omega arith) in
     rw (s, a, b) refl
 
-three_written : (p z u v w : ℕ) → z ≤ 9 → u ≤ 9 → v ≤ 9 → w ≤ 9 → network_text (p ∷ packed z u ∷ packed v w ∷ []) ≡ (48 + u) ∷ (48 + v) ∷ (48 + w) ∷ []
+three_written : (p z u v w : ℕ) → z ≤ 9 → u ≤ 9 → v ≤ 9 → w ≤ 9
+    → network_text (p ∷ packed z u ∷ packed v w ∷ []) ≡ (48 + u) ∷ (48 + v) ∷ (48 + w) ∷ []
 three_written p z u v w hz hu hv hw =
     let top : packed z u / 16 ≡ u = high u z (omega arith) in
     let s : (packed z u / 16 == 15) ≡ false = ne_eqb (packed z u / 16) 15 (λ q. absurd (omega (arith, top, q))) in

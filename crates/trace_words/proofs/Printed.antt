@@ -12,12 +12,14 @@ is_digit : (d : ℕ) → d < 10 → is_ascii_digit (48 + d) ≡ true
 is_digit d h = grind (arith, nat_tests)
 
 one_digit : (v d : ℕ) → d < 10 → decimal_from v ((48 + d) ∷ []) ≡ Some (v * 10 + d)
-one_digit v d h = decimal_from-digit v (48 + d) [] (is_digit d h) ∙ ap Some (let e : v * 10 + (48 + d - 48) ≡ v * 10 + d = omega arith in e)
+one_digit v d h =
+    decimal_from-digit v (48 + d) [] (is_digit d h) ∙ ap Some (let e : v * 10 + (48 + d - 48) ≡ v * 10 + d = omega arith in e)
 
 none_is_some : {A : Type 0} (w : ℕ) → None ≡ Some w → A
 none_is_some w e = absurd (cc e)
 
-pub decimal_from-then : (v w c : ℕ) (ds : List ℕ) → decimal_from v ds ≡ Some w → decimal_from v (ds ++ c ∷ []) ≡ decimal_from w (c ∷ [])
+pub decimal_from-then : (v w c : ℕ) (ds : List ℕ) → decimal_from v ds ≡ Some w
+    → decimal_from v (ds ++ c ∷ []) ≡ decimal_from w (c ∷ [])
 decimal_from-then v w c [] e = let same : v ≡ w = cc in ap (λ n. decimal_from n (c ∷ [])) same
 decimal_from-then v w c (d ∷ ds) e =
     let go : (b : Bool) → cond b (decimal_from (v * 10 + (d - 48)) ds) None ≡ Some w → cond b (decimal_from (v * 10 + (d - 48)) (ds ++ c ∷ [])) None ≡ decimal_from w (c ∷ [])
@@ -42,11 +44,13 @@ pub decimal_from-below : (v w : ℕ) (ds : List ℕ) → decimal_from v ds ≡ S
 decimal_from-below v w [] e = let same : v ≡ w = cc in omega arith
 decimal_from-below v w (d ∷ ds) e =
     let go : (b : Bool) → (b ≡ true → d - 48 ≤ 9) → cond b (decimal_from (v * 10 + (d - 48)) ds) None ≡ Some w → w < (v + 1) * 10 ^ suc (length ds)
-    = λ b. elim b as (λ b. (b ≡ true → d - 48 ≤ 9) → cond b (decimal_from (v * 10 + (d - 48)) ds) None ≡ Some w → w < (v + 1) * 10 ^ suc (length ds))
+    = λ b. elim b as
+    (λ b. (b ≡ true → d - 48 ≤ 9) → cond b (decimal_from (v * 10 + (d - 48)) ds) None ≡ Some w → w < (v + 1) * 10 ^ suc (length ds))
     [ true ↦ λ s h. rw pow-succ' (grows v (d - 48) (10 ^ length ds) w (s refl) (decimal_from-below (v * 10 + (d - 48)) w ds h)) | false ↦ λ s h. none_is_some w h ] in
     go (is_ascii_digit d) (digit_small d) e
 
 -- a number takes no more digits when it is printed than when it was read
 pub length-decimal-read : (v : ℕ) (ds : List ℕ) → decimal_of ds ≡ Some v → v < 2 ^ 64 → length (decimal v) ≤ length ds
 length-decimal-read v [] e h = none_is_some v e
-length-decimal-read v (d ∷ ds) e h = length-decimal-le (length (d ∷ ds)) v (omega arith) (let below = decimal_from-below 0 v (d ∷ ds) e in omega (arith, below)) h
+length-decimal-read v (d ∷ ds) e h =
+    length-decimal-le (length (d ∷ ds)) v (omega arith) (let below = decimal_from-below 0 v (d ∷ ds) e in omega (arith, below)) h

@@ -23,10 +23,12 @@ pub record Reread (line : Line) (most : ℕ) : Type 0 where
   pub again : read_words words ≡ Ok line
   pub said : is_skipped (line_text line) ≡ false
 
-same_reread : (same line : Line) (most : ℕ) → (let r : Result Line TraceFault = Ok same in r) ≡ Ok line → Reread same most → Reread line most
+same_reread : (same line : Line) (most : ℕ) → (let r : Result Line TraceFault = Ok same in r) ≡ Ok line → Reread same most
+    → Reread line most
 same_reread same line most e h = let s : same ≡ line = cc e in subst (λ (l : Line). Reread l most) s h
 
-no_longer : (text : List ℕ) (words : List (List ℕ)) (some most : ℕ) → some ≤ most → Spelled text words some → Spelled text words most
+no_longer : (text : List ℕ) (words : List (List ℕ)) (some most : ℕ) → some ≤ most → Spelled text words some
+    → Spelled text words most
 no_longer text words some most h s = record { split = s.split; short = omega (arith, s.short); unbroken = s.unbroken }
 
 -- ---- each word
@@ -198,12 +200,19 @@ show_reread law (a ∷ []) line e =
     }))
 show_reread law (a ∷ b ∷ rest) line e = absurd (cc e)
 
-mme_spelled : (p x y z : List ℕ) (u v : ℕ) (a b c d f g h : List ℕ) → country_text p ≡ a → network_text p ≡ b → is_word a ≡ true → is_word b ≡ true
-    → is_word (encode_lower x) ≡ true → length (encode_lower x) ≤ length c → is_word (encode_lower y) ≡ true → length (encode_lower y) ≤ length d → is_word z ≡ true → length z ≤ length f
+mme_spelled : (p x y z : List ℕ) (u v : ℕ) (a b c d f g h : List ℕ) → country_text p ≡ a → network_text p ≡ b → is_word a ≡ true
+    → is_word b ≡ true
+    → is_word (encode_lower x) ≡ true → length (encode_lower x) ≤ length c → is_word (encode_lower y) ≡ true
+    → length (encode_lower y) ≤ length d → is_word z ≡ true → length z ≤ length f
     → is_word (decimal u) ≡ true → length (decimal u) ≤ length g → is_word (decimal v) ≡ true → length (decimal v) ≤ length h
-    → Spelled (codes "mme" ␣ country_text p ␣ network_text p ␣ encode_lower x ␣ encode_lower y ␣ z ␣ decimal u ␣ decimal v) (codes "mme" ∷ country_text p ∷ network_text p ∷ encode_lower x ∷ encode_lower y ∷ z ∷ decimal u ∷ decimal v ∷ []) (4 + spaced (a ∷ b ∷ c ∷ d ∷ f ∷ g ∷ h ∷ []))
+    → Spelled (codes "mme" ␣ country_text p ␣ network_text p ␣ encode_lower x ␣ encode_lower y ␣ z ␣ decimal u ␣ decimal v)
+    (codes "mme" ∷ country_text p ∷ network_text p ∷ encode_lower x ∷ encode_lower y ∷ z ∷ decimal u ∷ decimal v ∷ [])
+    (4 + spaced (a ∷ b ∷ c ∷ d ∷ f ∷ g ∷ h ∷ []))
 mme_spelled p x y z u v a b c d f g h ce ne cw nw w1 s1 w2 s2 w3 s3 w4 s4 w5 s5 =
-    no_longer (codes "mme" ␣ country_text p ␣ network_text p ␣ encode_lower x ␣ encode_lower y ␣ z ␣ decimal u ␣ decimal v) (codes "mme" ∷ country_text p ∷ network_text p ∷ encode_lower x ∷ encode_lower y ∷ z ∷ decimal u ∷ decimal v ∷ []) (4 + (length a + 1) + (length b + 1) + (length c + 1) + (length d + 1) + (length f + 1) + (length g + 1) + (length h + 1)) (4 + spaced (a ∷ b ∷ c ∷ d ∷ f ∷ g ∷ h ∷ [])) (omega arith)
+    no_longer (codes "mme" ␣ country_text p ␣ network_text p ␣ encode_lower x ␣ encode_lower y ␣ z ␣ decimal u ␣ decimal v)
+    (codes "mme" ∷ country_text p ∷ network_text p ∷ encode_lower x ∷ encode_lower y ∷ z ∷ decimal u ∷ decimal v ∷ [])
+    (4 + (length a + 1) + (length b + 1) + (length c + 1) + (length d + 1) + (length f + 1) + (length g + 1) + (length h + 1))
+    (4 + spaced (a ∷ b ∷ c ∷ d ∷ f ∷ g ∷ h ∷ [])) (omega arith)
     (Spelled-field (codes "mme" ␣ country_text p ␣ network_text p ␣ encode_lower x ␣ encode_lower y ␣ z ␣ decimal u) (codes "mme" ∷ country_text p ∷ network_text p ∷ encode_lower x ∷ encode_lower y ∷ z ∷ decimal u ∷ []) (4 + (length a + 1) + (length b + 1) + (length c + 1) + (length d + 1) + (length f + 1) + (length g + 1)) (decimal v) h (Spelled-field (codes "mme" ␣ country_text p ␣ network_text p ␣ encode_lower x ␣ encode_lower y ␣ z) (codes "mme" ∷ country_text p ∷ network_text p ∷ encode_lower x ∷ encode_lower y ∷ z ∷ []) (4 + (length a + 1) + (length b + 1) + (length c + 1) + (length d + 1) + (length f + 1)) (decimal u) g (Spelled-field (codes "mme" ␣ country_text p ␣ network_text p ␣ encode_lower x ␣ encode_lower y) (codes "mme" ∷ country_text p ∷ network_text p ∷ encode_lower x ∷ encode_lower y ∷ []) (4 + (length a + 1) + (length b + 1) + (length c + 1) + (length d + 1)) (z) f (Spelled-field (codes "mme" ␣ country_text p ␣ network_text p ␣ encode_lower x) (codes "mme" ∷ country_text p ∷ network_text p ∷ encode_lower x ∷ []) (4 + (length a + 1) + (length b + 1) + (length c + 1)) (encode_lower y) d (Spelled-field (codes "mme" ␣ country_text p ␣ network_text p) (codes "mme" ∷ country_text p ∷ network_text p ∷ []) (4 + (length a + 1) + (length b + 1)) (encode_lower x) c (Spelled-field (codes "mme" ␣ country_text p) (codes "mme" ∷ country_text p ∷ []) (4 + (length a + 1)) (network_text p) b (Spelled-field (codes "mme") (codes "mme" ∷ []) (4) (country_text p) a (Spelled-word (codes "mme") refl)
     (ap is_word ce ∙ cw) (let l = ap length ce in omega (arith, l)))
     (ap is_word ne ∙ nw) (let l = ap length ne in omega (arith, l)))
@@ -249,7 +258,8 @@ mme_reread (a ∷ b ∷ c ∷ d ∷ f ∷ g ∷ h ∷ i ∷ rest) line e = absur
 -- ---- any line
 
 -- one test of a chain
-tested : (P : Type 0) (b : Bool) (first second : Result Line TraceFault) (line : Line) → cond b first second ≡ Ok line → (b ≡ true → first ≡ Ok line → P) → (b ≡ false → second ≡ Ok line → P) → P
+tested : (P : Type 0) (b : Bool) (first second : Result Line TraceFault) (line : Line) → cond b first second ≡ Ok line
+    → (b ≡ true → first ≡ Ok line → P) → (b ≡ false → second ≡ Ok line → P) → P
 tested P true first second line e f g = f refl e
 tested P false first second line e f g = g refl e
 
@@ -279,8 +289,10 @@ abbrev from_sub : List ℕ → List (List ℕ) → Result Line TraceFault
 from_sub w f = cond (bytes_eq w (codes "sub")) (read_sub f) (from_vec w f)
 
 -- the word of a line counts with the space behind it
-worded : (line : Line) (w v : List ℕ) (n : ℕ) → bytes_eq w v ≡ true → Reread line (length v + 1 + n) → Reread line (length w + 1 + n)
-worded line w v n b r = let same : v ≡ w = sym ((bytes_eq-Decides w v).0 b) in subst (λ (x : List ℕ). Reread line (length x + 1 + n)) same r
+worded : (line : Line) (w v : List ℕ) (n : ℕ) → bytes_eq w v ≡ true → Reread line (length v + 1 + n)
+    → Reread line (length w + 1 + n)
+worded line w v n b r =
+    let same : v ≡ w = sym ((bytes_eq-Decides w v).0 b) in subst (λ (x : List ℕ). Reread line (length x + 1 + n)) same r
 
 event_reread : TextIsImsi → (w : List ℕ) (f : List (List ℕ)) (line : Line) → read_event w f ≡ Ok line → Reread line (spaced (w ∷ f))
 event_reread law w f line e =
@@ -321,7 +333,8 @@ rewritten line most h r =
 
 nothing_rewritten : (line : Line) → (let r : Result Line TraceFault = Ok Skip in r) ≡ Ok line → IsRewritten line
 unfolding line_of line_text
-nothing_rewritten line e = let same : Skip ≡ line = cc e in subst (λ (l : Line). IsRewritten l) same (record { again = refl; unbroken = refl })
+nothing_rewritten line e =
+    let same : Skip ≡ line = cc e in subst (λ (l : Line). IsRewritten l) same (record { again = refl; unbroken = refl })
 
 -- what is written of a line that is read from some text is read as that line
 pub written_is_read : TextIsImsi → WrittenIsRead
@@ -329,7 +342,8 @@ unfolding line_of
 written_is_read law text line e =
     let P : Type 0 = IsRewritten line in
     let long : nat_lt 40000 (length text) ≡ false → length text ≤ 40000 = λ h. grind (arith, nat_tests, h) in
-    tested P (nat_lt 40000 (length text)) (Err TooLong) (cond (is_skipped text) (Ok Skip) (read_words (slice_split (λ c. c == 32) text))) line e
+    tested P (nat_lt 40000 (length text)) (Err TooLong)
+    (cond (is_skipped text) (Ok Skip) (read_words (slice_split (λ c. c == 32) text))) line e
     (λ _ e1. absurd (cc e1))
     (λ short e1. tested P (is_skipped text) (Ok Skip) (read_words (slice_split (λ c. c == 32) text)) line e1
     (λ b h. nothing_rewritten line h)

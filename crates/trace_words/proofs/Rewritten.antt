@@ -29,7 +29,8 @@ pub record Again {A : Type 0} (read : List ℕ → Result A TraceFault) (x : A) 
 abbrev pub TextIsImsi : Type 0
 TextIsImsi = (bs ds : List ℕ) → imsi_of_text bs ≡ Some ds → imsi_text ds ≡ bs
 
-pub ok_with : {A B : Type 0} (P : Type 0) (r : Result A TraceFault) (f : A → Result B TraceFault) (y : B) → (r >>= f) ≡ Ok y → ((x : A) → r ≡ Ok x → f x ≡ Ok y → P) → P
+pub ok_with : {A B : Type 0} (P : Type 0) (r : Result A TraceFault) (f : A → Result B TraceFault) (y : B) → (r >>= f) ≡ Ok y
+    → ((x : A) → r ≡ Ok x → f x ≡ Ok y → P) → P
 ok_with P (Ok x) f y e k = k x refl e
 ok_with P (Err t) f y e k = absurd (cc e)
 
@@ -47,25 +48,30 @@ number_of-some least most n h k = rw (le-leb n most k, le-leb least n h) refl
 
 -- a number that is written is read
 pub number_written : (least most n : ℕ) → most < 2 ^ 60 → least ≤ n → n ≤ most → number_field least most (decimal n) ≡ Ok n
-number_written least most n h low high = ap (λ o. at_least least (capped most o)) (decimal_of-decimal n (omega arith)) ∙ number_of-some least most n low high
+number_written least most n h low high =
+    ap (λ o. at_least least (capped most o)) (decimal_of-decimal n (omega arith)) ∙ number_of-some least most n low high
 
 record InRange (least most n : ℕ) (o : Option ℕ) : Type 0 where
   low : least ≤ n
   high : n ≤ most
   read : o ≡ Some n
 
-some_in_range : (least most n v : ℕ) (high low : Bool) → (high ≡ true → v ≤ most) → (low ≡ true → least ≤ v) → (nat_le least v ≡ low) → at_least least (cond high (Some v) None) ≡ Ok n → InRange least most n (Some v)
+some_in_range : (least most n v : ℕ) (high low : Bool) → (high ≡ true → v ≤ most) → (low ≡ true → least ≤ v)
+    → (nat_le least v ≡ low) → at_least least (cond high (Some v) None) ≡ Ok n → InRange least most n (Some v)
 some_in_range least most n v false low h l q e = absurd (cc e)
 some_in_range least most n v true false h l q e = absurd (let never : cond (nat_le least v) (Ok v) (Err BadNumber) ≡ Ok n = e in let other : (let r : Result ℕ TraceFault = Err BadNumber in r) ≡ Ok n = ap (λ b. cond b (Ok v) (Err BadNumber)) (sym q) ∙ never in cc other)
 some_in_range least most n v true true h l q e =
-    let same : v ≡ n = (let k : (let r : Result ℕ TraceFault = Ok v in r) ≡ Ok n = ap (λ b. cond b (Ok v) (Err BadNumber)) (sym q) ∙ e in cc k) in
+    let same : v ≡ n =
+    (let k : (let r : Result ℕ TraceFault = Ok v in r) ≡ Ok n = ap (λ b. cond b (Ok v) (Err BadNumber)) (sym q) ∙ e in cc k) in
     subst (λ (m : ℕ). InRange least most m (Some v)) same (record { low = l refl; high = h refl; read = refl })
 
 in_range : (least most n : ℕ) (o : Option ℕ) → at_least least (capped most o) ≡ Ok n → InRange least most n o
 in_range least most n None e = absurd (cc e)
-in_range least most n (Some v) e = some_in_range least most n v (nat_le v most) (nat_le least v) (leb-true v most) (leb-true least v) refl e
+in_range least most n (Some v) e =
+    some_in_range least most n v (nat_le v most) (nat_le least v) (leb-true v most) (leb-true least v) refl e
 
-pub number_again : (least most n : ℕ) (text : List ℕ) → most < 2 ^ 60 → number_field least most text ≡ Ok n → Again (number_field least most) n text (decimal n)
+pub number_again : (least most n : ℕ) (text : List ℕ) → most < 2 ^ 60 → number_field least most text ≡ Ok n
+    → Again (number_field least most) n text (decimal n)
 number_again least most n text h e =
     let r = in_range least most n (decimal_of text) e in
     let small : n < 2 ^ 64 = omega (arith, r.high, h) in
@@ -81,7 +87,8 @@ pub hex_read : (r : Result (List ℕ) FromHexError) (xs : List ℕ) → hex_of r
 hex_read (Ok ys) xs e = let same : ys ≡ xs = cc e in ap Ok same
 hex_read (Err f) xs e = absurd (cc e)
 
-hex_again : (text xs : List ℕ) → hex_of (decode_of text) ≡ Ok xs → (hex_of (decode_of (encode_lower xs)) ≡ Ok xs) × (length (encode_lower xs) ≡ length text)
+hex_again : (text xs : List ℕ) → hex_of (decode_of text) ≡ Ok xs
+    → (hex_of (decode_of (encode_lower xs)) ≡ Ok xs) × (length (encode_lower xs) ≡ length text)
 hex_again text xs e =
     let ok = decode_of-ok text xs (hex_read (decode_of text) xs e) in
     (ap hex_of (decode_of-encode_lower xs ok.3), length-encode_with lower_digits xs ∙ sym ok.2)
@@ -89,7 +96,8 @@ hex_again text xs e =
 pub sized_again : (n : ℕ) (text xs : List ℕ) → sized_of n text ≡ Ok xs → Again (sized_of n) xs text (encode_lower xs)
 sized_again n text xs e = go (length text == 2 * n) (eqb-true (length text) (2 * n)) e
   where
-    go : (b : Bool) → (b ≡ true → length text ≡ 2 * n) → cond b (hex_of (decode_of text)) (Err BadHex) ≡ Ok xs → Again (sized_of n) xs text (encode_lower xs)
+    go : (b : Bool) → (b ≡ true → length text ≡ 2 * n) → cond b (hex_of (decode_of text)) (Err BadHex) ≡ Ok xs
+        → Again (sized_of n) xs text (encode_lower xs)
     go false s h = absurd (cc h)
     go true s h =
         let again = hex_again text xs h in
@@ -124,7 +132,8 @@ unfolding encode_with
 octets_of-shown [] h = refl
 octets_of-shown (b ∷ bs) h =
     let some : (length (encode_lower (b ∷ bs)) == 0) ≡ false = let e = length-encode_with lower_digits (b ∷ bs) in grind (arith, nat_tests, e) in
-    let plain : bytes_eq (encode_lower (b ∷ bs)) (codes "-") ≡ false = not_dash (slice_index lower_digits (b / 16)) (slice_index lower_digits (b % 16)) (encode_lower bs) in
+    let plain : bytes_eq (encode_lower (b ∷ bs)) (codes "-") ≡ false =
+    not_dash (slice_index lower_digits (b / 16)) (slice_index lower_digits (b % 16)) (encode_lower bs) in
     rw (some, plain, decode_of-encode_lower (b ∷ bs) h) refl
 
 shown_length : (xs : List ℕ) (n : ℕ) → 0 < n → n ≡ 2 * length xs → length (octets_text xs) ≤ n
@@ -146,7 +155,8 @@ octets_read text xs e =
           let same : [] ≡ xs = cc h in
           let Q : List ℕ → Type 0 = λ v. IsBytes v × (length (octets_text v) ≤ length text) in
           subst Q same (empty_bytes, omega arith)
-      | false ↦ λ s some h. let ok = decode_of-ok text xs (hex_read (decode_of text) xs h) in (ok.3, shown_length xs (length text) some ok.2)
+      | false ↦ λ s some h. let ok =
+          decode_of-ok text xs (hex_read (decode_of text) xs h) in (ok.3, shown_length xs (length text) some ok.2)
     ] in
     let go : (b : Bool) → (b ≡ false → 0 < length text) → cond b (Err BadHex) (cond (bytes_eq text (codes "-")) (Ok []) (hex_of (decode_of text))) ≡ Ok xs → P
     = λ b. elim b as (λ b. (b ≡ false → 0 < length text) → cond b (Err BadHex) (cond (bytes_eq text (codes "-")) (Ok []) (hex_of (decode_of text))) ≡ Ok xs → P)
@@ -154,7 +164,8 @@ octets_read text xs e =
     go (length text == 0) (not_empty (length text)) e
 
 pub octets_again : (text xs : List ℕ) → octets_field text ≡ Ok xs → Again octets_field xs text (octets_text xs)
-octets_again text xs e = let r = octets_read text xs e in record { again = octets_of-shown xs r.0; word = shown_word xs; short = r.1 }
+octets_again text xs e =
+    let r = octets_read text xs e in record { again = octets_of-shown xs r.0; word = shown_word xs; short = r.1 }
 
 -- ---- names
 
@@ -176,11 +187,13 @@ subscriber_digits : (text xs : List ℕ) → imsi_of_text text ≡ Some xs → l
 unfolding imsi_of_text
 subscriber_digits text xs e = go (is_digit_text text) (λ t. (and_parts _ (list_all is_digit text) t).1) e
   where
-    go : (b : Bool) → (b ≡ true → list_all is_digit text ≡ true) → cond b (Some (filled (map (λ d. d - 48) text))) None ≡ Some xs → list_all is_digit text ≡ true
+    go : (b : Bool) → (b ≡ true → list_all is_digit text ≡ true) → cond b (Some (filled (map (λ d. d - 48) text))) None ≡ Some xs
+        → list_all is_digit text ≡ true
     go true s h = s refl
     go false s h = absurd (cc h)
 
-pub subscriber_again : TextIsImsi → (text xs : List ℕ) → subscriber_field text ≡ Ok xs → Again subscriber_field xs text (imsi_text xs)
+pub subscriber_again : TextIsImsi → (text xs : List ℕ) → subscriber_field text ≡ Ok xs
+    → Again subscriber_field xs text (imsi_text xs)
 subscriber_again law text xs e =
     let o = some_subscriber (imsi_of_text text) xs e in
     let same : text ≡ imsi_text xs = sym (law text xs o) in

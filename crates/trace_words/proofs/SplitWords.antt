@@ -21,19 +21,24 @@ spaceless rest at first =
     rw (get_or-take at rest k 0 low) (false_from_ne_true _ (first.0.before k (omega arith) low)))
 
 -- the first word of a text stands before its first space, and the others are the words of what stands behind it
-pub first_word : (rest : List ℕ) (at : ℕ) → IsFirstByte (is_byte 32) rest (Some at) → slice_split (λ c. c == 32) rest ≡ take at rest ∷ slice_split (λ c. c == 32) (drop (at + 1) rest)
+pub first_word : (rest : List ℕ) (at : ℕ) → IsFirstByte (is_byte 32) rest (Some at)
+    → slice_split (λ c. c == 32) rest ≡ take at rest ∷ slice_split (λ c. c == 32) (drop (at + 1) rest)
 first_word rest at first =
-    ap (slice_split (λ c. c == 32)) (sym (take-append-drop at rest) ∙ ap (λ v. take at rest ++ v) (drop_more rest at 0 first.0.high))
+    ap (slice_split (λ c. c == 32))
+    (sym (take-append-drop at rest) ∙ ap (λ v. take at rest ++ v) (drop_more rest at 0 first.0.high))
     ∙ slice_split_at (λ c. c == 32) (take at rest) (get_or rest at 0) (drop (at + 1) rest) (spaceless rest at first) first.1
 
 -- `parts` are the words that were split off and those of the rest: so they are when the rest's first word is split off too
-pub one_more : (rest : List ℕ) (at : ℕ) (words more : List (Bor (List ℕ))) (word : Bor (List ℕ)) (parts : List (List ℕ)) → IsFirstByte (is_byte 32) rest (Some at)
+pub one_more : (rest : List ℕ) (at : ℕ) (words more : List (Bor (List ℕ))) (word : Bor (List ℕ)) (parts : List (List ℕ))
+    → IsFirstByte (is_byte 32) rest (Some at)
     → more ≡ words ++ word ∷ [] → word.now ≡ take at rest → map (λ w. w.now) words ++ slice_split (λ c. c == 32) rest ≡ parts
     → map (λ w. w.now) more ++ slice_split (λ c. c == 32) (take (length rest - (at + 1)) (drop (at + 1) rest)) ≡ parts
-one_more rest at words more word parts first grown is all = rw (grown, take_rest, map-append, append_assoc, is, ← first_word rest at first) all
+one_more rest at words more word parts first grown is all =
+    rw (grown, take_rest, map-append, append_assoc, is, ← first_word rest at first) all
 
 -- and when the rest's last word is, they are those that were split off
-pub with_last : (rest : List ℕ) (words more : List (Bor (List ℕ))) (word : Bor (List ℕ)) (parts : List (List ℕ)) → IsFirstByte (is_byte 32) rest None
+pub with_last : (rest : List ℕ) (words more : List (Bor (List ℕ))) (word : Bor (List ℕ)) (parts : List (List ℕ))
+    → IsFirstByte (is_byte 32) rest None
     → more ≡ words ++ word ∷ [] → word.now ≡ rest → map (λ w. w.now) words ++ slice_split (λ c. c == 32) rest ≡ parts
     → map (λ w. w.now) more ≡ parts
 with_last rest words more word parts none grown is all = rw (grown, map-append, is, ← last_word rest none) all

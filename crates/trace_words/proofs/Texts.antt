@@ -17,10 +17,12 @@ digit_ascii b e = let s = leb-true b 57 (and_parts (nat_le 48 b) (nat_le b 57) e
 
 digits_ascii : (bs : List ℕ) → list_all is_digit bs ≡ true → IsAscii bs
 digits_ascii [] e = IsAscii-nil
-digits_ascii (b ∷ bs) e = let t = and_parts (is_digit b) (list_all is_digit bs) e in IsAscii-cons b bs (digit_ascii b t.0) (digits_ascii bs t.1)
+digits_ascii (b ∷ bs) e =
+    let t = and_parts (is_digit b) (list_all is_digit bs) e in IsAscii-cons b bs (digit_ascii b t.0) (digits_ascii bs t.1)
 
 digits_utf8 : (bs : List ℕ) → is_digit_text bs ≡ true → IsUtf8 bs
-digits_utf8 bs e = IsUtf8-from_ascii bs (digits_ascii bs (and_parts ((length bs == 14) || (length bs == 15)) (list_all is_digit bs) e).1)
+digits_utf8 bs e =
+    IsUtf8-from_ascii bs (digits_ascii bs (and_parts ((length bs == 14) || (length bs == 15)) (list_all is_digit bs) e).1)
 
 -- a text that is no UTF-8 names no subscriber
 pub not_subscriber : (bs : List ℕ) → (IsUtf8 bs → ⊥) → subscriber_field bs ≡ Err BadNumber

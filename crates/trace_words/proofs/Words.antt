@@ -54,14 +54,16 @@ digit_over b h = grind (arith, nat_tests)
 
 pub digits_word : (bs : List ℕ) → list_all is_digit bs ≡ true → is_word bs ≡ true
 digits_word [] h = refl
-digits_word (b ∷ bs) h = let t = and_parts (is_digit b) (list_all is_digit bs) h in word_over b bs (digit_over b t.0) (digits_word bs t.1)
+digits_word (b ∷ bs) h =
+    let t = and_parts (is_digit b) (list_all is_digit bs) h in word_over b bs (digit_over b t.0) (digits_word bs t.1)
 
 label_over : (c : ℕ) → is_label_octet c ≡ true → 33 ≤ c
 label_over c h = grind (arith, nat_tests)
 
 pub label_word : (cs : List ℕ) → list_all is_label_octet cs ≡ true → is_word cs ≡ true
 label_word [] h = refl
-label_word (c ∷ cs) h = let t = and_parts (is_label_octet c) (list_all is_label_octet cs) h in word_over c cs (label_over c t.0) (label_word cs t.1)
+label_word (c ∷ cs) h =
+    let t = and_parts (is_label_octet c) (list_all is_label_octet cs) h in word_over c cs (label_over c t.0) (label_word cs t.1)
 
 get_word : (t : List ℕ) (d : ℕ) → is_word t ≡ true → is_word (slice_index t d ∷ []) ≡ true
 get_word [] d h = refl
@@ -97,7 +99,8 @@ word_unbroken (c ∷ cs) h = let p = word_parts c cs h in unbroken_cons c cs p.1
 
 pub unbroken_append : (xs ys : List ℕ) → is_unbroken xs ≡ true → is_unbroken ys ≡ true → is_unbroken (xs ++ ys) ≡ true
 unbroken_append [] ys h k = k
-unbroken_append (x ∷ xs) ys h k = let p = one_test (x == 10) (is_unbroken xs) h in unbroken_cons x (xs ++ ys) p.0 (unbroken_append xs ys p.1 k)
+unbroken_append (x ∷ xs) ys h k =
+    let p = one_test (x == 10) (is_unbroken xs) h in unbroken_cons x (xs ++ ys) p.0 (unbroken_append xs ys p.1 k)
 
 pub unbroken_field : (t f : List ℕ) → is_unbroken t ≡ true → is_word f ≡ true → is_unbroken (t ␣ f) ≡ true
 unbroken_field t f h k = unbroken_append t (32 ∷ f) h (word_unbroken f k)
@@ -110,7 +113,8 @@ split_word (c ∷ cs) h =
     let p = word_parts c cs h in
     slice_split-cons_no (λ c. c == 32) c cs p.0 ∙ ap (onto_first c) (split_word cs p.2)
 
-onto_more : (c : ℕ) (parts : List (List ℕ)) (w : List ℕ) → 0 < length parts → onto_first c (parts ++ w ∷ []) ≡ onto_first c parts ++ w ∷ []
+onto_more : (c : ℕ) (parts : List (List ℕ)) (w : List ℕ) → 0 < length parts
+    → onto_first c (parts ++ w ∷ []) ≡ onto_first c parts ++ w ∷ []
 onto_more c [] w h = absurd (omega arith)
 onto_more c (p ∷ ps) w h = refl
 
@@ -164,7 +168,8 @@ pub record Spelled (text : List ℕ) (words : List (List ℕ)) (most : ℕ) : Ty
 pub Spelled-word : (w : List ℕ) → is_word w ≡ true → Spelled w (w ∷ []) (length w + 1)
 Spelled-word w h = record { split = split_word w h; short = omega arith; unbroken = word_unbroken w h }
 
-pub Spelled-field : (text : List ℕ) (words : List (List ℕ)) (most : ℕ) (field from : List ℕ) → Spelled text words most → is_word field ≡ true → length field ≤ length from
+pub Spelled-field : (text : List ℕ) (words : List (List ℕ)) (most : ℕ) (field from : List ℕ) → Spelled text words most
+    → is_word field ≡ true → length field ≤ length from
     → Spelled (text ␣ field) (words ++ field ∷ []) (most + (length from + 1))
 Spelled-field text words most field from s h k = record {
   split = split-field text field h ∙ ap (λ v. v ++ field ∷ []) s.split;

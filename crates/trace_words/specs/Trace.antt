@@ -151,7 +151,8 @@ read_sub _ = Err FieldCount
 
 abbrev pub vec_of : List ℕ → List ℕ → List ℕ → List ℕ → List ℕ → Result Line TraceFault
 vec_of imsi rand autn xres kasme =
-    subscriber_field imsi >>= (λ i. sized_of 16 rand >>= (λ r. sized_of 16 autn >>= (λ a. xres_field xres >>= (λ x. sized_of 32 kasme >>= (λ k.
+    subscriber_field imsi >>=
+    (λ i. sized_of 16 rand >>= (λ r. sized_of 16 autn >>= (λ a. xres_field xres >>= (λ x. sized_of 32 kasme >>= (λ k.
     Ok (Vec i (record { rand = r; autn = a; xres = x; kasme = k })))))))
 
 abbrev pub read_vec : List (List ℕ) → Result Line TraceFault
@@ -245,9 +246,11 @@ network_text p =
 unfoldable pub line_text : Line → List ℕ
 line_text Skip = []
 line_text (Mme m) =
-    codes "mme" ␣ country_text m.plmn ␣ network_text m.plmn ␣ encode_lower m.group ␣ encode_lower m.code ␣ m.apn ␣ decimal m.down ␣ decimal m.up
+    codes "mme" ␣ country_text m.plmn ␣ network_text m.plmn ␣ encode_lower m.group ␣ encode_lower m.code ␣ m.apn ␣ decimal m.down
+    ␣ decimal m.up
 line_text (Sub p) = codes "sub" ␣ imsi_text p.imsi ␣ encode_lower p.address ␣ encode_lower p.gateway ␣ encode_lower p.teid
-line_text (Vec i v) = codes "vec" ␣ imsi_text i ␣ encode_lower v.rand ␣ encode_lower v.autn ␣ encode_lower v.xres ␣ encode_lower v.kasme
+line_text (Vec i v) =
+    codes "vec" ␣ imsi_text i ␣ encode_lower v.rand ␣ encode_lower v.autn ␣ encode_lower v.xres ␣ encode_lower v.kasme
 line_text (Up e) = codes "up" ␣ decimal e
 line_text (Lost e) = codes "lost" ␣ decimal e
 line_text (In e octets) = codes "in" ␣ decimal e ␣ octets_text octets

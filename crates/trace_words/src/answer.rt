@@ -10,7 +10,8 @@ use itoa::Buffer;
 use nas_elements::Imsi;
 use std::alloc::{AllocError, Global};
 
-// The octets of a line of a message that is sent, without those of the message, at most: two words, an owner, a station, spaces and LF.
+// The octets of a line of a message that is sent, without those of the message, at most: two words, an owner, a station, spaces and
+// LF.
 const LONGEST_FRONT: usize = 32;
 
 // The octets of a line of states, at most: its word, 15 digits, the longest of the words, spaces and LF.

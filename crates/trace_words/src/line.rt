@@ -87,7 +87,8 @@ pub fn parse_line(alloc: Global, line: &[u8]) -> Result<Line, TraceFault>
 
 /// What a good line `in E OCTETS` says, as most lines are; it needs no list of words. Nothing is said of any other line.
 fn good_in(alloc: Global, line: &[u8]) -> Result<Option<(StationNumber, TraceOctets)>, AllocError>
-    ensures { IfOk result (λ good. IfSome good (λ fields. read_words (slice_split (λ c. c == 32) line.now) ≡ Ok (In fields.0 fields.1))) }
+    ensures { IfOk result
+        (λ good. IfSome good (λ fields. read_words (slice_split (λ c. c == 32) line.now) ≡ Ok (In fields.0 fields.1))) }
 {
     let Some(fields) = line.strip_prefix(b"in ".as_slice()) else {
         return Ok(None);

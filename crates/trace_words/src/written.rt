@@ -18,7 +18,8 @@ use std::alloc::{AllocError, Global};
 /// where any text is. A line that says nothing is the empty text.
 pub fn write_line(alloc: Global, line: &Line) -> Result<String, AllocError>
     ensures text { IfOk result (λ text. string_bytes text ≡ line_text line.now) }
-    ensures read { IfOk result (λ text. (source : List ℕ) → line_of source ≡ Ok line.now → line_of (string_bytes text) ≡ Ok line.now) }
+    ensures read { IfOk result
+        (λ text. (source : List ℕ) → line_of source ≡ Ok line.now → line_of (string_bytes text) ≡ Ok line.now) }
 {
     // What is written of an IMSI is what it was read from.
     text_is_imsi();

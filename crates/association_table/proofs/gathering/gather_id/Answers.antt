@@ -19,7 +19,8 @@ returns-in_ok-gather c =
     let there = sym c.find.ensures.value ∙ c.in-Some.is in
     let so_is = own_matched c.args.station c.args.id c.args.enb_ue_id a es there ∙ sym c.belongs.ensures ∙ c.if-belongs.true in
     λ before p. c.in_ok-gather.ensures
-    ∙ gathers_one (is_matched c.args.station item) a es c.args.gathered.now.items c.find.ensures.order (known_is c.args.id a es there)
+    ∙ gathers_one (is_matched c.args.station item) a es c.args.gathered.now.items c.find.ensures.order
+    (known_is c.args.id a es there)
     (one_matched c.args.station c.args.id c.args.enb_ue_id a es c.find.ensures.order there so_is) before p
 
 pub returns-else-belongs : goal.returns-else-belongs
@@ -29,4 +30,5 @@ returns-else-belongs c =
     let item : Listed = record { id = Some c.args.id; enb_ue_id = c.args.enb_ue_id } in
     let there = sym c.find.ensures.value ∙ c.in-Some.is in
     let isnt = own_matched c.args.station c.args.id c.args.enb_ue_id a es there ∙ sym c.belongs.ensures ∙ c.if-belongs.false in
-    gathers_none (is_matched c.args.station item) es c.args.gathered.now.items (others_matched c.args.station c.args.id c.args.enb_ue_id a es c.find.ensures.order there isnt)
+    gathers_none (is_matched c.args.station item) es c.args.gathered.now.items
+    (others_matched c.args.station c.args.id c.args.enb_ue_id a es c.find.ensures.order there isnt)

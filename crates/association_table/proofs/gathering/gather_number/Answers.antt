@@ -11,7 +11,9 @@ loop-association-init c = record {
 
 pub loop-association-smaller : goal.loop-association-smaller
 loop-association-smaller c =
-    let there = first_is_numbered c.args.station c.args.enb_ue_id c.loop-association.least c.in-Some.association c.args.associations.now.entries (sym c.first_numbered.ensures.value ∙ c.in-Some.is) in
+    let there =
+    first_is_numbered c.args.station c.args.enb_ue_id c.loop-association.least c.in-Some.association c.args.associations.now.entries
+    (sym c.first_numbered.ensures.value ∙ c.in-Some.is) in
     let small = c.association_id.type_inv in
     let is = c.association_id.ensures in
     let wide = c.from-least.ensures in

@@ -5,7 +5,9 @@ use Rattle.association_table.proofs.Matched.{named_before, gathers_next}
 use Rattle.association_table.proofs.gathering.gather_unnamed.Goals as goal
 
 pub returns-then-is_given_alone : goal.returns-then-is_given_alone
-returns-then-is_given_alone c = named_before c.args.station c.args.enb_ue_id c.args.before.now c.args.associations.now.entries c.args.gathered.now.items (sym c.is_given_alone.ensures ∙ c.if-is_given_alone.true)
+returns-then-is_given_alone c =
+    named_before c.args.station c.args.enb_ue_id c.args.before.now c.args.associations.now.entries c.args.gathered.now.items
+    (sym c.is_given_alone.ensures ∙ c.if-is_given_alone.true)
 
 pub returns : goal.returns
 returns c =

@@ -12,4 +12,5 @@ pub loop-place-preserved : goal.loop-place-preserved
 loop-place-preserved c =
     let lt : c.loop-place.place < length c.args.items.now = c.loop-place-test.true in
     listed_next c.args.station c.loop-place.place _ c.args.items.now c.args.associations.now.entries c.loop-place.gathered.items c.gather_item.new.gathered.items lt (get_or_self c.loop-place.place _ c.args.items.now lt) c.loop-place.invariant c.in_ok-gather_item.ensures
-    ∙ ap (λ i. filter (is_listed c.args.station (take i c.args.items.now)) c.args.associations.now.entries) (sym (add-one c.loop-place.place))
+    ∙ ap (λ i. filter (is_listed c.args.station (take i c.args.items.now)) c.args.associations.now.entries)
+    (sym (add-one c.loop-place.place))

@@ -4,14 +4,16 @@ use Rattle.connection_table.proofs.Walked.{lowest_there, lowest_least, lowest_no
 use Rattle.connection_table.proofs.gathering.first_between.Goals as goal
 
 pub returns-in_err-seat-clause-none : goal.returns-in_err-seat-clause-none
-returns-in_err-seat-clause-none c = λ none r le lt. lowest_none seat_rank c.args.from r c.args.seats.now.items (sym c.first_from.ensures ∙ c.in_err-seat.was) le
+returns-in_err-seat-clause-none c =
+    λ none r le lt. lowest_none seat_rank c.args.from r c.args.seats.now.items (sym c.first_from.ensures ∙ c.in_err-seat.was) le
 
 pub returns-then-seat_rank-end-clause-none : goal.returns-then-seat_rank-end-clause-none
 returns-then-seat_rank-end-clause-none c = λ none r le lt.
     let rank = c.seat_rank.ensures.rank in
     let over = c.if-seat_rank-end.true in
     let under : r < seat_rank c.in_ok-seat.seat = omega arith in
-    lowest_least seat_rank c.args.from r c.in_ok-seat.seat c.args.seats.now.items c.requires (sym c.first_from.ensures ∙ c.in_ok-seat.was) le under
+    lowest_least seat_rank c.args.from r c.in_ok-seat.seat c.args.seats.now.items c.requires
+    (sym c.first_from.ensures ∙ c.in_ok-seat.was) le under
 
 pub returns-clause-some : goal.returns-clause-some
 returns-clause-some c =

@@ -19,4 +19,5 @@ returns c =
     let key = c.from.ensures ∙ c.get.ensures.value in
     let none = none_is (at gathered_rank c.args.slot c.args.gathered.now.items)
     (ap (λ k. is_some (at gathered_rank k c.args.gathered.now.items)) (sym key) ∙ ap (λ (o : Option GatheredSlot). is_some o) (sym c.find.ensures.value) ∙ sym c.is_some.ensures ∙ c.if-is_some.false) in
-    on_ok_weaker c.insert.result (gathered_put c.args.slot c.args.gathered.now.items c.insert.new.self.items none) c.insert.ensures.items
+    on_ok_weaker c.insert.result
+    (gathered_put c.args.slot c.args.gathered.now.items c.insert.new.self.items none) c.insert.ensures.items

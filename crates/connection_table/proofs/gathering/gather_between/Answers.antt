@@ -22,5 +22,6 @@ loop-seat-preserved c =
 
 pub returns : goal.returns
 returns c = λ benches k.
-    walk_ends benches c.args.seats.now c.args.low c.args.high (c.args.low * 2 ^ 32) c.loop-seat.from (c.from-end.result * 2 ^ 32) c.args.gathered.now.items c.loop-seat.gathered.items k
+    walk_ends benches c.args.seats.now c.args.low c.args.high (c.args.low * 2 ^ 32) c.loop-seat.from
+    (c.from-end.result * 2 ^ 32) c.args.gathered.now.items c.loop-seat.gathered.items k
     (c.first_between.ensures.none c.in_default.is) refl (ap (λ n. n * 2 ^ 32) c.from-end.ensures) c.loop-seat.invariant.low c.loop-seat.invariant.high (c.loop-seat.invariant.gathered benches k)

@@ -7,7 +7,8 @@ use Rattle.connection_table.proofs.gathering.gather_between.Given as goal
 
 abbrev pub invariant-loop-seat : goal.invariant-loop-seat
 invariant-loop-seat l = record {
-  gathered : (benches : List (Option ℕ)) → IsIndex benches l.seats → Gathers (λ i. is_ranked (l.low * 2 ^ 32) l.from i (bench_at i benches)) l.fn.gathered.items l.gathered.items;
+  gathered : (benches : List (Option ℕ)) → IsIndex benches l.seats
+      → Gathers (λ i. is_ranked (l.low * 2 ^ 32) l.from i (bench_at i benches)) l.fn.gathered.items l.gathered.items;
   low : l.low * 2 ^ 32 ≤ l.from;
   high : l.from ≤ l.end;
 }

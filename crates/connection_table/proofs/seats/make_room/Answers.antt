@@ -13,5 +13,7 @@ returns-clause-more c =
     let more = c.saturating_sub-more.ensures in
     let len = c.len.ensures in
     let same = ap length c.reserve.ensures.items in
-    longer benches c.reserve.new.self (kept benches c.args.seats.now c.reserve.new.self k c.reserve.ensures.items c.reserve.ensures.kept c.reserve.ensures.steady) few (omega arith))
+    longer benches c.reserve.new.self
+    (kept benches c.args.seats.now c.reserve.new.self k c.reserve.ensures.items c.reserve.ensures.kept c.reserve.ensures.steady) few
+    (omega arith))
     c.reserve.ensures.room

@@ -9,5 +9,6 @@ sit_down-requires c = (set c.requires.0 c.args.slot None, c.stand_up.ensures c.r
 
 pub returns : goal.returns
 returns c = λ benches s.
-    subst (λ (bs : List (Option ℕ)). SitsOn bs c.args.slot c.args.new c.sit_down.new.seats) (set-set benches c.args.slot None c.args.new)
+    subst (λ (bs : List (Option ℕ)). SitsOn bs c.args.slot c.args.new c.sit_down.new.seats)
+    (set-set benches c.args.slot None c.args.new)
     (c.sit_down.ensures (set benches c.args.slot None) (c.stand_up.ensures benches s))

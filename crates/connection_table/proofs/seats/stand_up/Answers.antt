@@ -11,7 +11,8 @@ returns-in_default c = λ benches s. stays benches c.args.slot _ c.args.seats.no
 pub returns : goal.returns
 returns c = λ benches s.
     let key = c.seat_rank.ensures.rank in
-    stood benches c.args.slot c.in-Some.bench c.args.seats.now c.take.new.self (subst (λ o. SitsOn benches c.args.slot o c.args.seats.now) c.in-Some.is s)
+    stood benches c.args.slot c.in-Some.bench c.args.seats.now c.take.new.self
+    (subst (λ o. SitsOn benches c.args.slot o c.args.seats.now) c.in-Some.is s)
     (c.take.ensures.items ∙ ap (λ k. without seat_rank k c.args.seats.now.items) key)
     (λ there. c.take.ensures.regained s.index.steady (ap is_some (c.take.ensures.item ∙ ap (λ k. at seat_rank k c.args.seats.now.items) key) ∙ there))
     c.take.ensures.steady

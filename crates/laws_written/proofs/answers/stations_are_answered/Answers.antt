@@ -6,7 +6,8 @@ pub returns : goal.returns
 returns c =
     let short = c.short_messages_are_written.ensures.written in
     let e = c.phone_messages_are_written.ensures in
-    let tells : TellsPhones = record { nas = e.nas; release = e.release; indication = e.indication; not_switched = e.not_switched } in
+    let tells : TellsPhones =
+    record { nas = e.nas; release = e.release; indication = e.indication; not_switched = e.not_switched } in
     record {
       setup = setup_is_answered short;
       reset = reset_is_answered short;

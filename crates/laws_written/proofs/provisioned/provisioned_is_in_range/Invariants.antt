@@ -10,5 +10,6 @@ use Rattle.laws_written.proofs.provisioned.provisioned_is_in_range.Given as goal
 abbrev pub invariant-loop-place : goal.invariant-loop-place
 invariant-loop-place l = record {
   profiles : (slot : ℕ) (x : Profile) → slot < l.place → slice_get l.provision.profiles slot ≡ Some x → ProfileInRange x;
-  vectors : (slot place : ℕ) (v : Vector) → slot < l.place → slice_get (vectors_at slot l.provision.vectors) place ≡ Some v → VectorInRange v;
+  vectors : (slot place : ℕ) (v : Vector) → slot < l.place → slice_get (vectors_at slot l.provision.vectors) place ≡ Some v
+      → VectorInRange v;
 }

@@ -12,15 +12,18 @@ use Rattle.mme_answering.proofs.preparing.prepare_all.Goals as goal
 pub prepare_each-requires-clause-called : goal.prepare_each-requires-clause-called
 prepare_each-requires-clause-called c =
     let ws = c.args.subscribers.now.subscribers in
-    subst (Every (λ k. k < length ws)) (sym (c.as_slice-called.ensures.value ∙ c.in_ok-touched.ensures)) (touched_below (item_of_notice c.args.notice.now) ws)
+    subst (Every (λ k. k < length ws)) (sym (c.as_slice-called.ensures.value ∙ c.in_ok-touched.ensures))
+    (touched_below (item_of_notice c.args.notice.now) ws)
 
 pub returns-clause-sends : goal.returns-clause-sends
 returns-clause-sends c =
     let ws = c.args.subscribers.now.subscribers in
     let item = item_of_notice c.args.notice.now in
     let due = c.as_slice-called.ensures.value ∙ c.in_ok-touched.ensures in
-    on_ok_weaker c.prepare_each.result (λ h. h ∙ ap (λ i. c.args.outs.now ++ some_give (item_sent i) c.as_slice-called.result.now ws) c.requires.event
-    ∙ ap (λ ks. c.args.outs.now ++ some_give (item_sent item) ks ws) due ∙ ap (λ (os : List Out). c.args.outs.now ++ os) (touched_send item ws)) c.prepare_each.ensures.sends
+    on_ok_weaker c.prepare_each.result
+    (λ h. h ∙ ap (λ i. c.args.outs.now ++ some_give (item_sent i) c.as_slice-called.result.now ws) c.requires.event
+    ∙ ap (λ ks. c.args.outs.now ++ some_give (item_sent item) ks ws) due
+    ∙ ap (λ (os : List Out). c.args.outs.now ++ os) (touched_send item ws)) c.prepare_each.ensures.sends
 
 pub returns-clause-subscribers : goal.returns-clause-subscribers
 returns-clause-subscribers c =

@@ -27,7 +27,8 @@ returns-clause-strangers c =
     let x = c.in_ok-turn.turn in
     let ks = c.args.strangers.now.strangers in
     let own = ap (λ o. turn_of [] o x) (sym c.find.ensures) ∙ c.in_ok-turn.ensures [] ∙ ap (λ o. begins id o m) c.find.ensures in
-    IfOk-weaker c.prepare_turn.result _ _ (λ p h. h ks ∙ ap (λ (t : Turn). with_stranger id t.stranger ks) own) c.prepare_turn.ensures.strangers
+    IfOk-weaker c.prepare_turn.result _ _
+    (λ p h. h ks ∙ ap (λ (t : Turn). with_stranger id t.stranger ks) own) c.prepare_turn.ensures.strangers
 
 pub returns-clause-subscribers : goal.returns-clause-subscribers
 returns-clause-subscribers c =
@@ -37,4 +38,5 @@ returns-clause-subscribers c =
     let ws = c.args.stations.now in
     let subs = c.args.subscribers.now.subscribers in
     let own = ap (λ o. turn_of ws o x) (sym c.find.ensures) ∙ c.in_ok-turn.ensures ws ∙ ap (λ o. begins id o m) c.find.ensures in
-    IfOk-weaker c.prepare_turn.result _ _ (λ p h. h ∙ ap (λ (t : Turn). each_after (if_called t.call) 0 subs) own) c.prepare_turn.ensures.subscribers
+    IfOk-weaker c.prepare_turn.result _ _
+    (λ p h. h ∙ ap (λ (t : Turn). each_after (if_called t.call) 0 subs) own) c.prepare_turn.ensures.subscribers

@@ -25,4 +25,5 @@ pub returns-clause-sends : goal.returns-clause-sends
 returns-clause-sends c =
     let ws = c.args.subscribers.now.subscribers in
     let item = item_of c.args.event.now c.args.stations.now in
-    c.in_ok-one.ensures.sends ∙ ap (λ zs. c.args.outs.now ++ zs) (called_sends c.args.slot item ws c.in_ok-one.one.solo c.in_ok-one.ensures.after)
+    c.in_ok-one.ensures.sends
+    ∙ ap (λ zs. c.args.outs.now ++ zs) (called_sends c.args.slot item ws c.in_ok-one.one.solo c.in_ok-one.ensures.after)

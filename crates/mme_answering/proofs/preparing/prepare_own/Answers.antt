@@ -9,7 +9,8 @@ returns-in-Nobody-clause-sends c =
     rw c.in-Nobody.is (sym (ap (λ zs. c.args.outs.now ++ zs) (sends_nothing 0 _ c.args.subscribers.now.subscribers (λ m le. refl)) ∙ append-nil c.args.outs.now))
 
 pub returns-in-Nobody-clause-subscribers : goal.returns-in-Nobody-clause-subscribers
-returns-in-Nobody-clause-subscribers c = rw c.in-Nobody.is (sym (after_nothing 0 _ c.args.subscribers.now.subscribers (λ m le. refl)))
+returns-in-Nobody-clause-subscribers c =
+    rw c.in-Nobody.is (sym (after_nothing 0 _ c.args.subscribers.now.subscribers (λ m le. refl)))
 
 pub returns-in-Beginner-clause-sends : goal.returns-in-Beginner-clause-sends
 unfolding stranger_step

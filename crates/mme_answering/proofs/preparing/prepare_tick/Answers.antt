@@ -22,12 +22,15 @@ returns-clause-sends c =
     let outs = c.args.outs.now in
     let others = each_known notices.Tick c.args.strangers.now.strangers in
     let due = c.as_slice-called.ensures.value ∙ c.in_ok-due.ensures in
-    c.in_ok-stepped.ensures.sends ∙ ap (λ i. c.send_due.new.outs ++ some_give (item_sent i) c.as_slice-called.result.now ws) c.requires.tick
+    c.in_ok-stepped.ensures.sends
+    ∙ ap (λ i. c.send_due.new.outs ++ some_give (item_sent i) c.as_slice-called.result.now ws) c.requires.tick
     ∙ ap (λ ks. c.send_due.new.outs ++ some_give (item_sent Tick) ks ws) due ∙ ap (λ os. c.send_due.new.outs ++ os) (due_send ws)
-    ∙ ap (λ os. os ++ each_sent (for_all Tick) 0 ws) c.in_ok-send_due.ensures ∙ append_assoc outs others (each_sent (for_all Tick) 0 ws)
+    ∙ ap (λ os. os ++ each_sent (for_all Tick) 0 ws) c.in_ok-send_due.ensures
+    ∙ append_assoc outs others (each_sent (for_all Tick) 0 ws)
 
 pub returns-clause-subscribers : goal.returns-clause-subscribers
 returns-clause-subscribers c =
     let ws = c.args.subscribers.now.subscribers in
     let due = c.as_slice-called.ensures.value ∙ c.in_ok-due.ensures in
-    ticks_all c.in_ok-stepped.stepped.items ws (c.in_ok-stepped.ensures.slots ∙ due) (subst (λ i. Every (IsStepped i ws) c.in_ok-stepped.stepped.items) c.requires.tick c.in_ok-stepped.ensures.stepped)
+    ticks_all c.in_ok-stepped.stepped.items ws (c.in_ok-stepped.ensures.slots ∙ due)
+    (subst (λ i. Every (IsStepped i ws) c.in_ok-stepped.stepped.items) c.requires.tick c.in_ok-stepped.ensures.stepped)

@@ -18,4 +18,5 @@ returns c =
     let ks = c.args.strangers.now.strangers in
     let there = sym c.find.ensures ∙ ap (option_map lent_now) c.in-Some.is in
     on_ok_weaker c.send_all.result (λ h. h ∙ ap (λ sent. c.args.outs.now ++ map (stranger_out c.args.id) sent) c.in_ok-sent.ensures
-    ∙ ap (λ (os : List Out). c.args.outs.now ++ os) (sym (found_sent c.args.id (lent_now c.in-Some.known) ks there))) c.send_all.ensures.sent
+    ∙ ap (λ (os : List Out). c.args.outs.now ++ os)
+    (sym (found_sent c.args.id (lent_now c.in-Some.known) ks there))) c.send_all.ensures.sent

@@ -7,4 +7,5 @@ use Rattle.mme_answering.proofs.sending.send_some.Given as goal
 -- what those send who are left is to come
 abbrev pub invariant-loop-id : goal.invariant-loop-id
 invariant-loop-id l =
-    l.outs ++ some_known_give (known_sent Tick) (drop l.id-index l.ids) l.strangers.strangers ≡ l.fn.outs ++ some_known_give (known_sent Tick) l.ids l.strangers.strangers
+    l.outs ++ some_known_give (known_sent Tick) (drop l.id-index l.ids) l.strangers.strangers
+    ≡ l.fn.outs ++ some_known_give (known_sent Tick) l.ids l.strangers.strangers

@@ -6,5 +6,6 @@ use Rattle.mme_answering.proofs.settling.settle.Goals as goal
 
 pub reserve-requires : goal.reserve-requires
 reserve-requires c =
-    let few : steps_of c.args.prepared ≤ slots = steps_few c.args.prepared c.args.subscribers.now.subscribers slots c.requires.fits c.len.ensures.few (omega arith) in
+    let few : steps_of c.args.prepared ≤ slots =
+    steps_few c.args.prepared c.args.subscribers.now.subscribers slots c.requires.fits c.len.ensures.few (omega arith) in
     omega (arith, few, c.steps_of.ensures)

@@ -13,19 +13,24 @@ both f g (Some x) = refl
 named : (m : ArgMatches) → option_map (λ (p : Text × List Row). p.0) (subcommand_rows_of m) ≡ subcommand_name_of m
 named m = both _ (λ (p : Text × List Row). p.0) (out-ArgMatches m).subcommand
 
-asked : (o : Option (Text × List Row)) (name : Text) (rows : List Row) (file : Option Text) → option_map (λ p. p.0) o ≡ Some name → option_map (λ p. p.1) o ≡ Some rows
+asked : (o : Option (Text × List Row)) (name : Text) (rows : List Row) (file : Option Text) → option_map (λ p. p.0) o ≡ Some name
+    → option_map (λ p. p.1) o ≡ Some rows
     → first_of (codes "FILE") rows ≡ file → option_map with_file o ≡ Some (name, file)
 asked None name rows file n e f = cc e
 asked (Some p) name rows file n e f =
     let same_name : p.0 ≡ name = cc in
     let same_rows : p.1 ≡ rows = cc in
     let pair : Text → Option Text → Text × Option Text = λ x y. (x, y) in
-    ap (λ v. Some (pair v (first_of (codes "FILE") p.1))) same_name ∙ ap (λ v. Some (pair name v)) (ap (first_of (codes "FILE")) same_rows ∙ f)
+    ap (λ v. Some (pair v (first_of (codes "FILE") p.1))) same_name
+    ∙ ap (λ v. Some (pair name v)) (ap (first_of (codes "FILE")) same_rows ∙ f)
 
 -- what is asked for, where the subcommand of that name was used and has that file
-of_file : (m found : ArgMatches) (name : Text) (file : Option Text) → subcommand_name_of m ≡ Some name → option_map (λ (p : Text × List Row). p.1) (subcommand_rows_of m) ≡ Some (rows_of (found_of found))
+of_file : (m found : ArgMatches) (name : Text) (file : Option Text) → subcommand_name_of m ≡ Some name
+    → option_map (λ (p : Text × List Row). p.1) (subcommand_rows_of m) ≡ Some (rows_of (found_of found))
     → file ≡ first_value (found_of found) (codes "FILE") → option_map with_file (subcommand_rows_of m) ≡ Some (name, file)
-of_file m found name file n r f = asked (subcommand_rows_of m) name (rows_of (found_of found)) file (named m ∙ n) r (sym (first_value-rows (found_of found) (codes "FILE")) ∙ sym f)
+of_file m found name file n r f =
+    asked (subcommand_rows_of m) name (rows_of (found_of found)) file (named m ∙ n) r
+    (sym (first_value-rows (found_of found) (codes "FILE")) ∙ sym f)
 
 pub returns-in-Some : goal.returns-in-Some
 returns-in-Some c =
@@ -35,4 +40,5 @@ returns-in-Some c =
 pub returns-in-Some-subcommand_matches : goal.returns-in-Some-subcommand_matches
 returns-in-Some-subcommand_matches c =
     let some = c.in-Some-subcommand_matches in
-    of_file c.args.matches.now some.found.now (codes "sim") _ (some.ensures.found.0 refl) some.ensures.rows c.get_str-in-Some-subcommand_matches.ensures
+    of_file c.args.matches.now some.found.now (codes "sim") _
+    (some.ensures.found.0 refl) some.ensures.rows c.get_str-in-Some-subcommand_matches.ensures

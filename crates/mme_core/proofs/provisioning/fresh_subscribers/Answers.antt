@@ -16,13 +16,17 @@ loop-place-preserved c =
     let slot : c.slot_of-slot.result ≡ l.place = c.slot_of-slot.ensures in
     let p = c.profile-profile.result.now in
     let own = c.take_vectors-vectors.result in
-    let kept : c.take_vectors-vectors.new.self.profiles ≡ ps = ap (λ (s : Provisioned). s.profiles) c.take_vectors-vectors.ensures.left ∙ l.invariant.profiles in
-    let at_p : slice_get ps l.place ≡ Some p = ap (slice_get ps) (sym slot) ∙ ap (λ xs. slice_get xs c.slot_of-slot.result) (sym kept) ∙ c.profile-profile.ensures in
+    let kept : c.take_vectors-vectors.new.self.profiles ≡ ps =
+    ap (λ (s : Provisioned). s.profiles) c.take_vectors-vectors.ensures.left ∙ l.invariant.profiles in
+    let at_p : slice_get ps l.place ≡ Some p =
+    ap (slice_get ps) (sym slot) ∙ ap (λ xs. slice_get xs c.slot_of-slot.result) (sym kept) ∙ c.profile-profile.ensures in
     let at_v : vectors_at l.place vs ≡ own = sym (l.invariant.left l.place (omega arith)) ∙ ap (λ k. vectors_at k l.provision.vectors) (sym slot) ∙ get_or_from_slice_get l.provision.vectors c.slot_of-slot.result own [] c.take_vectors-vectors.ensures.taken in
     let push : c.push.new.self.subscribers ≡ l.subscribers.subscribers ++ c.in_ok-new.field-0 ∷ [] = c.in_ok-push.ensures.ok in
     record {
       clock = c.push.ensures.clock ∙ l.invariant.clock;
-      made = fresh_pushed l.subscribers.subscribers c.push.new.self.subscribers (fresh_subscribers n l.place (drop l.place ps) vs) (fresh_subscribers n (l.place + 1) (drop (l.place + 1) ps) vs)
+      made =
+          fresh_pushed l.subscribers.subscribers c.push.new.self.subscribers (fresh_subscribers n l.place (drop l.place ps) vs)
+          (fresh_subscribers n (l.place + 1) (drop (l.place + 1) ps) vs)
           (fresh_subscribers n 0 ps vs) c.in_ok-new.field-0 (fresh_one n l.place p own) push (c.in_ok-new.ensures ∙ ap (λ k. fresh_one n k p own) slot)
           (fresh_more n l.place ps vs p own at_p at_v) l.invariant.made;
       count = omega (arith, ap length push, length_push l.subscribers.subscribers c.in_ok-new.field-0, l.invariant.count);

@@ -7,7 +7,8 @@ use Rattle.mme_core.proofs.provisioning.fresh_subscribers.Given as goal
 abbrev pub invariant-loop-place : goal.invariant-loop-place
 invariant-loop-place l = record {
   clock : l.subscribers.clock ≡ 0;
-  made : l.subscribers.subscribers ++ fresh_subscribers l.network l.place (drop l.place l.fn.provision.profiles) l.fn.provision.vectors
+  made : l.subscribers.subscribers
+      ++ fresh_subscribers l.network l.place (drop l.place l.fn.provision.profiles) l.fn.provision.vectors
       ≡ fresh_subscribers l.network 0 l.fn.provision.profiles l.fn.provision.vectors;
   count : length l.subscribers.subscribers ≡ l.place;
   profiles : l.provision.profiles ≡ l.fn.provision.profiles;

@@ -10,7 +10,8 @@ use Rattle.mme_routing.proofs.resets.part_acknowledge.Goals as goal
 abbrev one_reset : Listed ListedAssociation 91 0 → Listed ListedAssociation 91 1
 one_reset i = record { value = i.value }
 
-one_more : (xs : ToReset) (i : ℕ) (x : Listed ListedAssociation 91 0) (vs : List (Listed ListedAssociation 91 1)) → i < length xs → x ≡ get_or xs i x → vs ≡ items_reset (take i xs)
+one_more : (xs : ToReset) (i : ℕ) (x : Listed ListedAssociation 91 0) (vs : List (Listed ListedAssociation 91 1)) → i < length xs
+    → x ≡ get_or xs i x → vs ≡ items_reset (take i xs)
     → vs ++ one_reset x ∷ [] ≡ items_reset (take (i + 1) xs)
 one_more xs i x vs lt is was =
     ap (λ (ws : List (Listed ListedAssociation 91 1)). ws ++ one_reset x ∷ []) was
@@ -27,11 +28,13 @@ made None x some is = absurd (cc some)
 made (Some a) x some is = ap (λ y. Some y) is
 
 all_reset : (o : Option (List (Listed ListedAssociation 91 1))) (vs : List (Listed ListedAssociation 91 1)) (xs items : ToReset) (i n : ℕ)
-    → (IsSome o ↔ ((1 ≤ length vs) × (length vs ≤ 256))) → IfSome o (λ v. v ≡ vs) → vs ≡ items_reset (take i xs) → length xs ≤ i → xs ≡ items → n ≡ length items → 1 ≤ n → (1 ≤ 256 → n ≤ 256)
+    → (IsSome o ↔ ((1 ≤ length vs) × (length vs ≤ 256))) → IfSome o (λ v. v ≡ vs) → vs ≡ items_reset (take i xs) → length xs ≤ i
+    → xs ≡ items → n ≡ length items → 1 ≤ n → (1 ≤ 256 → n ≤ 256)
     → acknowledged o ≡ part_acknowledge items
 all_reset o vs xs items i n some value was over same count low high =
     let e : vs ≡ items_reset items = was ∙ ap (λ (ys : ToReset). items_reset ys) (take_all i xs over ∙ same) in
-    let long : length vs ≡ length items = ap (λ (ws : List (Listed ListedAssociation 91 1)). length ws) e ∙ length-map items one_reset in
+    let long : length vs ≡ length items =
+    ap (λ (ws : List (Listed ListedAssociation 91 1)). length ws) e ∙ length-map items one_reset in
     let most : n ≤ 256 = high (omega arith) in
     ap (λ (a : Option (List (Listed ListedAssociation 91 1))). acknowledged a) (made o vs (some.1 (omega (arith, long, count, low), omega (arith, long, count, most))) value ∙ ap (λ (ws : List (Listed ListedAssociation 91 1)). Some ws) e)
 

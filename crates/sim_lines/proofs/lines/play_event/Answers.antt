@@ -14,7 +14,8 @@ returns-in-Lost c =
 
 pub returns-in-In : goal.returns-in-In
 returns-in-In c =
-    PrintsOn-line c.play_act-in-In.result c.args.line (In c.in-In.station c.in-In.octets) c.args.script.now.progress c.play_act-in-In.new.script.progress
+    PrintsOn-line c.play_act-in-In.result c.args.line
+    (In c.in-In.station c.in-In.octets) c.args.script.now.progress c.play_act-in-In.new.script.progress
     c.args.out.now.items c.play_act-in-In.new.out.items c.in-In.is c.play_act-in-In.ensures
 
 pub returns-in-Tick : goal.returns-in-Tick
@@ -24,10 +25,12 @@ returns-in-Tick c =
 
 pub returns-in-Data : goal.returns-in-Data
 returns-in-Data c =
-    PrintsOn-line c.play_waiting.result c.args.line (Data c.in-Data.imsi) c.args.script.now.progress c.play_waiting.new.script.progress
+    PrintsOn-line c.play_waiting.result c.args.line
+    (Data c.in-Data.imsi) c.args.script.now.progress c.play_waiting.new.script.progress
     c.args.out.now.items c.play_waiting.new.out.items c.in-Data.is c.play_waiting.ensures
 
 pub returns-in-Cancel : goal.returns-in-Cancel
 returns-in-Cancel c =
-    PrintsOn-line c.play_withdrawal.result c.args.line (Cancel c.in-Cancel.imsi) c.args.script.now.progress c.play_withdrawal.new.script.progress
+    PrintsOn-line c.play_withdrawal.result c.args.line
+    (Cancel c.in-Cancel.imsi) c.args.script.now.progress c.play_withdrawal.new.script.progress
     c.args.out.now.items c.play_withdrawal.new.out.items c.in-Cancel.is c.play_withdrawal.ensures

@@ -16,11 +16,13 @@ loop-message-preserved c =
     let before = answers_of (take i sent) in
     let first = c.args.out.now.items in
     let last = c.push_sent.new.out.items in
-    AddsComments-said first last (before ++ out_text message) (answers_of (take (i + 1) sent)) (sym (answers_of-more sent i message (omega arith) c.message-item.is))
+    AddsComments-said first last (before ++ out_text message) (answers_of (take (i + 1) sent))
+    (sym (answers_of-more sent i message (omega arith) c.message-item.is))
     (AddsComments-then first c.loop-message.out.items last before (out_text message) c.loop-message.invariant c.in_ok-push_sent.ensures)
 
 pub returns : goal.returns
 returns c =
     let sent = c.args.sent.now in
-    AddsComments-said c.args.out.now.items c.loop-message.out.items (answers_of (take c.loop-message.message-index sent)) (answers_of sent)
+    AddsComments-said c.args.out.now.items c.loop-message.out.items (answers_of (take c.loop-message.message-index sent))
+    (answers_of sent)
     (ap answers_of (take_all c.loop-message.message-index sent (omega arith))) c.loop-message.invariant

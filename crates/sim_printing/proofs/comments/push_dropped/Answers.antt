@@ -12,6 +12,7 @@ returns c =
     let d : length (decimal n) ≤ 20 = length-decimal-le 20 n (omega arith) (omega arith) h in (
       codes "## dropped " ++ decimal n ++ codes "\n",
       c.in_ok-push_count.ensures,
-      AreComments-remark c.comments_are_not_kept.ensures (codes " dropped " ++ decimal n) (unbroken_then (codes " dropped ") (decimal n) refl (decimal_breaks n h))
+      AreComments-remark c.comments_are_not_kept.ensures (codes " dropped " ++ decimal n)
+          (unbroken_then (codes " dropped ") (decimal n) refl (decimal_breaks n h))
           (omega (arith, d, length-append (codes " dropped ") (decimal n))),
     )

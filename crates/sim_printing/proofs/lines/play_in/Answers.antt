@@ -7,7 +7,8 @@ use Rattle.sim_printing.proofs.lines.play_in.Goals as goal
 pub play_event-requires-clause-says : goal.play_event-requires-clause-says
 play_event-requires-clause-says c =
     let short : length (string_bytes c.in_ok-text.text) ≤ 40000 = omega arith in
-    ReadsAs-text (In c.args.station c.args.octets.now) (string_bytes c.in_ok-text.text) c.as_bytes.result.now c.as_bytes.ensures.value
+    ReadsAs-text (In c.args.station c.args.octets.now)
+    (string_bytes c.in_ok-text.text) c.as_bytes.result.now c.as_bytes.ensures.value
     (c.in_ok-text.ensures.read short) c.in_ok-text.ensures.unbroken
 
 pub returns-clause-sent : goal.returns-clause-sent

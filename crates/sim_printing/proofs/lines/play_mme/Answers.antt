@@ -6,7 +6,8 @@ use Rattle.sim_printing.proofs.lines.play_mme.Goals as goal
 
 pub returns-in-Err : goal.returns-in-Err
 returns-in-Err c =
-    PrintsLine-fault c.args.number (Mme c.args.fields.now) (configured c.args.progress.now c.args.fields.now) c.args.progress.now c.start.new.progress c.args.out.now.items c.in-Err.fault
+    PrintsLine-fault c.args.number (Mme c.args.fields.now)
+    (configured c.args.progress.now c.args.fields.now) c.args.progress.now c.start.new.progress c.args.out.now.items c.in-Err.fault
     (mme_effect c.args.progress.now c.args.fields.now) c.in-Err.ensures.acts c.in-Err.ensures.write
 
 pub returns-in-Ok-push_line : goal.returns-in-Ok-push_line

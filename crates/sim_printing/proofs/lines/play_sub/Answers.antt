@@ -6,7 +6,8 @@ use Rattle.sim_printing.proofs.lines.play_sub.Goals as goal
 
 pub returns-in-Err : goal.returns-in-Err
 returns-in-Err c =
-    PrintsLine-fault c.args.number (Sub c.args.profile) (subscriber_added c.args.progress.now c.args.profile) c.args.progress.now c.add.new.progress c.args.out.now.items c.in-Err.fault
+    PrintsLine-fault c.args.number (Sub c.args.profile)
+    (subscriber_added c.args.progress.now c.args.profile) c.args.progress.now c.add.new.progress c.args.out.now.items c.in-Err.fault
     (sub_effect c.args.progress.now c.args.profile) c.in-Err.ensures.acts c.in-Err.ensures.write
 
 pub returns-in-Ok-push_line : goal.returns-in-Ok-push_line

@@ -9,7 +9,8 @@ pub returns-in_default-clause-simulated : goal.returns-in_default-clause-simulat
 returns-in_default-clause-simulated g c =
     let left = g.R.Read.remaining in
     let held = g.W.Write.contents in
-    Simulates-read (left c.args.reader.now.inner) (left c.loop-turn.reader.inner) (left c.read.new.self.inner) (held c.args.writer.now.inner) (held c.loop-turn.writer.inner)
+    Simulates-read (left c.args.reader.now.inner) (left c.loop-turn.reader.inner) (left c.read.new.self.inner)
+    (held c.args.writer.now.inner) (held c.loop-turn.writer.inner)
     c.loop-turn.player c.read.new.self.ended c.loop-turn.invariant.playing c.in_default.ensures.bytes
 
 pub returns-then-count-eq0-clause-simulated : goal.returns-then-count-eq0-clause-simulated
@@ -19,10 +20,15 @@ returns-then-count-eq0-clause-simulated g c =
     let first = left c.args.reader.now.inner in
     let mid = left c.loop-turn.reader.inner in
     let last = left c.read.new.self.inner in
-    let none = Consumes-same mid last (take c.in-Ok.count c.read.new.buf) [] (ap (λ n. take n c.read.new.buf) c.if-count-eq0.true) c.in-Ok.ensures.bytes.0 in
-    let playing = Simulating-idle first mid last (held c.args.writer.now.inner) (held c.loop-turn.writer.inner) c.loop-turn.player c.loop-turn.invariant.playing none in
+    let none =
+    Consumes-same mid last (take c.in-Ok.count c.read.new.buf) []
+    (ap (λ n. take n c.read.new.buf) c.if-count-eq0.true) c.in-Ok.ensures.bytes.0 in
+    let playing =
+    Simulating-idle first mid last (held c.args.writer.now.inner)
+    (held c.loop-turn.writer.inner) c.loop-turn.player c.loop-turn.invariant.playing none in
     let turn = c.close_turn.ensures.closes in
-    Simulates-last first last (held c.args.writer.now.inner) (held c.loop-turn.writer.inner) (held c.close_turn.new.writer.inner) c.loop-turn.player playing turn.0 turn.1
+    Simulates-last first last (held c.args.writer.now.inner) (held c.loop-turn.writer.inner)
+    (held c.close_turn.new.writer.inner) c.loop-turn.player playing turn.0 turn.1
     c.read.new.self.ended c.close_turn.result (c.in-Ok.ensures.ended c.if-count-eq0.true (search rules)) turn.2
 
 pub returns-in-Err-clause-simulated : goal.returns-in-Err-clause-simulated

@@ -153,7 +153,8 @@ returns-clause-paired g c =
     let one = length-without g.T.Keyed.rank c.args.key c.in_ok-item.item chunk (sym c.take.ensures.item ∙ c.in_ok-item.was) in
     elim c.if-is_empty-2.branch [
       | then-is_empty-2 w ↦ rw w.chunks-is (
-          let none = ap length (none_there (length c.take.new.self) c.take.new.self (sym w.if-is_empty-2.true ∙ c.is_empty-2.ensures) refl) in
+          let none =
+          ap length (none_there (length c.take.new.self) c.take.new.self (sym w.if-is_empty-2.true ∙ c.is_empty-2.ensures) refl) in
           subst IsPaired (sym w.remove.ensures.items)
           (paired_removed c.home-at.result chunk c.take.new.self c.args.chunks.now.items lt c.index_mut-chunk.ensures.value
           (omega (arith, l, one, none)) c.requires.filled c.requires.paired))

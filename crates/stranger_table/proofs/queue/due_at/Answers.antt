@@ -8,7 +8,8 @@ loop-entry-init c = walk_begins c.args.clock c.new-due.result.items c.args.queue
 
 pub loop-entry-smaller : goal.loop-entry-smaller
 loop-entry-smaller c =
-    walk_shorter c.loop-entry.least c.key-least.result c.in-Some.entry c.args.queue.now.items c.requires.rising (sym c.first_from.ensures ∙ c.in-Some.is) c.key-least.ensures
+    walk_shorter c.loop-entry.least c.key-least.result c.in-Some.entry c.args.queue.now.items c.requires.rising
+    (sym c.first_from.ensures ∙ c.in-Some.is) c.key-least.ensures
 
 pub loop-entry-preserved : goal.loop-entry-preserved
 loop-entry-preserved c =
@@ -19,6 +20,7 @@ loop-entry-preserved c =
 pub returns : goal.returns
 returns c = elim c.match-first_from.branch [
   | in-Some+then-entry-clock w ↦ let t = w.if-entry-clock.true in
-      walk_stops c.args.clock c.loop-entry.least w.in-Some.entry c.loop-entry.due.items c.args.queue.now.items c.requires.rising (sym c.first_from.ensures ∙ w.in-Some.is) (omega (arith, t)) c.loop-entry.invariant
+      walk_stops c.args.clock c.loop-entry.least w.in-Some.entry c.loop-entry.due.items c.args.queue.now.items c.requires.rising
+      (sym c.first_from.ensures ∙ w.in-Some.is) (omega (arith, t)) c.loop-entry.invariant
   | in_default w ↦ walk_ends c.args.clock c.loop-entry.least c.loop-entry.due.items c.args.queue.now.items (sym c.first_from.ensures ∙ w.in_default.is) c.loop-entry.invariant
 ]

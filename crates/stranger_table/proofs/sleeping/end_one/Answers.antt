@@ -6,7 +6,8 @@ use Rattle.stranger_table.proofs.Passing.{open_rows, shut_rows}
 use Rattle.stranger_table.proofs.sleeping.end_one.Goals as goal
 
 pub end_at-requires-clause-there : goal.end_at-requires-clause-there
-end_at-requires-clause-there c = there_some c.args.slab.now c.args.place.now.id c.args.place.now c.args.places.now.items c.requires.table c.requires.there
+end_at-requires-clause-there c =
+    there_some c.args.slab.now c.args.place.now.id c.args.place.now c.args.places.now.items c.requires.table c.requires.there
 
 pub returns-then-end_at-clause-rows : goal.returns-then-end_at-clause-rows
 returns-then-end_at-clause-rows c =

@@ -10,7 +10,8 @@ pub end-requires : goal.end-requires
 end-requires c =
     let e = c.args.first in
     let rs = c.args.sleepers.now in
-    first_ending c.args.next e rs c.requires.around c.requires.due (first_found e c.args.queue.now.items rs c.requires.rows c.requires.queued c.requires.first)
+    first_ending c.args.next e rs c.requires.around c.requires.due
+    (first_found e c.args.queue.now.items rs c.requires.rows c.requires.queued c.requires.first)
 
 pub deadline-again-requires : goal.deadline-again-requires
 deadline-again-requires c =
@@ -41,7 +42,9 @@ returns-clause-ended c =
     ap (all_ended c.args.next) c.end.ensures ∙ first_ended c.args.next e rs c.requires.rows c.requires.due (first_found e c.args.queue.now.items rs c.requires.rows c.requires.queued c.requires.first)
 
 pub returns-clause-around : goal.returns-clause-around
-returns-clause-around c = subst (AreAround c.args.next) (sym c.end.ensures) (first_around c.args.next c.args.first.id c.args.sleepers.now c.requires.rows c.requires.around)
+returns-clause-around c =
+    subst (AreAround c.args.next) (sym c.end.ensures)
+    (first_around c.args.next c.args.first.id c.args.sleepers.now c.requires.rows c.requires.around)
 
 pub returns-clause-queued : goal.returns-clause-queued
 returns-clause-queued c =
@@ -52,7 +55,8 @@ returns-clause-queued c =
     let there = first_found e es rs c.requires.rows c.requires.queued c.requires.first in
     let left = c.take.ensures.items ∙ ap (λ k. without alarm k es) c.key.ensures in
     let again = c.deadline-again.ensures ∙ ap (deadline_at e.id) c.end.ensures in
-    c.enqueue.ensures.items ∙ ap (λ o. with_entry o c.take.new.self.items) again ∙ ap (with_entry (deadline_at e.id (ended_at e.id c.args.next rs))) left
+    c.enqueue.ensures.items ∙ ap (λ o. with_entry o c.take.new.self.items) again
+    ∙ ap (with_entry (deadline_at e.id (ended_at e.id c.args.next rs))) left
     ∙ first_queued c.args.next e es rs c.requires.rows c.requires.queued small there ∙ ap queued (sym c.end.ensures)
 
 pub returns-clause-shorter : goal.returns-clause-shorter
@@ -65,6 +69,7 @@ returns-clause-shorter c =
     let left = c.take.ensures.items ∙ ap (λ k. without alarm k es) c.key.ensures in
     let again = c.deadline-again.ensures ∙ ap (deadline_at e.id) c.end.ensures in
     let is : c.enqueue.new.queue.items ≡ requeued_first c.args.next e es rs =
-    c.enqueue.ensures.items ∙ ap (λ o. with_entry o c.take.new.self.items) again ∙ ap (with_entry (deadline_at e.id (ended_at e.id c.args.next rs))) left in
+    c.enqueue.ensures.items ∙ ap (λ o. with_entry o c.take.new.self.items) again
+    ∙ ap (with_entry (deadline_at e.id (ended_at e.id c.args.next rs))) left in
     subst (λ zs. length (front_ids c.args.next zs) < length (front_ids c.args.next es)) (sym is)
     (first_shorter c.args.next e es rs c.requires.rows c.requires.queued c.requires.first c.requires.due small there)

@@ -17,7 +17,8 @@ loop-one-preserved c =
     let inv = c.loop-one.invariant in
     let before = c.loop-one.records.items in
     let clock = c.args.timers.now.clock in
-    let longer = ap length c.settle_due.ensures.records ∙ changed_length one.slot (renewed c.loop-one.timers.clock one.solo) before in
+    let longer =
+    ap length c.settle_due.ensures.records ∙ changed_length one.slot (renewed c.loop-one.timers.clock one.solo) before in
     let shorter = ap length cut in
     let slots : Every (λ (x : SteppedView). x.slot < length before) (one ∷ rest) = subst (Every (λ (x : SteppedView). x.slot < length before)) cut inv.slots in
     let counting : Every (λ (x : SteppedView). IsCounting x.solo) (one ∷ rest) = subst (Every (λ (x : SteppedView). IsCounting x.solo)) cut inv.counting in
@@ -29,7 +30,9 @@ loop-one-preserved c =
       counting = counting.1;
       clock = c.settle_due.ensures.clock ∙ inv.clock;
       room = omega (arith, inv.room);
-      records = ap (with_records clock rest) (c.settle_due.ensures.records ∙ ap (λ n. changed_at one.slot (renewed n one.solo) before) inv.clock)
+      records =
+          ap (with_records clock rest)
+          (c.settle_due.ensures.records ∙ ap (λ n. changed_at one.slot (renewed n one.solo) before) inv.clock)
           ∙ ap (λ xs. with_records clock xs before) (sym cut) ∙ inv.records;
       running = ap (all_retimed rest) c.settle_due.ensures.running ∙ ap (λ xs. all_retimed xs c.loop-one.timers.running) (sym cut) ∙ inv.running;
     }

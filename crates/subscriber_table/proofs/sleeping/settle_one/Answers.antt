@@ -30,6 +30,9 @@ retime-requires-clause-known c =
     let r = c.index_mut.result.now in
     let running = c.args.timers.now.running in
     let at = c.get-place.ensures.value ∙ c.slot-slot.ensures in
-    let known = queued_read c.args.timers.now.clock c.args.stepped.slot running rs r c.requires.table c.requires.slot (c.index_mut.ensures.value ∙ ap (λ n. get_or rs n r) at) in
+    let known =
+    queued_read c.args.timers.now.clock c.args.stepped.slot running rs r c.requires.table c.requires.slot
+    (c.index_mut.ensures.value ∙ ap (λ n. get_or rs n r) at) in
     let before = c.replace-kept.ensures.before ∙ ap (λ n. countdowns (view_at n r).solo) c.clock.ensures.clock in
-    subst (λ n. AreQueued n c.replace-kept.result.0 running) (sym (c.get.ensures.value ∙ c.slot-slot.ensures)) (subst (λ p. AreQueued c.args.stepped.slot p running) (sym before) known)
+    subst (λ n. AreQueued n c.replace-kept.result.0 running) (sym (c.get.ensures.value ∙ c.slot-slot.ensures))
+    (subst (λ p. AreQueued c.args.stepped.slot p running) (sym before) known)

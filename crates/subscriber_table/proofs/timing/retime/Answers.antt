@@ -8,4 +8,5 @@ use Rattle.subscriber_table.proofs.timing.retime.Goals as goal
 pub retime_one-requires-2-clause-known : goal.retime_one-requires-2-clause-known
 retime_one-requires-2-clause-known c =
     ap (ticks_left (Subscriber c.args.slot) Reachable) c.retime_one.ensures.running
-    ∙ retimed_beside c.args.slot c.args.left.0 c.args.timers.now.running c.ranges.slot.fits c.clock.ensures.order ∙ c.requires.known.1 ∙ sym c.ticks-2.ensures
+    ∙ retimed_beside c.args.slot c.args.left.0 c.args.timers.now.running c.ranges.slot.fits c.clock.ensures.order
+    ∙ c.requires.known.1 ∙ sym c.ticks-2.ensures

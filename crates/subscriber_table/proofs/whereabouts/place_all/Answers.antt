@@ -14,10 +14,12 @@ loop-one-preserved c =
     let rest = drop (n + 1) xs in
     let before = c.loop-one.connections in
     let inv = c.loop-one.invariant in
-    let cut : drop n xs ≡ one ∷ rest = drop_more xs n one c.loop-one-test.true ∙ ap (λ (x : SteppedView). x ∷ rest) (sym c.one-item.is) in
+    let cut : drop n xs ≡ one ∷ rest =
+    drop_more xs n one c.loop-one-test.true ∙ ap (λ (x : SteppedView). x ∷ rest) (sym c.one-item.is) in
     let below : Every (λ (x : SteppedView). x.slot < length before) (one ∷ rest) = subst (Every (λ (x : SteppedView). x.slot < length before)) cut inv.below in
     let placed = c.place.ensures ∙ ap (λ m. slice_set before m (whereabouts c.solo.result.now)) c.slot.ensures ∙ ap (λ s. slice_set before one.slot (whereabouts s)) c.solo.ensures in
-    let longer : length c.place.new.connections ≡ length before = ap length placed ∙ length-set before one.slot (whereabouts one.solo) in
+    let longer : length c.place.new.connections ≡ length before =
+    ap length placed ∙ length-set before one.slot (whereabouts one.solo) in
     record {
       below = subst (λ m. Every (λ (x : SteppedView). x.slot < m) rest) (sym longer) below.1;
       all = ap (with_whereabouts rest) placed ∙ ap (λ ys. with_whereabouts ys before) (sym cut) ∙ inv.all;

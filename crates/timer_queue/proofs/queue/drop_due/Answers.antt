@@ -11,7 +11,8 @@ loop-first-preserved c =
     let queue = c.loop-first.queue.items in
     let index = c.loop-first.index.items in
     let f = first_leaves c.args.clock c.in-Some.first index queue c.loop-first.invariant.queued c.loop-first.invariant.indexed (sym c.first.ensures ∙ c.in-Some.is) in
-    let taken : c.take.new.self.items ≡ without index_rank (rank c.in-Some.first.timer) index = c.take.ensures.items ∙ ap (λ r. without index_rank r index) (c.from.ensures ∙ c.rank.ensures) in
+    let taken : c.take.new.self.items ≡ without index_rank (rank c.in-Some.first.timer) index =
+    c.take.ensures.items ∙ ap (λ r. without index_rank r index) (c.from.ensures ∙ c.rank.ensures) in
     record {
       rest = ap (later_than c.args.clock) c.take_first.ensures.items ∙ sym (f.rest (omega (arith, t))) ∙ c.loop-first.invariant.rest;
       queued = subst IsQueue (sym c.take_first.ensures.items) f.queued;

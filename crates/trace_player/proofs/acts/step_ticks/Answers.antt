@@ -19,7 +19,8 @@ returns-in-Ok-false-clause-put g c =
     let refused = sym c.in-Ok-false.ensures.taken ∙ c.in-Ok-false.field-0-test in
     let all = Ticking-refused old mid new c.loop-tick._tick c.args.count before.0 put.0 before.2 (omega arith) refused c.in-Ok-false.ensures.after put.2 in (
       before.0 ++ put.0,
-      Appends-then (held c.args.writer.now.inner) (held c.loop-tick.writer.inner) (held c.step_event.new.writer.inner) before.0 put.0 before.1 put.1,
+      Appends-then (held c.args.writer.now.inner) (held c.loop-tick.writer.inner)
+          (held c.step_event.new.writer.inner) before.0 put.0 before.1 put.1,
       ap (λ (v : World × List ℕ). v.1) (sym all),
     )
 
@@ -39,8 +40,10 @@ returns-in-Err-clause-put g c =
     let put = c.in-Err.ensures.put in
     let text = reply_text (reply mid event.Tick) in (
       before.0 ++ put.0,
-      Appends-then (held c.args.writer.now.inner) (held c.loop-tick.writer.inner) (held c.step_event.new.writer.inner) before.0 put.0 before.1 put.1,
-      Puts-after Bool (Unit {0}) before.0 text ((ticked c.args.count old).1) put.0 c.in-Err.fault (Ticking-front old mid c.loop-tick._tick c.args.count before.0 before.2 (omega arith)) put.2,
+      Appends-then (held c.args.writer.now.inner) (held c.loop-tick.writer.inner)
+          (held c.step_event.new.writer.inner) before.0 put.0 before.1 put.1,
+      Puts-after Bool (Unit {0}) before.0 text ((ticked c.args.count old).1) put.0 c.in-Err.fault
+          (Ticking-front old mid c.loop-tick._tick c.args.count before.0 before.2 (omega arith)) put.2,
     )
 
 pub loop-tick-preserved : goal.loop-tick-preserved
@@ -52,8 +55,10 @@ loop-tick-preserved g c =
     let before = c.loop-tick.invariant in
     let put = c.in-Ok-true.ensures.put in (
       before.0 ++ put.0,
-      Appends-then (held c.args.writer.now.inner) (held c.loop-tick.writer.inner) (held c.step_event.new.writer.inner) before.0 put.0 before.1 put.1,
-      Ticking-tick old mid new c.loop-tick._tick before.0 put.0 before.2 (sym c.in-Ok-true.ensures.taken ∙ c.in-Ok-true.field-0-test) c.in-Ok-true.ensures.after put.2,
+      Appends-then (held c.args.writer.now.inner) (held c.loop-tick.writer.inner)
+          (held c.step_event.new.writer.inner) before.0 put.0 before.1 put.1,
+      Ticking-tick old mid new c.loop-tick._tick before.0 put.0 before.2
+          (sym c.in-Ok-true.ensures.taken ∙ c.in-Ok-true.field-0-test) c.in-Ok-true.ensures.after put.2,
     )
 
 pub returns-clause-put : goal.returns-clause-put
@@ -65,4 +70,5 @@ returns-clause-put g c =
 pub returns-clause-after : goal.returns-clause-after
 returns-clause-after g c =
     let before = c.loop-tick.invariant in
-    ap (λ (v : World × List ℕ). v.0) (sym (Ticking-end c.args.mme.now c.loop-tick.mme c.loop-tick._tick c.args.count before.0 before.2 (omega arith)))
+    ap (λ (v : World × List ℕ). v.0)
+    (sym (Ticking-end c.args.mme.now c.loop-tick.mme c.loop-tick._tick c.args.count before.0 before.2 (omega arith)))

@@ -5,4 +5,5 @@ use Rattle.trace_player.proofs.acts.step_ticks.Given as goal
 
 abbrev pub invariant-loop-tick : goal.invariant-loop-tick
 invariant-loop-tick g l =
-    (written : List ℕ) × Appends (g.W.Write.contents l.initial.writer.inner) (g.W.Write.contents l.writer.inner) written × Ticking l.initial.mme l._tick l.mme written
+    (written : List ℕ) × Appends (g.W.Write.contents l.initial.writer.inner) (g.W.Write.contents l.writer.inner) written
+    × Ticking l.initial.mme l._tick l.mme written

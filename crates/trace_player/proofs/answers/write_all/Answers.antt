@@ -14,8 +14,10 @@ returns-in-Err-clause-put g c =
     let put = c.in-Err.ensures.put in
     let before = answers_of (take i outs) in (
       before ++ put.0,
-      Appends-then (held c.args.writer.now.inner) (held c.loop-out.writer.inner) (held c.write_out.new.writer.inner) before put.0 c.loop-out.invariant put.1,
-      Puts-after (Unit {0}) (Unit {0}) before (out_text out) (answers_of outs) put.0 c.in-Err.fault (answers_of-front outs i out (omega arith) c.out-item.is) put.2,
+      Appends-then (held c.args.writer.now.inner) (held c.loop-out.writer.inner)
+          (held c.write_out.new.writer.inner) before put.0 c.loop-out.invariant put.1,
+      Puts-after (Unit {0}) (Unit {0}) before (out_text out) (answers_of outs) put.0 c.in-Err.fault
+          (answers_of-front outs i out (omega arith) c.out-item.is) put.2,
     )
 
 pub loop-out-preserved : goal.loop-out-preserved
@@ -28,5 +30,6 @@ loop-out-preserved g c =
     let before = answers_of (take i outs) in
     let first = held c.args.writer.now.inner in
     let last = held c.write_out.new.writer.inner in
-    Appends-same first last (before ++ out_text out) (answers_of (take (i + 1) outs)) (sym (answers_of-more outs i out (omega arith) c.out-item.is))
+    Appends-same first last (before ++ out_text out) (answers_of (take (i + 1) outs))
+    (sym (answers_of-more outs i out (omega arith) c.out-item.is))
     (Appends-then first (held c.loop-out.writer.inner) last before (out_text out) c.loop-out.invariant (Appends-same (held c.loop-out.writer.inner) last put.0 (out_text out) put.2 put.1))

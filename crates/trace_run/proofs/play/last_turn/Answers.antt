@@ -11,6 +11,7 @@ returns-then-is_err-clause-finishes g c =
     let last = held c.flush.new.self.inner in
     let finishes = c.finish-result.ensures.finishes in (
       finishes.0,
-      Appends-same first last (finishes.0 ++ []) finishes.0 (append-nil finishes.0) (Appends-then first mid last finishes.0 [] finishes.1 (Appends-keeps mid last c.flush.ensures.bytes)),
+      Appends-same first last (finishes.0 ++ []) finishes.0 (append-nil finishes.0)
+          (Appends-then first mid last finishes.0 [] finishes.1 (Appends-keeps mid last c.flush.ensures.bytes)),
       Finishes-prefix c.args.player.now finishes.0 c.finish-result.result finishes.2,
     )

@@ -11,6 +11,7 @@ returns-then-is_err-clause-takes g c =
     let last = held c.flush.new.self.inner in
     let takes = c.feed-result.ensures.takes in (
       takes.0,
-      Appends-same first last (takes.0 ++ []) takes.0 (append-nil takes.0) (Appends-then first mid last takes.0 [] takes.1 (Appends-keeps mid last c.flush.ensures.bytes)),
+      Appends-same first last (takes.0 ++ []) takes.0 (append-nil takes.0)
+          (Appends-then first mid last takes.0 [] takes.1 (Appends-keeps mid last c.flush.ensures.bytes)),
       λ more. Takes-prefix c.args.player.now c.feed-result.new.self takes.0 c.args.piece.now c.feed-result.result takes.2 more,
     )

@@ -14,7 +14,8 @@ returns-clause-part c =
       | in-Station+in_ok-push_named-in-Station w ↦
           subst P (sym w.in-Station.is) (owner_part (Station w.in-Station.station) (omega arith))
       | in-Stranger+in_ok-push_named-in-Stranger+in_ok-push_named-in-Stranger-2 w ↦
-          subst P (sym w.in-Stranger.is) (owner_part (Stranger w.in-Stranger.station w.in-Stranger.phone) (omega arith, omega arith))
+          subst P (sym w.in-Stranger.is)
+          (owner_part (Stranger w.in-Stranger.station w.in-Stranger.phone) (omega arith, omega arith))
       | in-Subscriber+in_ok-push_named-in-Subscriber w ↦
           subst P (sym w.in-Subscriber.is) (owner_part (Subscriber w.in-Subscriber.slot) (omega arith))
     ]

@@ -5,5 +5,6 @@ use Rattle.trace_words.proofs.answer.push_state.Goals as goal
 
 pub returns-clause-line : goal.returns-clause-line
 returns-clause-line c =
-    let short : length (imsi_text c.args.imsi.now) ≤ 15 = omega (arith, ap length c.as_str.ensures.value, ap length c.digits-digits.ensures, c.as_str.ensures.fits) in
+    let short : length (imsi_text c.args.imsi.now) ≤ 15 =
+    omega (arith, ap length c.as_str.ensures.value, ap length c.digits-digits.ensures, c.as_str.ensures.fits) in
     state_line c.args.imsi.now c.args.emm c.args.ecm c.args.esm short

@@ -13,7 +13,8 @@ returns c =
     let small : c.args.station < 128 = omega (arith, c.get-number.ensures.value, c.get-number.ensures.bound) in
     let line = In c.args.station c.args.octets.now in
     let made = c.format.result in
-    let text : IfOk made (λ text. string_bytes text ≡ line_text (In c.args.station c.args.octets.now)) = rw (sym c.in_ok-hex.ensures, sym c.get-number.ensures.value) (search rules) in
+    let text : IfOk made (λ text. string_bytes text ≡ line_text (In c.args.station c.args.octets.now)) =
+    rw (sym c.in_ok-hex.ensures, sym c.get-number.ensures.value) (search rules) in
     let reads = λ (short : length (line_text line) ≤ 40000). (in_written c.args.station c.args.octets.now small (λ i. let fits = c.type_inv.octets i in omega (arith, fits)) short).again in
     record {
       text = text;

@@ -6,12 +6,16 @@ use Rattle.association_table.proofs.table.Associations.clear_station.Goals as go
 
 pub close_found-requires : goal.close_found-requires
 close_found-requires c =
-    first_found station_bench c.args.station 0 c.in-Some.association c.loop-association.self.entries c.first_at.ensures.order (sym c.first_at.ensures.value ∙ c.in-Some.is)
+    first_found station_bench c.args.station 0 c.in-Some.association c.loop-association.self.entries c.first_at.ensures.order
+    (sym c.first_at.ensures.value ∙ c.in-Some.is)
 
 pub loop-association-smaller : goal.loop-association-smaller
 loop-association-smaller c =
-    let there = first_found station_bench c.args.station 0 c.in-Some.association c.loop-association.self.entries c.first_at.ensures.order (sym c.first_at.ensures.value ∙ c.in-Some.is) in
-    subst (λ es. length es < length c.loop-association.self.entries) (sym c.close_found.ensures.entries) (length_closed c.in-Some.association.id c.in-Some.association c.loop-association.self.entries there)
+    let there =
+    first_found station_bench c.args.station 0 c.in-Some.association c.loop-association.self.entries c.first_at.ensures.order
+    (sym c.first_at.ensures.value ∙ c.in-Some.is) in
+    subst (λ es. length es < length c.loop-association.self.entries) (sym c.close_found.ensures.entries)
+    (length_closed c.in-Some.association.id c.in-Some.association c.loop-association.self.entries there)
 
 pub loop-association-preserved : goal.loop-association-preserved
 loop-association-preserved c =
@@ -25,4 +29,5 @@ loop-association-preserved c =
 
 pub returns-clause-entries : goal.returns-clause-entries
 returns-clause-entries c =
-    sym (none_elsewhere c.args.station c.loop-association.self.entries (sym c.first_at.ensures.value ∙ c.in_default.is)) ∙ c.loop-association.invariant.others
+    sym (none_elsewhere c.args.station c.loop-association.self.entries (sym c.first_at.ensures.value ∙ c.in_default.is))
+    ∙ c.loop-association.invariant.others

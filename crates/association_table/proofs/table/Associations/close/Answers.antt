@@ -4,7 +4,8 @@ use Rattle.association_table.specs.Table.{association_id, found, closed}
 use Rattle.association_table.proofs.table.Associations.close.Goals as goal
 
 pub returns-in_default-clause-entries : goal.returns-in_default-clause-entries
-returns-in_default-clause-entries c = sym (without_absent association_id c.args.id c.args.self.now.entries (sym c.find.ensures.value ∙ c.in_default.is))
+returns-in_default-clause-entries c =
+    sym (without_absent association_id c.args.id c.args.self.now.entries (sym c.find.ensures.value ∙ c.in_default.is))
 
 pub close_found-requires : goal.close_found-requires
 close_found-requires c = let k = at_key association_id c.args.id c.in-Some.association c.args.self.now.entries (sym c.find.ensures.value ∙ c.in-Some.is) in

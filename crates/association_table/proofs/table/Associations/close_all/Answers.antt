@@ -13,8 +13,11 @@ loop-association-preserved c =
     let kept = c.loop-association.invariant.room in
     let more = c.close.ensures.room in
     record {
-      closed = ap (λ gs. closed_all gs c.close.new.self.entries) c.take_first.ensures.items ∙ ap (closed_all (drop 1 c.loop-association.gathered.items)) c.close.ensures.entries
-          ∙ close_next c.in-Some.association c.loop-association.gathered.items c.loop-association.self.entries (sym c.take_first.ensures.item ∙ c.in-Some.is)
+      closed =
+          ap (λ gs. closed_all gs c.close.new.self.entries) c.take_first.ensures.items
+          ∙ ap (closed_all (drop 1 c.loop-association.gathered.items)) c.close.ensures.entries
+          ∙ close_next c.in-Some.association c.loop-association.gathered.items c.loop-association.self.entries
+          (sym c.take_first.ensures.item ∙ c.in-Some.is)
           ∙ c.loop-association.invariant.closed;
       room = omega arith;
     }

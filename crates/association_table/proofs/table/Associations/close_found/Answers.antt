@@ -11,23 +11,27 @@ use Rattle.association_table.proofs.table.Associations.close_found.Goals as goal
 pub take_seat-requires : goal.take_seat-requires
 take_seat-requires c =
     let es = entries_of c.self.inside.slab c.self.inside.by_id.items in
-    let f : found c.args.association.id es ≡ Some c.args.association = ap (λ (v : Table). found c.args.association.id v.entries) c.self.view_is ∙ c.requires in
+    let f : found c.args.association.id es ≡ Some c.args.association =
+    ap (λ (v : Table). found c.args.association.id v.entries) c.self.view_is ∙ c.requires in
     subst (λ s. IsSome (at seat_rank (seat_rank s) c.self.inside.by_station.items)) (sym c.station_seat.ensures)
     (subst IsSome (sym (ap (at seat_rank (seat_rank (seat_of station_bench c.args.association))) c.self.invariant.0.seats ∙ seat_there station_bench c.args.association.id c.args.association es c.self.invariant.0.ids f)) refl)
 
 pub take_seat-requires-2 : goal.take_seat-requires-2
 take_seat-requires-2 c =
     let es = entries_of c.self.inside.slab c.self.inside.by_id.items in
-    let f : found c.args.association.id es ≡ Some c.args.association = ap (λ (v : Table). found c.args.association.id v.entries) c.self.view_is ∙ c.requires in
+    let f : found c.args.association.id es ≡ Some c.args.association =
+    ap (λ (v : Table). found c.args.association.id v.entries) c.self.view_is ∙ c.requires in
     subst (λ s. IsSome (at seat_rank (seat_rank s) c.self.inside.by_number.items)) (sym c.number_seat.ensures.seat)
     (subst IsSome (sym (ap (at seat_rank (seat_rank (seat_of number_bench c.args.association))) c.self.invariant.0.numbers ∙ seat_there number_bench c.args.association.id c.args.association es c.self.invariant.0.ids f)) refl)
 
 pub invariant_of-self : goal.invariant_of-self
 invariant_of-self c =
     let a = c.args.association in
-    let f : found a.id (entries_of c.self.inside.slab c.self.inside.by_id.items) ≡ Some a = ap (λ (v : Table). found a.id v.entries) c.self.view_is ∙ c.requires in
+    let f : found a.id (entries_of c.self.inside.slab c.self.inside.by_id.items) ≡ Some a =
+    ap (λ (v : Table). found a.id v.entries) c.self.view_is ∙ c.requires in
     let h = sym c.take_place.ensures.place ∙ c.unwrap-place.ensures in
-    let seats = c.take_seat.ensures.items ∙ ap (λ s. without seat_rank (seat_rank s) c.self.inside.by_station.items) c.station_seat.ensures in
+    let seats =
+    c.take_seat.ensures.items ∙ ap (λ s. without seat_rank (seat_rank s) c.self.inside.by_station.items) c.station_seat.ensures in
     let numbers = c.take_seat-2.ensures.items ∙ ap (λ s. without seat_rank (seat_rank s) c.self.inside.by_number.items) c.number_seat.ensures.seat in (
       same_kept c.try_remove.new.self c.try_remove.new.self _ _ _ _ _ _
           (close_kept c.self.inside.slab c.try_remove.new.self a.id a c.unwrap-place.result c.self.inside.by_id.items c.self.inside.by_station.items c.self.inside.by_number.items c.self.invariant.0 f h c.try_remove.ensures.updates)
@@ -46,7 +50,8 @@ returns-clause-entries c =
 
 pub unwrap-place-requires : goal.unwrap-place-requires
 unwrap-place-requires c =
-    let f : found c.args.association.id (entries_of c.self.inside.slab c.self.inside.by_id.items) ≡ Some c.args.association = ap (λ (v : Table). found c.args.association.id v.entries) c.self.view_is ∙ c.requires in
+    let f : found c.args.association.id (entries_of c.self.inside.slab c.self.inside.by_id.items) ≡ Some c.args.association =
+    ap (λ (v : Table). found c.args.association.id v.entries) c.self.view_is ∙ c.requires in
     let t = taken_place c.self.inside.slab c.args.association.id c.args.association c.self.inside.by_id.items f in
     subst IsSome (sym (c.take_place.ensures.place ∙ t.1)) refl
 
@@ -55,11 +60,13 @@ returns-clause-gone c =
     let h = sym c.take_place.ensures.place ∙ c.unwrap-place.ensures in
     let e = ap (entries_of c.try_remove.new.self) c.take_place.ensures.items
     ∙ close_entries c.self.inside.slab c.try_remove.new.self c.args.association.id c.unwrap-place.result c.self.inside.by_id.items c.self.invariant.0.keys h c.try_remove.ensures.updates in
-    ap (found c.args.association.id) e ∙ closed_gone c.self.inside.slab c.args.association.id c.self.inside.by_id.items c.self.invariant.0.rising
+    ap (found c.args.association.id) e
+    ∙ closed_gone c.self.inside.slab c.args.association.id c.self.inside.by_id.items c.self.invariant.0.rising
 
 pub returns-clause-room : goal.returns-clause-room
 returns-clause-room c =
-    let f : found c.args.association.id (entries_of c.self.inside.slab c.self.inside.by_id.items) ≡ Some c.args.association = ap (λ (v : Table). found c.args.association.id v.entries) c.self.view_is ∙ c.requires in
+    let f : found c.args.association.id (entries_of c.self.inside.slab c.self.inside.by_id.items) ≡ Some c.args.association =
+    ap (λ (v : Table). found c.args.association.id v.entries) c.self.view_is ∙ c.requires in
     let h = sym c.take_place.ensures.place ∙ c.unwrap-place.ensures in
     let there = every_at (λ p. IsSome (get c.self.inside.slab p.key)) place_id c.args.association.id c.unwrap-place.result c.self.inside.by_id.items h c.self.invariant.0.held in
     let some : IsSome c.try_remove.result = subst IsSome (sym c.try_remove.ensures.value) there in

@@ -10,5 +10,8 @@ use Rattle.association_table.proofs.table.Associations.close_listed.Goals as goa
 pub returns-clause-entries : goal.returns-clause-entries
 returns-clause-entries c =
     let es = c.args.self.now.entries in
-    let order = subst (λ (v : Table). Rising association_id v.entries) c.self.view_is (rising_entries c.self.inside.slab c.self.inside.by_id.items c.self.invariant.0.rising) in
-    c.close_all.ensures.entries ∙ ap (λ gs. closed_all gs es) c.in_ok-gathered.ensures ∙ closed_filter (is_listed c.args.station c.args.items.now) es order
+    let order =
+    subst (λ (v : Table). Rising association_id v.entries) c.self.view_is
+    (rising_entries c.self.inside.slab c.self.inside.by_id.items c.self.invariant.0.rising) in
+    c.close_all.ensures.entries ∙ ap (λ gs. closed_all gs es) c.in_ok-gathered.ensures
+    ∙ closed_filter (is_listed c.args.station c.args.items.now) es order

@@ -5,7 +5,9 @@ use Rattle.association_table.proofs.Entries.{copied_kept, copied_entries, same_s
 use Rattle.association_table.proofs.table.Associations.copy.Goals as goal
 
 slots : (c : goal.After-result-2-1) → c.in_ok-clone.field-0.slots ≡ c.self.inside.slab.slots
-slots c = same_from_all_zip _ c.self.inside.slab.slots c.in_ok-clone.field-0.slots c.in_ok-clone.ensures.cases.slots (same_slot _ (λ x y r. r))
+slots c =
+    same_from_all_zip _ c.self.inside.slab.slots c.in_ok-clone.field-0.slots c.in_ok-clone.ensures.cases.slots
+    (same_slot _ (λ x y r. r))
 
 pub invariant_of-result : goal.invariant_of-result
 invariant_of-result c = (
@@ -17,5 +19,6 @@ invariant_of-result c = (
 
 pub returns : goal.returns
 returns c =
-    copied_entries c.self.inside.slab c.in_ok-clone.field-0 c.self.inside.by_id.items c.in_ok-copy.field-0.items (slots c) c.in_ok-copy.ensures.items
+    copied_entries c.self.inside.slab c.in_ok-clone.field-0 c.self.inside.by_id.items c.in_ok-copy.field-0.items
+    (slots c) c.in_ok-copy.ensures.items
     ∙ ap (λ (v : Table). v.entries) c.self.view_is

@@ -11,7 +11,9 @@ loop-association-init c = record {
 
 pub loop-association-smaller : goal.loop-association-smaller
 loop-association-smaller c =
-    let there = first_is station_bench c.args.station c.loop-association.least c.in-Some.association c.args.self.now.entries (sym c.first_at.ensures.value ∙ c.in-Some.is) in
+    let there =
+    first_is station_bench c.args.station c.loop-association.least c.in-Some.association c.args.self.now.entries
+    (sym c.first_at.ensures.value ∙ c.in-Some.is) in
     let small = c.association_id.type_inv in
     let is = c.association_id.ensures in
     let wide = c.from-least.ensures in
@@ -23,7 +25,8 @@ loop-association-preserved c =
     let es = c.args.self.now.entries in
     let wide = c.from-least.ensures ∙ c.association_id.ensures in
     let small = c.association_id.type_inv in
-    let next = from_some c.args.station c.loop-association.least a es c.first_at.ensures.order (sym c.first_at.ensures.value ∙ c.in-Some.is) in
+    let next =
+    from_some c.args.station c.loop-association.least a es c.first_at.ensures.order (sym c.first_at.ensures.value ∙ c.in-Some.is) in
     record {
       listed = ap (λ xs. xs ++ station_from c.args.station (c.from-least.result + 1) es) c.in_ok-push.ensures.items
           ∙ ap (λ n. (c.loop-association.entries.items ++ a ∷ []) ++ station_from c.args.station (n + 1) es) wide
@@ -34,5 +37,7 @@ loop-association-preserved c =
 
 pub returns : goal.returns
 returns c =
-    let none = from_none c.args.station c.loop-association.least c.args.self.now.entries (sym c.first_at.ensures.value ∙ c.in_default.is) in
-    sym (append-nil c.loop-association.entries.items) ∙ ap (λ xs. c.loop-association.entries.items ++ xs) (sym none) ∙ c.loop-association.invariant.listed
+    let none =
+    from_none c.args.station c.loop-association.least c.args.self.now.entries (sym c.first_at.ensures.value ∙ c.in_default.is) in
+    sym (append-nil c.loop-association.entries.items) ∙ ap (λ xs. c.loop-association.entries.items ++ xs) (sym none)
+    ∙ c.loop-association.invariant.listed

@@ -11,17 +11,21 @@ pub first_seat-requires-clause-rising : goal.first_seat-requires-clause-rising
 first_seat-requires-clause-rising c =
     let k = c.self.invariant.0 in
     let es = entries_of c.self.inside.slab c.self.inside.by_id.items in
-    subst (Rising seat_rank) (sym k.seats) (rising_seats station_bench es (rising_entries c.self.inside.slab c.self.inside.by_id.items k.rising) k.ids)
+    subst (Rising seat_rank) (sym k.seats)
+    (rising_seats station_bench es (rising_entries c.self.inside.slab c.self.inside.by_id.items k.rising) k.ids)
 
 pub first_seat-requires-clause-small : goal.first_seat-requires-clause-small
-first_seat-requires-clause-small c = subst (Every IsSeat) (sym c.self.invariant.0.seats) (seats_small station_bench (entries_of c.self.inside.slab c.self.inside.by_id.items) c.self.invariant.0.ids)
+first_seat-requires-clause-small c =
+    subst (Every IsSeat) (sym c.self.invariant.0.seats)
+    (seats_small station_bench (entries_of c.self.inside.slab c.self.inside.by_id.items) c.self.invariant.0.ids)
 
 pub returns-in-Some-clause-value : goal.returns-in-Some-clause-value
 returns-in-Some-clause-value c =
     let here = sym (first_answer c.self.inside.slab c.self.inside.by_id.items c.self.inside.by_station.items c.self.inside.by_number.items c.self.invariant.0 c.args.station c.args.least) ∙ ap (λ b. first_seat b c.args.least c.self.inside.by_station.items) (sym c.from.ensures) ∙ sym c.first_seat.ensures ∙ c.in-Some.is in
     let answer : option_map association_id (first_from station_bench c.args.station c.args.least c.args.self.now.entries) ≡ Some c.in-Some.id =
     ap (λ (v : Table). option_map association_id (first_from station_bench c.args.station c.args.least v.entries)) (sym c.self.view_is) ∙ here in
-    c.find.ensures.value ∙ first_by_id station_bench c.args.station c.args.least c.in-Some.id c.args.self.now.entries c.find.ensures.order answer
+    c.find.ensures.value
+    ∙ first_by_id station_bench c.args.station c.args.least c.in-Some.id c.args.self.now.entries c.find.ensures.order answer
 
 pub returns-in-None-clause-value : goal.returns-in-None-clause-value
 returns-in-None-clause-value c =
@@ -31,4 +35,6 @@ returns-in-None-clause-value c =
     sym (mapped_none (first_from station_bench c.args.station c.args.least c.args.self.now.entries) answer)
 
 pub returns-in-None-clause-order : goal.returns-in-None-clause-order
-returns-in-None-clause-order c = subst (λ (v : Table). Rising association_id v.entries) c.self.view_is (rising_entries c.self.inside.slab c.self.inside.by_id.items c.self.invariant.0.rising)
+returns-in-None-clause-order c =
+    subst (λ (v : Table). Rising association_id v.entries) c.self.view_is
+    (rising_entries c.self.inside.slab c.self.inside.by_id.items c.self.invariant.0.rising)

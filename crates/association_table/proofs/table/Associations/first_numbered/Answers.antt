@@ -12,10 +12,13 @@ pub first_seat-requires-clause-rising : goal.first_seat-requires-clause-rising
 first_seat-requires-clause-rising c =
     let k = c.self.invariant.0 in
     let es = entries_of c.self.inside.slab c.self.inside.by_id.items in
-    subst (Rising seat_rank) (sym k.numbers) (rising_seats number_bench es (rising_entries c.self.inside.slab c.self.inside.by_id.items k.rising) k.ids)
+    subst (Rising seat_rank) (sym k.numbers)
+    (rising_seats number_bench es (rising_entries c.self.inside.slab c.self.inside.by_id.items k.rising) k.ids)
 
 pub first_seat-requires-clause-small : goal.first_seat-requires-clause-small
-first_seat-requires-clause-small c = subst (Every IsSeat) (sym c.self.invariant.0.numbers) (seats_small number_bench (entries_of c.self.inside.slab c.self.inside.by_id.items) c.self.invariant.0.ids)
+first_seat-requires-clause-small c =
+    subst (Every IsSeat) (sym c.self.invariant.0.numbers)
+    (seats_small number_bench (entries_of c.self.inside.slab c.self.inside.by_id.items) c.self.invariant.0.ids)
 
 pub returns-in-Some-clause-value : goal.returns-in-Some-clause-value
 returns-in-Some-clause-value c =
@@ -32,4 +35,6 @@ returns-in-None-clause-value c =
     sym (mapped_none (first_numbered c.args.station c.args.enb_ue_id c.args.least c.args.self.now.entries) answer)
 
 pub returns-in-None-clause-order : goal.returns-in-None-clause-order
-returns-in-None-clause-order c = subst (λ (v : Table). Rising association_id v.entries) c.self.view_is (rising_entries c.self.inside.slab c.self.inside.by_id.items c.self.invariant.0.rising)
+returns-in-None-clause-order c =
+    subst (λ (v : Table). Rising association_id v.entries) c.self.view_is
+    (rising_entries c.self.inside.slab c.self.inside.by_id.items c.self.invariant.0.rising)

@@ -8,7 +8,8 @@ use Rattle.association_table.proofs.table.Associations.move_to.Goals as goal
 pub close_found-requires : goal.close_found-requires
 close_found-requires c =
     let there = sym c.find.ensures.value ∙ c.in-Some.is in
-    ap (λ i. found i c.args.self.now.entries) (at_key association_id c.args.id c.in-Some.association c.args.self.now.entries there) ∙ there
+    ap (λ i. found i c.args.self.now.entries) (at_key association_id c.args.id c.in-Some.association c.args.self.now.entries there)
+    ∙ there
 
 pub open_reserved-requires-clause-free : goal.open_reserved-requires-clause-free
 open_reserved-requires-clause-free c =
@@ -18,7 +19,9 @@ open_reserved-requires-clause-free c =
 pub returns-clause-entries : goal.returns-clause-entries
 returns-clause-entries c =
     let there = sym c.find.ensures.value ∙ c.in-Some.is in
-    let a : Association = record { id = c.args.id; owner = c.in-Some.association.owner; station = c.args.station; enb_ue_id = c.args.enb_ue_id } in
+    let a : Association =
+    record { id = c.args.id; owner = c.in-Some.association.owner; station = c.args.station; enb_ue_id = c.args.enb_ue_id } in
     c.open_reserved.ensures.entries ∙ ap (opened a) c.close_found.ensures.entries
-    ∙ ap (λ i. opened a (closed i c.args.self.now.entries)) (at_key association_id c.args.id c.in-Some.association c.args.self.now.entries there)
+    ∙ ap (λ i. opened a (closed i c.args.self.now.entries))
+    (at_key association_id c.args.id c.in-Some.association c.args.self.now.entries there)
     ∙ moved_is c.args.id c.args.station c.args.enb_ue_id c.in-Some.association c.args.self.now.entries c.find.ensures.order there

@@ -8,31 +8,40 @@ use Rattle.association_table.proofs.table.Associations.open_reserved.Goals as go
 
 pub insert_reserved-requires-clause-free : goal.insert_reserved-requires-clause-free
 insert_reserved-requires-clause-free c =
-    let f : found c.args.association.id (entries_of c.self.inside.slab c.self.inside.by_id.items) ≡ None = ap (λ (v : Table). found c.args.association.id v.entries) c.self.view_is ∙ c.requires.free in
-    ap (λ i. at place_id i c.self.inside.by_id.items) c.association_id-id.ensures ∙ free_place c.self.inside.slab c.args.association.id c.self.inside.by_id.items f
+    let f : found c.args.association.id (entries_of c.self.inside.slab c.self.inside.by_id.items) ≡ None =
+    ap (λ (v : Table). found c.args.association.id v.entries) c.self.view_is ∙ c.requires.free in
+    ap (λ i. at place_id i c.self.inside.by_id.items) c.association_id-id.ensures
+    ∙ free_place c.self.inside.slab c.args.association.id c.self.inside.by_id.items f
 
 pub insert_reserved-requires-2-clause-free : goal.insert_reserved-requires-2-clause-free
 insert_reserved-requires-2-clause-free c =
     let small = c.association_id-id.type_inv in let id : c.args.association.id < 4294967296 = omega (arith, c.association_id-id.ensures) in
-    let f : found c.args.association.id (entries_of c.self.inside.slab c.self.inside.by_id.items) ≡ None = ap (λ (v : Table). found c.args.association.id v.entries) c.self.view_is ∙ c.requires.free in
+    let f : found c.args.association.id (entries_of c.self.inside.slab c.self.inside.by_id.items) ≡ None =
+    ap (λ (v : Table). found c.args.association.id v.entries) c.self.view_is ∙ c.requires.free in
     let k = c.self.invariant.0 in
     let es = entries_of c.self.inside.slab c.self.inside.by_id.items in
-    ap (λ s. at seat_rank (seat_rank s) c.self.inside.by_station.items) c.station_seat-station_seat.ensures ∙ ap (at seat_rank (seat_rank (seat_of station_bench c.args.association))) k.seats
-    ∙ free_seat station_bench c.args.association es (rising_entries c.self.inside.slab c.self.inside.by_id.items k.rising) k.ids (id, c.number_seat-number_seat.ensures.small) f
+    ap (λ s. at seat_rank (seat_rank s) c.self.inside.by_station.items) c.station_seat-station_seat.ensures
+    ∙ ap (at seat_rank (seat_rank (seat_of station_bench c.args.association))) k.seats
+    ∙ free_seat station_bench c.args.association es (rising_entries c.self.inside.slab c.self.inside.by_id.items k.rising) k.ids
+    (id, c.number_seat-number_seat.ensures.small) f
 
 pub insert_reserved-requires-3-clause-free : goal.insert_reserved-requires-3-clause-free
 insert_reserved-requires-3-clause-free c =
     let small = c.association_id-id.type_inv in let id : c.args.association.id < 4294967296 = omega (arith, c.association_id-id.ensures) in
-    let f : found c.args.association.id (entries_of c.self.inside.slab c.self.inside.by_id.items) ≡ None = ap (λ (v : Table). found c.args.association.id v.entries) c.self.view_is ∙ c.requires.free in
+    let f : found c.args.association.id (entries_of c.self.inside.slab c.self.inside.by_id.items) ≡ None =
+    ap (λ (v : Table). found c.args.association.id v.entries) c.self.view_is ∙ c.requires.free in
     let k = c.self.invariant.0 in
     let es = entries_of c.self.inside.slab c.self.inside.by_id.items in
-    ap (λ s. at seat_rank (seat_rank s) c.self.inside.by_number.items) c.number_seat-number_seat.ensures.seat ∙ ap (at seat_rank (seat_rank (seat_of number_bench c.args.association))) k.numbers
-    ∙ free_seat number_bench c.args.association es (rising_entries c.self.inside.slab c.self.inside.by_id.items k.rising) k.ids (id, c.number_seat-number_seat.ensures.small) f
+    ap (λ s. at seat_rank (seat_rank s) c.self.inside.by_number.items) c.number_seat-number_seat.ensures.seat
+    ∙ ap (at seat_rank (seat_rank (seat_of number_bench c.args.association))) k.numbers
+    ∙ free_seat number_bench c.args.association es (rising_entries c.self.inside.slab c.self.inside.by_id.items k.rising) k.ids
+    (id, c.number_seat-number_seat.ensures.small) f
 
 pub invariant_of-self : goal.invariant_of-self
 invariant_of-self c =
     let small = c.association_id-id.type_inv in let id : c.args.association.id < 4294967296 = omega (arith, c.association_id-id.ensures) in
-    let f : found c.args.association.id (entries_of c.self.inside.slab c.self.inside.by_id.items) ≡ None = ap (λ (v : Table). found c.args.association.id v.entries) c.self.view_is ∙ c.requires.free in
+    let f : found c.args.association.id (entries_of c.self.inside.slab c.self.inside.by_id.items) ≡ None =
+    ap (λ (v : Table). found c.args.association.id v.entries) c.self.view_is ∙ c.requires.free in
     let a = c.args.association in
     let places = c.insert_reserved.ensures.items ∙ ap (λ i. add place_id (record { id = i; key = c.insert_reserved-key.result }) c.self.inside.by_id.items) c.association_id-id.ensures in
     let seats = c.insert_reserved-2.ensures.items ∙ ap (λ s. add seat_rank s c.self.inside.by_station.items) c.station_seat-station_seat.ensures in

@@ -4,7 +4,9 @@ use Rattle.connection_table.proofs.Meant.{repeated_gathered, next_gathered}
 use Rattle.connection_table.proofs.table.Connections.gather_next.Goals as goal
 
 pub returns-then-is_repeated : goal.returns-then-is_repeated
-returns-then-is_repeated c = repeated_gathered c.args.station c.args.item c.args.before.now c.args.self.now c.args.gathered.now.items (sym c.is_repeated.ensures ∙ c.if-is_repeated.true)
+returns-then-is_repeated c =
+    repeated_gathered c.args.station c.args.item c.args.before.now c.args.self.now c.args.gathered.now.items
+    (sym c.is_repeated.ensures ∙ c.if-is_repeated.true)
 
 pub returns : goal.returns
 returns c =

@@ -10,7 +10,8 @@ use Rattle.connection_table.proofs.Tables.{pushed}
 use Rattle.connection_table.proofs.table.Connections.push.Goals as goal
 
 -- a list with room for one more
-wider : (f : Whereabouts → Option ℕ) (ws : List Whereabouts) (count : ℕ) (old new : Sorted Seat) → length ws < slots → count ≡ length ws + 1 → IsIndex (map f ws) old
+wider : (f : Whereabouts → Option ℕ) (ws : List Whereabouts) (count : ℕ) (old new : Sorted Seat) → length ws < slots
+    → count ≡ length ws + 1 → IsIndex (map f ws) old
     → ((benches : List (Option ℕ)) → IsIndex benches old → length benches < slots → count ≡ length benches + 1 → IsIndex (benches ++ None ∷ []) new) → IsIndex (map f ws ++ None ∷ []) new
 wider f ws count old new few is k more = let long = length-map ws f in more (map f ws) k (omega arith) (omega arith)
 

@@ -1,6 +1,26 @@
-use Rattle.std.proofs.Common.{arith, subst}
-use Rattle.mme_core.specs.Kept.{IsKept}
+use Rattle.std.proofs.Common.{arith, length, ap, sym, subst, ◌∙◌}
+use Rattle.std.proofs.lemmas.List.{length-replicate}
+use Rattle.sorted_list.specs.Ordered.{Every, Rising}
+use Rattle.mme_types.specs.declared.stations.StationState.TheVariants.{Down}
+use Rattle.mme_types.specs.Stations.{no_stations}
+use Rattle.stranger_machine.specs.Table.{known_id}
+use Rattle.mme_core.specs.FreshRuns.{AreInUse}
+use Rattle.mme_core.specs.Kept.{IsKnownTimed}
+use Rattle.mme_core.proofs.InUse.{fresh_in_use}
 use Rattle.mme_core.proofs.mme.Mme.new.Goals as goal
 
 pub invariant_of-result : goal.invariant_of-result
-invariant_of-result c = (omega (arith, c.in_ok-subscribers.ensures.clock), tt)
+unfolding no_stations
+invariant_of-result c =
+    let made = c.in_ok-subscribers.ensures in
+    let none = sym c.new-3.ensures.strangers in
+    let used = fresh_in_use c.in_use_is_kept.ensures.fresh c.soundness_is_kept.ensures.fresh c.clocks_are_kept.ensures.fresh _ 0 _ _ in (
+      omega (arith, made.clock),
+      record {
+        stations = ap length c.in_ok-stations.ensures ∙ length-replicate 128 Down;
+        rising = subst (Rising known_id) none tt;
+        timed = subst (Every IsKnownTimed) none tt;
+        in_use = subst AreInUse (sym made.value) used;
+        provisioned = made.count ∙ ap length (sym made.profiles);
+      },
+    )

@@ -26,7 +26,8 @@ loop-event-preserved c =
     let rs = c.loop-event.replies.items in
     let h = c.loop-event.invariant in
     let x = c.event-item.result in
-    let more : take (i + 1) es ≡ take i es ++ x ∷ [] = take_more es i x c.loop-event-test.true ∙ ap (λ y. take i es ++ y ∷ []) (sym c.event-item.is) in
+    let more : take (i + 1) es ≡ take i es ++ x ∷ [] =
+    take_more es i x c.loop-event-test.true ∙ ap (λ y. take i es ++ y ∷ []) (sym c.event-item.is) in
     let push : c.push_reserved.new.self.items ≡ rs ++ c.step-reply.result ∷ [] = c.push_reserved.ensures.items in
     let same : length (take i es) ≡ length rs = omega (arith, length-take i es) in
     let next = ran_more c.args.self.now (take i es) rs c.loop-event.self c.step-reply.new.self x c.step-reply.result same h.ran
@@ -51,7 +52,8 @@ returns-clause-told c =
     let l = c.loop-event in
     let es = c.args.events.now in
     let all : take l.event-index es ≡ es = take_all l.event-index es (let t = c.loop-event-test.false in omega (arith, t)) in
-    let rising : Rising known_id w.strangers = subst (λ (v : World). Rising known_id v.strangers) c.self.view_is c.self.invariant.1.rising in
+    let rising : Rising known_id w.strangers =
+    subst (λ (v : World). Rising known_id v.strangers) c.self.view_is c.self.invariant.1.rising in
     λ slot x at. ap (told (is_slot slot)) (l.invariant.ran.replies ∙ ap (λ xs. replies w (events_taken xs l.replies.items)) all) ∙ slots_told w (events_taken es l.replies.items) slot x rising at
 
 pub returns-clause-states : goal.returns-clause-states
@@ -60,7 +62,8 @@ returns-clause-states c =
     let l = c.loop-event in
     let es = c.args.events.now in
     let all : take l.event-index es ≡ es = take_all l.event-index es (let t = c.loop-event-test.false in omega (arith, t)) in
-    let rising : Rising known_id w.strangers = subst (λ (v : World). Rising known_id v.strangers) c.self.view_is c.self.invariant.1.rising in
+    let rising : Rising known_id w.strangers =
+    subst (λ (v : World). Rising known_id v.strangers) c.self.view_is c.self.invariant.1.rising in
     λ slot x at. ap (λ (v : World). slice_get v.subscribers slot) (l.invariant.ran.state ∙ ap (λ xs. world_run w (events_taken xs l.replies.items)) all) ∙ slots_end w (events_taken es l.replies.items) slot x rising at
 
 pub returns-clause-absent : goal.returns-clause-absent
@@ -77,7 +80,8 @@ returns-clause-strangers c =
     let l = c.loop-event in
     let es = c.args.events.now in
     let all : take l.event-index es ≡ es = take_all l.event-index es (let t = c.loop-event-test.false in omega (arith, t)) in
-    let rising : Rising known_id w.strangers = subst (λ (v : World). Rising known_id v.strangers) c.self.view_is c.self.invariant.1.rising in
+    let rising : Rising known_id w.strangers =
+    subst (λ (v : World). Rising known_id v.strangers) c.self.view_is c.self.invariant.1.rising in
     λ id. ap (told (is_stranger id)) (l.invariant.ran.replies ∙ ap (λ xs. replies w (events_taken xs l.replies.items)) all) ∙ strangers_told w (events_taken es l.replies.items) id rising
 
 pub returns-clause-stranger_states : goal.returns-clause-stranger_states
@@ -86,7 +90,8 @@ returns-clause-stranger_states c =
     let l = c.loop-event in
     let es = c.args.events.now in
     let all : take l.event-index es ≡ es = take_all l.event-index es (let t = c.loop-event-test.false in omega (arith, t)) in
-    let rising : Rising known_id w.strangers = subst (λ (v : World). Rising known_id v.strangers) c.self.view_is c.self.invariant.1.rising in
+    let rising : Rising known_id w.strangers =
+    subst (λ (v : World). Rising known_id v.strangers) c.self.view_is c.self.invariant.1.rising in
     λ id. ap (λ (v : World). stranger_at id v.strangers) (l.invariant.ran.state ∙ ap (λ xs. world_run w (events_taken xs l.replies.items)) all) ∙ strangers_end w (events_taken es l.replies.items) id rising
 
 pub returns-clause-stations : goal.returns-clause-stations
@@ -103,14 +108,16 @@ returns-clause-station_states c =
     let l = c.loop-event in
     let es = c.args.events.now in
     let all : take l.event-index es ≡ es = take_all l.event-index es (let t = c.loop-event-test.false in omega (arith, t)) in
-    let long : length w.sight.stations ≡ 128 = sym (ap (λ (v : World). length v.sight.stations) c.self.view_is) ∙ c.self.invariant.1.stations in
+    let long : length w.sight.stations ≡ 128 =
+    sym (ap (λ (v : World). length v.sight.stations) c.self.view_is) ∙ c.self.invariant.1.stations in
     λ e lt. station_ends w l.self e (events_taken es l.replies.items) (l.invariant.ran.state ∙ ap (λ xs. world_run w (events_taken xs l.replies.items)) all) (omega (arith, long, lt))
 
 pub returns-clause-order : goal.returns-clause-order
 returns-clause-order c =
     let w = c.args.self.now in
     let l = c.loop-event in
-    let rising : Rising known_id w.strangers = subst (λ (v : World). Rising known_id v.strangers) c.self.view_is c.self.invariant.1.rising in
+    let rising : Rising known_id w.strangers =
+    subst (λ (v : World). Rising known_id v.strangers) c.self.view_is c.self.invariant.1.rising in
     run_order w (events_taken (take l.event-index c.args.events.now) l.replies.items) l.replies.items rising l.invariant.ran.replies
 
 pub returns-clause-fresh : goal.returns-clause-fresh
@@ -134,7 +141,8 @@ returns-clause-fresh c =
 pub returns-clause-each_states : goal.returns-clause-each_states
 returns-clause-each_states c =
     let w = c.args.self.now in
-    let rising : Rising known_id w.strangers = subst (λ (v : World). Rising known_id v.strangers) c.self.view_is c.self.invariant.1.rising in
+    let rising : Rising known_id w.strangers =
+    subst (λ (v : World). Rising known_id v.strangers) c.self.view_is c.self.invariant.1.rising in
     λ slot x at. slots_along w (events_taken c.args.events.now c.loop-event.replies.items) slot x rising at
 
 pub returns-clause-guarded : goal.returns-clause-guarded

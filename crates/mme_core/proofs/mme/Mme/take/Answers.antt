@@ -1,7 +1,4 @@
-use Rattle.std.proofs.Common.{sym, subst, ap}
-use Rattle.sorted_list.specs.Ordered.{Rising}
-use Rattle.stranger_machine.specs.Table.{known_id}
-use Rattle.mme_answering.specs.Settled.{settled_strangers}
+use Rattle.std.proofs.Common.{sym, subst}
 use Rattle.mme_core.specs.Kept.{IsKept}
 use Rattle.mme_core.specs.Ready.{ready_world}
 use Rattle.mme_core.specs.World.{World}

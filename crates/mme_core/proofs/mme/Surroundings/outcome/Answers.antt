@@ -27,11 +27,14 @@ if_ok (Err e) f h = tt
 
 pub returns-in-Up : goal.returns-in-Up
 unfolding happens
-returns-in-Up c = rw c.in-Up.is (ap (λ (sent : List Answer). record { state = Some Up; sent = sent; destination = to.Nobody }) c.new.ensures)
+returns-in-Up c =
+    rw c.in-Up.is (ap (λ (sent : List Answer). record { state = Some Up; sent = sent; destination = to.Nobody }) c.new.ensures)
 
 pub returns-in-Lost : goal.returns-in-Lost
 unfolding happens
-returns-in-Lost c = rw c.in-Lost.is (c.begins_anew.ensures c.args.self.now.sight.stations ∙ ap (begins_anew c.in-Lost.station (Some Down)) c.new-in-Lost.ensures)
+returns-in-Lost c =
+    rw c.in-Lost.is
+    (c.begins_anew.ensures c.args.self.now.sight.stations ∙ ap (begins_anew c.in-Lost.station (Some Down)) c.new-in-Lost.ensures)
 
 pub returns-in-In : goal.returns-in-In
 unfolding happens

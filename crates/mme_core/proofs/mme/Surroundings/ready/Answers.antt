@@ -16,9 +16,12 @@ pub returns-clause-order : goal.returns-clause-order
 returns-clause-order c =
     let w = world_of c.args.self.now c.args.subscribers.now.subscribers in
     let d = destination_of w.sight.stations c.in_ok-state.field-0.destination in
-    let rising : Rising known_id w.strangers = subst (λ (v : Around). Rising known_id v.strangers) c.self.view_is c.self.invariant.1 in
-    let rest = strangers_sent w.sight.profiles d w.strangers ++ each_sent (item_at d w.sight.profiles (strangers_in w)) 0 w.subscribers in
-    let sent : c.prepared.new.outs ≡ station_sent c.station.result c.in_ok-state.field-0.sent ++ rest = c.in_ok-prepared.ensures.sends ∙ ap (λ os. os ++ rest) c.in_ok-outs.ensures in
+    let rising : Rising known_id w.strangers =
+    subst (λ (v : Around). Rising known_id v.strangers) c.self.view_is c.self.invariant.1 in
+    let rest =
+    strangers_sent w.sight.profiles d w.strangers ++ each_sent (item_at d w.sight.profiles (strangers_in w)) 0 w.subscribers in
+    let sent : c.prepared.new.outs ≡ station_sent c.station.result c.in_ok-state.field-0.sent ++ rest =
+    c.in_ok-prepared.ensures.sends ∙ ap (λ os. os ++ rest) c.in_ok-outs.ensures in
     subst AreInOrder (sym sent) (parts_order c.station.result c.in_ok-state.field-0.sent w.sight.profiles d w.strangers (item_at d w.sight.profiles (strangers_in w)) w.subscribers rising)
 
 pub returns-clause-in_time : goal.returns-clause-in_time

@@ -10,9 +10,11 @@ use Rattle.mme_core.proofs.mme.Surroundings.take.Goals as goal
 pub invariant_of-self-2 : goal.invariant_of-self-2
 invariant_of-self-2 c =
     let own = ap (λ (v : Around). v.sight.clock) c.self.view_is in
-    let most : c.self.inside.strangers.clock ≤ c.args.self.now.sight.clock = subst (λ n. c.self.inside.strangers.clock ≤ n) own c.self.invariant.2 in
+    let most : c.self.inside.strangers.clock ≤ c.args.self.now.sight.clock =
+    subst (λ n. c.self.inside.strangers.clock ≤ n) own c.self.invariant.2 in
     let past = not_past c.args.ready.prepared c.self.inside.strangers.clock c.args.self.now.sight.clock c.args.ready.moves.clock most c.requires.in_time in (
-      ap length c.settle_station.ensures ∙ placed_many c.args.ready.moves.station c.args.ready.moves.state c.self.inside.stations ∙ c.self.invariant.0,
+      ap length c.settle_station.ensures ∙ placed_many c.args.ready.moves.station c.args.ready.moves.state c.self.inside.stations
+          ∙ c.self.invariant.0,
       subst (Rising known_id) (sym (c.in_ok-settle.ensures.strangers ∙ ap (λ (v : Around). settled_strangers c.args.ready.prepared v.strangers) c.self.view_is)) c.requires.rising,
       omega (arith, past, c.in_ok-settle.ensures.strangers_clock),
     )
@@ -23,7 +25,8 @@ settle-requires-clause-clock c = passes c.args.ready.prepared c.args.subscribers
 pub settle-requires-clause-strangers_clock : goal.settle-requires-clause-strangers_clock
 settle-requires-clause-strangers_clock c =
     let own = ap (λ (v : Around). v.sight.clock) c.self.view_is in
-    let most : c.self.inside.strangers.clock ≤ c.args.self.now.sight.clock = subst (λ n. c.self.inside.strangers.clock ≤ n) own c.self.invariant.2 in
+    let most : c.self.inside.strangers.clock ≤ c.args.self.now.sight.clock =
+    subst (λ n. c.self.inside.strangers.clock ≤ n) own c.self.invariant.2 in
     passes c.args.ready.prepared c.self.inside.strangers.clock c.args.self.now.sight.clock c.args.ready.moves.clock most c.requires.in_time
 
 pub returns-clause-clock : goal.returns-clause-clock

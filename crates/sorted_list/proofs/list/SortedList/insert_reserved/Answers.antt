@@ -21,6 +21,7 @@ invariant_of-self g c =
           (vec_len c.add_to.new.chunks) _ _ _ _ _ _ c.self.inside.len c.self.inside.room c.self.invariant.1 some
           a.weight a.used (omega arith) a.places a.held,
       a.paired,
-      steady_still c.self.inside.steady (c.self.inside.len + c.self.inside.room) _ _ _ _ _ _ _ c.self.invariant.3 (omega (arith, some))
+      steady_still c.self.inside.steady (c.self.inside.len + c.self.inside.room) _ _ _ _ _ _ _ c.self.invariant.3
+          (omega (arith, some))
           (omega (arith, a.total)) a.places a.held,
     )

@@ -44,7 +44,8 @@ invariant_of-self-2 g c =
     let some = least_kept _ _ _ _ _ (wanted_kept c.self.inside.len c.self.inside.room c.self.inside.steady) least in
     let steady = steady_taken c.self.inside.steady c.self.inside.len c.self.inside.room _ _ _ _ _ _ _ c.self.invariant.3 least a.places
     a.held in
-    let there = length-without g.T.Keyed.rank c.args.key c.in_ok-item.item (flat c.self.inside.chunks.items) (sym a.item ∙ c.in_ok-item.was) in
+    let there =
+    length-without g.T.Keyed.rank c.args.key c.in_ok-item.item (flat c.self.inside.chunks.items) (sym a.item ∙ c.in_ok-item.was) in
     let lt : 0 < c.self.inside.len = omega (arith, there, c.self.invariant.0.count) in
     let all = weight_paired c.take_from.new.chunks.items a.paired in
     let n = ap (λ n. c.self.inside.room + n) c.regained.ensures in
@@ -52,7 +53,8 @@ invariant_of-self-2 g c =
     (vec_len c.take_from.new.chunks) _ _ _ _ _ _ c.self.inside.len (c.self.inside.len - 1) c.self.inside.room c.self.invariant.1
     a.weight a.used some a.places a.held (omega arith) (omega (arith, k.count)) in (
       k,
-      room_regained (weight c.take_from.new.chunks.items) (vec_len c.take_from.new.chunks) _ _ _ c.self.inside.len c.self.inside.room
+      room_regained (weight c.take_from.new.chunks.items)
+          (vec_len c.take_from.new.chunks) _ _ _ c.self.inside.len c.self.inside.room
           (c.self.inside.room + c.regained.result) c.self.inside.steady base lt c.self.invariant.1.fits (omega (arith, all, k.count))
           steady n,
       a.paired,

@@ -8,7 +8,9 @@ use Rattle.stranger_table.proofs.Kept.{at_rows, closed_rows, closed_table, there
 use Rattle.stranger_table.proofs.sleeping.Sleepers.close.Goals as goal
 
 pub remove-requires : goal.remove-requires
-remove-requires c = there_some c.self.inside.slab c.args.id c.in-Some.place c.self.inside.places.items c.self.invariant (sym c.take_place.ensures.place ∙ c.in-Some.is)
+remove-requires c =
+    there_some c.self.inside.slab c.args.id c.in-Some.place c.self.inside.places.items c.self.invariant
+    (sym c.take_place.ensures.place ∙ c.in-Some.is)
 
 pub invariant_of-self : goal.invariant_of-self
 invariant_of-self c = subst (IsTable c.remove.new.slab) (sym c.take_place.ensures.items)
@@ -17,13 +19,15 @@ invariant_of-self c = subst (IsTable c.remove.new.slab) (sym c.take_place.ensure
 pub returns-in-Some : goal.returns-in-Some
 returns-in-Some c =
     ap (rows_of c.remove.new.slab) c.take_place.ensures.items
-    ∙ closed_rows c.self.inside.slab c.remove.new.slab c.args.id c.in-Some.place c.self.inside.places.items c.self.invariant.keys (sym c.take_place.ensures.place ∙ c.in-Some.is) c.remove.ensures.updates
+    ∙ closed_rows c.self.inside.slab c.remove.new.slab c.args.id c.in-Some.place c.self.inside.places.items c.self.invariant.keys
+    (sym c.take_place.ensures.place ∙ c.in-Some.is) c.remove.ensures.updates
     ∙ ap (without row_id c.args.id) c.self.view_is
 
 pub invariant_of-self-in_default : goal.invariant_of-self-in_default
 invariant_of-self-in_default c =
     let none : at place_id c.args.id c.self.inside.places.items ≡ None = sym c.take_place.ensures.place ∙ c.in_default.is in
-    subst (IsTable c.self.inside.slab) (sym (c.take_place.ensures.items ∙ without_absent place_id c.args.id c.self.inside.places.items none)) c.self.invariant
+    subst (IsTable c.self.inside.slab)
+    (sym (c.take_place.ensures.items ∙ without_absent place_id c.args.id c.self.inside.places.items none)) c.self.invariant
 
 pub returns-in_default : goal.returns-in_default
 returns-in_default c =

@@ -18,7 +18,8 @@ end_one-requires-clause-ending c =
     let s = c.self.inside.slab in
     let ps = c.self.inside.places.items in
     let found = sym c.find_place.ensures ∙ c.in-Some.is in
-    ending_there c.args.next c.args.id (row_at s c.in-Some.place).sleeper (rows_of s ps) (place_sleeper s c.args.id c.in-Some.place ps found)
+    ending_there c.args.next c.args.id (row_at s c.in-Some.place).sleeper (rows_of s ps)
+    (place_sleeper s c.args.id c.in-Some.place ps found)
     (subst (λ rs. IsEndingIf c.args.next (sleeper_at c.args.id rs)) (sym c.self.view_is) c.requires)
 
 pub returns-in-Some : goal.returns-in-Some
@@ -29,11 +30,13 @@ returns-in-Some c =
     let found = sym c.find_place.ensures ∙ c.in-Some.is in
     let own = at_key place_id c.args.id c.in-Some.place ps found in
     c.end_one.ensures.rows ∙ ap (λ i. with_row i (sleeper_ended i c.args.next x) (rows_of s ps)) own
-    ∙ ended_there c.args.next c.args.id x (rows_of s ps) (place_sleeper s c.args.id c.in-Some.place ps found) ∙ ap (ended_at c.args.id c.args.next) c.self.view_is
+    ∙ ended_there c.args.next c.args.id x (rows_of s ps) (place_sleeper s c.args.id c.in-Some.place ps found)
+    ∙ ap (ended_at c.args.id c.args.next) c.self.view_is
 
 pub returns-in_default : goal.returns-in_default
 returns-in_default c =
     let s = c.self.inside.slab in
     let ps = c.self.inside.places.items in
     let none = sym c.find_place.ensures ∙ c.in_default.is in
-    ended_none c.args.next c.args.id c.args.self.now (ap (sleeper_at c.args.id) (sym c.self.view_is) ∙ place_none s c.args.id ps none)
+    ended_none c.args.next c.args.id c.args.self.now
+    (ap (sleeper_at c.args.id) (sym c.self.view_is) ∙ place_none s c.args.id ps none)

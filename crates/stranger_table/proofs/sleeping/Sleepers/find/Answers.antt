@@ -12,6 +12,8 @@ returns-in_err-place c =
 
 pub returns : goal.returns
 returns c =
-    let there = at_place c.self.inside.slab c.args.id c.in_ok-place.place c.self.inside.places.items c.self.invariant (sym c.find_place.ensures ∙ c.in_ok-place.was) in
+    let there =
+    at_place c.self.inside.slab c.args.id c.in_ok-place.place c.self.inside.places.items c.self.invariant
+    (sym c.find_place.ensures ∙ c.in_ok-place.was) in
     c.get.ensures ∙ there
     ∙ sym (ap (sleeper_at c.args.id) (sym c.self.view_is) ∙ ap (option_map (λ (r : Row). r.sleeper)) (at_rows c.self.inside.slab c.args.id c.self.inside.places.items ∙ ap (option_map (row_at c.self.inside.slab)) (sym c.find_place.ensures ∙ c.in_ok-place.was)))

@@ -7,7 +7,9 @@ use Rattle.stranger_table.proofs.Kept.{added_rows, added_table, put_rows, put_ta
 use Rattle.stranger_table.proofs.sleeping.Sleepers.put.Goals as goal
 
 pub replace-requires : goal.replace-requires
-replace-requires c = there_some c.self.inside.slab c.args.id c.in-Some.place c.self.inside.places.items c.self.invariant (sym c.find_place.ensures ∙ c.in-Some.is)
+replace-requires c =
+    there_some c.self.inside.slab c.args.id c.in-Some.place c.self.inside.places.items c.self.invariant
+    (sym c.find_place.ensures ∙ c.in-Some.is)
 
 pub invariant_of-self : goal.invariant_of-self
 invariant_of-self c = put_table c.self.inside.slab c.replace.new.slab c.in-Some.place.key c.args.sleeper c.self.inside.places.items c.self.invariant c.replace.ensures.updates c.replace.ensures.len
@@ -27,7 +29,8 @@ invariant_of-self-in_err-reserve-2 c = table_room c.self.inside.slab c.reserve.n
 pub invariant_of-self-2 : goal.invariant_of-self-2
 invariant_of-self-2 c =
     let table = table_room c.self.inside.slab c.reserve.new.self c.self.inside.places.items c.reserve-2.new.self.items c.self.invariant c.reserve.ensures.rest_kept c.reserve-2.ensures.items in
-    let free : at place_id c.args.id c.reserve-2.new.self.items ≡ None = ap (at place_id c.args.id) c.reserve-2.ensures.items ∙ sym c.find_place.ensures ∙ c.in_default.is in
+    let free : at place_id c.args.id c.reserve-2.new.self.items ≡ None =
+    ap (at place_id c.args.id) c.reserve-2.ensures.items ∙ sym c.find_place.ensures ∙ c.in_default.is in
     subst (IsTable c.insert_reserved-key.new.self) (sym c.insert_reserved.ensures.items)
     (added_table c.reserve.new.self c.insert_reserved-key.new.self c.args.id c.insert_reserved-key.result c.args.sleeper c.reserve-2.new.self.items table free c.insert_reserved-key.ensures.was_vacant c.insert_reserved-key.ensures.updates c.insert_reserved-key.ensures.len c.id_is_small.ensures)
 
@@ -35,7 +38,8 @@ pub returns-clause-ok : goal.returns-clause-ok
 returns-clause-ok c =
     let k : Row = record { id = c.args.id; sleeper = c.args.sleeper } in
     let table = table_room c.self.inside.slab c.reserve.new.self c.self.inside.places.items c.reserve-2.new.self.items c.self.invariant c.reserve.ensures.rest_kept c.reserve-2.ensures.items in
-    let free : at place_id c.args.id c.reserve-2.new.self.items ≡ None = ap (at place_id c.args.id) c.reserve-2.ensures.items ∙ sym c.find_place.ensures ∙ c.in_default.is in
+    let free : at place_id c.args.id c.reserve-2.new.self.items ≡ None =
+    ap (at place_id c.args.id) c.reserve-2.ensures.items ∙ sym c.find_place.ensures ∙ c.in_default.is in
     ap (rows_of c.insert_reserved-key.new.self) c.insert_reserved.ensures.items
     ∙ added_rows c.reserve.new.self c.insert_reserved-key.new.self c.args.id c.insert_reserved-key.result c.args.sleeper c.reserve-2.new.self.items table free c.insert_reserved-key.ensures.was_vacant c.insert_reserved-key.ensures.updates
     ∙ ap (put row_id k) (same_room c.self.inside.slab c.reserve.new.self c.self.inside.places.items c.reserve-2.new.self.items c.reserve.ensures.rest_kept c.reserve-2.ensures.items ∙ c.self.view_is)

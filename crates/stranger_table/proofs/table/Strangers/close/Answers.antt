@@ -9,7 +9,8 @@ use Rattle.stranger_table.proofs.Stepping.{closed_is}
 use Rattle.stranger_table.proofs.table.Strangers.close.Goals as goal
 
 pub deadline-was-requires : goal.deadline-was-requires
-deadline-was-requires c = touched_small c.self.inside.clock c.self.inside.sleepers c.self.invariant.0.small c.self.invariant.0.sleeping
+deadline-was-requires c =
+    touched_small c.self.inside.clock c.self.inside.sleepers c.self.invariant.0.small c.self.invariant.0.sleeping
 
 pub invariant_of-self : goal.invariant_of-self
 invariant_of-self c = (
@@ -20,4 +21,5 @@ invariant_of-self c = (
 
 pub returns-clause-strangers : goal.returns-clause-strangers
 returns-clause-strangers c =
-    ap (all_now c.self.inside.clock) c.close.ensures ∙ without_now c.self.inside.clock c.args.id c.self.inside.sleepers ∙ ap (λ (v : StrangerTable). without known_id c.args.id v.strangers) c.self.view_is
+    ap (all_now c.self.inside.clock) c.close.ensures ∙ without_now c.self.inside.clock c.args.id c.self.inside.sleepers
+    ∙ ap (λ (v : StrangerTable). without known_id c.args.id v.strangers) c.self.view_is

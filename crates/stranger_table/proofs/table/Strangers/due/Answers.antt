@@ -16,7 +16,8 @@ returns-then-not-is_first_due c =
     c.new.ensures.items ∙ sym (c.is_first_due.ensures c.if-not-is_first_due.true) ∙ e
 
 pub due_at-requires-clause-rising : goal.due_at-requires-clause-rising
-due_at-requires-clause-rising c = subst (Rising alarm) (sym c.self.invariant.0.queued) (rising_queued c.self.inside.sleepers c.self.invariant.0.rows)
+due_at-requires-clause-rising c =
+    subst (Rising alarm) (sym c.self.invariant.0.queued) (rising_queued c.self.inside.sleepers c.self.invariant.0.rows)
 
 pub returns : goal.returns
 returns c =

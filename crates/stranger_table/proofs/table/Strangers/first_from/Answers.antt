@@ -9,7 +9,10 @@ use Rattle.stranger_table.proofs.table.Strangers.first_from.Goals as goal
 
 pub returns-clause-value : goal.returns-clause-value
 returns-clause-value c =
-    c.first_from.ensures ∙ sym (lowest_now c.self.inside.clock c.args.least c.self.inside.sleepers) ∙ ap (λ (v : StrangerTable). option_map known_id (lowest_from known_id c.args.least v.strangers)) c.self.view_is
+    c.first_from.ensures ∙ sym (lowest_now c.self.inside.clock c.args.least c.self.inside.sleepers)
+    ∙ ap (λ (v : StrangerTable). option_map known_id (lowest_from known_id c.args.least v.strangers)) c.self.view_is
 
 pub returns-clause-order : goal.returns-clause-order
-returns-clause-order c = subst (λ (v : StrangerTable). Rising known_id v.strangers) c.self.view_is (rising_now c.self.inside.clock c.self.inside.sleepers c.self.invariant.0.rows.rising)
+returns-clause-order c =
+    subst (λ (v : StrangerTable). Rising known_id v.strangers) c.self.view_is
+    (rising_now c.self.inside.clock c.self.inside.sleepers c.self.invariant.0.rows.rising)

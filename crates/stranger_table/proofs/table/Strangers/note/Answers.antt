@@ -11,7 +11,8 @@ pub note_one-requires-clause-there : goal.note_one-requires-clause-there
 note_one-requires-clause-there c =
     let ks = c.loop-id.self.strangers in
     let n = c.loop-id.least in
-    walk_there n c.in-Some.id ks (lowest_from known_id n ks) refl (sym c.first_from.ensures.value ∙ c.in-Some.is) c.first_from.ensures.order
+    walk_there n c.in-Some.id ks (lowest_from known_id n ks) refl
+    (sym c.first_from.ensures.value ∙ c.in-Some.is) c.first_from.ensures.order
 
 pub loop-id-init : goal.loop-id-init
 loop-id-init c =
@@ -25,7 +26,9 @@ loop-id-init c =
 pub loop-id-smaller : goal.loop-id-smaller
 loop-id-smaller c =
     let ks = c.loop-id.self.strangers in
-    let high = walk_high c.loop-id.least c.in-Some.id ks (lowest_from known_id c.loop-id.least ks) refl (sym c.first_from.ensures.value ∙ c.in-Some.is) in
+    let high =
+    walk_high c.loop-id.least c.in-Some.id ks (lowest_from known_id c.loop-id.least ks) refl
+    (sym c.first_from.ensures.value ∙ c.in-Some.is) in
     let is = c.from-least.ensures ∙ c.get.ensures in
     let small = c.get.type_inv in
     omega arith
@@ -43,8 +46,11 @@ loop-id-preserved c =
     let next = station_next (noted_station notice) id (station_up (noted_station notice) n id c.loop-id.invariant.from high) in
     record {
       clock = c.note_one.ensures.clock ∙ c.loop-id.invariant.clock;
-      left = ap (λ i. noted_from (i + 1) notice c.note_one.new.self.strangers) is ∙ ap (noted_from (id + 1) notice) c.note_one.ensures.strangers
-          ∙ walk_steps n id notice ks (closes id notice) refl first c.requires c.first_from.ensures.order ∙ c.loop-id.invariant.left;
+      left =
+          ap (λ i. noted_from (i + 1) notice c.note_one.new.self.strangers) is
+          ∙ ap (noted_from (id + 1) notice) c.note_one.ensures.strangers
+          ∙ walk_steps n id notice ks (closes id notice) refl first c.requires c.first_from.ensures.order
+          ∙ c.loop-id.invariant.left;
       from = subst (λ i. noted_station notice ≤ station_in (i + 1)) (sym is) next;
     }
 
@@ -60,7 +66,8 @@ returns-then-station_in-station-clause-strangers c =
     let own = c.station_in.ensures in
     let its = c.noted_station-station.ensures in
     let later = station_later (noted_station notice) n id c.loop-id.invariant.from high (grind (arith, nat_tests)) in
-    sym (walk_stops n id notice ks (lowest_from known_id n ks) refl first c.requires later c.first_from.ensures.order) ∙ c.loop-id.invariant.left
+    sym (walk_stops n id notice ks (lowest_from known_id n ks) refl first c.requires later c.first_from.ensures.order)
+    ∙ c.loop-id.invariant.left
 
 pub returns-in_default-clause-strangers : goal.returns-in_default-clause-strangers
 returns-in_default-clause-strangers c =

@@ -11,7 +11,8 @@ use Rattle.stranger_table.proofs.Stepping.{put_free, put_is, same_strangers}
 use Rattle.stranger_table.proofs.table.Strangers.put.Goals as goal
 
 pub deadline-was-requires : goal.deadline-was-requires
-deadline-was-requires c = touched_small c.self.inside.clock c.self.inside.sleepers c.self.invariant.0.small c.self.invariant.0.sleeping
+deadline-was-requires c =
+    touched_small c.self.inside.clock c.self.inside.sleepers c.self.invariant.0.small c.self.invariant.0.sleeping
 
 pub deadline-is-requires : goal.deadline-is-requires
 deadline-is-requires c = c.self.invariant.0.small
@@ -41,5 +42,6 @@ invariant_of-self-2 c = (
 pub returns-clause-ok : goal.returns-clause-ok
 returns-clause-ok c =
     let k : Known = record { id = c.args.id; stranger = c.args.stranger } in
-    ap (all_now c.self.inside.clock) c.in_ok-put.ensures.ok ∙ put_now c.self.inside.clock c.args.id c.args.stranger c.self.inside.sleepers c.self.invariant.0.rows.rising
+    ap (all_now c.self.inside.clock) c.in_ok-put.ensures.ok
+    ∙ put_now c.self.inside.clock c.args.id c.args.stranger c.self.inside.sleepers c.self.invariant.0.rows.rising
     ∙ ap (λ (v : StrangerTable). put known_id k v.strangers) c.self.view_is

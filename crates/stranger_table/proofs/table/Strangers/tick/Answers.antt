@@ -24,5 +24,6 @@ invariant_of-self c =
 
 pub returns-clause-strangers : goal.returns-clause-strangers
 returns-clause-strangers c =
-    ap (all_now (c.self.inside.clock + 1)) c.tick_all.ensures.ended ∙ all_ended_now c.self.inside.clock c.self.inside.sleepers c.self.invariant.0.sleeping
+    ap (all_now (c.self.inside.clock + 1)) c.tick_all.ensures.ended
+    ∙ all_ended_now c.self.inside.clock c.self.inside.sleepers c.self.invariant.0.sleeping
     ∙ ap (λ (v : StrangerTable). noted Tick v.strangers) c.self.view_is

@@ -24,10 +24,13 @@ written c = c.wake.ensures ∙ ap (λ n. woken n c.index_mut.result.now) c.clock
 records : (c : goal.After-prepare) → set c.self.inside.records.items c.get-place.result c.wake.new.self ≡ changed_at c.args.slot (woken c.self.inside.timers.clock) c.self.inside.records.items
 records c =
     ap (λ n. set c.self.inside.records.items n c.wake.new.self) c.get-place.ensures.value
-    ∙ set_changed (woken c.self.inside.timers.clock) c.self.inside.records.items c.args.slot c.index_mut.result.now c.wake.new.self (within c) (read c) (written c)
+    ∙ set_changed (woken c.self.inside.timers.clock) c.self.inside.records.items c.args.slot c.index_mut.result.now c.wake.new.self
+    (within c) (read c) (written c)
 
 table : (c : goal.After-prepare) → IsSubscriberTableOf c.self.inside.timers.clock c.self.inside.timers.running (set c.self.inside.records.items c.get-place.result c.wake.new.self) (views c.self.inside.timers.clock c.self.inside.records.items)
-table c = awake c.self.inside.timers.clock c.args.slot c.self.inside.timers.running c.self.inside.records.items (set c.self.inside.records.items c.get-place.result c.wake.new.self) c.self.invariant (records c)
+table c =
+    awake c.self.inside.timers.clock c.args.slot c.self.inside.timers.running c.self.inside.records.items
+    (set c.self.inside.records.items c.get-place.result c.wake.new.self) c.self.invariant (records c)
 
 pub invariant_of-self : goal.invariant_of-self
 invariant_of-self c = (table c).table
@@ -44,7 +47,8 @@ returns-clause-step c =
     c.index.ensures ∙ get_or-set_same rs c.get-place.result c.wake.new.self c.index.result.now (omega arith) ∙ written c in
     let step = ap (step_at c.args.slot item) (sym seen) ∙ step_seen clock c.args.slot rs c.index_mut.result.now item lt (read c)
     ∙ ap (λ (r : Record). Some (subscriber_step r.subscriber item)) (sym own) in
-    boxed_some c.prepare.result (subscriber_step c.index.result.now.subscriber item) (step_at c.args.slot item c.args.self.now.subscribers) c.prepare.ensures step
+    boxed_some c.prepare.result (subscriber_step c.index.result.now.subscriber item)
+    (step_at c.args.slot item c.args.self.now.subscribers) c.prepare.ensures step
 
 pub returns-clause-same : goal.returns-clause-same
 returns-clause-same c =

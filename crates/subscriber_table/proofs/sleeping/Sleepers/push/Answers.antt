@@ -6,7 +6,8 @@ use Rattle.subscriber_table.specs.Table.{SubscriberTable}
 use Rattle.subscriber_table.proofs.Waking.{IsSubscriberTableOf, pushed, views_length}
 use Rattle.subscriber_table.proofs.sleeping.Sleepers.push.Goals as goal
 
-table : (c : goal.After-push_reserved) → IsSubscriberTableOf c.self.inside.timers.clock c.self.inside.timers.running c.push_reserved.new.self.items
+table : (c : goal.After-push_reserved)
+    → IsSubscriberTableOf c.self.inside.timers.clock c.self.inside.timers.running c.push_reserved.new.self.items
     (views c.self.inside.timers.clock c.self.inside.records.items ++ c.args.subscriber ∷ [])
 table c =
     let rs = c.self.inside.records.items in

@@ -4,7 +4,8 @@ use Rattle.subscriber_table.specs.Table.{SubscriberTable, with_solo}
 use Rattle.subscriber_table.proofs.Waking.{IsSubscriberTableOf, at_clock, settled, views_length}
 use Rattle.subscriber_table.proofs.sleeping.Sleepers.settle.Goals as goal
 
-table : (c : goal.After-settle_one) → IsSubscriberTableOf c.settle_one.new.timers.clock c.settle_one.new.timers.running c.settle_one.new.records.items
+table : (c : goal.After-settle_one)
+    → IsSubscriberTableOf c.settle_one.new.timers.clock c.settle_one.new.timers.running c.settle_one.new.records.items
     (with_solo c.args.stepped.slot c.args.stepped.solo (views c.self.inside.timers.clock c.self.inside.records.items))
 table c =
     let rs = c.self.inside.records.items in
@@ -20,4 +21,5 @@ pub invariant_of-self : goal.invariant_of-self
 invariant_of-self c = (table c).table
 
 pub returns-clause-subscribers : goal.returns-clause-subscribers
-returns-clause-subscribers c = (table c).seen ∙ ap (λ (v : SubscriberTable). with_solo c.args.stepped.slot c.args.stepped.solo v.subscribers) c.self.view_is
+returns-clause-subscribers c =
+    (table c).seen ∙ ap (λ (v : SubscriberTable). with_solo c.args.stepped.slot c.args.stepped.solo v.subscribers) c.self.view_is

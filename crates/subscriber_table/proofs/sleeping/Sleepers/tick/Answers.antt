@@ -6,9 +6,11 @@ use Rattle.subscriber_table.proofs.sleeping.Sleepers.tick.Goals as goal
 
 pub settle_all-requires-clause-slots : goal.settle_all-requires-clause-slots
 settle_all-requires-clause-slots c =
-    slots_below c.self.inside.timers.clock c.args.stepped.items c.self.inside.records.items (c.requires.due ∙ ap (λ (v : SubscriberTable). due_slots v.subscribers) (sym c.self.view_is))
+    slots_below c.self.inside.timers.clock c.args.stepped.items c.self.inside.records.items
+    (c.requires.due ∙ ap (λ (v : SubscriberTable). due_slots v.subscribers) (sym c.self.view_is))
 
-table : (c : goal.After-settle_all) → IsSubscriberTableOf c.settle_all.new.timers.clock c.settle_all.new.timers.running c.settle_all.new.records.items
+table : (c : goal.After-settle_all)
+    → IsSubscriberTableOf c.settle_all.new.timers.clock c.settle_all.new.timers.running c.settle_all.new.records.items
     (tick_settled c.args.stepped.items (views c.self.inside.timers.clock c.self.inside.records.items))
 table c =
     let rs = c.self.inside.records.items in
@@ -23,4 +25,5 @@ pub invariant_of-self : goal.invariant_of-self
 invariant_of-self c = (table c).table
 
 pub returns-clause-subscribers : goal.returns-clause-subscribers
-returns-clause-subscribers c = (table c).seen ∙ ap (λ (v : SubscriberTable). tick_settled c.args.stepped.items v.subscribers) c.self.view_is
+returns-clause-subscribers c =
+    (table c).seen ∙ ap (λ (v : SubscriberTable). tick_settled c.args.stepped.items v.subscribers) c.self.view_is

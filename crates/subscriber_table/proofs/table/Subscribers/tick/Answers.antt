@@ -16,5 +16,6 @@ pub invariant_of-self : goal.invariant_of-self
 invariant_of-self c =
     let ws = c.self.inside.sleepers.subscribers in
     let xs = c.args.stepped.items in
-    c.place_all.ensures ∙ ap (λ ys. with_whereabouts ys c.self.inside.connections) c.as_slice.ensures.value ∙ ap (with_whereabouts xs) c.self.invariant
+    c.place_all.ensures ∙ ap (λ ys. with_whereabouts ys c.self.inside.connections) c.as_slice.ensures.value
+    ∙ ap (with_whereabouts xs) c.self.invariant
     ∙ sym (ticked_there xs ws) ∙ ap all_whereabouts (sym c.tick.ensures.subscribers)

@@ -7,8 +7,10 @@ use Rattle.timer_queue.proofs.queue.Timers.clock.Goals as goal
 
 pub returns-clause-order : goal.returns-clause-order
 returns-clause-order c =
-    subst (λ (v : Countdowns). Rising countdown_rank v.running) c.self.view_is (rising_running c.self.inside.clock c.self.inside.queue.items c.self.invariant.1)
+    subst (λ (v : Countdowns). Rising countdown_rank v.running) c.self.view_is
+    (rising_running c.self.inside.clock c.self.inside.queue.items c.self.invariant.1)
 
 pub returns-clause-above_zero : goal.returns-clause-above_zero
 returns-clause-above_zero c =
-    subst (λ (v : Countdowns). Every (λ (x : Countdown). 1 ≤ x.ticks) v.running) c.self.view_is (counting c.self.inside.clock c.self.inside.queue.items c.self.invariant.2)
+    subst (λ (v : Countdowns). Every (λ (x : Countdown). 1 ≤ x.ticks) v.running) c.self.view_is
+    (counting c.self.inside.clock c.self.inside.queue.items c.self.invariant.2)

@@ -20,7 +20,8 @@ returns-in-Some c =
     let there : at index_rank (rank (timer_of c.args.owner c.args.kind)) c.self.inside.index.items ≡ Some c.in-Some.running =
     ap (λ r. at index_rank r c.self.inside.index.items) (sym (c.from.ensures ∙ c.rank.ensures)) ∙ sym c.in-Some.ensures.value in
     sym (ap (λ (v : Countdowns). ticks_left c.args.owner c.args.kind v.running) (sym c.self.view_is)
-    ∙ left_is c.self.inside.clock (timer_of c.args.owner c.args.kind) c.self.inside.index.items c.self.inside.queue.items c.self.invariant.1 c.self.invariant.3
+    ∙ left_is c.self.inside.clock
+    (timer_of c.args.owner c.args.kind) c.self.inside.index.items c.self.inside.queue.items c.self.invariant.1 c.self.invariant.3
     ∙ ap (option_map (λ (x : RunningTimer). x.deadline - c.self.inside.clock)) there)
 
 pub returns-in-None : goal.returns-in-None
@@ -28,5 +29,6 @@ returns-in-None c =
     let there : at index_rank (rank (timer_of c.args.owner c.args.kind)) c.self.inside.index.items ≡ None =
     ap (λ r. at index_rank r c.self.inside.index.items) (sym (c.from.ensures ∙ c.rank.ensures)) ∙ sym c.in-None.ensures.value in
     sym (ap (λ (v : Countdowns). ticks_left c.args.owner c.args.kind v.running) (sym c.self.view_is)
-    ∙ left_is c.self.inside.clock (timer_of c.args.owner c.args.kind) c.self.inside.index.items c.self.inside.queue.items c.self.invariant.1 c.self.invariant.3
+    ∙ left_is c.self.inside.clock
+    (timer_of c.args.owner c.args.kind) c.self.inside.index.items c.self.inside.queue.items c.self.invariant.1 c.self.invariant.3
     ∙ ap (option_map (λ (x : RunningTimer). x.deadline - c.self.inside.clock)) there)

@@ -12,5 +12,6 @@ invariant_of-self c =
 
 pub returns-clause-running : goal.returns-clause-running
 returns-clause-running c =
-    ap (running_at (c.self.inside.clock + 1)) c.drop_due.ensures.queue ∙ aged_is c.self.inside.clock c.self.inside.queue.items c.self.invariant.1.rising
+    ap (running_at (c.self.inside.clock + 1)) c.drop_due.ensures.queue
+    ∙ aged_is c.self.inside.clock c.self.inside.queue.items c.self.invariant.1.rising
     ∙ ap (λ (v : Countdowns). aged v.running) c.self.view_is

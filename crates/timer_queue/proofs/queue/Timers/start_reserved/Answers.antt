@@ -9,10 +9,13 @@ use Rattle.timer_queue.proofs.Changes.{Keeps, keeps_added, gone_after, indexed, 
 use Rattle.timer_queue.proofs.queue.Timers.start_reserved.Goals as goal
 
 clock : (c : goal.After-insert_reserved-2) → c.self-2.inside.clock ≡ c.self.inside.clock
-clock c = ap (λ (v : Countdowns). v.clock) c.self-2.view_is ∙ c.stop.ensures.clock ∙ sym (ap (λ (v : Countdowns). v.clock) c.self.view_is)
+clock c =
+    ap (λ (v : Countdowns). v.clock) c.self-2.view_is ∙ c.stop.ensures.clock ∙ sym (ap (λ (v : Countdowns). v.clock) c.self.view_is)
 
 after : (c : goal.After-insert_reserved-2) → running_at c.self-2.inside.clock c.self-2.inside.queue.items ≡ stopped c.args.owner c.args.kind (running_at c.self.inside.clock c.self.inside.queue.items)
-after c = ap (λ (v : Countdowns). v.running) c.self-2.view_is ∙ c.stop.ensures.running ∙ sym (ap (λ (v : Countdowns). stopped c.args.owner c.args.kind v.running) c.self.view_is)
+after c =
+    ap (λ (v : Countdowns). v.running) c.self-2.view_is ∙ c.stop.ensures.running
+    ∙ sym (ap (λ (v : Countdowns). stopped c.args.owner c.args.kind v.running) c.self.view_is)
 
 none : (c : goal.After-insert_reserved-2) → at name (rank (timer_of c.args.owner c.args.kind)) c.self-2.inside.queue.items ≡ None
 none c = gone_after c.self.inside.clock c.self-2.inside.clock (timer_of c.args.owner c.args.kind) _ _ c.self.inside.queue.items c.self-2.inside.queue.items c.self.invariant.1 c.self-2.invariant.1
@@ -46,7 +49,9 @@ invariant_of-self c =
 pub returns-clause-running : goal.returns-clause-running
 returns-clause-running c =
     let a : running_at c.self.inside.clock c.self-2.inside.queue.items ≡ stopped c.args.owner c.args.kind (running_at c.self.inside.clock c.self.inside.queue.items) = ap (λ n. running_at n c.self-2.inside.queue.items) (sym (clock c)) ∙ after c in
-    ap (λ n. running_at n c.insert_reserved.new.self.items) (clock c) ∙ ap (running_at c.self.inside.clock) c.insert_reserved.ensures.items
-    ∙ running_added c.self.inside.clock c.args.ticks (timer_of c.args.owner c.args.kind) (running_at c.self.inside.clock c.self.inside.queue.items) c.self-2.inside.queue.items c.self-2.invariant.1 (none c)
+    ap (λ n. running_at n c.insert_reserved.new.self.items) (clock c)
+    ∙ ap (running_at c.self.inside.clock) c.insert_reserved.ensures.items
+    ∙ running_added c.self.inside.clock c.args.ticks (timer_of c.args.owner c.args.kind)
+    (running_at c.self.inside.clock c.self.inside.queue.items) c.self-2.inside.queue.items c.self-2.invariant.1 (none c)
     (rising_running c.self.inside.clock c.self.inside.queue.items c.self.invariant.1) a
     ∙ ap (λ (v : Countdowns). started c.args.owner c.args.kind c.args.ticks v.running) c.self.view_is

@@ -13,7 +13,8 @@ returns-in-Ok-clause-takes g c =
 pub returns-in-Err-clause-takes : goal.returns-in-Err-clause-takes
 returns-in-Err-clause-takes g c =
     let old = c.args.self.now in
-    let new : Player = record { progress = c.play_line.new.progress; line = old.line; pending = old.pending; room = c.play_line.new.room } in
+    let new : Player =
+    record { progress = c.play_line.new.progress; line = old.line; pending = old.pending; room = c.play_line.new.room } in
     let mme = c.play_line.new.progress in
     let fault = c.in-Err.fault in
     let acts = c.in-Err.ensures.acts in

@@ -21,7 +21,8 @@ returns-in-Err-clause-takes g c =
     let added = c.in-Err.ensures.takes in
     let result = Err c.in-Err.fault in (
       before.2.0 ++ added.0,
-      Appends-then (held c.args.writer.now.inner) (held c.loop-rest.writer.inner) (held c.take_line.new.writer.inner) before.2.0 added.0 before.2.1 added.1,
+      Appends-then (held c.args.writer.now.inner) (held c.loop-rest.writer.inner)
+          (held c.take_line.new.writer.inner) before.2.0 added.0 before.2.1 added.1,
       Takes-piece old new (before.2.0 ++ added.0) _ c.args.piece.now result before.1
           (Takes-then old c.loop-rest.self new before.2.0 added.0 before.0 rest result before.2.2 added.2),
     )
@@ -34,11 +35,14 @@ loop-rest-preserved g c =
     let before = c.loop-rest.invariant in
     let added = c.in-Ok.ensures.takes in (
       before.0 ++ take count rest,
-      append_assoc before.0 (take count rest) (slice_range rest count (length rest)) ∙ ap (λ v. before.0 ++ v) (rest_behind count rest) ∙ before.1,
+      append_assoc before.0 (take count rest) (slice_range rest count (length rest))
+          ∙ ap (λ v. before.0 ++ v) (rest_behind count rest) ∙ before.1,
       (
         before.2.0 ++ added.0,
-        Appends-then (held c.args.writer.now.inner) (held c.loop-rest.writer.inner) (held c.take_line.new.writer.inner) before.2.0 added.0 before.2.1 added.1,
-        Takes-then c.args.self.now c.loop-rest.self c.take_line.new.self before.2.0 added.0 before.0 (take count rest) (Ok tt) before.2.2 added.2.2,
+        Appends-then (held c.args.writer.now.inner) (held c.loop-rest.writer.inner)
+            (held c.take_line.new.writer.inner) before.2.0 added.0 before.2.1 added.1,
+        Takes-then c.args.self.now c.loop-rest.self c.take_line.new.self before.2.0 added.0 before.0 (take count rest)
+            (Ok tt) before.2.2 added.2.2,
       ),
     )
 
@@ -48,5 +52,6 @@ loop-rest-init g c = ([], refl, ([], Appends-nil _, Takes-none c.args.self.now c
 pub returns-clause-takes : goal.returns-clause-takes
 returns-clause-takes g c =
     let before = c.loop-rest.invariant in
-    let all = sym (append-nil before.0) ∙ ap (λ v. before.0 ++ v) (sym (nil-from_length c.loop-rest.rest.now (omega arith))) ∙ before.1 in
+    let all =
+    sym (append-nil before.0) ∙ ap (λ v. before.0 ++ v) (sym (nil-from_length c.loop-rest.rest.now (omega arith))) ∙ before.1 in
     (before.2.0, before.2.1, Takes-piece c.args.self.now c.loop-rest.self before.2.0 before.0 c.args.piece.now (Ok tt) all before.2.2)

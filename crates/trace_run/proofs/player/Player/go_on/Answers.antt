@@ -31,7 +31,8 @@ returns-in-Ok-clause-takes g c =
     let found = rw c.in-Ok-Some.field-0-is at c.in-Ok-Some.ensures in
     let part = take end piece in
     let ended = c.in-Ok.ensures.takes in
-    let whole = Takes-then old mid new [] ended.0 part (10 ∷ []) (Ok tt) (Takes-part old mid part c.requires.ready refl refl found.2) ended.2 in
+    let whole =
+    Takes-then old mid new [] ended.0 part (10 ∷ []) (Ok tt) (Takes-part old mid part c.requires.ready refl refl found.2) ended.2 in
     let same = ap (λ octet. part ++ octet ∷ []) (sym found.1) ∙ sym (take_more piece end 0 found.0) in
     (ended.0, ended.1, (omega arith, omega (arith, found.0), Takes-piece old new ended.0 _ (take (end + 1) piece) (Ok tt) same whole))
 

@@ -14,7 +14,9 @@ returns-in-Ok-clause-takes g c =
     let whole = c.requires.whole in
     let part = take end piece in
     let acts = c.in-Ok.ensures.acts in
-    let done = Takes-whole old new acts.0 part whole.0 whole.3 (rw c.next_line.ensures.progress acts.2) c.next_line.ensures.line c.next_line.ensures.pending in
+    let done =
+    Takes-whole old new acts.0 part whole.0 whole.3
+    (rw c.next_line.ensures.progress acts.2) c.next_line.ensures.line c.next_line.ensures.pending in
     let same = ap (λ octet. part ++ octet ∷ []) (sym whole.2) ∙ sym (take_more piece end 0 whole.1) in
     (acts.0, acts.1, (omega arith, omega (arith, whole.1), Takes-piece old new acts.0 _ (take (end + 1) piece) (Ok tt) same done))
 

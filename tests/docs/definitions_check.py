@@ -1,0 +1,150 @@
+"""Writes docs/DEFINITIONS.md from the specs/ of all crates, and compares it.
+
+- A row for each public definition that the contract of a public function cites, and for each whose comment names a clause of a
+  standard: its module, its name, the comment above it, and the clause. Where the comment names none, that of the module's first
+  lines stands in brackets.
+- Of a definition without a comment of its own stands its equation, where that is one short line, else its type or its section's
+  heading.
+- What stands above the heading "By crate" is written by people.
+"""
+import re
+
+import refusals_check
+import tables
+
+DOCUMENT, MARK = "docs/DEFINITIONS.md", "## By crate\n"
+HEAD = "| Module | Definition | What it says | Standard |\n|---|---|---|---|\n"
+STANDARD = r"(?:TS \d+\.\d+|X\.691|RFC \d+|FIPS 197)"
+DEFINITION = re.compile(r"(?:(?:abbrev|unfoldable) pub|pub (?:record|data)) (\w+)")
+SHORT = 110  # columns of an equation that is shown
+CLAUSE = r"[A-Z]?\d*(?:\.\d+)*"
+
+
+class Definition:
+    """A public definition: where it stands, and what its comment, its section's heading and its module's first lines say."""
+
+    def __init__(self, module, name, comment, section, opening, text):
+        self.module, self.name, self.text = module, name, text
+        self.comment, self.section, self.opening = comment, section, opening
+
+    def standard(self):
+        own = clauses(self.comment) or clauses(self.section)
+        return own or ("(%s)" % clauses(self.opening) if clauses(self.opening) else "-")
+
+    def says(self):
+        """Its comment; else its equation, where it has one that is short; else its type, its section or its module."""
+        head = re.sub(r"^(?:abbrev |unfoldable )?pub (?:record |data )?", "", self.text[0])
+        lines = self.text[1:2] if len(self.text) == 2 else [head]
+        code = next(("`%s`" % line.replace("|", "\\|") for line in lines if len(line) <= SHORT and "`" not in line), "")
+        return bare(self.comment) or code or bare(self.section) or bare(self.opening)
+
+
+def in_one_form(cited):
+    """A standard and its clauses, cited as 'TS 24.301, 6.7 and 7.4' or otherwise: in the form 'TS 24.301 clauses 6.7 and 7.4'."""
+    found = re.fullmatch(r"(%s), (%s(?:(?:, | and )%s)*)" % (STANDARD, CLAUSE, CLAUSE), cited)
+    if not found:
+        return cited
+    return "%s clause%s %s" % (found.group(1), "s" if re.search(", | and ", found.group(2)) else "", found.group(2))
+
+
+def clauses(comment):
+    """The clauses that a comment names in brackets or in a sentence."""
+    in_words = r"\b%s clauses? %s(?:(?:, | and )%s)*" % (STANDARD, CLAUSE, CLAUSE)
+    found = [cited for cited in re.findall(r"\(([^()]*)\)", comment) if re.match(STANDARD, cited)]
+    found += [cited for cited in re.findall(in_words, comment) if cited not in "; ".join(found)]
+    return "; ".join(map(in_one_form, found))
+
+
+def bare(comment):
+    """A comment without the brackets that name its clauses."""
+    return re.sub(r"\s*\(%s[^()]*\)" % STANDARD, "", comment).strip().replace("|", "\\|")
+
+
+def opening_of(lines):
+    """The first lines of a module: what it is about."""
+    count = next((at for at, line in enumerate(lines) if not line.startswith("--")), 0)
+    return " ".join(line[2:].strip() for line in lines[:count])
+
+
+def comment_above(lines, at):
+    """The comment that stands right above a line."""
+    first = at
+    while first and lines[first - 1].startswith("--") and not lines[first - 1].startswith("-- ----"):
+        first -= 1
+    return " ".join(line[2:].strip() for line in lines[first:at])
+
+
+def definitions_of(crate):
+    """The public definitions of a crate, in the order of its modules."""
+    for path in sorted((tables.TOP / "crates" / crate / "specs").glob("*.antt")):
+        lines, section = path.read_text(encoding="utf-8").split("\n"), ""
+        for at, line in enumerate(lines):
+            if line.startswith("-- ----"):
+                section = line.strip("- ")
+            found = DEFINITION.match(line)
+            if found:
+                text = lines[at:lines.index("", at)] if "" in lines[at:] else lines[at:]
+                yield Definition(path.stem, found.group(1), comment_above(lines, at), section, opening_of(lines), text)
+
+
+def imports_of(text):
+    """What a file of code imports of definitions: of each name its crate and its module."""
+    return {name: (crate, module) for crate, module, names in
+            re.findall(r"ghost use Rattle\.(\w+)\.specs\.([\w.]+)\.\{([^}]*)\}", text) for name in re.findall(r"\w+", names)}
+
+
+def cited():
+    """The definitions that contracts of public functions cite: crate, module and name."""
+    found = set()
+    for crate in refusals_check.listed():
+        texts = refusals_check.sources(crate)
+        handed, modules = refusals_check.exported(refusals_check.root_of(texts))
+        for path, text in texts.items():
+            imports = imports_of(text)
+            for owner, name, function in refusals_check.functions_of(text, {}):
+                if path.stem in modules or (owner or name) in handed:
+                    words = set(re.findall(r"\w+", function.contract)) & imports.keys()
+                    found |= {(*imports[word], word) for word in words}
+    return found
+
+
+def rows_of(crate, wanted):
+    """The rows of a crate: module, names, what they say, standard."""
+    rows = []
+    for one in definitions_of(crate):
+        if (crate, one.module, one.name) not in wanted and not clauses(one.comment):
+            continue
+        if rows and (rows[-1][0], *rows[-1][2:]) == (one.module, one.says(), one.standard()):
+            rows[-1][1].append(one.name)
+        else:
+            rows.append((one.module, [one.name], one.says(), one.standard()))
+    return rows
+
+
+def written():
+    """The document as it should be."""
+    wanted, text = cited(), tables.text(DOCUMENT)
+    parts = [text[:text.index(MARK)] + MARK]
+    for crate in refusals_check.listed():
+        rows = ["| `%s` | %s | %s | %s |" % (module, ", ".join("`%s`" % name for name in names), says, standard)
+                for module, names, says, standard in rows_of(crate, wanted)]
+        if rows:
+            parts.append("\n### `%s`\n\n%s%s\n" % (crate, HEAD, "\n".join(rows)))
+    return "".join(parts)
+
+
+def write():
+    """Writes the document anew."""
+    (tables.TOP / DOCUMENT).write_text(written(), encoding="utf-8")
+
+
+def checked(_words=()):
+    """How many lines are as they should be, and how many not; prints each that isn't."""
+    there, owed = tables.text(DOCUMENT).split("\n"), written().split("\n")
+    faults = ["%s has: %s" % (DOCUMENT, line) for line in there if line not in set(owed)]
+    faults += ["%s lacks: %s" % (DOCUMENT, line) for line in owed if line not in set(there)]
+    if not faults and there != owed:
+        faults = ["%s has its lines in another order" % DOCUMENT]
+    for fault in faults:
+        print("FAILED %s ('tests/docs/write definitions' writes it)" % fault)
+    return sum(line.startswith("| ") for line in owed) if not faults else 0, len(faults)
