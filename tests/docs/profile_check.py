@@ -110,22 +110,32 @@ def cases(text, name):
 # --- S1AP messages ---
 
 
+def element_ids():
+    """The number of each id of an element: by the program's name, `CAUSE`, and by the definition's, `id.cause`."""
+    code = dict(re.findall(r"^pub const (\w+): u16 = (\d+);$", text_of("s1ap_elements/src/ids.rt"), re.M))
+    specs = definitions(text_of("s1ap_elements/specs/Ids.antt"))
+    differing = {(name.lower(), named) for name, named in code.items()} ^ set(specs.items())
+    if differing:
+        raise ValueError("definition and program differ in these ids of elements: %s" % sorted(differing))
+    return code | {"id." + name: named for name, named in specs.items()}
+
+
 def element_rows(term):
     """The rows of a message as the document has them: `59r 60i? 61i-`."""
-    found = []
+    found, ids = [], element_ids()
     while term != "end":
         _, named, criticality, presence, _, term = term
-        found.append(named + criticality[0].lower() + {"needed": "", "optional": "?", "unkept": "-"}[presence])
+        found.append(ids[named] + criticality[0].lower() + {"needed": "", "optional": "?", "unkept": "-"}[presence])
     return ", ".join(found)
 
 
 def code_rows():
     """The rows of each message in the code, by its type."""
-    found = {}
+    found, ids = {}, element_ids()
     marks = {"Needed": "", "Optional": "?", "Unkept": "-"}
     for name, rows in re.findall(r"type (\w+)Rows(?:<'a>)? =\s*(.*?);", texts_of("s1ap_pdus"), re.S):
-        rows = re.findall(r"(Needed|Optional|Unkept)<(\d+), (REJECT|IGNORE),", rows)
-        found[name] = ", ".join(named + criticality[0].lower() + marks[mark] for mark, named, criticality in rows)
+        rows = re.findall(r"(Needed|Optional|Unkept)<\s*(\w+),\s*(REJECT|IGNORE),", rows)
+        found[name] = ", ".join(ids[named] + criticality[0].lower() + marks[mark] for mark, named, criticality in rows)
     return found
 
 
@@ -159,7 +169,7 @@ def sender(name):
 
 
 def form(term, known):
-    """A format as the document writes it."""
+    """A format as the document writes it; `known` has the formats, the ids and the criticalities by their names."""
     if isinstance(term, str):
         return {"octet_string": "octets"}.get(term) or form(known[term], known)
     head, *rest = term
@@ -174,7 +184,7 @@ def form(term, known):
     if head == "items":
         return "%s..%s of %s" % (rest[0], rest[1], form(rest[2], known))
     if head == "item":
-        return "%s%s %s" % (rest[0], "ri"[int(rest[1])], form(rest[2], known))
+        return "%s%s %s" % (known[rest[0]], "ri"[int(known[rest[1]])], form(rest[2], known))
     if head == "sequence":
         return "(" + ", ".join(fields(rest[0], known)) + ")"
     if head == "choice":
@@ -199,15 +209,16 @@ def alternatives(term, known):
 
 def s1ap_elements():
     """Id: type and form of each element that some message has, and those that are passed over."""
-    known = definitions(text_of("s1ap_elements/specs/Formats.antt"))
+    ids = element_ids()
+    known = definitions(text_of("s1ap_elements/specs/Formats.antt")) | ids
     known["octet_string"] = "octet_string"
     forms, types = {}, {}
     for name, term in definitions(text_of("s1ap_pdus/specs/Profile.antt")).items():
         while isinstance(term, list) and term[0] == "ie":
-            forms.setdefault(term[1], set()).add(form(term[4], known))
+            forms.setdefault(ids[term[1]], set()).add(form(term[4], known))
             term = term[5]
-    for named, kind in re.findall(r"(?:Needed|Optional|Unkept)<(\d+), \w+, (\w+)", texts_of("s1ap_pdus")):
-        types.setdefault(named, set()).add(kind)
+    for named, kind in re.findall(r"(?:Needed|Optional|Unkept)<\s*(\w+),\s*\w+,\s*(\w+)", texts_of("s1ap_pdus")):
+        types.setdefault(ids[named], set()).add(kind)
     return {named: (" and ".join(sorted(types[named])), " and ".join(sorted(forms[named]))) for named in forms}
 
 

@@ -1,10 +1,11 @@
 //! Parts of S1AP messages as text.
 
 use calc_text::Text;
-use per_bits::{Listed, Octets};
+use per_bits::Octets;
+use s1ap_elements::ids::UE_ASSOCIATED_LOGICAL_S1_CONNECTION_ITEM;
 use s1ap_elements::{
-    EnbId, EnbUeId, ErabToBeSetup, ErabTunnel, EutranCgi, ListedAssociation, MmeUeId, ResetType,
-    SecurityCapabilities, Tai,
+    EnbId, EnbUeId, ErabToBeSetup, ErabTunnel, EutranCgi, Listed, ListedAssociation, MmeUeId,
+    ResetType, SecurityCapabilities, Tai,
 };
 
 /// A text and both numbers of an association.
@@ -26,9 +27,13 @@ pub fn with_given_ids(text: Text, mme_ue_id: Option<MmeUeId>, enb_ue_id: Option<
 }
 
 /// A text and each association of a list, by those of its numbers that are given.
-pub fn with_associations<const CRITICALITY: u64>(
+pub fn with_associations<const CRITICALITY: u8>(
     text: Text,
-    associations: &[Listed<ListedAssociation, 91, CRITICALITY>],
+    associations: &[Listed<
+        ListedAssociation,
+        UE_ASSOCIATED_LOGICAL_S1_CONNECTION_ITEM,
+        CRITICALITY,
+    >],
 ) -> Text {
     let mut text = text;
     for listed in associations {
@@ -97,7 +102,7 @@ pub fn with_bearer(text: Text, bearer: &ErabToBeSetup<&[u8]>) -> Text {
 }
 
 /// A text, and for each bearer where its tunnel ends.
-pub fn with_tunnels<const ID: u64, const CRITICALITY: u64>(
+pub fn with_tunnels<const ID: u16, const CRITICALITY: u8>(
     text: Text,
     bearers: &[Listed<ErabTunnel, ID, CRITICALITY>],
 ) -> Text {

@@ -2,8 +2,9 @@
 
 use calc_text::Text;
 use per_bits::{
-    BitField, BitString, Closed, Enumerated, Items, Listed, OctetString, Octets, SizedString, Whole,
+    BitField, BitString, Closed, Enumerated, Items, OctetString, Octets, SizedString, Whole,
 };
+use s1ap_elements::Listed;
 
 /// A value that has a text.
 pub trait Shown {
@@ -79,7 +80,7 @@ impl<T: Shown + Drop> Shown for Closed<T> {
     }
 }
 
-impl<T: Shown + Drop, const ID: u64, const CRITICALITY: u64> Shown for Listed<T, ID, CRITICALITY> {
+impl<T: Shown + Drop, const ID: u16, const CRITICALITY: u8> Shown for Listed<T, ID, CRITICALITY> {
     fn shown(&self, text: Text) -> Text {
         self.value.shown(text)
     }

@@ -4,10 +4,10 @@ use crate::shown::Shown;
 use crate::stop::{Stop, answered};
 use calc_text::{Call, CallAnswer, Fault, Text};
 use per_bits::{
-    BitString, Closed, Element, Enumerated, Items, Listed, OctetString, Octets, PerError,
-    SizedString, Whole, read_complete, write_complete,
+    BitString, Closed, Element, Enumerated, Items, OctetString, Octets, PerError, SizedString,
+    Whole, read_complete, write_complete,
 };
-use s1ap_elements::{Ambr, BitRate};
+use s1ap_elements::{Ambr, BitRate, Listed, REJECT};
 use std::alloc::AllocError;
 
 /// `decode NAME OCTETS`: the value of a complete encoding, and how it is written again.
@@ -27,8 +27,8 @@ fn read_named(call: Call, name: &str, octets: &[u8]) -> Result<Text, Stop> {
         "address" => read::<Closed<BitString<1, 160>>>(call, octets),
         "one_of_4" => read::<Enumerated<3>>(call, octets),
         "codes" => read::<Items<Octets<1>, 1, 256>>(call, octets),
-        "element_23" => read::<Listed<Whole<0, 15>, 23, 0>>(call, octets),
-        "element_24" => read::<Listed<Whole<0, 15>, 24, 0>>(call, octets),
+        "element_23" => read::<Listed<Whole<0, 15>, 23, REJECT>>(call, octets),
+        "element_24" => read::<Listed<Whole<0, 15>, 24, REJECT>>(call, octets),
         _ => Err(Stop::Line(Fault::Name)),
     }
 }

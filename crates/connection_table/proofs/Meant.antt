@@ -4,8 +4,8 @@ use Rattle.std.specs.Prelude.{◌==◌, ◌&&◌, ◌||◌, nat_le, nat_lt, Opti
 use Rattle.std.specs.List.{list_any}
 use Rattle.std.proofs.lemmas.Bool.Decides.{nat_tests}
 use borrow.Author.Tests.{eqb-true}
-use Rattle.per_bits.specs.declared.wrapped.Listed.{Listed}
-use Rattle.s1ap_elements.specs.declared.phone.ListedAssociation.{ListedAssociation}
+use Rattle.s1ap_elements.specs.declared.reset.ListedAssociation.{ListedAssociation}
+use Rattle.s1ap_elements.specs.Resets.{AssociationToReset}
 use Rattle.mme_types.specs.declared.connection.Connection.{Connection}
 use Rattle.mme_types.specs.Listed.{ToReset, matches, is_listed}
 use Rattle.sorted_list.specs.Sorted.{Sorted}
@@ -242,7 +242,7 @@ same_item m n a b s =
     ap (λ (o : Option ℕ). matches m n (record { mme_ue_id = o; enb_ue_id = a.enb_ue_id })) (same_id a.mme_ue_id b.mme_ue_id both.0)
     ∙ ap (λ (o : Option ℕ). matches m n (record { mme_ue_id = b.mme_ue_id; enb_ue_id = o })) (same_id a.enb_ue_id b.enb_ue_id both.1)
 
-repeated_by : (m n : ℕ) (item : ListedAssociation) (x : Listed ListedAssociation 91 0) (xs : ToReset) (b : Bool)
+repeated_by : (m n : ℕ) (item : ListedAssociation) (x : AssociationToReset) (xs : ToReset) (b : Bool)
     → is_same_item item x.value ≡ b → (b || list_any (λ other. is_same_item item other.value) xs) ≡ true → matches m n item ≡ true
     → (list_any (λ other. is_same_item item other.value) xs ≡ true → is_listed m n xs ≡ true) → is_listed m n (x ∷ xs) ≡ true
 repeated_by m n item x xs true s r t ih = ap (λ b. b || is_listed m n xs) (sym (same_item m n item x.value s) ∙ t)

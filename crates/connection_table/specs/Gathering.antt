@@ -3,7 +3,7 @@ use Rattle.std.specs.Prelude.{◌≡◌, ℕ, ◌<◌, ◌≤◌, List, Option, 
 use Rattle.identity_slots.specs.Ids.{slots}
 use Rattle.mme_types.specs.declared.connection.Connection.{Connection}
 use Rattle.mme_types.specs.Listed.{ToReset, matches}
-use Rattle.s1ap_elements.specs.declared.phone.ListedAssociation.{ListedAssociation}
+use Rattle.s1ap_elements.specs.declared.reset.ListedAssociation.{ListedAssociation}
 use Rattle.sorted_list.specs.Ordered.{at, Rising}
 use Rattle.connection_table.specs.declared.whereabouts.Whereabouts.{Whereabouts}
 use Rattle.connection_table.specs.declared.seats.Seat.{Seat}

@@ -4,8 +4,7 @@ ghost use Rattle.std.specs.Prelude.{◌≡◌};
 ghost use Rattle.std.specs.List.{list_any};
 ghost use Rattle.connection_table.specs.Gathering.{is_same_id, is_same_item};
 
-use per_bits::Listed;
-use s1ap_elements::{EnbUeId, ListedAssociation, MmeUeId};
+use s1ap_elements::{AssociationToReset, EnbUeId, ListedAssociation, MmeUeId};
 
 fn is_same_mme_ue_id(given: Option<MmeUeId>, other: Option<MmeUeId>) -> bool
     ensures { result ≡ is_same_id given other }
@@ -39,10 +38,7 @@ fn is_same_item(item: &ListedAssociation, other: &ListedAssociation) -> bool
 }
 
 /// Whether an equal item is among these.
-pub(crate) fn is_repeated(
-    item: &ListedAssociation,
-    before: &[Listed<ListedAssociation, 91, 0>],
-) -> bool
+pub(crate) fn is_repeated(item: &ListedAssociation, before: &[AssociationToReset]) -> bool
     ensures { result ≡ list_any (λ other. is_same_item item.now other.value) before.now }
 {
     before.iter().any(|other| is_same_item(item, &other.value))

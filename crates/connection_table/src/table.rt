@@ -14,8 +14,7 @@ use crate::seats::{
 };
 use crate::whereabouts::{Whereabouts, is_same};
 use identity_slots::{AssociationId, Slot, StationNumber};
-use per_bits::Listed;
-use s1ap_elements::{EnbUeId, ListedAssociation};
+use s1ap_elements::{AssociationToReset, EnbUeId, ListedAssociation};
 use sorted_list::SortedList;
 use std::alloc::{AllocError, Global};
 use std::marker::Model;
@@ -113,7 +112,7 @@ impl Connections {
     pub fn listed(
         &self,
         station: StationNumber,
-        items: &[Listed<ListedAssociation, 91, 0>],
+        items: &[AssociationToReset],
     ) -> Result<Vec<Slot>, AllocError>
         ensures { IfOk result (λ s. s.items ≡ slots_where (is_meant station items.now) 0 self.now) }
     {
@@ -129,7 +128,7 @@ impl Connections {
     fn gather_next(
         &self,
         station: StationNumber,
-        before: &[Listed<ListedAssociation, 91, 0>],
+        before: &[AssociationToReset],
         item: ListedAssociation,
         gathered: &mut SortedList<GatheredSlot>,
     ) -> Result<(), AllocError>

@@ -14,8 +14,7 @@ use mme_signalling::{
     cause_of_request, error_indication, path_switch_acknowledge, path_switch_failure,
 };
 use mme_types::{Connection, RadioKeys, StationNumber, UeBody, UeMessage, is_listed};
-use per_bits::Listed;
-use s1ap_elements::{Cause, ListedAssociation, ProtocolCause, RadioNetworkCause};
+use s1ap_elements::{AssociationToReset, Cause, ProtocolCause, RadioNetworkCause};
 use std::alloc::{AllocError, Global};
 
 // Next hop chaining counts are below this (TS 33.401 clause 7.2.8.1).
@@ -256,11 +255,7 @@ pub fn station_gone(draft: &mut Draft, station: StationNumber)
 
 /// A station reset a list of associations (TS 36.413 clause 8.7.1.2.2); no station is struck from the paging to repeat.
 #[tactic(auto, unfolding(crate::specs::Connected::connections_gone))]
-pub fn connections_gone(
-    draft: &mut Draft,
-    station: StationNumber,
-    items: &[Listed<ListedAssociation, 91, 0>],
-)
+pub fn connections_gone(draft: &mut Draft, station: StationNumber, items: &[AssociationToReset])
     ensures { draft.new ≡ connections_gone station items.now draft.old }
 {
     if let Some(connection) = draft.solo.connection {

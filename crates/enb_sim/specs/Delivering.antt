@@ -2,11 +2,10 @@
 use Rattle.std.specs.Prelude.{ℕ, ◌==◌, ◌&&◌, Bool, true, false, not, find, filter, if◌then◌else◌, List, [], ◌∷◌, ◌++◌, Option, Some, None, Result, Ok, Err, option_map}
 use Rattle.std.specs.List.{list_any}
 use Rattle.std.specs.Borrow.{Bor}
-use Rattle.s1ap_elements.specs.declared.bearer.ErabToBeSetup.{ErabToBeSetup}
+use Rattle.s1ap_elements.specs.Bearers.{ErabToBeSetupItem}
 use Rattle.s1ap_elements.specs.declared.phone.UeIdPair.{UeIdPair}
 use Rattle.s1ap_elements.specs.declared.phone.UeS1apIds.{UeS1apIds}
 use Rattle.s1ap_elements.specs.declared.phone.UeS1apIds.TheVariants.{Pair, MmeUeId}
-use Rattle.per_bits.specs.declared.wrapped.Listed.{Listed}
 use Rattle.s1ap_rows.specs.declared.fault.S1apFault.{S1apFault}
 use Rattle.s1ap_pdus.specs.declared.pdu.Pdu.{Pdu}
 use Rattle.s1ap_pdus.specs.declared.pdu.Pdu.TheVariants as pdu
@@ -74,7 +73,7 @@ handed pair None = None
 handed pair (Some nas) = Some (record { pair = pair; nas = nas })
 
 -- the first of the bearers to be set up: its number, and the NAS message beside it
-abbrev pub first_bearer : List (Listed (ErabToBeSetup (List ℕ)) 52 0) → Option (ℕ × Option (List ℕ))
+abbrev pub first_bearer : List (ErabToBeSetupItem (List ℕ)) → Option (ℕ × Option (List ℕ))
 first_bearer [] = None
 first_bearer (e ∷ es) = Some (e.value.id, e.value.nas)
 

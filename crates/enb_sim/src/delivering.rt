@@ -5,8 +5,7 @@ ghost use Rattle.s1ap_elements.specs.Bearers.{erabs_to_be_setup_lists};
 ghost use Rattle.s1ap_pdus.specs.Pdus.{listed};
 ghost use Rattle.enb_sim.specs.Delivering.{first_bearer, handed, seen_bearer, seen_nas};
 
-use per_bits::Listed;
-use s1ap_elements::{ErabId, ErabToBeSetup, UeIdPair};
+use s1ap_elements::{ErabId, ErabToBeSetupItem, UeIdPair};
 
 /// A NAS message for the phone of an association.
 #[derive(Clone, Copy)]
@@ -37,7 +36,7 @@ impl<'a> Delivery<'a> {
 /// The first of the bearers to be set up: its number, and the NAS message beside it.
 #[tactic(auto, using(crate::proofs::Bearers::first_is, crate::proofs::Bearers::none_is))]
 pub(crate) fn first_bearer<'a>(
-    erabs: &[Listed<ErabToBeSetup<'a, &'a [u8]>, 52, 0>],
+    erabs: &[ErabToBeSetupItem<'a, &'a [u8]>],
 ) -> Option<(ErabId, Option<&'a [u8]>)>
     ensures { seen_bearer result ≡ first_bearer (erabs_to_be_setup_lists erabs.now) }
 {

@@ -7,10 +7,10 @@ ghost use Rattle.enb_sim.specs.Profile.{address_of, area_of, cell_number, cell_o
 ghost use Rattle.enb_sim.specs.Sending.{complete_pdu, context_pdu, initial_pdu, release_pdu, switch_pdu, uplink_pdu};
 
 use crate::profile::StationProfile;
-use per_bits::{BitField, Items, Listed, Octets, Whole};
+use per_bits::{BitField, Items, Octets, Whole};
 use s1ap_elements::{
-    Address, Cause, CellId, EnbUeId, ErabId, ErabTunnel, EutranCgi, RadioNetworkCause, RrcCause,
-    STmsi, SecurityCapabilities, Tai, Teid, UeIdPair,
+    Address, Cause, CellId, EnbUeId, ErabId, ErabTunnel, EutranCgi, Listed, RadioNetworkCause,
+    RrcCause, STmsi, SecurityCapabilities, Tai, Teid, UeIdPair,
 };
 use s1ap_messages::{
     EncodeFault, InitialContextSetupResponse, InitialUeMessage, PathSwitchRequest, Pdu, S1apPdu,

@@ -28,7 +28,7 @@ pub record HeadRead (os : List ℕ) (extended : Bool) (count : ℕ) (second : Pl
   pub bit : bit_at (start os) ≡ Ok (extended, first)
   pub number : number_at 0 65535 first ≡ Ok (count, second)
 
--- and so many elements
+-- and N elements
 pub record ReadTo (os : List ℕ) (extended : Bool) (count : ℕ) (es : List Raw) (here : Place) : Type 0 where
   pub second : Place
   pub head : HeadRead os extended count second

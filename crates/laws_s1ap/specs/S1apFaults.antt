@@ -46,7 +46,7 @@ abbrev pub held_by : ℕ → Rows → Option Format
 held_by id end = None
 held_by id (ie i c p f rs) = cond (eqb id i) (Some f) (held_by id rs)
 
--- ---- an element that can't be taken, behind elements that were
+-- ---- an element that can't be taken, after elements that were
 
 -- the id of a row that one of them has
 abbrev pub IsRepeated : Rows → List Raw → Place → ℕ → Type 0
@@ -88,7 +88,7 @@ head_at s = do
   count ← number_at 0 65535 extended.1
   Ok ((extended.0, count.0), count.1)
 
--- what stands behind its elements: additions, where the extension bit is 1, and the end
+-- what stands after its elements: additions, where the extension bit is 1, and the end
 abbrev pub tail_at : Bool → Place → Result (Unit {0} × Place) PerFault
 tail_at extended s = do
   more ← skipped_at extended additions_at s
@@ -107,7 +107,7 @@ pub record Reached (rs : Rows) (os : List ℕ) : Type 0 where
 abbrev pub FailsAtElement : Rows → List ℕ → S1apFault → Type 0
 FailsAtElement rs os fault = (r : Reached rs os) × (length r.es < r.count) × ElementFault rs r.es r.here fault
 
--- all elements were taken, and what stands behind them isn't spelled
+-- all elements were taken, and what stands after them isn't spelled
 abbrev pub FailsBehindElements : Rows → List ℕ → PerFault → Type 0
 FailsBehindElements rs os fault = (r : Reached rs os) × (length r.es ≡ r.count) × (tail_at r.extended r.here ≡ Err fault)
 

@@ -9,9 +9,9 @@ ghost use Rattle.laws_s1ap.specs.S1apFaults.{HasS1apFault};
 
 use s1ap_pdus::decoded_exactly;
 
-/// When each fault comes, from the left (TS 36.413 clause 10.3): octets that spell no frame; a frame of no message; the first element
-/// that can't be taken, since it stands again, is refused, spells nothing that its row holds, or isn't spelled; what isn't spelled
-/// behind the elements; and last the first row that lacks its element.
+/// When each fault comes, from the left (TS 36.413 clause 10.3): octets that spell no frame; a frame of no message; the first
+/// element that can't be taken, since it stands again, is refused, spells nothing that its row holds, or isn't spelled; what isn't
+/// spelled after the elements; and last the first row that lacks its element.
 pub fn fault_is_named()
     ensures { (os : List ℕ) (fault : S1apFault) → decoded os ≡ Err fault → HasS1apFault os fault }
 {}

@@ -4,11 +4,12 @@ use Rattle.std.proofs.Common.{◌≡◌, ℕ, ◌*◌, ◌^◌, ◌≤◌, ◌&&
 use Rattle.std.specs.List.{AllByRecursion}
 use Rattle.std.proofs.lemmas.Bool.{and_from}
 use Rattle.std.proofs.lemmas.List.{length-map}
-use Rattle.per_bits.specs.Formats.{Value, item}
+use Rattle.per_bits.specs.Formats.{Value}
 use Rattle.per_bits.specs.Written.{each_fits, number_fits, optional_fits}
-use Rattle.s1ap_elements.specs.declared.phone.ListedAssociation.{ListedAssociation}
-use Rattle.s1ap_elements.specs.Formats.{associations_reset, enb_ue_id, listed_association, mme_ue_id}
-use Rattle.s1ap_elements.specs.Phones.{typed_associations_reset, typed_listed_association}
+use Rattle.s1ap_elements.specs.declared.reset.ListedAssociation.{ListedAssociation}
+use Rattle.s1ap_elements.specs.Ids as ids
+use Rattle.s1ap_elements.specs.Formats.{ignore, item, associations_reset, enb_ue_id, listed_association, mme_ue_id}
+use Rattle.s1ap_elements.specs.Resets.{typed_associations_reset, typed_listed_association}
 use Rattle.mme_types.specs.Listed.{ToReset}
 use Rattle.mme_routing.specs.Resets.{items_reset, part_acknowledge}
 use Rattle.laws_written.specs.SizeLaws.{number_allowed}
@@ -41,10 +42,10 @@ enb_few None = omega arith
 enb_few (Some id) = omega arith
 
 item_fits : (a : ListedAssociation) → AssociationInRange a
-    → in_range (item 91 1 listed_association) (typed_listed_association a, tt) ≡ true
+    → in_range (item ids.ue_associated_logical_s1_connection_item ignore listed_association) (typed_listed_association a, tt) ≡ true
 item_fits a h = then_done _ (and_from _ _ (mme_fits a.mme_ue_id h.mme_ue_id) (then_done _ (enb_fits a.enb_ue_id h.enb_ue_id)))
 
-item_few : (a : ListedAssociation) → most_octets (item 91 1 listed_association) (typed_listed_association a, tt) ≤ 48
+item_few : (a : ListedAssociation) → most_octets (item ids.ue_associated_logical_s1_connection_item ignore listed_association) (typed_listed_association a, tt) ≤ 48
 item_few a =
     let mme : most_of_optional (most_octets mme_ue_id) a.mme_ue_id ≤ 10 = mme_few a.mme_ue_id in
     let enb : most_of_optional (most_octets enb_ue_id) a.enb_ue_id ≤ 10 = enb_few a.enb_ue_id in
@@ -52,16 +53,15 @@ item_few a =
 
 -- ---- all items
 
-each_item_fits : (items : ToReset) → AllByRecursion (λ i. AssociationInRange i.value) items
-    → each_fits (in_range (item 91 1 listed_association)) (written_items items) ≡ true
+each_item_fits : (items : ToReset) → AllByRecursion (λ i. AssociationInRange i.value) items → each_fits (in_range (item ids.ue_associated_logical_s1_connection_item ignore listed_association)) (written_items items) ≡ true
 each_item_fits [] h = refl
 each_item_fits (i ∷ more) h = and_from _ _ (item_fits i.value h.0) (each_item_fits more h.1)
 
-all_few : (items : ToReset) → most_of_each (most_octets (item 91 1 listed_association)) (written_items items) ≤ 48 * length items
+all_few : (items : ToReset) → most_of_each (most_octets (item ids.ue_associated_logical_s1_connection_item ignore listed_association)) (written_items items) ≤ 48 * length items
 all_few [] = omega arith
 all_few (i ∷ more) =
-    let one : most_octets (item 91 1 listed_association) (typed_listed_association i.value, tt) ≤ 48 = item_few i.value in
-    let rest : most_of_each (most_octets (item 91 1 listed_association)) (written_items more) ≤ 48 * length more = all_few more in
+    let one : most_octets (item ids.ue_associated_logical_s1_connection_item ignore listed_association) (typed_listed_association i.value, tt) ≤ 48 = item_few i.value in
+    let rest : most_of_each (most_octets (item ids.ue_associated_logical_s1_connection_item ignore listed_association)) (written_items more) ≤ 48 * length more = all_few more in
     omega (arith, one, rest)
 
 as_many : (items : ToReset) → length (written_items items) ≡ length items
@@ -77,6 +77,5 @@ count_fits items h =
 pub short_part_acknowledge : (items : ToReset) → ListInRange items → IsShortMessage (part_acknowledge items)
 short_part_acknowledge items h =
     let few : length items ≤ 256 = h.few in
-    let size : most_of_each (most_octets (item 91 1 listed_association)) (written_items items) ≤ 48 * length items =
-    all_few items in
+    let size : most_of_each (most_octets (item ids.ue_associated_logical_s1_connection_item ignore listed_association)) (written_items items) ≤ 48 * length items = all_few items in
     record { ranges = then_done _ (and_from _ _ (count_fits items h) (each_item_fits items h.each)); size = omega (arith, few, size) }

@@ -7,13 +7,15 @@ use Rattle.std.proofs.lemmas.Option.{same_Some}
 use Rattle.per_streams.specs.Bits.{IsBytes}
 use Rattle.per_streams.specs.Each.{SpellsEach}
 use Rattle.per_streams.specs.Octet.{AreBytes, all_below}
-use Rattle.per_bits.specs.Formats.{Format, flag_of, flags_after, number, octets, octets_between, octet_string, bit_string, bits_between, enumerated, closed, items, open_type, plain, sequence, choice, Fields, done, must, may, skip, fixed, marked, Alternatives, last, either, Value, Values, Chosen, item}
+use Rattle.per_bits.specs.Formats.{Format, flag_of, flags_after, number, octets, octets_between, octet_string, bit_string, bits_between, enumerated, closed, items, open_type, plain, sequence, choice, Fields, done, must, may, skip, fixed, marked, Alternatives, last, either, Value, Values, Chosen}
 use Rattle.per_bits.specs.Spelling.{Spells, SpellsChosen, SpellsFields, SpellsOptional}
-use Rattle.s1ap_elements.specs.declared.phone.ListedAssociation.{ListedAssociation}
-use Rattle.s1ap_elements.specs.declared.phone.ResetType.{ResetType}
+use Rattle.s1ap_elements.specs.declared.reset.ListedAssociation.{ListedAssociation}
+use Rattle.s1ap_elements.specs.declared.reset.ResetType.{ResetType}
 use Rattle.s1ap_elements.specs.declared.phone.Tai.{Tai}
-use Rattle.s1ap_elements.specs.Formats.{associations_to_reset, enb_ue_id, listed_association, mme_ue_id, reset_type, tai}
-use Rattle.s1ap_elements.specs.Phones.{typed_associations_to_reset, typed_listed_association, typed_reset_type, typed_tai}
+use Rattle.s1ap_elements.specs.Ids as ids
+use Rattle.s1ap_elements.specs.Formats.{reject, item, associations_to_reset, enb_ue_id, listed_association, mme_ue_id, reset_type, tai}
+use Rattle.s1ap_elements.specs.Phones.{typed_tai}
+use Rattle.s1ap_elements.specs.Resets.{typed_associations_to_reset, typed_listed_association, typed_reset_type}
 use Rattle.s1ap_rows.specs.Rows.{Rows, ie, end, needed, optional, unkept, Kept, Slots}
 use Rattle.s1ap_rows.specs.Spelling.{AreElements, IsKept, OfRow, Raw, has_id}
 use Rattle.s1ap_pdus.specs.declared.pdu.Pdu.{Pdu}
@@ -166,8 +168,7 @@ below_enb (Some id) h = enb_ue_id_of id h
 association_of : (a : ListedAssociation) → Ranged listed_association (typed_listed_association a) → AssociationInRange a
 association_of a h = record { mme_ue_id = below_mme a.mme_ue_id h.0; enb_ue_id = below_enb a.enb_ue_id h.1.0 }
 
-each_of : (xs : ToReset) → AllByRecursion (Ranged (item 91 0 listed_association)) (typed_associations_to_reset xs)
-    → AllByRecursion (λ i. AssociationInRange i.value) xs
+each_of : (xs : ToReset) → AllByRecursion (Ranged (item ids.ue_associated_logical_s1_connection_item reject listed_association)) (typed_associations_to_reset xs) → AllByRecursion (λ i. AssociationInRange i.value) xs
 each_of [] h = tt
 each_of (i ∷ more) h = (association_of i.value h.0.0, each_of more h.1)
 

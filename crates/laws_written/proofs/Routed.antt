@@ -1,7 +1,7 @@
 -- Where an event goes is in range, as the station's octets tell it.
 use Rattle.std.proofs.Common.{◌≡◌, ℕ, zero, suc, ◌^◌, ◌<◌, Bool, true, false, cond, List, [], ◌∷◌, length, Option, Some, None, Result, Ok, Err, refl, arith}
-use Rattle.s1ap_elements.specs.declared.phone.ResetType.{ResetType}
-use Rattle.s1ap_elements.specs.declared.phone.ResetType.TheVariants.{All, Part}
+use Rattle.s1ap_elements.specs.declared.reset.ResetType.{ResetType}
+use Rattle.s1ap_elements.specs.declared.reset.ResetType.TheVariants.{All, Part}
 use Rattle.s1ap_elements.specs.declared.station.SupportedTa.{SupportedTa}
 use Rattle.s1ap_rows.specs.declared.fault.S1apFault.{S1apFault}
 use Rattle.s1ap_pdus.specs.declared.pdu.InitialUeMessage.{InitialUeMessage}

@@ -9,7 +9,7 @@ use Rattle.s1ap_elements.specs.declared.cause.Cause.TheVariants.{Nas, Protocol, 
 use Rattle.s1ap_elements.specs.declared.cause.NasCause.TheVariants.{NormalRelease}
 use Rattle.s1ap_elements.specs.declared.cause.ProtocolCause.TheVariants.{MessageNotCompatible}
 use Rattle.s1ap_elements.specs.declared.cause.RadioNetworkCause.TheVariants.{UnknownMmeUeS1apId}
-use Rattle.s1ap_elements.specs.declared.phone.ResetType.{ResetType}
+use Rattle.s1ap_elements.specs.declared.reset.ResetType.{ResetType}
 use Rattle.s1ap_elements.specs.declared.station.SupportedTa.{SupportedTa}
 use Rattle.s1ap_rows.specs.declared.criticality.Criticality.TheVariants.{Reject, Ignore, Notify}
 use Rattle.s1ap_rows.specs.declared.fault.S1apFault.{S1apFault}

@@ -5,8 +5,8 @@ use Rattle.s1ap_elements.specs.declared.cause.Cause.TheVariants.{Nas, Protocol, 
 use Rattle.s1ap_elements.specs.declared.cause.NasCause.TheVariants.{NormalRelease}
 use Rattle.s1ap_elements.specs.declared.cause.ProtocolCause.TheVariants.{MessageNotCompatible}
 use Rattle.s1ap_elements.specs.declared.cause.RadioNetworkCause.TheVariants.{UnknownMmeUeS1apId}
-use Rattle.s1ap_elements.specs.declared.phone.ResetAll.{ResetAll}
-use Rattle.s1ap_elements.specs.declared.phone.ResetType.TheVariants.{All, Part}
+use Rattle.s1ap_elements.specs.declared.reset.ResetAll.{ResetAll}
+use Rattle.s1ap_elements.specs.declared.reset.ResetType.TheVariants.{All, Part}
 use Rattle.s1ap_elements.specs.declared.station.SupportedTa.{SupportedTa}
 use Rattle.s1ap_rows.specs.declared.fault.S1apFault.{S1apFault}
 use Rattle.s1ap_pdus.specs.declared.pdu.Pdu.{Pdu}

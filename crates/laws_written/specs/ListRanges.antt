@@ -1,7 +1,7 @@
 -- The ranges of a list in a RESET: how many items, and each id that an item gives (TS 36.413 clauses 9.1.8.1, 9.2.3.3, 9.2.3.4).
 use Rattle.std.specs.Prelude.{ℕ, ◌^◌, ◌<◌, ◌≤◌, length, Option, Some, None}
 use Rattle.std.specs.List.{AllByRecursion}
-use Rattle.s1ap_elements.specs.declared.phone.ListedAssociation.{ListedAssociation}
+use Rattle.s1ap_elements.specs.declared.reset.ListedAssociation.{ListedAssociation}
 use Rattle.mme_types.specs.Listed.{ToReset}
 
 -- an id, where it is given

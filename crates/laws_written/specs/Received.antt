@@ -1,6 +1,6 @@
 -- What a station's octets tell of phones is in range: the ids, the NAS octets and the tracking area, and the lists of a RESET.
 use Rattle.std.specs.Prelude.{◌≡◌, ℕ, List, Some, Ok}
-use Rattle.s1ap_elements.specs.declared.phone.ResetType.TheVariants.{Part}
+use Rattle.s1ap_elements.specs.declared.reset.ResetType.TheVariants.{Part}
 use Rattle.s1ap_pdus.specs.declared.pdu.InitialUeMessage.{InitialUeMessage}
 use Rattle.s1ap_pdus.specs.declared.pdu.Pdu.{Pdu}
 use Rattle.s1ap_pdus.specs.declared.pdu.Pdu.TheVariants as pdu

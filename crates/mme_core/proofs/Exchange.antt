@@ -3,8 +3,8 @@ use Rattle.std.proofs.Common.{◌≡◌, ◌≢◌, ℕ, ◌+◌, List, [], ◌�
 use Rattle.std.specs.Prelude.{if◌then◌else◌, unwrap_or}
 use Rattle.std.proofs.lemmas.Bool.{cases_eq}
 use Rattle.std.proofs.lemmas.List.{set-get_or}
-use Rattle.s1ap_elements.specs.declared.phone.ResetType.{ResetType}
-use Rattle.s1ap_elements.specs.declared.phone.ResetType.TheVariants.{All, Part}
+use Rattle.s1ap_elements.specs.declared.reset.ResetType.{ResetType}
+use Rattle.s1ap_elements.specs.declared.reset.ResetType.TheVariants.{All, Part}
 use Rattle.s1ap_rows.specs.declared.fault.S1apFault.{S1apFault}
 use Rattle.s1ap_pdus.specs.declared.pdu.Pdu.{Pdu}
 use Rattle.s1ap_pdus.specs.declared.pdu.Pdu.TheVariants as pdu

@@ -2,8 +2,8 @@
 use Rattle.std.proofs.Common.{◌≡◌, ℕ, ◌+◌, ◌^◌, ◌<◌, List, Bool, true, false, Option, Some, None, Result, Ok, Err, refl, ap, arith}
 use Rattle.std.specs.Prelude.{if◌then◌else◌, nat_lt}
 use Rattle.std.proofs.lemmas.Bool.Decides.{nat_tests}
-use Rattle.s1ap_elements.specs.declared.phone.ResetType.{ResetType}
-use Rattle.s1ap_elements.specs.declared.phone.ResetType.TheVariants.{All, Part}
+use Rattle.s1ap_elements.specs.declared.reset.ResetType.{ResetType}
+use Rattle.s1ap_elements.specs.declared.reset.ResetType.TheVariants.{All, Part}
 use Rattle.s1ap_rows.specs.declared.fault.S1apFault.{S1apFault}
 use Rattle.s1ap_pdus.specs.declared.pdu.InitialUeMessage.{InitialUeMessage}
 use Rattle.s1ap_pdus.specs.declared.pdu.Pdu.{Pdu}

@@ -1,9 +1,8 @@
 -- What a RESET makes of a station (TS 36.413 clause 8.7.1).
 use Rattle.std.specs.Prelude.{ℕ, List, Option, Some, None, map}
-use Rattle.per_bits.specs.declared.wrapped.Listed.{Listed}
-use Rattle.s1ap_elements.specs.declared.phone.ListedAssociation.{ListedAssociation}
-use Rattle.s1ap_elements.specs.declared.phone.ResetType.{ResetType}
-use Rattle.s1ap_elements.specs.declared.phone.ResetType.TheVariants.{All, Part}
+use Rattle.s1ap_elements.specs.Resets.{AssociationReset}
+use Rattle.s1ap_elements.specs.declared.reset.ResetType.{ResetType}
+use Rattle.s1ap_elements.specs.declared.reset.ResetType.TheVariants.{All, Part}
 use Rattle.s1ap_pdus.specs.declared.pdu.Pdu.{Pdu}
 use Rattle.s1ap_pdus.specs.declared.pdu.Pdu.TheVariants as pdu
 use Rattle.mme_types.specs.declared.stations.StationState.{StationState}
@@ -17,14 +16,14 @@ use Rattle.mme_routing.specs.Outcome.{Outcome, begins_anew, not_compatible}
 -- ---- RESET ACKNOWLEDGE (TS 36.413 clause 9.1.8.2)
 
 -- with the items that a RESET had
-abbrev pub acknowledged : Option (List (Listed ListedAssociation 91 1)) → Pdu (List ℕ)
+abbrev pub acknowledged : Option (List AssociationReset) → Pdu (List ℕ)
 acknowledged items = pdu.ResetAcknowledge (record { associations = items })
 
 abbrev pub whole_acknowledge : Pdu (List ℕ)
 whole_acknowledge = acknowledged None
 
 -- each item as it was received, in order
-abbrev pub items_reset : ToReset → List (Listed ListedAssociation 91 1)
+abbrev pub items_reset : ToReset → List AssociationReset
 items_reset items = map (λ i. record { value = i.value }) items
 
 abbrev pub part_acknowledge : ToReset → Pdu (List ℕ)

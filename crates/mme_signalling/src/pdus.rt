@@ -7,11 +7,11 @@ ghost use Rattle.mme_signalling.specs.Pdus.{algorithm_bits, cause_of_request, co
 use identity_slots::{AssociationId, Profile, Tmsi};
 use mme_types::{Connection, Network};
 use nas_elements::{Imsi, UeCapability};
-use per_bits::{BitField, Items, Listed, Octets, Whole};
+use per_bits::{BitField, Items, Octets, Whole};
 use s1ap_elements::{
-    Address, Ambr, Arp, Cause, CnDomain, EnbUeId, ErabId, ErabToBeSetup, MiscCause, MmeUeId,
-    NasCause, ProtocolCause, Qos, RadioNetworkCause, STmsi, SecurityCapabilities, SecurityContext,
-    Tai, TaiItem, TransportCause, UeIdPair, UeIndex, UePagingId, UeS1apIds,
+    Address, Ambr, Arp, Cause, CnDomain, EnbUeId, ErabId, ErabToBeSetup, Listed, MiscCause,
+    MmeUeId, NasCause, ProtocolCause, Qos, RadioNetworkCause, STmsi, SecurityCapabilities,
+    SecurityContext, Tai, TaiItem, TransportCause, UeIdPair, UeIndex, UePagingId, UeS1apIds,
 };
 use s1ap_pdus::{
     DownlinkNasTransport, ErrorIndication, InitialContextSetupRequest, Paging,

@@ -1,12 +1,12 @@
 -- Which associations a list in a RESET means (TS 36.413 clause 8.7.1.2.2).
 use Rattle.std.specs.Prelude.{ℕ, ◌==◌, ◌&&◌, ◌||◌, Bool, true, List, Option, Some, None, is_some}
 use Rattle.std.specs.List.{list_any}
-use Rattle.per_bits.specs.declared.wrapped.Listed.{Listed}
-use Rattle.s1ap_elements.specs.declared.phone.ListedAssociation.{ListedAssociation}
+use Rattle.s1ap_elements.specs.declared.reset.ListedAssociation.{ListedAssociation}
+use Rattle.s1ap_elements.specs.Resets.{AssociationToReset}
 
 -- what a RESET of a part names, item by item
 abbrev pub ToReset : Type 0
-ToReset = List (Listed ListedAssociation 91 0)
+ToReset = List AssociationToReset
 
 -- an id that is given has to be the association's
 abbrev pub agrees : Option ℕ → ℕ → Bool

@@ -1,8 +1,7 @@
 //! What happens to a subscriber. `B` is what holds octets: a slice of the message in code, a list in contracts.
 
 use identity_slots::{AssociationId, StationNumber};
-use per_bits::Listed;
-use s1ap_elements::{Cause, EnbUeId, ListedAssociation, Tai};
+use s1ap_elements::{AssociationToReset, Cause, EnbUeId, Tai};
 
 /// An INITIAL UE MESSAGE (TS 36.413 clause 8.6.2.1).
 #[derive(Clone, Copy)]
@@ -75,7 +74,7 @@ pub enum SoloEvent<'a> {
     /// A station was lost, set up anew or reset as a whole.
     StationGone(StationNumber),
     /// A station reset a list of associations.
-    ConnectionsGone(StationNumber, &'a [Listed<ListedAssociation, 91, 0>]),
+    ConnectionsGone(StationNumber, &'a [AssociationToReset]),
     /// A second has passed.
     Tick,
     /// Downlink data waits.

@@ -4,8 +4,7 @@ ghost use Rattle.std.specs.Prelude.{◌≡◌};
 ghost use Rattle.mme_types.specs.Listed.{agrees, is_listed, matches};
 
 use identity_slots::AssociationId;
-use per_bits::Listed;
-use s1ap_elements::{EnbUeId, ListedAssociation, MmeUeId};
+use s1ap_elements::{AssociationToReset, EnbUeId, ListedAssociation, MmeUeId};
 
 fn agrees_with_mme_ue_id(given: Option<MmeUeId>, mme_ue_id: AssociationId) -> bool
     ensures { result ≡ agrees given mme_ue_id }
@@ -36,11 +35,7 @@ fn matches(mme_ue_id: AssociationId, enb_ue_id: EnbUeId, item: &ListedAssociatio
 
 /// Whether some item of a list in a RESET matches the association with these ids: it gives an id at least, and each that it
 /// gives is the association's (TS 36.413 clause 8.7.1.2.2).
-pub fn is_listed(
-    mme_ue_id: AssociationId,
-    enb_ue_id: EnbUeId,
-    items: &[Listed<ListedAssociation, 91, 0>],
-) -> bool
+pub fn is_listed(mme_ue_id: AssociationId, enb_ue_id: EnbUeId, items: &[AssociationToReset]) -> bool
     ensures { result ≡ is_listed mme_ue_id enb_ue_id items.now }
 {
     items

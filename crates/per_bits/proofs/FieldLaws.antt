@@ -21,7 +21,8 @@ pub read_near : (n number : ℕ) (s t : Place) → n < 17 → number_bits_at n s
 unfolding bits_at
 read_near n number s t lt e = rw (lt-ltb n 17 lt) (field_ok n s number t e)
 
-pub read_far : (n number : ℕ) (s t u : Place) → 17 ≤ n → align_at s ≡ Ok (tt, t) → number_bits_at n t ≡ Ok (number, u) → bits_at n s ≡ Ok (bits n number, u)
+pub read_far : (n number : ℕ) (s t u : Place) → 17 ≤ n → align_at s ≡ Ok (tt, t) → number_bits_at n t ≡ Ok (number, u)
+    → bits_at n s ≡ Ok (bits n number, u)
 unfolding bits_at aligned_bits_at
 read_far n number s t u le a e = rw (le-ltb n 17 le, a) (field_ok n t number u e)
 
@@ -31,17 +32,23 @@ bits_near : (n number : ℕ) (old : List Bool) → n < 17 → write_bits n (bits
 unfolding write_bits
 bits_near n number old lt = rw (field_length n number, lt-ltb n 17 lt) refl
 
-bits_far : (n number : ℕ) (old : List Bool) → 17 ≤ n → write_bits n (bits n number) old ≡ Ok (old ++ (pad (length old) ++ bits n number))
+bits_far : (n number : ℕ) (old : List Bool) → 17 ≤ n
+    → write_bits n (bits n number) old ≡ Ok (old ++ (pad (length old) ++ bits n number))
 unfolding write_bits
 bits_far n number old le = rw (field_length n number, le-ltb n 17 le) refl
 
-pub wrote_near : {X : Type 0} (n number : ℕ) (old new all : List Bool) (r : Result X PerError) → bits n number ≡ all → n < 17 → OnOk r (new ≡ old ++ bits n number) → OnErr r (r ≡ Err NoMemory) → Wrote r new (write_bits n all old)
+pub wrote_near : {X : Type 0} (n number : ℕ) (old new all : List Bool) (r : Result X PerError) → bits n number ≡ all → n < 17
+    → OnOk r (new ≡ old ++ bits n number) → OnErr r (r ≡ Err NoMemory) → Wrote r new (write_bits n all old)
 wrote_near n number old new all (Ok x) e lt wrote refused = rw (← e, wrote) (bits_near n number old lt)
 wrote_near n number old new all (Err NoMemory) e lt wrote refused = tt
 wrote_near n number old new all (Err (Fault f)) e lt wrote refused = absurd cc
 
-pub wrote_far : {X : Type 0} (n number : ℕ) (old mid new all : List Bool) (r : Result X PerError) → bits n number ≡ all → 17 ≤ n → mid ≡ old ++ pad (length old) → OnOk r (new ≡ mid ++ bits n number) → OnErr r (r ≡ Err NoMemory) → Wrote r new (write_bits n all old)
-wrote_far n number old mid new all (Ok x) e le aligned wrote refused = rw (← e, wrote, aligned) (bits_far n number old le ∙ ap (λ (l : List Bool). Ok l) (sym (append_assoc old (pad (length old)) (bits n number))))
+pub wrote_far : {X : Type 0} (n number : ℕ) (old mid new all : List Bool) (r : Result X PerError) → bits n number ≡ all → 17 ≤ n
+    → mid ≡ old ++ pad (length old) → OnOk r (new ≡ mid ++ bits n number) → OnErr r (r ≡ Err NoMemory)
+    → Wrote r new (write_bits n all old)
+wrote_far n number old mid new all (Ok x) e le aligned wrote refused =
+    rw (← e, wrote, aligned)
+    (bits_far n number old le ∙ ap (λ (l : List Bool). Ok l) (sym (append_assoc old (pad (length old)) (bits n number))))
 wrote_far n number old mid new all (Err NoMemory) e le aligned wrote refused = tt
 wrote_far n number old mid new all (Err (Fault f)) e le aligned wrote refused = absurd cc
 
@@ -51,7 +58,8 @@ pub first_of : value [] ≡ 0
 unfolding value
 first_of = refl
 
-pub number_more : (bs : List Bool) (i number : ℕ) → i < length bs → number ≡ value (take i bs) → 2 * number + bool_byte (get_or bs i false) ≡ value (take (i + 1) bs)
+pub number_more : (bs : List Bool) (i number : ℕ) → i < length bs → number ≡ value (take i bs)
+    → 2 * number + bool_byte (get_or bs i false) ≡ value (take (i + 1) bs)
 number_more bs i number lt so_far =
     let e : take (i + 1) bs ≡ take i bs ++ get_or bs i false ∷ [] = ap (λ k. take k bs) (add-one i) ∙ take-suc bs i false lt in
     rw so_far (sym (value-push (take i bs) (get_or bs i false)) ∙ ap value (sym e))
@@ -61,25 +69,33 @@ number_below bs i number le so_far =
     let below = value_below (take i bs) in
     rw so_far (subst (λ k. value (take i bs) < 2 ^ k) (length-take-le i bs le) below)
 
-pub number_fits : (bs : List Bool) (n i number : ℕ) → length bs ≡ n → n ≤ 64 → i < n → number ≡ value (take i bs) → 2 * number + bool_byte (get_or bs i false) < 2 ^ 64
+pub number_fits : (bs : List Bool) (n i number : ℕ) → length bs ≡ n → n ≤ 64 → i < n → number ≡ value (take i bs)
+    → 2 * number + bool_byte (get_or bs i false) < 2 ^ 64
 number_fits bs n i number long most lt so_far =
-    let below = number_below bs (i + 1) (2 * number + bool_byte (get_or bs i false)) (omega (arith, long, lt)) (number_more bs i number (omega (arith, long, lt)) so_far) in
+    let below =
+    number_below bs (i + 1) (2 * number + bool_byte (get_or bs i false)) (omega (arith, long, lt))
+    (number_more bs i number (omega (arith, long, lt)) so_far) in
     let room = pow_mono {i = i + 1} {j = 64} (omega arith) in
     omega (arith, below, room)
 
-pub number_all : (bs : List Bool) (n i number : ℕ) → length bs ≡ n → n ≤ i → number ≡ value (take i bs) → (number < 2 ^ n) × (bits n number ≡ bs)
+pub number_all : (bs : List Bool) (n i number : ℕ) → length bs ≡ n → n ≤ i → number ≡ value (take i bs)
+    → (number < 2 ^ n) × (bits n number ≡ bs)
 number_all bs n i number long end so_far =
     let all : number ≡ value bs = so_far ∙ ap value (take_all i bs (omega (arith, long))) in
     (rw (← long, all) (value_below bs), rw (← long, all) (bits-value bs))
 
 -- ---- the bits one by one
 
-pub bits_more : (new bs : List Bool) (n i : ℕ) → length new ≡ n → length bs ≡ n → i < n → take i new ≡ take i bs → take (i + 1) (set new i (get_or bs i false)) ≡ take (i + 1) bs
+pub bits_more : (new bs : List Bool) (n i : ℕ) → length new ≡ n → length bs ≡ n → i < n → take i new ≡ take i bs
+    → take (i + 1) (set new i (get_or bs i false)) ≡ take (i + 1) bs
 bits_more new bs n i new_long long lt so_far =
-    rw add-one (take-suc-set new i (get_or bs i false) (omega (arith, new_long)) ∙ ap (λ (l : List Bool). l ++ get_or bs i false ∷ []) so_far ∙ sym (take-suc bs i false (omega (arith, long))))
+    rw add-one
+    (take-suc-set new i (get_or bs i false) (omega (arith, new_long)) ∙ ap (λ (l : List Bool). l ++ get_or bs i false ∷ []) so_far
+    ∙ sym (take-suc bs i false (omega (arith, long))))
 
 pub bits_all : (new bs : List Bool) (n i : ℕ) → length new ≡ n → length bs ≡ n → n ≤ i → take i new ≡ take i bs → new ≡ bs
-bits_all new bs n i new_long long end so_far = sym (take_all i new (omega (arith, new_long))) ∙ so_far ∙ take_all i bs (omega (arith, long))
+bits_all new bs n i new_long long end so_far =
+    sym (take_all i new (omega (arith, new_long))) ∙ so_far ∙ take_all i bs (omega (arith, long))
 
 -- ---- one of the bits
 
@@ -91,7 +107,8 @@ last_bit i p lt =
     let high : p / 2 < 2 ^ i = let d = pow_more i in omega (arith, d) in
     let sum : p / 2 * 2 ^ 1 + p % 2 ≡ p = omega arith in
     let parts : bits (i + 1) p ≡ bits i (p / 2) ++ eqb (p % 2) 1 ∷ [] =
-    ap (bits (i + 1)) (sym sum) ∙ bits-join i 1 (p / 2) (p % 2) high (omega arith) ∙ ap (λ (l : List Bool). bits i (p / 2) ++ l) (bit-is (p % 2) (omega arith)) in
+    ap (bits (i + 1)) (sym sum) ∙ bits-join i 1 (p / 2) (p % 2) high (omega arith)
+    ∙ ap (λ (l : List Bool). bits i (p / 2) ++ l) (bit-is (p % 2) (omega arith)) in
     ap (λ (l : List Bool). get_or l i false) parts ∙ get_or_at (bits i (p / 2)) (eqb (p % 2) 1) [] false i (length-bits i (p / 2))
 
 pub bit_of : (n i number : ℕ) → i < n → number < 2 ^ n → get_or (bits n number) i false ≡ eqb (number / 2 ^ (n - 1 - i) % 2) 1
@@ -99,5 +116,6 @@ bit_of n i number lt fits =
     let sum : n - (i + 1) ≡ n - 1 - i = omega arith in
     let p : ℕ = number / 2 ^ (n - (i + 1)) in
     let parts = bits-split n (i + 1) number (omega arith) fits in
-    ap (λ (l : List Bool). get_or l i false) parts.0 ∙ get_or_append_left (bits (i + 1) p) _ false i (omega (arith, length-bits (i + 1) p)) ∙ last_bit i p parts.1
+    ap (λ (l : List Bool). get_or l i false) parts.0
+    ∙ get_or_append_left (bits (i + 1) p) _ false i (omega (arith, length-bits (i + 1) p)) ∙ last_bit i p parts.1
     ∙ ap (λ k. eqb (number / 2 ^ k % 2) 1) sum

@@ -1,4 +1,4 @@
--- Writing that puts some bits behind what stands, the same wherever an octet is begun, or is refused as out of range.
+-- Writing that puts some bits after what stands, the same wherever an octet is begun, or is refused as out of range.
 use Rattle.std.proofs.Common.{◌≡◌, ℕ, ◌+◌, ◌&&◌, Bool, true, false, List, [], ◌++◌, length, Result, Ok, Err, refl, sym, ap, ◌∙◌}
 use Rattle.std.proofs.lemmas.List.{append-nil}
 use Rattle.per_streams.specs.declared.fault.PerFault.{PerFault}
@@ -21,9 +21,10 @@ pub placed_at : (f : Format) (v : Value f) → Placed (write_at f v)
 placed_at f v = record { fits = writable f v; text = written f v; puts = writes f v; same = written_same f v }
 
 pub placed_nothing : Placed (λ out. Ok out)
-placed_nothing = record { fits = true; text = λ at. []; puts = λ out. ap (λ (l : List Bool). Ok l) (sym (append-nil out)); same = λ a b h. refl }
+placed_nothing =
+    record { fits = true; text = λ at. []; puts = λ out. ap (λ (l : List Bool). Ok l) (sym (append-nil out)); same = λ a b h. refl }
 
--- one behind another
+-- one after another
 pub placed_then : (w k : List Bool → Result (List Bool) PerFault) → Placed w → Placed k → Placed (λ out. w out >>= k)
 placed_then w k p q = record {
   fits = p.fits && q.fits;
@@ -32,7 +33,7 @@ placed_then w k p q = record {
   same = two p.text q.text p.same q.same;
 }
 
--- behind some bits
+-- after some bits
 pub placed_after : (w : List Bool → Result (List Bool) PerFault) (xs : List Bool) → Placed w → Placed (λ out. w (out ++ xs))
 placed_after w xs p = record {
   fits = p.fits;
@@ -46,12 +47,14 @@ fault_is : (b : Bool) (out xs : List Bool) (f : PerFault) → put_if b out xs �
 fault_is true out xs f e = absurd cc
 fault_is false out xs f e = (refl, cc)
 
-pub refused : (w : List Bool → Result (List Bool) PerFault) (p : Placed w) (out : List Bool) (f : PerFault) → w out ≡ Err f → (p.fits ≡ false) × (f ≡ Range)
+pub refused : (w : List Bool → Result (List Bool) PerFault) (p : Placed w) (out : List Bool) (f : PerFault) → w out ≡ Err f
+    → (p.fits ≡ false) × (f ≡ Range)
 refused w p out f e = fault_is p.fits out (p.text (length out)) f (sym (p.puts out) ∙ e)
 
 put_is : (b : Bool) (out xs new : List Bool) → put_if b out xs ≡ Ok new → (b ≡ true) × (out ++ xs ≡ new)
 put_is true out xs new e = (refl, cc)
 put_is false out xs new e = absurd cc
 
-pub was_put : (w : List Bool → Result (List Bool) PerFault) (p : Placed w) (out new : List Bool) → w out ≡ Ok new → (p.fits ≡ true) × (out ++ p.text (length out) ≡ new)
+pub was_put : (w : List Bool → Result (List Bool) PerFault) (p : Placed w) (out new : List Bool) → w out ≡ Ok new
+    → (p.fits ≡ true) × (out ++ p.text (length out) ≡ new)
 was_put w p out new e = put_is p.fits out (p.text (length out)) new (sym (p.puts out) ∙ e)

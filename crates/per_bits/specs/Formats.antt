@@ -14,11 +14,11 @@ mutual
   pub data Format : Type 0 where
     -- a whole number from LO to HI
     number : ℕ → ℕ → Format
-    -- so many octets; from MIN to MAX octets; any number of octets
+    -- N octets; from MIN to MAX octets; any number of octets
     octets : ℕ → Format
     octets_between : ℕ → ℕ → Format
     octet_string : Format
-    -- so many bits; from MIN to MAX bits
+    -- N bits; from MIN to MAX bits
     bit_string : ℕ → Format
     bits_between : ℕ → ℕ → Format
     -- names 0 to LAST, and others by an extension bit
@@ -35,7 +35,7 @@ mutual
     -- one of several, with an extension bit
     choice : Alternatives → Format
 
-  -- what a sequence is made of: a field, one that may lack, one that may stand and is not kept,
+  -- what a sequence is made of: a field, one that may be absent, one that may stand and is not kept,
   -- a number that must be the one named, and a number that is not compared and is written as the one named
   pub data Fields : Type 0 where
     done : Fields
@@ -103,10 +103,6 @@ flags_after (b ∷ bs) = bs
 -- an element as it stands in a message: id, criticality, octets
 abbrev pub raw : Format
 raw = plain (must (number 0 65535) (must (number 0 2) (must octet_string done)))
-
--- an element of a list, with its one id
-abbrev pub item : ℕ → ℕ → Format → Format
-item id criticality f = plain (fixed 0 65535 id (marked 0 2 criticality (must (open_type f) done)))
 
 -- iE-Extensions
 abbrev pub extensions : Format

@@ -27,7 +27,8 @@ unfolding width_of
 width-fits n lt = grind (arith, common_steps, lt)
 
 abbrev pub large_bits : ℕ → ℕ → ℕ → List Bool
-large_bits span n at = let count = bits (width_of (octets_for span - 1)) (octets_for n - 1) in count ++ (pad (at + length count) ++ bits (8 * octets_for n) n)
+large_bits span n at = let count = bits (width_of (octets_for span - 1)) (octets_for n - 1) in
+    count ++ (pad (at + length count) ++ bits (8 * octets_for n) n)
 
 abbrev pub IsLarge : ℕ → ℕ → ℕ → List Bool → Type 0
 IsLarge span n at bs = (n ≤ span) × (n < 2 ^ 64) × (bs ≡ large_bits span n at)
@@ -36,9 +37,12 @@ abbrev Last : ℕ → ℕ → List Bool → ℕ → ℕ → List Bool → Type 0
 Last span c bs = Cond (leb (value bs) span) (Cond (eqb (octets_for (value bs)) (c + 1)) (Nothing (value bs)) Never) Never
 
 abbrev LargeStep : ℕ → ℕ → ℕ → List Bool → Type 0
-LargeStep span = Bind (IsSmall (octets_for span - 1) (width_of (octets_for span - 1))) (λ c. Bind IsPad (λ u. Bind (IsBits (8 * (c + 1))) (Last span c)))
+LargeStep span =
+    Bind (IsSmall (octets_for span - 1) (width_of (octets_for span - 1)))
+    (λ c. Bind IsPad (λ u. Bind (IsBits (8 * (c + 1))) (Last span c)))
 
-last_ok : (a b : Bool) (v n at : ℕ) (ys : List Bool) → Cond a (Cond b (Nothing v) Never) Never n at ys → (a ≡ true) × (b ≡ true) × (n ≡ v) × (ys ≡ [])
+last_ok : (a b : Bool) (v n at : ℕ) (ys : List Bool) → Cond a (Cond b (Nothing v) Never) Never n at ys
+    → (a ≡ true) × (b ≡ true) × (n ≡ v) × (ys ≡ [])
 last_ok true true v n at ys m = (refl, refl, m.0, m.1)
 last_ok true false v n at ys m = absurd m
 last_ok false b v n at ys m = absurd m
@@ -57,14 +61,24 @@ large_to span n at bs m =
     let fewest : octets_for n ≡ c + 1 = ap octets_for k.2 ∙ eqb-true _ _ k.1 in
     let within : n ≤ span = subst (λ j. j ≤ span) (sym k.2) (leb-true _ _ k.0) in
     let most = octets-most n in
-    let wide : n < 2 ^ (8 * (c + 1)) = subst (λ j. j < 2 ^ (8 * (c + 1))) (sym k.2) (subst (λ j. value core.0 < 2 ^ j) core.4.1 (value_below core.0)) in
+    let wide : n < 2 ^ (8 * (c + 1)) =
+    subst (λ j. j < 2 ^ (8 * (c + 1))) (sym k.2) (subst (λ j. value core.0 < 2 ^ j) core.4.1 (value_below core.0)) in
     let mono : 2 ^ (8 * (c + 1)) ≤ 2 ^ 64 = pow_mono {i = 8 * (c + 1)} {j = 64} (omega (arith, fewest, most)) in
     let whole : core.1 ≡ core.0 = core.4.0 in
-    let text : core.0 ≡ bits (8 * octets_for n) n = sym (bits-value core.0) ∙ ap (λ j. bits j (value core.0)) core.4.1 ∙ ap (λ j. bits (8 * j) (value core.0)) (sym fewest) ∙ ap (bits (8 * octets_for n)) (sym k.2) in
+    let text : core.0 ≡ bits (8 * octets_for n) n =
+    sym (bits-value core.0) ∙ ap (λ j. bits j (value core.0)) core.4.1 ∙ ap (λ j. bits (8 * j) (value core.0)) (sym fewest)
+    ∙ ap (bits (8 * octets_for n)) (sym k.2) in
     let tail : m.2 ≡ pad (at + length m.1) ++ bits (8 * octets_for n) n =
-    inner.3 ∙ ap (λ (l : List Bool). l ++ inner.2) inner.4 ∙ ap (λ (l : List Bool). pad (at + length m.1) ++ l) (core.3 ∙ ap (λ (l : List Bool). core.1 ++ l) k.3 ∙ append-nil core.1 ∙ whole ∙ text) in
-    let head : m.1 ≡ bits (width_of (octets_for span - 1)) (octets_for n - 1) = m.4.1 ∙ ap (bits (width_of (octets_for span - 1))) (omega (arith, fewest)) in
-    (within, omega (arith, wide, mono), m.3 ∙ ap (λ (l : List Bool). m.1 ++ l) tail ∙ ap (λ (l : List Bool). l ++ (pad (at + length l) ++ bits (8 * octets_for n) n)) head)
+    inner.3 ∙ ap (λ (l : List Bool). l ++ inner.2) inner.4
+    ∙ ap (λ (l : List Bool). pad (at + length m.1) ++ l)
+    (core.3 ∙ ap (λ (l : List Bool). core.1 ++ l) k.3 ∙ append-nil core.1 ∙ whole ∙ text) in
+    let head : m.1 ≡ bits (width_of (octets_for span - 1)) (octets_for n - 1) =
+    m.4.1 ∙ ap (bits (width_of (octets_for span - 1))) (omega (arith, fewest)) in (
+      within,
+      omega (arith, wide, mono),
+      m.3 ∙ ap (λ (l : List Bool). m.1 ++ l) tail
+          ∙ ap (λ (l : List Bool). l ++ (pad (at + length l) ++ bits (8 * octets_for n) n)) head,
+    )
 
 large_from : (span n at : ℕ) (bs : List Bool) → IsLarge span n at bs → LargeStep span n at bs
 large_from span n at bs m =
@@ -94,7 +108,8 @@ large_from span n at bs m =
           sym (append-nil text),
           (refl, len),
           subst (λ j. Last span (octets_for n - 1) text j place []) val
-              (ok_last _ _ (value text) place (le-leb _ _ (subst (λ j. j ≤ span) (sym val) m.0)) (eq-eqb _ _ (ap octets_for val ∙ sym back))),
+              (ok_last _ _ (value text) place (le-leb _ _ (subst (λ j. j ≤ span) (sym val) m.0))
+              (eq-eqb _ _ (ap octets_for val ∙ sym back))),
         ),
       ),
     )
@@ -104,17 +119,23 @@ unfolding large_at
 exact_large span =
     let most = octets-most span in
     exact_same (LargeStep span) (IsLarge span) (large_at span) (large_at span) (large_to span) (large_from span) (λ s. refl)
-    (exact_bind (IsSmall (octets_for span - 1) (width_of (octets_for span - 1))) (λ c. Bind IsPad (λ u. Bind (IsBits (8 * (c + 1))) (Last span c)))
+    (exact_bind (IsSmall (octets_for span - 1) (width_of (octets_for span - 1)))
+    (λ c. Bind IsPad (λ u. Bind (IsBits (8 * (c + 1))) (Last span c)))
     (small_at (octets_for span - 1) (width_of (octets_for span - 1)))
-    (λ c s. align_at s >>= λ a. take_at (8 * (c + 1)) a.1 >>= λ x. cond (leb (value x.0) span) (cond (eqb (octets_for (value x.0)) (c + 1)) (Ok (value x.0, x.1)) (Err NotFewest)) (Err Range))
+    (λ c s. align_at s >>= λ a. take_at (8 * (c + 1)) a.1
+    >>= λ x. cond (leb (value x.0) span) (cond (eqb (octets_for (value x.0)) (c + 1)) (Ok (value x.0, x.1)) (Err NotFewest))
+    (Err Range))
     (exact_small (octets_for span - 1) (width_of (octets_for span - 1)) (width-fits (octets_for span - 1) (omega (arith, most))))
     (λ c. exact_bind IsPad (λ u. Bind (IsBits (8 * (c + 1))) (Last span c)) align_at
-    (λ u s. take_at (8 * (c + 1)) s >>= λ x. cond (leb (value x.0) span) (cond (eqb (octets_for (value x.0)) (c + 1)) (Ok (value x.0, x.1)) (Err NotFewest)) (Err Range))
+    (λ u s. take_at (8 * (c + 1)) s
+    >>= λ x. cond (leb (value x.0) span) (cond (eqb (octets_for (value x.0)) (c + 1)) (Ok (value x.0, x.1)) (Err NotFewest))
+    (Err Range))
     exact_align
     (λ u. exact_bind (IsBits (8 * (c + 1))) (Last span c) (take_at (8 * (c + 1)))
     (λ bs s. cond (leb (value bs) span) (cond (eqb (octets_for (value bs)) (c + 1)) (Ok (value bs, s)) (Err NotFewest)) (Err Range))
     (exact_take (8 * (c + 1)))
     (λ bs. exact_cond (leb (value bs) span) (Cond (eqb (octets_for (value bs)) (c + 1)) (Nothing (value bs)) Never) Never
     (λ s. cond (eqb (octets_for (value bs)) (c + 1)) (Ok (value bs, s)) (Err NotFewest)) (λ s. Err Range)
-    (λ e. exact_cond (eqb (octets_for (value bs)) (c + 1)) (Nothing (value bs)) Never (λ s. Ok (value bs, s)) (λ s. Err NotFewest) (λ e. exact_ok (value bs)) (λ e. exact_err NotFewest))
+    (λ e. exact_cond (eqb (octets_for (value bs)) (c + 1)) (Nothing (value bs)) Never (λ s. Ok (value bs, s)) (λ s. Err NotFewest)
+    (λ e. exact_ok (value bs)) (λ e. exact_err NotFewest))
     (λ e. exact_err Range)))))

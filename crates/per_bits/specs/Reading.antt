@@ -1,4 +1,5 @@
--- Reading values from the left: what is spelled is answered, and else the fault of the leftmost part that has no spelling at its place.
+-- Reading values from the left: what is spelled is answered, and else the fault of the leftmost part that has no spelling at its
+-- place.
 use Rattle.std.specs.Prelude.{◌≡◌, ℕ, zero, suc, ◌+◌, ◌-◌, Bool, true, false, if◌then◌else◌, nat_lt, ◌==◌, List, Option, Some, None, Result, Ok, Err, ◌⊎◌}
 use Rattle.std.proofs.Common.{inl, inr}
 use Rattle.per_streams.specs.declared.fault.PerFault.{PerFault}

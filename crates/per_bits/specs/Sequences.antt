@@ -1,4 +1,4 @@
--- What stands in a SEQUENCE behind the parts that are kept, and an alternative of a CHOICE.
+-- What stands in a SEQUENCE after the parts that are kept, and an alternative of a CHOICE.
 use Rattle.std.specs.Prelude.{ℕ, Bool, false, List, [], ◌∷◌, ◌++◌, Result}
 use Rattle.per_streams.specs.declared.fault.PerFault.{PerFault}
 use Rattle.per_streams.specs.Bits.{Place, ◌>>=◌}
@@ -13,7 +13,7 @@ later_at extended more s = do
   passed ← skipped_at more (read_at extensions) s
   skipped_at extended additions_at passed.1
 
--- an alternative's index behind an extension bit that is 0, and its value
+-- an alternative's index after an extension bit that is 0, and its value
 abbrev pub write_alternative : ℕ → ℕ → (f : Format) → Value f → List Bool → Result (List Bool) PerFault
 write_alternative last index f v out = do
   chosen ← write_number 0 last index (out ++ false ∷ [])

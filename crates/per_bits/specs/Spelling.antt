@@ -20,25 +20,25 @@ IfRight (inr b) P = P b
 
 -- ---- spelling
 
--- a number of lo..hi (clauses 11.5 and 13)
+-- a number of lo..hi (X.691 clauses 11.5 and 13)
 abbrev pub SpellsNumber : ℕ → ℕ → ℕ → ℕ → List Bool → Type 0
 SpellsNumber lo hi n at bs = (lo ≤ n) × (n - lo ≤ hi - lo) × (n - lo < 2 ^ 64) × (bs ≡ whole lo hi n at)
 
--- strings of one or two octets are not aligned (clause 17)
+-- strings of one or two octets are not aligned (X.691 clause 17)
 abbrev pub SpellsOctets : ℕ → List ℕ → ℕ → List Bool → Type 0
 SpellsOctets n os at bs = (length os ≡ n) × IsBytes os × (bs ≡ (if nat_lt n 3 then octet_bits os else pad at ++ octet_bits os))
 
 abbrev pub SpellsAligned : ℕ → List ℕ → ℕ → List Bool → Type 0
 SpellsAligned n os at bs = (length os ≡ n) × IsBytes os × (bs ≡ pad at ++ octet_bits os)
 
--- strings of up to 16 bits are not aligned (clause 16)
+-- strings of up to 16 bits are not aligned (X.691 clause 16)
 abbrev pub SpellsBits : ℕ → List Bool → ℕ → List Bool → Type 0
 SpellsBits n b at bs = (length b ≡ n) × (bs ≡ (if nat_lt n 17 then b else pad at ++ b))
 
 abbrev pub SpellsAlignedBits : ℕ → List Bool → ℕ → List Bool → Type 0
 SpellsAlignedBits n b at bs = (length b ≡ n) × (bs ≡ pad at ++ b)
 
--- a length without a bound (clause 11.9)
+-- a length without a bound (X.691 clause 11.9)
 abbrev pub length_octets : ℕ → List ℕ
 length_octets n = if nat_lt n 128 then n ∷ [] else (128 + n / 256) ∷ (n % 256) ∷ []
 
@@ -73,7 +73,7 @@ trues [] = 0
 trues (true ∷ bs) = suc (trues bs)
 trues (false ∷ bs) = trues bs
 
--- extension additions (clause 19.7): their number, a presence bit each, and the octets of each that stands
+-- extension additions (X.691 clause 19.7): their number, a presence bit each, and the octets of each that stands
 abbrev pub SpellsAdditions : List (List ℕ) → ℕ → List Bool → Type 0
 SpellsAdditions oss at bs =
     (more : ℕ) × (xs : List Bool) × (flags : List Bool) × (ys : List Bool) × (bs ≡ xs ++ (flags ++ ys))

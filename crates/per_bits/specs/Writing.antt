@@ -1,4 +1,4 @@
--- Writing behind the bits so far.
+-- Writing after the bits so far.
 use Rattle.std.specs.Prelude.{ℕ, suc, ◌+◌, ◌-◌, ◌*◌, ◌/◌, ◌&&◌, Bool, false, if◌then◌else◌, nat_lt, ◌==◌, List, [], ◌∷◌, ◌++◌, length, take, drop, Option, Some, None, Result, Ok, Err, ◌⊎◌, is_some}
 use Rattle.std.proofs.Common.{inl, inr}
 use Rattle.per_streams.specs.declared.fault.PerFault.{PerFault}
@@ -11,7 +11,8 @@ use Rattle.per_bits.specs.Spelling.{length_octets}
 
 unfoldable pub write_octets : ℕ → List ℕ → List Bool → Result (List Bool) PerFault
 write_octets n os out =
-    if length os == n && all_below 256 os then Ok (if nat_lt n 3 then out ++ octet_bits os else out ++ pad (length out) ++ octet_bits os)
+    if length os == n
+    && all_below 256 os then Ok (if nat_lt n 3 then out ++ octet_bits os else out ++ pad (length out) ++ octet_bits os)
     else Err Range
 
 -- octets, from the next octet on
@@ -21,7 +22,7 @@ write_aligned os out = if all_below 256 os then Ok (out ++ (pad (length out) ++ 
 unfoldable pub write_length : ℕ → List Bool → Result (List Bool) PerFault
 write_length n out = if nat_lt n 16384 then Ok (out ++ (pad (length out) ++ octet_bits (length_octets n))) else Err Range
 
--- the octet at a place becomes the length of the whole octets behind it (clause 11.9)
+-- the octet at a place becomes the length of the whole octets after it (X.691 clause 11.9)
 unfoldable pub count_behind : ℕ → List Bool → Result (List Bool) PerFault
 count_behind place out =
     let n = length out / 8 - place - 1 in

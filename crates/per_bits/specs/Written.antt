@@ -8,19 +8,19 @@ use Rattle.per_bits.specs.Spelling.{length_octets}
 use Rattle.per_bits.specs.Formats.{Format, number, octets, octets_between, octet_string, bit_string, bits_between, enumerated, closed, items, open_type, plain, sequence, choice, Fields, done, must, may, skip, fixed, marked, Alternatives, last, either, Value, Values, Chosen, alternatives}
 use Rattle.per_bits.specs.Writing.{presence, index_of}
 
--- octets from the next octet on (clause 17)
+-- octets from the next octet on (X.691 clause 17)
 abbrev pub aligned_form : List ℕ → ℕ → List Bool
 aligned_form os at = pad at ++ octet_bits os
 
--- a length without a bound (clause 11.9)
+-- a length without a bound (X.691 clause 11.9)
 abbrev pub length_form : ℕ → ℕ → List Bool
 length_form n at = pad at ++ octet_bits (length_octets n)
 
--- a length and its octets (clauses 17.8 and 11.2)
+-- a length and its octets (X.691 clauses 17.8 and 11.2)
 abbrev pub string_form : List ℕ → ℕ → List Bool
 string_form os at = length_form (length os) at ++ aligned_form os (at + length (length_form (length os) at))
 
--- names 0 to n behind an extension bit (clause 14)
+-- names 0 to n after an extension bit (X.691 clause 14)
 abbrev pub name_form : ℕ → ℕ ⊎ ℕ → ℕ → List Bool
 name_form n (inl k) at = false ∷ whole 0 n k (at + 1)
 name_form n (inr k) at = []
@@ -54,7 +54,8 @@ abbrev mutual
   pub written_fields : (fs : Fields) → Values fs → ℕ → List Bool
   written_fields done v at = []
   written_fields (must f fs) v at = written f v.0 at ++ written_fields fs v.1 (at + length (written f v.0 at))
-  written_fields (may f fs) v at = optional_form (written f) v.0 at ++ written_fields fs v.1 (at + length (optional_form (written f) v.0 at))
+  written_fields (may f fs) v at =
+      optional_form (written f) v.0 at ++ written_fields fs v.1 (at + length (optional_form (written f) v.0 at))
   written_fields (skip f fs) v at = written_fields fs v at
   written_fields (fixed lo hi n fs) v at = whole lo hi n at ++ written_fields fs v (at + length (whole lo hi n at))
   written_fields (marked lo hi n fs) v at = whole lo hi n at ++ written_fields fs v (at + length (whole lo hi n at))
@@ -66,7 +67,7 @@ abbrev mutual
 
 -- ---- which values have it
 
--- a number of lo..hi, of at most 64 bits behind lo
+-- a number of lo..hi, of at most 64 bits after lo
 abbrev pub number_fits : ℕ → ℕ → ℕ → Bool
 number_fits lo hi n = nat_le lo n && (nat_le n hi && nat_lt (n - lo) (2 ^ 64))
 

@@ -19,7 +19,7 @@ use std::marker::Model;
 #[derive(Drop)]
 pub struct BitString<'a, const MIN: u64, const MAX: u64> {
     octets: &'a [u8],
-    // the bits behind the octets, as a number, and how many they are
+    // the bits after the octets, as a number, and how many they are
     last: u8,
     more: u8,
 }
@@ -85,7 +85,7 @@ impl<'a, const MIN: u64, const MAX: u64> Element<'a> for BitString<'a, MIN, MAX>
     }
 }
 
-/// So many bits from the next octet on: whole octets, the others as a number, and how many these are.
+/// `count` bits from the next octet on: whole octets, the others as a number, and how many these are.
 fn take_string<'a>(count: u64, reader: &mut BitReader<'a>) -> Result<(&'a [u8], u8, u8), PerFault>
     ensures exact { Answers (λ s. octet_bits s.0.now ++ bits s.2 s.1) result reader.new (aligned_bits_at count reader.old) }
     ensures fits { IfOk result (λ s. IsString count count (length s.0.now) s.1 s.2) }

@@ -28,11 +28,13 @@ pub fn what_is_written_is_read()
 pub fn read_exactly()
     ensures read { (f : Format) (v : Value f) (os : List ℕ) → SpellsWhole f v os → complete_at f os ≡ Ok v }
     ensures spelled { (f : Format) (v : Value f) (os : List ℕ) → complete_at f os ≡ Ok v → SpellsWhole f v os }
-    ensures refused { (f : Format) (v : Value f) (os : List ℕ) (fault : PerFault) → complete_at f os ≡ Err fault → SpellsWhole f v os → ⊥ }
+    ensures refused { (f : Format) (v : Value f) (os : List ℕ) (fault : PerFault) → complete_at f os ≡ Err fault
+        → SpellsWhole f v os → ⊥ }
 {}
 
 /// Writing gives the written spelling where the value is writable, and else Range.
 pub fn writes_exactly()
-    ensures writable { (f : Format) (v : Value f) (out : List Bool) → IsWritable f v → write_at f v out ≡ Ok (out ++ written f v (length out)) }
+    ensures writable { (f : Format) (v : Value f) (out : List Bool) → IsWritable f v
+        → write_at f v out ≡ Ok (out ++ written f v (length out)) }
     ensures refused { (f : Format) (v : Value f) (out : List Bool) → (IsWritable f v → ⊥) → write_at f v out ≡ Err Range }
 {}

@@ -36,6 +36,6 @@ pub use sequence::{
     put_flags, put_three_flags, read_pair, read_three, read_two, skip_later, take_flags,
     take_three_flags,
 };
-pub use skips::{skip_additions, skip_extensions};
+pub use skips::{GREATEST_ID, LAST_CRITICALITY, skip_additions, skip_extensions};
 pub use strings::{OctetString, SizedString, put_aligned, put_open};
-pub use wrapped::{Closed, Listed, put_optional, read_optional};
+pub use wrapped::{Closed, put_optional, read_optional};

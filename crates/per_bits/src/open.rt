@@ -13,7 +13,8 @@ use per_numbers::offset_of;
 use per_streams::{BitReader, BitWriter, PerError, PerFault};
 use std::alloc::Global;
 
-// A length below 128 is one octet; one below 16384 is two, the first of them 128 to 191; more comes in fragments (X.691 clause 11.9).
+// A length below 128 is one octet; one below 16384 is two, the first of them 128 to 191; more comes in fragments
+// (X.691 clause 11.9).
 const SHORT_END: usize = 128;
 
 const LONG_END: usize = 16384;
@@ -130,7 +131,8 @@ pub fn write_open<'a, T: Element<'a>>(
     count_behind(place, writer)
 }
 
-/// The octet at a place becomes the length of those behind it, up to 16383, which is one octet or two (X.691 clause 11.9); more is Range.
+/// The octet at a place becomes the length of those after it, up to 16383, which is one octet or two (X.691 clause 11.9);
+/// more is Range.
 #[tactic(auto, unfolding(crate::specs::Writing::count_behind))]
 #[inline(always)]
 pub fn count_behind(place: usize, writer: &mut BitWriter) -> Result<(), PerError>

@@ -24,7 +24,7 @@ pub fn take_flags(reader: &mut BitReader) -> Result<(bool, bool), PerFault>
     Ok((extended, more))
 }
 
-/// The same where one other part may lack, whose presence bit stands between.
+/// The same where one other part is optional, whose presence bit stands between.
 #[tactic(auto, unfolding(per_streams::specs::Each::times))]
 pub fn take_three_flags(reader: &mut BitReader) -> Result<(bool, bool, bool), PerFault>
     ensures { Answers (λ f. f.0 ∷ f.1 ∷ f.2 ∷ []) result reader.new (times bit_at 3 reader.old) }
@@ -45,7 +45,7 @@ pub fn put_flags(writer: &mut BitWriter) -> Result<(), PerError>
     writer.put_bit(false)
 }
 
-/// Writes the presence bits of a SEQUENCE one part of which may lack.
+/// Writes the presence bits of a SEQUENCE with one optional part.
 #[inline(always)]
 pub fn put_three_flags(present: bool, writer: &mut BitWriter) -> Result<(), PerError>
     ensures ok { OnOk result (writer.new ≡ writer.old ++ false ∷ present ∷ false ∷ []) }
@@ -56,7 +56,7 @@ pub fn put_three_flags(present: bool, writer: &mut BitWriter) -> Result<(), PerE
     writer.put_bit(false)
 }
 
-/// Reads past what later releases added to a SEQUENCE: its iE-Extensions, and what stands behind its parts.
+/// Reads past what later releases added to a SEQUENCE: its iE-Extensions, and what stands after its parts.
 pub fn skip_later(extended: bool, more: bool, reader: &mut BitReader) -> Result<(), PerFault>
     ensures { Answers (λ _. tt) result reader.new (later_at extended more reader.old) }
 {
@@ -64,12 +64,13 @@ pub fn skip_later(extended: bool, more: bool, reader: &mut BitReader) -> Result<
     skip_additions(extended, reader)
 }
 
-/// Two parts of a SEQUENCE, one behind the other.
+/// Two parts of a SEQUENCE, one after the other.
 pub fn read_pair<'a, A: Element<'a>, B: Element<'a>>(
     alloc: Global,
     reader: &mut BitReader<'a>,
 ) -> Result<(A, B), PerError>
-    ensures { Gives (λ p. (A.view p.0, (B.view p.1, tt))) result reader.new (fields_at (must A.format (must B.format done)) [] reader.old) }
+    ensures { Gives (λ p. (A.view p.0, (B.view p.1, tt))) result reader.new
+        (fields_at (must A.format (must B.format done)) [] reader.old) }
 {
     let first = A::read(alloc, reader)?;
     match B::read(alloc, reader) {
@@ -83,7 +84,8 @@ pub fn read_two<'a, A: Element<'a>, B: Element<'a>>(
     alloc: Global,
     reader: &mut BitReader<'a>,
 ) -> Result<(A, B), PerError>
-    ensures { Gives (λ p. (A.view p.0, (B.view p.1, tt))) result reader.new (read_at (sequence (must A.format (must B.format (skip extensions done)))) reader.old) }
+    ensures { Gives (λ p. (A.view p.0, (B.view p.1, tt))) result reader.new
+        (read_at (sequence (must A.format (must B.format (skip extensions done)))) reader.old) }
 {
     let (extended, more) = take_flags(reader)?;
     let parts = read_pair::<A, B>(alloc, reader)?;
@@ -96,7 +98,8 @@ pub fn read_three<'a, A: Element<'a>, B: Element<'a>, C: Element<'a>>(
     alloc: Global,
     reader: &mut BitReader<'a>,
 ) -> Result<(A, B, C), PerError>
-    ensures { Gives (λ p. (A.view p.0, (B.view p.1, (C.view p.2, tt)))) result reader.new (read_at (sequence (must A.format (must B.format (must C.format (skip extensions done))))) reader.old) }
+    ensures { Gives (λ p. (A.view p.0, (B.view p.1, (C.view p.2, tt)))) result reader.new
+        (read_at (sequence (must A.format (must B.format (must C.format (skip extensions done))))) reader.old) }
 {
     let (extended, more) = take_flags(reader)?;
     let first = A::read(alloc, reader)?;

@@ -1,4 +1,5 @@
-//! What may stand in an encoding and is not kept: extension additions (X.691 clause 19.7) and iE-Extensions (TS 36.413 clause 9.3.7).
+//! What may stand in an encoding and is not kept: extension additions (X.691 clause 19.7) and iE-Extensions
+//! (TS 36.413 clause 9.3.7).
 
 ghost use Rattle.std.specs.Prelude.{◌≡◌, ◌+◌, ◌≤◌, true};
 ghost use Rattle.per_streams.specs.Bits.{Answers, Gives, bit_at, open_at};
@@ -9,9 +10,14 @@ ghost use Rattle.per_bits.specs.Formats.{extensions, raw};
 ghost use Rattle.per_bits.specs.Spelling.{trues};
 
 use crate::open::{take_open, take_small_number};
-use crate::wrapped::{GREATEST_ID, LAST_CRITICALITY};
 use per_numbers::offset_of;
 use per_streams::{BitReader, PerFault};
+
+/// The greatest id of an element (TS 36.413 clause 9.3.7).
+pub const GREATEST_ID: u64 = 65535;
+
+/// The greatest number of a criticality (TS 36.413 clause 9.3.7).
+pub const LAST_CRITICALITY: u64 = 2;
 
 // The most iE-Extensions of a SEQUENCE (TS 36.413 clause 9.3.7).
 const MOST_EXTENSIONS: u64 = 65535;

@@ -14,7 +14,7 @@ use per_numbers::{offset_of, put_number};
 use per_streams::{BitReader, BitWriter, PerError, PerFault};
 use std::alloc::Global;
 
-/// Up to 16383 octets behind their length, lent by the encoding (X.691 clause 17.8).
+/// Up to 16383 octets after their length, lent by the encoding (X.691 clause 17.8).
 #[derive(Clone, Copy)]
 pub struct OctetString<'a> {
     pub octets: &'a [u8],

@@ -1,27 +1,17 @@
-//! Values behind an extension bit or an element's head, and values that may lack.
+//! Values after an extension bit, and optional values.
 
 ghost use Rattle.std.specs.Prelude.{◌≡◌, option_map};
 ghost use Rattle.per_streams.specs.Bits.{Gives};
-ghost use Rattle.per_bits.specs.Formats.{closed, item};
+ghost use Rattle.per_bits.specs.Formats.{closed};
 ghost use Rattle.per_bits.specs.Reading.{read_at, optional_at};
-ghost use Rattle.per_numbers.specs.Reading.{number_at};
-ghost use Rattle.per_streams.specs.Each.{times};
 ghost use Rattle.per_bits.specs.Writing.{write_at, write_optional};
 ghost use Rattle.per_numbers.specs.Writing.{Wrote};
 
 use crate::element::Element;
-use crate::open::{read_open, write_open};
-use per_numbers::{offset_of, put_number};
 use per_streams::{BitReader, BitWriter, PerError, PerFault};
 use std::alloc::Global;
 
-/// The greatest id of an element (TS 36.413 clause 9.3.7).
-pub const GREATEST_ID: u64 = 65535;
-
-/// The greatest number of a criticality (TS 36.413 clause 9.3.7).
-pub const LAST_CRITICALITY: u64 = 2;
-
-/// A value behind an extension bit that must be 0, else Range: a size or a number with an extensible bound.
+/// A value after an extension bit that must be 0, else Range: a size or a number with an extensible bound.
 #[derive(Clone, Copy, Drop)]
 pub struct Closed<T: Drop> {
     pub value: T,
@@ -47,37 +37,7 @@ impl<'a, T: Element<'a>> Element<'a> for Closed<T> {
     }
 }
 
-/// An element of a list of elements of one id (TS 36.413 clause 9.3.7): any other id is Range at the id, the criticality is not compared.
-#[derive(Clone, Copy, Drop)]
-pub struct Listed<T: Drop, const ID: u64, const CRITICALITY: u64> {
-    pub value: T,
-}
-
-impl<'a, T: Element<'a>, const ID: u64, const CRITICALITY: u64> Element<'a>
-    for Listed<T, ID, CRITICALITY> {
-    ghost format = { item ID CRITICALITY T.format };
-
-    ghost view = { λ c. (T.view c.value, tt) };
-
-    #[tactic(auto, unfolding(per_numbers::specs::Reading::number_at, per_streams::specs::Each::times))]
-    fn read(alloc: Global, reader: &mut BitReader<'a>) -> Result<Self, PerError> {
-        let id = offset_of(GREATEST_ID, reader)?;
-        if id != ID {
-            return Err(PerError::Fault(PerFault::Range));
-        }
-        offset_of(LAST_CRITICALITY, reader)?;
-        let value = read_open::<T>(alloc, reader)?;
-        Ok(Listed { value })
-    }
-
-    fn write(&self, alloc: Global, writer: &mut BitWriter) -> Result<(), PerError> {
-        put_number(0, GREATEST_ID, ID, writer)?;
-        put_number(0, LAST_CRITICALITY, CRITICALITY, writer)?;
-        write_open::<T>(alloc, &self.value, writer)
-    }
-}
-
-/// Reads a value that may lack, by its presence bit.
+/// Reads an optional value, by its presence bit.
 pub fn read_optional<'a, T: Element<'a>>(
     alloc: Global,
     present: bool,
@@ -93,7 +53,7 @@ pub fn read_optional<'a, T: Element<'a>>(
     }
 }
 
-/// Writes a value that may lack.
+/// Writes an optional value.
 pub fn put_optional<'a, T: Element<'a>>(
     alloc: Global,
     value: &Option<T>,

@@ -1,4 +1,4 @@
--- Writing whole numbers behind the bits so far.
+-- Writing whole numbers after the bits so far.
 use Rattle.std.specs.Prelude.{◌≡◌, ℕ, ◌-◌, ◌^◌, ◌&&◌, Bool, if◌then◌else◌, nat_le, nat_lt, List, ◌++◌, length, Result, Ok, Err}
 use Rattle.per_streams.specs.declared.fault.PerFault.{PerFault}
 use Rattle.per_streams.specs.declared.fault.PerFault.TheVariants.{Range}

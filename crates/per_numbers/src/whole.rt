@@ -26,6 +26,15 @@ impl<const LO: u64, const HI: u64> Model for Whole<LO, HI> {
 }
 
 impl<const LO: u64, const HI: u64> Whole<LO, HI> {
+    /// A number of the range; takes no memory.
+    pub fn new(value: u64) -> Self
+        requires low { LO ≤ value }
+        requires high { value ≤ HI }
+        ensures { result ≡ value }
+    {
+        Whole { value }
+    }
+
     /// The number, where it lies in the range; takes no memory.
     pub fn try_new(value: u64) -> Option<Self>
         ensures some { IsSome result ↔ ((LO ≤ value) × (value ≤ HI)) }
@@ -90,7 +99,8 @@ fn put_offset(span: u64, offset: u64, writer: &mut BitWriter) -> Result<(), PerE
     }
 }
 
-/// Writes a number in so many octets from the next octet on; what takes more than two is seldom met and stands by itself.
+/// Writes a number in `count` octets from the next octet on; what takes more than two stands out of line, as it would make
+/// every write of a number large.
 #[inline(always)]
 fn put_in_octets(count: u8, number: u64, writer: &mut BitWriter) -> Result<(), PerError>
     requires count { count ≤ 8 }
@@ -105,7 +115,7 @@ fn put_in_octets(count: u8, number: u64, writer: &mut BitWriter) -> Result<(), P
     }
 }
 
-/// Writes a number in so many octets, behind the bits so far.
+/// Writes a number in `count` octets, after the bits so far.
 #[inline(never)]
 fn put_more(count: u8, number: u64, writer: &mut BitWriter) -> Result<(), PerError>
     requires count { count ≤ 8 }
@@ -119,7 +129,7 @@ fn put_more(count: u8, number: u64, writer: &mut BitWriter) -> Result<(), PerErr
     }
 }
 
-/// Writes a number in two octets, behind the bits so far.
+/// Writes a number in two octets, after the bits so far.
 #[inline(always)]
 fn put_two(number: u64, writer: &mut BitWriter) -> Result<(), PerError>
     requires { number < 2 ^ 16 }
@@ -130,7 +140,7 @@ fn put_two(number: u64, writer: &mut BitWriter) -> Result<(), PerError>
     Ok(())
 }
 
-/// Writes a number in three octets, behind the bits so far.
+/// Writes a number in three octets, after the bits so far.
 #[inline(always)]
 fn put_three(number: u64, writer: &mut BitWriter) -> Result<(), PerError>
     requires { number < 2 ^ 24 }
@@ -141,7 +151,7 @@ fn put_three(number: u64, writer: &mut BitWriter) -> Result<(), PerError>
     Ok(())
 }
 
-/// Writes a number in four octets, behind the bits so far.
+/// Writes a number in four octets, after the bits so far.
 #[inline(always)]
 fn put_four(number: u64, writer: &mut BitWriter) -> Result<(), PerError>
     requires { number < 2 ^ 32 }
@@ -181,7 +191,7 @@ fn width(most: u64) -> u8
     }
 }
 
-// a number of so many bits; two octets are taken one by one, as they mostly are whole octets
+// a number of `bits` bits; two octets are taken one by one, as they mostly are whole octets
 #[inline(always)]
 fn number_of(bits: u8, reader: &mut BitReader) -> Result<u64, PerFault>
     requires { bits ≤ 64 }
@@ -193,7 +203,7 @@ fn number_of(bits: u8, reader: &mut BitReader) -> Result<u64, PerFault>
     }
 }
 
-// a number in so many octets; by itself, as a range wide enough to have it is seldom met
+// a number in `count` octets; out of line, as it would make every read of a number large
 #[inline(never)]
 fn octets_as_number(count: u8, reader: &mut BitReader) -> Result<u64, PerFault>
     requires { count ≤ 8 }
@@ -250,7 +260,7 @@ fn small(span: u64, bits: u8, reader: &mut BitReader) -> Result<u64, PerFault>
     }
 }
 
-// a number in so many bits from the next octet on
+// a number in `bits` bits from the next octet on
 #[inline(always)]
 fn aligned(span: u64, bits: u8, reader: &mut BitReader) -> Result<u64, PerFault>
     requires { bits ≤ 64 }

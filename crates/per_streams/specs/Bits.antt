@@ -20,7 +20,7 @@ bits (suc w) n = if nat_le (2 ^ w) n then true ∷ bits w (n - 2 ^ w) else false
 abbrev pub octet_bits : List ℕ → List Bool
 octet_bits os = flat_map (bits 8) os
 
--- the octets that so many times eight bits stand for
+-- the octets that N times eight bits stand for
 unfoldable pub octets_of_bits : ℕ → List Bool → List ℕ
 octets_of_bits zero bs = []
 octets_of_bits (suc n) bs = value (take 8 bs) ∷ octets_of_bits n (drop 8 bs)
@@ -89,7 +89,7 @@ number_bits_at n s = do
   x ← take_at n s
   Ok (value x.0, x.1)
 
--- so many octets
+-- N octets
 unfoldable pub whole_octets_at : ℕ → Place → Result (List ℕ × Place) PerFault
 whole_octets_at n s = do
   x ← take_at (8 * n) s
@@ -111,7 +111,7 @@ end_at s = do
   a ← align_at s
   if length a.1.rest == 0 then Ok a else Err Trailing
 
--- some of the next bits, at most so many: how many, and the number that they stand for; all, where they lie in one octet
+-- some of the next bits, at most N: how many, and the number that they stand for; all, where they lie in one octet
 abbrev pub TakesPart : ℕ → Result (ℕ × ℕ) PerFault → Place → Place → Type 0
 TakesPart most (Ok p) old new = (1 ≤ p.0) × (p.0 ≤ most) × (p.0 ≤ 8) × (number_bits_at p.0 old ≡ Ok (p.1, new))
     × (most ≤ 8 - old.at % 8 → p.0 ≡ most)

@@ -11,6 +11,6 @@ AreBytes n os = ((length os) == n && all_below 256 os) ≡ true
 abbrev pub IsLong : ℕ → List Bool → Type 0
 IsLong n bs = (length bs) == n ≡ true
 
--- so many octets and some more bits, which are a number, make from MIN to MAX bits
+-- N octets and some more bits, which are a number, make from MIN to MAX bits
 abbrev pub IsString : ℕ → ℕ → ℕ → ℕ → ℕ → Type 0
 IsString lo hi octets last more = (more < 8) × (last < 2 ^ more) × (lo ≤ 8 * octets + more) × (8 * octets + more - lo ≤ hi - lo)

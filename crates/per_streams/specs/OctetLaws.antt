@@ -22,8 +22,11 @@ abbrev AlignStep : ℕ → Unit {0} → ℕ → List Bool → Type 0
 AlignStep n = Bind (IsBits n) (λ bs. Cond (eqb (value bs) 0) (Nothing tt) Never)
 
 align_step : (n : ℕ) → Exact (AlignStep n) (λ s. take_at n s >>= λ x. cond (eqb (value x.0) 0) (Ok (tt, x.1)) (Err Padding))
-align_step n = exact_bind (IsBits n) (λ bs. Cond (eqb (value bs) 0) (Nothing tt) Never) (take_at n) (λ bs s. cond (eqb (value bs) 0) (Ok (tt, s)) (Err Padding)) (exact_take n)
-    (λ bs. exact_cond (eqb (value bs) 0) (Nothing tt) Never (λ s. Ok (tt, s)) (λ s. Err Padding) (λ e. exact_ok tt) (λ e. exact_err Padding))
+align_step n =
+    exact_bind (IsBits n) (λ bs. Cond (eqb (value bs) 0) (Nothing tt) Never) (take_at n)
+    (λ bs s. cond (eqb (value bs) 0) (Ok (tt, s)) (Err Padding)) (exact_take n)
+    (λ bs. exact_cond (eqb (value bs) 0) (Nothing tt) Never (λ s. Ok (tt, s)) (λ s. Err Padding) (λ e. exact_ok tt)
+    (λ e. exact_err Padding))
 
 cond_ok : (b : Bool) (u : Unit {0}) (at : ℕ) (ys : List Bool) → Cond b (Nothing tt) Never u at ys → (b ≡ true) × (ys ≡ [])
 cond_ok true u at ys m = (refl, m.1)
@@ -40,13 +43,21 @@ align_to u at bs m =
     whole ∙ zero-pad m.0 (padding at) m.4.1 (eqb-true _ _ k.0)
 
 align_from : (u : Unit {0}) (at : ℕ) → AlignStep (padding at) u at (pad at)
-align_from u at = (pad at, pad at, [], sym (append-nil (pad at)), (refl, length-replicate (padding at) false), ok_cond (eqb (value (pad at)) 0) u (at + length (pad at)) (eq-eqb _ 0 (pad-zero (padding at))))
+align_from u at = (
+  pad at,
+  pad at,
+  [],
+  sym (append-nil (pad at)),
+  (refl, length-replicate (padding at) false),
+  ok_cond (eqb (value (pad at)) 0) u (at + length (pad at)) (eq-eqb _ 0 (pad-zero (padding at))),
+)
 
 pub exact_align : Exact IsPad align_at
 unfolding align_at
 exact_align = record {
   again = λ u at bs rest m.
-      (align_step (padding at)).again u at bs rest (subst (λ (l : List Bool). AlignStep (padding at) u at l) (sym m) (align_from u at));
+      (align_step (padding at)).again u at bs rest
+      (subst (λ (l : List Bool). AlignStep (padding at) u at l) (sym m) (align_from u at));
   takes = λ s t u e.
       let k = (align_step (padding s.at)).takes s t u e in
       record { taken = k.taken; parts = k.parts; at = k.at; spelled = align_to u s.at k.taken k.spelled };
@@ -62,7 +73,8 @@ length-octets_of (suc n) bs = ap suc (length-octets_of n (drop 8 bs))
 pub bytes-octets_of : (n : ℕ) (bs : List Bool) → length bs ≡ 8 * n → IsBytes (octets_of_bits n bs)
 unfolding octets_of_bits
 bytes-octets_of zero bs len i = omega arith
-bytes-octets_of (suc n) bs len zero = let l : length (take 8 bs) ≡ 8 = length-take-le 8 bs (omega (arith, len)) in subst (λ k. value (take 8 bs) < 2 ^ k) l (value_below (take 8 bs))
+bytes-octets_of (suc n) bs len zero = let l : length (take 8 bs) ≡ 8 = length-take-le 8 bs (omega (arith, len)) in
+    subst (λ k. value (take 8 bs) < 2 ^ k) l (value_below (take 8 bs))
 bytes-octets_of (suc n) bs len (suc i) = bytes-octets_of n (drop 8 bs) (omega (arith, len, length-drop 8 bs)) i
 
 pub bits-octets_of : (n : ℕ) (bs : List Bool) → length bs ≡ 8 * n → octet_bits (octets_of_bits n bs) ≡ bs
@@ -82,7 +94,8 @@ OctetsStep n = Bind (IsBits (8 * n)) (λ bs. Nothing (octets_of_bits n bs))
 octets_to : (n : ℕ) (os : List ℕ) (at : ℕ) (bs : List Bool) → OctetsStep n os at bs → AreOctets n os at bs
 octets_to n os at bs m =
     let whole : bs ≡ m.0 = m.3 ∙ ap (λ (l : List Bool). m.1 ++ l) m.5.1 ∙ append-nil m.1 ∙ m.4.0 in
-    subst (λ (l : List ℕ). AreOctets n l at bs) (sym m.5.0) (length-octets_of n m.0, bytes-octets_of n m.0 m.4.1, whole ∙ sym (bits-octets_of n m.0 m.4.1))
+    subst (λ (l : List ℕ). AreOctets n l at bs) (sym m.5.0)
+    (length-octets_of n m.0, bytes-octets_of n m.0 m.4.1, whole ∙ sym (bits-octets_of n m.0 m.4.1))
 
 octets_from : (n : ℕ) (os : List ℕ) (at : ℕ) (bs : List Bool) → AreOctets n os at bs → OctetsStep n os at bs
 octets_from n os at bs m =
@@ -91,8 +104,11 @@ octets_from n os at bs m =
 
 pub exact_whole_octets : (n : ℕ) → Exact (AreOctets n) (whole_octets_at n)
 unfolding whole_octets_at
-exact_whole_octets n = exact_same (OctetsStep n) (AreOctets n) (λ s. take_at (8 * n) s >>= λ x. Ok (octets_of_bits n x.0, x.1)) (whole_octets_at n) (octets_to n) (octets_from n) (λ s. refl)
-    (exact_bind (IsBits (8 * n)) (λ bs. Nothing (octets_of_bits n bs)) (take_at (8 * n)) (λ bs s. Ok (octets_of_bits n bs, s)) (exact_take (8 * n)) (λ bs. exact_ok (octets_of_bits n bs)))
+exact_whole_octets n =
+    exact_same (OctetsStep n) (AreOctets n) (λ s. take_at (8 * n) s >>= λ x. Ok (octets_of_bits n x.0, x.1)) (whole_octets_at n)
+    (octets_to n) (octets_from n) (λ s. refl)
+    (exact_bind (IsBits (8 * n)) (λ bs. Nothing (octets_of_bits n bs)) (take_at (8 * n)) (λ bs s. Ok (octets_of_bits n bs, s))
+    (exact_take (8 * n)) (λ bs. exact_ok (octets_of_bits n bs)))
 
 -- ---- a complete encoding
 
@@ -121,5 +137,7 @@ AlignedStep n = Bind IsPad (λ u. AreOctets n)
 
 pub exact_aligned_octets : (n : ℕ) → Exact (AlignedStep n) (aligned_octets_at n)
 unfolding aligned_octets_at
-exact_aligned_octets n = exact_same (AlignedStep n) (AlignedStep n) (λ s. align_at s >>= λ a. whole_octets_at n a.1) (aligned_octets_at n) (λ os at bs m. m) (λ os at bs m. m) (λ s. refl)
+exact_aligned_octets n =
+    exact_same (AlignedStep n) (AlignedStep n) (λ s. align_at s >>= λ a. whole_octets_at n a.1) (aligned_octets_at n)
+    (λ os at bs m. m) (λ os at bs m. m) (λ s. refl)
     (exact_bind IsPad (λ u. AreOctets n) align_at (λ u s. whole_octets_at n s) exact_align (λ u. exact_whole_octets n))

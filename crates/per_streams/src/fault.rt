@@ -19,7 +19,7 @@ pub enum PerFault {
     NotFewest = 4,
     /// A length of 16384 octets or more, in fragments.
     Fragmented = 5,
-    /// Octets behind a complete encoding.
+    /// Octets after a complete encoding.
     Trailing = 6,
     /// A CHOICE whose extension bit is 1.
     Alternative = 7,

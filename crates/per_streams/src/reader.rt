@@ -20,7 +20,10 @@ pub struct BitReader<'a> {
 impl<'a> Model for BitReader<'a> {
     ghost Value = { Place };
 
-    ghost view = { λ r. record { at = 8 * r.begun - r.left; rest = bits r.left r.current ++ octet_bits (drop r.begun r.octets.now) } };
+    ghost view = { λ r. record {
+      at = 8 * r.begun - r.left;
+      rest = bits r.left r.current ++ octet_bits (drop r.begun r.octets.now);
+    } };
 
     ghost invariant = { λ r. (r.begun ≤ length r.octets.now) × (r.left < 8) × (r.left ≤ 8 * r.begun)
         × (r.current < 2 ^ r.left) × IsBytes r.octets.now };
@@ -74,7 +77,7 @@ impl<'a> BitReader<'a> {
         self.take_parts(count)
     }
 
-    // whether so many bits, one at least, would lie in one octet
+    // whether `count` bits, one at least, lie in one octet
     #[inline(always)]
     fn is_in_one_octet(&self, count: u8) -> bool
         ensures { (result ≡ true) ↔ ((0 < count) × (count ≤ 8 - self.now.at % 8)) }
@@ -96,7 +99,7 @@ impl<'a> BitReader<'a> {
         Ok(number)
     }
 
-    // bits of one octet, at most so many: how many, and the number that they stand for
+    // bits of one octet, at most `most`: how many, and the number that they stand for
     #[inline(always)]
     fn take_part(&mut self, most: u8) -> Result<(u8, u8), PerFault>
         requires { 0 < most }
@@ -135,7 +138,7 @@ impl<'a> BitReader<'a> {
         Ok(())
     }
 
-    /// So many octets from the next octet on, lent by the encoding; Padding comes before Truncated.
+    /// `count` octets from the next octet on, lent by the encoding; Padding comes before Truncated.
     pub fn take_octets(&mut self, count: usize) -> Result<&'a [u8], PerFault>
         ensures { Answers (λ s. s.now) result self.new (aligned_octets_at count self.old) }
     {

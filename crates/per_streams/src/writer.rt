@@ -12,7 +12,7 @@ use std::marker::Model;
 #[derive(Drop)]
 pub struct BitWriter {
     octets: Vec<u8>,
-    // the bits behind the last octet, as a number
+    // the bits after the last octet, as a number
     current: u8,
     used: u8,
 }
@@ -26,17 +26,33 @@ impl Model for BitWriter {
 }
 
 impl BitWriter {
-    /// Nothing written yet, with room for so many octets; more are written where memory grows.
-    #[tactic(auto, unfolding(crate::specs::Bits::bits))]
+    /// Nothing written yet; takes no memory.
+    pub fn new(alloc: Global) -> BitWriter
+        ensures { result ≡ [] }
+    {
+        BitWriter::with_octets(Vec::new(alloc))
+    }
+
+    /// Nothing written yet, with room for `octets` octets; more are written where memory grows.
     pub fn with_room(alloc: Global, octets: usize) -> Result<BitWriter, PerError>
         ensures ok { IfOk result (λ w. w ≡ []) }
         ensures memory { OnErr result (result ≡ Err NoMemory) }
     {
-        Ok(BitWriter {
-            octets: Vec::with_capacity(alloc, octets)?,
+        let octets = Vec::with_capacity(alloc, octets)?;
+        Ok(BitWriter::with_octets(octets))
+    }
+
+    // nothing written yet, by a list without octets
+    #[tactic(auto, unfolding(crate::specs::Bits::bits))]
+    fn with_octets(octets: Vec<u8>) -> BitWriter
+        requires { octets.items ≡ [] }
+        ensures { result ≡ [] }
+    {
+        BitWriter {
+            octets,
             current: 0,
             used: 0,
-        })
+        }
     }
 
     /// One bit.
@@ -137,7 +153,7 @@ impl BitWriter {
         Ok(())
     }
 
-    /// One octet, behind the bits so far.
+    /// One octet, after the bits so far.
     #[inline(always)]
     pub fn put_octet(&mut self, octet: u8) -> Result<(), PerError>
         ensures ok { OnOk result (self.new ≡ self.old ++ bits 8 octet) }
@@ -150,7 +166,7 @@ impl BitWriter {
         self.put_bits(8, octet as u64)
     }
 
-    /// Octets, behind the bits so far.
+    /// Octets, after the bits so far.
     #[inline(always)]
     pub fn put_octets(&mut self, octets: &[u8]) -> Result<(), PerError>
         ensures ok { OnOk result (self.new ≡ self.old ++ octet_bits octets.now) }
@@ -223,7 +239,7 @@ fn with_bit(current: u8, used: u8, bit: bool) -> u8
     2 * current + bit as u8
 }
 
-/// A number of `used` bits and behind it one of `some` bits, as one number.
+/// A number of `used` bits and after it one of `some` bits, as one number.
 fn joined(current: u8, used: u8, part: u8, some: u8) -> u8
     requires room { used + some ≤ 8 }
     requires fits { current < 2 ^ used }

@@ -97,7 +97,113 @@ cause_again (causes.Misc c) = ap (λ x. causes.Misc x) (misc_again c)
 -- and what is spelled has its number again
 
 radio_network_spelled : (v : ℕ ⊎ ℕ) → Spelled (enumerated 35) v → typed_radio_network (named_radio_network v) ≡ v
-radio_network_spelled (inl k) s = names_again typed_radio_network radio_network_names radio.Unspecified 35 (refl, (refl, (refl, (refl, (refl, (refl, (refl, (refl, (refl, (refl, (refl, (refl, (refl, (refl, (refl, (refl, (refl, (refl, (refl, (refl, (refl, (refl, (refl, (refl, (refl, (refl, (refl, (refl, (refl, (refl, (refl, (refl, (refl, (refl, (refl, (refl, tt)))))))))))))))))))))))))))))))))))) refl k s
+radio_network_spelled (inl k) s =
+    names_again typed_radio_network radio_network_names radio.Unspecified 35 (
+      refl,
+      (
+        refl,
+        (
+          refl,
+          (
+            refl,
+            (
+              refl,
+              (
+                refl,
+                (
+                  refl,
+                  (
+                    refl,
+                    (
+                      refl,
+                      (
+                        refl,
+                        (
+                          refl,
+                          (
+                            refl,
+                            (
+                              refl,
+                              (
+                                refl,
+                                (
+                                  refl,
+                                  (
+                                    refl,
+                                    (
+                                      refl,
+                                      (
+                                        refl,
+                                        (
+                                          refl,
+                                          (
+                                            refl,
+                                            (
+                                              refl,
+                                              (
+                                                refl,
+                                                (
+                                                  refl,
+                                                  (
+                                                    refl,
+                                                    (
+                                                      refl,
+                                                      (
+                                                        refl,
+                                                        (
+                                                          refl,
+                                                          (
+                                                            refl,
+                                                            (
+                                                              refl,
+                                                              (
+                                                                refl,
+                                                                (
+                                                                  refl,
+                                                                  (
+                                                                    refl,
+                                                                    (
+                                                                      refl,
+                                                                      (
+                                                                        refl,
+                                                                        (
+                                                                          refl,
+                                                                          (refl, tt),
+                                                                        ),
+                                                                      ),
+                                                                    ),
+                                                                  ),
+                                                                ),
+                                                              ),
+                                                            ),
+                                                          ),
+                                                        ),
+                                                      ),
+                                                    ),
+                                                  ),
+                                                ),
+                                              ),
+                                            ),
+                                          ),
+                                        ),
+                                      ),
+                                    ),
+                                  ),
+                                ),
+                              ),
+                            ),
+                          ),
+                        ),
+                      ),
+                    ),
+                  ),
+                ),
+              ),
+            ),
+          ),
+        ),
+      ),
+    ) refl k s
 radio_network_spelled (inr k) s = refl
 
 transport_spelled : (v : ℕ ⊎ ℕ) → Spelled (enumerated 1) v → typed_transport (named_transport v) ≡ v
@@ -109,11 +215,14 @@ nas_spelled (inl k) s = names_again typed_nas nas_names nas.Unspecified 3 (refl,
 nas_spelled (inr k) s = refl
 
 protocol_spelled : (v : ℕ ⊎ ℕ) → Spelled (enumerated 6) v → typed_protocol (named_protocol v) ≡ v
-protocol_spelled (inl k) s = names_again typed_protocol protocol_names protocol.Unspecified 6 (refl, (refl, (refl, (refl, (refl, (refl, (refl, tt))))))) refl k s
+protocol_spelled (inl k) s =
+    names_again typed_protocol protocol_names protocol.Unspecified 6
+    (refl, (refl, (refl, (refl, (refl, (refl, (refl, tt))))))) refl k s
 protocol_spelled (inr k) s = refl
 
 misc_spelled : (v : ℕ ⊎ ℕ) → Spelled (enumerated 5) v → typed_misc (named_misc v) ≡ v
-misc_spelled (inl k) s = names_again typed_misc misc_names misc.Unspecified 5 (refl, (refl, (refl, (refl, (refl, (refl, tt)))))) refl k s
+misc_spelled (inl k) s =
+    names_again typed_misc misc_names misc.Unspecified 5 (refl, (refl, (refl, (refl, (refl, (refl, tt)))))) refl k s
 misc_spelled (inr k) s = refl
 
 -- the alternatives, and those from the second, third, fourth and fifth on
@@ -145,8 +254,16 @@ past_protocol : (c : Chosen fifth) → Spelled cause (inr (inr (inr (inr c)))) �
 past_protocol c s = right_spelled (enumerated 6) fifth c (past_nas (inr c) s)
 
 pub cause_spelled : (v : Value cause) → Spelled cause v → typed_cause (named_cause v) ≡ v
-cause_spelled (inl c) s = ap (λ (x : ℕ ⊎ ℕ). left_of x) (radio_network_spelled c (left_spelled (enumerated 35) second c (chosen_spelled all (inl c) s)))
-cause_spelled (inr (inl c)) s = ap (λ (x : ℕ ⊎ ℕ). right_of (left_of x)) (transport_spelled c (left_spelled (enumerated 1) third c (past_radio (inl c) s)))
-cause_spelled (inr (inr (inl c))) s = ap (λ (x : ℕ ⊎ ℕ). right_of (right_of (left_of x))) (nas_spelled c (left_spelled (enumerated 3) fourth c (past_transport (inl c) s)))
-cause_spelled (inr (inr (inr (inl c)))) s = ap (λ (x : ℕ ⊎ ℕ). right_of (right_of (right_of (left_of x)))) (protocol_spelled c (left_spelled (enumerated 6) fifth c (past_nas (inl c) s)))
-cause_spelled (inr (inr (inr (inr c)))) s = ap (λ (x : ℕ ⊎ ℕ). right_of (right_of (right_of (right_of x)))) (misc_spelled c (last_spelled (enumerated 5) c (past_protocol c s)))
+cause_spelled (inl c) s =
+    ap (λ (x : ℕ ⊎ ℕ). left_of x) (radio_network_spelled c (left_spelled (enumerated 35) second c (chosen_spelled all (inl c) s)))
+cause_spelled (inr (inl c)) s =
+    ap (λ (x : ℕ ⊎ ℕ). right_of (left_of x)) (transport_spelled c (left_spelled (enumerated 1) third c (past_radio (inl c) s)))
+cause_spelled (inr (inr (inl c))) s =
+    ap (λ (x : ℕ ⊎ ℕ). right_of (right_of (left_of x)))
+    (nas_spelled c (left_spelled (enumerated 3) fourth c (past_transport (inl c) s)))
+cause_spelled (inr (inr (inr (inl c)))) s =
+    ap (λ (x : ℕ ⊎ ℕ). right_of (right_of (right_of (left_of x))))
+    (protocol_spelled c (left_spelled (enumerated 6) fifth c (past_nas (inl c) s)))
+cause_spelled (inr (inr (inr (inr c)))) s =
+    ap (λ (x : ℕ ⊎ ℕ). right_of (right_of (right_of (right_of x))))
+    (misc_spelled c (last_spelled (enumerated 5) c (past_protocol c s)))

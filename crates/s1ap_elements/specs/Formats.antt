@@ -1,5 +1,21 @@
 -- Formats of elements (TS 36.413 clause 9.3.4).
-use Rattle.per_bits.specs.Formats.{Format, Fields, number, octets, octets_between, octet_string, bit_string, bits_between, enumerated, closed, items, sequence, choice, done, must, may, skip, last, either, item, extensions}
+use Rattle.std.specs.Prelude.{ℕ}
+use Rattle.per_bits.specs.Formats.{Format, Fields, number, octets, octets_between, octet_string, bit_string, bits_between, enumerated, closed, items, open_type, plain, sequence, choice, done, must, may, skip, fixed, marked, last, either, extensions}
+use Rattle.s1ap_elements.specs.Ids as id
+
+-- ---- elements of lists
+
+-- the criticality of what is refused where it isn't understood
+abbrev pub reject : ℕ
+reject = 0
+
+-- the criticality of what is passed over where it isn't understood
+abbrev pub ignore : ℕ
+ignore = 1
+
+-- an element of a list, with its one id
+abbrev pub item : ℕ → ℕ → Format → Format
+item named criticality f = plain (fixed 0 65535 named (marked 0 2 criticality (must (open_type f) done)))
 
 -- ---- numbers
 
@@ -37,7 +53,8 @@ abbrev pub supported_tas : Format
 supported_tas = items 1 256 supported_ta
 
 abbrev pub served_gummei : Format
-served_gummei = sequence (must (items 1 32 (octets 3)) (must (items 1 65535 (octets 2)) (must (items 1 256 (octets 1)) (skip extensions done))))
+served_gummei =
+    sequence (must (items 1 32 (octets 3)) (must (items 1 65535 (octets 2)) (must (items 1 256 (octets 1)) (skip extensions done))))
 
 abbrev pub served_gummeis : Format
 served_gummeis = items 1 8 served_gummei
@@ -48,7 +65,8 @@ paging_drx = enumerated 3
 -- ---- causes
 
 abbrev pub cause : Format
-cause = choice (either (enumerated 35) (either (enumerated 1) (either (enumerated 3) (either (enumerated 6) (last (enumerated 5))))))
+cause =
+    choice (either (enumerated 35) (either (enumerated 1) (either (enumerated 3) (either (enumerated 6) (last (enumerated 5))))))
 
 -- ---- phones
 
@@ -59,7 +77,7 @@ abbrev pub tai_item : Format
 tai_item = sequence (must tai (skip extensions done))
 
 abbrev pub tai_list : Format
-tai_list = items 1 256 (item 47 1 tai_item)
+tai_list = items 1 256 (item id.tai_item ignore tai_item)
 
 abbrev pub eutran_cgi : Format
 eutran_cgi = sequence (must (octets 3) (must (bit_string 28) (skip extensions done)))
@@ -95,14 +113,16 @@ security_key = octets 32
 abbrev pub security_context : Format
 security_context = sequence (must (number 0 7) (must security_key (skip extensions done)))
 
+-- ---- resets
+
 abbrev pub listed_association : Format
 listed_association = sequence (may mme_ue_id (may enb_ue_id (skip extensions done)))
 
 abbrev pub associations_to_reset : Format
-associations_to_reset = items 1 256 (item 91 0 listed_association)
+associations_to_reset = items 1 256 (item id.ue_associated_logical_s1_connection_item reject listed_association)
 
 abbrev pub associations_reset : Format
-associations_reset = items 1 256 (item 91 1 listed_association)
+associations_reset = items 1 256 (item id.ue_associated_logical_s1_connection_item ignore listed_association)
 
 -- the whole interface, or a part of it
 abbrev pub reset_type : Format
@@ -129,7 +149,7 @@ qos = sequence (must (number 0 255) (must arp (skip gbr (skip extensions done)))
 abbrev pub erab_to_be_setup : Format
 erab_to_be_setup = sequence (must erab_id (must qos (must address (must (octets 4) (may octet_string (skip extensions done))))))
 
--- what stands behind the quality of service of a bearer that is to be set up
+-- what stands after the quality of service of a bearer that is to be set up
 abbrev pub erab_ends : Fields
 erab_ends = must address (must (octets 4) (may octet_string (skip extensions done)))
 
@@ -137,10 +157,10 @@ abbrev pub erab_tunnel : Format
 erab_tunnel = sequence (must erab_id (must address (must (octets 4) (skip extensions done))))
 
 abbrev pub erabs_to_be_setup : Format
-erabs_to_be_setup = items 1 256 (item 52 0 erab_to_be_setup)
+erabs_to_be_setup = items 1 256 (item id.erab_to_be_setup_item_ctxt_su_req reject erab_to_be_setup)
 
 abbrev pub erabs_setup : Format
-erabs_setup = items 1 256 (item 50 1 erab_tunnel)
+erabs_setup = items 1 256 (item id.erab_setup_item_ctxt_su_res ignore erab_tunnel)
 
 abbrev pub erabs_to_be_switched : Format
-erabs_to_be_switched = items 1 256 (item 23 0 erab_tunnel)
+erabs_to_be_switched = items 1 256 (item id.erab_to_be_switched_dl_item reject erab_tunnel)

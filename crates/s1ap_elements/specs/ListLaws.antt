@@ -1,4 +1,4 @@
--- Lists and values that may lack, taken to their formats' values and back.
+-- Lists and optional values, taken to their formats' values and back.
 use Rattle.std.proofs.Common.{◌≡◌, ℕ, List, [], ◌∷◌, map, option_map, Option, Some, None, refl, ap, ◌∙◌}
 use Rattle.s1ap_elements.specs.Stations.{each}
 
@@ -6,7 +6,8 @@ pub map_back : {A B : Type 0} (f : A → B) (g : B → A) → ((x : A) → g (f 
 map_back f g h [] = refl
 map_back f g h (x ∷ xs) = ap (λ y. y ∷ map g (map f xs)) (h x) ∙ ap (λ ys. x ∷ ys) (map_back f g h xs)
 
-pub option_back : {A B : Type 0} (f : A → B) (g : B → A) → ((x : A) → g (f x) ≡ x) → (o : Option A) → option_map g (option_map f o) ≡ o
+pub option_back : {A B : Type 0} (f : A → B) (g : B → A) → ((x : A) → g (f x) ≡ x) → (o : Option A)
+    → option_map g (option_map f o) ≡ o
 option_back f g h None = refl
 option_back f g h (Some x) = ap (λ y. Some y) (h x)
 

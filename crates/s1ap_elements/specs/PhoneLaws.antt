@@ -1,10 +1,8 @@
--- What is told of phones keeps its names.
-use Rattle.std.proofs.Common.{◌≡◌, ℕ, zero, suc, ◌-◌, ◌≤◌, List, [], ◌∷◌, refl, ap, inl, inr, ◌⊎◌, arith}
-use Rattle.per_bits.specs.Formats.{Value, either, enumerated, last}
-use Rattle.per_bits.specs.declared.wrapped.Listed.{Listed}
-use Rattle.s1ap_elements.specs.Formats.{tai_list, ue_paging_id, rrc_cause, cn_domain, ue_s1ap_ids, associations_to_reset, associations_reset, reset_type}
-use Rattle.s1ap_elements.specs.Phones.{typed_tai_item, named_tai_item, typed_tai_list, named_tai_list, typed_ue_paging_id, named_ue_paging_id, rrc_causes, typed_rrc_cause, named_rrc_cause, typed_cn_domain, named_cn_domain, typed_ue_s1ap_ids, named_ue_s1ap_ids, typed_reset_all, named_reset_all, typed_listed_association, named_listed_association, typed_associations_to_reset, named_associations_to_reset, typed_associations_reset, named_associations_reset, typed_reset_type, named_reset_type}
-use Rattle.s1ap_elements.specs.declared.phone.TaiItem.{TaiItem}
+-- What messages say of phones keeps its names.
+use Rattle.std.proofs.Common.{◌≡◌, ℕ, zero, suc, ◌-◌, ◌≤◌, List, refl, inl, inr, arith}
+use Rattle.per_bits.specs.Formats.{Value}
+use Rattle.s1ap_elements.specs.Formats.{tai_list, ue_paging_id, rrc_cause, cn_domain, ue_s1ap_ids}
+use Rattle.s1ap_elements.specs.Phones.{ListedTai, typed_tai_item, named_tai_item, typed_tai_list, named_tai_list, typed_ue_paging_id, named_ue_paging_id, rrc_causes, typed_rrc_cause, named_rrc_cause, typed_cn_domain, named_cn_domain, typed_ue_s1ap_ids, named_ue_s1ap_ids}
 use Rattle.s1ap_elements.specs.declared.phone.UePagingId.{UePagingId}
 use Rattle.s1ap_elements.specs.declared.phone.UePagingId.TheVariants.{STmsi, Imsi}
 use Rattle.s1ap_elements.specs.declared.phone.RrcCause.{RrcCause}
@@ -13,15 +11,10 @@ use Rattle.s1ap_elements.specs.declared.phone.CnDomain.{CnDomain}
 use Rattle.s1ap_elements.specs.declared.phone.CnDomain.TheVariants.{Ps, Cs}
 use Rattle.s1ap_elements.specs.declared.phone.UeS1apIds.{UeS1apIds}
 use Rattle.s1ap_elements.specs.declared.phone.UeS1apIds.TheVariants.{Pair, MmeUeId}
-use Rattle.s1ap_elements.specs.declared.phone.ResetAll.{ResetAll}
-use Rattle.s1ap_elements.specs.declared.phone.ResetAll.TheVariants as reset
-use Rattle.s1ap_elements.specs.declared.phone.ListedAssociation.{ListedAssociation}
-use Rattle.s1ap_elements.specs.declared.phone.ResetType.{ResetType}
-use Rattle.s1ap_elements.specs.declared.phone.ResetType.TheVariants.{All, Part}
 use Rattle.s1ap_elements.specs.ListLaws.{map_back}
-use Rattle.s1ap_elements.specs.NameLaws.{Spelled, chosen_spelled, left_spelled, names_again}
+use Rattle.s1ap_elements.specs.NameLaws.{Spelled, names_again}
 
-pub tai_list_again : (ts : List (Listed TaiItem 47 1)) → named_tai_list (typed_tai_list ts) ≡ ts
+pub tai_list_again : (ts : List ListedTai) → named_tai_list (typed_tai_list ts) ≡ ts
 tai_list_again ts = map_back (λ t. (typed_tai_item t.value, tt)) (λ x. record { value = named_tai_item x.0 }) (λ t. refl) ts
 
 pub tai_list_spelled : (v : Value tai_list) → typed_tai_list (named_tai_list v) ≡ v
@@ -44,7 +37,8 @@ rrc_cause_again rrc.MoData = refl
 rrc_cause_again (rrc.Extended n) = refl
 
 pub rrc_cause_spelled : (v : Value rrc_cause) → Spelled rrc_cause v → typed_rrc_cause (named_rrc_cause v) ≡ v
-rrc_cause_spelled (inl k) s = names_again typed_rrc_cause rrc_causes rrc.Emergency 4 (refl, (refl, (refl, (refl, (refl, tt))))) refl k s
+rrc_cause_spelled (inl k) s =
+    names_again typed_rrc_cause rrc_causes rrc.Emergency 4 (refl, (refl, (refl, (refl, (refl, tt))))) refl k s
 rrc_cause_spelled (inr k) s = refl
 
 pub cn_domain_again : (d : CnDomain) → named_cn_domain (typed_cn_domain d) ≡ d
@@ -66,34 +60,3 @@ ue_s1ap_ids_again (MmeUeId n) = refl
 pub ue_s1ap_ids_spelled : (v : Value ue_s1ap_ids) → typed_ue_s1ap_ids (named_ue_s1ap_ids v) ≡ v
 ue_s1ap_ids_spelled (inl p) = refl
 ue_s1ap_ids_spelled (inr n) = refl
-
-reset_all_again : (a : ResetAll) → named_reset_all (typed_reset_all a) ≡ a
-reset_all_again reset.ResetAll = refl
-reset_all_again (reset.Extended n) = refl
-
-pub associations_to_reset_again : (xs : List (Listed ListedAssociation 91 0)) → named_associations_to_reset (typed_associations_to_reset xs) ≡ xs
-associations_to_reset_again xs = map_back (λ a. (typed_listed_association a.value, tt)) (λ x. record { value = named_listed_association x.0 }) (λ a. refl) xs
-
-pub associations_to_reset_spelled : (v : Value associations_to_reset) → typed_associations_to_reset (named_associations_to_reset v) ≡ v
-associations_to_reset_spelled v = map_back (λ x. record { value = named_listed_association x.0 }) (λ a. (typed_listed_association a.value, tt)) (λ x. refl) v
-
-pub associations_reset_again : (xs : List (Listed ListedAssociation 91 1)) → named_associations_reset (typed_associations_reset xs) ≡ xs
-associations_reset_again xs = map_back (λ a. (typed_listed_association a.value, tt)) (λ x. record { value = named_listed_association x.0 }) (λ a. refl) xs
-
-pub associations_reset_spelled : (v : Value associations_reset) → typed_associations_reset (named_associations_reset v) ≡ v
-associations_reset_spelled v = map_back (λ x. record { value = named_listed_association x.0 }) (λ a. (typed_listed_association a.value, tt)) (λ x. refl) v
-
-pub reset_type_again : (t : ResetType) → named_reset_type (typed_reset_type t) ≡ t
-reset_type_again (All a) = ap (λ x. All x) (reset_all_again a)
-reset_type_again (Part xs) = ap (λ x. Part x) (associations_to_reset_again xs)
-
-reset_all_spelled : (v : ℕ ⊎ ℕ) → Spelled (enumerated 0) v → typed_reset_all (named_reset_all v) ≡ v
-reset_all_spelled (inl k) s = names_again typed_reset_all (reset.ResetAll ∷ []) reset.ResetAll 0 (refl, tt) refl k s
-reset_all_spelled (inr k) s = refl
-
-whole_spelled : (v : ℕ ⊎ ℕ) → Spelled reset_type (inl v) → Spelled (enumerated 0) v
-whole_spelled v s = left_spelled (enumerated 0) (last associations_to_reset) v (chosen_spelled (either (enumerated 0) (last associations_to_reset)) (inl v) s)
-
-pub reset_type_spelled : (v : Value reset_type) → Spelled reset_type v → typed_reset_type (named_reset_type v) ≡ v
-reset_type_spelled (inl v) s = ap (λ (x : ℕ ⊎ ℕ). inl x) (reset_all_spelled v (whole_spelled v s))
-reset_type_spelled (inr v) s = ap (λ (x : Value associations_to_reset). inr x) (associations_to_reset_spelled v)

@@ -1,10 +1,11 @@
--- What is told of phones, by its names, and as its format has it.
-use Rattle.std.specs.Prelude.{ℕ, List, [], ◌∷◌, get_or, map, ◌⊎◌}
+-- What messages say of phones, by its names, and as its format has it.
+use Rattle.std.specs.Prelude.{ℕ, List, [], ◌∷◌, get_or, map}
 use Rattle.std.specs.Borrow.{Bor}
 use Rattle.std.proofs.Common.{inl, inr}
 use Rattle.per_bits.specs.Formats.{Value, left_of, right_of}
-use Rattle.per_bits.specs.declared.wrapped.Listed.{Listed}
-use Rattle.s1ap_elements.specs.Formats.{tai, tai_item, tai_list, eutran_cgi, s_tmsi, ue_paging_id, rrc_cause, cn_domain, ue_id_pair, ue_s1ap_ids, security_capabilities, security_context, listed_association, associations_to_reset, associations_reset, reset_type}
+use Rattle.s1ap_elements.specs.declared.container.Listed.{Listed}
+use Rattle.s1ap_elements.specs.Ids as id
+use Rattle.s1ap_elements.specs.Formats.{ignore, tai, tai_item, tai_list, eutran_cgi, s_tmsi, ue_paging_id, rrc_cause, cn_domain, ue_id_pair, ue_s1ap_ids, security_capabilities, security_context}
 use Rattle.s1ap_elements.specs.declared.phone.Tai.{Tai}
 use Rattle.s1ap_elements.specs.declared.phone.TaiItem.{TaiItem}
 use Rattle.s1ap_elements.specs.declared.phone.EutranCgi.{EutranCgi}
@@ -20,11 +21,6 @@ use Rattle.s1ap_elements.specs.declared.phone.UeS1apIds.{UeS1apIds}
 use Rattle.s1ap_elements.specs.declared.phone.UeS1apIds.TheVariants.{Pair, MmeUeId}
 use Rattle.s1ap_elements.specs.declared.phone.SecurityCapabilities.{SecurityCapabilities}
 use Rattle.s1ap_elements.specs.declared.phone.SecurityContext.{SecurityContext}
-use Rattle.s1ap_elements.specs.declared.phone.ResetAll.{ResetAll}
-use Rattle.s1ap_elements.specs.declared.phone.ResetAll.TheVariants as reset
-use Rattle.s1ap_elements.specs.declared.phone.ListedAssociation.{ListedAssociation}
-use Rattle.s1ap_elements.specs.declared.phone.ResetType.{ResetType}
-use Rattle.s1ap_elements.specs.declared.phone.ResetType.TheVariants.{All, Part}
 
 abbrev pub typed_tai : Tai → Value tai
 typed_tai t = (t.plmn, (t.tac, tt))
@@ -38,10 +34,14 @@ typed_tai_item t = (typed_tai t.tai, tt)
 abbrev pub named_tai_item : Value tai_item → TaiItem
 named_tai_item v = record { tai = named_tai v.0 }
 
-abbrev pub typed_tai_list : List (Listed TaiItem 47 1) → Value tai_list
+-- an element of a list of tracking areas
+abbrev pub ListedTai : Type 0
+ListedTai = Listed TaiItem id.tai_item ignore
+
+abbrev pub typed_tai_list : List ListedTai → Value tai_list
 typed_tai_list ts = map (λ t. (typed_tai_item t.value, tt)) ts
 
-abbrev pub named_tai_list : Value tai_list → List (Listed TaiItem 47 1)
+abbrev pub named_tai_list : Value tai_list → List ListedTai
 named_tai_list v = map (λ x. record { value = named_tai_item x.0 }) v
 
 abbrev pub typed_eutran_cgi : EutranCgi → Value eutran_cgi
@@ -117,37 +117,3 @@ typed_security_context c = (c.chaining_count, (c.next_hop, tt))
 
 abbrev pub named_security_context : Value security_context → SecurityContext
 named_security_context v = record { chaining_count = v.0; next_hop = v.1.0 }
-
-abbrev pub typed_reset_all : ResetAll → ℕ ⊎ ℕ
-typed_reset_all reset.ResetAll = left_of 0
-typed_reset_all (reset.Extended n) = right_of n
-
-abbrev pub named_reset_all : ℕ ⊎ ℕ → ResetAll
-named_reset_all (inl n) = get_or (reset.ResetAll ∷ []) n reset.ResetAll
-named_reset_all (inr n) = reset.Extended n
-
-abbrev pub typed_listed_association : ListedAssociation → Value listed_association
-typed_listed_association a = (a.mme_ue_id, (a.enb_ue_id, tt))
-
-abbrev pub named_listed_association : Value listed_association → ListedAssociation
-named_listed_association v = record { mme_ue_id = v.0; enb_ue_id = v.1.0 }
-
-abbrev pub typed_associations_to_reset : List (Listed ListedAssociation 91 0) → Value associations_to_reset
-typed_associations_to_reset xs = map (λ a. (typed_listed_association a.value, tt)) xs
-
-abbrev pub named_associations_to_reset : Value associations_to_reset → List (Listed ListedAssociation 91 0)
-named_associations_to_reset v = map (λ x. record { value = named_listed_association x.0 }) v
-
-abbrev pub typed_associations_reset : List (Listed ListedAssociation 91 1) → Value associations_reset
-typed_associations_reset xs = map (λ a. (typed_listed_association a.value, tt)) xs
-
-abbrev pub named_associations_reset : Value associations_reset → List (Listed ListedAssociation 91 1)
-named_associations_reset v = map (λ x. record { value = named_listed_association x.0 }) v
-
-abbrev pub typed_reset_type : ResetType → Value reset_type
-typed_reset_type (All a) = left_of (typed_reset_all a)
-typed_reset_type (Part xs) = right_of (typed_associations_to_reset xs)
-
-abbrev pub named_reset_type : Value reset_type → ResetType
-named_reset_type (inl a) = All (named_reset_all a)
-named_reset_type (inr xs) = Part (named_associations_to_reset xs)

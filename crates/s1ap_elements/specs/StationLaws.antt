@@ -1,4 +1,4 @@
--- What stations and MMEs tell of themselves keeps its names.
+-- What stations and MMEs say of themselves keeps its names.
 use Rattle.std.proofs.Common.{◌≡◌, ℕ, List, refl, ap, ◌∙◌, inl, inr}
 use Rattle.s1ap_elements.specs.Stations.{typed_enb_id, named_enb_id, typed_global_enb_id, named_global_enb_id, each, typed_supported_ta, named_supported_ta, typed_supported_tas, named_supported_tas, typed_served_gummei, named_served_gummei, typed_served_gummeis, named_served_gummeis, typed_paging_drx, named_paging_drx, paging_cycles}
 use Rattle.s1ap_elements.specs.declared.station.EnbId.{EnbId}

@@ -1,4 +1,4 @@
--- What stations and MMEs tell of themselves, by its names, and as its format has it.
+-- What stations and MMEs say of themselves, by its names, and as its format has it.
 use Rattle.std.specs.Prelude.{ℕ, List, [], ◌∷◌, get_or, map}
 use Rattle.std.proofs.Common.{inl, inr}
 use Rattle.per_bits.specs.Formats.{Value, left_of, right_of}

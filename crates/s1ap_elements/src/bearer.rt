@@ -1,7 +1,11 @@
-//! What is told of radio access bearers.
+//! What messages say of radio access bearers.
 
+use crate::container::{IGNORE, Listed, REJECT};
 use crate::identity::{Address, BitRate, ErabId, Teid};
-use per_bits::{Items, Listed, Whole};
+use crate::ids::{
+    ERAB_SETUP_ITEM_CTXT_SU_RES, ERAB_TO_BE_SETUP_ITEM_CTXT_SU_REQ, ERAB_TO_BE_SWITCHED_DL_ITEM,
+};
+use per_bits::{Items, Whole};
 
 /// The bit rates of a phone, all bearers together (TS 36.413 clause 9.2.1.20).
 #[derive(Clone, Copy)]
@@ -55,11 +59,24 @@ pub struct ErabTunnel<'a> {
     pub teid: Teid,
 }
 
-/// Bearers that are to be set up: elements 52, marked reject.
-pub type ErabsToBeSetup<'a, B> = Items<Listed<ErabToBeSetup<'a, B>, 52, 0>, 1, 256>;
+/// An element of the bearers that are to be set up (E-RABToBeSetupItemCtxtSUReq, TS 36.413 clause 9.1.4.1).
+pub type ErabToBeSetupItem<'a, B> = Listed<
+    ErabToBeSetup<'a, B>,
+    ERAB_TO_BE_SETUP_ITEM_CTXT_SU_REQ,
+    REJECT,
+>;
 
-/// Bearers that were set up: elements 50, marked ignore.
-pub type ErabsSetup<'a> = Items<Listed<ErabTunnel<'a>, 50, 1>, 1, 256>;
+/// Bearers that are to be set up (TS 36.413 clause 9.1.4.1).
+pub type ErabsToBeSetup<'a, B> = Items<ErabToBeSetupItem<'a, B>, 1, 256>;
 
-/// Bearers that are to be switched: elements 23, marked reject.
-pub type ErabsToBeSwitched<'a> = Items<Listed<ErabTunnel<'a>, 23, 0>, 1, 256>;
+/// An element of the bearers that were set up (E-RABSetupItemCtxtSURes, TS 36.413 clause 9.1.4.3).
+pub type ErabSetupItem<'a> = Listed<ErabTunnel<'a>, ERAB_SETUP_ITEM_CTXT_SU_RES, IGNORE>;
+
+/// Bearers that were set up (TS 36.413 clause 9.1.4.3).
+pub type ErabsSetup<'a> = Items<ErabSetupItem<'a>, 1, 256>;
+
+/// An element of the bearers that are to be switched (E-RABToBeSwitchedDLItem, TS 36.413 clause 9.1.5.8).
+pub type ErabToBeSwitchedItem<'a> = Listed<ErabTunnel<'a>, ERAB_TO_BE_SWITCHED_DL_ITEM, REJECT>;
+
+/// Bearers that are to be switched (TS 36.413 clause 9.1.5.8).
+pub type ErabsToBeSwitched<'a> = Items<ErabToBeSwitchedItem<'a>, 1, 256>;

@@ -1,4 +1,4 @@
-//! What is told of radio access bearers, read and written.
+//! What messages say of radio access bearers, read and written.
 
 ghost use Rattle.std.specs.Prelude.{◌≡◌, ◌∷◌, [], option_map};
 ghost use Rattle.per_streams.specs.Bits.{Gives};
@@ -121,7 +121,7 @@ impl<'a> Element<'a> for Qos {
     }
 }
 
-/// Octets that may lack.
+/// Optional octets.
 fn read_octets<'a>(
     present: bool,
     alloc: Global,
@@ -139,14 +139,15 @@ fn read_octets<'a>(
     }
 }
 
-/// What stands behind the quality of service: where the tunnel ends, and octets that may lack.
+/// What stands after the quality of service: where the tunnel ends, and optional octets.
 fn read_erab_ends<'a>(
     nas: bool,
     more: bool,
     alloc: Global,
     reader: &mut BitReader<'a>,
 ) -> Result<(Address<'a>, Teid, Option<&'a [u8]>), PerError>
-    ensures { Gives (λ e. (e.0, (e.1, (option_map (λ s. s.now) e.2, tt)))) result reader.new (fields_at erab_ends (nas ∷ more ∷ []) reader.old) }
+    ensures { Gives (λ e. (e.0, (e.1, (option_map (λ s. s.now) e.2, tt)))) result reader.new
+        (fields_at erab_ends (nas ∷ more ∷ []) reader.old) }
 {
     let (address, teid) = read_pair::<Closed<Address>, Teid>(alloc, reader)?;
     let nas = read_octets(nas, alloc, reader)?;
@@ -154,7 +155,7 @@ fn read_erab_ends<'a>(
     Ok((address.value, teid, nas))
 }
 
-/// Writes what stands behind the quality of service.
+/// Writes what stands after the quality of service.
 fn put_erab_ends(
     address: &Address,
     teid: Teid,
@@ -162,7 +163,8 @@ fn put_erab_ends(
     alloc: Global,
     writer: &mut BitWriter,
 ) -> Result<(), PerError>
-    ensures { Wrote result writer.new (write_fields erab_ends (address.now, (teid, (option_map (λ s. s.now) nas.entry, tt))) writer.old) }
+    ensures { Wrote result writer.new
+        (write_fields erab_ends (address.now, (teid, (option_map (λ s. s.now) nas.entry, tt))) writer.old) }
 {
     writer.put_bit(false)?;
     address.write(alloc, writer)?;

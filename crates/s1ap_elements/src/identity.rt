@@ -17,10 +17,10 @@ pub type MmeCode = Octets<1>;
 /// How much of the phones an MME takes, as against others of its group (TS 36.413 clause 9.2.3.17).
 pub type RelativeCapacity = Whole<0, 255>;
 
-/// The MME's number of an association (TS 36.413 clause 9.2.3.3).
+/// The MME's id of an association, the MME UE S1AP ID (TS 36.413 clause 9.2.3.3).
 pub type MmeUeId = Whole<0, 4294967295>;
 
-/// The station's number of an association (TS 36.413 clause 9.2.3.4).
+/// The station's id of an association, the eNB UE S1AP ID (TS 36.413 clause 9.2.3.4).
 pub type EnbUeId = Whole<0, 16777215>;
 
 /// A phone for its MME, for a time (TS 36.413 clause 9.2.3.6, TS 23.003 clause 2.4).

@@ -15,25 +15,34 @@ mod bearer;
 mod bearer_element;
 mod cause;
 mod cause_element;
+mod container;
 mod identity;
+pub mod ids;
 mod phone;
 mod phone_element;
+mod reset;
+mod reset_element;
 mod station;
 mod station_element;
 mod text;
 
 pub use bearer::{
-    Ambr, Arp, ErabToBeSetup, ErabTunnel, ErabsSetup, ErabsToBeSetup, ErabsToBeSwitched, Gbr, Qos,
+    Ambr, Arp, ErabSetupItem, ErabToBeSetup, ErabToBeSetupItem, ErabToBeSwitchedItem, ErabTunnel,
+    ErabsSetup, ErabsToBeSetup, ErabsToBeSwitched, Gbr, Qos,
 };
 pub use cause::{Cause, MiscCause, NasCause, ProtocolCause, RadioNetworkCause, TransportCause};
+pub use container::{IGNORE, Listed, REJECT};
 pub use identity::{
     Address, BitRate, CellId, EnbUeId, ErabId, MTmsi, MmeCode, MmeGroup, MmeUeId, Plmn,
     RelativeCapacity, SecurityKey, Tac, Teid, UeIndex,
 };
 pub use phone::{
-    AssociationsReset, AssociationsToReset, CnDomain, EutranCgi, ListedAssociation, ResetAll,
-    ResetType, RrcCause, STmsi, SecurityCapabilities, SecurityContext, Tai, TaiItem, TaiList,
-    UeIdPair, UePagingId, UeS1apIds,
+    CnDomain, EutranCgi, RrcCause, STmsi, SecurityCapabilities, SecurityContext, Tai, TaiItem,
+    TaiList, UeIdPair, UePagingId, UeS1apIds,
+};
+pub use reset::{
+    AssociationReset, AssociationToReset, AssociationsReset, AssociationsToReset,
+    ListedAssociation, ResetAll, ResetType,
 };
 pub use station::{
     EnbId, GlobalEnbId, PagingDrx, ServedGummei, ServedGummeis, SupportedTa, SupportedTas,

@@ -1,7 +1,9 @@
-//! What tells phones apart, and what is told of them.
+//! What identifies phones, and what messages say of them.
 
+use crate::container::{IGNORE, Listed};
 use crate::identity::{CellId, EnbUeId, MTmsi, MmeCode, MmeUeId, Plmn, SecurityKey, Tac};
-use per_bits::{BitField, Items, Listed, Whole};
+use crate::ids::TAI_ITEM;
+use per_bits::{BitField, Items, Whole};
 
 /// A tracking area of all networks (TS 36.413 clause 9.2.3.16).
 #[derive(Clone, Copy)]
@@ -16,8 +18,8 @@ pub struct TaiItem {
     pub tai: Tai,
 }
 
-/// Tracking areas in which a phone is paged: elements 47, marked ignore.
-pub type TaiList = Items<Listed<TaiItem, 47, 1>, 1, 256>;
+/// Tracking areas in which a phone is paged (TS 36.413 clause 9.1.6).
+pub type TaiList = Items<Listed<TaiItem, TAI_ITEM, IGNORE>, 1, 256>;
 
 /// A cell of all networks (TS 36.413 clause 9.2.1.38).
 #[derive(Clone, Copy)]
@@ -60,14 +62,14 @@ pub enum CnDomain {
     Cs,
 }
 
-/// Both numbers of an association (TS 36.413 clause 9.2.3.18).
+/// Both ids of an association (TS 36.413 clause 9.2.3.18).
 #[derive(Clone, Copy, PartialEq, Eq)]
 pub struct UeIdPair {
     pub mme_ue_id: MmeUeId,
     pub enb_ue_id: EnbUeId,
 }
 
-/// The numbers of an association that are known (TS 36.413 clause 9.2.3.18).
+/// The ids of an association that are known (TS 36.413 clause 9.2.3.18).
 #[derive(Clone, Copy)]
 pub enum UeS1apIds {
     Pair(UeIdPair),
@@ -86,34 +88,4 @@ pub struct SecurityCapabilities {
 pub struct SecurityContext {
     pub chaining_count: Whole<0, 7>,
     pub next_hop: SecurityKey,
-}
-
-/// The whole interface is set back (TS 36.413 clause 9.1.8.1).
-#[derive(Clone, Copy, Debug)]
-pub enum ResetAll {
-    ResetAll,
-    /// A value of a later release.
-    Extended(u64),
-}
-
-/// An association by those of its numbers that are given (TS 36.413 clauses 9.1.8.1 and 9.1.8.2).
-#[derive(Clone, Copy)]
-pub struct ListedAssociation {
-    pub mme_ue_id: Option<MmeUeId>,
-    pub enb_ue_id: Option<EnbUeId>,
-}
-
-/// Associations that are to be set back: elements 91, marked reject.
-pub type AssociationsToReset = Items<Listed<ListedAssociation, 91, 0>, 1, 256>;
-
-/// Associations that were set back: elements 91, marked ignore.
-pub type AssociationsReset = Items<Listed<ListedAssociation, 91, 1>, 1, 256>;
-
-/// What is set back (TS 36.413 clause 9.1.8.1).
-#[derive(Drop)]
-pub enum ResetType {
-    /// The whole interface.
-    All(ResetAll),
-    /// These associations alone.
-    Part(AssociationsToReset),
 }

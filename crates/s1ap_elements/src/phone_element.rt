@@ -1,24 +1,23 @@
-//! What tells phones apart, and what is told of them, read and written.
+//! What identifies phones, and what messages say of them, read and written.
 
-ghost use Rattle.std.specs.Prelude.{◌≡◌, ◌∷◌, []};
-ghost use Rattle.per_streams.specs.Bits.{Answers, Gives, bit_at};
-ghost use Rattle.per_streams.specs.Each.{times};
+ghost use Rattle.std.specs.Prelude.{◌≡◌};
+ghost use Rattle.per_streams.specs.Bits.{Gives};
 ghost use Rattle.per_bits.specs.Reading.{read_at};
 ghost use Rattle.per_bits.specs.Writing.{write_at};
 ghost use Rattle.per_numbers.specs.Writing.{Wrote};
 ghost use Rattle.per_bits.specs.Names.{view_of_name, IsName};
-ghost use Rattle.s1ap_elements.specs.Formats.{tai, tai_item, eutran_cgi, s_tmsi, ue_paging_id, rrc_cause, cn_domain, ue_id_pair, ue_s1ap_ids, security_capabilities, security_context, listed_association, reset_type};
-ghost use Rattle.s1ap_elements.specs.Phones.{typed_tai, typed_tai_item, typed_eutran_cgi, typed_s_tmsi, ue_paging_id_lists, typed_ue_paging_id, typed_rrc_cause, typed_cn_domain, typed_ue_id_pair, typed_ue_s1ap_ids, typed_security_capabilities, typed_security_context, typed_reset_all, typed_listed_association, typed_reset_type};
+ghost use Rattle.s1ap_elements.specs.Formats.{tai, tai_item, eutran_cgi, s_tmsi, ue_paging_id, rrc_cause, cn_domain, ue_id_pair, ue_s1ap_ids, security_capabilities, security_context};
+ghost use Rattle.s1ap_elements.specs.Phones.{typed_tai, typed_tai_item, typed_eutran_cgi, typed_s_tmsi, ue_paging_id_lists, typed_ue_paging_id, typed_rrc_cause, typed_cn_domain, typed_ue_id_pair, typed_ue_s1ap_ids, typed_security_capabilities, typed_security_context};
 
 use crate::identity::{CellId, EnbUeId, MTmsi, MmeCode, MmeUeId, Plmn, SecurityKey, Tac};
 use crate::phone::{
-    AssociationsToReset, CnDomain, EutranCgi, ListedAssociation, ResetAll, ResetType, RrcCause,
-    STmsi, SecurityCapabilities, SecurityContext, Tai, TaiItem, UeIdPair, UePagingId, UeS1apIds,
+    CnDomain, EutranCgi, RrcCause, STmsi, SecurityCapabilities, SecurityContext, Tai, TaiItem,
+    UeIdPair, UePagingId, UeS1apIds,
 };
 use per_bits::{
     BitField, BitReader, BitWriter, Closed, Element, Enumerated, PerError, PerFault, SizedString,
-    Whole, offset_of, put_flags, put_number, put_optional, read_optional, read_two, skip_later,
-    take_choice, take_flags, take_name, take_three_flags, write_choice,
+    Whole, offset_of, put_flags, put_number, read_two, skip_later, take_choice, take_flags,
+    take_name, write_choice,
 };
 use std::alloc::Global;
 
@@ -274,87 +273,6 @@ impl<'a> Element<'a> for CnDomain {
         match self {
             CnDomain::Ps => put_number(0, 1, 0, writer),
             CnDomain::Cs => put_number(0, 1, 1, writer),
-        }
-    }
-}
-
-// The presence bits of a SEQUENCE two parts of which may lack.
-#[tactic(auto, unfolding(per_streams::specs::Each::times))]
-fn take_four_flags(reader: &mut BitReader) -> Result<(bool, bool, bool, bool), PerFault>
-    ensures { Answers (λ f. f.0 ∷ f.1 ∷ f.2 ∷ f.3 ∷ []) result reader.new (times bit_at 4 reader.old) }
-{
-    let extended = reader.take_bit()?;
-    let (first, second, more) = take_three_flags(reader)?;
-    Ok((extended, first, second, more))
-}
-
-impl<'a> Element<'a> for ListedAssociation {
-    ghost format = { listed_association };
-
-    ghost view = { typed_listed_association };
-
-    fn read(alloc: Global, reader: &mut BitReader<'a>) -> Result<Self, PerError> {
-        let (extended, has_mme_ue_id, has_enb_ue_id, more) = take_four_flags(reader)?;
-        let mme_ue_id = read_optional::<MmeUeId>(alloc, has_mme_ue_id, reader)?;
-        let enb_ue_id = read_optional::<EnbUeId>(alloc, has_enb_ue_id, reader)?;
-        skip_later(extended, more, reader)?;
-        Ok(ListedAssociation {
-            mme_ue_id,
-            enb_ue_id,
-        })
-    }
-
-    fn write(&self, alloc: Global, writer: &mut BitWriter) -> Result<(), PerError> {
-        writer.put_bit(false)?;
-        writer.put_bit(self.mme_ue_id.is_some())?;
-        writer.put_bit(self.enb_ue_id.is_some())?;
-        writer.put_bit(false)?;
-        put_optional(alloc, &self.mme_ue_id, writer)?;
-        put_optional(alloc, &self.enb_ue_id, writer)
-    }
-}
-
-fn reset_all_of(name: Enumerated<0>) -> ResetAll
-    requires { IsName name }
-    ensures { typed_reset_all result ≡ view_of_name name }
-{
-    match name {
-        Enumerated::Extended(number) => ResetAll::Extended(number),
-        Enumerated::Root(_) => ResetAll::ResetAll,
-    }
-}
-
-fn name_of_reset_all(reset: ResetAll) -> Enumerated<0>
-    ensures { view_of_name result ≡ typed_reset_all reset }
-{
-    match reset {
-        ResetAll::ResetAll => Enumerated::Root(0),
-        ResetAll::Extended(number) => Enumerated::Extended(number),
-    }
-}
-
-impl<'a> Element<'a> for ResetType {
-    ghost format = { reset_type };
-
-    ghost view = { typed_reset_type };
-
-    fn read(alloc: Global, reader: &mut BitReader<'a>) -> Result<Self, PerError> {
-        match take_choice(1, reader)? {
-            0 => match take_name::<0>(reader) {
-                Ok(name) => Ok(ResetType::All(reset_all_of(name))),
-                Err(fault) => Err(PerError::Fault(fault)),
-            },
-            1 => read_choice!(ResetType::Part, AssociationsToReset::read(alloc, reader)),
-            _ => Err(PerError::Fault(PerFault::Range)),
-        }
-    }
-
-    fn write(&self, alloc: Global, writer: &mut BitWriter) -> Result<(), PerError> {
-        match self {
-            ResetType::All(reset) => {
-                write_choice(1, 0, &name_of_reset_all(*reset), alloc, writer)
-            }
-            ResetType::Part(associations) => write_choice(1, 1, associations, alloc, writer),
         }
     }
 }

@@ -1,4 +1,4 @@
-//! What stations and MMEs tell of themselves.
+//! What stations and MMEs say of themselves.
 
 use crate::identity::{MmeCode, MmeGroup, Plmn, Tac};
 use per_bits::{BitField, Items};

@@ -1,4 +1,4 @@
-//! What stations and MMEs tell of themselves, read and written.
+//! What stations and MMEs say of themselves, read and written.
 
 ghost use Rattle.std.specs.Prelude.{◌≡◌};
 ghost use Rattle.per_streams.specs.Bits.{Gives};

@@ -19,7 +19,8 @@ use Rattle.s1ap_rows.specs.Writing.{write_frame, write_head, write_message}
 
 -- ---- how much each part adds
 
-number_adds : (lo hi n : ℕ) (out new : List Bool) → write_number lo hi n out ≡ Ok new → length new ≡ length out + length (whole lo hi n (length out))
+number_adds : (lo hi n : ℕ) (out new : List Bool) → write_number lo hi n out ≡ Ok new
+    → length new ≡ length out + length (whole lo hi n (length out))
 unfolding write_number
 number_adds lo hi n out new h =
     let w = where_ok (nat_le lo n && (nat_le n hi && nat_lt (n - lo) (2 ^ 64))) Range (out ++ whole lo hi n (length out)) new h in
@@ -37,21 +38,28 @@ length_of_length : (b : Bool) (n : ℕ) → length (if b then n ∷ [] else (128
 length_of_length true n = omega arith
 length_of_length false n = omega arith
 
-length_adds : (n : ℕ) (out new : List Bool) → write_length n out ≡ Ok new → (n < 16384) × (length new ≡ length out + (length (pad (length out)) + 8 * length (length_octets n)))
+length_adds : (n : ℕ) (out new : List Bool) → write_length n out ≡ Ok new
+    → (n < 16384) × (length new ≡ length out + (length (pad (length out)) + 8 * length (length_octets n)))
 unfolding write_length
 length_adds n out new h =
     let more = pad (length out) ++ octet_bits (length_octets n) in
     let w = where_ok (nat_lt n 16384) Range (out ++ more) new h in (
       grind (arith, nat_tests, w.0),
-      sym (ap length w.1) ∙ length-append out more ∙ ap (λ m. length out + m) (length-append (pad (length out)) (octet_bits (length_octets n)) ∙ ap (λ m. length (pad (length out)) + m) (length-octet_bits (length_octets n))),
+      sym (ap length w.1) ∙ length-append out more
+          ∙ ap (λ m. length out + m)
+          (length-append (pad (length out)) (octet_bits (length_octets n))
+          ∙ ap (λ m. length (pad (length out)) + m) (length-octet_bits (length_octets n))),
     )
 
-aligned_adds : (os : List ℕ) (out new : List Bool) → write_aligned os out ≡ Ok new → length new ≡ length out + (length (pad (length out)) + 8 * length os)
+aligned_adds : (os : List ℕ) (out new : List Bool) → write_aligned os out ≡ Ok new
+    → length new ≡ length out + (length (pad (length out)) + 8 * length os)
 unfolding write_aligned
 aligned_adds os out new h =
     let more = pad (length out) ++ octet_bits os in
     let w = where_ok (all_below 256 os) Range (out ++ more) new h in
-    sym (ap length w.1) ∙ length-append out more ∙ ap (λ m. length out + m) (length-append (pad (length out)) (octet_bits os) ∙ ap (λ m. length (pad (length out)) + m) (length-octet_bits os))
+    sym (ap length w.1) ∙ length-append out more
+    ∙ ap (λ m. length out + m)
+    (length-append (pad (length out)) (octet_bits os) ∙ ap (λ m. length (pad (length out)) + m) (length-octet_bits os))
 
 -- an octet begins anew: no padding
 no_pad : (k : ℕ) → length (pad (8 * k)) ≡ 0
@@ -67,7 +75,8 @@ string_adds os out new at h =
     let w = aligned_adds os a.0 new a.2 in
     let few : k ≤ 2 = length_of_length (nat_lt n 128) n in
     let counted : length a.0 ≡ 8 * (3 + k) = c.1 ∙ ap (λ m. m + (length (pad m) + 8 * k)) at ∙ omega arith in
-    let whole : length new ≡ 8 * (3 + k) + 8 * n = w ∙ ap (λ m. m + (length (pad m) + 8 * n)) counted ∙ ap (λ m. 8 * (3 + k) + (m + 8 * n)) (no_pad (3 + k)) ∙ omega arith in
+    let whole : length new ≡ 8 * (3 + k) + 8 * n =
+    w ∙ ap (λ m. m + (length (pad m) + 8 * n)) counted ∙ ap (λ m. 8 * (3 + k) + (m + 8 * n)) (no_pad (3 + k)) ∙ omega arith in
     omega (arith, whole, few, c.0)
 
 -- ---- the frame
@@ -75,11 +84,15 @@ string_adds os out new at h =
 frame_adds : (kind code c : ℕ) (os : List ℕ) (new : List Bool) → write_frame kind code c os [] ≡ Ok new → length new ≤ 8 * longest
 frame_adds kind code c os new h =
     let head = bind_ok (write_head kind code c []) (write_string os) new h in
-    let a = bind_ok (write_number 0 2 kind (false ∷ [])) (λ a. write_number 0 255 code a >>= λ b. write_number 0 2 c b) head.0 head.1 in
+    let a =
+    bind_ok (write_number 0 2 kind (false ∷ [])) (λ a. write_number 0 255 code a >>= λ b. write_number 0 2 c b) head.0 head.1 in
     let b = bind_ok (write_number 0 255 code a.0) (write_number 0 2 c) head.0 a.2 in
     let at_a : length a.0 ≡ 3 = number_adds 0 2 kind (false ∷ []) a.0 a.1 ∙ ap (λ m. 1 + m) (two_bits kind 1) in
-    let at_b : length b.0 ≡ 16 = number_adds 0 255 code a.0 b.0 b.1 ∙ ap (λ m. length a.0 + m) (octet code (length a.0)) ∙ ap (λ m. m + (length (pad m) + 8)) at_a in
-    let at_head : length head.0 ≡ 18 = number_adds 0 2 c b.0 head.0 b.2 ∙ ap (λ m. length b.0 + m) (two_bits c (length b.0)) ∙ ap (λ m. m + 2) at_b in
+    let at_b : length b.0 ≡ 16 =
+    number_adds 0 255 code a.0 b.0 b.1 ∙ ap (λ m. length a.0 + m) (octet code (length a.0))
+    ∙ ap (λ m. m + (length (pad m) + 8)) at_a in
+    let at_head : length head.0 ≡ 18 =
+    number_adds 0 2 c b.0 head.0 b.2 ∙ ap (λ m. length b.0 + m) (two_bits c (length b.0)) ∙ ap (λ m. m + 2) at_b in
     string_adds os head.0 new at_head head.2
 
 -- ---- the message
@@ -101,5 +114,7 @@ whole_long kind code c inner os h =
 pub typed_short : (t : Typed) (os : List ℕ) → encode_typed t ≡ Ok os → length os ≤ longest
 unfolding encode_typed
 typed_short t os h =
-    let a = bind_ok (write_whole (write_message (rows_of t.0)) t.1) (λ inner. write_whole (write_frame (kind_of t.0) (code_of t.0) (criticality_number (criticality_of t.0))) inner) os h in
+    let a =
+    bind_ok (write_whole (write_message (rows_of t.0)) t.1)
+    (λ inner. write_whole (write_frame (kind_of t.0) (code_of t.0) (criticality_number (criticality_of t.0))) inner) os h in
     whole_long (kind_of t.0) (code_of t.0) (criticality_number (criticality_of t.0)) a.0 os a.2

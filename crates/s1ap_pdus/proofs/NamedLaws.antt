@@ -4,11 +4,13 @@ use Rattle.per_streams.specs.declared.fault.PerFault.{PerFault}
 use Rattle.per_bits.specs.Formats.{Value}
 use Rattle.s1ap_elements.specs.Formats.{cause}
 use Rattle.s1ap_elements.specs.Causes.{typed_cause, named_cause}
-use Rattle.s1ap_elements.specs.Phones.{typed_associations_reset, named_associations_reset, typed_s_tmsi, named_s_tmsi}
+use Rattle.s1ap_elements.specs.Phones.{typed_s_tmsi, named_s_tmsi}
+use Rattle.s1ap_elements.specs.Resets.{typed_associations_reset, named_associations_reset}
 use Rattle.s1ap_elements.specs.ListLaws.{option_back}
 use Rattle.s1ap_elements.specs.CauseLaws.{cause_again, cause_spelled}
 use Rattle.s1ap_elements.specs.StationLaws.{global_enb_id_again, global_enb_id_spelled, paging_drx_again, paging_drx_spelled, served_gummeis_again, served_gummeis_spelled, supported_tas_again, supported_tas_spelled}
-use Rattle.s1ap_elements.specs.PhoneLaws.{associations_reset_again, associations_reset_spelled, cn_domain_again, cn_domain_spelled, reset_type_again, reset_type_spelled, rrc_cause_again, rrc_cause_spelled, tai_list_again, tai_list_spelled, ue_paging_id_again, ue_paging_id_spelled, ue_s1ap_ids_again, ue_s1ap_ids_spelled}
+use Rattle.s1ap_elements.specs.PhoneLaws.{cn_domain_again, cn_domain_spelled, rrc_cause_again, rrc_cause_spelled, tai_list_again, tai_list_spelled, ue_paging_id_again, ue_paging_id_spelled, ue_s1ap_ids_again, ue_s1ap_ids_spelled}
+use Rattle.s1ap_elements.specs.ResetLaws.{associations_reset_again, associations_reset_spelled, reset_type_again, reset_type_spelled}
 use Rattle.s1ap_elements.specs.BearerLaws.{erabs_setup_again, erabs_setup_spelled, erabs_to_be_setup_again, erabs_to_be_setup_spelled, erabs_to_be_switched_again, erabs_to_be_switched_spelled}
 use Rattle.s1ap_rows.specs.declared.fault.S1apFault.{S1apFault}
 use Rattle.s1ap_pdus.specs.declared.message_type.MessageType.{MessageType}
@@ -56,7 +58,8 @@ initial_ue_message_again m = rw (rrc_cause_again m.rrc_cause, option_back typed_
 nas_non_delivery_again : (m : NasNonDeliveryIndication (List ℕ)) → named_nas_non_delivery (typed_nas_non_delivery m) ≡ m
 nas_non_delivery_again m = rw (cause_again m.cause) refl
 
-context_setup_request_again : (m : InitialContextSetupRequest (List ℕ)) → named_context_setup_request (typed_context_setup_request m) ≡ m
+context_setup_request_again : (m : InitialContextSetupRequest (List ℕ))
+    → named_context_setup_request (typed_context_setup_request m) ≡ m
 context_setup_request_again m = rw (erabs_to_be_setup_again m.erabs) refl
 
 context_setup_response_again : (m : InitialContextSetupResponse) → named_context_setup_response (typed_context_setup_response m) ≡ m
@@ -84,7 +87,8 @@ reset_again : (m : Reset) → named_reset (typed_reset m) ≡ m
 reset_again m = rw (cause_again m.cause, reset_type_again m.reset_type) refl
 
 reset_acknowledge_again : (m : ResetAcknowledge) → named_reset_acknowledge (typed_reset_acknowledge m) ≡ m
-reset_acknowledge_again m = rw (option_back typed_associations_reset named_associations_reset associations_reset_again m.associations) refl
+reset_acknowledge_again m =
+    rw (option_back typed_associations_reset named_associations_reset associations_reset_again m.associations) refl
 
 error_indication_again : (m : ErrorIndication) → named_error_indication (typed_error_indication m) ≡ m
 error_indication_again m = rw (option_back typed_cause named_cause cause_again m.cause) refl
@@ -119,7 +123,8 @@ option_cause_spelled None s = refl
 option_cause_spelled (Some v) s = ap (λ x. Some x) (cause_spelled v s)
 
 setup_request_spelled : (v : Kept setup_request) → AreSpelled setup_request v → typed_setup_request (named_setup_request v) ≡ v
-setup_request_spelled v s = rw (global_enb_id_spelled v.0, supported_tas_spelled v.1.1.0, paging_drx_spelled v.1.1.1.0 s.1.1.1.0) refl
+setup_request_spelled v s =
+    rw (global_enb_id_spelled v.0, supported_tas_spelled v.1.1.0, paging_drx_spelled v.1.1.1.0 s.1.1.1.0) refl
 
 setup_response_spelled : (v : Kept setup_response) → typed_setup_response (named_setup_response v) ≡ v
 setup_response_spelled v = rw (served_gummeis_spelled v.0) refl
@@ -127,25 +132,32 @@ setup_response_spelled v = rw (served_gummeis_spelled v.0) refl
 setup_failure_spelled : (v : Kept setup_failure) → AreSpelled setup_failure v → typed_setup_failure (named_setup_failure v) ≡ v
 setup_failure_spelled v s = rw (cause_spelled v.0 s.0) refl
 
-initial_ue_message_spelled : (v : Kept initial_ue_message) → AreSpelled initial_ue_message v → typed_initial_ue_message (named_initial_ue_message v) ≡ v
-initial_ue_message_spelled v s = rw (rrc_cause_spelled v.1.1.1.1.0 s.1.1.1.1.0, option_back named_s_tmsi typed_s_tmsi (λ x. refl) v.1.1.1.1.1.0) refl
+initial_ue_message_spelled : (v : Kept initial_ue_message) → AreSpelled initial_ue_message v
+    → typed_initial_ue_message (named_initial_ue_message v) ≡ v
+initial_ue_message_spelled v s =
+    rw (rrc_cause_spelled v.1.1.1.1.0 s.1.1.1.1.0, option_back named_s_tmsi typed_s_tmsi (λ x. refl) v.1.1.1.1.1.0) refl
 
-nas_non_delivery_spelled : (v : Kept nas_non_delivery) → AreSpelled nas_non_delivery v → typed_nas_non_delivery (named_nas_non_delivery v) ≡ v
+nas_non_delivery_spelled : (v : Kept nas_non_delivery) → AreSpelled nas_non_delivery v
+    → typed_nas_non_delivery (named_nas_non_delivery v) ≡ v
 nas_non_delivery_spelled v s = rw (cause_spelled v.1.1.1.0 s.1.1.1.0) refl
 
 context_setup_request_spelled : (v : Kept context_setup_request) → typed_context_setup_request (named_context_setup_request v) ≡ v
 context_setup_request_spelled v = rw (erabs_to_be_setup_spelled v.1.1.1.0) refl
 
-context_setup_response_spelled : (v : Kept context_setup_response) → typed_context_setup_response (named_context_setup_response v) ≡ v
+context_setup_response_spelled : (v : Kept context_setup_response)
+    → typed_context_setup_response (named_context_setup_response v) ≡ v
 context_setup_response_spelled v = rw (erabs_setup_spelled v.1.1.0) refl
 
-context_setup_failure_spelled : (v : Kept context_setup_failure) → AreSpelled context_setup_failure v → typed_context_setup_failure (named_context_setup_failure v) ≡ v
+context_setup_failure_spelled : (v : Kept context_setup_failure) → AreSpelled context_setup_failure v
+    → typed_context_setup_failure (named_context_setup_failure v) ≡ v
 context_setup_failure_spelled v s = rw (cause_spelled v.1.1.0 s.1.1.0) refl
 
-release_request_spelled : (v : Kept release_request) → AreSpelled release_request v → typed_release_request (named_release_request v) ≡ v
+release_request_spelled : (v : Kept release_request) → AreSpelled release_request v
+    → typed_release_request (named_release_request v) ≡ v
 release_request_spelled v s = rw (cause_spelled v.1.1.0 s.1.1.0) refl
 
-release_command_spelled : (v : Kept release_command) → AreSpelled release_command v → typed_release_command (named_release_command v) ≡ v
+release_command_spelled : (v : Kept release_command) → AreSpelled release_command v
+    → typed_release_command (named_release_command v) ≡ v
 release_command_spelled v s = rw (ue_s1ap_ids_spelled v.0, cause_spelled v.1.0 s.1.0) refl
 
 paging_spelled : (v : Kept paging) → AreSpelled paging v → typed_paging (named_paging v) ≡ v
@@ -154,7 +166,8 @@ paging_spelled v s = rw (ue_paging_id_spelled v.1.0, cn_domain_spelled v.1.1.0 s
 path_switch_request_spelled : (v : Kept path_switch_request) → typed_path_switch_request (named_path_switch_request v) ≡ v
 path_switch_request_spelled v = rw (erabs_to_be_switched_spelled v.1.0) refl
 
-path_switch_failure_spelled : (v : Kept path_switch_failure) → AreSpelled path_switch_failure v → typed_path_switch_failure (named_path_switch_failure v) ≡ v
+path_switch_failure_spelled : (v : Kept path_switch_failure) → AreSpelled path_switch_failure v
+    → typed_path_switch_failure (named_path_switch_failure v) ≡ v
 path_switch_failure_spelled v s = rw (cause_spelled v.1.1.0 s.1.1.0) refl
 
 reset_spelled : (v : Kept reset) → AreSpelled reset v → typed_reset (named_reset v) ≡ v
@@ -163,31 +176,46 @@ reset_spelled v s = rw (cause_spelled v.0 s.0, reset_type_spelled v.1.0 s.1.0) r
 reset_acknowledge_spelled : (v : Kept reset_acknowledge) → typed_reset_acknowledge (named_reset_acknowledge v) ≡ v
 reset_acknowledge_spelled v = rw (option_back named_associations_reset typed_associations_reset associations_reset_spelled v.0) refl
 
-error_indication_spelled : (v : Kept error_indication) → AreSpelled error_indication v → typed_error_indication (named_error_indication v) ≡ v
+error_indication_spelled : (v : Kept error_indication) → AreSpelled error_indication v
+    → typed_error_indication (named_error_indication v) ≡ v
 error_indication_spelled v s = rw (option_cause_spelled v.1.1.0 s.1.1.0) refl
 
 typed_of_named : (t : MessageType) (v : Kept (rows_of t)) → AreSpelled (rows_of t) v → typed (named t v) ≡ typed_of t v
-typed_of_named message.S1SetupRequest v s = ap (λ (x : Kept setup_request). typed_of message.S1SetupRequest x) (setup_request_spelled v s)
-typed_of_named message.S1SetupResponse v s = ap (λ (x : Kept setup_response). typed_of message.S1SetupResponse x) (setup_response_spelled v)
-typed_of_named message.S1SetupFailure v s = ap (λ (x : Kept setup_failure). typed_of message.S1SetupFailure x) (setup_failure_spelled v s)
-typed_of_named message.InitialUeMessage v s = ap (λ (x : Kept initial_ue_message). typed_of message.InitialUeMessage x) (initial_ue_message_spelled v s)
+typed_of_named message.S1SetupRequest v s =
+    ap (λ (x : Kept setup_request). typed_of message.S1SetupRequest x) (setup_request_spelled v s)
+typed_of_named message.S1SetupResponse v s =
+    ap (λ (x : Kept setup_response). typed_of message.S1SetupResponse x) (setup_response_spelled v)
+typed_of_named message.S1SetupFailure v s =
+    ap (λ (x : Kept setup_failure). typed_of message.S1SetupFailure x) (setup_failure_spelled v s)
+typed_of_named message.InitialUeMessage v s =
+    ap (λ (x : Kept initial_ue_message). typed_of message.InitialUeMessage x) (initial_ue_message_spelled v s)
 typed_of_named message.DownlinkNasTransport v s = refl
 typed_of_named message.UplinkNasTransport v s = refl
-typed_of_named message.NasNonDeliveryIndication v s = ap (λ (x : Kept nas_non_delivery). typed_of message.NasNonDeliveryIndication x) (nas_non_delivery_spelled v s)
+typed_of_named message.NasNonDeliveryIndication v s =
+    ap (λ (x : Kept nas_non_delivery). typed_of message.NasNonDeliveryIndication x) (nas_non_delivery_spelled v s)
 typed_of_named message.UeCapabilityInfoIndication v s = refl
-typed_of_named message.InitialContextSetupRequest v s = ap (λ (x : Kept context_setup_request). typed_of message.InitialContextSetupRequest x) (context_setup_request_spelled v)
-typed_of_named message.InitialContextSetupResponse v s = ap (λ (x : Kept context_setup_response). typed_of message.InitialContextSetupResponse x) (context_setup_response_spelled v)
-typed_of_named message.InitialContextSetupFailure v s = ap (λ (x : Kept context_setup_failure). typed_of message.InitialContextSetupFailure x) (context_setup_failure_spelled v s)
-typed_of_named message.UeContextReleaseRequest v s = ap (λ (x : Kept release_request). typed_of message.UeContextReleaseRequest x) (release_request_spelled v s)
-typed_of_named message.UeContextReleaseCommand v s = ap (λ (x : Kept release_command). typed_of message.UeContextReleaseCommand x) (release_command_spelled v s)
+typed_of_named message.InitialContextSetupRequest v s =
+    ap (λ (x : Kept context_setup_request). typed_of message.InitialContextSetupRequest x) (context_setup_request_spelled v)
+typed_of_named message.InitialContextSetupResponse v s =
+    ap (λ (x : Kept context_setup_response). typed_of message.InitialContextSetupResponse x) (context_setup_response_spelled v)
+typed_of_named message.InitialContextSetupFailure v s =
+    ap (λ (x : Kept context_setup_failure). typed_of message.InitialContextSetupFailure x) (context_setup_failure_spelled v s)
+typed_of_named message.UeContextReleaseRequest v s =
+    ap (λ (x : Kept release_request). typed_of message.UeContextReleaseRequest x) (release_request_spelled v s)
+typed_of_named message.UeContextReleaseCommand v s =
+    ap (λ (x : Kept release_command). typed_of message.UeContextReleaseCommand x) (release_command_spelled v s)
 typed_of_named message.UeContextReleaseComplete v s = refl
 typed_of_named message.Paging v s = ap (λ (x : Kept paging). typed_of message.Paging x) (paging_spelled v s)
-typed_of_named message.PathSwitchRequest v s = ap (λ (x : Kept path_switch_request). typed_of message.PathSwitchRequest x) (path_switch_request_spelled v)
+typed_of_named message.PathSwitchRequest v s =
+    ap (λ (x : Kept path_switch_request). typed_of message.PathSwitchRequest x) (path_switch_request_spelled v)
 typed_of_named message.PathSwitchRequestAcknowledge v s = refl
-typed_of_named message.PathSwitchRequestFailure v s = ap (λ (x : Kept path_switch_failure). typed_of message.PathSwitchRequestFailure x) (path_switch_failure_spelled v s)
+typed_of_named message.PathSwitchRequestFailure v s =
+    ap (λ (x : Kept path_switch_failure). typed_of message.PathSwitchRequestFailure x) (path_switch_failure_spelled v s)
 typed_of_named message.Reset v s = ap (λ (x : Kept reset). typed_of message.Reset x) (reset_spelled v s)
-typed_of_named message.ResetAcknowledge v s = ap (λ (x : Kept reset_acknowledge). typed_of message.ResetAcknowledge x) (reset_acknowledge_spelled v)
-typed_of_named message.ErrorIndication v s = ap (λ (x : Kept error_indication). typed_of message.ErrorIndication x) (error_indication_spelled v s)
+typed_of_named message.ResetAcknowledge v s =
+    ap (λ (x : Kept reset_acknowledge). typed_of message.ResetAcknowledge x) (reset_acknowledge_spelled v)
+typed_of_named message.ErrorIndication v s =
+    ap (λ (x : Kept error_indication). typed_of message.ErrorIndication x) (error_indication_spelled v s)
 
 -- ---- decoding
 

@@ -28,10 +28,17 @@ option_spelled f (Some v) es m = whole_spelled f v (octets_of m.0) m.2
 needed_spelled : (f : Format) (o : Option (Value f)) (v : Value f) (es : List Raw) → o ≡ Some v → OfRow f o es → Spelled f v
 needed_spelled f o v es e m = option_spelled f (Some v) es (subst (λ (x : Option (Value f)). OfRow f x es) e m)
 
-rows_spelled : (rs : Rows) (slots : Slots rs) (v : Kept rs) (es : List Raw) → AreElements rs slots es → IsKept rs slots v → AreSpelled rs v
+rows_spelled : (rs : Rows) (slots : Slots rs) (v : Kept rs) (es : List Raw) → AreElements rs slots es → IsKept rs slots v
+    → AreSpelled rs v
 rows_spelled end slots v es a k = tt
-rows_spelled (ie id c needed f rs) slots v es a k = (needed_spelled f slots.0 v.0 (filter (has_id id) es) k.0 a.0, rows_spelled rs slots.1 v.1 (filter (λ e. not (has_id id e)) es) a.1 k.1)
-rows_spelled (ie id c optional f rs) slots v es a k = (subst (λ (x : Option (Value f)). SpelledOption f x) k.0 (option_spelled f slots.0 (filter (has_id id) es) a.0), rows_spelled rs slots.1 v.1 (filter (λ e. not (has_id id e)) es) a.1 k.1)
+rows_spelled (ie id c needed f rs) slots v es a k = (
+  needed_spelled f slots.0 v.0 (filter (has_id id) es) k.0 a.0,
+  rows_spelled rs slots.1 v.1 (filter (λ e. not (has_id id e)) es) a.1 k.1,
+)
+rows_spelled (ie id c optional f rs) slots v es a k = (
+  subst (λ (x : Option (Value f)). SpelledOption f x) k.0 (option_spelled f slots.0 (filter (has_id id) es) a.0),
+  rows_spelled rs slots.1 v.1 (filter (λ e. not (has_id id e)) es) a.1 k.1,
+)
 rows_spelled (ie id c unkept f rs) slots v es a k = rows_spelled rs slots.1 v (filter (λ e. not (has_id id e)) es) a.1 k
 
 pub typed_spelled : (m : Typed) (os : List ℕ) → SpellsTyped m os → AreSpelled (rows_of m.0) m.1

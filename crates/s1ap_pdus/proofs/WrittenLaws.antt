@@ -62,5 +62,11 @@ own_type ErrorIndication = refl
 pub typed_written : (m : Typed) (os : List ℕ) → encode_typed m ≡ Ok os → SpellsTyped m os
 unfolding encode_typed
 typed_written m os h =
-    let i = bind_ok (write_whole (write_message (rows_of m.0)) m.1) (λ inner. write_whole (write_frame (kind_of m.0) (code_of m.0) (criticality_number (criticality_of m.0))) inner) os h in
-    ((kind_of m.0, (code_of m.0, (criticality_number (criticality_of m.0), (i.0, tt)))), frame_written _ os i.2, own_type m.0, message_written (rows_of m.0) m.1 i.0 (distinct m.0) i.1)
+    let i =
+    bind_ok (write_whole (write_message (rows_of m.0)) m.1)
+    (λ inner. write_whole (write_frame (kind_of m.0) (code_of m.0) (criticality_number (criticality_of m.0))) inner) os h in (
+      (kind_of m.0, (code_of m.0, (criticality_number (criticality_of m.0), (i.0, tt)))),
+      frame_written _ os i.2,
+      own_type m.0,
+      message_written (rows_of m.0) m.1 i.0 (distinct m.0) i.1,
+    )

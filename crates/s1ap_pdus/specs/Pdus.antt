@@ -4,7 +4,8 @@ use Rattle.std.specs.Borrow.{Bor}
 use Rattle.per_streams.specs.declared.fault.PerFault.{PerFault}
 use Rattle.s1ap_elements.specs.Causes.{typed_cause, named_cause}
 use Rattle.s1ap_elements.specs.Stations.{typed_global_enb_id, named_global_enb_id, typed_supported_tas, named_supported_tas, typed_paging_drx, named_paging_drx, typed_served_gummeis, named_served_gummeis}
-use Rattle.s1ap_elements.specs.Phones.{typed_tai, named_tai, typed_eutran_cgi, named_eutran_cgi, typed_rrc_cause, named_rrc_cause, typed_s_tmsi, named_s_tmsi, typed_security_capabilities, named_security_capabilities, typed_ue_s1ap_ids, named_ue_s1ap_ids, typed_ue_paging_id, named_ue_paging_id, ue_paging_id_lists, typed_cn_domain, named_cn_domain, typed_tai_list, named_tai_list, typed_security_context, named_security_context, typed_reset_type, named_reset_type, typed_associations_reset, named_associations_reset}
+use Rattle.s1ap_elements.specs.Phones.{typed_tai, named_tai, typed_eutran_cgi, named_eutran_cgi, typed_rrc_cause, named_rrc_cause, typed_s_tmsi, named_s_tmsi, typed_security_capabilities, named_security_capabilities, typed_ue_s1ap_ids, named_ue_s1ap_ids, typed_ue_paging_id, named_ue_paging_id, ue_paging_id_lists, typed_cn_domain, named_cn_domain, typed_tai_list, named_tai_list, typed_security_context, named_security_context}
+use Rattle.s1ap_elements.specs.Resets.{typed_reset_type, named_reset_type, typed_associations_reset, named_associations_reset}
 use Rattle.s1ap_elements.specs.Bearers.{typed_ambr, named_ambr, typed_erabs_to_be_setup, named_erabs_to_be_setup, erabs_to_be_setup_lists, typed_erabs_setup, named_erabs_setup, typed_erabs_to_be_switched, named_erabs_to_be_switched}
 use Rattle.s1ap_rows.specs.declared.fault.S1apFault.{S1apFault}
 use Rattle.s1ap_pdus.specs.declared.message_type.MessageType.{MessageType}
@@ -44,7 +45,8 @@ abbrev pub listed : Option (Bor (List ℕ)) → Option (List ℕ)
 listed o = option_map (λ s. s.now) o
 
 abbrev pub setup_request_lists : S1SetupRequest (Bor (List ℕ)) → S1SetupRequest (List ℕ)
-setup_request_lists m = record { station = m.station; name = listed m.name; supported_tas = m.supported_tas; paging_drx = m.paging_drx }
+setup_request_lists m =
+    record { station = m.station; name = listed m.name; supported_tas = m.supported_tas; paging_drx = m.paging_drx }
 
 abbrev pub initial_ue_message_lists : InitialUeMessage (Bor (List ℕ)) → InitialUeMessage (List ℕ)
 initial_ue_message_lists m = record {
@@ -60,7 +62,8 @@ abbrev pub downlink_nas_transport_lists : DownlinkNasTransport (Bor (List ℕ)) 
 downlink_nas_transport_lists m = record { mme_ue_id = m.mme_ue_id; enb_ue_id = m.enb_ue_id; nas = m.nas.now }
 
 abbrev pub uplink_nas_transport_lists : UplinkNasTransport (Bor (List ℕ)) → UplinkNasTransport (List ℕ)
-uplink_nas_transport_lists m = record { mme_ue_id = m.mme_ue_id; enb_ue_id = m.enb_ue_id; nas = m.nas.now; cell = m.cell; tai = m.tai }
+uplink_nas_transport_lists m =
+    record { mme_ue_id = m.mme_ue_id; enb_ue_id = m.enb_ue_id; nas = m.nas.now; cell = m.cell; tai = m.tai }
 
 abbrev pub nas_non_delivery_lists : NasNonDeliveryIndication (Bor (List ℕ)) → NasNonDeliveryIndication (List ℕ)
 nas_non_delivery_lists m = record { mme_ue_id = m.mme_ue_id; enb_ue_id = m.enb_ue_id; nas = m.nas.now; cause = m.cause }
@@ -79,7 +82,8 @@ context_setup_request_lists m = record {
 }
 
 abbrev pub paging_lists : Paging (Bor (List ℕ)) → Paging (List ℕ)
-paging_lists m = record { ue_index = m.ue_index; paging_id = ue_paging_id_lists m.paging_id; domain = m.domain; tai_list = m.tai_list }
+paging_lists m =
+    record { ue_index = m.ue_index; paging_id = ue_paging_id_lists m.paging_id; domain = m.domain; tai_list = m.tai_list }
 
 abbrev pub lists : Pdu (Bor (List ℕ)) → Pdu (List ℕ)
 lists (pdu.S1SetupRequest m) = pdu.S1SetupRequest (setup_request_lists m)
@@ -132,8 +136,10 @@ abbrev pub named_setup_failure : Kept setup_failure → S1SetupFailure
 named_setup_failure (cause, _) = record { cause = named_cause cause }
 
 abbrev pub typed_initial_ue_message : InitialUeMessage (List ℕ) → Kept initial_ue_message
-typed_initial_ue_message m =
-    (m.enb_ue_id, (m.nas, (typed_tai m.tai, (typed_eutran_cgi m.cell, (typed_rrc_cause m.rrc_cause, (option_map typed_s_tmsi m.s_tmsi, tt))))))
+typed_initial_ue_message m = (
+  m.enb_ue_id,
+  (m.nas, (typed_tai m.tai, (typed_eutran_cgi m.cell, (typed_rrc_cause m.rrc_cause, (option_map typed_s_tmsi m.s_tmsi, tt))))),
+)
 
 abbrev pub named_initial_ue_message : Kept initial_ue_message → InitialUeMessage (List ℕ)
 named_initial_ue_message (enb_ue_id, (nas, (tai, (cell, (rrc_cause, (s_tmsi, _)))))) = record {
@@ -173,8 +179,13 @@ named_capability_info (mme_ue_id, (enb_ue_id, (radio_capability, _))) =
     record { mme_ue_id = mme_ue_id; enb_ue_id = enb_ue_id; radio_capability = radio_capability }
 
 abbrev pub typed_context_setup_request : InitialContextSetupRequest (List ℕ) → Kept context_setup_request
-typed_context_setup_request m =
-    (m.mme_ue_id, (m.enb_ue_id, (typed_ambr m.ambr, (typed_erabs_to_be_setup m.erabs, (typed_security_capabilities m.capabilities, (m.key, tt))))))
+typed_context_setup_request m = (
+  m.mme_ue_id,
+  (
+    m.enb_ue_id,
+    (typed_ambr m.ambr, (typed_erabs_to_be_setup m.erabs, (typed_security_capabilities m.capabilities, (m.key, tt)))),
+  ),
+)
 
 abbrev pub named_context_setup_request : Kept context_setup_request → InitialContextSetupRequest (List ℕ)
 named_context_setup_request (mme_ue_id, (enb_ue_id, (ambr, (erabs, (capabilities, (key, _)))))) = record {
@@ -232,8 +243,10 @@ named_paging (ue_index, (paging_id, (domain, (tai_list, _)))) = record {
 
 abbrev pub typed_path_switch_request : PathSwitchRequest → Kept path_switch_request
 typed_path_switch_request m =
-    let capabilities = typed_security_capabilities m.capabilities in
-    (m.enb_ue_id, (typed_erabs_to_be_switched m.erabs, (m.source_mme_ue_id, (typed_eutran_cgi m.cell, (typed_tai m.tai, (capabilities, tt))))))
+    let capabilities = typed_security_capabilities m.capabilities in (
+      m.enb_ue_id,
+      (typed_erabs_to_be_switched m.erabs, (m.source_mme_ue_id, (typed_eutran_cgi m.cell, (typed_tai m.tai, (capabilities, tt))))),
+    )
 
 abbrev pub named_path_switch_request : Kept path_switch_request → PathSwitchRequest
 named_path_switch_request (enb_ue_id, (erabs, (source_mme_ue_id, (cell, (tai, (capabilities, _)))))) = record {

@@ -1,6 +1,7 @@
 -- The rows of each message, and its kind, code and criticality (TS 36.413 clauses 9.1 and 9.3.3).
 use Rattle.std.specs.Prelude.{ℕ, ◌==◌, if◌then◌else◌, Option, Some, None}
 use Rattle.per_bits.specs.Formats.{octet_string}
+use Rattle.s1ap_elements.specs.Ids as id
 use Rattle.s1ap_elements.specs.Formats.{ambr, associations_reset, cause, cn_domain, enb_ue_id, erabs_setup, erabs_to_be_setup, erabs_to_be_switched, eutran_cgi, global_enb_id, mme_ue_id, paging_drx, relative_capacity, reset_type, rrc_cause, s_tmsi, security_capabilities, security_context, security_key, served_gummeis, supported_tas, tai, tai_list, text, ue_index, ue_paging_id, ue_s1ap_ids}
 use Rattle.s1ap_rows.specs.Rows.{Rows, ie, end, needed, optional, unkept}
 use Rattle.s1ap_rows.specs.declared.criticality.Criticality.{Criticality}
@@ -12,113 +13,128 @@ use Rattle.s1ap_pdus.specs.declared.message_type.MessageType.TheVariants.{S1Setu
 
 abbrev pub setup_request : Rows
 setup_request =
-    ie 59 Reject needed global_enb_id
-    (ie 60 Ignore optional text
-    (ie 64 Reject needed supported_tas
-    (ie 137 Ignore needed paging_drx end)))
+    ie id.global_enb_id Reject needed global_enb_id
+    (ie id.enb_name Ignore optional text
+    (ie id.supported_tas Reject needed supported_tas
+    (ie id.default_paging_drx Ignore needed paging_drx end)))
 
 abbrev pub setup_response : Rows
 setup_response =
-    ie 61 Ignore unkept text
-    (ie 105 Reject needed served_gummeis
-    (ie 87 Ignore needed relative_capacity end))
+    ie id.mme_name Ignore unkept text
+    (ie id.served_gummeis Reject needed served_gummeis
+    (ie id.relative_mme_capacity Ignore needed relative_capacity end))
 
 abbrev pub setup_failure : Rows
-setup_failure = ie 2 Ignore needed cause end
+setup_failure = ie id.cause Ignore needed cause end
 
 abbrev pub initial_ue_message : Rows
 initial_ue_message =
-    ie 8 Reject needed enb_ue_id
-    (ie 26 Reject needed octet_string
-    (ie 67 Reject needed tai
-    (ie 100 Ignore needed eutran_cgi
-    (ie 134 Ignore needed rrc_cause
-    (ie 96 Reject optional s_tmsi end)))))
+    ie id.enb_ue_s1ap_id Reject needed enb_ue_id
+    (ie id.nas_pdu Reject needed octet_string
+    (ie id.tai Reject needed tai
+    (ie id.eutran_cgi Ignore needed eutran_cgi
+    (ie id.rrc_establishment_cause Ignore needed rrc_cause
+    (ie id.s_tmsi Reject optional s_tmsi end)))))
 
 abbrev pub downlink_nas_transport : Rows
 downlink_nas_transport =
-    ie 0 Reject needed mme_ue_id
-    (ie 8 Reject needed enb_ue_id
-    (ie 26 Reject needed octet_string end))
+    ie id.mme_ue_s1ap_id Reject needed mme_ue_id
+    (ie id.enb_ue_s1ap_id Reject needed enb_ue_id
+    (ie id.nas_pdu Reject needed octet_string end))
 
 abbrev pub uplink_nas_transport : Rows
 uplink_nas_transport =
-    ie 0 Reject needed mme_ue_id
-    (ie 8 Reject needed enb_ue_id
-    (ie 26 Reject needed octet_string
-    (ie 100 Ignore needed eutran_cgi
-    (ie 67 Ignore needed tai end))))
+    ie id.mme_ue_s1ap_id Reject needed mme_ue_id
+    (ie id.enb_ue_s1ap_id Reject needed enb_ue_id
+    (ie id.nas_pdu Reject needed octet_string
+    (ie id.eutran_cgi Ignore needed eutran_cgi
+    (ie id.tai Ignore needed tai end))))
 
 abbrev pub nas_non_delivery : Rows
 nas_non_delivery =
-    ie 0 Reject needed mme_ue_id
-    (ie 8 Reject needed enb_ue_id
-    (ie 26 Ignore needed octet_string
-    (ie 2 Ignore needed cause end)))
+    ie id.mme_ue_s1ap_id Reject needed mme_ue_id
+    (ie id.enb_ue_s1ap_id Reject needed enb_ue_id
+    (ie id.nas_pdu Ignore needed octet_string
+    (ie id.cause Ignore needed cause end)))
 
 abbrev pub capability_info : Rows
-capability_info = ie 0 Reject needed mme_ue_id (ie 8 Reject needed enb_ue_id (ie 74 Ignore needed octet_string end))
+capability_info =
+    ie id.mme_ue_s1ap_id Reject needed mme_ue_id
+    (ie id.enb_ue_s1ap_id Reject needed enb_ue_id
+    (ie id.ue_radio_capability Ignore needed octet_string end))
 
 abbrev pub context_setup_request : Rows
 context_setup_request =
-    ie 0 Reject needed mme_ue_id
-    (ie 8 Reject needed enb_ue_id
-    (ie 66 Reject needed ambr
-    (ie 24 Reject needed erabs_to_be_setup
-    (ie 107 Reject needed security_capabilities
-    (ie 73 Reject needed security_key end)))))
+    ie id.mme_ue_s1ap_id Reject needed mme_ue_id
+    (ie id.enb_ue_s1ap_id Reject needed enb_ue_id
+    (ie id.ue_aggregate_maximum_bitrate Reject needed ambr
+    (ie id.erab_to_be_setup_list_ctxt_su_req Reject needed erabs_to_be_setup
+    (ie id.ue_security_capabilities Reject needed security_capabilities
+    (ie id.security_key Reject needed security_key end)))))
 
 abbrev pub context_setup_response : Rows
 context_setup_response =
-    ie 0 Ignore needed mme_ue_id
-    (ie 8 Ignore needed enb_ue_id
-    (ie 51 Ignore needed erabs_setup end))
+    ie id.mme_ue_s1ap_id Ignore needed mme_ue_id
+    (ie id.enb_ue_s1ap_id Ignore needed enb_ue_id
+    (ie id.erab_setup_list_ctxt_su_res Ignore needed erabs_setup end))
 
 abbrev pub context_setup_failure : Rows
-context_setup_failure = ie 0 Ignore needed mme_ue_id (ie 8 Ignore needed enb_ue_id (ie 2 Ignore needed cause end))
+context_setup_failure =
+    ie id.mme_ue_s1ap_id Ignore needed mme_ue_id
+    (ie id.enb_ue_s1ap_id Ignore needed enb_ue_id
+    (ie id.cause Ignore needed cause end))
 
 abbrev pub release_request : Rows
-release_request = ie 0 Reject needed mme_ue_id (ie 8 Reject needed enb_ue_id (ie 2 Ignore needed cause end))
+release_request =
+    ie id.mme_ue_s1ap_id Reject needed mme_ue_id
+    (ie id.enb_ue_s1ap_id Reject needed enb_ue_id
+    (ie id.cause Ignore needed cause end))
 
 abbrev pub release_command : Rows
-release_command = ie 99 Reject needed ue_s1ap_ids (ie 2 Ignore needed cause end)
+release_command = ie id.ue_s1ap_ids Reject needed ue_s1ap_ids (ie id.cause Ignore needed cause end)
 
 abbrev pub release_complete : Rows
-release_complete = ie 0 Ignore needed mme_ue_id (ie 8 Ignore needed enb_ue_id end)
+release_complete = ie id.mme_ue_s1ap_id Ignore needed mme_ue_id (ie id.enb_ue_s1ap_id Ignore needed enb_ue_id end)
 
 abbrev pub paging : Rows
 paging =
-    ie 80 Ignore needed ue_index
-    (ie 43 Ignore needed ue_paging_id
-    (ie 109 Ignore needed cn_domain
-    (ie 46 Ignore needed tai_list end)))
+    ie id.ue_identity_index_value Ignore needed ue_index
+    (ie id.ue_paging_id Ignore needed ue_paging_id
+    (ie id.cn_domain Ignore needed cn_domain
+    (ie id.tai_list Ignore needed tai_list end)))
 
 abbrev pub path_switch_request : Rows
 path_switch_request =
-    ie 8 Reject needed enb_ue_id
-    (ie 22 Reject needed erabs_to_be_switched
-    (ie 88 Reject needed mme_ue_id
-    (ie 100 Ignore needed eutran_cgi
-    (ie 67 Ignore needed tai
-    (ie 107 Ignore needed security_capabilities end)))))
+    ie id.enb_ue_s1ap_id Reject needed enb_ue_id
+    (ie id.erab_to_be_switched_dl_list Reject needed erabs_to_be_switched
+    (ie id.source_mme_ue_s1ap_id Reject needed mme_ue_id
+    (ie id.eutran_cgi Ignore needed eutran_cgi
+    (ie id.tai Ignore needed tai
+    (ie id.ue_security_capabilities Ignore needed security_capabilities end)))))
 
 abbrev pub path_switch_acknowledge : Rows
 path_switch_acknowledge =
-    ie 0 Ignore needed mme_ue_id
-    (ie 8 Ignore needed enb_ue_id
-    (ie 40 Reject needed security_context end))
+    ie id.mme_ue_s1ap_id Ignore needed mme_ue_id
+    (ie id.enb_ue_s1ap_id Ignore needed enb_ue_id
+    (ie id.security_context Reject needed security_context end))
 
 abbrev pub path_switch_failure : Rows
-path_switch_failure = ie 0 Ignore needed mme_ue_id (ie 8 Ignore needed enb_ue_id (ie 2 Ignore needed cause end))
+path_switch_failure =
+    ie id.mme_ue_s1ap_id Ignore needed mme_ue_id
+    (ie id.enb_ue_s1ap_id Ignore needed enb_ue_id
+    (ie id.cause Ignore needed cause end))
 
 abbrev pub reset : Rows
-reset = ie 2 Ignore needed cause (ie 92 Reject needed reset_type end)
+reset = ie id.cause Ignore needed cause (ie id.reset_type Reject needed reset_type end)
 
 abbrev pub reset_acknowledge : Rows
-reset_acknowledge = ie 93 Ignore optional associations_reset end
+reset_acknowledge = ie id.ue_associated_logical_s1_connection_list_res_ack Ignore optional associations_reset end
 
 abbrev pub error_indication : Rows
-error_indication = ie 0 Ignore optional mme_ue_id (ie 8 Ignore optional enb_ue_id (ie 2 Ignore optional cause end))
+error_indication =
+    ie id.mme_ue_s1ap_id Ignore optional mme_ue_id
+    (ie id.enb_ue_s1ap_id Ignore optional enb_ue_id
+    (ie id.cause Ignore optional cause end))
 
 -- ---- messages by their types
 

@@ -22,7 +22,8 @@ typed_of t v = (t, v)
 -- octets that spell a message: its frame, of the kind and code of its type, and its rows
 abbrev pub SpellsTyped : Typed → List ℕ → Type 0
 SpellsTyped m os =
-    (fr : Frame) × Whole SpellsFrame fr os × (type_of (frame_kind fr) (frame_code fr) ≡ Some m.0) × IsMessage (rows_of m.0) m.1 (frame_octets fr)
+    (fr : Frame) × Whole SpellsFrame fr os × (type_of (frame_kind fr) (frame_code fr) ≡ Some m.0)
+    × IsMessage (rows_of m.0) m.1 (frame_octets fr)
 
 -- ---- reading
 

@@ -9,12 +9,16 @@ ghost use Rattle.s1ap_pdus.specs.declared.message_type.MessageType.TheVariants a
 use crate::message_type::MessageType;
 use crate::octets::octets_of;
 use crate::pdu::{Encoded, ErrorIndication, Reset, ResetAcknowledge};
-use s1ap_elements::{AssociationsReset, Cause, EnbUeId, MmeUeId, ResetType};
-use s1ap_rows::{IGNORE, Needed, OneRow, Optional, REJECT, ThreeRows, TwoRows};
+use s1ap_elements::ids::{
+    CAUSE, ENB_UE_S1AP_ID, MME_UE_S1AP_ID, RESET_TYPE,
+    UE_ASSOCIATED_LOGICAL_S1_CONNECTION_LIST_RES_ACK,
+};
+use s1ap_elements::{AssociationsReset, Cause, EnbUeId, IGNORE, MmeUeId, REJECT, ResetType};
+use s1ap_rows::{Needed, OneRow, Optional, ThreeRows, TwoRows};
 use std::alloc::Global;
 
 /// The rows of RESET (TS 36.413 clause 9.1.8.1).
-pub type ResetRows = TwoRows<Needed<2, IGNORE, Cause>, Needed<92, REJECT, ResetType>>;
+pub type ResetRows = TwoRows<Needed<CAUSE, IGNORE, Cause>, Needed<RESET_TYPE, REJECT, ResetType>>;
 
 /// The octets of RESET (TS 36.413 clause 9.1.8.1).
 pub fn write_reset(alloc: Global, m: &Reset) -> Encoded
@@ -24,7 +28,9 @@ pub fn write_reset(alloc: Global, m: &Reset) -> Encoded
 }
 
 /// The rows of RESET ACKNOWLEDGE (TS 36.413 clause 9.1.8.2).
-pub type ResetAcknowledgeRows = OneRow<Optional<93, IGNORE, AssociationsReset>>;
+pub type ResetAcknowledgeRows = OneRow<
+    Optional<UE_ASSOCIATED_LOGICAL_S1_CONNECTION_LIST_RES_ACK, IGNORE, AssociationsReset>,
+>;
 
 /// The octets of RESET ACKNOWLEDGE (TS 36.413 clause 9.1.8.2).
 pub fn write_reset_acknowledge(alloc: Global, m: &ResetAcknowledge) -> Encoded
@@ -39,9 +45,9 @@ pub fn write_reset_acknowledge(alloc: Global, m: &ResetAcknowledge) -> Encoded
 
 /// The rows of ERROR INDICATION (TS 36.413 clause 9.1.8.3).
 pub type ErrorIndicationRows = ThreeRows<
-    Optional<0, IGNORE, MmeUeId>,
-    Optional<8, IGNORE, EnbUeId>,
-    Optional<2, IGNORE, Cause>,
+    Optional<MME_UE_S1AP_ID, IGNORE, MmeUeId>,
+    Optional<ENB_UE_S1AP_ID, IGNORE, EnbUeId>,
+    Optional<CAUSE, IGNORE, Cause>,
 >;
 
 /// The octets of ERROR INDICATION (TS 36.413 clause 9.1.8.3).

@@ -11,19 +11,24 @@ use crate::octets::octets_of;
 use crate::pdu::{
     Encoded, Paging, PathSwitchRequest, PathSwitchRequestAcknowledge, PathSwitchRequestFailure,
 };
-use s1ap_elements::{
-    Cause, CnDomain, EnbUeId, ErabsToBeSwitched, EutranCgi, MmeUeId, SecurityCapabilities,
-    SecurityContext, Tai, TaiList, UeIndex, UePagingId,
+use s1ap_elements::ids::{
+    CAUSE, CN_DOMAIN, ENB_UE_S1AP_ID, ERAB_TO_BE_SWITCHED_DL_LIST, EUTRAN_CGI, MME_UE_S1AP_ID,
+    SECURITY_CONTEXT, SOURCE_MME_UE_S1AP_ID, TAI, TAI_LIST, UE_IDENTITY_INDEX_VALUE, UE_PAGING_ID,
+    UE_SECURITY_CAPABILITIES,
 };
-use s1ap_rows::{FourRows, IGNORE, Needed, REJECT, SixRows, ThreeRows};
+use s1ap_elements::{
+    Cause, CnDomain, EnbUeId, ErabsToBeSwitched, EutranCgi, IGNORE, MmeUeId, REJECT,
+    SecurityCapabilities, SecurityContext, Tai, TaiList, UeIndex, UePagingId,
+};
+use s1ap_rows::{FourRows, Needed, SixRows, ThreeRows};
 use std::alloc::Global;
 
 /// The rows of PAGING (TS 36.413 clause 9.1.6).
 pub type PagingRows<'a> = FourRows<
-    Needed<80, IGNORE, UeIndex>,
-    Needed<43, IGNORE, UePagingId<&'a [u8]>>,
-    Needed<109, IGNORE, CnDomain>,
-    Needed<46, IGNORE, TaiList>,
+    Needed<UE_IDENTITY_INDEX_VALUE, IGNORE, UeIndex>,
+    Needed<UE_PAGING_ID, IGNORE, UePagingId<&'a [u8]>>,
+    Needed<CN_DOMAIN, IGNORE, CnDomain>,
+    Needed<TAI_LIST, IGNORE, TaiList>,
 >;
 
 /// The octets of PAGING (TS 36.413 clause 9.1.6).
@@ -39,17 +44,18 @@ pub fn write_paging(alloc: Global, m: &Paging<&[u8]>) -> Encoded
 
 /// The rows of PATH SWITCH REQUEST (TS 36.413 clause 9.1.5.8).
 pub type PathSwitchRequestRows<'a> = SixRows<
-    Needed<8, REJECT, EnbUeId>,
-    Needed<22, REJECT, ErabsToBeSwitched<'a>>,
-    Needed<88, REJECT, MmeUeId>,
-    Needed<100, IGNORE, EutranCgi>,
-    Needed<67, IGNORE, Tai>,
-    Needed<107, IGNORE, SecurityCapabilities>,
+    Needed<ENB_UE_S1AP_ID, REJECT, EnbUeId>,
+    Needed<ERAB_TO_BE_SWITCHED_DL_LIST, REJECT, ErabsToBeSwitched<'a>>,
+    Needed<SOURCE_MME_UE_S1AP_ID, REJECT, MmeUeId>,
+    Needed<EUTRAN_CGI, IGNORE, EutranCgi>,
+    Needed<TAI, IGNORE, Tai>,
+    Needed<UE_SECURITY_CAPABILITIES, IGNORE, SecurityCapabilities>,
 >;
 
 /// The octets of PATH SWITCH REQUEST (TS 36.413 clause 9.1.5.8).
 pub fn write_path_switch_request(alloc: Global, m: &PathSwitchRequest) -> Encoded
-    ensures { GivesWhole (λ v. v.items) result (encode_typed (typed_of message.PathSwitchRequest (typed_path_switch_request m.now))) }
+    ensures { GivesWhole (λ v. v.items) result
+        (encode_typed (typed_of message.PathSwitchRequest (typed_path_switch_request m.now))) }
 {
     octets_of::<PathSwitchRequestRows>(
         alloc,
@@ -67,14 +73,15 @@ pub fn write_path_switch_request(alloc: Global, m: &PathSwitchRequest) -> Encode
 
 /// The rows of PATH SWITCH REQUEST ACKNOWLEDGE (TS 36.413 clause 9.1.5.9).
 pub type PathSwitchRequestAcknowledgeRows = ThreeRows<
-    Needed<0, IGNORE, MmeUeId>,
-    Needed<8, IGNORE, EnbUeId>,
-    Needed<40, REJECT, SecurityContext>,
+    Needed<MME_UE_S1AP_ID, IGNORE, MmeUeId>,
+    Needed<ENB_UE_S1AP_ID, IGNORE, EnbUeId>,
+    Needed<SECURITY_CONTEXT, REJECT, SecurityContext>,
 >;
 
 /// The octets of PATH SWITCH REQUEST ACKNOWLEDGE (TS 36.413 clause 9.1.5.9).
 pub fn write_path_switch_acknowledge(alloc: Global, m: &PathSwitchRequestAcknowledge) -> Encoded
-    ensures { GivesWhole (λ v. v.items) result (encode_typed (typed_of message.PathSwitchRequestAcknowledge (typed_path_switch_acknowledge m.now))) }
+    ensures { GivesWhole (λ v. v.items) result
+        (encode_typed (typed_of message.PathSwitchRequestAcknowledge (typed_path_switch_acknowledge m.now))) }
 {
     octets_of::<PathSwitchRequestAcknowledgeRows>(
         alloc,
@@ -85,14 +92,15 @@ pub fn write_path_switch_acknowledge(alloc: Global, m: &PathSwitchRequestAcknowl
 
 /// The rows of PATH SWITCH REQUEST FAILURE (TS 36.413 clause 9.1.5.10).
 pub type PathSwitchRequestFailureRows = ThreeRows<
-    Needed<0, IGNORE, MmeUeId>,
-    Needed<8, IGNORE, EnbUeId>,
-    Needed<2, IGNORE, Cause>,
+    Needed<MME_UE_S1AP_ID, IGNORE, MmeUeId>,
+    Needed<ENB_UE_S1AP_ID, IGNORE, EnbUeId>,
+    Needed<CAUSE, IGNORE, Cause>,
 >;
 
 /// The octets of PATH SWITCH REQUEST FAILURE (TS 36.413 clause 9.1.5.10).
 pub fn write_path_switch_failure(alloc: Global, m: &PathSwitchRequestFailure) -> Encoded
-    ensures { GivesWhole (λ v. v.items) result (encode_typed (typed_of message.PathSwitchRequestFailure (typed_path_switch_failure m.now))) }
+    ensures { GivesWhole (λ v. v.items) result
+        (encode_typed (typed_of message.PathSwitchRequestFailure (typed_path_switch_failure m.now))) }
 {
     octets_of::<PathSwitchRequestFailureRows>(
         alloc,

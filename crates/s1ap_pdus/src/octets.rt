@@ -20,7 +20,8 @@ pub fn octets_of<'a, W: Written<'a>>(
 ) -> Encoded
     requires { row_count W.rows ≤ 65535 }
     ensures { GivesWhole (λ v. v.items) result
-        (write_pdu (kind_of message_type) (code_of message_type) (criticality_number (criticality_of message_type)) W.rows (W.lent elements.now)) }
+        (write_pdu (kind_of message_type) (code_of message_type) (criticality_number (criticality_of message_type)) W.rows
+        (W.lent elements.now)) }
 {
     write_pdu::<W>(
         alloc,

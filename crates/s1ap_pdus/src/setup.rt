@@ -9,19 +9,23 @@ ghost use Rattle.s1ap_pdus.specs.declared.message_type.MessageType.TheVariants a
 use crate::message_type::MessageType;
 use crate::octets::octets_of;
 use crate::pdu::{Encoded, S1SetupFailure, S1SetupRequest, S1SetupResponse};
-use s1ap_elements::{
-    Cause, GlobalEnbId, Name, PagingDrx, RelativeCapacity, ServedGummeis, SupportedTas,
-    name_of_octets,
+use s1ap_elements::ids::{
+    CAUSE, DEFAULT_PAGING_DRX, ENB_NAME, GLOBAL_ENB_ID, MME_NAME, RELATIVE_MME_CAPACITY,
+    SERVED_GUMMEIS, SUPPORTED_TAS,
 };
-use s1ap_rows::{FourRows, IGNORE, Needed, OneRow, Optional, REJECT, ThreeRows, Unkept};
+use s1ap_elements::{
+    Cause, GlobalEnbId, IGNORE, Name, PagingDrx, REJECT, RelativeCapacity, ServedGummeis,
+    SupportedTas, name_of_octets,
+};
+use s1ap_rows::{FourRows, Needed, OneRow, Optional, ThreeRows, Unkept};
 use std::alloc::Global;
 
 /// The rows of S1 SETUP REQUEST (TS 36.413 clause 9.1.8.4).
 pub type S1SetupRequestRows<'a> = FourRows<
-    Needed<59, REJECT, GlobalEnbId>,
-    Optional<60, IGNORE, Name<'a>>,
-    Needed<64, REJECT, SupportedTas>,
-    Needed<137, IGNORE, PagingDrx>,
+    Needed<GLOBAL_ENB_ID, REJECT, GlobalEnbId>,
+    Optional<ENB_NAME, IGNORE, Name<'a>>,
+    Needed<SUPPORTED_TAS, REJECT, SupportedTas>,
+    Needed<DEFAULT_PAGING_DRX, IGNORE, PagingDrx>,
 >;
 
 /// The octets of S1 SETUP REQUEST (TS 36.413 clause 9.1.8.4).
@@ -43,9 +47,9 @@ pub fn write_setup_request(alloc: Global, m: &S1SetupRequest<&[u8]>) -> Encoded
 
 /// The rows of S1 SETUP RESPONSE (TS 36.413 clause 9.1.8.5).
 pub type S1SetupResponseRows<'a> = ThreeRows<
-    Unkept<61, IGNORE, Name<'a>>,
-    Needed<105, REJECT, ServedGummeis>,
-    Needed<87, IGNORE, RelativeCapacity>,
+    Unkept<MME_NAME, IGNORE, Name<'a>>,
+    Needed<SERVED_GUMMEIS, REJECT, ServedGummeis>,
+    Needed<RELATIVE_MME_CAPACITY, IGNORE, RelativeCapacity>,
 >;
 
 /// The octets of S1 SETUP RESPONSE (TS 36.413 clause 9.1.8.5).
@@ -60,7 +64,7 @@ pub fn write_setup_response(alloc: Global, m: &S1SetupResponse) -> Encoded
 }
 
 /// The rows of S1 SETUP FAILURE (TS 36.413 clause 9.1.8.6).
-pub type S1SetupFailureRows = OneRow<Needed<2, IGNORE, Cause>>;
+pub type S1SetupFailureRows = OneRow<Needed<CAUSE, IGNORE, Cause>>;
 
 /// The octets of S1 SETUP FAILURE (TS 36.413 clause 9.1.8.6).
 pub fn write_setup_failure(alloc: Global, m: &S1SetupFailure) -> Encoded

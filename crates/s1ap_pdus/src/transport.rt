@@ -13,18 +13,22 @@ use crate::pdu::{
     UeCapabilityInfoIndication, UplinkNasTransport,
 };
 use per_bits::OctetString;
-use s1ap_elements::{Cause, EnbUeId, EutranCgi, MmeUeId, RrcCause, STmsi, Tai};
-use s1ap_rows::{FiveRows, FourRows, IGNORE, Needed, Optional, REJECT, SixRows, ThreeRows};
+use s1ap_elements::ids::{
+    CAUSE, ENB_UE_S1AP_ID, EUTRAN_CGI, MME_UE_S1AP_ID, NAS_PDU, RRC_ESTABLISHMENT_CAUSE, S_TMSI,
+    TAI, UE_RADIO_CAPABILITY,
+};
+use s1ap_elements::{Cause, EnbUeId, EutranCgi, IGNORE, MmeUeId, REJECT, RrcCause, STmsi, Tai};
+use s1ap_rows::{FiveRows, FourRows, Needed, Optional, SixRows, ThreeRows};
 use std::alloc::Global;
 
 /// The rows of INITIAL UE MESSAGE (TS 36.413 clause 9.1.7.1).
 pub type InitialUeMessageRows<'a> = SixRows<
-    Needed<8, REJECT, EnbUeId>,
-    Needed<26, REJECT, OctetString<'a>>,
-    Needed<67, REJECT, Tai>,
-    Needed<100, IGNORE, EutranCgi>,
-    Needed<134, IGNORE, RrcCause>,
-    Optional<96, REJECT, STmsi>,
+    Needed<ENB_UE_S1AP_ID, REJECT, EnbUeId>,
+    Needed<NAS_PDU, REJECT, OctetString<'a>>,
+    Needed<TAI, REJECT, Tai>,
+    Needed<EUTRAN_CGI, IGNORE, EutranCgi>,
+    Needed<RRC_ESTABLISHMENT_CAUSE, IGNORE, RrcCause>,
+    Optional<S_TMSI, REJECT, STmsi>,
 >;
 
 /// The octets of INITIAL UE MESSAGE (TS 36.413 clause 9.1.7.1).
@@ -48,9 +52,9 @@ pub fn write_initial_ue_message(alloc: Global, m: &InitialUeMessage<&[u8]>) -> E
 
 /// The rows of DOWNLINK NAS TRANSPORT (TS 36.413 clause 9.1.7.2).
 pub type DownlinkNasTransportRows<'a> = ThreeRows<
-    Needed<0, REJECT, MmeUeId>,
-    Needed<8, REJECT, EnbUeId>,
-    Needed<26, REJECT, OctetString<'a>>,
+    Needed<MME_UE_S1AP_ID, REJECT, MmeUeId>,
+    Needed<ENB_UE_S1AP_ID, REJECT, EnbUeId>,
+    Needed<NAS_PDU, REJECT, OctetString<'a>>,
 >;
 
 /// The octets of DOWNLINK NAS TRANSPORT (TS 36.413 clause 9.1.7.2).
@@ -67,11 +71,11 @@ pub fn write_downlink_nas_transport(alloc: Global, m: &DownlinkNasTransport<&[u8
 
 /// The rows of UPLINK NAS TRANSPORT (TS 36.413 clause 9.1.7.3).
 pub type UplinkNasTransportRows<'a> = FiveRows<
-    Needed<0, REJECT, MmeUeId>,
-    Needed<8, REJECT, EnbUeId>,
-    Needed<26, REJECT, OctetString<'a>>,
-    Needed<100, IGNORE, EutranCgi>,
-    Needed<67, IGNORE, Tai>,
+    Needed<MME_UE_S1AP_ID, REJECT, MmeUeId>,
+    Needed<ENB_UE_S1AP_ID, REJECT, EnbUeId>,
+    Needed<NAS_PDU, REJECT, OctetString<'a>>,
+    Needed<EUTRAN_CGI, IGNORE, EutranCgi>,
+    Needed<TAI, IGNORE, Tai>,
 >;
 
 /// The octets of UPLINK NAS TRANSPORT (TS 36.413 clause 9.1.7.3).
@@ -94,10 +98,10 @@ pub fn write_uplink_nas_transport(alloc: Global, m: &UplinkNasTransport<&[u8]>) 
 
 /// The rows of NAS NON DELIVERY INDICATION (TS 36.413 clause 9.1.7.4).
 pub type NasNonDeliveryIndicationRows<'a> = FourRows<
-    Needed<0, REJECT, MmeUeId>,
-    Needed<8, REJECT, EnbUeId>,
-    Needed<26, IGNORE, OctetString<'a>>,
-    Needed<2, IGNORE, Cause>,
+    Needed<MME_UE_S1AP_ID, REJECT, MmeUeId>,
+    Needed<ENB_UE_S1AP_ID, REJECT, EnbUeId>,
+    Needed<NAS_PDU, IGNORE, OctetString<'a>>,
+    Needed<CAUSE, IGNORE, Cause>,
 >;
 
 /// The octets of NAS NON DELIVERY INDICATION (TS 36.413 clause 9.1.7.4).
@@ -119,9 +123,9 @@ pub fn write_nas_non_delivery(alloc: Global, m: &NasNonDeliveryIndication<&[u8]>
 
 /// The rows of UE CAPABILITY INFO INDICATION (TS 36.413 clause 9.1.10).
 pub type UeCapabilityInfoIndicationRows<'a> = ThreeRows<
-    Needed<0, REJECT, MmeUeId>,
-    Needed<8, REJECT, EnbUeId>,
-    Needed<74, IGNORE, OctetString<'a>>,
+    Needed<MME_UE_S1AP_ID, REJECT, MmeUeId>,
+    Needed<ENB_UE_S1AP_ID, REJECT, EnbUeId>,
+    Needed<UE_RADIO_CAPABILITY, IGNORE, OctetString<'a>>,
 >;
 
 /// The octets of UE CAPABILITY INFO INDICATION (TS 36.413 clause 9.1.10).

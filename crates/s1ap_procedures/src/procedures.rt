@@ -67,14 +67,16 @@ fn type_of(kind: u8, code: u8) -> Option<MessageType>
     }
 }
 
-/// The message of a frame by its kind (0 initiating, 1 successful, 2 unsuccessful) and its procedure's code (TS 36.413 clause 9.3.2).
+/// The message of a frame by its kind (0 initiating, 1 successful, 2 unsuccessful) and its procedure's code
+/// (TS 36.413 clause 9.3.2).
 /// UnknownProcedure, with the frame's criticality, where there is none.
 pub fn message_type_of(
     kind: u8,
     code: u8,
     criticality: Criticality,
 ) -> Result<MessageType, S1apFault>
-    ensures { MatchResult result (λ t. type_of kind code ≡ Some t) (λ fault. (type_of kind code ≡ None) × (fault ≡ UnknownProcedure criticality)) }
+    ensures { MatchResult result (λ t. type_of kind code ≡ Some t)
+        (λ fault. (type_of kind code ≡ None) × (fault ≡ UnknownProcedure criticality)) }
 {
     match type_of(kind, code) {
         Some(message_type) => Ok(message_type),

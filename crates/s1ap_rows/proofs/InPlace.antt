@@ -34,9 +34,11 @@ element_placed id c f v =
 
 rows_placed : (rs : Rows) (v : Kept rs) → Placed (write_rows rs v)
 rows_placed end v = placed_nothing
-rows_placed (ie id c needed f rs) v = placed_then (write_element id c f v.0) (write_rows rs v.1) (element_placed id c f v.0) (rows_placed rs v.1)
+rows_placed (ie id c needed f rs) v =
+    placed_then (write_element id c f v.0) (write_rows rs v.1) (element_placed id c f v.0) (rows_placed rs v.1)
 rows_placed (ie id c optional f rs) (None, v) = rows_placed rs v
-rows_placed (ie id c optional f rs) (Some x, v) = placed_then (write_element id c f x) (write_rows rs v) (element_placed id c f x) (rows_placed rs v)
+rows_placed (ie id c optional f rs) (Some x, v) =
+    placed_then (write_element id c f x) (write_rows rs v) (element_placed id c f x) (rows_placed rs v)
 rows_placed (ie id c unkept f rs) v = rows_placed rs v
 
 pub message_placed : (rs : Rows) (v : Kept rs) → Placed (write_message rs v)
@@ -53,7 +55,8 @@ head_placed kind code c =
 
 -- ---- the head first, and then the message
 
-chain : {B : Type 0} (r : Out) (k : List Bool → Out) (l : List Bool → Result B PerFault) → ((r >>= k) >>= l) ≡ (r >>= λ a. k a >>= l)
+chain : {B : Type 0} (r : Out) (k : List Bool → Out) (l : List Bool → Result B PerFault)
+    → ((r >>= k) >>= l) ≡ (r >>= λ a. k a >>= l)
 chain (Ok a) k l = refl
 chain (Err e) k l = refl
 
@@ -74,18 +77,22 @@ apart kind code c r = close r >>= λ os. write_whole (write_frame kind code c) o
 abbrev in_place : ℕ → ℕ → ℕ → Out → Whole
 in_place kind code c r = write_head kind code c [] >>= λ d. close (close r >>= λ os. write_string os d)
 
-apart_is : (kind code c : ℕ) (b : Bool) (xs : List Bool) → apart kind code c (put_if b [] xs) ≡ in_place kind code c (put_if b [] xs)
+apart_is : (kind code c : ℕ) (b : Bool) (xs : List Bool)
+    → apart kind code c (put_if b [] xs) ≡ in_place kind code c (put_if b [] xs)
 apart_is kind code c true xs = chain (write_head kind code c []) (write_string (padded xs)) (λ bs. Ok (padded bs))
 apart_is kind code c false xs =
     let h = head_placed kind code c in
     sym (ap (λ (r : Out). r >>= λ d. range) (h.puts []) ∙ range_after h.fits [] (h.text 0))
 
-pdu_is : (kind code c : ℕ) (rs : Rows) (v : Kept rs) → write_pdu kind code c rs v ≡ (write_head kind code c [] >>= λ d. write_content rs v d >>= λ bs. Ok (padded bs))
+pdu_is : (kind code c : ℕ) (rs : Rows) (v : Kept rs)
+    → write_pdu kind code c rs v ≡ (write_head kind code c [] >>= λ d. write_content rs v d >>= λ bs. Ok (padded bs))
 pdu_is kind code c rs v =
     let m = message_placed rs v in
     ap (apart kind code c) (m.puts []) ∙ apart_is kind code c m.fits (m.text 0) ∙ sym (ap (in_place kind code c) (m.puts []))
 
 -- what refuses the head refuses the whole
-pub head_fails : (kind code c : ℕ) (rs : Rows) (v : Kept rs) (old : List Bool) (e : PerError) → old ≡ [] → Fails e (write_head kind code c old) → Fails e (write_pdu kind code c rs v)
+pub head_fails : (kind code c : ℕ) (rs : Rows) (v : Kept rs) (old : List Bool) (e : PerError) → old ≡ []
+    → Fails e (write_head kind code c old) → Fails e (write_pdu kind code c rs v)
 head_fails kind code c rs v old errors.NoMemory new h = tt
-head_fails kind code c rs v old (errors.Fault f) new h = pdu_is kind code c rs v ∙ ap (λ (r : Out). r >>= λ d. close (write_content rs v d)) (sym (ap (write_head kind code c) new) ∙ h)
+head_fails kind code c rs v old (errors.Fault f) new h =
+    pdu_is kind code c rs v ∙ ap (λ (r : Out). r >>= λ d. close (write_content rs v d)) (sym (ap (write_head kind code c) new) ∙ h)

@@ -22,13 +22,13 @@ abbrev pub syntax_of : {A : Type 0} → Result A PerFault → Result A S1apFault
 syntax_of (Ok x) = Ok x
 syntax_of (Err e) = Err (Syntax e)
 
--- an element of no row, behind its id
+-- an element of no row, after its id
 abbrev pub pass_at : ℕ → Place → Result (Unit {0} × Place) S1apFault
 pass_at id s =
     syntax_of (number_at 0 2 s) >>> λ criticality.
     cond (may_skip id criticality.0) (syntax_of (open_at criticality.1) >>> λ os. Ok (tt, os.1)) (Err (RefusedElement id))
 
--- an element of a row, behind its id
+-- an element of a row, after its id
 abbrev pub fill_slot : (f : Format) → ℕ → Option (Value f) → Place → Result (Option (Value f) × Place) S1apFault
 fill_slot f id (Some v) s = Err (RepeatedElement id)
 fill_slot f id None s =
@@ -46,7 +46,8 @@ put_at (ie i c p f rs) id slots s =
 
 unfoldable pub elements_at : (rs : Rows) → ℕ → Slots rs → Place → Result (Slots rs × Place) S1apFault
 elements_at rs zero slots s = Ok (slots, s)
-elements_at rs (suc n) slots s = syntax_of (number_at 0 65535 s) >>> λ id. put_at rs id.0 slots id.1 >>> λ after. elements_at rs n after.0 after.1
+elements_at rs (suc n) slots s =
+    syntax_of (number_at 0 65535 s) >>> λ id. put_at rs id.0 slots id.1 >>> λ after. elements_at rs n after.0 after.1
 
 unfoldable pub fill_at : (rs : Rows) → Slots rs → List ℕ → Result (Slots rs) S1apFault
 fill_at rs slots os =

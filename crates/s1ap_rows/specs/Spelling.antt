@@ -23,9 +23,19 @@ octets_of e = e.1.1.0
 abbrev pub has_id : ℕ → Raw → Bool
 has_id id e = eqb (id_of e) id
 
--- elements that may be skipped: those marked ignore or notify, and GUMMEI-ID, CSG-Id and CSG-IdList by their ids
+-- id-GUMMEI-ID, id-CSG-Id and id-CSG-IdList (TS 36.413 clause 9.3.6)
+abbrev pub gummei_id : ℕ
+gummei_id = 75
+
+abbrev pub csg_id : ℕ
+csg_id = 127
+
+abbrev pub csg_id_list : ℕ
+csg_id_list = 128
+
+-- elements that may be skipped: those marked ignore or notify, and those three
 abbrev pub may_skip : ℕ → ℕ → Bool
-may_skip id criticality = not (eqb criticality 0) || (eqb id 75 || (eqb id 127 || eqb id 128))
+may_skip id criticality = not (eqb criticality 0) || (eqb id gummei_id || (eqb id csg_id || eqb id csg_id_list))
 
 -- no element, or one that spells the value
 abbrev pub OfRow : (f : Format) → Option (Value f) → List Raw → Type 0
@@ -35,7 +45,8 @@ OfRow f (Some v) es = (e : Raw) × (es ≡ e ∷ []) × SpellsWhole f v (octets_
 -- each row has its elements, and what is of no row may be skipped
 abbrev pub AreElements : (rs : Rows) → Slots rs → List Raw → Type 0
 AreElements end slots es = AllByRecursion (λ e. may_skip (id_of e) (criticality_of e) ≡ true) es
-AreElements (ie id c p f rs) slots es = OfRow f slots.0 (filter (has_id id) es) × AreElements rs slots.1 (filter (λ e. not (has_id id e)) es)
+AreElements (ie id c p f rs) slots es =
+    OfRow f slots.0 (filter (has_id id) es) × AreElements rs slots.1 (filter (λ e. not (has_id id e)) es)
 
 -- what a message has of what was read
 abbrev pub IsKept : (rs : Rows) → Slots rs → Kept rs → Type 0
@@ -49,7 +60,8 @@ abbrev pub message : Format
 message = sequence (must (items 0 65535 raw) done)
 
 abbrev pub IsMessage : (rs : Rows) → Kept rs → List ℕ → Type 0
-IsMessage rs v os = (es : List Raw) × (slots : Slots rs) × SpellsWhole message (es, tt) os × AreElements rs slots es × IsKept rs slots v
+IsMessage rs v os =
+    (es : List Raw) × (slots : Slots rs) × SpellsWhole message (es, tt) os × AreElements rs slots es × IsKept rs slots v
 
 -- ---- frames: kind, code, criticality, octets
 
@@ -73,4 +85,5 @@ frame_octets fr = fr.1.1.1.0
 
 abbrev pub SpellsFrame : Frame → ℕ → List Bool → Type 0
 SpellsFrame fr at bs =
-    (xs : List Bool) × (ys : List Bool) × (bs ≡ xs ++ ys) × SpellsClosed (SpellsNumber 0 2) fr.0 at xs × Spells body fr.1 (at + length xs) ys
+    (xs : List Bool) × (ys : List Bool) × (bs ≡ xs ++ ys) × SpellsClosed (SpellsNumber 0 2) fr.0 at xs
+    × Spells body fr.1 (at + length xs) ys

@@ -23,7 +23,7 @@ abbrev pub one_if : {A : Type 0} → Option A → ℕ
 one_if None = 0
 one_if (Some v) = 1
 
--- how many elements there are, and so many more
+-- how many elements there are, and as many more
 abbrev pub count_of : (rs : Rows) → Kept rs → ℕ → ℕ
 count_of end v n = n
 count_of (ie id c needed f rs) v n = count_of rs v.1 (n + 1)
@@ -65,7 +65,7 @@ write_pdu kind code c rs v = do
 
 -- ---- the same where it is to stand
 
--- the octets of a message behind their length
+-- the octets of a message after their length
 abbrev pub write_content : (rs : Rows) → Kept rs → List Bool → Result (List Bool) PerFault
 write_content rs v out = do
   os ← write_whole (write_message rs) v

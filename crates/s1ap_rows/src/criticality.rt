@@ -5,16 +5,7 @@ ghost use Rattle.per_streams.specs.Bits.{Answers};
 ghost use Rattle.per_numbers.specs.Reading.{number_at};
 ghost use Rattle.s1ap_rows.specs.Criticalities.{criticality_number, criticality_named};
 
-use per_bits::{BitReader, PerFault, offset_of};
-
-/// The greatest number of a criticality.
-pub const LAST_CRITICALITY: u64 = 2;
-
-/// The number of `Criticality::Reject`, for tables of rows.
-pub const REJECT: u8 = 0;
-
-/// The number of `Criticality::Ignore`, for tables of rows.
-pub const IGNORE: u8 = 1;
+use per_bits::{BitReader, LAST_CRITICALITY, PerFault, offset_of};
 
 /// What is to be done with a procedure or an element that isn't understood (TS 36.413 clause 9.3.5).
 #[derive(Clone, Copy, Debug, PartialEq, Eq)]
@@ -23,7 +14,7 @@ pub enum Criticality {
     Reject,
     /// 1: it is passed over.
     Ignore,
-    /// 2: it is passed over, and who sent it is told.
+    /// 2: it is passed over, and its sender is notified.
     Notify,
 }
 

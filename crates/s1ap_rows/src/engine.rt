@@ -10,17 +10,14 @@ ghost use Rattle.s1ap_rows.specs.Reading.{pass_at, fill_slot, elements_at, fill_
 ghost use Rattle.s1ap_rows.specs.Writing.{write_element, write_some, one_if};
 ghost use Rattle.s1ap_rows.specs.Answers.{Reads};
 
-use crate::criticality::{Criticality, LAST_CRITICALITY, take_criticality};
+use crate::criticality::{Criticality, take_criticality};
 use crate::fault::S1apFault;
 use crate::message::Message;
 use per_bits::{
-    BitReader, BitWriter, Element, PerError, PerFault, offset_of, put_number, read_complete,
-    skip_additions, take_open, write_open,
+    BitReader, BitWriter, Element, GREATEST_ID, LAST_CRITICALITY, PerError, PerFault, offset_of,
+    put_number, read_complete, skip_additions, take_open, write_open,
 };
 use std::alloc::Global;
-
-// The greatest id of an element (TS 36.413 clause 9.3.7).
-const GREATEST_ID: u64 = 65535;
 
 /// The most elements of a message (TS 36.413 clause 9.3.7).
 pub const MOST_ELEMENTS: u64 = 65535;
@@ -39,7 +36,8 @@ pub fn fill<'a, T: Element<'a>>(
     slot: &mut Option<T>,
     reader: &mut BitReader<'a>,
 ) -> Result<(), S1apFault>
-    ensures { Reads result (option_map T.view slot.new, reader.new) (fill_slot T.format id (option_map T.view slot.old) reader.old) }
+    ensures { Reads result (option_map T.view slot.new, reader.new)
+        (fill_slot T.format id (option_map T.view slot.old) reader.old) }
 {
     if slot.is_some() {
         return Err(S1apFault::RepeatedElement(id));
@@ -130,7 +128,7 @@ pub fn put_element<'a, T: Element<'a>>(
     write_open::<T>(alloc, value, writer)
 }
 
-/// Writes an element of a row, where it does not lack.
+/// Writes an element of a row, where there is one.
 pub fn put_some<'a, T: Element<'a>>(
     alloc: Global,
     id: u16,
@@ -146,7 +144,7 @@ pub fn put_some<'a, T: Element<'a>>(
     }
 }
 
-/// How many elements a row has that may lack.
+/// How many elements an optional row has.
 pub fn count_some<'a, T: Element<'a>>(value: &Option<T>) -> u64
     ensures exact { result ≡ one_if (option_map T.view value.now) }
     ensures few { result ≤ 1 }

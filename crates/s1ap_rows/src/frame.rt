@@ -10,8 +10,10 @@ ghost use Rattle.s1ap_rows.specs.Reading.{frame_at};
 ghost use Rattle.s1ap_rows.specs.Writing.{write_head};
 ghost use Rattle.s1ap_rows.specs.Answers.{AnswersWhole};
 
-use crate::criticality::{Criticality, LAST_CRITICALITY, take_criticality};
-use per_bits::{BitReader, BitWriter, PerError, PerFault, offset_of, put_number, take_open};
+use crate::criticality::{Criticality, take_criticality};
+use per_bits::{
+    BitReader, BitWriter, LAST_CRITICALITY, PerError, PerFault, offset_of, put_number, take_open,
+};
 
 // A kind is a beginning, a successful or an unsuccessful outcome; a code is one octet (TS 36.413 clause 9.3.2).
 const LAST_KIND: u64 = 2;

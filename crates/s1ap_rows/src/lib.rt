@@ -9,7 +9,7 @@ mod frame;
 mod message;
 mod row;
 
-pub use criticality::{Criticality, IGNORE, REJECT};
+pub use criticality::Criticality;
 pub use fault::{EncodeFault, S1apFault};
 pub use frame::{Frame, read_frame};
 pub use message::{Message, Written, read_message, write_pdu};

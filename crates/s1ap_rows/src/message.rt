@@ -21,7 +21,7 @@ const SHORT_MESSAGE: usize = 128;
 
 /// The rows of a message that is read. A value of this type is what was read of each row so far.
 pub trait Message<'a>: Drop {
-    /// What a message has of its rows: for each row that is kept, its element beside what the rows behind it have.
+    /// What a message has of its rows: for each row that is kept, its element beside what the rows after it have.
     type Elements;
 
     /// The rows as data.
@@ -37,7 +37,7 @@ pub trait Message<'a>: Drop {
     fn none() -> Self
         ensures { slots result ≡ no_slots rows };
 
-    /// Takes one more element, behind its id.
+    /// Takes one more element, after its id.
     fn put(&mut self, alloc: Global, id: u16, reader: &mut BitReader<'a>) -> Result<(), S1apFault>
         ensures { Reads result (slots self.new, reader.new) (put_at rows id (slots self.old) reader.old) };
 
@@ -48,7 +48,7 @@ pub trait Message<'a>: Drop {
 
 /// The rows of a message that is written.
 pub trait Written<'a> {
-    /// What a message has of its rows, by references: for each row that is kept, its element beside what the rows behind it have.
+    /// What a message has of its rows, by references: for each row that is kept, its element beside what the rows after it have.
     type Lent;
 
     /// The rows as data.
@@ -62,7 +62,7 @@ pub trait Written<'a> {
         requires { before + row_count rows ≤ 65535 }
         ensures { result ≡ count_of rows (lent elements.now) before };
 
-    /// Writes the elements, a row behind the other.
+    /// Writes the elements, a row after the other.
     fn write(alloc: Global, elements: &Self::Lent, writer: &mut BitWriter) -> Result<(), PerError>
         ensures { Wrote result writer.new (write_rows rows (lent elements.now) writer.old) };
 }
@@ -94,7 +94,7 @@ fn put_message<'a, W: Written<'a>>(
     W::write(alloc, elements, writer)
 }
 
-// The octets of a message behind their length, written where they stand: an octet is left for the length, which may become two.
+// The octets of a message after their length, written where they stand: an octet is left for the length, which may become two.
 fn put_content<'a, W: Written<'a>>(
     alloc: Global,
     elements: &W::Lent,

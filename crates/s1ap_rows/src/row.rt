@@ -35,7 +35,7 @@ pub struct Unkept<const ID: u16, const CRITICALITY: u8, T> {
 #[derive(Drop)]
 pub struct End;
 
-/// A row, and the rows behind it.
+/// A row, and the rows after it.
 #[derive(Drop)]
 pub struct Row<A, R> {
     first: A,
@@ -60,7 +60,7 @@ pub type FiveRows<A, B, C, D, E> = Row<A, FourRows<B, C, D, E>>;
 /// A table of six rows.
 pub type SixRows<A, B, C, D, E, F> = Row<A, FiveRows<B, C, D, E, F>>;
 
-// An element of this row or of those behind it, whatever its criticality and presence.
+// An element of this row or of those after it, whatever its criticality and presence.
 fn put_row<'a, const ID: u16, T: Element<'a>, R: Message<'a>>(
     alloc: Global,
     id: u16,

@@ -18,8 +18,7 @@ use emm_machine::{States, Subscriber};
 use emm_state::Draft;
 use identity_slots::Slot;
 use mme_types::{EnbWorld, SoloEvent, StationNumber};
-use per_bits::Listed;
-use s1ap_elements::ListedAssociation;
+use s1ap_elements::AssociationToReset;
 use std::alloc::{AllocError, Global};
 use std::marker::Model;
 
@@ -127,7 +126,7 @@ impl Subscribers {
     pub fn listed(
         &self,
         station: StationNumber,
-        items: &[Listed<ListedAssociation, 91, 0>],
+        items: &[AssociationToReset],
     ) -> Result<Vec<Slot>, AllocError>
         ensures { IfOk result (λ touched. touched.items ≡ touched_slots (ConnectionsGone station items.now) self.now.subscribers) }
     {

@@ -9,14 +9,25 @@ returns-in_err-write g c =
     let f = g.T.Element.format in
     let v = g.T.Element.view c.args.value.now in
     let p = err_from_is_err_and c.from_residual-in_err-write.result c.from_residual-in_err-write.ensures.1 in
-    rw (p.1, p.2) (open_fails (write_at f) v (placed_at f v) c.args.writer.now c.put_octet.new.self c.in_err-write.field-0.0 c.in_err-write.ensures)
+    rw (p.1, p.2)
+    (open_fails (write_at f) v
+    (placed_at f v) c.args.writer.now c.put_octet.new.self c.in_err-write.field-0.0 c.in_err-write.ensures)
 
 pub count_behind-requires : goal.count_behind-requires
 count_behind-requires g c =
     let f = g.T.Element.format in
     let v = g.T.Element.view c.args.value.now in
     let b : Behind (write_at f v) c.args.writer.now c.align-2.new.self c.octets-place.result =
-    record { front = c.align.new.self; one = c.put_octet.new.self; whole = c.write.new.writer; aligned = c.in_ok-align.ensures.ok; at = c.octets-place.ensures; left = c.in_ok-put_octet.ensures.ok; put = c.in_ok-write.ensures; ends = c.in_ok-align-2.ensures.ok } in
+    record {
+      front = c.align.new.self;
+      one = c.put_octet.new.self;
+      whole = c.write.new.writer;
+      aligned = c.in_ok-align.ensures.ok;
+      at = c.octets-place.ensures;
+      left = c.in_ok-put_octet.ensures.ok;
+      put = c.in_ok-write.ensures;
+      ends = c.in_ok-align-2.ensures.ok;
+    } in
     open_room (write_at f v) (placed_at f v) c.args.writer.now c.align-2.new.self c.octets-place.result b
 
 pub returns : goal.returns
@@ -24,5 +35,16 @@ returns g c =
     let f = g.T.Element.format in
     let v = g.T.Element.view c.args.value.now in
     let b : Behind (write_at f v) c.args.writer.now c.align-2.new.self c.octets-place.result =
-    record { front = c.align.new.self; one = c.put_octet.new.self; whole = c.write.new.writer; aligned = c.in_ok-align.ensures.ok; at = c.octets-place.ensures; left = c.in_ok-put_octet.ensures.ok; put = c.in_ok-write.ensures; ends = c.in_ok-align-2.ensures.ok } in
-    open_written (write_at f) v (placed_at f v) c.args.writer.now c.align-2.new.self c.count_behind.new.writer c.octets-place.result c.count_behind.result b c.count_behind.ensures
+    record {
+      front = c.align.new.self;
+      one = c.put_octet.new.self;
+      whole = c.write.new.writer;
+      aligned = c.in_ok-align.ensures.ok;
+      at = c.octets-place.ensures;
+      left = c.in_ok-put_octet.ensures.ok;
+      put = c.in_ok-write.ensures;
+      ends = c.in_ok-align-2.ensures.ok;
+    } in
+    open_written (write_at f) v
+    (placed_at f v) c.args.writer.now c.align-2.new.self c.count_behind.new.writer c.octets-place.result c.count_behind.result b
+    c.count_behind.ensures

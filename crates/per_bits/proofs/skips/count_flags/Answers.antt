@@ -12,7 +12,9 @@ pub returns-in_err-some : goal.returns-in_err-some
 returns-in_err-some c =
     let p = err_from_is_err_and c.from_residual.result c.from_residual.ensures.1 in
     let i = c.loop.invariant in
-    rw (p.1, p.2) (ends_fault bit_at c.in_err-some.field-0.0 i.front c.args.count c.loop.counter c.loop.reader (times bit_at c.args.count c.args.reader.now) c.loop-test.true c.in_err-some.ensures i.so_far)
+    rw (p.1, p.2)
+    (ends_fault bit_at c.in_err-some.field-0.0 i.front c.args.count c.loop.counter c.loop.reader
+    (times bit_at c.args.count c.args.reader.now) c.loop-test.true c.in_err-some.ensures i.so_far)
 
 pub loop-preserved : goal.loop-preserved
 loop-preserved c =
@@ -22,12 +24,18 @@ loop-preserved c =
     let f = i.few in
     record {
       front = i.front ++ b ∷ [];
-      so_far = goes_on bit_at i.front c.args.count c.loop.counter c.loop.reader b c.take_bit.new.self (times bit_at c.args.count c.args.reader.now) c.loop-test.true c.in_ok-some.ensures i.so_far;
+      so_far =
+          goes_on bit_at i.front c.args.count c.loop.counter c.loop.reader b c.take_bit.new.self
+          (times bit_at c.args.count c.args.reader.now) c.loop-test.true c.in_ok-some.ensures i.so_far;
       trues_are = rw t (sym (trues-push i.front b));
       few = omega (arith, f, bool_below b);
     }
 
 pub returns : goal.returns
 returns c =
-    let i = c.loop.invariant in
-    (i.front, is_done bit_at i.front c.args.count c.loop.counter c.loop.reader (times bit_at c.args.count c.args.reader.now) c.loop-test.false i.so_far, i.trues_are)
+    let i = c.loop.invariant in (
+      i.front,
+      is_done bit_at i.front c.args.count c.loop.counter c.loop.reader
+          (times bit_at c.args.count c.args.reader.now) c.loop-test.false i.so_far,
+      i.trues_are,
+    )

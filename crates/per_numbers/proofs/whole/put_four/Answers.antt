@@ -7,4 +7,8 @@ pub returns : goal.returns
 returns c =
     let parts = (bits-split 32 16 c.args.number (omega arith) c.requires).0 in
     let high = ap (λ r. r >>= λ out. Ok (out ++ bits 16 (c.args.number % 65536))) c.in_ok-put_two.ensures in
-    rw (parts, sym (append_assoc c.args.writer.now (bits 16 (c.args.number / 65536)) (bits 16 (c.args.number % 65536))), high) c.put_two-2.ensures
+    rw (
+      parts,
+      sym (append_assoc c.args.writer.now (bits 16 (c.args.number / 65536)) (bits 16 (c.args.number % 65536))),
+      high,
+    ) c.put_two-2.ensures

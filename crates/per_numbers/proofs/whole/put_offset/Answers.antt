@@ -14,4 +14,5 @@ put_bits-requires-else-span-lt65536-clause-fits c =
 pub put_in_octets-requires-else-span-lt65536-clause-fits :
     goal.put_in_octets-requires-else-span-lt65536-clause-fits
 put_in_octets-requires-else-span-lt65536-clause-fits c =
-    subst (λ k. c.args.offset < 2 ^ (8 * k)) (sym c.octets_of-count.ensures.exact) (octets-fit c.args.offset (let r = c.ranges.offset.fits in omega (arith, r)))
+    subst (λ k. c.args.offset < 2 ^ (8 * k)) (sym c.octets_of-count.ensures.exact)
+    (octets-fit c.args.offset (let r = c.ranges.offset.fits in omega (arith, r)))

@@ -7,4 +7,5 @@ pub returns : goal.returns
 returns c =
     let parts = (bits-split 24 16 c.args.number (omega arith) c.requires).0 in
     let high = ap (λ r. r >>= λ out. Ok (out ++ bits 8 (c.args.number % 256))) c.in_ok-put_two.ensures in
-    rw (parts, sym (append_assoc c.args.writer.now (bits 16 (c.args.number / 256)) (bits 8 (c.args.number % 256)))) (high ∙ ap Ok (sym c.in_ok-put_octet.ensures.ok))
+    rw (parts, sym (append_assoc c.args.writer.now (bits 16 (c.args.number / 256)) (bits 8 (c.args.number % 256))))
+    (high ∙ ap Ok (sym c.in_ok-put_octet.ensures.ok))

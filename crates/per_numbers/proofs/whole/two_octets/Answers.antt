@@ -8,13 +8,15 @@ use Rattle.per_numbers.proofs.whole.two_octets.Goals as goal
 pub returns-in_err-high-clause-exact : goal.returns-in_err-high-clause-exact
 returns-in_err-high-clause-exact c =
     let p = err_from_is_err_and c.from_residual.result c.from_residual.ensures.1 in
-    let all : number_bits_at 16 c.args.reader.now ≡ Err c.in_err-high.field-0.0 = rw (number-parts 8 8 c.args.reader.now, c.in_err-high.ensures) refl in
+    let all : number_bits_at 16 c.args.reader.now ≡ Err c.in_err-high.field-0.0 =
+    rw (number-parts 8 8 c.args.reader.now, c.in_err-high.ensures) refl in
     rw (p.1, p.2, all) refl
 
 pub returns-in_err-low-clause-exact : goal.returns-in_err-low-clause-exact
 returns-in_err-low-clause-exact c =
     let p = err_from_is_err_and c.from_residual-in_err-low.result c.from_residual-in_err-low.ensures.1 in
-    let all : number_bits_at 16 c.args.reader.now ≡ Err c.in_err-low.field-0.0 = rw (number-parts 8 8 c.args.reader.now, c.in_ok-high.ensures, c.in_err-low.ensures) refl in
+    let all : number_bits_at 16 c.args.reader.now ≡ Err c.in_err-low.field-0.0 =
+    rw (number-parts 8 8 c.args.reader.now, c.in_ok-high.ensures, c.in_err-low.ensures) refl in
     rw (p.1, p.2, all) refl
 
 pub overflow_mul-result : goal.overflow_mul-result

@@ -8,7 +8,8 @@ pub returns-clause-parts : goal.returns-clause-parts
 returns-clause-parts c =
     let k = c.args.left - c.args.some in
     let few : k < 64 = let r = c.requires.some in let o = c.requires.left in omega (arith, r, o) in
-    rw (one_shifted k 18446744073709551615 refl few).0 (bits-split c.args.left c.args.some c.args.number c.requires.most c.requires.fits).0
+    rw (one_shifted k 18446744073709551615 refl few).0
+    (bits-split c.args.left c.args.some c.args.number c.requires.most c.requires.fits).0
 
 pub returns-clause-part : goal.returns-clause-part
 returns-clause-part c = (bits-split c.args.left c.args.some c.args.number c.requires.most c.requires.fits).1

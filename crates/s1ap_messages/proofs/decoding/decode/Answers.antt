@@ -24,7 +24,8 @@ failed (faults.MissingElement f) r h = ap named_of h
 failed (faults.RepeatedElement f) r h = ap named_of h
 failed (faults.RefusedElement f) r h = ap named_of h
 
-answers_named : NamedAgain → (result : Result (Pdu (Bor (List ℕ))) S1apFault) (os : List ℕ) → Answers (λ m. typed (lists m)) result (decode_typed os) → Answers lists result (decoded os)
+answers_named : NamedAgain → (result : Result (Pdu (Bor (List ℕ))) S1apFault) (os : List ℕ)
+    → Answers (λ m. typed (lists m)) result (decode_typed os) → Answers lists result (decoded os)
 unfolding decoded
 answers_named again (Ok m) os h = ap named_of h ∙ ap (λ x. Ok x) (again (lists m))
 answers_named again (Err f) os h = failed f (decode_typed os) h

@@ -10,10 +10,14 @@ loop-i-preserved g c =
     let long : length c.args.self.now ≡ g.row.N = sym (ap length c.self.view_is) ∙ length-bits _ _ ∙ min-eq_left c.requires in
     record {
       long = length-set c.loop-i.bits c.loop-i.i c.bit.result ∙ c.loop-i.invariant.long;
-      so_far = rw c.bit.ensures (bits_more c.loop-i.bits c.args.self.now g.row.N c.loop-i.i c.loop-i.invariant.long long c.loop-i-test.true c.loop-i.invariant.so_far);
+      so_far =
+          rw c.bit.ensures
+          (bits_more c.loop-i.bits c.args.self.now g.row.N c.loop-i.i c.loop-i.invariant.long long c.loop-i-test.true
+          c.loop-i.invariant.so_far);
     }
 
 pub returns : goal.returns
 returns g c =
     let long : length c.args.self.now ≡ g.row.N = sym (ap length c.self.view_is) ∙ length-bits _ _ ∙ min-eq_left c.requires in
-    bits_all c.loop-i.bits c.args.self.now g.row.N c.loop-i.i c.loop-i.invariant.long long c.loop-i-test.false c.loop-i.invariant.so_far
+    bits_all c.loop-i.bits c.args.self.now g.row.N c.loop-i.i c.loop-i.invariant.long long c.loop-i-test.false
+    c.loop-i.invariant.so_far

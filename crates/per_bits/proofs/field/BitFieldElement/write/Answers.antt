@@ -10,4 +10,5 @@ returns-then-this-lt17 g c =
 pub returns-in_ok-align : goal.returns-in_ok-align
 returns-in_ok-align g c =
     let put = rw c.min-count.ensures at c.put_bits-else-this-lt17.ensures in
-    wrote_far (min g.row.N 64) c.self.inside.number _ _ _ _ _ c.self.view_is (omega arith) c.in_ok-align.ensures.ok put.ok put.memory
+    wrote_far (min g.row.N 64) c.self.inside.number _ _ _ _ _ c.self.view_is
+    (omega arith) c.in_ok-align.ensures.ok put.ok put.memory

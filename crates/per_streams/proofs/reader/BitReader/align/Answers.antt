@@ -7,10 +7,13 @@ pub returns-then-self-ne0 : goal.returns-then-self-ne0
 returns-then-self-ne0 c =
     let r = c.self.inside in
     let i = c.self.invariant in
-    rw (← c.self.view_is) (align_other r.begun r.left r.current (octet_bits (drop r.begun r.octets.now)) i.1 i.2 i.3 c.if-self-ne0.true)
+    rw (← c.self.view_is)
+    (align_other r.begun r.left r.current (octet_bits (drop r.begun r.octets.now)) i.1 i.2 i.3 c.if-self-ne0.true)
 
 pub returns : goal.returns
 returns c =
     let r = c.self.inside in
     let i = c.self.invariant in
-    rw (← c.self.view_is) (align_zero r.begun r.left r.current (octet_bits (drop r.begun r.octets.now)) i.1 i.2 c.if-self-ne0.false ∙ at_octet r.begun r.current (octet_bits (drop r.begun r.octets.now)) refl)
+    rw (← c.self.view_is)
+    (align_zero r.begun r.left r.current (octet_bits (drop r.begun r.octets.now)) i.1 i.2 c.if-self-ne0.false
+    ∙ at_octet r.begun r.current (octet_bits (drop r.begun r.octets.now)) refl)

@@ -6,4 +6,5 @@ use Rattle.per_streams.proofs.reader.BitReader.fill_each.Given as goal
 
 abbrev pub invariant-loop-octet : goal.invariant-loop-octet
 invariant-loop-octet l =
-    with_front (take l.octet-index l.octet-items) (times (number_bits_at 8) (length l.initial.octet-items - l.octet-index) l.self) ≡ times (number_bits_at 8) (length l.initial.octet-items) l.initial.self
+    with_front (take l.octet-index l.octet-items) (times (number_bits_at 8) (length l.initial.octet-items - l.octet-index) l.self)
+    ≡ times (number_bits_at 8) (length l.initial.octet-items) l.initial.self

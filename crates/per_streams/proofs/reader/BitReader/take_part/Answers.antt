@@ -6,8 +6,11 @@ use Rattle.per_streams.proofs.reader.BitReader.take_part.Goals as goal
 
 pub returns-then-self : goal.returns-then-self
 returns-then-self c =
-    let r = c.self.inside in
-    (refl, sym (ap (λ (p : Place). p.rest) c.self.view_is) ∙ no_bit r.octets.now r.begun r.current r.left c.if-self-eq0.true c.if-self.true)
+    let r = c.self.inside in (
+      refl,
+      sym (ap (λ (p : Place). p.rest) c.self.view_is)
+          ∙ no_bit r.octets.now r.begun r.current r.left c.if-self-eq0.true c.if-self.true,
+    )
 
 pub returns-then-most-ge8 : goal.returns-then-most-ge8
 returns-then-most-ge8 c =
@@ -34,7 +37,9 @@ returns-then-self-eq0 c =
       most,
       omega arith,
       le,
-      rw (← c.self.view_is) (fresh_part r.octets.now r.begun r.current r.left some c.split-part.result.0 c.split-part.result.1 c.if-self-eq0.true lt le s.part s.parts),
+      rw (← c.self.view_is)
+          (fresh_part r.octets.now r.begun r.current r.left some c.split-part.result.0 c.split-part.result.1
+          c.if-self-eq0.true lt le s.part s.parts),
       (λ _. refl),
     )
 
@@ -51,7 +56,9 @@ returns c =
       omega (arith, m, most, none),
       omega (arith, m),
       (let few = i.1 in omega (arith, m, few)),
-      rw (← c.self.view_is) (later_part r.begun r.current r.left some c.split-part-2.result.0 c.split-part-2.result.1 (octet_bits (drop r.begun r.octets.now)) le i.2 s.part s.parts),
+      rw (← c.self.view_is)
+          (later_part r.begun r.current r.left some c.split-part-2.result.0 c.split-part-2.result.1
+          (octet_bits (drop r.begun r.octets.now)) le i.2 s.part s.parts),
       (λ whole. let at : 8 * r.begun - r.left ≡ c.args.self.now.at = ap (λ (p : Place). p.at) c.self.view_is in
           omega (arith, m, whole, at, none, i.1, i.2)),
     )

@@ -17,7 +17,8 @@ pub returns-in_err-some : goal.returns-in_err-some
 returns-in_err-some c =
     let p = err_from_is_err_and c.from_residual.result c.from_residual.ensures.1 in
     let l = c.loop-wanted in
-    let short : number_bits_at l.wanted l.self ≡ Err c.in_err-some.field-0.0 = nothing_left l.wanted l.self c.in_err-some.ensures.1 c.loop-wanted-test.true ∙ ap (λ f. Err f) (sym c.in_err-some.ensures.0) in
+    let short : number_bits_at l.wanted l.self ≡ Err c.in_err-some.field-0.0 =
+    nothing_left l.wanted l.self c.in_err-some.ensures.1 c.loop-wanted-test.true ∙ ap (λ f. Err f) (sym c.in_err-some.ensures.0) in
     rw (p.1, p.2, ← l.invariant.so_far, short) refl
 
 pub with_part-number-requires-clause-fits : goal.with_part-number-requires-clause-fits
@@ -38,8 +39,13 @@ loop-wanted-preserved c =
     let o = c.in_ok-some.ensures in
     let below = bits_below c.in_ok-some.some l.self c.in_ok-some.part c.take_part.new.self o.3 in
     record {
-      so_far = rw c.with_part-number.ensures (part_read l.number c.in_ok-some.part c.in_ok-some.some l.wanted l.self c.take_part.new.self (number_bits_at c.args.count c.args.self.now) o.1 o.3 i.so_far);
-      fits = rw c.with_part-number.ensures (part_fits l.number c.in_ok-some.part c.in_ok-some.some c.args.count l.wanted o.1 i.most i.fits below);
+      so_far =
+          rw c.with_part-number.ensures
+          (part_read l.number c.in_ok-some.part c.in_ok-some.some l.wanted l.self c.take_part.new.self
+          (number_bits_at c.args.count c.args.self.now) o.1 o.3 i.so_far);
+      fits =
+          rw c.with_part-number.ensures
+          (part_fits l.number c.in_ok-some.part c.in_ok-some.some c.args.count l.wanted o.1 i.most i.fits below);
       most = (let m = i.most in omega (arith, m));
     }
 

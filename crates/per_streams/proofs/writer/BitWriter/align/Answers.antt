@@ -13,5 +13,11 @@ pub returns-clause-ok : goal.returns-clause-ok
 returns-clause-ok c =
     let w = c.self.inside in
     let f = c.if-used-eq0.false in
-    let padding_is = pad_here c.args.self.now w.octets.items w.used w.current c.self.view_is c.self.invariant.0 (omega (arith, f)) in
-    rw (c.in_ok-push.ensures.items, put_last w.octets.items w.used w.current c.joined.result c.self.invariant.0 c.joined.ensures.bits, padding_is) (ap (λ (l : List Bool). l ++ pad (length c.args.self.now)) c.self.view_is)
+    let padding_is =
+    pad_here c.args.self.now w.octets.items w.used w.current c.self.view_is c.self.invariant.0 (omega (arith, f)) in
+    rw (
+      c.in_ok-push.ensures.items,
+      put_last w.octets.items w.used w.current c.joined.result c.self.invariant.0 c.joined.ensures.bits,
+      padding_is,
+    )
+    (ap (λ (l : List Bool). l ++ pad (length c.args.self.now)) c.self.view_is)

@@ -13,4 +13,6 @@ insert-requires c =
 pub returns-clause-ok : goal.returns-clause-ok
 returns-clause-ok c =
     let w = c.self.inside in
-    rw (← c.self.view_is, c.in_ok-insert.ensures.items) (insert_view c.args.place c.args.octet w.octets.items (bits w.used w.current) (is_reached c.args.place w.octets.items w.used w.current c.self.view_is c.self.invariant.0 c.requires))
+    rw (← c.self.view_is, c.in_ok-insert.ensures.items)
+    (insert_view c.args.place c.args.octet w.octets.items (bits w.used w.current)
+    (is_reached c.args.place w.octets.items w.used w.current c.self.view_is c.self.invariant.0 c.requires))

@@ -13,4 +13,6 @@ index_mut-requires c =
 pub returns : goal.returns
 returns c =
     let w = c.self.inside in
-    rw (← c.self.view_is) (set_view c.args.place c.args.octet w.octets.items (bits w.used w.current) (is_written c.args.place w.octets.items w.used w.current c.self.view_is c.self.invariant.0 c.requires))
+    rw (← c.self.view_is)
+    (set_view c.args.place c.args.octet w.octets.items (bits w.used w.current)
+    (is_written c.args.place w.octets.items w.used w.current c.self.view_is c.self.invariant.0 c.requires))
