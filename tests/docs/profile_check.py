@@ -318,9 +318,10 @@ def parts(text):
 
 
 def with_identifiers(text):
-    """The text with the identifiers of optional elements in the place of their names."""
-    named = dict(re.findall(r"^(\w+_iei) = (0x\w\w)$", text_of("nas_elements/specs/Identifiers.antt"), re.M))
-    return re.sub(r"\w+_iei", lambda name: named[name.group()], text)
+    """The text with the identifiers of optional elements and the octet of T3412 in the place of their names."""
+    texts = text_of("nas_elements/specs/Identifiers.antt") + text_of("nas_messages/specs/Timers.antt")
+    named = dict(re.findall(r"^(\w+_iei|t3412_octet) = (0x\w\w)$", texts, re.M))
+    return re.sub(r"\w+_iei|t3412_octet", lambda name: named[name.group()], text)
 
 
 def kept(text):
@@ -373,18 +374,14 @@ def skipping():
 
 def timers():
     """Timer: ticks and repeats, in definition and program alike."""
-    both = []
-    specs, code = text_of("emm_state/specs/Timers.antt"), text_of("emm_state/src/solo.rt")
-    both.append((cases(specs, "ticks_of"), cases(specs, "repeats_of")))
-    ticks, repeats = (dict(re.findall(r"NasTimer::(\w+) => (\d+)", body)) for body in re.findall(
-        r"pub fn (?:ticks|repeats)\(self\).*?\n    \}\n", code, re.S))
-    both.append((ticks, repeats))
-    if both[0] != both[1]:
-        raise ValueError("the timers of definition and program: %s, %s" % tuple(both))
-    found = {name: (ticks[name], repeats[name]) for name in ticks}
-    entering = text_of("stranger_machine/src/entering.rt")
-    found["T3470"] = tuple(re.search(r"IDENTITY_%s: u32 = (\d+)" % word, entering).group(1) for word in ("TICKS", "REPEATS"))
-    found["reachable"] = re.search(r"REACHABLE_TICKS: u32 = (\d+)", text_of("emm_state/src/actions.rt")).group(1), "0"
+    specs = re.findall(r"^(\w+)_(ticks|repeats) = (\d+)$", text_of("nas_messages/specs/Timers.antt"), re.M)
+    code = re.findall(r"^pub const (\w+)_(TICKS|REPEATS): u32 = (\d+);$", text_of("nas_messages/src/timers.rt"), re.M)
+    if [(name.upper(), part.upper(), count) for name, part, count in specs] != code:
+        raise ValueError("the timers of definition and program: %s, %s" % (specs, code))
+    counts = {(name, part): count for name, part, count in code}
+    found = {name: (ticks, counts.get((name, "REPEATS"), "0")) for (name, part), ticks in counts.items() if part == "TICKS"}
+    del found["T3412"]  # the phone's, of which the MME sends the octet
+    found["reachable"] = found.pop("MOBILE_REACHABLE")
     return found
 
 
@@ -411,14 +408,14 @@ BELOW = {"octets of a string or an open type"}  # the code has the first that is
 # The constants that the MME writes, and where the code has them.
 CONSTANTS = {
     "RelativeMMECapacity": ("mme_routing/src/answers.rt", r"RelativeCapacity::try_new\((\d+)\)"),
-    "E-RAB ID": ("mme_signalling/specs/Pdus.antt", r"value = record \{ id = (\d+);"),
+    "E-RAB ID": ("nas_messages/specs/Codes.antt", r"default_bearer = (\d+)"),
     "QCI": ("mme_signalling/specs/Pdus.antt", r"qci = (\d+);"),
     "priority level": ("mme_signalling/specs/Pdus.antt", r"priority = (\d+);"),
     "pre-emption capability": ("mme_signalling/specs/Pdus.antt", r"capability = (\d+);"),
     "pre-emption vulnerability": ("mme_signalling/specs/Pdus.antt", r"vulnerability = (\d+) "),
-    "EPS bearer identity": ("esm_machine/src/bearer.rt", r"DEFAULT_BEARER: u8 = (\d+)"),
+    "EPS bearer identity": ("nas_messages/src/codes.rt", r"DEFAULT_BEARER: u8 = (\d+)"),
 }
-HEX_CONSTANTS = {"T3412": ("mme_signalling/src/messages.rt", r"PERIODIC_UPDATE: \[u8; 1\] = \[(0x\w+)\]")}
+HEX_CONSTANTS = {"T3412": ("nas_messages/src/timers.rt", r"T3412_OCTET: u8 = (0x\w+);")}
 
 
 def constant(place):

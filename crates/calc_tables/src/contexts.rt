@@ -5,7 +5,7 @@ ghost use Rattle.std.specs.Prelude.{◌<◌, ◌≤◌};
 use calc_text::{Call, CallAnswer, Fault, Field};
 use eps_keys::{DirectionBit, nas_integrity_key};
 use nas_messages::SecurityHeader;
-use nas_security::{Eia2, EpsSecurityContext, Integrity};
+use nas_security::{Eia2, Integrity, SecurityContext};
 use std::alloc::Global;
 
 /// A security context under the NAS integrity key of a KASME.
@@ -14,8 +14,8 @@ pub fn context_of(
     ksi: u8,
     down_next: u32,
     up_last: Option<u32>,
-) -> EpsSecurityContext<Eia2> {
-    EpsSecurityContext::new(
+) -> SecurityContext<Eia2> {
+    SecurityContext::new(
         Eia2::new(&nas_integrity_key(kasme)),
         ksi,
         down_next,
@@ -24,7 +24,7 @@ pub fn context_of(
 }
 
 /// The answer of a call behind the word `context`.
-pub fn context_answer(context: &mut EpsSecurityContext<Eia2>, call: Call) -> CallAnswer {
+pub fn context_answer(context: &mut SecurityContext<Eia2>, call: Call) -> CallAnswer {
     match call.word {
         "new" => renewed(context, call),
         "protect" => protected(context, call),
@@ -36,20 +36,20 @@ pub fn context_answer(context: &mut EpsSecurityContext<Eia2>, call: Call) -> Cal
     }
 }
 
-fn renewed(context: &mut EpsSecurityContext<Eia2>, call: Call) -> CallAnswer {
+fn renewed(context: &mut SecurityContext<Eia2>, call: Call) -> CallAnswer {
     let (kasme, ksi, down_next, LastCount(up_last)) = call.four()?;
     *context = context_of(&kasme, ksi, down_next, up_last);
     call.word_answer("new")
 }
 
-fn accepted_short(context: &mut EpsSecurityContext<Eia2>, call: Call) -> CallAnswer {
+fn accepted_short(context: &mut SecurityContext<Eia2>, call: Call) -> CallAnswer {
     match context.accept_short(&call.one()?) {
         Ok(count) => call.value_answer("count ", &count),
         Err(fault) => call.fault_answer(&fault),
     }
 }
 
-fn protected(context: &mut EpsSecurityContext<Eia2>, call: Call) -> CallAnswer {
+fn protected(context: &mut SecurityContext<Eia2>, call: Call) -> CallAnswer {
     let (HeaderWord(header), message): (_, Vec<u8>) = call.two()?;
     match context.protect(call.alloc, header, &message) {
         Ok(form) => call.octets_answer(&form),
@@ -58,7 +58,7 @@ fn protected(context: &mut EpsSecurityContext<Eia2>, call: Call) -> CallAnswer {
 }
 
 /// A message with header 1 or 2.
-fn accepted(context: &mut EpsSecurityContext<Eia2>, call: Call) -> CallAnswer {
+fn accepted(context: &mut SecurityContext<Eia2>, call: Call) -> CallAnswer {
     let octets: Vec<u8> = call.one()?;
     let either = [
         SecurityHeader::IntegrityProtected,
@@ -76,7 +76,7 @@ fn accepted(context: &mut EpsSecurityContext<Eia2>, call: Call) -> CallAnswer {
     }
 }
 
-fn counts_answer(context: &EpsSecurityContext<Eia2>, call: Call) -> CallAnswer {
+fn counts_answer(context: &SecurityContext<Eia2>, call: Call) -> CallAnswer {
     call.none()?;
     let text = call
         .text("ksi ")
@@ -89,7 +89,7 @@ fn counts_answer(context: &EpsSecurityContext<Eia2>, call: Call) -> CallAnswer {
 }
 
 /// The MAC of an uplink message through the bound alone.
-fn mac_answer<I: Integrity>(context: &EpsSecurityContext<I>, call: Call) -> CallAnswer {
+fn mac_answer<I: Integrity>(context: &SecurityContext<I>, call: Call) -> CallAnswer {
     let (count, octets): (_, Vec<u8>) = call.two()?;
     let mac = context
         .integrity()

@@ -14,7 +14,7 @@ use calc_text::{Call, CallAnswer};
 use contexts::{context_answer, context_of};
 use esm_machine::Bearer;
 use identity_slots::Provision;
-use nas_security::{Eia2, EpsSecurityContext};
+use nas_security::{Eia2, SecurityContext};
 use std::alloc::Global;
 use timers::TimerDesk;
 
@@ -25,7 +25,7 @@ pub struct Desk {
     associations: AssociationDesk,
     provision: Provision,
     bearer: Bearer,
-    context: EpsSecurityContext<Eia2>,
+    context: SecurityContext<Eia2>,
 }
 
 impl Desk {

@@ -43,7 +43,8 @@ not_switched cause m d = emit m.station (path_switch_failure m.mme_ue_id m.enb_u
 abbrev pub next_chaining_count : ℕ → ℕ
 next_chaining_count n = (n + 1) % 8
 
--- the next hop that stands: the one that a station was told last, else the first of the chain, which is of KeNB (TS 33.401, A.4)
+-- the next hop that stands: the one that a station was told last, else the first of the chain, which is of KeNB (TS 33.401
+-- clause A.4)
 abbrev pub standing_hop : List ℕ → RadioKeys → List ℕ
 standing_hop kasme keys = unwrap_or keys.next_hop (next_hop kasme keys.kenb)
 

@@ -27,7 +27,7 @@ fn next_chaining_count(count: u8) -> u8
     (count % CHAINING_COUNTS + 1) % CHAINING_COUNTS
 }
 
-// The next hop that stands: the one that a station was told last, else the first of the chain (TS 33.401, A.4).
+// The next hop that stands: the one that a station was told last, else the first of the chain (TS 33.401 clause A.4).
 fn standing_hop(schedule: &mut KeySchedule, kasme: &[u8; 32], radio: &RadioKeys) -> [u8; 32]
     ensures { result ≡ standing_hop kasme.now radio.now }
 {
@@ -206,7 +206,8 @@ pub fn message_of(
     setting: &Setting,
     message: &UeMessage<&[u8]>,
 ) -> Result<(), StepStop>
-    ensures { Does result draft.new (message_of (message_lists message.now).body setting.now (message_lists message.now) draft.old) }
+    ensures { Does result draft.new
+        (message_of (message_lists message.now).body setting.now (message_lists message.now) draft.old) }
 {
     match message.body {
         UeBody::UeContextReleaseComplete => Ok(()),

@@ -6,6 +6,7 @@ use Rattle.s1ap_elements.specs.declared.cause.Cause.TheVariants.{Nas}
 use Rattle.s1ap_elements.specs.declared.cause.NasCause.TheVariants.{AuthenticationFailure, Detach, NormalRelease, Unspecified}
 use Rattle.s1ap_elements.specs.declared.phone.Tai.{Tai}
 use Rattle.nas_elements.specs.Capability.{has_eia2}
+use Rattle.nas_messages.specs.Codes.{emm_discriminator}
 use Rattle.nas_messages.specs.declared.protection.SecurityHeader.TheVariants.{IntegrityProtectedCiphered, NewContext, NewContextCiphered}
 use Rattle.eps_keys.specs.Hmac.{kenb, nas_integrity_key}
 use Rattle.eps_keys.specs.Same.{same_octets}
@@ -33,7 +34,8 @@ use Rattle.emm_state.specs.declared.solo.Phase.TheVariants.{Accepting, Authentic
 use Rattle.emm_state.specs.declared.solo.Protection.TheVariants.{Plain, Under}
 use Rattle.emm_state.specs.declared.solo.Repeat.TheVariants as repeats
 use Rattle.emm_state.specs.declared.solo.NasTimer.TheVariants.{T3450, T3460, T3489}
-use Rattle.emm_state.specs.Actions.{fall, mac_of, protect, release, send, set_up_with, start, wipe}
+use Rattle.emm_state.specs.Actions.{fall, mac_of, protect_and_await, release, send, set_up_with, start, wipe}
+use Rattle.emm_state.specs.KeySets.{ksi_of}
 use Rattle.emm_state.specs.Does.{◌>>=◌}
 
 -- ---- the request (TS 24.301 clauses 5.5.1.2.2 and 5.5.1.2.5)
@@ -42,11 +44,11 @@ use Rattle.emm_state.specs.Does.{◌>>=◌}
 unfoldable pub attach_refused : EmmCause → Option (List ℕ) → Draft → Draft
 attach_refused cause esm d = wipe (release (Nas NormalRelease) (send (attach_reject cause esm) d))
 
--- AUTHENTICATION REQUEST by the vector at the next place, which is spent; the key set identifier is that place modulo 7
+-- AUTHENTICATION REQUEST by the vector at the next place, which is spent
 unfoldable pub challenged : Vector → Draft → Draft
 challenged v d =
     let place = d.solo.next_vector in
-    let request = authentication_request (place % 7) v.rand v.autn in
+    let request = authentication_request (ksi_of place) v.rand v.autn in
     let taken = record d { solo = record d.solo { phase = Authenticating; next_vector = place + 1 } } in
     start T3460 (repeats.Nas Plain request) (send request taken)
 
@@ -65,7 +67,8 @@ asking combined capability tai d = record d {
 unfoldable pub attach_by : Requested (List ℕ) → Setting → Bool → List ℕ → Tai → Draft → Draft
 attach_by Unreadable s combined capability tai d = attach_refused InvalidMandatory None d
 attach_by (Refused esm) s combined capability tai d = attach_refused EsmFailure (Some esm) d
-attach_by Taken s combined capability tai d = if has_eia2 capability then challenge s (asking combined capability tai d) else attach_refused ProtocolError None d
+attach_by Taken s combined capability tai d =
+    if has_eia2 capability then challenge s (asking combined capability tai d) else attach_refused ProtocolError None d
 
 -- what the ESM message asks for is kept
 unfoldable pub requesting : List ℕ → Draft → Draft
@@ -89,7 +92,7 @@ new_context place v d = record d {
     phase = SecurityMode;
     context = Some (record {
       place = place;
-      security = record { integrity = nas_integrity_key v.kasme; ksi = place % 7; down_next = 0; up_last = None };
+      security = record { integrity = nas_integrity_key v.kasme; ksi = ksi_of place; down_next = 0; up_last = None };
       kasme = v.kasme;
       radio = no_keys;
     });
@@ -99,8 +102,8 @@ new_context place v d = record d {
 -- SECURITY MODE COMMAND under the new context
 unfoldable pub authenticated : ℕ → Vector → Draft → Option Draft
 authenticated place v d =
-    let command = security_mode_command (place % 7) d.solo.asked.capability in
-    protect NewContext command (new_context place v d) >>= λ sent. Some (start T3460 (repeats.Nas (Under NewContext) command) sent)
+    let command = security_mode_command (ksi_of place) d.solo.asked.capability in
+    protect_and_await T3460 NewContext command (new_context place v d)
 
 -- AUTHENTICATION REJECT, and the phone is forgotten
 unfoldable pub not_authenticated : Draft → Draft
@@ -136,19 +139,11 @@ authenticating s (heards.AuthenticationFailure cause) d = Some (failure s cause 
 authenticating s (heards.DetachRequest switch_off) d = Some (detach_plainly switch_off d)
 authenticating s heards.Unasked d = Some d
 authenticating s (heards.Unreadable fault) d = Some (status_plainly (cause_of_fault fault) d)
-authenticating s (heards.AttachRequest combined capability esm) d = Some (status_plainly (Some NotCompatible) d)
-authenticating s (heards.TrackingAreaUpdateRequest combined) d = Some (status_plainly (Some NotCompatible) d)
-authenticating s (heards.ServiceRequest octets) d = Some (status_plainly (Some NotCompatible) d)
-authenticating s heards.SecurityModeComplete d = Some (status_plainly (Some NotCompatible) d)
-authenticating s heards.SecurityModeReject d = Some (status_plainly (Some NotCompatible) d)
-authenticating s (heards.AttachComplete esm) d = Some (status_plainly (Some NotCompatible) d)
-authenticating s heards.TrackingAreaUpdateComplete d = Some (status_plainly (Some NotCompatible) d)
-authenticating s heards.DetachAccept d = Some (status_plainly (Some NotCompatible) d)
-authenticating s heards.Other d = Some (status_plainly (Some NotCompatible) d)
+authenticating s _ d = Some (status_plainly (Some NotCompatible) d)
 
 abbrev pub is_plain : List ℕ → Bool
 is_plain [] = false
-is_plain (first ∷ rest) = first == 7
+is_plain (first ∷ rest) = first == emm_discriminator
 
 -- only plain messages are heard
 unfoldable pub in_authenticating : Setting → List ℕ → Draft → Option Draft
@@ -167,21 +162,23 @@ activating d = record d { solo = record d.solo { phase = Accepting; bearer = act
 
 -- what an attach is granted
 abbrev pub attach_grant : Setting → Draft → Grant
-attach_grant s d = record { tmsi = id_of_slot s.slot (next_counter d.solo.tmsis); tai = d.solo.tai; combined = d.solo.asked.combined_attach }
+attach_grant s d =
+    record { tmsi = id_of_slot s.slot (next_counter d.solo.tmsis); tai = d.solo.tai; combined = d.solo.asked.combined_attach }
 
 -- ATTACH ACCEPT with the activation of the bearer, in INITIAL CONTEXT SETUP REQUEST with KeNB; it goes alone when it is repeated
 unfoldable pub accept : Setting → List ℕ → Draft → Option Draft
 accept s kenb d =
     let esm = activation d.solo.bearer s.network.apn s.profile.address in
     let message = attach_accept s.network (attach_grant s d) esm in
-    set_up_with s kenb message (activating (given_tmsi s d)) >>= λ sent. Some (start T3450 (repeats.Nas (Under IntegrityProtectedCiphered) message) sent)
+    set_up_with s kenb message (activating (given_tmsi s d))
+    >>= λ sent. Some (start T3450 (repeats.Nas (Under IntegrityProtectedCiphered) message) sent)
 
 -- ESM INFORMATION REQUEST (TS 24.301 clause 6.6.1.2)
 unfoldable pub ask_information : Draft → Option Draft
 ask_information d =
     let request = information_request d.solo.bearer in
     let waiting = record d { solo = record d.solo { phase = EsmInformation } } in
-    protect IntegrityProtectedCiphered request waiting >>= λ sent. Some (start T3489 (repeats.Nas (Under IntegrityProtectedCiphered) request) sent)
+    protect_and_await T3489 IntegrityProtectedCiphered request waiting
 
 -- ---- security mode (TS 24.301 clause 5.4.3)
 
@@ -196,7 +193,8 @@ took x count d = record d {
   solo = record d.solo { context = Some x };
 }
 
--- the radio keys of a count: KeNB, whose chain stands at its first hop, of which no station is told (TS 33.401 clause 7.2.8.1, A.3)
+-- the radio keys of a count: KeNB, whose chain stands at its first hop, of which no station is told (TS 33.401 clauses 7.2.8.1
+-- and A.3)
 abbrev pub keys_of : List ℕ → ℕ → RadioKeys
 keys_of kasme count = record { kenb = kenb kasme count; next_hop = None; chaining_count = 1 }
 
@@ -231,4 +229,5 @@ secured_by (Err fault) s x nas d = Some (not_secured nas d)
 -- under the header of the new context alone
 unfoldable pub in_security_mode : Setting → List ℕ → Draft → Option Draft
 in_security_mode s nas d =
-    option_map_or (λ x. secured_by (accepted (mac_of x) x.security.up_last (NewContextCiphered ∷ []) nas) s x nas d) d.solo.context (Some (not_secured nas d))
+    option_map_or (λ x. secured_by (accepted (mac_of x) x.security.up_last (NewContextCiphered ∷ []) nas) s x nas d) d.solo.context
+    (Some (not_secured nas d))

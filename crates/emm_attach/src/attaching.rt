@@ -11,7 +11,9 @@ ghost use Rattle.mme_signalling.specs.Hearing.{heard, heard_lists};
 ghost use Rattle.emm_state.specs.Does.{Does};
 ghost use Rattle.emm_state.specs.declared.solo.Context.{Context};
 
-use emm_state::{Asked, Context, Draft, NasTimer, Phase, Protection, Repeat, Setting, StepStop};
+use emm_state::{
+    Asked, Context, Draft, NasTimer, Phase, Protection, Repeat, Setting, StepStop, ksi_of,
+};
 use eps_keys::{KeySchedule, same_octets};
 use esm_machine::Requested;
 use identity_slots::{Tmsi, Vector};
@@ -22,8 +24,8 @@ use mme_signalling::{
 };
 use mme_types::{Mark, NasOctets, RadioKeys};
 use nas_elements::UeCapability;
-use nas_messages::SecurityHeader;
-use nas_security::{Eia2, EpsSecurityContext};
+use nas_messages::{SecurityHeader, codes};
+use nas_security::{Eia2, SecurityContext};
 use s1ap_elements::{Cause, NasCause, Tai};
 use std::alloc::{AllocError, Global};
 
@@ -32,7 +34,7 @@ fn is_plain(nas: &[u8]) -> bool
     ensures { result ≡ is_plain nas.now }
 {
     match nas.first() {
-        Some(first) => *first == 7,
+        Some(first) => *first == codes::EMM_DISCRIMINATOR,
         None => false,
     }
 }
@@ -49,7 +51,7 @@ fn is_reject(nas: &[u8]) -> bool
     matches!(hear(nas), Heard::SecurityModeReject)
 }
 
-// The radio keys of a count (TS 33.401, A.3): no station was told a next hop yet.
+// The radio keys of a count (TS 33.401 clause A.3): no station was told a next hop yet.
 fn keys_of(schedule: &mut KeySchedule, kasme: &[u8; 32], count: u32) -> RadioKeys
     ensures { result ≡ keys_of kasme.now count }
 {
@@ -95,7 +97,7 @@ fn challenged(draft: &mut Draft, alloc: Global, vector: &Vector) -> Result<(), A
     ensures { OnOk result (draft.new ≡ challenged vector.now draft.old) }
 {
     let place = draft.solo.next_vector;
-    let request = authentication_request(alloc, (place % 7) as u8, vector.rand, vector.autn)?;
+    let request = authentication_request(alloc, ksi_of(place), vector.rand, vector.autn)?;
     draft.solo.phase = Phase::Authenticating;
     draft.solo.next_vector = place + 1;
     draft.send(alloc, request.as_slice())?;
@@ -165,7 +167,7 @@ fn new_context(draft: &mut Draft, place: usize, vector: &Vector)
     let integrity = Eia2::new(&draft.solo.schedule.nas_integrity_key(&vector.kasme));
     draft.solo.context = Some(Context {
         place,
-        security: EpsSecurityContext::new(integrity, (place % 7) as u8, 0, None),
+        security: SecurityContext::new(integrity, ksi_of(place), 0, None),
         kasme: vector.kasme,
         radio: RadioKeys {
             kenb: [0; 32],
@@ -184,17 +186,9 @@ fn authenticated(
 ) -> Result<(), StepStop>
     ensures { Does result draft.new (authenticated place vector.now draft.old) }
 {
-    let command = security_mode_command(alloc, (place % 7) as u8, &draft.solo.asked.capability)?;
+    let command = security_mode_command(alloc, ksi_of(place), &draft.solo.asked.capability)?;
     new_context(draft, place, vector);
-    draft.protect(alloc, SecurityHeader::NewContext, command.as_slice())?;
-    draft.start(
-        NasTimer::T3460,
-        Repeat::Nas(
-            Protection::Under(SecurityHeader::NewContext),
-            NasOctets::new(command),
-        ),
-    );
-    Ok(())
+    draft.protect_and_await(alloc, NasTimer::T3460, SecurityHeader::NewContext, command)
 }
 
 #[tactic(auto, unfolding(crate::specs::Attaching::not_authenticated))]
@@ -377,19 +371,8 @@ fn ask_information(draft: &mut Draft, alloc: Global) -> Result<(), StepStop>
 {
     let request = draft.solo.bearer.information_request(alloc)?;
     draft.solo.phase = Phase::EsmInformation;
-    draft.protect(
-        alloc,
-        SecurityHeader::IntegrityProtectedCiphered,
-        request.as_slice(),
-    )?;
-    draft.start(
-        NasTimer::T3489,
-        Repeat::Nas(
-            Protection::Under(SecurityHeader::IntegrityProtectedCiphered),
-            NasOctets::new(request),
-        ),
-    );
-    Ok(())
+    let header = SecurityHeader::IntegrityProtectedCiphered;
+    draft.protect_and_await(alloc, NasTimer::T3489, header, request)
 }
 
 /// An uplink message was accepted under the count by the context that stands, and the radio keys follow from it; KeNB is returned.

@@ -23,8 +23,9 @@ use Rattle.emm_state.specs.declared.solo.Repeat.{Repeat}
 use Rattle.emm_state.specs.declared.solo.Repeat.TheVariants as repeats
 use Rattle.emm_state.specs.declared.solo.NasTimer.{NasTimer}
 use Rattle.emm_state.specs.declared.solo.NasTimer.TheVariants.{T3413, T3422, T3450, T3460, T3489}
-use Rattle.emm_state.specs.Actions.{emit, ended, fall, protect, release, send, start, wipe}
+use Rattle.emm_state.specs.Actions.{emit, ended, fall, protect, protect_and_await, release, send, start, wipe}
 use Rattle.emm_state.specs.Does.{◌>>=◌}
+use Rattle.emm_state.specs.Phases.{is}
 use Rattle.emm_state.specs.Timers.{ticks_of}
 
 -- ---- paging (TS 24.301 clause 5.6.2, TS 36.413 clause 8.5)
@@ -55,13 +56,9 @@ emit_each message (e ∷ es) d = emit_each message es (emit e message None d)
 unfoldable pub page : Setting → List ℕ → Draft → Draft
 page s es d = option_map_or (λ t. emit_each (paging s.network s.profile.imsi t d.solo.tai) es d) d.solo.tmsi d
 
-abbrev pub is_in_registered : Phase → Bool
-is_in_registered Registered = true
-is_in_registered _ = false
-
 -- registered and idle, and not paged
 abbrev pub may_page : Draft → Bool
-may_page d = is_in_registered d.solo.phase && not (is_some d.solo.connection) && not (is_some d.solo.procedure)
+may_page d = is Registered d.solo.phase && not (is_some d.solo.connection) && not (is_some d.solo.procedure)
 
 unfoldable pub paged : Setting → List ℕ → Draft → Draft
 paged s es d = start T3413 (repeats.Paging es) (page s es d)
@@ -124,7 +121,7 @@ tick s d = procedure_ticks s (lowered d) >>= λ e. Some (reachable_ticks_out e)
 unfoldable pub detach_phone : Draft → Option Draft
 detach_phone d =
     let detaching = record d { solo = record d.solo { phase = Detaching } } in
-    protect IntegrityProtectedCiphered network_detach detaching >>= λ sent. Some (start T3422 (repeats.Nas (Under IntegrityProtectedCiphered) network_detach) sent)
+    protect_and_await T3422 IntegrityProtectedCiphered network_detach detaching
 
 abbrev pub dropped : Draft → Draft
 dropped d = wipe (release (Nas Detach) d)

@@ -4,13 +4,13 @@ ghost use Rattle.std.specs.Prelude.{◌≡◌, ◌<◌, IfOk, OnOk, Some, None};
 ghost use Rattle.std.specs.Borrow.{Bor};
 ghost use Rattle.s1ap_pdus.specs.Pdus.{lists};
 ghost use Rattle.emm_state.specs.Does.{Does};
-ghost use Rattle.emm_network.specs.Idle.{again, cancelled, covers, data_waits, detach_phone, dropped, emit_each, expired, given_up, is_in_registered, listening, listens, lower, lowered, may_page, page, paged, procedure_ticks, reachable_ticks_out, restarted, some_covers, tick};
+ghost use Rattle.emm_network.specs.Idle.{again, cancelled, covers, data_waits, detach_phone, dropped, emit_each, expired, given_up, listening, listens, lower, lowered, may_page, page, paged, procedure_ticks, reachable_ticks_out, restarted, some_covers, tick};
 
 use emm_state::{
     Countdown, Draft, NasTimer, Phase, Protection, Repeat, Setting, Stations, StepStop,
 };
 use mme_signalling::{network_detach, paging};
-use mme_types::{EnbWorld, NasOctets, StationNumber, StationState, is_broadcast};
+use mme_types::{EnbWorld, StationNumber, StationState, is_broadcast};
 use nas_messages::SecurityHeader;
 use s1ap_elements::{Cause, NasCause, SupportedTa, Tai};
 use s1ap_pdus::S1apPdu;
@@ -45,26 +45,10 @@ fn listening(alloc: Global, tai: &Tai, world: &EnbWorld) -> Result<Stations, All
     let mut numbers = Vec::new(alloc);
     for number in 0..128u8 {
         if listens(tai, &states[number as usize]) {
-            numbers.push(station_of(number))?;
+            numbers.push(StationNumber::new(number))?;
         }
     }
     Ok(Stations::new(numbers))
-}
-
-fn station_of(number: u8) -> StationNumber
-    requires { number < 128 }
-    ensures { result ≡ number }
-{
-    match StationNumber::try_new(number) {
-        Some(station) => station,
-        None => unreachable!(),
-    }
-}
-
-fn is_in_registered(phase: Phase) -> bool
-    ensures { result ≡ is_in_registered phase }
-{
-    matches!(phase, Phase::Registered)
 }
 
 // The message to each station.
@@ -108,7 +92,7 @@ fn page(
 fn may_page(draft: &Draft) -> bool
     ensures { result ≡ may_page draft.now }
 {
-    is_in_registered(draft.solo.phase)
+    draft.solo.phase.is(Phase::Registered)
         && draft.solo.connection.is_none()
         && draft.solo.procedure.is_none()
 }
@@ -244,19 +228,8 @@ fn detach_phone(draft: &mut Draft, alloc: Global) -> Result<(), StepStop>
 {
     let request = network_detach(alloc)?;
     draft.solo.phase = Phase::Detaching;
-    draft.protect(
-        alloc,
-        SecurityHeader::IntegrityProtectedCiphered,
-        request.as_slice(),
-    )?;
-    draft.start(
-        NasTimer::T3422,
-        Repeat::Nas(
-            Protection::Under(SecurityHeader::IntegrityProtectedCiphered),
-            NasOctets::new(request),
-        ),
-    );
-    Ok(())
+    let header = SecurityHeader::IntegrityProtectedCiphered;
+    draft.protect_and_await(alloc, NasTimer::T3422, header, request)
 }
 
 fn dropped(draft: &mut Draft, alloc: Global) -> Result<(), AllocError>

@@ -24,7 +24,9 @@ use Rattle.emm_state.specs.declared.setting.Setting.{Setting}
 use Rattle.emm_state.specs.declared.solo.Context.{Context}
 use Rattle.emm_state.specs.declared.solo.Phase.{Phase}
 use Rattle.emm_state.specs.declared.solo.Phase.TheVariants.{Deregistered, Authenticating, SecurityMode, EsmInformation, Accepting, Updating, Registered, Detaching}
+use Rattle.emm_state.specs.declared.solo.Protection.TheVariants.{Under}
 use Rattle.emm_state.specs.declared.solo.Repeat.{Repeat}
+use Rattle.emm_state.specs.declared.solo.Repeat.TheVariants as repeats
 use Rattle.emm_state.specs.declared.solo.Solo.{Solo}
 use Rattle.emm_state.specs.declared.solo.NasTimer.{NasTimer}
 use Rattle.emm_state.specs.Does.{◌>>=◌}
@@ -38,7 +40,8 @@ untouched solo = record { solo = solo; sent = []; accepted = None; unwritten = f
 
 -- the message goes to the station, under a vector's place and a count where its NAS message is protected
 unfoldable pub emit : ℕ → Pdu (List ℕ) → Option Mark → Draft → Draft
-emit station message under d = record d { sent = d.sent ++ answer_of station under (encoded message); unwritten = is_none (encoded message) || d.unwritten }
+emit station message under d =
+    record d { sent = d.sent ++ answer_of station under (encoded message); unwritten = is_none (encoded message) || d.unwritten }
 
 -- NAS to the phone, plain
 unfoldable pub send : List ℕ → Draft → Draft
@@ -51,7 +54,8 @@ disconnected d = record d { solo = record d.solo { connection = None } }
 
 -- UE CONTEXT RELEASE COMMAND with the pair, and the connection is gone
 unfoldable pub release : Cause → Draft → Draft
-release cause d = option_map_or (λ k. disconnected (emit k.station (release_command k.id k.enb_ue_id cause) None d)) d.solo.connection d
+release cause d =
+    option_map_or (λ k. disconnected (emit k.station (release_command k.id k.enb_ue_id cause) None d)) d.solo.connection d
 
 abbrev pub is_at : Connection → ℕ → ℕ → Bool
 is_at k station enb_ue_id = k.station == station && k.enb_ue_id == enb_ue_id
@@ -59,7 +63,8 @@ is_at k station enb_ue_id = k.station == station && k.enb_ue_id == enb_ue_id
 -- an old connection elsewhere is released
 unfoldable pub leave_old : ℕ → ℕ → Draft → Draft
 leave_old station enb_ue_id d =
-    option_map_or (λ k. if is_at k station enb_ue_id then d else emit k.station (release_command k.id k.enb_ue_id (Nas NormalRelease)) None d) d.solo.connection d
+    option_map_or (λ k. if is_at k station enb_ue_id then d
+    else emit k.station (release_command k.id k.enb_ue_id (Nas NormalRelease)) None d) d.solo.connection d
 
 -- the association with this id is the connection
 unfoldable pub connect_on : ℕ → ℕ → ℕ → Draft → Draft
@@ -80,13 +85,15 @@ connect slot station enb_ue_id d = connect_on (next_id slot d) station enb_ue_id
 
 -- on a next id of its own a release; all else stays
 unfoldable pub turn_away : ℕ → ℕ → ℕ → Draft → Draft
-turn_away slot station enb_ue_id d = emit station (release_command (next_id slot d) enb_ue_id (Nas NormalRelease)) None (association_counted d)
+turn_away slot station enb_ue_id d =
+    emit station (release_command (next_id slot d) enb_ue_id (Nas NormalRelease)) None (association_counted d)
 
 -- on a next id of its own the message, plain, and a release; all else stays
 unfoldable pub refuse : ℕ → ℕ → ℕ → List ℕ → Draft → Draft
 refuse slot station enb_ue_id nas d =
     let id = next_id slot d in
-    let sent = emit station (downlink (record { id = id; station = station; enb_ue_id = enb_ue_id }) nas) None (association_counted d) in
+    let sent =
+    emit station (downlink (record { id = id; station = station; enb_ue_id = enb_ue_id }) nas) None (association_counted d) in
     emit station (release_command id enb_ue_id (Nas NormalRelease)) None sent
 
 -- ---- the registration
@@ -177,10 +184,15 @@ protect header nas d = do
   s ← seal header nas d
   Some (option_map_or (λ k. emit k.station (downlink k s.0.form) s.0.under s.1) s.1.solo.connection s.1)
 
+-- the same, and it is sent again when the timer ends
+abbrev pub protect_and_await : NasTimer → SecurityHeader → List ℕ → Draft → Option Draft
+protect_and_await timer header nas d = protect header nas d >>= λ sent. Some (start timer (repeats.Nas (Under header) nas) sent)
+
 -- INITIAL CONTEXT SETUP REQUEST, with a protected NAS message where there is one
 unfoldable pub set_up : Setting → List ℕ → Option (List ℕ) → Option Mark → Draft → Draft
 set_up s kenb nas under d =
-    option_map_or (λ k. emit k.station (context_setup s.network s.profile d.solo.asked.capability k kenb nas) under d) d.solo.connection d
+    option_map_or
+    (λ k. emit k.station (context_setup s.network s.profile d.solo.asked.capability k kenb nas) under d) d.solo.connection d
 
 -- with a NAS message that is protected here
 unfoldable pub set_up_with : Setting → List ℕ → List ℕ → Draft → Option Draft

@@ -1,3 +1,5 @@
 pub mod Timers
+pub mod KeySets
+pub mod Phases
 pub mod Does
 pub mod Actions

@@ -4,25 +4,22 @@ ghost use Rattle.std.specs.Prelude.{◌≡◌, ◌<◌, ◌^◌, IfOk, OnOk, Som
 ghost use Rattle.s1ap_pdus.specs.Pdus.{encoded, lists};
 ghost use Rattle.s1ap_elements.specs.declared.cause.Cause.TheVariants as causes;
 ghost use Rattle.s1ap_elements.specs.declared.cause.NasCause.TheVariants as nas_causes;
-ghost use Rattle.emm_state.specs.Actions.{connect, connect_on, association_counted, disconnected, emit, ended, fall, is_registered, leave_old, lost, next_id, protect, refuse, release, resting, seal, sealed_under, send, set_up, set_up_with, start, turn_away, wipe, with_context};
+ghost use Rattle.emm_state.specs.Actions.{connect, connect_on, association_counted, disconnected, emit, ended, fall, is_registered, leave_old, lost, next_id, protect, protect_and_await, refuse, release, resting, seal, sealed_under, send, set_up, set_up_with, start, turn_away, wipe, with_context};
 ghost use Rattle.emm_state.specs.Does.{Does, Makes};
 ghost use Rattle.emm_state.specs.declared.draft.Draft.{Draft};
 
 use crate::draft::{Draft, Sealed, StepStop};
 use crate::setting::Setting;
-use crate::solo::{Context, Countdown, NasTimer, Phase, Repeat};
+use crate::solo::{Context, Countdown, NasTimer, Phase, Protection, Repeat};
 use esm_machine::Bearer;
 use identity_slots::{AssociationId, Slot};
 use mme_signalling::{context_setup, downlink, release_command};
 use mme_types::{Answer, Connection, Mark, NasOctets, SentOctets, StationNumber};
-use nas_messages::SecurityHeader;
+use nas_messages::{SecurityHeader, timers};
 use nas_security::SecurityFault;
 use s1ap_elements::{Cause, EnbUeId, NasCause};
 use s1ap_pdus::S1apPdu;
 use std::alloc::{AllocError, Global};
-
-// The ticks until a phone that is idle is taken to be gone: the mobile reachable timer, 58 minutes (TS 24.301 clause 10.2).
-const REACHABLE_TICKS: u32 = 3480;
 
 // The cause of an association that ends as it should.
 fn normal_release() -> Cause
@@ -72,7 +69,8 @@ impl Context {
 }
 
 impl Draft {
-    /// The message goes to the station, and its NAS message under a mark where it is protected. It is lent, so that it can go to several.
+    /// The message goes to the station, and its NAS message under a mark where it is protected. It is lent, so that it can go to
+    /// several.
     #[tactic(auto, unfolding(crate::specs::Actions::emit))]
     #[inline(always)]
     pub fn emit_lent(
@@ -166,7 +164,7 @@ impl Draft {
     {
         self.end_procedure();
         self.solo.phase = Phase::Registered;
-        self.solo.reachable = Some(REACHABLE_TICKS);
+        self.solo.reachable = Some(timers::MOBILE_REACHABLE_TICKS);
     }
 
     /// The connection is gone without a message.
@@ -354,6 +352,22 @@ impl Draft {
         let station = connection.station;
         let message = downlink(connection, form.as_slice());
         self.emit(alloc, station, message, under)?;
+        Ok(())
+    }
+
+    /// The same, and it is sent again when the timer ends.
+    pub fn protect_and_await(
+        &mut self,
+        alloc: Global,
+        timer: NasTimer,
+        header: SecurityHeader,
+        nas: Vec<u8>,
+    ) -> Result<(), StepStop>
+        ensures { Does result self.new (protect_and_await timer header nas.items self.old) }
+    {
+        self.protect(alloc, header, nas.as_slice())?;
+        let repeat = Repeat::Nas(Protection::Under(header), NasOctets::new(nas));
+        self.start(timer, repeat);
         Ok(())
     }
 

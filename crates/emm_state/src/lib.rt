@@ -11,5 +11,5 @@ pub use actions::is_registered;
 pub use draft::{Draft, Sealed, StepStop};
 pub use setting::Setting;
 pub use solo::{
-    Asked, Context, Countdown, Counter, NasTimer, Phase, Protection, Repeat, Solo, Stations,
+    Asked, Context, Countdown, Counter, NasTimer, Phase, Protection, Repeat, Solo, Stations, ksi_of,
 };

@@ -1,8 +1,11 @@
 //! What a subscriber's machine keeps.
 
-ghost use Rattle.std.specs.Prelude.{◌≡◌, ◌==◌, not, filter, IfOk};
+ghost use Rattle.std.specs.Prelude.{◌≡◌, ◌<◌, ◌==◌, not, filter, IfOk};
 ghost use Rattle.std.specs.List.{list_any};
 ghost use Rattle.identity_slots.specs.Ids.{next_counter, id_of_slot};
+ghost use Rattle.nas_messages.specs.Codes.{no_key_set};
+ghost use Rattle.emm_state.specs.KeySets.{ksi_of};
+ghost use Rattle.emm_state.specs.Phases.{is};
 ghost use Rattle.emm_state.specs.Timers.{repeats_of, ticks_of};
 
 use eps_keys::KeySchedule;
@@ -10,8 +13,8 @@ use esm_machine::Bearer;
 use identity_slots::{AssociationId, Slot, Tmsi};
 use mme_types::{Connection, NasOctets, RadioKeys, StationNumber};
 use nas_elements::UeCapability;
-use nas_messages::SecurityHeader;
-use nas_security::{Eia2, EpsSecurityContext};
+use nas_messages::{SecurityHeader, codes, timers};
+use nas_security::{Eia2, SecurityContext};
 use s1ap_elements::Tai;
 use std::alloc::{AllocError, Global};
 use std::marker::Model;
@@ -36,13 +39,30 @@ pub enum Phase {
     Detaching,
 }
 
+impl Phase {
+    /// Whether it is this one.
+    pub fn is(self, phase: Phase) -> bool
+        ensures { result ≡ is phase self }
+    {
+        self == phase
+    }
+}
+
 /// A security context with the place of the vector that it was made of. KeNB is zero until a message's count gave it.
 #[derive(Clone, Copy)]
 pub struct Context {
     pub place: usize,
-    pub security: EpsSecurityContext<Eia2>,
+    pub security: SecurityContext<Eia2>,
     pub kasme: [u8; 32],
     pub radio: RadioKeys,
+}
+
+/// The key set identifier of the vector at a place: those of keys go round (TS 24.301 clause 9.9.3.21).
+pub fn ksi_of(place: usize) -> u8
+    ensures value { result ≡ ksi_of place }
+    ensures small { result < no_key_set }
+{
+    (place % codes::NO_KEY_SET as usize) as u8
 }
 
 /// A timer of a procedure (TS 24.301 clause 10.2).
@@ -61,11 +81,11 @@ impl NasTimer {
         ensures { result ≡ ticks_of self }
     {
         match self {
-            NasTimer::T3413 => 10,
-            NasTimer::T3422 => 6,
-            NasTimer::T3450 => 6,
-            NasTimer::T3460 => 6,
-            NasTimer::T3489 => 4,
+            NasTimer::T3413 => timers::T3413_TICKS,
+            NasTimer::T3422 => timers::T3422_TICKS,
+            NasTimer::T3450 => timers::T3450_TICKS,
+            NasTimer::T3460 => timers::T3460_TICKS,
+            NasTimer::T3489 => timers::T3489_TICKS,
         }
     }
 
@@ -74,11 +94,11 @@ impl NasTimer {
         ensures { result ≡ repeats_of self }
     {
         match self {
-            NasTimer::T3413 => 1,
-            NasTimer::T3422 => 4,
-            NasTimer::T3450 => 4,
-            NasTimer::T3460 => 4,
-            NasTimer::T3489 => 2,
+            NasTimer::T3413 => timers::T3413_REPEATS,
+            NasTimer::T3422 => timers::T3422_REPEATS,
+            NasTimer::T3450 => timers::T3450_REPEATS,
+            NasTimer::T3460 => timers::T3460_REPEATS,
+            NasTimer::T3489 => timers::T3489_REPEATS,
         }
     }
 }

@@ -16,7 +16,8 @@ abbrev pub beside : Option Mark → Option Context → Draft → Draft
 beside a c d = record d { accepted = a; solo = record d.solo { context = c } }
 
 abbrev left : ℕ → ℕ → Connection → Draft → Draft
-left station enb_ue_id k d = if is_at k station enb_ue_id then d else emit k.station (release_command k.id k.enb_ue_id (Nas NormalRelease)) None d
+left station enb_ue_id k d =
+    if is_at k station enb_ue_id then d else emit k.station (release_command k.id k.enb_ue_id (Nas NormalRelease)) None d
 
 left_if : (b : Bool) (k : Connection) (a : Option Mark) (c : Option Context) (d : Draft)
     → (if b then beside a c d else emit k.station (release_command k.id k.enb_ue_id (Nas NormalRelease)) None (beside a c d))
@@ -26,11 +27,13 @@ left_if true k a c d = refl
 left_if false k a c d = refl
 
 left_beside : (station enb_ue_id : ℕ) (k : Option Connection) (a : Option Mark) (c : Option Context) (d : Draft)
-    → option_map_or (λ k. left station enb_ue_id k (beside a c d)) k (beside a c d) ≡ beside a c (option_map_or (λ k. left station enb_ue_id k d) k d)
+    → option_map_or (λ k. left station enb_ue_id k (beside a c d)) k (beside a c d)
+    ≡ beside a c (option_map_or (λ k. left station enb_ue_id k d) k d)
 left_beside station enb_ue_id None a c d = refl
 left_beside station enb_ue_id (Some k) a c d = left_if (is_at k station enb_ue_id) k a c d
 
-leave_beside : (station enb_ue_id : ℕ) (a : Option Mark) (c : Option Context) (d : Draft) → leave_old station enb_ue_id (beside a c d) ≡ beside a c (leave_old station enb_ue_id d)
+leave_beside : (station enb_ue_id : ℕ) (a : Option Mark) (c : Option Context) (d : Draft)
+    → leave_old station enb_ue_id (beside a c d) ≡ beside a c (leave_old station enb_ue_id d)
 unfolding leave_old
 leave_beside station enb_ue_id a c d = left_beside station enb_ue_id d.solo.connection a c d
 
@@ -45,4 +48,5 @@ connect_beside slot station enb_ue_id a c d =
 -- and it keeps the context
 pub connect_keeps : (slot station enb_ue_id : ℕ) (c : Option Context) (d : Draft)
     → d.solo.context ≡ c → (connect slot station enb_ue_id d).solo.context ≡ c
-connect_keeps slot station enb_ue_id c d h = ap (λ (s : Draft). s.solo.context) (connect_beside slot station enb_ue_id d.accepted d.solo.context d) ∙ h
+connect_keeps slot station enb_ue_id c d h =
+    ap (λ (s : Draft). s.solo.context) (connect_beside slot station enb_ue_id d.accepted d.solo.context d) ∙ h

@@ -29,38 +29,13 @@ use Rattle.emm_state.specs.declared.setting.Setting.{Setting}
 use Rattle.emm_state.specs.declared.solo.Context.{Context}
 use Rattle.emm_state.specs.declared.solo.Phase.{Phase}
 use Rattle.emm_state.specs.declared.solo.Phase.TheVariants.{Deregistered, Authenticating, SecurityMode, EsmInformation, Accepting, Updating, Registered, Detaching}
-use Rattle.emm_state.specs.declared.solo.Protection.TheVariants.{Under}
-use Rattle.emm_state.specs.declared.solo.Repeat.TheVariants as repeats
 use Rattle.emm_state.specs.declared.solo.NasTimer.TheVariants.{T3450}
-use Rattle.emm_state.specs.Actions.{connect, connect_on, ended, fall, is_registered, mac_of, protect, refuse, release, set_up, start, turn_away, wipe}
+use Rattle.emm_state.specs.Actions.{connect, connect_on, ended, fall, is_registered, mac_of, protect, protect_and_await, refuse, release, set_up, turn_away, wipe}
 use Rattle.emm_state.specs.Does.{◌>>=◌}
+use Rattle.emm_state.specs.Phases.{is}
 use Rattle.emm_attach.specs.Attaching.{accept, attach, counted_up, detach_plainly, given_tmsi, in_authenticating, in_security_mode, keyed, took}
 
--- ---- phases
-
-abbrev pub is_deregistered : Phase → Bool
-is_deregistered Deregistered = true
-is_deregistered _ = false
-
-abbrev pub awaits_information : Phase → Bool
-awaits_information EsmInformation = true
-awaits_information _ = false
-
-abbrev pub awaits_attach_complete : Phase → Bool
-awaits_attach_complete Accepting = true
-awaits_attach_complete _ = false
-
-abbrev pub awaits_update_complete : Phase → Bool
-awaits_update_complete Updating = true
-awaits_update_complete _ = false
-
-abbrev pub awaits_detach_accept : Phase → Bool
-awaits_detach_accept Detaching = true
-awaits_detach_accept _ = false
-
-abbrev pub may_update : Phase → Bool
-may_update Registered = true
-may_update _ = false
+-- ---- protected messages
 
 -- the headers of a message under a context in use
 abbrev pub in_use : List SecurityHeader
@@ -80,7 +55,8 @@ active phase d =
 
 -- a context that has counted the request serves it
 unfoldable pub served : Setting → Context → Entry (List ℕ) → ℕ → Draft → Draft
-served s x m count d = set_up s (kenb x.kasme count) None None (keyed x count (active Registered (connect s.slot m.station m.enb_ue_id d)))
+served s x m count d =
+    set_up s (kenb x.kasme count) None None (keyed x count (active Registered (connect s.slot m.station m.enb_ue_id d)))
 
 unfoldable pub served_by : Result ℕ SecurityFault → Setting → Context → Entry (List ℕ) → Draft → Draft
 served_by (Ok count) s x m d = served s (counted_up x count) m count d
@@ -90,7 +66,8 @@ served_by (Err fault) s x m d = refuse s.slot m.station m.enb_ue_id (service_rej
 unfoldable pub service : Setting → Entry (List ℕ) → List ℕ → Draft → Draft
 service s m octets d =
     if is_registered d.solo.phase then
-    option_map_or (λ x. served_by (short_accepted (mac_of x) x.security.up_last x.security.ksi octets) s x m d) d.solo.context (refuse s.slot m.station m.enb_ue_id (service_reject IdentityNotDerived) d)
+    option_map_or (λ x. served_by (short_accepted (mac_of x) x.security.up_last x.security.ksi octets) s x m d) d.solo.context
+    (refuse s.slot m.station m.enb_ue_id (service_reject IdentityNotDerived) d)
     else refuse s.slot m.station m.enb_ue_id (service_reject ImplicitlyDetached) d
 
 -- ---- tracking area update (TS 24.301 clause 5.5.3)
@@ -108,17 +85,19 @@ updating tai initial d =
 unfoldable pub update : Setting → Tai → Bool → Bool → Draft → Option Draft
 update s tai combined initial d =
     let message = update_accept s.network (update_grant s tai combined d) in
-    protect IntegrityProtectedCiphered message (updating tai initial (given_tmsi s d)) >>= λ sent. Some (start T3450 (repeats.Nas (Under IntegrityProtectedCiphered) message) sent)
+    protect_and_await T3450 IntegrityProtectedCiphered message (updating tai initial (given_tmsi s d))
 
 unfoldable pub updated_by : Acceptance → Setting → Context → Entry (List ℕ) → Bool → Draft → Option Draft
-updated_by (Ok found) s x m combined d = update s m.tai combined true (took (counted_up x found.0) found.0 (connect s.slot m.station m.enb_ue_id d))
+updated_by (Ok found) s x m combined d =
+    update s m.tai combined true (took (counted_up x found.0) found.0 (connect s.slot m.station m.enb_ue_id d))
 updated_by (Err fault) s x m combined d = Some (refuse s.slot m.station m.enb_ue_id (update_reject IdentityNotDerived) d)
 
 -- TRACKING AREA UPDATE REQUEST in an INITIAL UE MESSAGE
 unfoldable pub initial_update : Setting → Entry (List ℕ) → Bool → Draft → Option Draft
 initial_update s m combined d =
     if is_registered d.solo.phase then
-    option_map_or (λ x. updated_by (accepted_by_context x m.nas) s x m combined d) d.solo.context (Some (refuse s.slot m.station m.enb_ue_id (update_reject IdentityNotDerived) d))
+    option_map_or (λ x. updated_by (accepted_by_context x m.nas) s x m combined d) d.solo.context
+    (Some (refuse s.slot m.station m.enb_ue_id (update_reject IdentityNotDerived) d))
     else Some (refuse s.slot m.station m.enb_ue_id (update_reject ImplicitlyDetached) d)
 
 -- ---- detach (TS 24.301 clause 5.5.2)
@@ -132,39 +111,34 @@ unfoldable pub detach : Bool → Draft → Option Draft
 detach switch_off d = detach_answered switch_off d >>= λ sent. Some (wipe (release (Nas Detach) sent))
 
 unfoldable pub detached_by : Acceptance → Setting → Context → Entry (List ℕ) → Bool → Draft → Option Draft
-detached_by (Ok found) s x m switch_off d = detach switch_off (took (counted_up x found.0) found.0 (connect s.slot m.station m.enb_ue_id d))
+detached_by (Ok found) s x m switch_off d =
+    detach switch_off (took (counted_up x found.0) found.0 (connect s.slot m.station m.enb_ue_id d))
 detached_by (Err fault) s x m switch_off d = Some (turn_away s.slot m.station m.enb_ue_id d)
 
 -- DETACH REQUEST in an INITIAL UE MESSAGE
 unfoldable pub initial_detach : Setting → Entry (List ℕ) → Bool → Draft → Option Draft
 initial_detach s m switch_off d =
-    if is_deregistered d.solo.phase then Some (detach_plainly switch_off (connect s.slot m.station m.enb_ue_id d))
-    else option_map_or (λ x. detached_by (accepted_by_context x m.nas) s x m switch_off d) d.solo.context (Some (turn_away s.slot m.station m.enb_ue_id d))
+    if is Deregistered d.solo.phase then Some (detach_plainly switch_off (connect s.slot m.station m.enb_ue_id d))
+    else option_map_or (λ x. detached_by (accepted_by_context x m.nas) s x m switch_off d) d.solo.context
+    (Some (turn_away s.slot m.station m.enb_ue_id d))
 
 -- ---- INITIAL UE MESSAGE
 
 unfoldable pub entered : Heard (List ℕ) → Setting → Entry (List ℕ) → Draft → Option Draft
-entered (heards.AttachRequest combined capability esm) s m d = Some (attach s combined capability esm m.tai (connect s.slot m.station m.enb_ue_id d))
+entered (heards.AttachRequest combined capability esm) s m d =
+    Some (attach s combined capability esm m.tai (connect s.slot m.station m.enb_ue_id d))
 entered (heards.ServiceRequest octets) s m d = Some (service s m octets d)
 entered (heards.TrackingAreaUpdateRequest combined) s m d = initial_update s m combined d
 entered (heards.DetachRequest switch_off) s m d = initial_detach s m switch_off d
-entered (heards.AuthenticationResponse res) s m d = Some d
-entered (heards.AuthenticationFailure cause) s m d = Some d
-entered heards.SecurityModeComplete s m d = Some d
-entered heards.SecurityModeReject s m d = Some d
-entered (heards.AttachComplete esm) s m d = Some d
-entered heards.TrackingAreaUpdateComplete s m d = Some d
-entered heards.DetachAccept s m d = Some d
-entered heards.Unasked s m d = Some d
-entered heards.Other s m d = Some d
-entered (heards.Unreadable fault) s m d = Some d
+entered _ s m d = Some d
 
 unfoldable pub initial : Setting → Entry (List ℕ) → Draft → Option Draft
 initial s m d = entered (heard (initial_octets m.nas)) s m d
 
 -- a stranger's message that is now known to be this subscriber's: its ATTACH REQUEST on the stranger's association
 unfoldable pub claimed : Heard (List ℕ) → Setting → ℕ → Entry (List ℕ) → Draft → Draft
-claimed (heards.AttachRequest combined capability esm) s id m d = attach s combined capability esm m.tai (connect_on id m.station m.enb_ue_id d)
+claimed (heards.AttachRequest combined capability esm) s id m d =
+    attach s combined capability esm m.tai (connect_on id m.station m.enb_ue_id d)
 claimed _ s id m d = d
 
 unfoldable pub claim : Setting → ℕ → Entry (List ℕ) → Draft → Draft
@@ -193,20 +167,18 @@ unfoldable pub update_completed : Draft → Draft
 update_completed d = if d.solo.asked.initial_update then fall (Nas NormalRelease) (registered d) else registered d
 
 unfoldable pub inner_emm : Heard (List ℕ) → Setting → Tai → Draft → Option Draft
-inner_emm (heards.AttachComplete esm) s tai d = if awaits_attach_complete d.solo.phase then Some (attach_completed esm d) else status_protected (Some NotCompatible) d
-inner_emm heards.TrackingAreaUpdateComplete s tai d = if awaits_update_complete d.solo.phase then Some (update_completed d) else status_protected (Some NotCompatible) d
-inner_emm (heards.TrackingAreaUpdateRequest combined) s tai d = if may_update d.solo.phase then update s tai combined false d else status_protected (Some NotCompatible) d
+inner_emm (heards.AttachComplete esm) s tai d =
+    if is Accepting d.solo.phase then Some (attach_completed esm d) else status_protected (Some NotCompatible) d
+inner_emm heards.TrackingAreaUpdateComplete s tai d =
+    if is Updating d.solo.phase then Some (update_completed d) else status_protected (Some NotCompatible) d
+inner_emm (heards.TrackingAreaUpdateRequest combined) s tai d =
+    if is Registered d.solo.phase then update s tai combined false d else status_protected (Some NotCompatible) d
 inner_emm (heards.DetachRequest switch_off) s tai d = detach switch_off d
-inner_emm heards.DetachAccept s tai d = if awaits_detach_accept d.solo.phase then Some (wipe (release (Nas Detach) d)) else status_protected (Some NotCompatible) d
+inner_emm heards.DetachAccept s tai d =
+    if is Detaching d.solo.phase then Some (wipe (release (Nas Detach) d)) else status_protected (Some NotCompatible) d
 inner_emm heards.Unasked s tai d = Some d
 inner_emm (heards.Unreadable fault) s tai d = status_protected (cause_of_fault fault) d
-inner_emm (heards.AttachRequest combined capability esm) s tai d = status_protected (Some NotCompatible) d
-inner_emm (heards.ServiceRequest octets) s tai d = status_protected (Some NotCompatible) d
-inner_emm (heards.AuthenticationResponse res) s tai d = status_protected (Some NotCompatible) d
-inner_emm (heards.AuthenticationFailure cause) s tai d = status_protected (Some NotCompatible) d
-inner_emm heards.SecurityModeComplete s tai d = status_protected (Some NotCompatible) d
-inner_emm heards.SecurityModeReject s tai d = status_protected (Some NotCompatible) d
-inner_emm heards.Other s tai d = status_protected (Some NotCompatible) d
+inner_emm _ s tai d = status_protected (Some NotCompatible) d
 
 -- ESM information has come (TS 24.301 clause 6.6.1.2.3): KeNB is that of the SECURITY MODE COMPLETE
 unfoldable pub information_came : Setting → Draft → Option Draft
@@ -218,7 +190,7 @@ reacted Informed s d = information_came s d
 reacted (Answered octets) s d = protect IntegrityProtectedCiphered octets d
 
 unfoldable pub inner_esm : List ℕ → Setting → Draft → Option Draft
-inner_esm octets s d = reacted (reaction d.solo.bearer (awaits_information d.solo.phase) octets) s d
+inner_esm octets s d = reacted (reaction d.solo.bearer (is EsmInformation d.solo.phase) octets) s d
 
 -- a message behind its protection
 unfoldable pub inner_message : List ℕ → Setting → Tai → Draft → Option Draft

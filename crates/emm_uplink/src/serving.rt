@@ -7,20 +7,20 @@ ghost use Rattle.mme_signalling.specs.Messages.{service_reject, update_reject};
 ghost use Rattle.emm_state.specs.Does.{Does};
 ghost use Rattle.emm_state.specs.declared.solo.Context.{Context};
 ghost use Rattle.mme_signalling.specs.Hearing.{heard_lists};
-ghost use Rattle.emm_uplink.specs.Serving.{accepted_by_context, active, attach_completed, awaits_attach_complete, awaits_detach_accept, awaits_information, awaits_update_complete, claim, claimed, detach, detach_answered, detached_by, entered, in_later, information_came, initial, initial_detach, initial_update, is_deregistered, may_update, reacted, registered, served, served_by, service, status_protected, inner_message, inner_message_by, inner_emm, inner_esm, update, update_completed, update_grant, updated_by, updating, uplink};
+ghost use Rattle.emm_uplink.specs.Serving.{accepted_by_context, active, attach_completed, claim, claimed, detach, detach_answered, detached_by, entered, in_later, information_came, initial, initial_detach, initial_update, reacted, registered, served, served_by, service, status_protected, inner_message, inner_message_by, inner_emm, inner_esm, update, update_completed, update_grant, updated_by, updating, uplink};
 ghost use Rattle.mme_types.specs.Events.{entry_lists};
 
 use emm_attach::{
     accept, attach, detach_plainly, given_tmsi, in_authenticating, in_security_mode, keyed,
 };
-use emm_state::{Draft, NasTimer, Phase, Protection, Repeat, Setting, StepStop, is_registered};
+use emm_state::{Draft, NasTimer, Phase, Setting, StepStop, is_registered};
 use esm_machine::Reaction;
 use identity_slots::AssociationId;
 use mme_signalling::{
     EmmCause, Grant, Heard, cause_of_fault, detach_accept, emm_status, hear, initial_octets,
     is_esm, service_reject, update_accept, update_reject,
 };
-use mme_types::{Entry, Mark, NasOctets};
+use mme_types::{Entry, Mark};
 use nas_messages::SecurityHeader;
 use s1ap_elements::{Cause, NasCause, Tai};
 use std::alloc::{AllocError, Global};
@@ -30,42 +30,6 @@ const IN_USE: [SecurityHeader; 2] = [
     SecurityHeader::IntegrityProtected,
     SecurityHeader::IntegrityProtectedCiphered,
 ];
-
-fn is_deregistered(phase: Phase) -> bool
-    ensures { result ≡ is_deregistered phase }
-{
-    matches!(phase, Phase::Deregistered)
-}
-
-fn awaits_information(phase: Phase) -> bool
-    ensures { result ≡ awaits_information phase }
-{
-    matches!(phase, Phase::EsmInformation)
-}
-
-fn awaits_attach_complete(phase: Phase) -> bool
-    ensures { result ≡ awaits_attach_complete phase }
-{
-    matches!(phase, Phase::Accepting)
-}
-
-fn awaits_update_complete(phase: Phase) -> bool
-    ensures { result ≡ awaits_update_complete phase }
-{
-    matches!(phase, Phase::Updating)
-}
-
-fn awaits_detach_accept(phase: Phase) -> bool
-    ensures { result ≡ awaits_detach_accept phase }
-{
-    matches!(phase, Phase::Detaching)
-}
-
-fn may_update(phase: Phase) -> bool
-    ensures { result ≡ may_update phase }
-{
-    matches!(phase, Phase::Registered)
-}
 
 #[tactic(auto, unfolding(crate::specs::Serving::active))]
 fn active(draft: &mut Draft, phase: Phase)
@@ -83,7 +47,8 @@ fn refuse_service(
     entry: &Entry<&[u8]>,
     cause: EmmCause,
 ) -> Result<(), AllocError>
-    ensures { OnOk result (draft.new ≡ refuse setting.now.slot entry.now.station entry.now.enb_ue_id (service_reject cause) draft.old) }
+    ensures { OnOk result
+        (draft.new ≡ refuse setting.now.slot entry.now.station entry.now.enb_ue_id (service_reject cause) draft.old) }
 {
     let reject = service_reject(alloc, cause)?;
     draft.refuse(
@@ -102,7 +67,8 @@ fn refuse_update(
     entry: &Entry<&[u8]>,
     cause: EmmCause,
 ) -> Result<(), AllocError>
-    ensures { OnOk result (draft.new ≡ refuse setting.now.slot entry.now.station entry.now.enb_ue_id (update_reject cause) draft.old) }
+    ensures { OnOk result
+        (draft.new ≡ refuse setting.now.slot entry.now.station entry.now.enb_ue_id (update_reject cause) draft.old) }
 {
     let reject = update_reject(alloc, cause)?;
     draft.refuse(
@@ -184,19 +150,8 @@ fn update(
         combined,
     };
     let message = update_accept(alloc, setting.network.get(), grant)?;
-    draft.protect(
-        alloc,
-        SecurityHeader::IntegrityProtectedCiphered,
-        message.as_slice(),
-    )?;
-    draft.start(
-        NasTimer::T3450,
-        Repeat::Nas(
-            Protection::Under(SecurityHeader::IntegrityProtectedCiphered),
-            NasOctets::new(message),
-        ),
-    );
-    Ok(())
+    let header = SecurityHeader::IntegrityProtectedCiphered;
+    draft.protect_and_await(alloc, NasTimer::T3450, header, message)
 }
 
 /// TRACKING AREA UPDATE REQUEST in an INITIAL UE MESSAGE.
@@ -268,7 +223,7 @@ fn initial_detach(
     ensures { Does result draft.new (initial_detach setting.now (entry_lists entry.now) switch_off draft.old) }
 {
     let (slot, station, enb_ue_id) = (setting.slot, entry.station, entry.enb_ue_id);
-    if is_deregistered(draft.solo.phase) {
+    if draft.solo.phase.is(Phase::Deregistered) {
         draft.connect(alloc, slot, station, enb_ue_id)?;
         return Ok(detach_plainly(draft, alloc, switch_off)?);
     }
@@ -472,17 +427,17 @@ fn inner_emm(
 {
     let phase = draft.solo.phase;
     match message {
-        Heard::AttachComplete { esm } if awaits_attach_complete(phase) => {
+        Heard::AttachComplete { esm } if phase.is(Phase::Accepting) => {
             Ok(attach_completed(draft, alloc, esm)?)
         }
-        Heard::TrackingAreaUpdateComplete if awaits_update_complete(phase) => {
+        Heard::TrackingAreaUpdateComplete if phase.is(Phase::Updating) => {
             Ok(update_completed(draft, alloc)?)
         }
-        Heard::TrackingAreaUpdateRequest { combined } if may_update(phase) => {
+        Heard::TrackingAreaUpdateRequest { combined } if phase.is(Phase::Registered) => {
             update(draft, alloc, setting, tai, *combined, false)
         }
         Heard::DetachRequest { switch_off } => detach(draft, alloc, *switch_off),
-        Heard::DetachAccept if awaits_detach_accept(phase) => {
+        Heard::DetachAccept if phase.is(Phase::Detaching) => {
             draft.release(alloc, Cause::Nas(NasCause::Detach))?;
             draft.wipe();
             Ok(())
@@ -526,7 +481,7 @@ fn inner_esm(
 ) -> Result<(), StepStop>
     ensures { Does result draft.new (inner_esm octets.now setting.now draft.old) }
 {
-    let waiting = awaits_information(draft.solo.phase);
+    let waiting = draft.solo.phase.is(Phase::EsmInformation);
     match draft.solo.bearer.on_message(alloc, octets, waiting)? {
         Reaction::Nothing => Ok(()),
         Reaction::Informed => information_came(draft, alloc, setting),
@@ -580,8 +535,8 @@ fn in_later(
     }
 }
 
-/// What an UPLINK NAS TRANSPORT of a known phone does, by its phase (TS 24.301 clause 4.4.4.3). Refused where memory is, or where the
-/// context's counts are spent.
+/// What an UPLINK NAS TRANSPORT of a known phone does, by its phase (TS 24.301 clause 4.4.4.3). Refused where memory is, or where
+/// the context's counts are spent.
 #[tactic(auto, unfolding(crate::specs::Serving::uplink))]
 pub fn uplink(
     draft: &mut Draft,

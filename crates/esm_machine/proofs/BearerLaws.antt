@@ -26,8 +26,10 @@ use Rattle.esm_machine.specs.Sessions.{Session, is_dual, transaction_of}
 writable : (dual : Bool) (transaction : ℕ) (apn address : List ℕ) → 1 ≤ length apn → length apn ≤ 63 → length address ≡ 4
     → IsWritableEsm (record { bearer = 5; transaction = transaction; body = ActivateRequest (record { apn = apn; address = address; cause = address_cause dual }) })
 unfolding rule_of
-writable true transaction apn address some short four = (omega arith, ((tt, (tt, ((some, short), (tt, (tt, (four, tt)))))), (refl, tt)))
-writable false transaction apn address some short four = (omega arith, ((tt, (tt, ((some, short), (tt, (tt, (four, tt)))))), (tt, tt)))
+writable true transaction apn address some short four =
+    (omega arith, ((tt, (tt, ((some, short), (tt, (tt, (four, tt)))))), (refl, tt)))
+writable false transaction apn address some short four =
+    (omega arith, ((tt, (tt, ((some, short), (tt, (tt, (four, tt)))))), (tt, tt)))
 
 pub is_read : ActivationIsRead
 unfolding activation
@@ -56,11 +58,13 @@ answer_is : (sent answer : List ℕ) → Answer sent ≡ Answer answer → sent 
 unfolding octets_in
 answer_is sent answer e = ap octets_in e
 
-answer_has : (sent answer : List ℕ) (transaction : ℕ) → slice_index sent 1 ≡ transaction → Answer sent ≡ Answer answer → slice_index answer 1 ≡ transaction
+answer_has : (sent answer : List ℕ) (transaction : ℕ) → slice_index sent 1 ≡ transaction → Answer sent ≡ Answer answer
+    → slice_index answer 1 ≡ transaction
 answer_has sent answer transaction h e = ap (λ (os : List ℕ). slice_index os 1) (sym (answer_is sent answer e)) ∙ h
 
 informed_has : (waiting right : Bool) (bearer transaction : ℕ) (answer : List ℕ)
-    → cond waiting (cond right Informed Nothing) (Answer (status NotCompatible bearer transaction)) ≡ Answer answer → slice_index answer 1 ≡ transaction
+    → cond waiting (cond right Informed Nothing) (Answer (status NotCompatible bearer transaction)) ≡ Answer answer
+    → slice_index answer 1 ≡ transaction
 unfolding status
 informed_has true true bearer transaction answer e = absurd cc
 informed_has true false bearer transaction answer e = absurd cc
@@ -69,7 +73,8 @@ informed_has false right bearer transaction answer e = answer_has _ answer trans
 response_has : (request : Option Request) (waiting : Bool) (bearer transaction : ℕ) (answer : List ℕ)
     → informed request waiting bearer transaction ≡ Answer answer → slice_index answer 1 ≡ transaction
 response_has None waiting bearer transaction answer e = informed_has waiting false bearer transaction answer e
-response_has (Some request) waiting bearer transaction answer e = informed_has waiting (eqb request.transaction transaction) bearer transaction answer e
+response_has (Some request) waiting bearer transaction answer e =
+    informed_has waiting (eqb request.transaction transaction) bearer transaction answer e
 
 message_has : (request : Option Request) (waiting : Bool) (bearer transaction : ℕ) (body : EsmBody (List ℕ)) (answer : List ℕ)
     → reaction_to request waiting bearer transaction body ≡ Answer answer → slice_index answer 1 ≡ transaction
@@ -77,12 +82,14 @@ unfolding status connectivity_reject disconnect_reject
 message_has request waiting bearer transaction (ActivateRequest m) answer e = answer_has _ answer transaction refl e
 message_has request waiting bearer transaction ActivateAccept answer e = answer_has _ answer transaction refl e
 message_has request waiting bearer transaction (ActivateReject cause) answer e = answer_has _ answer transaction refl e
-message_has request waiting bearer transaction (ConnectivityRequest request_type pdn_type information) answer e = answer_has _ answer transaction refl e
+message_has request waiting bearer transaction (ConnectivityRequest request_type pdn_type information) answer e =
+    answer_has _ answer transaction refl e
 message_has request waiting bearer transaction (ConnectivityReject cause) answer e = answer_has _ answer transaction refl e
 message_has request waiting bearer transaction (DisconnectRequest linked) answer e = answer_has _ answer transaction refl e
 message_has request waiting bearer transaction (DisconnectReject cause) answer e = answer_has _ answer transaction refl e
 message_has request waiting bearer transaction InformationRequest answer e = answer_has _ answer transaction refl e
-message_has request waiting bearer transaction InformationResponse answer e = response_has request waiting bearer transaction answer e
+message_has request waiting bearer transaction InformationResponse answer e =
+    response_has request waiting bearer transaction answer e
 message_has request waiting bearer transaction (EsmStatus cause) answer e = absurd cc
 
 fault_has : (bearer transaction : ℕ) (fault : NasFault) (answer : List ℕ)
@@ -95,20 +102,24 @@ fault_has bearer transaction faults.OptionalPart answer e = answer_has _ answer 
 fault_has bearer transaction faults.NoMemory answer e = absurd cc
 
 -- a message's transaction is its second octet
-second_in : (bearer transaction : ℕ) (body : TypedBody) (octets : List ℕ) → SpellsBody bearer transaction body octets → transaction ≡ slice_index octets 1
+second_in : (bearer transaction : ℕ) (body : TypedBody) (octets : List ℕ) → SpellsBody bearer transaction body octets
+    → transaction ≡ slice_index octets 1
 second_in bearer transaction (of_type t v) octets s = sym (ap (λ (os : List ℕ). slice_index os 1) s.1)
 
 second_of : (octets : List ℕ) (m : Esm (List ℕ)) → decoded_esm octets ≡ Ok m → m.transaction ≡ slice_index octets 1
 second_of octets m e = second_in m.bearer m.transaction (typed_body m.body) octets (esm_takes octets m e)
 
-reading_has : (session : Session) (waiting : Bool) (octets answer : List ℕ) (read : Result (Esm (List ℕ)) NasFault) → decoded_esm octets ≡ read
+reading_has : (session : Session) (waiting : Bool) (octets answer : List ℕ) (read : Result (Esm (List ℕ)) NasFault)
+    → decoded_esm octets ≡ read
     → reaction_by session waiting octets read ≡ Answer answer → slice_index answer 1 ≡ slice_index octets 1
 reading_has session waiting octets answer (Ok m) was e =
     message_has session.request waiting m.bearer m.transaction m.body answer e ∙ second_of octets m was
-reading_has session waiting octets answer (Err fault) was e = fault_has (slice_index octets 0 / 16) (slice_index octets 1) fault answer e
+reading_has session waiting octets answer (Err fault) was e =
+    fault_has (slice_index octets 0 / 16) (slice_index octets 1) fault answer e
 
 octets_have : (session : Session) (waiting : Bool) (octets answer : List ℕ) (short : Bool)
-    → cond short Nothing (reaction_by session waiting octets (decoded_esm octets)) ≡ Answer answer → slice_index answer 1 ≡ slice_index octets 1
+    → cond short Nothing (reaction_by session waiting octets (decoded_esm octets)) ≡ Answer answer
+    → slice_index answer 1 ≡ slice_index octets 1
 octets_have session waiting octets answer true e = absurd cc
 octets_have session waiting octets answer false e = reading_has session waiting octets answer (decoded_esm octets) refl e
 
@@ -119,7 +130,8 @@ keeps_transaction session waiting octets answer e = octets_have session waiting 
 -- ---- when ESM information is taken
 
 abbrev Awaited : Option Request → Bool → ℕ → Type 0
-Awaited taken waiting transaction = (waiting ≡ true) × (request : Request) × (taken ≡ Some request) × (request.transaction ≡ transaction)
+Awaited taken waiting transaction =
+    (waiting ≡ true) × (request : Request) × (taken ≡ Some request) × (request.transaction ≡ transaction)
 
 matches : (request : Request) (transaction : ℕ) (right : Bool) → eqb request.transaction transaction ≡ right
     → cond {A = Reaction (List ℕ)} right Informed Nothing ≡ Informed → Awaited (Some request) true transaction
@@ -154,7 +166,8 @@ fault_awaited taken waiting bearer transaction faults.UnknownType e = absurd cc
 fault_awaited taken waiting bearer transaction faults.OptionalPart e = absurd cc
 fault_awaited taken waiting bearer transaction faults.NoMemory e = absurd cc
 
-reading_awaited : (session : Session) (waiting : Bool) (octets : List ℕ) (read : Result (Esm (List ℕ)) NasFault) → decoded_esm octets ≡ read
+reading_awaited : (session : Session) (waiting : Bool) (octets : List ℕ) (read : Result (Esm (List ℕ)) NasFault)
+    → decoded_esm octets ≡ read
     → reaction_by session waiting octets read ≡ Informed → Awaited session.request waiting (slice_index octets 1)
 reading_awaited session waiting octets (Ok m) was e =
     let a = message_awaited session.request waiting m.bearer m.transaction m.body e in
@@ -163,7 +176,8 @@ reading_awaited session waiting octets (Err fault) was e =
     fault_awaited session.request waiting (slice_index octets 0 / 16) (slice_index octets 1) fault e
 
 octets_awaited : (session : Session) (waiting : Bool) (octets : List ℕ) (short : Bool)
-    → cond short Nothing (reaction_by session waiting octets (decoded_esm octets)) ≡ Informed → Awaited session.request waiting (slice_index octets 1)
+    → cond short Nothing (reaction_by session waiting octets (decoded_esm octets)) ≡ Informed
+    → Awaited session.request waiting (slice_index octets 1)
 octets_awaited session waiting octets true e = absurd cc
 octets_awaited session waiting octets false e = reading_awaited session waiting octets (decoded_esm octets) refl e
 

@@ -1,4 +1,4 @@
--- ESM causes (TS 24.301, Annex B and clause 9.9.4.4).
+-- ESM causes (TS 24.301 annex B and clause 9.9.4.4).
 use Rattle.std.specs.Prelude.{ℕ}
 use Rattle.esm_machine.specs.declared.cause.EsmCause.{EsmCause}
 use Rattle.esm_machine.specs.declared.cause.EsmCause.TheVariants.{RequestRejected, LastDisconnection, OnlyIpv4, InvalidMandatory, UnknownType, NotCompatible}

@@ -7,13 +7,14 @@ use Rattle.nas_messages.specs.declared.esm_types.EsmBody.TheVariants.{ActivateRe
 use Rattle.nas_messages.specs.EsmMessages.{decoded_esm}
 use Rattle.esm_machine.specs.declared.reading.Connectivity.{Connectivity}
 
--- ---- PDN CONNECTIVITY REQUEST (TS 24.301, 8.3.20)
+-- ---- PDN CONNECTIVITY REQUEST (TS 24.301 clause 8.3.20)
 
 abbrev pub asked_in : ℕ → EsmBody (List ℕ) → Option Connectivity
 asked_in transaction (ActivateRequest m) = None
 asked_in transaction ActivateAccept = None
 asked_in transaction (ActivateReject cause) = None
-asked_in transaction (ConnectivityRequest request_type pdn_type information) = Some (record { transaction = transaction; pdn_type = pdn_type; information = information })
+asked_in transaction (ConnectivityRequest request_type pdn_type information) =
+    Some (record { transaction = transaction; pdn_type = pdn_type; information = information })
 asked_in transaction (ConnectivityReject cause) = None
 asked_in transaction (DisconnectRequest linked) = None
 asked_in transaction (DisconnectReject cause) = None
@@ -29,7 +30,7 @@ asked_by (Err fault) = None
 unfoldable pub asked : List ℕ → Option Connectivity
 asked octets = asked_by (decoded_esm octets)
 
--- ---- ACTIVATE DEFAULT EPS BEARER CONTEXT ACCEPT (TS 24.301, 8.3.4)
+-- ---- ACTIVATE DEFAULT EPS BEARER CONTEXT ACCEPT (TS 24.301 clause 8.3.4)
 
 abbrev pub is_accept_in : EsmBody (List ℕ) → Bool
 is_accept_in (ActivateRequest m) = false

@@ -1,6 +1,7 @@
 -- What becomes of a bearer.
 use Rattle.std.specs.Prelude.{ℕ, ◌<◌, ◌^◌, ◌==◌, List, length, Option, Some, None, if◌then◌else◌, Vec}
 use Rattle.std.specs.Global.{Global}
+use Rattle.nas_messages.specs.Codes.{pdn_type_ipv4v6, pdn_type_ipv6}
 use Rattle.esm_machine.specs.declared.bearer.BearerState.TheVariants.{Inactive, ActivePending, Active}
 use Rattle.esm_machine.specs.declared.cause.EsmCause.TheVariants.{RequestRejected, OnlyIpv4}
 use Rattle.esm_machine.specs.declared.reading.Connectivity.{Connectivity}
@@ -28,16 +29,21 @@ FitsElement Taken = Unit {0}
 abbrev pub inactive : Session
 inactive = record { state = Inactive; request = None }
 
--- ---- the connectivity request of an attach (TS 24.301, 6.5.1.3 and 6.5.1.4)
+-- ---- the connectivity request of an attach (TS 24.301 clauses 6.5.1.3 and 6.5.1.4)
 
--- PDN type 2 is IPv6 alone, 3 is IPv4v6 (TS 24.301, 9.9.4.10)
+-- what is kept of one that asks for IPv4, alone or with IPv6
 abbrev pub request_taken : Connectivity → Request
-request_taken wanted = record { transaction = wanted.transaction; dual = wanted.pdn_type == 3; information = wanted.information }
+request_taken wanted = record {
+  transaction = wanted.transaction;
+  dual = wanted.pdn_type == pdn_type_ipv4v6;
+  information = wanted.information;
+}
 
 -- the request that was taken before, and what is asked for now
 abbrev pub requested_after : Option Request → Option Connectivity → Requested (List ℕ)
 requested_after before None = Unreadable
-requested_after None (Some wanted) = if wanted.pdn_type == 2 then Refused (connectivity_reject OnlyIpv4 wanted.transaction) else Taken
+requested_after None (Some wanted) =
+    if wanted.pdn_type == pdn_type_ipv6 then Refused (connectivity_reject OnlyIpv4 wanted.transaction) else Taken
 requested_after (Some first) (Some wanted) = Refused (connectivity_reject RequestRejected wanted.transaction)
 
 unfoldable pub requested : Session → List ℕ → Requested (List ℕ)
@@ -45,13 +51,13 @@ requested session octets = requested_after session.request (asked octets)
 
 abbrev pub request_after : Option Request → Option Connectivity → Option Request
 request_after before None = before
-request_after None (Some wanted) = if wanted.pdn_type == 2 then None else Some (request_taken wanted)
+request_after None (Some wanted) = if wanted.pdn_type == pdn_type_ipv6 then None else Some (request_taken wanted)
 request_after (Some first) (Some wanted) = Some first
 
 unfoldable pub after_request : Session → List ℕ → Session
 after_request session octets = record session { request = request_after session.request (asked octets) }
 
--- ---- the activation of the bearer (TS 24.301, 6.4.1.2 and 6.4.1.3)
+-- ---- the activation of the bearer (TS 24.301 clauses 6.4.1.2 and 6.4.1.3)
 
 abbrev pub activated : Session → Session
 activated session = record session { state = ActivePending }

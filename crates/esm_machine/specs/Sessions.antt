@@ -3,7 +3,7 @@ use Rattle.std.specs.Prelude.{ℕ, Bool, false, ◌==◌, Option, Some, None}
 use Rattle.esm_machine.specs.declared.bearer.BearerState.{BearerState}
 use Rattle.esm_machine.specs.declared.request.Request.{Request}
 
--- where its activation stands (TS 24.301, 6.1.3.3), and the connectivity request that was taken
+-- where its activation stands (TS 24.301 clause 6.1.3.3), and the connectivity request that was taken
 pub record Session : Type 0 where
   pub state : BearerState
   pub request : Option Request

@@ -16,18 +16,11 @@ use crate::reading::{asked, is_accept};
 use crate::request::{Request, Requested};
 use crate::sending::{connectivity_reject, disconnect_reject, status, written};
 use nas_elements::NasFault;
-use nas_messages::{ActivateRequest, EsmBody, EsmMessage, decode_esm};
+use nas_messages::{ActivateRequest, EsmBody, EsmMessage, codes, decode_esm};
 use std::alloc::{AllocError, Global};
 use std::marker::Model;
 
-// The bearer that is activated, and PDN types (TS 24.301, 9.9.4.10).
-const DEFAULT_BEARER: u8 = 5;
-
-const IPV6: u8 = 2;
-
-const IPV4V6: u8 = 3;
-
-/// Where the activation of a bearer stands (TS 24.301, 6.1.3.3).
+/// Where the activation of a bearer stands (TS 24.301 clause 6.1.3.3).
 #[derive(Clone, Copy, PartialEq, Eq, Debug)]
 pub enum BearerState {
     Inactive,
@@ -71,7 +64,7 @@ impl Bearer {
         self.state
     }
 
-    /// The octets that an ATTACH REQUEST has for session management (TS 24.301, 6.5.1). The first connectivity request is
+    /// The octets that an ATTACH REQUEST has for session management (TS 24.301 clause 6.5.1). The first connectivity request is
     /// taken and kept, unless it asks for IPv6 alone; a further one is refused, and the first one stays.
     #[tactic(auto, unfolding(crate::specs::Requests::requested, crate::specs::Requests::after_request))]
     pub fn on_request(
@@ -91,13 +84,13 @@ impl Bearer {
             let reject = connectivity_reject(alloc, EsmCause::RequestRejected, wanted.transaction)?;
             return Ok(Requested::Refused(reject));
         }
-        if wanted.pdn_type == IPV6 {
+        if wanted.pdn_type == codes::PDN_TYPE_IPV6 {
             let reject = connectivity_reject(alloc, EsmCause::OnlyIpv4, wanted.transaction)?;
             return Ok(Requested::Refused(reject));
         }
         self.request = Some(Request {
             transaction: wanted.transaction,
-            dual: wanted.pdn_type == IPV4V6,
+            dual: wanted.pdn_type == codes::PDN_TYPE_IPV4V6,
             information: wanted.information,
         });
         Ok(Requested::Taken)
@@ -113,14 +106,14 @@ impl Bearer {
         }
     }
 
-    /// ESM INFORMATION REQUEST (TS 24.301, 6.6.1.2).
+    /// ESM INFORMATION REQUEST (TS 24.301 clause 6.6.1.2).
     #[tactic(auto, unfolding(crate::specs::Sent::information_request))]
     pub fn information_request(&self, alloc: Global) -> Result<Vec<u8>, AllocError>
         ensures { IfOk result (λ octets. octets.items ≡ information_request self.now) }
     {
         written(
             alloc,
-            0,
+            codes::NO_BEARER,
             transaction_of(self.request),
             EsmBody::InformationRequest,
         )
@@ -137,7 +130,7 @@ impl Bearer {
     }
 
     /// ACTIVATE DEFAULT EPS BEARER CONTEXT REQUEST for bearer 5, with an APN of one label and an IPv4 address, and with the
-    /// cause that says so where IPv4v6 was asked for (TS 24.301, 6.4.1.2).
+    /// cause that says so where IPv4v6 was asked for (TS 24.301 clause 6.4.1.2).
     pub fn activate(
         &mut self,
         alloc: Global,
@@ -157,7 +150,7 @@ impl Bearer {
     }
 
     /// The octets that an ATTACH COMPLETE has for session management: whether they are an ACTIVATE DEFAULT EPS BEARER CONTEXT
-    /// ACCEPT, for any bearer and transaction, which makes the bearer active (TS 24.301, 6.4.1.3). Takes no memory.
+    /// ACCEPT, for any bearer and transaction, which makes the bearer active (TS 24.301 clause 6.4.1.3). Takes no memory.
     pub fn on_accept(&mut self, esm: &[u8]) -> bool
         ensures answer { result ≡ is_accept esm.now }
         ensures state { self.new ≡ accepted_by self.old esm.now }
@@ -169,15 +162,15 @@ impl Bearer {
         accepted
     }
 
-    /// PDN DISCONNECT REJECT in this transaction: the connection is the only one (TS 24.301, 6.5.2.4).
+    /// PDN DISCONNECT REJECT in this transaction: the connection is the only one (TS 24.301 clause 6.5.2.4).
     pub fn on_disconnect(&self, alloc: Global, transaction: u8) -> Result<Vec<u8>, AllocError>
         ensures { IfOk result (λ octets. octets.items ≡ disconnect_reject transaction) }
     {
         disconnect_reject(alloc, transaction)
     }
 
-    /// An ESM message that came after the attach, where ESM information was asked for and is awaited, or not (TS 24.301,
-    /// 6.5.1.4, 6.5.2.4, 6.6.1.2, 6.7 and 7).
+    /// An ESM message that came after the attach, where ESM information was asked for and is awaited, or not (TS 24.301
+    /// clauses 6.5.1.4, 6.5.2.4, 6.6.1.2, 6.7 and 7).
     #[tactic(auto, unfolding(crate::specs::Reactions::reaction))]
     pub fn on_message(
         &self,
@@ -211,11 +204,11 @@ impl Bearer {
         let transaction = transaction_of(self.request);
         if !is_dual(self.request) {
             let body = activate_request(apn, address, None);
-            return written(alloc, DEFAULT_BEARER, transaction, body);
+            return written(alloc, codes::DEFAULT_BEARER, transaction, body);
         }
         let only_ipv4 = [EsmCause::OnlyIpv4.code()];
         let body = activate_request(apn, address, Some(&only_ipv4));
-        written(alloc, DEFAULT_BEARER, transaction, body)
+        written(alloc, codes::DEFAULT_BEARER, transaction, body)
     }
 
     fn reaction_to(

@@ -3,7 +3,7 @@
 ghost use Rattle.std.specs.Prelude.{◌≡◌};
 ghost use Rattle.esm_machine.specs.Causes.{esm_cause_code};
 
-/// An ESM cause that is sent (TS 24.301, Annex B).
+/// An ESM cause that is sent (TS 24.301 annex B).
 #[derive(Clone, Copy, PartialEq, Eq, Debug)]
 pub enum EsmCause {
     /// Request rejected, unspecified.
@@ -21,7 +21,7 @@ pub enum EsmCause {
 }
 
 impl EsmCause {
-    /// Its code (TS 24.301, 9.9.4.4).
+    /// Its code (TS 24.301 clause 9.9.4.4).
     pub fn code(self) -> u8
         ensures { result ≡ esm_cause_code self }
     {

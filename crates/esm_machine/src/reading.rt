@@ -10,7 +10,7 @@ use nas_messages::{EsmBody, decode_esm};
 #[derive(Clone, Copy)]
 pub struct Connectivity {
     pub transaction: u8,
-    /// Three bits: 2 is IPv6 alone, 3 is IPv4v6.
+    /// The PDN type, three bits (TS 24.301 clause 9.9.4.10).
     pub pdn_type: u8,
     pub information: bool,
 }

@@ -1,6 +1,6 @@
 //! Connectivity requests that were taken, and what one is answered with.
 
-/// The connectivity request that was taken (TS 24.301, 6.5.1).
+/// The connectivity request that was taken (TS 24.301 clause 6.5.1).
 #[derive(Clone, Copy, PartialEq, Eq, Debug)]
 pub struct Request {
     /// Its procedure transaction identity.

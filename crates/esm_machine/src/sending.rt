@@ -5,7 +5,7 @@ ghost use Rattle.nas_messages.specs.EsmMessages.{BodyFits, body_lists, encoded_e
 ghost use Rattle.esm_machine.specs.Sent.{connectivity_reject, disconnect_reject, status};
 
 use crate::cause::EsmCause;
-use nas_messages::{Esm, EsmBody, EsmMessage, encode_esm};
+use nas_messages::{Esm, EsmBody, EsmMessage, codes, encode_esm};
 use std::alloc::{AllocError, Global};
 
 // A message that was put together, from which it is lent.
@@ -47,7 +47,12 @@ pub fn connectivity_reject(
     ensures short { IfOk result (λ octets. length octets.items < 2 ^ 16) }
 {
     let cause = cause.code();
-    written(alloc, 0, transaction, EsmBody::ConnectivityReject { cause })
+    written(
+        alloc,
+        codes::NO_BEARER,
+        transaction,
+        EsmBody::ConnectivityReject { cause },
+    )
 }
 
 /// PDN DISCONNECT REJECT.
@@ -56,7 +61,12 @@ pub fn disconnect_reject(alloc: Global, transaction: u8) -> Result<Vec<u8>, Allo
     ensures { IfOk result (λ octets. octets.items ≡ disconnect_reject transaction) }
 {
     let cause = EsmCause::LastDisconnection.code();
-    written(alloc, 0, transaction, EsmBody::DisconnectReject { cause })
+    written(
+        alloc,
+        codes::NO_BEARER,
+        transaction,
+        EsmBody::DisconnectReject { cause },
+    )
 }
 
 /// ESM STATUS.

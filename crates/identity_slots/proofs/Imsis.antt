@@ -21,8 +21,10 @@ are_octets ds h (suc (suc zero)) = two_halves _ _ (small ds h 4 (omega arith)) (
 are_octets ds h (suc (suc (suc zero))) = two_halves _ _ (small ds h 6 (omega arith)) (small ds h 5 (omega arith))
 are_octets ds h (suc (suc (suc (suc zero)))) = two_halves _ _ (small ds h 8 (omega arith)) (small ds h 7 (omega arith))
 are_octets ds h (suc (suc (suc (suc (suc zero))))) = two_halves _ _ (small ds h 10 (omega arith)) (small ds h 9 (omega arith))
-are_octets ds h (suc (suc (suc (suc (suc (suc zero)))))) = two_halves _ _ (small ds h 12 (omega arith)) (small ds h 11 (omega arith))
-are_octets ds h (suc (suc (suc (suc (suc (suc (suc zero))))))) = two_halves _ _ (small ds h 14 (omega arith)) (small ds h 13 (omega arith))
+are_octets ds h (suc (suc (suc (suc (suc (suc zero)))))) =
+    two_halves _ _ (small ds h 12 (omega arith)) (small ds h 11 (omega arith))
+are_octets ds h (suc (suc (suc (suc (suc (suc (suc zero))))))) =
+    two_halves _ _ (small ds h 14 (omega arith)) (small ds h 13 (omega arith))
 are_octets ds h (suc (suc (suc (suc (suc (suc (suc (suc i)))))))) = omega arith
 
 eight : (ds : List ℕ) → length (imsi_octets ds) ≡ 8

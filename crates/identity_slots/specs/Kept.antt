@@ -10,7 +10,8 @@ use Rattle.identity_slots.specs.Provisioned.{place_from, imsi_key, address_key, 
 abbrev pub IsSlotIndex : {S : Type 0} → (Profile → ℕ) → HashMap ℕ ℕ S → List Profile → Type 0
 IsSlotIndex key index ps = (k : ℕ) → get nat_eq index k ≡ place_from key k 0 ps
 
-pub record IsProvision {S : Type 0} (ps : List Profile) (vs : List (List Vector)) (by_imsi by_address : HashMap ℕ ℕ S) : Type 0 where
+pub record IsProvision {S : Type 0} (ps : List Profile) (vs : List (List Vector))
+    (by_imsi by_address : HashMap ℕ ℕ S) : Type 0 where
   pub few : length ps ≤ slots
   pub vectors : length vs ≡ length ps
   pub imsis : AreDistinct imsi_key ps

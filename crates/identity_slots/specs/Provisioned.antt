@@ -49,7 +49,8 @@ AreDistinct key (p ∷ ps) = (place_from key (key p) 0 ps ≡ None) × AreDistin
 abbrev pub add_fault : Profile → List Profile → Option ProvisionFault
 add_fault p ps =
     if is_some (slot_of_imsi p.imsi ps) then Some RepeatedImsi
-    else (if is_some (slot_of_address p.address ps) then Some RepeatedAddress else (if nat_le slots (length ps) then Some Full else None))
+    else (if is_some (slot_of_address p.address ps) then Some RepeatedAddress
+    else (if nat_le slots (length ps) then Some Full else None))
 
 abbrev pub with_profile : Profile → Provisioned → Provisioned
 with_profile p s = record { profiles = s.profiles ++ p ∷ []; vectors = s.vectors ++ [] ∷ [] }
@@ -70,11 +71,15 @@ abbrev pub AreOctetNumbers : List ℕ → Type 0
 AreOctetNumbers os = (i : ℕ) → slice_index os i < 256
 
 abbrev pub EightOctetsApart : Type 0
-EightOctetsApart = (a b : List ℕ) → length a ≡ 8 → length b ≡ 8 → AreOctetNumbers a → AreOctetNumbers b → from_be_bytes w64 a ≡ from_be_bytes w64 b → a ≡ b
+EightOctetsApart =
+    (a b : List ℕ) → length a ≡ 8 → length b ≡ 8 → AreOctetNumbers a → AreOctetNumbers b → from_be_bytes w64 a ≡ from_be_bytes w64 b
+    → a ≡ b
 
 -- no two IMSIs have one number
 abbrev pub ImsisApart : Type 0
 ImsisApart = (a b : List ℕ) → is_imsi a ≡ true → is_imsi b ≡ true → imsi_number a ≡ imsi_number b → a ≡ b
 
 abbrev pub FourOctetsApart : Type 0
-FourOctetsApart = (a b : List ℕ) → length a ≡ 4 → length b ≡ 4 → AreOctetNumbers a → AreOctetNumbers b → from_be_bytes w32 a ≡ from_be_bytes w32 b → a ≡ b
+FourOctetsApart =
+    (a b : List ℕ) → length a ≡ 4 → length b ≡ 4 → AreOctetNumbers a → AreOctetNumbers b → from_be_bytes w32 a ≡ from_be_bytes w32 b
+    → a ≡ b

@@ -37,6 +37,14 @@ impl Model for Slot {
 }
 
 impl Slot {
+    /// The slot with a number below that of slots.
+    pub fn new(number: u32) -> Slot
+        requires { number < slots }
+        ensures { result ≡ number }
+    {
+        Slot { number }
+    }
+
     /// The slot with a number, where there are more slots.
     pub fn try_new(number: u32) -> Option<Slot>
         ensures { SomeIff result (number < slots) number }

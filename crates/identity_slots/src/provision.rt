@@ -231,7 +231,8 @@ impl Provision {
 
 fn push_at(vectors: &mut Vec<Vectors>, at: usize, vector: Vector) -> Result<(), AllocError>
     requires { at < vec_len vectors.old }
-    ensures items { OnOk result (vectors.new.items ≡ slice_set vectors.old.items at (vectors_at at vectors.old.items ++ vector ∷ [])) }
+    ensures items { OnOk result
+        (vectors.new.items ≡ slice_set vectors.old.items at (vectors_at at vectors.old.items ++ vector ∷ [])) }
     ensures err { OnErr result (vectors.new.items ≡ vectors.old.items) }
 {
     vectors[at].push(vector)

@@ -21,6 +21,14 @@ impl Model for StationNumber {
 }
 
 impl StationNumber {
+    /// The station of a number below 128.
+    pub fn new(number: u8) -> StationNumber
+        requires { number < 128 }
+        ensures { result ≡ number }
+    {
+        StationNumber { number }
+    }
+
     /// The station of that number, where it is below 128.
     pub fn try_new(number: u8) -> Option<StationNumber>
         ensures some { IsSome result ↔ (number < 128) }

@@ -26,6 +26,7 @@ use Rattle.emm_state.specs.declared.solo.Phase.{Phase}
 use Rattle.emm_state.specs.declared.solo.Phase.TheVariants.{Deregistered, Updating, Registered}
 use Rattle.emm_state.specs.declared.solo.Repeat.{Repeat}
 use Rattle.emm_state.specs.declared.solo.Solo.{Solo}
+use Rattle.emm_state.specs.Phases as phases
 use Rattle.emm_state.specs.Actions.{association_counted, disconnected, emit, ended, fall, fallen, is_registered, lost, mac_of, refuse, release, resting, start, turn_away, untouched}
 use Rattle.emm_machine.specs.Connected as connected
 use Rattle.emm_machine.specs.Idle as idle
@@ -60,7 +61,7 @@ here {d = d} h = record { draft = d; is = refl; holds = h }
 unless : {Q : Draft → Type 0} (o : Option Draft) (e : Draft) → Within Q o → Q (unwrap_or o e)
 unless {Q} o e w = subst (λ (p : Option Draft). Q (unwrap_or p e)) (sym w.is) w.holds
 
-not_deregistered : (phase : Phase) → is_registered phase ≡ true → serving.is_deregistered phase ≡ true → ⊥
+not_deregistered : (phase : Phase) → is_registered phase ≡ true → phases.is Deregistered phase ≡ true → ⊥
 not_deregistered Deregistered r e = true≢false (sym r)
 not_deregistered _ r e = true≢false (sym e)
 
@@ -176,7 +177,7 @@ module _ {x : Context} {b : Solo} where
       → Within (Keeps x b) (serving.initial_detach s m switch_off d)
   unfolding serving.initial_detach
   keeps_initial_detach {d} s m switch_off e h =
-      either_by (Within (Keeps x b)) (serving.is_deregistered d.solo.phase)
+      either_by (Within (Keeps x b)) (phases.is Deregistered d.solo.phase)
       (λ t. absurd (not_deregistered d.solo.phase h.stays.registered t))
       (λ t. at_some (Within (Keeps x b)) d.solo.context
       (λ y is. keeps_detached_by _ s y m switch_off (subst (λ (z : Context). is_ok (accepted_by_context z m.nas) ≡ false) (same_Some x y (sym h.context ∙ is)) e) h)

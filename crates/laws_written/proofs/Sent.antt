@@ -25,7 +25,8 @@ use Rattle.mme_types.specs.declared.stations.StationState.TheVariants.{Ready, Up
 use Rattle.mme_types.specs.Listed.{ToReset}
 use Rattle.mme_signalling.specs.Pdus.{downlink, error_indication, is_extended, path_switch_failure, release_command}
 use Rattle.stranger_machine.specs.Machine.{unknown}
-use Rattle.stranger_machine.specs.Turns.{identity_asked, identity_request, refused, released, sent_to}
+use Rattle.mme_signalling.specs.Messages.{identity_request}
+use Rattle.stranger_machine.specs.Turns.{identity_asked, refused, released, sent_to}
 use Rattle.mme_routing.specs.Outcomes.{begins_anew, broadcasts, cause_of, indicated, indication, setup_failure, setup_response, station_set_up}
 use Rattle.mme_routing.specs.Resets.{ends_listed, part_acknowledge, reset, whole_acknowledge}
 use Rattle.laws_written.specs.Sizes.{IsShortMessage, most_octets}

@@ -25,7 +25,8 @@ use Rattle.mme_types.specs.declared.stations.StationState.TheVariants.{Ready}
 use Rattle.mme_types.specs.Listed.{ToReset}
 use Rattle.mme_signalling.specs.Pdus.{downlink, error_indication, is_extended, path_switch_failure, release_command}
 use Rattle.stranger_machine.specs.Machine.{unknown}
-use Rattle.stranger_machine.specs.Turns.{identity_asked, identity_request, refused, released}
+use Rattle.mme_signalling.specs.Messages.{identity_request}
+use Rattle.stranger_machine.specs.Turns.{identity_asked, refused, released}
 use Rattle.mme_routing.specs.Outcomes.{broadcasts, cause_of, indication, not_compatible, outcome_of, setup_failure, setup_response, station_set_up}
 use Rattle.mme_routing.specs.Resets.{part_acknowledge, reset, whole_acknowledge}
 use Rattle.laws_written.specs.Ranges.{ConnectionInRange, IsBrief, NetworkInRange}

@@ -14,7 +14,8 @@ use Rattle.emm_machine.specs.SubscriberView.{SubscriberView}
 use Rattle.laws_admission.specs.Proof.{IsProved}
 use Rattle.stranger_machine.specs.declared.state.KeptEntry.{KeptEntry}
 use Rattle.stranger_machine.specs.declared.state.Stranger.TheVariants.{Waiting}
-use Rattle.stranger_machine.specs.Turns.{as_kept, identity_asked, identity_request, place_of, refused, released, sent_to}
+use Rattle.mme_signalling.specs.Messages.{identity_request}
+use Rattle.stranger_machine.specs.Turns.{as_kept, identity_asked, place_of, refused, released, sent_to}
 use Rattle.mme_routing.specs.Destinations.{Beginner, Stranger}
 use Rattle.mme_core.specs.declared.config.Config.{Config}
 use Rattle.mme_core.specs.declared.event.Event.{Event}

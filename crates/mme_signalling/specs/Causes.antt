@@ -1,4 +1,4 @@
--- EMM causes (TS 24.301, Annex A and clause 9.9.3.9).
+-- EMM causes (TS 24.301 annex A and clause 9.9.3.9).
 use Rattle.std.specs.Prelude.{ℕ, Option, Some, None}
 use Rattle.nas_elements.specs.declared.fault.NasFault.{NasFault}
 use Rattle.nas_elements.specs.declared.fault.NasFault.TheVariants as faults

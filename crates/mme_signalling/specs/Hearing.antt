@@ -9,6 +9,7 @@ use Rattle.nas_messages.specs.declared.emm_types.Emm.TheVariants as emm
 use Rattle.nas_messages.specs.declared.protection.Protected.{Protected}
 use Rattle.nas_messages.specs.declared.protection.SecurityHeader.{SecurityHeader}
 use Rattle.nas_messages.specs.declared.protection.SecurityHeader.TheVariants.{IntegrityProtected, IntegrityProtectedCiphered, NewContext, NewContextCiphered}
+use Rattle.nas_messages.specs.Codes.{combined_attach, combined_update, combined_update_with_attach, esm_discriminator}
 use Rattle.nas_messages.specs.Messages.{decoded_emm}
 use Rattle.nas_messages.specs.Protection.{split}
 use Rattle.mme_signalling.specs.declared.heard.Heard.{Heard}
@@ -16,7 +17,8 @@ use Rattle.mme_signalling.specs.declared.heard.Heard.TheVariants as heards
 
 -- without where its octets lie in memory
 abbrev pub request_lists : AttachRequest (Bor (List ℕ)) → AttachRequest (List ℕ)
-request_lists m = record { attach_type = m.attach_type; ksi = m.ksi; identity = m.identity; capability = m.capability.now; esm = m.esm.now }
+request_lists m =
+    record { attach_type = m.attach_type; ksi = m.ksi; identity = m.identity; capability = m.capability.now; esm = m.esm.now }
 
 abbrev pub heard_lists : Heard (Bor (List ℕ)) → Heard (List ℕ)
 heard_lists (heards.AttachRequest combined capability esm) = heards.AttachRequest combined capability esm.now
@@ -36,10 +38,10 @@ heard_lists (heards.Unreadable fault) = heards.Unreadable fault
 
 -- combined attaches and updates (TS 24.301 clauses 9.9.3.11 and 9.9.3.14)
 abbrev pub is_combined_attach : ℕ → Bool
-is_combined_attach attach_type = attach_type == 2
+is_combined_attach attach_type = attach_type == combined_attach
 
 abbrev pub is_combined_update : ℕ → Bool
-is_combined_update update_type = update_type == 1 || update_type == 2
+is_combined_update update_type = update_type == combined_update || update_type == combined_update_with_attach
 
 -- what an ATTACH REQUEST asks for
 abbrev pub attach_of : AttachRequest (List ℕ) → Heard (List ℕ)
@@ -99,4 +101,4 @@ initial_octets octets = inner_octets octets (split octets)
 -- a message of session management
 unfoldable pub is_esm : List ℕ → Bool
 is_esm [] = false
-is_esm (first ∷ rest) = first % 16 == 2
+is_esm (first ∷ rest) = first % 16 == esm_discriminator

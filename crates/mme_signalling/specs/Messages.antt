@@ -7,6 +7,7 @@ use Rattle.nas_elements.specs.declared.identity.Guti.{Guti}
 use Rattle.nas_elements.specs.declared.identity.TaiList.{TaiList}
 use Rattle.nas_messages.specs.declared.emm_types.Emm.TheVariants as emm
 use Rattle.nas_messages.specs.Messages.{encoded_emm}
+use Rattle.nas_messages.specs.Timers.{t3412_octet}
 use Rattle.mme_types.specs.declared.network.Network.{Network}
 use Rattle.mme_signalling.specs.declared.cause.EmmCause.{EmmCause}
 use Rattle.mme_signalling.specs.declared.cause.EmmCause.TheVariants.{CsDomainNotAvailable}
@@ -39,18 +40,30 @@ authentication_request ksi rand autn = encoded_emm (emm.AuthenticationRequest (r
 unfoldable pub authentication_reject : List ℕ
 authentication_reject = encoded_emm emm.AuthenticationReject
 
+-- for the IMSI (TS 24.301 clause 8.2.18)
+unfoldable pub identity_request : List ℕ
+identity_request = encoded_emm emm.IdentityRequest
+
 unfoldable pub security_mode_command : ℕ → List ℕ → List ℕ
-security_mode_command ksi capability = encoded_emm (emm.SecurityModeCommand (record { ksi = ksi; capability = replayed capability }))
+security_mode_command ksi capability =
+    encoded_emm (emm.SecurityModeCommand (record { ksi = ksi; capability = replayed capability }))
 
 unfoldable pub attach_accept : Network → Grant → List ℕ → List ℕ
 attach_accept n g esm =
-    encoded_emm (emm.AttachAccept (record { tai_list = tai_list g.tai; esm = esm; guti = Some (guti_octets (guti n g.tmsi)); cause = cause_of_combined g.combined }))
+    encoded_emm (emm.AttachAccept
+    (record {
+      tai_list = tai_list g.tai;
+      esm = esm;
+      guti = Some (guti_octets (guti n g.tmsi));
+      cause =
+          cause_of_combined g.combined;
+    }))
 
--- the periodic update timer is 54 minutes
+-- with T3412
 unfoldable pub update_accept : Network → Grant → List ℕ
 update_accept n g =
     encoded_emm (emm.TrackingAreaUpdateAccept (record {
-      timer = Some (0x49 ∷ []);
+      timer = Some (t3412_octet ∷ []);
       guti = Some (guti_octets (guti n g.tmsi));
       tai_list = Some (tai_list_octets (tai_list g.tai));
       cause = cause_of_combined g.combined;

@@ -17,6 +17,7 @@ use Rattle.s1ap_elements.specs.declared.phone.UeS1apIds.TheVariants.{Pair}
 use Rattle.s1ap_pdus.specs.declared.pdu.Pdu.{Pdu}
 use Rattle.s1ap_pdus.specs.declared.pdu.Pdu.TheVariants as pdu
 use Rattle.nas_elements.specs.Digits.{imsi_text}
+use Rattle.nas_messages.specs.Codes.{default_bearer}
 use Rattle.identity_slots.specs.declared.profile.Profile.{Profile}
 use Rattle.mme_types.specs.declared.network.Network.{Network}
 use Rattle.mme_types.specs.declared.connection.Connection.{Connection}
@@ -25,7 +26,8 @@ unfoldable pub downlink : Connection → List ℕ → Pdu (List ℕ)
 downlink k nas = pdu.DownlinkNasTransport (record { mme_ue_id = k.id; enb_ue_id = k.enb_ue_id; nas = nas })
 
 unfoldable pub release_command : ℕ → ℕ → Cause → Pdu (List ℕ)
-release_command id enb_ue_id cause = pdu.UeContextReleaseCommand (record { ids = Pair (record { mme_ue_id = id; enb_ue_id = enb_ue_id }); cause = cause })
+release_command id enb_ue_id cause =
+    pdu.UeContextReleaseCommand (record { ids = Pair (record { mme_ue_id = id; enb_ue_id = enb_ue_id }); cause = cause })
 
 -- a cause of a later release isn't written
 abbrev pub is_extended : Cause → Bool
@@ -40,15 +42,18 @@ abbrev pub cause_of_request : Cause → Cause
 cause_of_request cause = if is_extended cause then causes.RadioNetwork radio.Unspecified else cause
 
 unfoldable pub error_indication : ℕ → ℕ → Cause → Pdu (List ℕ)
-error_indication id enb_ue_id cause = pdu.ErrorIndication (record { mme_ue_id = Some id; enb_ue_id = Some enb_ue_id; cause = Some cause })
+error_indication id enb_ue_id cause =
+    pdu.ErrorIndication (record { mme_ue_id = Some id; enb_ue_id = Some enb_ue_id; cause = Some cause })
 
 unfoldable pub path_switch_failure : ℕ → ℕ → Cause → Pdu (List ℕ)
-path_switch_failure id enb_ue_id cause = pdu.PathSwitchRequestFailure (record { mme_ue_id = id; enb_ue_id = enb_ue_id; cause = cause })
+path_switch_failure id enb_ue_id cause =
+    pdu.PathSwitchRequestFailure (record { mme_ue_id = id; enb_ue_id = enb_ue_id; cause = cause })
 
 -- with the next hop and its chaining count
 unfoldable pub path_switch_acknowledge : Connection → List ℕ → ℕ → Pdu (List ℕ)
 path_switch_acknowledge k hop count =
-    pdu.PathSwitchRequestAcknowledge (record { mme_ue_id = k.id; enb_ue_id = k.enb_ue_id; context = record { chaining_count = count; next_hop = hop } })
+    pdu.PathSwitchRequestAcknowledge
+    (record { mme_ue_id = k.id; enb_ue_id = k.enb_ue_id; context = record { chaining_count = count; next_hop = hop } })
 
 -- QCI 9 at priority 15, which takes from nobody and from which nothing is taken
 abbrev pub qos : Qos
@@ -63,7 +68,7 @@ algorithm_bits o =
     is_bit_set o 64 ∷ is_bit_set o 32 ∷ is_bit_set o 16 ∷ is_bit_set o 8 ∷ is_bit_set o 4 ∷ is_bit_set o 2 ∷ is_bit_set o 1 ∷ false
     ∷ false ∷ false ∷ false ∷ false ∷ false ∷ false ∷ false ∷ false ∷ []
 
--- the default bearer: E-RAB 5, its tunnel at the S-GW, and the NAS message where there is one
+-- the E-RAB of the default bearer, by its identity: its tunnel at the S-GW, and the NAS message where there is one
 unfoldable pub context_setup : Network → Profile → List ℕ → Connection → List ℕ → Option (List ℕ) → Pdu (List ℕ)
 context_setup n p capability k kenb nas =
     pdu.InitialContextSetupRequest (
@@ -71,8 +76,13 @@ context_setup n p capability k kenb nas =
       mme_ue_id = k.id;
       enb_ue_id = k.enb_ue_id;
       ambr = record { down = n.down; up = n.up };
-      erabs = record { value = record { id = 5; qos = qos; address = octet_bits p.gateway; teid = p.teid; nas = nas } } ∷ [];
-      capabilities = record { encryption = algorithm_bits (slice_index capability 0); integrity = algorithm_bits (slice_index capability 1) };
+      erabs = record {
+        value = record { id = default_bearer; qos = qos; address = octet_bits p.gateway; teid = p.teid; nas = nas };
+      } ∷ [];
+      capabilities = record {
+        encryption = algorithm_bits (slice_index capability 0);
+        integrity = algorithm_bits (slice_index capability 1);
+      };
       key = kenb;
     }
     )
@@ -88,7 +98,8 @@ ue_index imsi = number_from 0 (imsi_text imsi) % 1024
 
 abbrev pub index_bits : ℕ → List Bool
 index_bits n =
-    is_bit_set n 512 ∷ is_bit_set n 256 ∷ is_bit_set n 128 ∷ is_bit_set n 64 ∷ is_bit_set n 32 ∷ is_bit_set n 16 ∷ is_bit_set n 8 ∷ is_bit_set n 4 ∷ is_bit_set n 2 ∷ is_bit_set n 1 ∷ []
+    is_bit_set n 512 ∷ is_bit_set n 256 ∷ is_bit_set n 128 ∷ is_bit_set n 64 ∷ is_bit_set n 32 ∷ is_bit_set n 16 ∷ is_bit_set n 8
+    ∷ is_bit_set n 4 ∷ is_bit_set n 2 ∷ is_bit_set n 1 ∷ []
 
 unfoldable pub paging : Network → List ℕ → ℕ → Tai → Pdu (List ℕ)
 paging n imsi tmsi tai =

@@ -5,7 +5,7 @@ ghost use Rattle.mme_signalling.specs.Causes.{cause_of_fault, emm_cause_code};
 
 use nas_elements::NasFault;
 
-/// An EMM cause that is sent, or by which a message is told from others (TS 24.301, Annex A).
+/// An EMM cause that is sent, or by which a message is told from others (TS 24.301 annex A).
 #[derive(Clone, Copy, PartialEq, Eq, Debug)]
 pub enum EmmCause {
     /// EPS services and non-EPS services not allowed: nobody has the IMSI.

@@ -4,11 +4,11 @@
 ghost use Rattle.std.specs.Prelude.{◌≡◌, Ok, Err};
 ghost use Rattle.nas_messages.specs.Messages.{IsWritable, decoded_emm, lists, seen};
 ghost use Rattle.nas_messages.specs.declared.emm_types.Direction.TheVariants.{Uplink};
-ghost use Rattle.mme_signalling.specs.Hearing.{AttachFits, attach_of, heard, heard_lists, initial_octets, is_esm, is_initial_header, request_lists, sorted};
+ghost use Rattle.mme_signalling.specs.Hearing.{AttachFits, attach_of, heard, heard_lists, initial_octets, is_combined_update, is_esm, is_initial_header, request_lists, sorted};
 
 use nas_elements::{NasFault, UeCapability};
 use nas_messages::{
-    AttachRequest, Direction, Emm, EmmMessage, SecurityHeader, decode_emm, split_protected,
+    AttachRequest, Direction, Emm, EmmMessage, SecurityHeader, codes, decode_emm, split_protected,
 };
 
 /// An EMM message of a phone, by what the machine does with it.
@@ -67,10 +67,16 @@ fn attach_of<'a>(request: &AttachRequest<&'a [u8]>) -> Heard<&'a [u8]>
         unreachable!()
     };
     Heard::AttachRequest {
-        combined: request.attach_type == 2,
+        combined: request.attach_type == codes::COMBINED_ATTACH,
         capability,
         esm: request.esm,
     }
+}
+
+fn is_combined_update(update_type: u8) -> bool
+    ensures { result ≡ is_combined_update update_type }
+{
+    update_type == codes::COMBINED_UPDATE || update_type == codes::COMBINED_UPDATE_WITH_ATTACH
 }
 
 fn sorted<'a>(message: &EmmMessage<'a>) -> Heard<&'a [u8]>
@@ -83,7 +89,7 @@ fn sorted<'a>(message: &EmmMessage<'a>) -> Heard<&'a [u8]>
             switch_off: request.switch_off,
         },
         Emm::TrackingAreaUpdateRequest(request) => Heard::TrackingAreaUpdateRequest {
-            combined: request.update_type == 1 || request.update_type == 2,
+            combined: is_combined_update(request.update_type),
         },
         Emm::ServiceRequest { octets } => Heard::ServiceRequest { octets: *octets },
         Emm::AuthenticationResponse { res } => Heard::AuthenticationResponse { res },
@@ -142,13 +148,13 @@ pub fn initial_octets<'a>(octets: &'a [u8]) -> &'a [u8]
     }
 }
 
-/// Whether an accepted message is of session management: its protocol discriminator is 2 (TS 24.007 clause 11.2.3.1.1).
+/// Whether an accepted message is of session management: by its protocol discriminator (TS 24.007 clause 11.2.3.1.1).
 #[tactic(auto, unfolding(crate::specs::Hearing::is_esm))]
 pub fn is_esm(octets: &[u8]) -> bool
     ensures { result ≡ is_esm octets.now }
 {
     match octets.first() {
-        Some(first) => *first % 16 == 2,
+        Some(first) => *first % 16 == codes::ESM_DISCRIMINATOR,
         None => false,
     }
 }

@@ -11,8 +11,8 @@ pub use cause::{EmmCause, cause_of_fault};
 pub use heard::{Heard, hear, initial_octets, is_esm};
 pub use messages::{
     Grant, attach_accept, attach_reject, attach_reject_with, authentication_reject,
-    authentication_request, detach_accept, emm_status, network_detach, security_mode_command,
-    service_reject, update_accept, update_reject,
+    authentication_request, detach_accept, emm_status, identity_request, network_detach,
+    security_mode_command, service_reject, update_accept, update_reject,
 };
 pub use pdus::{
     cause_of_request, context_setup, downlink, error_indication, paging, path_switch_acknowledge,

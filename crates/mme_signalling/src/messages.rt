@@ -4,7 +4,7 @@ ghost use Rattle.std.specs.Prelude.{◌≡◌, ◌<◌, ◌^◌, length, IfOk, I
 ghost use Rattle.nas_elements.specs.Identities.{TaiListFits};
 ghost use Rattle.nas_elements.specs.Seen.{octets_of};
 ghost use Rattle.nas_messages.specs.Messages.{encoded_emm};
-ghost use Rattle.mme_signalling.specs.Messages.{attach_accept, attach_reject, authentication_reject, authentication_request, detach_accept, emm_status, guti, network_detach, security_mode_command, service_reject, tai_list, update_accept, update_reject};
+ghost use Rattle.mme_signalling.specs.Messages.{attach_accept, attach_reject, authentication_reject, authentication_request, detach_accept, emm_status, guti, identity_request, network_detach, security_mode_command, service_reject, tai_list, update_accept, update_reject};
 
 use crate::cause::EmmCause;
 use identity_slots::Tmsi;
@@ -12,7 +12,7 @@ use mme_types::Network;
 use nas_elements::{Guti, Plmn, TaiList, UeCapability};
 use nas_messages::{
     AttachAccept, AttachReject, AuthenticationRequest, Emm, EmmMessage, SecurityModeCommand,
-    TrackingAreaUpdateAccept, encode_emm,
+    TrackingAreaUpdateAccept, encode_emm, timers,
 };
 use s1ap_elements::Tai;
 use std::alloc::{AllocError, Global};
@@ -26,8 +26,8 @@ pub struct Grant {
     pub combined: bool,
 }
 
-// T3412: 9 times 6 minutes (TS 24.008 clause 10.5.7.3).
-const PERIODIC_UPDATE: [u8; 1] = [0x49];
+// T3412, as an element has it.
+const PERIODIC_UPDATE: [u8; 1] = [timers::T3412_OCTET];
 
 // The GUTI of an M-TMSI (TS 23.003 clause 2.8).
 fn guti(network: &Network, tmsi: Tmsi) -> Guti
@@ -118,6 +118,17 @@ pub fn authentication_reject(alloc: Global) -> Result<Vec<u8>, AllocError>
     encode_emm(alloc, &lent.message)
 }
 
+/// IDENTITY REQUEST for the IMSI (TS 24.301 clause 8.2.18).
+#[tactic(auto, unfolding(crate::specs::Messages::identity_request))]
+pub fn identity_request(alloc: Global) -> Result<Vec<u8>, AllocError>
+    ensures { IfOk result (λ o. o.items ≡ identity_request) }
+{
+    let lent = Lent {
+        message: Emm::IdentityRequest,
+    };
+    encode_emm(alloc, &lent.message)
+}
+
 /// SECURITY MODE COMMAND for EEA0 and EIA2 under a key set identifier below 8, with the capability that the phone told
 /// (TS 24.301 clause 8.2.20).
 #[tactic(auto, unfolding(crate::specs::Messages::security_mode_command))]
@@ -173,7 +184,15 @@ fn accept_octets<'a>(
     requires esm { length esm.now < 2 ^ 16 }
     requires guti { length guti.now ≡ 11 }
     requires cause { IfSome cause (λ c. length c.now ≡ 1) }
-    ensures { IfOk result (λ o. o.items ≡ encoded_emm (Emm.AttachAccept (record { tai_list = tai_list; esm = esm.entry.now; guti = Some guti.entry.now; cause = octets_of cause.entry }))) }
+    ensures { IfOk result
+        (λ o. o.items ≡ encoded_emm
+        (Emm.AttachAccept (record {
+          tai_list = tai_list;
+          esm = esm.entry.now;
+          guti = Some guti.entry.now;
+          cause =
+              octets_of cause.entry;
+        }))) }
 {
     let lent = Lent {
         message: Emm::AttachAccept(AttachAccept {
@@ -215,7 +234,16 @@ fn update_octets<'a>(
     requires guti { length guti.now ≡ 11 }
     requires areas { length areas.now ≡ 6 }
     requires cause { IfSome cause (λ c. length c.now ≡ 1) }
-    ensures { IfOk result (λ o. o.items ≡ encoded_emm (Emm.TrackingAreaUpdateAccept (record { timer = Some timer.entry.now; guti = Some guti.entry.now; tai_list = Some areas.entry.now; cause = octets_of cause.entry }))) }
+    ensures { IfOk result
+        (λ o. o.items ≡ encoded_emm
+        (Emm.TrackingAreaUpdateAccept
+        (record {
+          timer = Some timer.entry.now;
+          guti = Some guti.entry.now;
+          tai_list = Some areas.entry.now;
+          cause =
+              octets_of cause.entry;
+        }))) }
 {
     let lent = Lent {
         message: Emm::TrackingAreaUpdateAccept(TrackingAreaUpdateAccept {

@@ -7,6 +7,7 @@ ghost use Rattle.mme_signalling.specs.Pdus.{algorithm_bits, cause_of_request, co
 use identity_slots::{AssociationId, Profile, Tmsi};
 use mme_types::{Connection, Network};
 use nas_elements::{Imsi, UeCapability};
+use nas_messages::codes;
 use per_bits::{BitField, Items, Octets, Whole};
 use s1ap_elements::{
     Address, Ambr, Arp, Cause, CnDomain, EnbUeId, ErabId, ErabToBeSetup, Listed, MiscCause,
@@ -192,12 +193,14 @@ pub fn context_setup<'a>(
     kenb: [u8; 32],
     nas: Option<&'a [u8]>,
 ) -> Result<S1apPdu<'a>, AllocError>
-    ensures { IfOk result (λ m. lists m ≡ context_setup network.now profile.entry.now capability.now connection kenb (option_map (λ o. o.now) nas.entry)) }
+    ensures { IfOk result
+        (λ m. lists m ≡ context_setup network.now profile.entry.now capability.now connection kenb
+        (option_map (λ o. o.now) nas.entry)) }
 {
     let Some(address) = Address::try_new(&profile.gateway) else {
         unreachable!()
     };
-    let id: ErabId = whole::<0, 15>(5);
+    let id: ErabId = whole::<0, 15>(u64::from(codes::DEFAULT_BEARER));
     let erab = ErabToBeSetup {
         id,
         qos: qos(),

@@ -15,7 +15,8 @@ agrees (Some given) id = given == id
 
 -- an item that gives an id, and whose ids are the association's
 abbrev pub matches : ℕ → ℕ → ListedAssociation → Bool
-matches mme_ue_id enb_ue_id item = (is_some item.mme_ue_id || is_some item.enb_ue_id) && (agrees item.mme_ue_id mme_ue_id && agrees item.enb_ue_id enb_ue_id)
+matches mme_ue_id enb_ue_id item =
+    (is_some item.mme_ue_id || is_some item.enb_ue_id) && (agrees item.mme_ue_id mme_ue_id && agrees item.enb_ue_id enb_ue_id)
 
 -- some item matches the association with these ids
 abbrev pub is_listed : ℕ → ℕ → ToReset → Bool

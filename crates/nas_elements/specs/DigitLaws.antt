@@ -12,7 +12,8 @@ chosen true o y e = (refl, e)
 chosen false o y e = absurd cc
 
 -- a list of 8 is its items
-pub eight : (os : List ℕ) → length os ≡ 8 → os ≡ slice_index os 0 ∷ slice_index os 1 ∷ slice_index os 2 ∷ slice_index os 3 ∷ slice_index os 4 ∷ slice_index os 5 ∷ slice_index os 6 ∷ slice_index os 7 ∷ []
+pub eight : (os : List ℕ) → length os ≡ 8 → os ≡ slice_index os 0 ∷ slice_index os 1 ∷ slice_index os 2 ∷ slice_index os 3
+    ∷ slice_index os 4 ∷ slice_index os 5 ∷ slice_index os 6 ∷ slice_index os 7 ∷ []
 eight ([]) e = absurd (omega (arith, e))
 eight (v0 ∷ []) e = absurd (omega (arith, e))
 eight (v0 ∷ v1 ∷ []) e = absurd (omega (arith, e))
@@ -25,7 +26,9 @@ eight (v0 ∷ v1 ∷ v2 ∷ v3 ∷ v4 ∷ v5 ∷ v6 ∷ v7 ∷ []) e = refl
 eight (v0 ∷ v1 ∷ v2 ∷ v3 ∷ v4 ∷ v5 ∷ v6 ∷ v7 ∷ more ∷ rest) e = absurd (omega (arith, e))
 
 -- a list of 15 is its items
-pub fifteen : (os : List ℕ) → length os ≡ 15 → os ≡ slice_index os 0 ∷ slice_index os 1 ∷ slice_index os 2 ∷ slice_index os 3 ∷ slice_index os 4 ∷ slice_index os 5 ∷ slice_index os 6 ∷ slice_index os 7 ∷ slice_index os 8 ∷ slice_index os 9 ∷ slice_index os 10 ∷ slice_index os 11 ∷ slice_index os 12 ∷ slice_index os 13 ∷ slice_index os 14 ∷ []
+pub fifteen : (os : List ℕ) → length os ≡ 15 → os ≡ slice_index os 0 ∷ slice_index os 1 ∷ slice_index os 2 ∷ slice_index os 3
+    ∷ slice_index os 4 ∷ slice_index os 5 ∷ slice_index os 6 ∷ slice_index os 7 ∷ slice_index os 8 ∷ slice_index os 9
+    ∷ slice_index os 10 ∷ slice_index os 11 ∷ slice_index os 12 ∷ slice_index os 13 ∷ slice_index os 14 ∷ []
 fifteen ([]) e = absurd (omega (arith, e))
 fifteen (v0 ∷ []) e = absurd (omega (arith, e))
 fifteen (v0 ∷ v1 ∷ []) e = absurd (omega (arith, e))
@@ -57,7 +60,8 @@ pub imsi_takes : (os ds : List ℕ) → imsi_of os ≡ Some ds → (os ≡ imsi_
 unfolding imsi_of imsi_checked imsi_octets
 imsi_takes os ds e =
     let len = chosen (eqb (length os) 8) (imsi_checked (half_octets os) (slice_index os 0 % 16)) ds e in
-    let g = where_ok (is_imsi (half_octets os) && eqb (slice_index os 0 % 16) (imsi_type (half_octets os))) (half_octets os) ds len.1 in
+    let g =
+    where_ok (is_imsi (half_octets os) && eqb (slice_index os 0 % 16) (imsi_type (half_octets os))) (half_octets os) ds len.1 in
     let t = both_true (is_imsi (half_octets os)) (eqb (slice_index os 0 % 16) (imsi_type (half_octets os))) g.0 in
     let kind : slice_index os 0 % 16 ≡ imsi_type (half_octets os) = eqb-true _ _ t.1 in
     let whole : os ≡ imsi_octets (half_octets os) = eight os (eqb-true _ _ len.0) ∙ sym (rw (← kind) (simp halves)) in
@@ -80,7 +84,10 @@ type_small : (b : Bool) → cond b 1 9 < 16
 type_small true = omega arith
 type_small false = omega arith
 
-again_explicit : (d0 d1 d2 d3 d4 d5 d6 d7 d8 d9 d10 d11 d12 d13 d14 : ℕ) → is_imsi (d0 ∷ d1 ∷ d2 ∷ d3 ∷ d4 ∷ d5 ∷ d6 ∷ d7 ∷ d8 ∷ d9 ∷ d10 ∷ d11 ∷ d12 ∷ d13 ∷ d14 ∷ []) ≡ true → imsi_of (imsi_octets (d0 ∷ d1 ∷ d2 ∷ d3 ∷ d4 ∷ d5 ∷ d6 ∷ d7 ∷ d8 ∷ d9 ∷ d10 ∷ d11 ∷ d12 ∷ d13 ∷ d14 ∷ [])) ≡ Some (d0 ∷ d1 ∷ d2 ∷ d3 ∷ d4 ∷ d5 ∷ d6 ∷ d7 ∷ d8 ∷ d9 ∷ d10 ∷ d11 ∷ d12 ∷ d13 ∷ d14 ∷ [])
+again_explicit : (d0 d1 d2 d3 d4 d5 d6 d7 d8 d9 d10 d11 d12 d13 d14 : ℕ)
+    → is_imsi (d0 ∷ d1 ∷ d2 ∷ d3 ∷ d4 ∷ d5 ∷ d6 ∷ d7 ∷ d8 ∷ d9 ∷ d10 ∷ d11 ∷ d12 ∷ d13 ∷ d14 ∷ []) ≡ true
+    → imsi_of (imsi_octets (d0 ∷ d1 ∷ d2 ∷ d3 ∷ d4 ∷ d5 ∷ d6 ∷ d7 ∷ d8 ∷ d9 ∷ d10 ∷ d11 ∷ d12 ∷ d13 ∷ d14 ∷ []))
+    ≡ Some (d0 ∷ d1 ∷ d2 ∷ d3 ∷ d4 ∷ d5 ∷ d6 ∷ d7 ∷ d8 ∷ d9 ∷ d10 ∷ d11 ∷ d12 ∷ d13 ∷ d14 ∷ [])
 unfolding imsi_of imsi_checked imsi_octets is_imsi
 again_explicit d0 d1 d2 d3 d4 d5 d6 d7 d8 d9 d10 d11 d12 d13 d14 e =
     let a = both_true _ _ e in
@@ -114,17 +121,45 @@ again_explicit d0 d1 d2 d3 d4 d5 d6 d7 d8 d9 d10 d11 d12 d13 d14 e =
     let l13 : d13 < 16 = digit d13 c13.0 in
     let l14 : d14 < 16 = last_digit d14 a.1 in
     let k = type_small (eqb d14 15) in
-    let test : (is_imsi (d0 ∷ d1 ∷ d2 ∷ d3 ∷ d4 ∷ d5 ∷ d6 ∷ d7 ∷ d8 ∷ d9 ∷ d10 ∷ d11 ∷ d12 ∷ d13 ∷ d14 ∷ []) && eqb (imsi_type (d0 ∷ d1 ∷ d2 ∷ d3 ∷ d4 ∷ d5 ∷ d6 ∷ d7 ∷ d8 ∷ d9 ∷ d10 ∷ d11 ∷ d12 ∷ d13 ∷ d14 ∷ [])) (imsi_type (d0 ∷ d1 ∷ d2 ∷ d3 ∷ d4 ∷ d5 ∷ d6 ∷ d7 ∷ d8 ∷ d9 ∷ d10 ∷ d11 ∷ d12 ∷ d13 ∷ d14 ∷ []))) ≡ true = and_true _ _ e (eq-eqb _ _ refl) in
-    rw (high_half d0 (imsi_type (d0 ∷ d1 ∷ d2 ∷ d3 ∷ d4 ∷ d5 ∷ d6 ∷ d7 ∷ d8 ∷ d9 ∷ d10 ∷ d11 ∷ d12 ∷ d13 ∷ d14 ∷ [])) k, low_half d0 (imsi_type (d0 ∷ d1 ∷ d2 ∷ d3 ∷ d4 ∷ d5 ∷ d6 ∷ d7 ∷ d8 ∷ d9 ∷ d10 ∷ d11 ∷ d12 ∷ d13 ∷ d14 ∷ [])) k, low_half d2 d1 l1, high_half d2 d1 l1, low_half d4 d3 l3, high_half d4 d3 l3, low_half d6 d5 l5, high_half d6 d5 l5, low_half d8 d7 l7, high_half d8 d7 l7, low_half d10 d9 l9, high_half d10 d9 l9, low_half d12 d11 l11, high_half d12 d11 l11, low_half d14 d13 l13, high_half d14 d13 l13, test) refl
+    let test : (is_imsi (d0 ∷ d1 ∷ d2 ∷ d3 ∷ d4 ∷ d5 ∷ d6 ∷ d7 ∷ d8 ∷ d9 ∷ d10 ∷ d11 ∷ d12 ∷ d13 ∷ d14 ∷ [])
+    && eqb (imsi_type (d0 ∷ d1 ∷ d2 ∷ d3 ∷ d4 ∷ d5 ∷ d6 ∷ d7 ∷ d8 ∷ d9 ∷ d10 ∷ d11 ∷ d12 ∷ d13 ∷ d14 ∷ []))
+    (imsi_type (d0 ∷ d1 ∷ d2 ∷ d3 ∷ d4 ∷ d5 ∷ d6 ∷ d7 ∷ d8 ∷ d9 ∷ d10 ∷ d11 ∷ d12 ∷ d13 ∷ d14 ∷ []))) ≡ true =
+    and_true _ _ e (eq-eqb _ _ refl) in
+    rw (
+      high_half d0 (imsi_type (d0 ∷ d1 ∷ d2 ∷ d3 ∷ d4 ∷ d5 ∷ d6 ∷ d7 ∷ d8 ∷ d9 ∷ d10 ∷ d11 ∷ d12 ∷ d13 ∷ d14 ∷ [])) k,
+      low_half d0 (imsi_type (d0 ∷ d1 ∷ d2 ∷ d3 ∷ d4 ∷ d5 ∷ d6 ∷ d7 ∷ d8 ∷ d9 ∷ d10 ∷ d11 ∷ d12 ∷ d13 ∷ d14 ∷ [])) k,
+      low_half d2 d1 l1,
+      high_half d2 d1 l1,
+      low_half d4 d3 l3,
+      high_half d4 d3 l3,
+      low_half d6 d5 l5,
+      high_half d6 d5 l5,
+      low_half d8 d7 l7,
+      high_half d8 d7 l7,
+      low_half d10 d9 l9,
+      high_half d10 d9 l9,
+      low_half d12 d11 l11,
+      high_half d12 d11 l11,
+      low_half d14 d13 l13,
+      high_half d14 d13 l13,
+      test,
+    ) refl
 
 is_imsi_length : (ds : List ℕ) → is_imsi ds ≡ true → length ds ≡ 15
 unfolding is_imsi
-is_imsi_length ds e = eqb-true _ _ (both_true (eqb (length ds) 15) (are_digits (take 14 ds) && (ltb (slice_index ds 14) 10 || eqb (slice_index ds 14) 15)) e).0
+is_imsi_length ds e =
+    eqb-true _ _
+    (both_true (eqb (length ds) 15) (are_digits (take 14 ds) && (ltb (slice_index ds 14) 10 || eqb (slice_index ds 14) 15)) e).0
 
 pub imsi_again : (os ds : List ℕ) → (os ≡ imsi_octets ds) × (is_imsi ds ≡ true) → imsi_of os ≡ Some ds
 imsi_again os ds m =
-    let whole : ds ≡ slice_index ds 0 ∷ slice_index ds 1 ∷ slice_index ds 2 ∷ slice_index ds 3 ∷ slice_index ds 4 ∷ slice_index ds 5 ∷ slice_index ds 6 ∷ slice_index ds 7 ∷ slice_index ds 8 ∷ slice_index ds 9 ∷ slice_index ds 10 ∷ slice_index ds 11 ∷ slice_index ds 12 ∷ slice_index ds 13 ∷ slice_index ds 14 ∷ [] = fifteen ds (is_imsi_length ds m.1) in
-    let made = again_explicit (slice_index ds 0) (slice_index ds 1) (slice_index ds 2) (slice_index ds 3) (slice_index ds 4) (slice_index ds 5) (slice_index ds 6) (slice_index ds 7) (slice_index ds 8) (slice_index ds 9) (slice_index ds 10) (slice_index ds 11) (slice_index ds 12) (slice_index ds 13) (slice_index ds 14) (subst (λ (x : List ℕ). is_imsi x ≡ true) whole m.1) in
+    let whole : ds ≡ slice_index ds 0 ∷ slice_index ds 1 ∷ slice_index ds 2 ∷ slice_index ds 3 ∷ slice_index ds 4 ∷ slice_index ds 5
+    ∷ slice_index ds 6 ∷ slice_index ds 7 ∷ slice_index ds 8 ∷ slice_index ds 9 ∷ slice_index ds 10 ∷ slice_index ds 11
+    ∷ slice_index ds 12 ∷ slice_index ds 13 ∷ slice_index ds 14 ∷ [] = fifteen ds (is_imsi_length ds m.1) in
+    let made =
+    again_explicit (slice_index ds 0) (slice_index ds 1) (slice_index ds 2) (slice_index ds 3) (slice_index ds 4) (slice_index ds 5)
+    (slice_index ds 6) (slice_index ds 7) (slice_index ds 8) (slice_index ds 9) (slice_index ds 10) (slice_index ds 11)
+    (slice_index ds 12) (slice_index ds 13) (slice_index ds 14) (subst (λ (x : List ℕ). is_imsi x ≡ true) whole m.1) in
     m' os ds m.0 (subst (λ (x : List ℕ). imsi_of (imsi_octets x) ≡ Some x) (sym whole) made)
   where
     m' : (os ds : List ℕ) → os ≡ imsi_octets ds → imsi_of (imsi_octets ds) ≡ Some ds → imsi_of os ≡ Some ds
@@ -139,12 +174,15 @@ digits_small (d ∷ ds) e (suc i) lt = digits_small ds (both_true (ltb d 10) (ar
 pub small : (ds : List ℕ) → is_imsi ds ≡ true → (i : ℕ) → i < 15 → slice_index ds i < 16
 unfolding is_imsi
 small ds e i lt =
-    let a = both_true (eqb (length ds) 15) (are_digits (take 14 ds) && (ltb (slice_index ds 14) 10 || eqb (slice_index ds 14) 15)) e in
+    let a =
+    both_true (eqb (length ds) 15) (are_digits (take 14 ds) && (ltb (slice_index ds 14) 10 || eqb (slice_index ds 14) 15)) e in
     let b = both_true (are_digits (take 14 ds)) (ltb (slice_index ds 14) 10 || eqb (slice_index ds 14) 15) a.1 in
     let len : length ds ≡ 15 = eqb-true _ _ a.0 in
     elim (cases_lt i 14) [
-      | inl front ↦ subst (λ (n : ℕ). n < 16) (get_or-take 14 ds i 0 front) (digits_small (take 14 ds) b.0 i (omega (arith, len, length-take 14 ds, front)))
-      | inr back ↦ let here : i ≡ 14 = omega (arith, lt, back) in subst (λ (n : ℕ). slice_index ds n < 16) (sym here) (last_digit (slice_index ds 14) b.1)
+      | inl front ↦ subst (λ (n : ℕ). n < 16) (get_or-take 14 ds i 0 front)
+          (digits_small (take 14 ds) b.0 i (omega (arith, len, length-take 14 ds, front)))
+      | inr back ↦ let here : i ≡ 14 =
+          omega (arith, lt, back) in subst (λ (n : ℕ). slice_index ds n < 16) (sym here) (last_digit (slice_index ds 14) b.1)
     ]
 
 -- ---- text
@@ -197,7 +235,8 @@ filled_fourteen ds len e =
     let front : take 14 (ds ++ 15 ∷ []) ≡ ds = take_front ds (15 ∷ []) 14 len in
     let last : slice_index (ds ++ 15 ∷ []) 14 ≡ 15 = get_or-append_right ds (15 ∷ []) 14 14 0 len (omega arith) in
     let made : is_imsi (ds ++ 15 ∷ []) ≡ true =
-    and_true _ _ (eq-eqb _ _ long) (and_true _ _ (rw front e) (or_right (ltb (slice_index (ds ++ 15 ∷ []) 14) 10) _ (eq-eqb _ _ last))) in
+    and_true _ _ (eq-eqb _ _ long)
+    (and_true _ _ (rw front e) (or_right (ltb (slice_index (ds ++ 15 ∷ []) 14) 10) _ (eq-eqb _ _ last))) in
     subst (λ (x : List ℕ). is_imsi x ≡ true) (sym whole) made
 
 filled_fifteen : (ds : List ℕ) → length ds ≡ 15 → are_digits ds ≡ true → is_imsi (filled ds) ≡ true
@@ -205,7 +244,8 @@ unfolding is_imsi
 filled_fifteen ds len e =
     let whole : filled ds ≡ ds = take_front ds (15 ∷ []) 15 len in
     let made : is_imsi ds ≡ true =
-    and_true _ _ (eq-eqb _ _ len) (and_true _ _ (digits_front 14 ds e) (or_left _ (eqb (slice_index ds 14) 15) (digit_at ds e 14 (omega (arith, len))))) in
+    and_true _ _ (eq-eqb _ _ len)
+    (and_true _ _ (digits_front 14 ds e) (or_left _ (eqb (slice_index ds 14) 15) (digit_at ds e 14 (omega (arith, len))))) in
     subst (λ (x : List ℕ). is_imsi x ≡ true) (sym whole) made
 
 pub filled_is_imsi : (bs : List ℕ) → is_digit_text bs ≡ true → is_imsi (filled (map (λ (b : ℕ). b - 48) bs)) ≡ true
@@ -221,22 +261,31 @@ filled_is_imsi bs e =
 
 imsi_front : (ds : List ℕ) → is_imsi ds ≡ true → are_digits (take 14 ds) ≡ true
 unfolding is_imsi
-imsi_front ds e = (both_true (are_digits (take 14 ds)) (ltb (slice_index ds 14) 10 || eqb (slice_index ds 14) 15) (both_true (eqb (length ds) 15) (are_digits (take 14 ds) && (ltb (slice_index ds 14) 10 || eqb (slice_index ds 14) 15)) e).1).0
+imsi_front ds e = (both_true (are_digits (take 14 ds)) (ltb (slice_index ds 14) 10 || eqb (slice_index ds 14) 15)
+    (both_true (eqb (length ds) 15) (are_digits (take 14 ds) && (ltb (slice_index ds 14) 10 || eqb (slice_index ds 14) 15)) e).1).0
 
 imsi_last : (ds : List ℕ) → is_imsi ds ≡ true → (slice_index ds 14 ≡ 15 → ⊥) → ltb (slice_index ds 14) 10 ≡ true
 unfolding is_imsi
 imsi_last ds e other =
-    let a = (both_true (eqb (length ds) 15) (are_digits (take 14 ds) && (ltb (slice_index ds 14) 10 || eqb (slice_index ds 14) 15)) e).1 in
+    let a =
+    (both_true (eqb (length ds) 15) (are_digits (take 14 ds) && (ltb (slice_index ds 14) 10 || eqb (slice_index ds 14) 15)) e).1 in
     let b = (both_true (are_digits (take 14 ds)) (ltb (slice_index ds 14) 10 || eqb (slice_index ds 14) 15) a).1 in
-    elim (either_true (ltb (slice_index ds 14) 10) (eqb (slice_index ds 14) 15) b) [ inl p ↦ p | inr p ↦ absurd (other (eqb-true _ _ p)) ]
+    elim (either_true (ltb (slice_index ds 14) 10) (eqb (slice_index ds 14) 15) b) [
+      | inl p ↦ p
+      | inr p ↦ absurd
+          (other (eqb-true _ _ p))
+    ]
 
 pub front_digits : (ds : List ℕ) → is_imsi ds ≡ true → are_digits (take 14 ds) ≡ true
 front_digits ds e = imsi_front ds e
 
 pub all_digits : (ds : List ℕ) → is_imsi ds ≡ true → (slice_index ds 14 ≡ 15 → ⊥) → are_digits ds ≡ true
 all_digits ds e other =
-    let whole : take 14 ds ++ slice_index ds 14 ∷ [] ≡ ds = sym (take_more ds 14 0 (let l = is_imsi_length ds e in omega (arith, l))) ∙ take_all 15 ds (let l = is_imsi_length ds e in omega (arith, l)) in
-    subst (λ (x : List ℕ). are_digits x ≡ true) whole (digits_joined (take 14 ds) (slice_index ds 14) (imsi_front ds e) (imsi_last ds e other))
+    let whole : take 14 ds ++ slice_index ds 14 ∷ [] ≡ ds =
+    sym (take_more ds 14 0 (let l = is_imsi_length ds e in omega (arith, l)))
+    ∙ take_all 15 ds (let l = is_imsi_length ds e in omega (arith, l)) in
+    subst (λ (x : List ℕ). are_digits x ≡ true) whole
+    (digits_joined (take 14 ds) (slice_index ds 14) (imsi_front ds e) (imsi_last ds e other))
   where
     digits_joined : (xs : List ℕ) (d : ℕ) → are_digits xs ≡ true → ltb d 10 ≡ true → are_digits (xs ++ d ∷ []) ≡ true
     digits_joined [] d e l = and_true _ _ l refl
@@ -276,8 +325,10 @@ digits_back : (bs : List ℕ) → is_digit_text bs ≡ true → texts (digits_of
 digits_back bs e =
     let t = both_true (eqb (length bs) 14 || eqb (length bs) 15) (list_all is_digit bs) e in
     elim (either_true (eqb (length bs) 14) (eqb (length bs) 15) t.0) [
-      | inl p ↦ ap (map (λ (d : ℕ). 48 + d)) (digits_fourteen (values bs) (length-map bs (λ (b : ℕ). b - 48) ∙ eqb-true _ _ p)) ∙ back bs t.1
-      | inr p ↦ ap (map (λ (d : ℕ). 48 + d)) (digits_fifteen (values bs) (length-map bs (λ (b : ℕ). b - 48) ∙ eqb-true _ _ p) (values_are_digits bs t.1)) ∙ back bs t.1
+      | inl p ↦ ap (map (λ (d : ℕ). 48 + d)) (digits_fourteen (values bs) (length-map bs (λ (b : ℕ). b - 48) ∙ eqb-true _ _ p))
+          ∙ back bs t.1
+      | inr p ↦ ap (map (λ (d : ℕ). 48 + d))
+          (digits_fifteen (values bs) (length-map bs (λ (b : ℕ). b - 48) ∙ eqb-true _ _ p) (values_are_digits bs t.1)) ∙ back bs t.1
     ]
 
 pub text_again : (bs ds : List ℕ) → imsi_of_text bs ≡ Some ds → imsi_text ds ≡ bs
@@ -301,7 +352,8 @@ forth : (ds : List ℕ) → values (texts ds) ≡ ds
 forth [] = refl
 forth (d ∷ ds) = let one : 48 + d - 48 ≡ d = omega arith in rw (one, forth ds) refl
 
-made_again : (ds xs : List ℕ) → (length xs ≡ 14) ⊎ (length xs ≡ 15) → are_digits xs ≡ true → filled xs ≡ ds → imsi_of_text (texts xs) ≡ Some ds
+made_again : (ds xs : List ℕ) → (length xs ≡ 14) ⊎ (length xs ≡ 15) → are_digits xs ≡ true → filled xs ≡ ds
+    → imsi_of_text (texts xs) ≡ Some ds
 unfolding imsi_of_text
 made_again ds xs n e whole =
     let test : is_digit_text (texts xs) ≡ true = and_true _ _ (elim n [
@@ -313,16 +365,22 @@ made_again ds xs n e whole =
 filled_again : (ds : List ℕ) → length ds ≡ 15 → slice_index ds 14 ≡ 15 → filled (take 14 ds) ≡ ds
 filled_again ds len last =
     let short : length (take 14 ds) ≡ 14 = omega (arith, length-take 14 ds, len) in
-    let whole : filled (take 14 ds) ≡ take 14 ds ++ 15 ∷ [] = take_all 15 (take 14 ds ++ 15 ∷ []) (omega (arith, short, length-append (take 14 ds) (15 ∷ []))) in
-    whole ∙ ap (λ (n : ℕ). take 14 ds ++ n ∷ []) (sym last) ∙ sym (take_more ds 14 0 (omega (arith, len))) ∙ take_all 15 ds (omega (arith, len))
+    let whole : filled (take 14 ds) ≡ take 14 ds ++ 15 ∷ [] =
+    take_all 15 (take 14 ds ++ 15 ∷ []) (omega (arith, short, length-append (take 14 ds) (15 ∷ []))) in
+    whole ∙ ap (λ (n : ℕ). take 14 ds ++ n ∷ []) (sym last) ∙ sym (take_more ds 14 0 (omega (arith, len)))
+    ∙ take_all 15 ds (omega (arith, len))
 
-imsi_by : (ds : List ℕ) (b : Bool) → eqb (slice_index ds 14) 15 ≡ b → is_imsi ds ≡ true → imsi_of_text (texts (cond b (take 14 ds) ds)) ≡ Some ds
+imsi_by : (ds : List ℕ) (b : Bool) → eqb (slice_index ds 14) 15 ≡ b → is_imsi ds ≡ true
+    → imsi_of_text (texts (cond b (take 14 ds) ds)) ≡ Some ds
 imsi_by ds true q e =
     let len = is_imsi_length ds e in
-    made_again ds (take 14 ds) (inl (omega (arith, length-take 14 ds, len))) (front_digits ds e) (filled_again ds len (eqb-true _ _ q))
+    made_again ds (take 14 ds) (inl (omega (arith, length-take 14 ds, len))) (front_digits ds e)
+    (filled_again ds len (eqb-true _ _ q))
 imsi_by ds false q e =
     let len = is_imsi_length ds e in
-    made_again ds ds (inr len) (all_digits ds e (λ p. absurd (let same = eq-eqb _ _ p in let never : true ≡ false = sym same ∙ q in cc))) (take_front ds (15 ∷ []) 15 len)
+    made_again ds ds (inr len)
+    (all_digits ds e (λ p. absurd (let same = eq-eqb _ _ p in let never : true ≡ false = sym same ∙ q in cc)))
+    (take_front ds (15 ∷ []) 15 len)
 
 pub imsi_text_again : (ds : List ℕ) → is_imsi ds ≡ true → imsi_of_text (imsi_text ds) ≡ Some ds
 unfolding imsi_text

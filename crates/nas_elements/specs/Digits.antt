@@ -16,7 +16,10 @@ imsi_type ds = if slice_index ds 14 == 15 then 1 else 9
 -- the first digit and the type; then digits two by two, the low half first
 unfoldable pub imsi_octets : List ℕ → List ℕ
 imsi_octets ds =
-    (slice_index ds 0 * 16 + imsi_type ds) ∷ (slice_index ds 2 * 16 + slice_index ds 1) ∷ (slice_index ds 4 * 16 + slice_index ds 3) ∷ (slice_index ds 6 * 16 + slice_index ds 5) ∷ (slice_index ds 8 * 16 + slice_index ds 7) ∷ (slice_index ds 10 * 16 + slice_index ds 9) ∷ (slice_index ds 12 * 16 + slice_index ds 11) ∷ (slice_index ds 14 * 16 + slice_index ds 13) ∷ []
+    (slice_index ds 0 * 16 + imsi_type ds) ∷ (slice_index ds 2 * 16 + slice_index ds 1) ∷ (slice_index ds 4 * 16 + slice_index ds 3)
+    ∷ (slice_index ds 6 * 16 + slice_index ds 5) ∷ (slice_index ds 8 * 16 + slice_index ds 7)
+    ∷ (slice_index ds 10 * 16 + slice_index ds 9) ∷ (slice_index ds 12 * 16 + slice_index ds 11)
+    ∷ (slice_index ds 14 * 16 + slice_index ds 13) ∷ []
 
 unfoldable pub imsi_checked : List ℕ → ℕ → Option (List ℕ)
 imsi_checked ds kind = if is_imsi ds && kind == imsi_type ds then Some ds else None

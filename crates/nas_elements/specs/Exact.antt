@@ -19,7 +19,8 @@ pub record ExactWhole {A : Type 0} (S : A → List ℕ → Type 0) (r : List ℕ
   pub again : (a : A) (os : List ℕ) → S a os → r os ≡ Some a
   pub takes : (os : List ℕ) (a : A) → r os ≡ Some a → S a os
 
-pub bind_ok : {A B : Type 0} (r : Option A) (f : A → Option B) (y : B) → (r >>= f) ≡ Some y → (x : A) × (r ≡ Some x) × (f x ≡ Some y)
+pub bind_ok : {A B : Type 0} (r : Option A) (f : A → Option B) (y : B) → (r >>= f) ≡ Some y
+    → (x : A) × (r ≡ Some x) × (f x ≡ Some y)
 bind_ok (Some x) f y e = (x, refl, e)
 bind_ok None f y e = absurd cc
 
@@ -43,7 +44,8 @@ both_true false b e = absurd cc
 
 -- the same spelling and the same reading, said otherwise
 pub exact_same : {A : Type 0} (S Q : A → List ℕ → Type 0) (r q : List ℕ → Option (A × List ℕ))
-    → ((a : A) (os : List ℕ) → S a os → Q a os) → ((a : A) (os : List ℕ) → Q a os → S a os) → ((os : List ℕ) → q os ≡ r os) → Exact S r → Exact Q q
+    → ((a : A) (os : List ℕ) → S a os → Q a os) → ((a : A) (os : List ℕ) → Q a os → S a os) → ((os : List ℕ) → q os ≡ r os)
+    → Exact S r → Exact Q q
 exact_same S Q r q to from same h = record {
   again = λ a os rest m. same (os ++ rest) ∙ h.again a os rest (from a os m);
   takes = λ os rest a e.
@@ -55,7 +57,8 @@ exact_same S Q r q to from same h = record {
 abbrev pub Bind : {A B : Type 0} (S : A → List ℕ → Type 0) (Q : A → B → List ℕ → Type 0) → B → List ℕ → Type 0
 Bind {A} S Q b os = (a : A) × (xs : List ℕ) × (ys : List ℕ) × (os ≡ xs ++ ys) × S a xs × Q a b ys
 
-pub exact_bind : {A B : Type 0} (S : A → List ℕ → Type 0) (Q : A → B → List ℕ → Type 0) (r : List ℕ → Option (A × List ℕ)) (q : A → List ℕ → Option (B × List ℕ))
+pub exact_bind : {A B : Type 0} (S : A → List ℕ → Type 0) (Q : A → B → List ℕ → Type 0) (r : List ℕ → Option (A × List ℕ))
+    (q : A → List ℕ → Option (B × List ℕ))
     → Exact S r → ((a : A) → Exact (Q a) (q a)) → Exact (Bind S Q) (λ os. r os >>= λ x. q x.0 x.1)
 exact_bind {A} {B} S Q r q h k = record {
   again = λ b os rest m.
@@ -83,7 +86,8 @@ exact_ok {A} c = record {
   takes = λ os rest a e.
       let made : A × List ℕ = (c, os) in
       let last : A × List ℕ = (a, rest) in
-      subst (λ (y : A × List ℕ). Takes (Nothing c) os y.0 y.1) (some_is made last e) (record { taken = []; parts = refl; spelled = (refl, refl) });
+      subst (λ (y : A × List ℕ). Takes (Nothing c) os y.0 y.1) (some_is made last e)
+      (record { taken = []; parts = refl; spelled = (refl, refl) });
 }
 
 -- nothing is taken where a value is there
@@ -98,7 +102,8 @@ exact_given {A} o = record {
       let f : A → Option (A × List ℕ) = λ x. Some (x, os) in
       let b = bind_ok o f last e in
       let made : A × List ℕ = (b.0, os) in
-      subst (λ (y : A × List ℕ). Takes (Given o) os y.0 y.1) (some_is made last b.2) (record { taken = []; parts = refl; spelled = (b.1, refl) });
+      subst (λ (y : A × List ℕ). Takes (Given o) os y.0 y.1) (some_is made last b.2)
+      (record { taken = []; parts = refl; spelled = (b.1, refl) });
 }
 
 -- ---- octets
@@ -112,7 +117,8 @@ octet_takes [] rest n e = absurd cc
 octet_takes (o ∷ os) rest n e =
     let made : ℕ × List ℕ = (o, os) in
     let last : ℕ × List ℕ = (n, rest) in
-    subst (λ (y : ℕ × List ℕ). Takes IsOctet (o ∷ os) y.0 y.1) (some_is made last e) (record { taken = o ∷ []; parts = refl; spelled = refl })
+    subst (λ (y : ℕ × List ℕ). Takes IsOctet (o ∷ os) y.0 y.1) (some_is made last e)
+    (record { taken = o ∷ []; parts = refl; spelled = refl })
 
 pub exact_octet : Exact IsOctet octet_at
 unfolding octet_at
@@ -164,8 +170,10 @@ pub exact_long : Exact IsLong long_at
 unfolding long_at
 exact_long = exact_same TwoOctets IsLong (λ os. octet_at os >>= λ a. octet_at a.1 >>= λ b. fixed_at (a.0 * 256 + b.0) b.1) long_at
     long_to (λ xs os m. (m.0, m.0 ∷ [], m.1 ∷ xs, m.2, refl, (m.1, m.1 ∷ [], xs, refl, refl, (refl, sym m.3)))) (λ os. refl)
-    (exact_bind IsOctet (λ a. Bind IsOctet (λ b. SoMany (a * 256 + b))) octet_at (λ a os. octet_at os >>= λ b. fixed_at (a * 256 + b.0) b.1) exact_octet
-    (λ a. exact_bind IsOctet (λ b. SoMany (a * 256 + b)) octet_at (λ b. fixed_at (a * 256 + b)) exact_octet (λ b. exact_fixed (a * 256 + b))))
+    (exact_bind IsOctet (λ a. Bind IsOctet (λ b. SoMany (a * 256 + b))) octet_at
+    (λ a os. octet_at os >>= λ b. fixed_at (a * 256 + b.0) b.1) exact_octet
+    (λ a. exact_bind IsOctet (λ b. SoMany (a * 256 + b)) octet_at (λ b. fixed_at (a * 256 + b)) exact_octet
+    (λ b. exact_fixed (a * 256 + b))))
 
 -- ---- half octets
 

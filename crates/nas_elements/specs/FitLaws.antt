@@ -133,7 +133,8 @@ set_high domain i e = leb-true 128 i (others_not domain i (leb 128 i) refl e)
 
 -- an element may be written under its identifier
 
-by_fits : (domain : Domain) (i : ℕ) (e : Element (List ℕ)) (tail : List ℕ) (r : Rule) → rule_of domain i ≡ r → Small tail → SpellsBy r i e tail → FitsBy (rule_of domain e.iei) e.iei e.octets
+by_fits : (domain : Domain) (i : ℕ) (e : Element (List ℕ)) (tail : List ℕ) (r : Rule) → rule_of domain i ≡ r → Small tail
+    → SpellsBy r i e tail → FitsBy (rule_of domain e.iei) e.iei e.octets
 by_fits domain i e tail Itself q s m =
     let high = set_high domain i q in
     let place : 128 ≤ i / 16 * 16 = omega (arith, high) in
@@ -152,22 +153,28 @@ by_fits domain i e tail ByTwo q s m =
     let small : length e.octets < 65536 = omega (arith, a, b, sum) in
     subst (λ (x : Rule). FitsBy x e.iei e.octets) (sym (ap (rule_of domain) m.0 ∙ q)) small
 
-element_fits : (domain : Domain) (e : Element (List ℕ)) (os : List ℕ) → Small os → SpellsElement domain e os → FitsBy (rule_of domain e.iei) e.iei e.octets
+element_fits : (domain : Domain) (e : Element (List ℕ)) (os : List ℕ) → Small os → SpellsElement domain e os
+    → FitsBy (rule_of domain e.iei) e.iei e.octets
 element_fits domain e os s m =
     let whole : Small (m.0 ∷ m.1) = subst Small m.2 s in
     by_fits domain m.0 e m.1 (rule_of domain m.0) refl whole.1 m.3
 
-chosen_fits : (domain : Domain) (i : ℕ) (e : Element (List ℕ)) (other : Option (List ℕ)) (b : Bool) → eqb e.iei i ≡ b → FitsBy (rule_of domain e.iei) e.iei e.octets → OptionalFits domain i other → OptionalFits domain i (cond b (Some e.octets) other)
+chosen_fits : (domain : Domain) (i : ℕ) (e : Element (List ℕ)) (other : Option (List ℕ)) (b : Bool) → eqb e.iei i ≡ b
+    → FitsBy (rule_of domain e.iei) e.iei e.octets → OptionalFits domain i other
+    → OptionalFits domain i (cond b (Some e.octets) other)
 chosen_fits domain i e other true q f g = subst (λ (n : ℕ). FitsBy (rule_of domain n) n e.octets) (eqb-true e.iei i q) f
 chosen_fits domain i e other false q f g = g
 
-first_fits : (domain : Domain) (es : List (Element (List ℕ))) (os : List ℕ) → Small os → AreElements domain es os → (i : ℕ) → OptionalFits domain i (first i es)
+first_fits : (domain : Domain) (es : List (Element (List ℕ))) (os : List ℕ) → Small os → AreElements domain es os → (i : ℕ)
+    → OptionalFits domain i (first i es)
 first_fits domain [] os s m i = tt
 first_fits domain (e ∷ es) os s m i =
     let whole : Small (m.0 ++ m.1) = subst Small m.2 s in
-    chosen_fits domain i e (first i es) (eqb e.iei i) refl (element_fits domain e m.0 (left m.0 m.1 whole) m.3) (first_fits domain es m.1 (right m.0 m.1 whole) m.4 i)
+    chosen_fits domain i e (first i es) (eqb e.iei i) refl (element_fits domain e m.0 (left m.0 m.1 whole) m.3)
+    (first_fits domain es m.1 (right m.0 m.1 whole) m.4 i)
 
-flag_fits : (domain : Domain) (i : ℕ) (b : Bool) → (leb 128 i && eqb (i % 16) 0) ≡ true → OptionalFits domain i (as_written (flag i) b)
+flag_fits : (domain : Domain) (i : ℕ) (b : Bool) → (leb 128 i && eqb (i % 16) 0) ≡ true
+    → OptionalFits domain i (as_written (flag i) b)
 flag_fits domain i false e = tt
 flag_fits domain i true e =
     let t = both_true (leb 128 i) (eqb (i % 16) 0) e in
@@ -176,11 +183,13 @@ flag_fits domain i true e =
     let made : FitsBy Itself i ((i + 1) ∷ []) = (i + 1, refl, omega (arith, even), omega (arith, high)) in
     subst (λ (x : Rule). FitsBy x i ((i + 1) ∷ [])) (sym (itself domain i high)) made
 
-keep_fits : (domain : Domain) (k : Keep) (o : Option (List ℕ)) → is_sound k ≡ true → OptionalFits domain (iei_of k) o → OptionalFits domain (iei_of k) (as_written k (kept_from k o))
+keep_fits : (domain : Domain) (k : Keep) (o : Option (List ℕ)) → is_sound k ≡ true → OptionalFits domain (iei_of k) o
+    → OptionalFits domain (iei_of k) (as_written k (kept_from k o))
 keep_fits domain (element i) o e f = f
 keep_fits domain (flag i) o e f = flag_fits domain i (is_set o) e
 
-kept_fit : (domain : Domain) (ks : List Keep) (es : List (Element (List ℕ))) (os : List ℕ) → are_distinct ks ≡ true → Small os → AreElements domain es os → KeptFit domain ks (firsts ks es)
+kept_fit : (domain : Domain) (ks : List Keep) (es : List (Element (List ℕ))) (os : List ℕ) → are_distinct ks ≡ true → Small os
+    → AreElements domain es os → KeptFit domain ks (firsts ks es)
 kept_fit domain [] es os e s m = tt
 kept_fit domain (k ∷ ks) es os e s m =
     let t = both_true (not (contains (iei_of k) ks) && is_sound k) (are_distinct ks) e in
@@ -191,5 +200,6 @@ pub row_fits : (r : Row) (v : RowValue r) (os : List ℕ) → are_distinct r.kep
 row_fits r v os e s m =
     let whole : Small (m.front ++ m.rest) = subst Small m.whole s in (
       parts_fit r.parts v.0 m.front (left m.front m.rest whole) m.mandatory,
-      subst (λ (w : Kept r.kept). KeptFit r.domain r.kept w) (sym m.kept) (kept_fit r.domain r.kept m.found m.rest e (right m.front m.rest whole) m.optional),
+      subst (λ (w : Kept r.kept). KeptFit r.domain r.kept w) (sym m.kept)
+          (kept_fit r.domain r.kept m.found m.rest e (right m.front m.rest whole) m.optional),
     )

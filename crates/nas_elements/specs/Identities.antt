@@ -12,7 +12,8 @@ use Rattle.nas_elements.specs.Digits.{is_imsi, imsi_octets, imsi_of}
 abbrev pub plmn_from_s1ap : List ℕ → List ℕ
 plmn_from_s1ap os =
     if slice_index os 1 / 16 == 15 then os
-    else slice_index os 0 ∷ (slice_index os 2 / 16 * 16 + slice_index os 1 % 16) ∷ (slice_index os 2 % 16 * 16 + slice_index os 1 / 16) ∷ []
+    else slice_index os 0 ∷ (slice_index os 2 / 16 * 16 + slice_index os 1 % 16)
+    ∷ (slice_index os 2 % 16 * 16 + slice_index os 1 / 16) ∷ []
 
 -- any three octets
 unfoldable pub plmn_of : List ℕ → Option Plmn
@@ -73,7 +74,11 @@ unfoldable pub tai_list_octets : TaiList → List ℕ
 tai_list_octets a = 0 ∷ a.plmn.octets ++ a.tac
 
 abbrev pub tai_list_from : List ℕ → TaiList
-tai_list_from os = record { plmn = record { octets = slice_index os 1 ∷ slice_index os 2 ∷ slice_index os 3 ∷ [] }; tac = slice_index os 4 ∷ slice_index os 5 ∷ [] }
+tai_list_from os = record {
+  plmn = record { octets = slice_index os 1 ∷ slice_index os 2 ∷ slice_index os 3 ∷ [] };
+  tac =
+      slice_index os 4 ∷ slice_index os 5 ∷ [];
+}
 
 unfoldable pub tai_list_of : List ℕ → Option TaiList
 tai_list_of os = if length os == 6 && slice_index os 0 == 0 then Some (tai_list_from os) else None

@@ -40,7 +40,8 @@ SpellsElement domain e os = (i : ℕ) × (tail : List ℕ) × (os ≡ i ∷ tail
 
 abbrev pub AreElements : Domain → List (Element (List ℕ)) → List ℕ → Type 0
 AreElements domain [] os = os ≡ []
-AreElements domain (e ∷ es) os = (front : List ℕ) × (rest : List ℕ) × (os ≡ front ++ rest) × SpellsElement domain e front × AreElements domain es rest
+AreElements domain (e ∷ es) os =
+    (front : List ℕ) × (rest : List ℕ) × (os ≡ front ++ rest) × SpellsElement domain e front × AreElements domain es rest
 
 -- of repeated elements the first counts
 abbrev pub first : ℕ → List (Element (List ℕ)) → Option (List ℕ)

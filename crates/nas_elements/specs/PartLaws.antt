@@ -28,7 +28,8 @@ content_again label os v m = label_again os v m
 
 -- ---- parts
 
-constant_takes : (c : ℕ) (os rest : List ℕ) (u : Unit {0}) → read_part (constant c) os ≡ Some (u, rest) → Takes (SpellsPart (constant c)) os u rest
+constant_takes : (c : ℕ) (os rest : List ℕ) (u : Unit {0}) → read_part (constant c) os ≡ Some (u, rest)
+    → Takes (SpellsPart (constant c)) os u rest
 constant_takes c os rest u e =
     let last : Unit {0} × List ℕ = (u, rest) in
     let f : ℕ × List ℕ → Option (Unit {0} × List ℕ) = λ n. cond (eqb n.0 c) (Some (tt, n.1)) None in
@@ -52,11 +53,13 @@ Halves low high n v os = SpellsHalf low v.0 (n % 16) × SpellsHalf high v.1 (n /
 halves_after : (low high : Half) (n : ℕ) → List ℕ → Option ((HalfValue low × HalfValue high) × List ℕ)
 halves_after low high n os = half_of low (n % 16) >>= λ l. half_of high (n / 16) >>= λ h. Some ((l, h), os)
 
-halves_take : (low high : Half) (n : ℕ) (os rest : List ℕ) (v : HalfValue low × HalfValue high) → halves_after low high n os ≡ Some (v, rest) → Takes (Halves low high n) os v rest
+halves_take : (low high : Half) (n : ℕ) (os rest : List ℕ) (v : HalfValue low × HalfValue high)
+    → halves_after low high n os ≡ Some (v, rest) → Takes (Halves low high n) os v rest
 unfolding halves_after
 halves_take low high n os rest v e =
     let last : (HalfValue low × HalfValue high) × List ℕ = (v, rest) in
-    let f : HalfValue low → Option ((HalfValue low × HalfValue high) × List ℕ) = λ l. half_of high (n / 16) >>= λ h. Some ((l, h), os) in
+    let f : HalfValue low → Option ((HalfValue low × HalfValue high) × List ℕ) =
+    λ l. half_of high (n / 16) >>= λ h. Some ((l, h), os) in
     let a = bind_ok (half_of low (n % 16)) f last e in
     let g : HalfValue high → Option ((HalfValue low × HalfValue high) × List ℕ) = λ h. Some ((a.0, h), os) in
     let b = bind_ok (half_of high (n / 16)) g last a.2 in
@@ -71,30 +74,37 @@ exact_halves_after low high n = record {
   takes = λ os rest v e. halves_take low high n os rest v e;
 }
 
-halves_to : (low high : Half) (v : HalfValue low × HalfValue high) (os : List ℕ) → Bind IsOctet (Halves low high) v os → SpellsPart (halves low high) v os
+halves_to : (low high : Half) (v : HalfValue low × HalfValue high) (os : List ℕ) → Bind IsOctet (Halves low high) v os
+    → SpellsPart (halves low high) v os
 halves_to low high v os m = (m.0, m.3 ∙ rw (m.4, m.5.2) refl, m.5.0, m.5.1)
 
 exact_halves : (low high : Half) → Exact (SpellsPart (halves low high)) (read_part (halves low high))
 unfolding halves_after
 exact_halves low high =
-    exact_same (Bind IsOctet (Halves low high)) (SpellsPart (halves low high)) (λ os. octet_at os >>= λ n. halves_after low high n.0 n.1) (read_part (halves low high))
+    exact_same (Bind IsOctet (Halves low high)) (SpellsPart (halves low high))
+    (λ os. octet_at os >>= λ n. halves_after low high n.0 n.1) (read_part (halves low high))
     (halves_to low high) (λ v os m. (m.0, m.0 ∷ [], [], m.1, refl, (m.2, m.3, refl))) (λ os. refl)
     (exact_bind IsOctet (Halves low high) octet_at (halves_after low high) exact_octet (exact_halves_after low high))
 
-lv_to : (c : Content) (v : ContentValue c) (os : List ℕ) → Bind IsShort (λ xs. Given (content_of c xs)) v os → SpellsPart (lv c) v os
+lv_to : (c : Content) (v : ContentValue c) (os : List ℕ) → Bind IsShort (λ xs. Given (content_of c xs)) v os
+    → SpellsPart (lv c) v os
 lv_to c v os m = (m.0, m.3 ∙ rw (m.4, m.5.1) (append-nil (length m.0 ∷ m.0)), content_takes c m.0 v m.5.0)
 
-lv_from : (c : Content) (v : ContentValue c) (os : List ℕ) → SpellsPart (lv c) v os → Bind IsShort (λ xs. Given (content_of c xs)) v os
+lv_from : (c : Content) (v : ContentValue c) (os : List ℕ) → SpellsPart (lv c) v os
+    → Bind IsShort (λ xs. Given (content_of c xs)) v os
 lv_from c v os m = (m.0, length m.0 ∷ m.0, [], m.1 ∙ sym (append-nil (length m.0 ∷ m.0)), refl, (content_again c m.0 v m.2, refl))
 
 exact_lv : (c : Content) → Exact (SpellsPart (lv c)) (read_part (lv c))
 exact_lv c =
-    exact_same (Bind IsShort (λ xs. Given (content_of c xs))) (SpellsPart (lv c)) (λ os. short_at os >>= λ xs. content_of c xs.0 >>= λ v. Some (v, xs.1)) (read_part (lv c))
+    exact_same (Bind IsShort (λ xs. Given (content_of c xs))) (SpellsPart (lv c))
+    (λ os. short_at os >>= λ xs. content_of c xs.0 >>= λ v. Some (v, xs.1)) (read_part (lv c))
     (lv_to c) (lv_from c) (λ os. refl)
-    (exact_bind IsShort (λ xs. Given (content_of c xs)) short_at (λ xs os. content_of c xs >>= λ v. Some (v, os)) exact_short (λ xs. exact_given (content_of c xs)))
+    (exact_bind IsShort (λ xs. Given (content_of c xs)) short_at (λ xs os. content_of c xs >>= λ v. Some (v, os)) exact_short
+    (λ xs. exact_given (content_of c xs)))
 
 pub exact_part : (p : Part) → Exact (SpellsPart p) (read_part p)
-exact_part (constant c) = record { again = λ u os rest m. constant_again c u os rest m; takes = λ os rest u e. constant_takes c os rest u e }
+exact_part (constant c) =
+    record { again = λ u os rest m. constant_again c u os rest m; takes = λ os rest u e. constant_takes c os rest u e }
 exact_part octet = let e = exact_octet in record { again = e.again; takes = e.takes }
 exact_part (halves low high) = exact_halves low high
 exact_part (fixed n) = let e = exact_fixed n in record { again = e.again; takes = e.takes }
@@ -109,7 +119,8 @@ exact_parts [] = record {
   takes = λ os rest v e.
       let made : Unit {0} × List ℕ = (tt, os) in
       let last : Unit {0} × List ℕ = (v, rest) in
-      subst (λ (y : Unit {0} × List ℕ). Takes (SpellsParts []) os y.0 y.1) (some_is made last e) (record { taken = []; parts = refl; spelled = refl });
+      subst (λ (y : Unit {0} × List ℕ). Takes (SpellsParts []) os y.0 y.1) (some_is made last e)
+      (record { taken = []; parts = refl; spelled = refl });
 }
 exact_parts (p ∷ ps) = record {
   again = λ v os rest m.
@@ -127,7 +138,8 @@ exact_parts (p ∷ ps) = record {
       subst (λ (y : Values (p ∷ ps) × List ℕ). Takes (SpellsParts (p ∷ ps)) os y.0 y.1) (some_is made last b.2)
       (record {
         taken = first.taken ++ second.taken;
-        parts = first.parts ∙ ap (λ (l : List ℕ). first.taken ++ l) second.parts ∙ sym (append_assoc first.taken second.taken b.0.1);
+        parts = first.parts ∙ ap (λ (l : List ℕ). first.taken ++ l) second.parts
+            ∙ sym (append_assoc first.taken second.taken b.0.1);
         spelled = (first.taken, second.taken, refl, first.spelled, second.spelled);
       });
 }

@@ -87,7 +87,8 @@ SpellsPart long xs os = (a : ℕ) × (b : ℕ) × (os ≡ a ∷ b ∷ xs) × (a 
 
 abbrev pub SpellsParts : (ps : List Part) → Values ps → List ℕ → Type 0
 SpellsParts [] v os = os ≡ []
-SpellsParts (p ∷ ps) v os = (front : List ℕ) × (rest : List ℕ) × (os ≡ front ++ rest) × SpellsPart p v.0 front × SpellsParts ps v.1 rest
+SpellsParts (p ∷ ps) v os =
+    (front : List ℕ) × (rest : List ℕ) × (os ≡ front ++ rest) × SpellsPart p v.0 front × SpellsParts ps v.1 rest
 
 -- ---- reading from the left: a value and the octets after it
 

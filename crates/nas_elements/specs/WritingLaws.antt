@@ -50,8 +50,10 @@ part_written (halves low high) v f =
     let l = half_small low v.0 f.0 in (
       write_half high v.1 * 16 + write_half low v.0,
       refl,
-      subst (λ (n : ℕ). SpellsHalf low v.0 n) (sym (low_of (write_half high v.1) (write_half low v.0) l)) (half_written low v.0 f.0),
-      subst (λ (n : ℕ). SpellsHalf high v.1 n) (sym (high_of (write_half high v.1) (write_half low v.0) l)) (half_written high v.1 f.1),
+      subst (λ (n : ℕ). SpellsHalf low v.0 n) (sym (low_of (write_half high v.1) (write_half low v.0) l))
+          (half_written low v.0 f.0),
+      subst (λ (n : ℕ). SpellsHalf high v.1 n) (sym (high_of (write_half high v.1) (write_half low v.0) l))
+          (half_written high v.1 f.1),
     )
 part_written (fixed n) v f = (refl, f)
 part_written (lv c) v f = (write_content c v, refl, content_written c v f)
@@ -78,24 +80,39 @@ pub itself : (domain : Domain) (n : ℕ) → 128 ≤ n → rule_of domain n ≡ 
 unfolding rule_of
 itself domain n le = rw (le-leb 128 n le) refl
 
-by_rule_written : (domain : Domain) (i : ℕ) (os : List ℕ) (r : Rule) → rule_of domain i ≡ r → FitsBy r i os → SpellsElement domain (element_of i os) (write_by r i os)
+by_rule_written : (domain : Domain) (i : ℕ) (os : List ℕ) (r : Rule) → rule_of domain i ≡ r → FitsBy r i os
+    → SpellsElement domain (element_of i os) (write_by r i os)
 by_rule_written domain i os Itself e f =
     let n = f.0 in
     let same : element_of i os ≡ record { iei = n / 16 * 16; octets = n ∷ [] } = rw (f.1, f.2) refl in
     (n, [], f.1, subst (λ (r : Rule). SpellsBy r n (element_of i os) []) (sym (itself domain n f.3)) (same, refl))
-by_rule_written domain i os (SoMany n) e f = (i, os, refl, subst (λ (r : Rule). SpellsBy r i (element_of i os) os) (sym e) (refl, refl, f))
-by_rule_written domain i os ByOctet e f = (i, short os, refl, subst (λ (r : Rule). SpellsBy r i (element_of i os) (short os)) (sym e) (refl, refl))
-by_rule_written domain i os ByTwo e f = (i, wide os, refl, subst (λ (r : Rule). SpellsBy r i (element_of i os) (wide os)) (sym e) (refl, length os / 256, length os % 256, refl, omega arith))
+by_rule_written domain i os (SoMany n) e f =
+    (i, os, refl, subst (λ (r : Rule). SpellsBy r i (element_of i os) os) (sym e) (refl, refl, f))
+by_rule_written domain i os ByOctet e f =
+    (i, short os, refl, subst (λ (r : Rule). SpellsBy r i (element_of i os) (short os)) (sym e) (refl, refl))
+by_rule_written domain i os ByTwo e f = (
+  i,
+  wide os,
+  refl,
+  subst (λ (r : Rule). SpellsBy r i (element_of i os) (wide os)) (sym e)
+      (refl, length os / 256, length os % 256, refl, omega arith),
+)
 
-add_element : (domain : Domain) (i : ℕ) (o : Option (List ℕ)) (es : List (Element (List ℕ))) (rest : List ℕ) → OptionalFits domain i o → AreElements domain es rest → AreElements domain (more_of i o es) (write_optional domain i o ++ rest)
+add_element : (domain : Domain) (i : ℕ) (o : Option (List ℕ)) (es : List (Element (List ℕ))) (rest : List ℕ)
+    → OptionalFits domain i o → AreElements domain es rest → AreElements domain (more_of i o es) (write_optional domain i o ++ rest)
 add_element domain i None es rest f m = m
-add_element domain i (Some os) es rest f m = (write_by (rule_of domain i) i os, rest, refl, by_rule_written domain i os (rule_of domain i) refl f, m)
+add_element domain i (Some os) es rest f m =
+    (write_by (rule_of domain i) i os, rest, refl, by_rule_written domain i os (rule_of domain i) refl f, m)
 
-kept_written : (domain : Domain) (ks : List Keep) (v : Kept ks) → KeptFit domain ks v → AreElements domain (kept_elements ks v) (write_kept domain ks v)
+kept_written : (domain : Domain) (ks : List Keep) (v : Kept ks) → KeptFit domain ks v
+    → AreElements domain (kept_elements ks v) (write_kept domain ks v)
 kept_written domain [] v f = refl
-kept_written domain (k ∷ ks) v f = add_element domain (iei_of k) (as_written k v.0) (kept_elements ks v.1) (write_kept domain ks v.1) f.0 (kept_written domain ks v.1 f.1)
+kept_written domain (k ∷ ks) v f =
+    add_element domain (iei_of k) (as_written k v.0) (kept_elements ks v.1) (write_kept domain ks v.1) f.0
+    (kept_written domain ks v.1 f.1)
 
-first_skips : (i j : ℕ) (o : Option (List ℕ)) (es : List (Element (List ℕ))) → eqb i j ≡ false → first j (more_of i o es) ≡ first j es
+first_skips : (i j : ℕ) (o : Option (List ℕ)) (es : List (Element (List ℕ))) → eqb i j ≡ false
+    → first j (more_of i o es) ≡ first j es
 first_skips i j None es e = refl
 first_skips i j (Some os) es e = rw e refl
 
@@ -103,7 +120,8 @@ not_here : (b c : Bool) → cond b true c ≡ false → (b ≡ false) × (c ≡ 
 not_here true c e = absurd cc
 not_here false c e = (refl, e)
 
-firsts_skip : (ks : List Keep) (i : ℕ) (o : Option (List ℕ)) (es : List (Element (List ℕ))) → contains i ks ≡ false → firsts ks (more_of i o es) ≡ firsts ks es
+firsts_skip : (ks : List Keep) (i : ℕ) (o : Option (List ℕ)) (es : List (Element (List ℕ))) → contains i ks ≡ false
+    → firsts ks (more_of i o es) ≡ firsts ks es
 firsts_skip [] i o es e = refl
 firsts_skip (k ∷ ks) i o es e =
     let n = not_here (eqb i (iei_of k)) (contains i ks) e in
@@ -129,7 +147,8 @@ not_true false e = refl
 -- what is kept of what is written
 kept_again : (k : Keep) (v : KeepValue k) → is_sound k ≡ true → kept_from k (as_written k v) ≡ v
 kept_again (element i) v e = refl
-kept_again (flag i) true e = let even = eqb-true _ _ (both_true (leb 128 i) (eqb (i % 16) 0) e).1 in eq-eqb ((i + 1) % 2) 1 (omega (arith, even))
+kept_again (flag i) true e =
+    let even = eqb-true _ _ (both_true (leb 128 i) (eqb (i % 16) 0) e).1 in eq-eqb ((i + 1) % 2) 1 (omega (arith, even))
 kept_again (flag i) false e = refl
 
 firsts_kept : (ks : List Keep) (v : Kept ks) → are_distinct ks ≡ true → firsts ks (kept_elements ks v) ≡ v
@@ -138,7 +157,12 @@ firsts_kept (k ∷ ks) v e =
     let t = both_true (not (contains (iei_of k) ks) && is_sound k) (are_distinct ks) e in
     let u = both_true (not (contains (iei_of k) ks)) (is_sound k) t.0 in
     let absent = not_true (contains (iei_of k) ks) u.0 in
-    rw (first_own (iei_of k) (as_written k v.0) (kept_elements ks v.1) (first_none ks v.1 (iei_of k) absent), kept_again k v.0 u.1, firsts_skip ks (iei_of k) (as_written k v.0) (kept_elements ks v.1) absent, firsts_kept ks v.1 t.1) refl
+    rw (
+      first_own (iei_of k) (as_written k v.0) (kept_elements ks v.1) (first_none ks v.1 (iei_of k) absent),
+      kept_again k v.0 u.1,
+      firsts_skip ks (iei_of k) (as_written k v.0) (kept_elements ks v.1) absent,
+      firsts_kept ks v.1 t.1,
+    ) refl
 
 pub written : (r : Row) (v : RowValue r) → are_distinct r.kept ≡ true → RowFits r v → SpellsRow r v (write_row r v)
 written r v e f = record {

@@ -22,12 +22,14 @@ impl Model for UeCapability {
 
     ghost view = { λ c. take c.count c.octets };
 
-    ghost invariant = { λ c. (2 ≤ c.count) × (c.count ≤ 13) × (length c.octets ≡ 13) × (drop c.count c.octets ≡ replicate (13 - c.count) 0) };
+    ghost invariant = { λ c. (2 ≤ c.count) × (c.count ≤ 13) × (length c.octets ≡ 13)
+        × (drop c.count c.octets ≡ replicate (13 - c.count) 0) };
 
     ghost inverse = { λ os. record { octets = os ++ replicate (13 - length os) 0; count = length os } };
 
     ghost inverse_ok = { λ c h i. record {
-      octets = (ap (λ (n : ℕ). take c.count c.octets ++ replicate (13 - n) 0) (length-take-le c.count c.octets (omega (arith, h.1, h.2)))
+      octets = (ap (λ (n : ℕ). take c.count c.octets ++ replicate (13 - n) 0)
+          (length-take-le c.count c.octets (omega (arith, h.1, h.2)))
           ∙ ap (λ (xs : List ℕ). take c.count c.octets ++ xs) (sym h.3) ∙ take-append-drop c.count c.octets) i;
       count = length-take-le c.count c.octets (omega (arith, h.1, h.2)) i;
     } };

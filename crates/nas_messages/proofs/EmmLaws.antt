@@ -23,7 +23,8 @@ use Rattle.nas_messages.specs.Messages.{lists, seen, named, code_of, detach_of, 
 
 -- ---- one line for each message
 
-spelled_named : (direction : Direction) (t : EmmType) (v : RowValue (row_of t)) (os : List ℕ) → SpellsTyped direction (Some (t, v)) os → SpellsEmm direction (named t v) os
+spelled_named : (direction : Direction) (t : EmmType) (v : RowValue (row_of t)) (os : List ℕ)
+    → SpellsTyped direction (Some (t, v)) os → SpellsEmm direction (named t v) os
 spelled_named direction AttachRequest v os s = s
 spelled_named direction AttachAccept v os s = s
 spelled_named direction AttachComplete v os s = s
@@ -47,7 +48,8 @@ spelled_named direction SecurityModeComplete v os s = s
 spelled_named direction SecurityModeReject v os s = s
 spelled_named direction EmmStatus v os s = s
 
-next_type : (c k : ℕ) (t0 t : EmmType) (others : Option EmmType) → code_of t0 ≡ k → (others ≡ Some t → code_of t ≡ c) → cond (eqb c k) (Some t0) others ≡ Some t → code_of t ≡ c
+next_type : (c k : ℕ) (t0 t : EmmType) (others : Option EmmType) → code_of t0 ≡ k → (others ≡ Some t → code_of t ≡ c)
+    → cond (eqb c k) (Some t0) others ≡ Some t → code_of t ≡ c
 next_type c k t0 t others own rest e = go (eqb c k) refl e
   where
     go : (b : Bool) → eqb c k ≡ b → cond b (Some t0) others ≡ Some t → code_of t ≡ c
@@ -85,7 +87,8 @@ code_is direction c t =
 
 -- ---- once
 
-typed_takes : (direction : Direction) (c : ℕ) (o : Option EmmType) (rest : List ℕ) (m : Emm (List ℕ)) → type_of direction c ≡ o → by_type o rest ≡ Ok m → SpellsEmm direction m (7 ∷ c ∷ rest)
+typed_takes : (direction : Direction) (c : ℕ) (o : Option EmmType) (rest : List ℕ) (m : Emm (List ℕ)) → type_of direction c ≡ o
+    → by_type o rest ≡ Ok m → SpellsEmm direction m (7 ∷ c ∷ rest)
 unfolding read_typed
 typed_takes direction c None rest m q e = absurd cc
 typed_takes direction c (Some t) rest m q e =
@@ -93,8 +96,11 @@ typed_takes direction c (Some t) rest m q e =
     let a = bound (read_row (row_of t) rest) f m e in
     let code : code_of t ≡ c = code_is direction c t q in
     let own : type_of direction (code_of t) ≡ Some t = rw code q in
-    let spelled : SpellsTyped direction (Some (t, a.0)) (7 ∷ code_of t ∷ rest) = (own, rest, refl, row_takes (row_of t) rest a.0 a.1) in
-    let found : SpellsEmm direction (named t a.0) (7 ∷ c ∷ rest) = subst (λ (k : ℕ). SpellsEmm direction (named t a.0) (7 ∷ k ∷ rest)) code (spelled_named direction t a.0 (7 ∷ code_of t ∷ rest) spelled) in
+    let spelled : SpellsTyped direction (Some (t, a.0)) (7 ∷ code_of t ∷ rest) =
+    (own, rest, refl, row_takes (row_of t) rest a.0 a.1) in
+    let found : SpellsEmm direction (named t a.0) (7 ∷ c ∷ rest) =
+    subst (λ (k : ℕ). SpellsEmm direction (named t a.0) (7 ∷ k ∷ rest)) code
+    (spelled_named direction t a.0 (7 ∷ code_of t ∷ rest) spelled) in
     subst (λ (x : Emm (List ℕ)). SpellsEmm direction x (7 ∷ c ∷ rest)) (okay_is (named t a.0) m a.2) found
 
 two_and_more : (os : List ℕ) → 2 ≤ length os → os ≡ slice_index os 0 ∷ slice_index os 1 ∷ drop 2 os
@@ -108,32 +114,40 @@ whole_of os a b = two_and_more os (ltb-false _ _ a) ∙ ap (λ (n : ℕ). n ∷ 
 abbrev branches : Direction → List ℕ → Bool → Bool → Bool → Result (Emm (List ℕ)) NasFault
 branches direction os short seven service = cond short (Err TooShort) (cond seven (by_type (type_of direction (slice_index os 1)) (drop 2 os)) (cond service (Ok (emm.ServiceRequest os)) (Err UnknownType)))
 
-takes_by : (direction : Direction) (os : List ℕ) (m : Emm (List ℕ)) (short seven service : Bool) → ltb (length os) 2 ≡ short → eqb (slice_index os 0) 7 ≡ seven → (eqb (slice_index os 0) 0xc7 && eqb (length os) 4) ≡ service
+takes_by : (direction : Direction) (os : List ℕ) (m : Emm (List ℕ)) (short seven service : Bool) → ltb (length os) 2 ≡ short
+    → eqb (slice_index os 0) 7 ≡ seven → (eqb (slice_index os 0) 0xc7 && eqb (length os) 4) ≡ service
     → branches direction os short seven service ≡ Ok m → SpellsEmm direction m os
 takes_by direction os m true seven service a b c e = absurd cc
 takes_by direction os m false true service a b c e =
-    subst (λ (x : List ℕ). SpellsEmm direction m x) (sym (whole_of os a b)) (typed_takes direction (slice_index os 1) (type_of direction (slice_index os 1)) (drop 2 os) m refl e)
+    subst (λ (x : List ℕ). SpellsEmm direction m x) (sym (whole_of os a b))
+    (typed_takes direction (slice_index os 1) (type_of direction (slice_index os 1)) (drop 2 os) m refl e)
 takes_by direction os m false false true a b c e =
     let t = both_true (eqb (slice_index os 0) 0xc7) (eqb (length os) 4) c in
     let found : SpellsEmm direction (emm.ServiceRequest os) os = (refl, eqb-true _ _ t.1, eqb-true _ _ t.0) in
     subst (λ (x : Emm (List ℕ)). SpellsEmm direction x os) (okay_is (emm.ServiceRequest os) m e) found
 takes_by direction os m false false false a b c e = absurd cc
 
-pub decoded_takes : (direction : Direction) (os : List ℕ) (m : Emm (List ℕ)) → decoded_emm direction os ≡ Ok m → SpellsEmm direction m os
+pub decoded_takes : (direction : Direction) (os : List ℕ) (m : Emm (List ℕ)) → decoded_emm direction os ≡ Ok m
+    → SpellsEmm direction m os
 unfolding decoded_emm
-decoded_takes direction os m e = takes_by direction os m (ltb (length os) 2) (eqb (slice_index os 0) 7) (eqb (slice_index os 0) 0xc7 && eqb (length os) 4) refl refl refl e
+decoded_takes direction os m e =
+    takes_by direction os m (ltb (length os) 2) (eqb (slice_index os 0) 7)
+    (eqb (slice_index os 0) 0xc7 && eqb (length os) 4) refl refl refl e
 
-again_typed : (direction : Direction) (t : EmmType) (v : RowValue (row_of t)) (os : List ℕ) → SpellsTyped direction (Some (t, v)) os → decoded_emm direction os ≡ Ok (named t v)
+again_typed : (direction : Direction) (t : EmmType) (v : RowValue (row_of t)) (os : List ℕ) → SpellsTyped direction (Some (t, v)) os
+    → decoded_emm direction os ≡ Ok (named t v)
 unfolding decoded_emm read_typed
 again_typed direction t v os s =
     let long : ltb (length (7 ∷ code_of t ∷ s.1)) 2 ≡ false = le-ltb _ _ (omega arith) in
     rw (s.2, long, s.0, row_again (row_of t) s.1 v s.3) refl
 
-again_service : (direction : Direction) (octets os : List ℕ) → os ≡ octets → length os ≡ 4 → slice_index os 0 ≡ 0xc7 → decoded_emm direction os ≡ Ok (emm.ServiceRequest octets)
+again_service : (direction : Direction) (octets os : List ℕ) → os ≡ octets → length os ≡ 4 → slice_index os 0 ≡ 0xc7
+    → decoded_emm direction os ≡ Ok (emm.ServiceRequest octets)
 unfolding decoded_emm
 again_service direction octets os e len first = rw (← e, len, first) refl
 
-pub decoded_again : (direction : Direction) (m : Emm (List ℕ)) (os : List ℕ) → SpellsEmm direction m os → decoded_emm direction os ≡ Ok m
+pub decoded_again : (direction : Direction) (m : Emm (List ℕ)) (os : List ℕ) → SpellsEmm direction m os
+    → decoded_emm direction os ≡ Ok m
 decoded_again direction (emm.AttachRequest m) os s = again_typed direction AttachRequest _ os s
 decoded_again direction (emm.AttachAccept m) os s = again_typed direction AttachAccept _ os s
 decoded_again direction (emm.AttachComplete esm) os s = again_typed direction AttachComplete _ os s
@@ -184,10 +198,12 @@ distinct SecurityModeComplete = refl
 distinct SecurityModeReject = refl
 distinct EmmStatus = refl
 
-spelled_typed : (direction : Direction) (t : EmmType) (v : RowValue (row_of t)) → RowFits (row_of t) v → type_of direction (code_of t) ≡ Some t → SpellsTyped direction (Some (t, v)) (write_typed (Some (t, v)))
+spelled_typed : (direction : Direction) (t : EmmType) (v : RowValue (row_of t)) → RowFits (row_of t) v
+    → type_of direction (code_of t) ≡ Some t → SpellsTyped direction (Some (t, v)) (write_typed (Some (t, v)))
 spelled_typed direction t v f g = (g, write_row (row_of t) v, refl, written (row_of t) v (distinct t) f)
 
-pub written_emm : (direction : Direction) (m : Emm (List ℕ)) → IsWritable m → Goes direction m → SpellsEmm direction m (encoded_emm m)
+pub written_emm : (direction : Direction) (m : Emm (List ℕ)) → IsWritable m → Goes direction m
+    → SpellsEmm direction m (encoded_emm m)
 written_emm direction (emm.AttachRequest m) f g = spelled_typed direction AttachRequest _ f g
 written_emm direction (emm.AttachAccept m) f g = spelled_typed direction AttachAccept _ f g
 written_emm direction (emm.AttachComplete esm) f g = spelled_typed direction AttachComplete _ f g
@@ -214,7 +230,8 @@ written_emm direction (emm.ServiceRequest octets) f g = (refl, f.0, f.1)
 
 -- ---- what is read may be written
 
-fits_typed : (direction : Direction) (t : EmmType) (v : RowValue (row_of t)) (os : List ℕ) → Small os → SpellsTyped direction (Some (t, v)) os → RowFits (row_of t) v
+fits_typed : (direction : Direction) (t : EmmType) (v : RowValue (row_of t)) (os : List ℕ) → Small os
+    → SpellsTyped direction (Some (t, v)) os → RowFits (row_of t) v
 fits_typed direction t v os small s =
     let whole : Small (7 ∷ code_of t ∷ s.1) = subst Small s.2 small in
     row_fits (row_of t) v s.1 (distinct t) whole.1.1 s.3
@@ -244,10 +261,12 @@ spelled_fits direction (emm.SecurityModeReject cause) os small s = fits_typed di
 spelled_fits direction (emm.EmmStatus cause) os small s = fits_typed direction EmmStatus _ os small s
 spelled_fits direction (emm.ServiceRequest octets) os small s = subst IsService s.0 (s.1, s.2)
 
-pub decoded_fits : (direction : Direction) (os : List ℕ) (m : Emm (List ℕ)) → Small os → decoded_emm direction os ≡ Ok m → IsWritable m
+pub decoded_fits : (direction : Direction) (os : List ℕ) (m : Emm (List ℕ)) → Small os → decoded_emm direction os ≡ Ok m
+    → IsWritable m
 decoded_fits direction os m small e = spelled_fits direction m os small (decoded_takes direction os m e)
 
-pub seen_fits : (direction : Direction) (os : List ℕ) (r : Result (Emm (Bor (List ℕ))) NasFault) → Small os → seen r ≡ decoded_emm direction os → IfOk r (λ m. IsWritable (lists m))
+pub seen_fits : (direction : Direction) (os : List ℕ) (r : Result (Emm (Bor (List ℕ))) NasFault) → Small os
+    → seen r ≡ decoded_emm direction os → IfOk r (λ m. IsWritable (lists m))
 seen_fits direction os (Ok m) small e = decoded_fits direction os (lists m) small (sym e)
 seen_fits direction os (Err f) small e = tt
 
@@ -260,7 +279,8 @@ abbrev none_of : Option EmmType
 none_of = None
 
 -- a fault of a row is that of its message
-row_has : (direction : Direction) (t : EmmType) (rest os : List ℕ) (f : NasFault) → HasType direction os t rest → RowFault (row_of t) rest f → HasFault direction os f
+row_has : (direction : Direction) (t : EmmType) (rest os : List ℕ) (f : NasFault) → HasType direction os t rest
+    → RowFault (row_of t) rest f → HasFault direction os f
 row_has direction t rest os TooShort h r = absurd r
 row_has direction t rest os Mandatory h r = (t, rest, h, r)
 row_has direction t rest os UnknownType h r = absurd r
@@ -268,7 +288,8 @@ row_has direction t rest os OptionalPart h r = (t, rest, h, r)
 row_has direction t rest os NoMemory h r = absurd r
 
 -- a type that isn't there
-no_type : (direction : Direction) (c : ℕ) (after : List ℕ) → type_of direction c ≡ None → (t : EmmType) (rest : List ℕ) → HasType direction (7 ∷ c ∷ after) t rest → ⊥
+no_type : (direction : Direction) (c : ℕ) (after : List ℕ) → type_of direction c ≡ None → (t : EmmType) (rest : List ℕ)
+    → HasType direction (7 ∷ c ∷ after) t rest → ⊥
 no_type direction c after q t rest h =
     let code : c ≡ code_of t = ap (λ (os : List ℕ). slice_index os 1) h.0 in
     let own : type_of direction c ≡ Some t = ap (type_of direction) code ∙ h.1 in
@@ -281,24 +302,31 @@ row_refused : {A B : Type 0} (r : Result A NasFault) (g : A → B) (f : NasFault
 row_refused (Ok a) g f e = absurd cc
 row_refused (Err h) g f e = ap failed (fault_is h f e)
 
-type_refused : (direction : Direction) (c : ℕ) (after : List ℕ) (o : Option EmmType) (f : NasFault) → type_of direction c ≡ o → by_type o after ≡ Err f → HasFault direction (7 ∷ c ∷ after) f
+type_refused : (direction : Direction) (c : ℕ) (after : List ℕ) (o : Option EmmType) (f : NasFault) → type_of direction c ≡ o
+    → by_type o after ≡ Err f → HasFault direction (7 ∷ c ∷ after) f
 unfolding read_typed
 type_refused direction c after None f q e =
-    subst (λ (g : NasFault). HasFault direction (7 ∷ c ∷ after) g) (fault_is UnknownType f e) (omega arith, no_type direction c after q, no_service c after)
+    subst (λ (g : NasFault). HasFault direction (7 ∷ c ∷ after) g) (fault_is UnknownType f e)
+    (omega arith, no_type direction c after q, no_service c after)
 type_refused direction c after (Some t) f q e =
     let code : code_of t ≡ c = code_is direction c t q in
     let own : type_of direction (code_of t) ≡ Some t = rw code q in
     let has : HasType direction (7 ∷ c ∷ after) t after = (ap (λ (n : ℕ). 7 ∷ n ∷ after) (sym code), own) in
-    row_has direction t after (7 ∷ c ∷ after) f has (row_fault (row_of t) after f (row_refused (read_row (row_of t) after) (named t) f e))
+    row_has direction t after (7 ∷ c ∷ after) f has
+    (row_fault (row_of t) after f (row_refused (read_row (row_of t) after) (named t) f e))
 
-refused_by : (direction : Direction) (os : List ℕ) (f : NasFault) (short seven service : Bool) → ltb (length os) 2 ≡ short → eqb (slice_index os 0) 7 ≡ seven → (eqb (slice_index os 0) 0xc7 && eqb (length os) 4) ≡ service
+refused_by : (direction : Direction) (os : List ℕ) (f : NasFault) (short seven service : Bool) → ltb (length os) 2 ≡ short
+    → eqb (slice_index os 0) 7 ≡ seven → (eqb (slice_index os 0) 0xc7 && eqb (length os) 4) ≡ service
     → branches direction os short seven service ≡ Err f → HasFault direction os f
-refused_by direction os f true seven service a b c e = subst (λ (g : NasFault). HasFault direction os g) (fault_is TooShort f e) (ltb-true _ _ a)
+refused_by direction os f true seven service a b c e =
+    subst (λ (g : NasFault). HasFault direction os g) (fault_is TooShort f e) (ltb-true _ _ a)
 refused_by direction os f false true service a b c e =
-    subst (λ (x : List ℕ). HasFault direction x f) (sym (whole_of os a b)) (type_refused direction (slice_index os 1) (drop 2 os) (type_of direction (slice_index os 1)) f refl e)
+    subst (λ (x : List ℕ). HasFault direction x f) (sym (whole_of os a b))
+    (type_refused direction (slice_index os 1) (drop 2 os) (type_of direction (slice_index os 1)) f refl e)
 refused_by direction os f false false true a b c e = absurd cc
 refused_by direction os f false false false a b c e =
-    subst (λ (g : NasFault). HasFault direction os g) (fault_is UnknownType f e) (ltb-false _ _ a, other_first os b, other_service os c)
+    subst (λ (g : NasFault). HasFault direction os g) (fault_is UnknownType f e)
+    (ltb-false _ _ a, other_first os b, other_service os c)
   where
     other_first : (os : List ℕ) → eqb (slice_index os 0) 7 ≡ false → (t : EmmType) (rest : List ℕ) → HasType direction os t rest → ⊥
     other_first os b t rest h =
@@ -312,4 +340,6 @@ refused_by direction os f false false false a b c e =
 
 pub refused : (direction : Direction) (os : List ℕ) (f : NasFault) → decoded_emm direction os ≡ Err f → HasFault direction os f
 unfolding decoded_emm
-refused direction os f e = refused_by direction os f (ltb (length os) 2) (eqb (slice_index os 0) 7) (eqb (slice_index os 0) 0xc7 && eqb (length os) 4) refl refl refl e
+refused direction os f e =
+    refused_by direction os f (ltb (length os) 2) (eqb (slice_index os 0) 7)
+    (eqb (slice_index os 0) 0xc7 && eqb (length os) 4) refl refl refl e

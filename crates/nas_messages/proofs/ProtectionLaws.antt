@@ -27,7 +27,8 @@ four (v0 ∷ v1 ∷ v2 ∷ v3 ∷ more ∷ rest) e = absurd (omega (arith, e))
 
 -- a header's code, and the header of a code
 
-next_header : (c k : ℕ) (h0 h : SecurityHeader) (others : Option SecurityHeader) → header_code h0 ≡ k → (others ≡ Some h → header_code h ≡ c) → cond (eqb c k) (Some h0) others ≡ Some h → header_code h ≡ c
+next_header : (c k : ℕ) (h0 h : SecurityHeader) (others : Option SecurityHeader) → header_code h0 ≡ k
+    → (others ≡ Some h → header_code h ≡ c) → cond (eqb c k) (Some h0) others ≡ Some h → header_code h ≡ c
 next_header c k h0 h others own rest e = go (eqb c k) refl e
   where
     go : (b : Bool) → eqb c k ≡ b → cond b (Some h0) others ≡ Some h → header_code h ≡ c
@@ -51,7 +52,8 @@ own_code NewContextCiphered = refl
 
 -- what is split is in the protected form
 
-from_header : (os : List ℕ) (o : Option SecurityHeader) (p : Protected (List ℕ)) → option_map (λ header. protected_from header os) o ≡ Some p → (h : SecurityHeader) × (o ≡ Some h) × (protected_from h os ≡ p)
+from_header : (os : List ℕ) (o : Option SecurityHeader) (p : Protected (List ℕ))
+    → option_map (λ header. protected_from header os) o ≡ Some p → (h : SecurityHeader) × (o ≡ Some h) × (protected_from h os ≡ p)
 from_header os None p e = absurd cc
 from_header os (Some h) p e = (h, refl, some_is (protected_from h os) p e)
 
@@ -60,7 +62,8 @@ where_so true o y e = (refl, e)
 where_so false o y e = absurd cc
 
 -- six octets and more, of which the first is of a protected message, are in the protected form
-pub parts_form : (os : List ℕ) (h : SecurityHeader) → 6 ≤ length os → slice_index os 0 % 16 ≡ 7 → header_of (slice_index os 0 / 16) ≡ Some h → os ≡ protected_form (protected_from h os)
+pub parts_form : (os : List ℕ) (h : SecurityHeader) → 6 ≤ length os → slice_index os 0 % 16 ≡ 7
+    → header_of (slice_index os 0 / 16) ≡ Some h → os ≡ protected_form (protected_from h os)
 unfolding protected_form
 parts_form os h long low e =
     let code : header_code h ≡ slice_index os 0 / 16 = header_is (slice_index os 0 / 16) h e in
@@ -70,7 +73,9 @@ parts_form os h long low e =
 pub split_takes : (os : List ℕ) (p : Protected (List ℕ)) → split os ≡ Some p → (os ≡ protected_form p) × (length p.mac ≡ 4)
 unfolding split
 split_takes os p e =
-    let g = where_so (leb 6 (length os) && eqb (slice_index os 0 % 16) 7) (option_map (λ header. protected_from header os) (header_of (slice_index os 0 / 16))) p e in
+    let g =
+    where_so (leb 6 (length os) && eqb (slice_index os 0 % 16) 7)
+    (option_map (λ header. protected_from header os) (header_of (slice_index os 0 / 16))) p e in
     let a = both_true (leb 6 (length os)) (eqb (slice_index os 0 % 16) 7) g.0 in
     let h = from_header os (header_of (slice_index os 0 / 16)) p g.1 in
     let whole = parts_form os h.0 (leb-true _ _ a.0) (eqb-true _ _ a.1) h.1 in
@@ -81,7 +86,8 @@ split_takes os p e =
 abbrev made : SecurityHeader → List ℕ → ℕ → List ℕ → Protected (List ℕ)
 made header mac sequence message = record { header = header; mac = mac; sequence = sequence; message = message }
 
-explicit : (h : SecurityHeader) (a b c d s : ℕ) (m : List ℕ) → split (protected_form (made h (a ∷ b ∷ c ∷ d ∷ []) s m)) ≡ Some (made h (a ∷ b ∷ c ∷ d ∷ []) s m)
+explicit : (h : SecurityHeader) (a b c d s : ℕ) (m : List ℕ)
+    → split (protected_form (made h (a ∷ b ∷ c ∷ d ∷ []) s m)) ≡ Some (made h (a ∷ b ∷ c ∷ d ∷ []) s m)
 unfolding split protected_form
 explicit h a b c d s m =
     let long : leb 6 (length ((header_code h * 16 + 7) ∷ a ∷ b ∷ c ∷ d ∷ s ∷ m)) ≡ true = le-leb _ _ (omega arith) in
@@ -92,5 +98,7 @@ explicit h a b c d s m =
 pub split_again : (os : List ℕ) (p : Protected (List ℕ)) → os ≡ protected_form p → length p.mac ≡ 4 → split os ≡ Some p
 split_again os p e right =
     let whole = four p.mac right in
-    let found = explicit p.header (slice_index p.mac 0) (slice_index p.mac 1) (slice_index p.mac 2) (slice_index p.mac 3) p.sequence p.message in
+    let found =
+    explicit p.header (slice_index p.mac 0) (slice_index p.mac 1) (slice_index p.mac 2)
+    (slice_index p.mac 3) p.sequence p.message in
     ap split e ∙ subst (λ (x : List ℕ). split (protected_form (made p.header x p.sequence p.message)) ≡ Some (made p.header x p.sequence p.message)) (sym whole) found

@@ -11,15 +11,18 @@ use Rattle.nas_messages.specs.declared.esm_types.EsmBody.{EsmBody}
 use Rattle.nas_messages.specs.declared.esm_types.EsmBody.TheVariants as bodies
 use Rattle.nas_messages.specs.declared.esm_types.EsmType.{EsmType}
 use Rattle.nas_messages.specs.declared.esm_types.EsmType.TheVariants.{ActivateRequest, ActivateAccept, ActivateReject, ConnectivityRequest, ConnectivityReject, DisconnectRequest, DisconnectReject, InformationRequest, InformationResponse, EsmStatus}
+use Rattle.nas_messages.specs.Codes.{esm_discriminator}
 use Rattle.nas_messages.specs.Formats.{esm_row_of}
 
 -- ---- a message without where it lies in memory
 
 abbrev pub body_lists : EsmBody (Bor (List ℕ)) → EsmBody (List ℕ)
-body_lists (bodies.ActivateRequest m) = bodies.ActivateRequest (record { apn = m.apn.now; address = m.address.now; cause = octets_of m.cause })
+body_lists (bodies.ActivateRequest m) =
+    bodies.ActivateRequest (record { apn = m.apn.now; address = m.address.now; cause = octets_of m.cause })
 body_lists bodies.ActivateAccept = bodies.ActivateAccept
 body_lists (bodies.ActivateReject cause) = bodies.ActivateReject cause
-body_lists (bodies.ConnectivityRequest request_type pdn_type information) = bodies.ConnectivityRequest request_type pdn_type information
+body_lists (bodies.ConnectivityRequest request_type pdn_type information) =
+    bodies.ConnectivityRequest request_type pdn_type information
 body_lists (bodies.ConnectivityReject cause) = bodies.ConnectivityReject cause
 body_lists (bodies.DisconnectRequest linked) = bodies.DisconnectRequest linked
 body_lists (bodies.DisconnectReject cause) = bodies.DisconnectReject cause
@@ -33,10 +36,12 @@ esm_lists m = record { bearer = m.bearer; transaction = m.transaction; body = bo
 -- ---- what a message says, by its type and its row's values, and back
 
 abbrev pub named_body : (t : EsmType) → RowValue (esm_row_of t) → EsmBody (List ℕ)
-named_body ActivateRequest ((_, (_, (apn, (_, (_, (address, _)))))), (cause, _)) = bodies.ActivateRequest (record { apn = apn; address = address; cause = cause })
+named_body ActivateRequest ((_, (_, (apn, (_, (_, (address, _)))))), (cause, _)) =
+    bodies.ActivateRequest (record { apn = apn; address = address; cause = cause })
 named_body ActivateAccept v = bodies.ActivateAccept
 named_body ActivateReject ((cause, _), _) = bodies.ActivateReject cause
-named_body ConnectivityRequest (((request_type, pdn_type), _), (information, _)) = bodies.ConnectivityRequest request_type pdn_type information
+named_body ConnectivityRequest (((request_type, pdn_type), _), (information, _)) =
+    bodies.ConnectivityRequest request_type pdn_type information
 named_body ConnectivityReject ((cause, _), _) = bodies.ConnectivityReject cause
 named_body DisconnectRequest (((linked, _), _), _) = bodies.DisconnectRequest linked
 named_body DisconnectReject ((cause, _), _) = bodies.DisconnectReject cause
@@ -52,7 +57,8 @@ abbrev pub typed_body : EsmBody (List ℕ) → TypedBody
 typed_body (bodies.ActivateRequest m) = of_type ActivateRequest ((tt, (tt, (m.apn, (tt, (tt, (m.address, tt)))))), (m.cause, tt))
 typed_body bodies.ActivateAccept = of_type ActivateAccept (tt, tt)
 typed_body (bodies.ActivateReject cause) = of_type ActivateReject ((cause, tt), tt)
-typed_body (bodies.ConnectivityRequest request_type pdn_type information) = of_type ConnectivityRequest (((request_type, pdn_type), tt), (information, tt))
+typed_body (bodies.ConnectivityRequest request_type pdn_type information) =
+    of_type ConnectivityRequest (((request_type, pdn_type), tt), (information, tt))
 typed_body (bodies.ConnectivityReject cause) = of_type ConnectivityReject ((cause, tt), tt)
 typed_body (bodies.DisconnectRequest linked) = of_type DisconnectRequest (((linked, tt), tt), tt)
 typed_body (bodies.DisconnectReject cause) = of_type DisconnectReject ((cause, tt), tt)
@@ -88,10 +94,12 @@ esm_type_of code =
     else if code == 0xe8 then Some EsmStatus
     else None
 
--- ---- spelling: the bearer and the discriminator 2, the transaction, the type, and the row
+-- ---- spelling: the bearer and the discriminator, the transaction, the type, and the row
 
 abbrev pub SpellsBody : ℕ → ℕ → TypedBody → List ℕ → Type 0
-SpellsBody bearer transaction (of_type t v) os = (rest : List ℕ) × (os ≡ (bearer * 16 + 2) ∷ transaction ∷ esm_code_of t ∷ rest) × SpellsRow (esm_row_of t) v rest
+SpellsBody bearer transaction (of_type t v) os =
+    (rest : List ℕ) × (os ≡ (bearer * 16 + esm_discriminator) ∷ transaction ∷ esm_code_of t ∷ rest)
+    × SpellsRow (esm_row_of t) v rest
 
 abbrev pub SpellsEsm : Esm (List ℕ) → List ℕ → Type 0
 SpellsEsm m os = SpellsBody m.bearer m.transaction (typed_body m.body) os
@@ -108,8 +116,9 @@ by_esm_type (Some t) os = read_body t os
 unfoldable pub decoded_esm : List ℕ → Result (Esm (List ℕ)) NasFault
 decoded_esm os =
     if nat_lt (length os) 3 then Err TooShort
-    else if slice_index os 0 % 16 == 2 then
-    by_esm_type (esm_type_of (slice_index os 2)) (drop 3 os) >>> (λ b. Ok (record { bearer = slice_index os 0 / 16; transaction = slice_index os 1; body = b }))
+    else if slice_index os 0 % 16 == esm_discriminator then
+    by_esm_type (esm_type_of (slice_index os 2)) (drop 3 os)
+    >>> (λ b. Ok (record { bearer = slice_index os 0 / 16; transaction = slice_index os 1; body = b }))
     else Err UnknownType
 
 -- what a function of the code returned
@@ -123,9 +132,10 @@ seen_esm (Err e) = Err e
 
 -- ---- when each fault comes
 
--- discriminator 2, any bearer and transaction, a type, and octets behind them
+-- ESM's discriminator, any bearer and transaction, a type, and octets behind them
 abbrev pub HasEsmType : List ℕ → EsmType → List ℕ → Type 0
-HasEsmType os t rest = (bearer : ℕ) × (transaction : ℕ) × (os ≡ (bearer * 16 + 2) ∷ transaction ∷ esm_code_of t ∷ rest)
+HasEsmType os t rest =
+    (bearer : ℕ) × (transaction : ℕ) × (os ≡ (bearer * 16 + esm_discriminator) ∷ transaction ∷ esm_code_of t ∷ rest)
 
 abbrev pub HasEsmFault : List ℕ → NasFault → Type 0
 HasEsmFault os TooShort = length os < 3
@@ -142,7 +152,7 @@ abbrev pub written_body : EsmBody (List ℕ) → List ℕ
 written_body body = write_body (typed_body body)
 
 abbrev pub encoded_esm : Esm (List ℕ) → List ℕ
-encoded_esm m = (m.bearer * 16 + 2) ∷ m.transaction ∷ written_body m.body
+encoded_esm m = (m.bearer * 16 + esm_discriminator) ∷ m.transaction ∷ written_body m.body
 
 abbrev pub BodyFits : TypedBody → Type 0
 BodyFits (of_type t v) = RowFits (esm_row_of t) v

@@ -4,6 +4,7 @@ use Rattle.nas_elements.specs.declared.rule.Domain.TheVariants.{Emm, Esm}
 use Rattle.nas_elements.specs.Identifiers.{emm_cause_iei, esm_cause_iei, esm_information_flag_iei, esm_message_container_iei, guti_iei, t3412_value_iei, tai_list_iei}
 use Rattle.nas_elements.specs.Parts.{Part, constant, octet, halves, fixed, lv, long, spare, three, flagged, four, exactly, between, identity, guti, tai_list, label}
 use Rattle.nas_elements.specs.Rows.{Row, Keep, element, flag}
+use Rattle.nas_messages.specs.Timers.{t3412_octet}
 use Rattle.nas_messages.specs.declared.emm_types.EmmType.{EmmType}
 use Rattle.nas_messages.specs.declared.emm_types.EmmType.TheVariants.{AttachRequest, AttachAccept, AttachComplete, AttachReject, DetachRequest, NetworkDetach, DetachAccept, TrackingAreaUpdateRequest, TrackingAreaUpdateAccept, TrackingAreaUpdateComplete, TrackingAreaUpdateReject, ServiceReject, AuthenticationRequest, AuthenticationResponse, AuthenticationReject, IdentityRequest, IdentityResponse, AuthenticationFailure, SecurityModeCommand, SecurityModeComplete, SecurityModeReject, EmmStatus}
 use Rattle.nas_messages.specs.declared.esm_types.EsmType.{EsmType}
@@ -13,7 +14,7 @@ use Rattle.nas_messages.specs.declared.esm_types.EsmType.TheVariants.{ActivateRe
 
 abbrev pub parts_of : EmmType → List Part
 parts_of AttachRequest = halves three three ∷ lv identity ∷ lv (between 2 13) ∷ long ∷ []
-parts_of AttachAccept = halves (exactly 1) spare ∷ constant 0x49 ∷ lv tai_list ∷ long ∷ []
+parts_of AttachAccept = halves (exactly 1) spare ∷ constant t3412_octet ∷ lv tai_list ∷ long ∷ []
 parts_of AttachComplete = long ∷ []
 parts_of AttachReject = octet ∷ []
 parts_of DetachRequest = halves flagged three ∷ lv identity ∷ []

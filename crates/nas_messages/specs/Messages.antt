@@ -12,20 +12,26 @@ use Rattle.nas_messages.specs.declared.emm_types.EmmType.{EmmType}
 use Rattle.nas_messages.specs.declared.emm_types.EmmType.TheVariants.{AttachRequest, AttachAccept, AttachComplete, AttachReject, DetachRequest, NetworkDetach, DetachAccept, TrackingAreaUpdateRequest, TrackingAreaUpdateAccept, TrackingAreaUpdateComplete, TrackingAreaUpdateReject, ServiceReject, AuthenticationRequest, AuthenticationResponse, AuthenticationReject, IdentityRequest, IdentityResponse, AuthenticationFailure, SecurityModeCommand, SecurityModeComplete, SecurityModeReject, EmmStatus}
 use Rattle.nas_messages.specs.declared.emm_types.Direction.{Direction}
 use Rattle.nas_messages.specs.declared.emm_types.Direction.TheVariants.{Uplink, Downlink}
+use Rattle.nas_messages.specs.Codes.{emm_discriminator, service_request_head}
 use Rattle.nas_messages.specs.Formats.{row_of}
 
 -- ---- a message without where it lies in memory
 
 abbrev pub lists : Emm (Bor (List ℕ)) → Emm (List ℕ)
-lists (emm.AttachRequest m) = emm.AttachRequest (record { attach_type = m.attach_type; ksi = m.ksi; identity = m.identity; capability = m.capability.now; esm = m.esm.now })
-lists (emm.AttachAccept m) = emm.AttachAccept (record { tai_list = m.tai_list; esm = m.esm.now; guti = octets_of m.guti; cause = octets_of m.cause })
+lists (emm.AttachRequest m) =
+    emm.AttachRequest
+    (record { attach_type = m.attach_type; ksi = m.ksi; identity = m.identity; capability = m.capability.now; esm = m.esm.now })
+lists (emm.AttachAccept m) =
+    emm.AttachAccept (record { tai_list = m.tai_list; esm = m.esm.now; guti = octets_of m.guti; cause = octets_of m.cause })
 lists (emm.AttachComplete esm) = emm.AttachComplete esm.now
 lists (emm.AttachReject m) = emm.AttachReject (record { cause = m.cause; esm = octets_of m.esm })
 lists (emm.DetachRequest m) = emm.DetachRequest m
 lists emm.NetworkDetach = emm.NetworkDetach
 lists emm.DetachAccept = emm.DetachAccept
 lists (emm.TrackingAreaUpdateRequest m) = emm.TrackingAreaUpdateRequest m
-lists (emm.TrackingAreaUpdateAccept m) = emm.TrackingAreaUpdateAccept (record { timer = octets_of m.timer; guti = octets_of m.guti; tai_list = octets_of m.tai_list; cause = octets_of m.cause })
+lists (emm.TrackingAreaUpdateAccept m) =
+    emm.TrackingAreaUpdateAccept
+    (record { timer = octets_of m.timer; guti = octets_of m.guti; tai_list = octets_of m.tai_list; cause = octets_of m.cause })
 lists emm.TrackingAreaUpdateComplete = emm.TrackingAreaUpdateComplete
 lists (emm.TrackingAreaUpdateReject cause) = emm.TrackingAreaUpdateReject cause
 lists (emm.ServiceReject cause) = emm.ServiceReject cause
@@ -44,25 +50,32 @@ lists (emm.ServiceRequest octets) = emm.ServiceRequest octets
 -- ---- a message by its type and its row's values, and back
 
 abbrev pub named : (t : EmmType) → RowValue (row_of t) → Emm (List ℕ)
-named AttachRequest (((attach_type, ksi), (identity, (capability, (esm, _)))), _) = emm.AttachRequest (record { attach_type = attach_type; ksi = ksi; identity = identity; capability = capability; esm = esm })
-named AttachAccept ((_, (_, (tai_list, (esm, _)))), (guti, (cause, _))) = emm.AttachAccept (record { tai_list = tai_list; esm = esm; guti = guti; cause = cause })
+named AttachRequest (((attach_type, ksi), (identity, (capability, (esm, _)))), _) =
+    emm.AttachRequest (record { attach_type = attach_type; ksi = ksi; identity = identity; capability = capability; esm = esm })
+named AttachAccept ((_, (_, (tai_list, (esm, _)))), (guti, (cause, _))) =
+    emm.AttachAccept (record { tai_list = tai_list; esm = esm; guti = guti; cause = cause })
 named AttachComplete ((esm, _), _) = emm.AttachComplete esm
 named AttachReject ((cause, _), (esm, _)) = emm.AttachReject (record { cause = cause; esm = esm })
-named DetachRequest ((((detach_type, switch_off), ksi), (identity, _)), _) = emm.DetachRequest (record { detach_type = detach_type; switch_off = switch_off; ksi = ksi; identity = identity })
+named DetachRequest ((((detach_type, switch_off), ksi), (identity, _)), _) =
+    emm.DetachRequest (record { detach_type = detach_type; switch_off = switch_off; ksi = ksi; identity = identity })
 named NetworkDetach v = emm.NetworkDetach
 named DetachAccept v = emm.DetachAccept
-named TrackingAreaUpdateRequest ((((update_type, active), ksi), (guti, _)), _) = emm.TrackingAreaUpdateRequest (record { update_type = update_type; active = active; ksi = ksi; guti = guti })
-named TrackingAreaUpdateAccept (_, (timer, (guti, (tai_list, (cause, _))))) = emm.TrackingAreaUpdateAccept (record { timer = timer; guti = guti; tai_list = tai_list; cause = cause })
+named TrackingAreaUpdateRequest ((((update_type, active), ksi), (guti, _)), _) =
+    emm.TrackingAreaUpdateRequest (record { update_type = update_type; active = active; ksi = ksi; guti = guti })
+named TrackingAreaUpdateAccept (_, (timer, (guti, (tai_list, (cause, _))))) =
+    emm.TrackingAreaUpdateAccept (record { timer = timer; guti = guti; tai_list = tai_list; cause = cause })
 named TrackingAreaUpdateComplete v = emm.TrackingAreaUpdateComplete
 named TrackingAreaUpdateReject ((cause, _), _) = emm.TrackingAreaUpdateReject cause
 named ServiceReject ((cause, _), _) = emm.ServiceReject cause
-named AuthenticationRequest (((ksi, _), (rand, (autn, _))), _) = emm.AuthenticationRequest (record { ksi = ksi; rand = rand; autn = autn })
+named AuthenticationRequest (((ksi, _), (rand, (autn, _))), _) =
+    emm.AuthenticationRequest (record { ksi = ksi; rand = rand; autn = autn })
 named AuthenticationResponse ((res, _), _) = emm.AuthenticationResponse res
 named AuthenticationReject v = emm.AuthenticationReject
 named IdentityRequest v = emm.IdentityRequest
 named IdentityResponse ((identity, _), _) = emm.IdentityResponse identity
 named AuthenticationFailure ((cause, _), _) = emm.AuthenticationFailure cause
-named SecurityModeCommand ((_, ((ksi, _), (capability, _))), _) = emm.SecurityModeCommand (record { ksi = ksi; capability = capability })
+named SecurityModeCommand ((_, ((ksi, _), (capability, _))), _) =
+    emm.SecurityModeCommand (record { ksi = ksi; capability = capability })
 named SecurityModeComplete v = emm.SecurityModeComplete
 named SecurityModeReject ((cause, _), _) = emm.SecurityModeReject cause
 named EmmStatus ((cause, _), _) = emm.EmmStatus cause
@@ -81,7 +94,8 @@ typed (emm.DetachRequest m) = Some (DetachRequest, ((((m.detach_type, m.switch_o
 typed emm.NetworkDetach = Some (NetworkDetach, (((tt, tt), tt), tt))
 typed emm.DetachAccept = Some (DetachAccept, (tt, tt))
 typed (emm.TrackingAreaUpdateRequest m) = Some (TrackingAreaUpdateRequest, ((((m.update_type, m.active), m.ksi), (m.guti, tt)), tt))
-typed (emm.TrackingAreaUpdateAccept m) = Some (TrackingAreaUpdateAccept, (((tt, tt), tt), (m.timer, (m.guti, (m.tai_list, (m.cause, tt))))))
+typed (emm.TrackingAreaUpdateAccept m) =
+    Some (TrackingAreaUpdateAccept, (((tt, tt), tt), (m.timer, (m.guti, (m.tai_list, (m.cause, tt))))))
 typed emm.TrackingAreaUpdateComplete = Some (TrackingAreaUpdateComplete, (tt, tt))
 typed (emm.TrackingAreaUpdateReject cause) = Some (TrackingAreaUpdateReject, ((cause, tt), tt))
 typed (emm.ServiceReject cause) = Some (ServiceReject, ((cause, tt), tt))
@@ -157,14 +171,15 @@ type_of direction code =
 
 abbrev pub SpellsTyped : Direction → Option Typed → List ℕ → Type 0
 SpellsTyped direction None os = ⊥
-SpellsTyped direction (Some m) os = (type_of direction (code_of m.0) ≡ Some m.0) × (rest : List ℕ) × (os ≡ 7 ∷ code_of m.0 ∷ rest) × SpellsRow (row_of m.0) m.1 rest
+SpellsTyped direction (Some m) os =
+    (type_of direction (code_of m.0) ≡ Some m.0) × (rest : List ℕ) × (os ≡ 7 ∷ code_of m.0 ∷ rest) × SpellsRow (row_of m.0) m.1 rest
 
 -- SERVICE REQUEST: four octets, the first c7
 abbrev pub IsService : List ℕ → Type 0
-IsService os = (length os ≡ 4) × (slice_index os 0 ≡ 0xc7)
+IsService os = (length os ≡ 4) × (slice_index os 0 ≡ service_request_head)
 
 abbrev pub SpellsEmm : Direction → Emm (List ℕ) → List ℕ → Type 0
-SpellsEmm direction (emm.ServiceRequest octets) os = (os ≡ octets) × (length os ≡ 4) × (slice_index os 0 ≡ 0xc7)
+SpellsEmm direction (emm.ServiceRequest octets) os = (os ≡ octets) × (length os ≡ 4) × (slice_index os 0 ≡ service_request_head)
 SpellsEmm direction m os = SpellsTyped direction (typed m) os
 
 -- ---- reading: too short, the type, the mandatory part, the optional part
@@ -179,8 +194,8 @@ by_type (Some t) os = read_typed t os
 unfoldable pub decoded_emm : Direction → List ℕ → Result (Emm (List ℕ)) NasFault
 decoded_emm direction os =
     if nat_lt (length os) 2 then Err TooShort
-    else if slice_index os 0 == 7 then by_type (type_of direction (slice_index os 1)) (drop 2 os)
-    else if slice_index os 0 == 0xc7 && length os == 4 then Ok (emm.ServiceRequest os)
+    else if slice_index os 0 == emm_discriminator then by_type (type_of direction (slice_index os 1)) (drop 2 os)
+    else if slice_index os 0 == service_request_head && length os == 4 then Ok (emm.ServiceRequest os)
     else Err UnknownType
 
 -- what a function of the code returned
@@ -196,7 +211,8 @@ HasType direction os t rest = (os ≡ 7 ∷ code_of t ∷ rest) × (type_of dire
 
 abbrev pub HasFault : Direction → List ℕ → NasFault → Type 0
 HasFault direction os TooShort = length os < 2
-HasFault direction os UnknownType = (2 ≤ length os) × ((t : EmmType) (rest : List ℕ) → HasType direction os t rest → ⊥) × (IsService os → ⊥)
+HasFault direction os UnknownType =
+    (2 ≤ length os) × ((t : EmmType) (rest : List ℕ) → HasType direction os t rest → ⊥) × (IsService os → ⊥)
 HasFault direction os fault = (t : EmmType) × (rest : List ℕ) × HasType direction os t rest × RowFault (row_of t) rest fault
 
 -- ---- writing

@@ -1,6 +1,7 @@
 -- The protected form of a message: security header type and protocol discriminator, MAC, sequence number, message.
 use Rattle.std.specs.Prelude.{ℕ, ◌+◌, ◌*◌, ◌/◌, ◌%◌, ◌==◌, ◌&&◌, nat_le, if◌then◌else◌, List, [], ◌∷◌, ◌++◌, length, drop, slice_index, Option, Some, None, option_map}
 use Rattle.std.specs.Borrow.{Bor}
+use Rattle.nas_messages.specs.Codes.{emm_discriminator}
 use Rattle.nas_messages.specs.declared.protection.SecurityHeader.{SecurityHeader}
 use Rattle.nas_messages.specs.declared.protection.SecurityHeader.TheVariants.{IntegrityProtected, IntegrityProtectedCiphered, NewContext, NewContextCiphered}
 use Rattle.nas_messages.specs.declared.protection.Protected.{Protected}
@@ -22,7 +23,7 @@ header_of code =
 
 -- (TS 24.301 clause 9.1)
 unfoldable pub protected_form : Protected (List ℕ) → List ℕ
-protected_form p = (header_code p.header * 16 + 7) ∷ p.mac ++ p.sequence ∷ p.message
+protected_form p = (header_code p.header * 16 + emm_discriminator) ∷ p.mac ++ p.sequence ∷ p.message
 
 -- six octets and a message behind this header
 abbrev pub protected_from : SecurityHeader → List ℕ → Protected (List ℕ)
@@ -35,7 +36,7 @@ protected_from header os = record {
 
 unfoldable pub split : List ℕ → Option (Protected (List ℕ))
 split os =
-    if nat_le 6 (length os) && slice_index os 0 % 16 == 7
+    if nat_le 6 (length os) && slice_index os 0 % 16 == emm_discriminator
     then option_map (λ header. protected_from header os) (header_of (slice_index os 0 / 16))
     else None
 

@@ -13,6 +13,7 @@ use crate::emm_types::{
     EmmMessage, EmmType, SecurityModeCommand, TrackingAreaUpdateAccept, TrackingAreaUpdateRequest,
 };
 use crate::simple::{cause_in, nothing_in, three_at, three_in};
+use crate::{codes, timers};
 use nas_elements::{
     Domain, NasFault, Optional, TaiList, bounded_at, constant_at, fixed_at, guti_at, identifier,
     identity_at, long_at, octet_at, tai_list_at,
@@ -80,7 +81,7 @@ fn attach_accept_at<'a>(octets: &'a [u8]) -> Option<((TaiList, &'a [u8]), &'a [u
     if first % 16 % 8 != 1 {
         return None;
     }
-    let Some((_, rest)) = constant_at(0x49, rest) else {
+    let Some((_, rest)) = constant_at(timers::T3412_OCTET, rest) else {
         return None;
     };
     let Some((tai_list, rest)) = tai_list_at(rest) else {
@@ -446,13 +447,13 @@ fn read_emm<'a>(octets: &'a [u8], direction: Direction) -> Result<EmmMessage<'a>
     if octets.len() < 2 {
         return Err(NasFault::TooShort);
     }
-    if octets[0] == 7 {
+    if octets[0] == codes::EMM_DISCRIMINATOR {
         let Some(emm_type) = type_of(direction, octets[1]) else {
             return Err(NasFault::UnknownType);
         };
         return read_typed(emm_type, &octets[2..]);
     }
-    if octets[0] != 0xc7 {
+    if octets[0] != codes::SERVICE_REQUEST {
         return Err(NasFault::UnknownType);
     }
     let [first, second, third, fourth] = octets else {

@@ -8,11 +8,11 @@ ghost use Rattle.nas_messages.specs.Formats.{row_of};
 ghost use Rattle.nas_messages.specs.Messages.{IsWritable, encoded_emm, lists};
 ghost use Rattle.nas_messages.specs.declared.emm_types.Emm.TheVariants as messages;
 
-use crate::USUAL_ROOM;
 use crate::emm_types::{
     AttachAccept, AttachReject, AttachRequest, AuthenticationRequest, DetachRequest, EmmMessage,
     SecurityModeCommand, TrackingAreaUpdateAccept, TrackingAreaUpdateRequest,
 };
+use crate::{USUAL_ROOM, timers};
 use nas_elements::{
     Domain, identifier, put_element, put_fixed, put_guti, put_identity, put_long, put_short,
     put_tai_list,
@@ -33,7 +33,7 @@ fn put_attach_accept(out: &mut Vec<u8>, m: &AttachAccept<&[u8]>) -> Result<(), A
     requires { IsWritable (lists (messages.AttachAccept m.now)) }
     ensures { OnOk result (out.new.items ≡ out.old.items ++ encoded_emm (lists (messages.AttachAccept m.now))) }
 {
-    put_fixed(out, &[7, 0x42, 1, 0x49])?;
+    put_fixed(out, &[7, 0x42, 1, timers::T3412_OCTET])?;
     put_tai_list(out, &m.tai_list)?;
     put_long(out, m.esm)?;
     put_element(out, Domain::Emm, identifier::GUTI, m.guti)?;

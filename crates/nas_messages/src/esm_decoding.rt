@@ -7,6 +7,7 @@ ghost use Rattle.nas_messages.specs.Formats.{esm_parts_of};
 ghost use Rattle.nas_messages.specs.EsmMessages.{IsWritableEsm, decoded_esm, esm_lists, esm_type_of, read_body, seen_body, seen_esm};
 ghost use Rattle.nas_messages.specs.declared.esm_types.EsmType.TheVariants as types;
 
+use crate::codes;
 use crate::esm_types::{ActivateRequest, Esm, EsmBody, EsmMessage, EsmType};
 use crate::simple::{cause_in, nothing_in};
 use nas_elements::{
@@ -178,7 +179,7 @@ fn read_esm<'a>(octets: &'a [u8]) -> Result<EsmMessage<'a>, NasFault>
     if octets.len() < 3 {
         return Err(NasFault::TooShort);
     }
-    if octets[0] % 16 != 2 {
+    if octets[0] % 16 != codes::ESM_DISCRIMINATOR {
         return Err(NasFault::UnknownType);
     }
     let Some(esm_type) = esm_type_of(octets[2]) else {

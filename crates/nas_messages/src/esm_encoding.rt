@@ -4,8 +4,8 @@ ghost use Rattle.std.specs.Prelude.{◌≡◌, ◌++◌, OnOk, IfOk};
 ghost use Rattle.nas_messages.specs.EsmMessages.{BodyFits, IsWritableEsm, body_lists, encoded_esm, esm_lists, typed_body, written_body};
 ghost use Rattle.nas_messages.specs.declared.esm_types.EsmBody.TheVariants as bodies;
 
-use crate::USUAL_ROOM;
 use crate::esm_types::{ActivateRequest, EsmBody, EsmMessage};
+use crate::{USUAL_ROOM, codes};
 use nas_elements::{Domain, identifier, put_element, put_fixed, put_label, put_octet};
 use std::alloc::{AllocError, Global};
 
@@ -28,7 +28,8 @@ fn put_connectivity_request(
     information: bool,
 ) -> Result<(), AllocError>
     requires { BodyFits (typed_body (bodies.ConnectivityRequest request_type pdn_type information)) }
-    ensures { OnOk result (out.new.items ≡ out.old.items ++ written_body (bodies.ConnectivityRequest request_type pdn_type information)) }
+    ensures { OnOk result
+        (out.new.items ≡ out.old.items ++ written_body (bodies.ConnectivityRequest request_type pdn_type information)) }
 {
     put_fixed(out, &[0xd0, pdn_type * 16 + request_type])?;
     if information {
@@ -66,7 +67,7 @@ pub fn encode_esm(alloc: Global, message: &EsmMessage) -> Result<Vec<u8>, AllocE
     ensures { IfOk result (λ octets. octets.items ≡ encoded_esm (esm_lists message.now)) }
 {
     let mut octets = Vec::with_capacity(alloc, USUAL_ROOM)?;
-    put_octet(&mut octets, message.bearer * 16 + 2)?;
+    put_octet(&mut octets, message.bearer * 16 + codes::ESM_DISCRIMINATOR)?;
     put_octet(&mut octets, message.transaction)?;
     put_body(&mut octets, &message.body)?;
     Ok(octets)

@@ -12,27 +12,32 @@ ghost use Rattle.nas_messages.specs.EsmMessages.{HasEsmFault, IsWritableEsm, Spe
 
 /// What is decoded is spelled so.
 pub fn decoded_is_spelled()
-    ensures { (direction : Direction) (os : List ℕ) (m : Emm (List ℕ)) → decoded_emm direction os ≡ Ok m → SpellsEmm direction m os }
+    ensures { (direction : Direction) (os : List ℕ) (m : Emm (List ℕ)) → decoded_emm direction os ≡ Ok m
+        → SpellsEmm direction m os }
 {}
 
 /// What is spelled is decoded.
 pub fn spelled_is_decoded()
-    ensures { (direction : Direction) (m : Emm (List ℕ)) (os : List ℕ) → SpellsEmm direction m os → decoded_emm direction os ≡ Ok m }
+    ensures { (direction : Direction) (m : Emm (List ℕ)) (os : List ℕ) → SpellsEmm direction m os → decoded_emm direction os
+        ≡ Ok m }
 {}
 
 /// Octets spell at most one message.
 pub fn one_message()
-    ensures { (direction : Direction) (m n : Emm (List ℕ)) (os : List ℕ) → SpellsEmm direction m os → SpellsEmm direction n os → m ≡ n }
+    ensures { (direction : Direction) (m n : Emm (List ℕ)) (os : List ℕ) → SpellsEmm direction m os → SpellsEmm direction n os
+        → m ≡ n }
 {}
 
 /// What is encoded is read again, by whom the message goes to.
 pub fn encoded_is_decoded()
-    ensures { (direction : Direction) (m : Emm (List ℕ)) → IsWritable m → Goes direction m → decoded_emm direction (encoded_emm m) ≡ Ok m }
+    ensures { (direction : Direction) (m : Emm (List ℕ)) → IsWritable m → Goes direction m → decoded_emm direction (encoded_emm m)
+        ≡ Ok m }
 {}
 
 /// When each fault comes: no two of these can be said of the same octets, and none of octets that spell a message.
 pub fn fault_is_named()
-    ensures { (direction : Direction) (os : List ℕ) (fault : NasFault) → decoded_emm direction os ≡ Err fault → HasFault direction os fault }
+    ensures { (direction : Direction) (os : List ℕ) (fault : NasFault) → decoded_emm direction os ≡ Err fault
+        → HasFault direction os fault }
 {}
 
 /// What is decoded of an ESM message is spelled so.

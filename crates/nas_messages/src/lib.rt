@@ -2,6 +2,7 @@
 //! in both directions; and the protected form. Decoding and splitting take no memory.
 #![tactic(auto)]
 
+pub mod codes;
 mod emm_decoding;
 mod emm_encoding;
 mod emm_types;
@@ -11,6 +12,7 @@ mod esm_types;
 mod laws;
 mod protection;
 mod simple;
+pub mod timers;
 
 // The octets that a message is given room for at once, so that it isn't moved while it is written; a longer one gets more then.
 const USUAL_ROOM: usize = 64;

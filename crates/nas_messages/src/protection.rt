@@ -3,6 +3,7 @@
 ghost use Rattle.std.specs.Prelude.{◌≡◌, IfOk, IfSome, length};
 ghost use Rattle.nas_messages.specs.Protection.{header_code, header_of, protected_form, seen_split, split, unlent};
 
+use crate::codes;
 use std::alloc::{AllocError, Global};
 
 // The octets before the message: the security header type with the protocol discriminator, the MAC and the sequence number.
@@ -71,7 +72,7 @@ pub fn split_protected<'a>(octets: &'a [u8]) -> Option<Protected<&'a [u8]>>
     if octets.len() < 6 {
         return None;
     }
-    if octets[0] % 16 != 7 {
+    if octets[0] % 16 != codes::EMM_DISCRIMINATOR {
         return None;
     }
     let header = header_of(octets[0] / 16)?;
@@ -89,7 +90,7 @@ pub fn join_protected(alloc: Global, protected: &Protected<&[u8]>) -> Result<Vec
     ensures { IfOk result (λ octets. octets.items ≡ protected_form (unlent protected.now)) }
 {
     let [a, b, c, d] = protected.mac;
-    let first = protected.header.code() * 16 + 7;
+    let first = protected.header.code() * 16 + codes::EMM_DISCRIMINATOR;
     let mut octets = Vec::with_capacity(alloc, HEADER_LENGTH + protected.message.len())?;
     octets.extend_from_slice(&[first, a, b, c, d, protected.sequence])?;
     octets.extend_from_slice(protected.message)?;

@@ -18,13 +18,15 @@ abbrev pub SameIsEqual : Type 0
 SameIsEqual = (xs ys : List ℕ) → (same_octets xs ys ≡ true) ↔ (xs ≡ ys)
 
 -- an answer that is Ok came from the branch that isn't a fault
-where_ok : {A : Type 0} (b : Bool) (r : Result A SecurityFault) (f : SecurityFault) (x : A) → cond b r (Err f) ≡ Ok x → (b ≡ true) × (r ≡ Ok x)
+where_ok : {A : Type 0} (b : Bool) (r : Result A SecurityFault) (f : SecurityFault) (x : A) → cond b r (Err f) ≡ Ok x
+    → (b ≡ true) × (r ≡ Ok x)
 where_ok true r f x e = (refl, e)
 where_ok false r f x e = absurd (cc)
 
 from_estimate : SameIsEqual → (mac : Mac) (last : Option ℕ) (allowed : List SecurityHeader) (octets : List ℕ) (count : ℕ) (message : List ℕ) (p : Protected (List ℕ))
     → split octets ≡ Some p → is_allowed allowed p.header ≡ true
-    → (o : Option ℕ) → estimate last p.sequence (2 ^ 8) ≡ o → accepted_under mac p o ≡ Ok (count, message) → IsAccepted mac last allowed octets count message
+    → (o : Option ℕ) → estimate last p.sequence (2 ^ 8) ≡ o → accepted_under mac p o ≡ Ok (count, message)
+    → IsAccepted mac last allowed octets count message
 from_estimate same mac last allowed octets count message p form header None counted e = absurd (cc)
 from_estimate same mac last allowed octets count message p form header (Some n) counted e =
     let answer : Acceptance = Ok (n, p.message) in
@@ -43,19 +45,26 @@ from_estimate same mac last allowed octets count message p form header (Some n) 
       right = (same p.mac (mac n Uplink (p.sequence ∷ p.message))).0 found.0 ∙ ap (λ (k : ℕ). mac k Uplink (p.sequence ∷ p.message)) same_count ∙ ap (λ (m : List ℕ). mac count Uplink (p.sequence ∷ m)) content;
     }
 
-from_form : SameIsEqual → (mac : Mac) (last : Option ℕ) (allowed : List SecurityHeader) (octets : List ℕ) (count : ℕ) (message : List ℕ)
-    → (o : Option (Protected (List ℕ))) → split octets ≡ o → accepted_parts mac last allowed o ≡ Ok (count, message) → IsAccepted mac last allowed octets count message
+from_form : SameIsEqual
+    → (mac : Mac) (last : Option ℕ) (allowed : List SecurityHeader) (octets : List ℕ) (count : ℕ) (message : List ℕ)
+    → (o : Option (Protected (List ℕ))) → split octets ≡ o → accepted_parts mac last allowed o ≡ Ok (count, message)
+    → IsAccepted mac last allowed octets count message
 from_form same mac last allowed octets count message None form e = absurd (cc)
 from_form same mac last allowed octets count message (Some p) form e =
-    let found = where_ok (is_allowed allowed p.header) (accepted_under mac p (estimate last p.sequence (2 ^ 8))) WrongHeader (count, message) e in
+    let found =
+    where_ok (is_allowed allowed p.header) (accepted_under mac p (estimate last p.sequence (2 ^ 8))) WrongHeader
+    (count, message) e in
     from_estimate same mac last allowed octets count message p form found.0 (estimate last p.sequence (2 ^ 8)) refl found.1
 
-pub accepted_so : SameIsEqual → (mac : Mac) (last : Option ℕ) (allowed : List SecurityHeader) (octets : List ℕ) (count : ℕ) (message : List ℕ)
+pub accepted_so : SameIsEqual
+    → (mac : Mac) (last : Option ℕ) (allowed : List SecurityHeader) (octets : List ℕ) (count : ℕ) (message : List ℕ)
     → accepted mac last allowed octets ≡ Ok (count, message) → IsAccepted mac last allowed octets count message
 unfolding accepted
-accepted_so same mac last allowed octets count message e = from_form same mac last allowed octets count message (split octets) refl e
+accepted_so same mac last allowed octets count message e =
+    from_form same mac last allowed octets count message (split octets) refl e
 
-pub so_accepted : SameIsEqual → (mac : Mac) (last : Option ℕ) (allowed : List SecurityHeader) (octets : List ℕ) (count : ℕ) (message : List ℕ)
+pub so_accepted : SameIsEqual
+    → (mac : Mac) (last : Option ℕ) (allowed : List SecurityHeader) (octets : List ℕ) (count : ℕ) (message : List ℕ)
     → IsAccepted mac last allowed octets count message → accepted mac last allowed octets ≡ Ok (count, message)
 unfolding accepted
 so_accepted same mac last allowed octets count message h =
@@ -64,7 +73,8 @@ so_accepted same mac last allowed octets count message h =
     let equal = (same p.mac (mac count Uplink (p.sequence ∷ p.message))).1 right in
     rw (h.form, h.header, h.counted, equal, h.content) refl
 
-pub fresh : SameIsEqual → (mac : Mac) (last : Option ℕ) (allowed : List SecurityHeader) (octets : List ℕ) (count : ℕ) (message : List ℕ)
+pub fresh : SameIsEqual
+    → (mac : Mac) (last : Option ℕ) (allowed : List SecurityHeader) (octets : List ℕ) (count : ℕ) (message : List ℕ)
     → accepted mac last allowed octets ≡ Ok (count, message) → (first_after last ≤ count) × (count < 2 ^ 24)
 fresh same mac last allowed octets count message e =
     let h = accepted_so same mac last allowed octets count message e in
@@ -74,7 +84,8 @@ short_counted : (mac : Mac) (octets : List ℕ) (o : Option ℕ) (count : ℕ) �
 short_counted mac octets None count e = absurd (cc)
 short_counted mac octets (Some n) count e =
     let answer : Result ℕ SecurityFault = Ok n in
-    let found = where_ok (same_octets (take 2 (drop 2 octets)) (take 2 (drop 2 (mac n Uplink (take 2 octets))))) answer BadMac count e in
+    let found =
+    where_ok (same_octets (take 2 (drop 2 octets)) (take 2 (drop 2 (mac n Uplink (take 2 octets))))) answer BadMac count e in
     let same = found.1 in cc
 
 pub short_fresh : (mac : Mac) (last : Option ℕ) (ksi : ℕ) (octets : List ℕ) (count : ℕ)
@@ -82,5 +93,7 @@ pub short_fresh : (mac : Mac) (last : Option ℕ) (ksi : ℕ) (octets : List ℕ
 unfolding short_accepted
 short_fresh mac last ksi octets count e =
     let bits = slice_index octets 1 % 2 ^ 5 in
-    let found = where_ok (slice_index octets 0 == 0xc7 && slice_index octets 1 / 2 ^ 5 == ksi) (short_under mac octets (estimate last bits (2 ^ 5))) WrongHeader count e in
+    let found =
+    where_ok (slice_index octets 0 == 0xc7 && slice_index octets 1 / 2 ^ 5 == ksi)
+    (short_under mac octets (estimate last bits (2 ^ 5))) WrongHeader count e in
     let estimate_is = estimated last bits (2 ^ 5) count (short_counted mac octets (estimate last bits (2 ^ 5)) count found.1) in (estimate_is.above, estimate_is.fits)

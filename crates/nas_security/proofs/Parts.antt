@@ -4,7 +4,8 @@ use Rattle.std.proofs.lemmas.List.{take_all}
 use Rattle.nas_messages.specs.declared.protection.Protected.{Protected}
 use Rattle.nas_messages.specs.Protection.{protected_form, header_code}
 
-behind : (code sequence : ℕ) (mac message : List ℕ) → length mac ≡ 4 → drop 5 (code ∷ mac ++ sequence ∷ message) ≡ sequence ∷ message
+behind : (code sequence : ℕ) (mac message : List ℕ) → length mac ≡ 4
+    → drop 5 (code ∷ mac ++ sequence ∷ message) ≡ sequence ∷ message
 behind code s [] m e = absurd (omega (arith, e))
 behind code s (a ∷ []) m e = absurd (omega (arith, e))
 behind code s (a ∷ b ∷ []) m e = absurd (omega (arith, e))
@@ -12,7 +13,8 @@ behind code s (a ∷ b ∷ c ∷ []) m e = absurd (omega (arith, e))
 behind code s (a ∷ b ∷ c ∷ d ∷ []) m e = refl
 behind code s (a ∷ b ∷ c ∷ d ∷ more ∷ rest) m e = absurd (omega (arith, e))
 
-pub authenticated : (octets : List ℕ) (p : Protected (List ℕ)) → (octets ≡ protected_form p) × (length p.mac ≡ 4) → drop 5 octets ≡ p.sequence ∷ p.message
+pub authenticated : (octets : List ℕ) (p : Protected (List ℕ)) → (octets ≡ protected_form p) × (length p.mac ≡ 4)
+    → drop 5 octets ≡ p.sequence ∷ p.message
 unfolding protected_form
 authenticated octets p form = ap (drop 5) form.0 ∙ behind (header_code p.header * 16 + 7) p.sequence p.mac p.message form.1
 

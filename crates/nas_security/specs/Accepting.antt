@@ -6,6 +6,7 @@ use Rattle.eps_keys.specs.Same.{same_octets}
 use Rattle.eps_keys.specs.declared.direction.DirectionBit.TheVariants.{Uplink}
 use Rattle.nas_messages.specs.declared.protection.SecurityHeader.{SecurityHeader}
 use Rattle.nas_messages.specs.declared.protection.Protected.{Protected}
+use Rattle.nas_messages.specs.Codes.{service_request_head}
 use Rattle.nas_messages.specs.Protection.{header_code, split, unlent}
 use Rattle.nas_security.specs.declared.fault.SecurityFault.{SecurityFault}
 use Rattle.nas_security.specs.declared.fault.SecurityFault.TheVariants.{BadMac, CountSpent, WrongHeader}
@@ -21,7 +22,7 @@ abbrev pub Acceptance : Type 0
 Acceptance = Result (ℕ × List ℕ) SecurityFault
 
 -- the answer on these parts under the count that the sequence number gave: the MAC is over the
--- sequence number and the message (TS 24.301, 9.5)
+-- sequence number and the message (TS 24.301 clause 9.5)
 abbrev pub accepted_under : Mac → Protected (List ℕ) → Option ℕ → Acceptance
 accepted_under mac p None = Err CountSpent
 accepted_under mac p (Some count) =
@@ -56,7 +57,7 @@ seen_parts None = None
 seen_parts (Some found) = Some (unlent found.0, found.1.now)
 
 -- The four octets of a SERVICE REQUEST: its discriminator, the key set identifier with five bits of
--- the count, and the last two octets of the MAC over the first two (TS 24.301, 8.2.25, 9.9.3.19 and
+-- the count, and the last two octets of the MAC over the first two (TS 24.301 clauses 8.2.25, 9.9.3.19 and
 -- 9.9.3.28).
 
 -- the count, or the fault, under the count that the five bits gave
@@ -70,7 +71,7 @@ short_under mac octets (Some count) =
 -- on the octets, with the last accepted count and the key set identifier
 unfoldable pub short_accepted : Mac → Option ℕ → ℕ → List ℕ → Result ℕ SecurityFault
 short_accepted mac last ksi octets =
-    if slice_index octets 0 == 0xc7 && slice_index octets 1 / 2 ^ 5 == ksi
+    if slice_index octets 0 == service_request_head && slice_index octets 1 / 2 ^ 5 == ksi
     then short_under mac octets (estimate last (slice_index octets 1 % 2 ^ 5) (2 ^ 5))
     else Err WrongHeader
 

@@ -1,4 +1,4 @@
--- NAS COUNTs, of 24 bits, and the estimate of one from its low bits (TS 24.301, 4.4.3.1).
+-- NAS COUNTs, of 24 bits, and the estimate of one from its low bits (TS 24.301 clause 4.4.3.1).
 use Rattle.std.specs.Prelude.{◌≡◌, ℕ, zero, suc, ◌+◌, ◌-◌, ◌%◌, ◌^◌, ◌<◌, ◌≤◌, ◌==◌, List, [], ◌∷◌, find, Option, Some, None}
 
 -- n, n + 1, .., n + k - 1

@@ -7,7 +7,7 @@ use Rattle.nas_messages.specs.Protection.{protected_form}
 use Rattle.nas_security.specs.Context.{Mac}
 
 -- the parts of a message under a downlink count: its low 8 bits are the sequence number, and the MAC
--- is over the sequence number and the message (TS 24.301, 9.5)
+-- is over the sequence number and the message (TS 24.301 clause 9.5)
 abbrev pub protected_parts : Mac → ℕ → SecurityHeader → List ℕ → Protected (List ℕ)
 protected_parts mac count header message = record {
   header = header;

@@ -9,22 +9,22 @@ use crate::counts::{COUNT_LIMIT, estimate};
 use crate::fault::SecurityFault;
 use crate::integrity::Integrity;
 use eps_keys::{DirectionBit, same_octets};
-use nas_messages::{Protected, SecurityHeader, join_protected, split_protected};
+use nas_messages::{Protected, SecurityHeader, codes, join_protected, split_protected};
 use std::alloc::{AllocError, Global};
 use std::marker::Model;
 
-/// The security context of one phone on the network's side (TS 24.301, 4.4.3): the integrity
+/// The security context of one phone on the network's side (TS 24.301 clause 4.4.3): the integrity
 /// algorithm under its key, the key set identifier, the next downlink count and the last accepted
 /// uplink count.
 #[derive(Clone, Copy)]
-pub struct EpsSecurityContext<I> {
+pub struct SecurityContext<I> {
     integrity: I,
     ksi: u8,
     down_next: u32,
     up_last: Option<u32>,
 }
 
-impl<I> Model for EpsSecurityContext<I> {
+impl<I> Model for SecurityContext<I> {
     ghost use Rattle.nas_security.specs.Context.{SecurityContextView};
 
     ghost Value = { SecurityContextView I };
@@ -35,7 +35,7 @@ impl<I> Model for EpsSecurityContext<I> {
 }
 
 // The parts of a protected message, and what its MAC is over: the octets from the sixth on
-// (TS 24.301, 9.5).
+// (TS 24.301 clause 9.5).
 fn parts(octets: &[u8]) -> Option<(Protected<&[u8]>, &[u8])>
     ensures { seen_parts result ≡ option_map (λ p. (p, p.sequence ∷ p.message)) (split octets.entry.now) }
 {
@@ -49,13 +49,13 @@ fn is_allowed(allowed: &[SecurityHeader], header: SecurityHeader) -> bool
     allowed.iter().any(|one| one.code() == header.code())
 }
 
-impl<I: Integrity> EpsSecurityContext<I> {
+impl<I: Integrity> SecurityContext<I> {
     /// A context under an algorithm with its key. A next downlink count beyond 24 bits leaves none to
     /// spend, and such a last accepted uplink count none to accept.
     pub fn new(integrity: I, ksi: u8, down_next: u32, up_last: Option<u32>) -> Self
         ensures { result ≡ record { integrity = integrity; ksi = ksi; down_next = down_next; up_last = up_last } }
     {
-        EpsSecurityContext {
+        SecurityContext {
             integrity,
             ksi,
             down_next,
@@ -70,7 +70,7 @@ impl<I: Integrity> EpsSecurityContext<I> {
         &self.integrity
     }
 
-    /// The key set identifier (TS 24.301, 9.9.3.21).
+    /// The key set identifier (TS 24.301 clause 9.9.3.21).
     pub fn ksi(&self) -> u8
         ensures { result ≡ self.now.ksi }
     {
@@ -91,10 +91,10 @@ impl<I: Integrity> EpsSecurityContext<I> {
         self.up_last
     }
 
-    /// The protected form of a message under the next downlink count, which is spent (TS 24.301,
-    /// 4.4.3.1): the count's low 8 bits are its sequence number. `CountSpent` exactly where that
-    /// count has more than 24 bits, else `NoMemory` where memory was refused; a refused call spends
-    /// nothing.
+    /// The protected form of a message under the next downlink count, which is spent (TS 24.301
+    /// clause 4.4.3.1): the count's low 8 bits are its sequence number. `CountSpent` exactly where
+    /// that count has more than 24 bits, else `NoMemory` where memory was refused; a refused call
+    /// spends nothing.
     #[tactic(auto, unfolding(crate::specs::Protecting::protected_by))]
     pub fn protect(
         &mut self,
@@ -117,7 +117,7 @@ impl<I: Integrity> EpsSecurityContext<I> {
         Ok(form)
     }
 
-    /// The count and the message of octets in the protected form (TS 24.301, 4.4.3.3): their header
+    /// The count and the message of octets in the protected form (TS 24.301 clause 4.4.3.3): their header
     /// is one of those allowed, the count is the least above the last accepted one with the sequence
     /// number as its low 8 bits, and the MAC is right; that count is then the last accepted one.
     /// Else `WrongHeader`, `CountSpent` where the count would have more than 24 bits, or `BadMac`,
@@ -151,7 +151,7 @@ impl<I: Integrity> EpsSecurityContext<I> {
         Ok((count, protected.message))
     }
 
-    /// The count of a SERVICE REQUEST (TS 24.301, 8.2.25): `c7`, the context's key set identifier
+    /// The count of a SERVICE REQUEST (TS 24.301 clause 8.2.25): `c7`, the context's key set identifier
     /// with the low 5 bits of the count, which is the least above the last accepted one with these
     /// bits, and the last two octets of the MAC over the first two; that count is then the last
     /// accepted one. Else `WrongHeader`, also for another key set identifier, `CountSpent` or
@@ -161,7 +161,7 @@ impl<I: Integrity> EpsSecurityContext<I> {
         ensures answer { result ≡ short_accepted (I.mac_of self.old.integrity) self.old.up_last self.old.ksi octets.now }
         ensures state { self.new ≡ record self.old { up_last = short_after self.old.up_last result } }
     {
-        if !(octets[0] == 0xc7 && octets[1] / 32 == self.ksi) {
+        if !(octets[0] == codes::SERVICE_REQUEST && octets[1] / 32 == self.ksi) {
             return Err(SecurityFault::WrongHeader);
         }
         let Some(count) = estimate(self.up_last, octets[1] % 32, 32) else {

@@ -1,4 +1,4 @@
-//! The estimate of a NAS COUNT from its low bits (TS 24.301, 4.4.3.1).
+//! The estimate of a NAS COUNT from its low bits (TS 24.301 clause 4.4.3.1).
 
 ghost use Rattle.std.specs.Prelude.{◌≡◌, ◌<◌, ◌≤◌, ◌^◌};
 ghost use Rattle.nas_security.specs.Counts.{estimate, first_after};

@@ -6,17 +6,17 @@ ghost use Rattle.nas_security.specs.Context.{Mac};
 use eps_keys::{DirectionBit, MacKey};
 use std::marker::Model;
 
-/// An integrity algorithm of NAS signalling under one key (TS 33.401, B.2.1).
+/// An integrity algorithm of NAS signalling under one key (TS 33.401 clause B.2.1).
 pub trait Integrity {
     /// The MAC of a count, a direction and a message.
     ghost mac_of: { Self → Mac };
 
-    /// The MAC of four octets of a message with its count and direction (TS 24.301, 9.5).
+    /// The MAC of four octets of a message with its count and direction (TS 24.301 clause 9.5).
     fn mac(&self, count: u32, direction: DirectionBit, message: &[u8]) -> [u8; 4]
         ensures { result ≡ mac_of self.now count direction message.now };
 }
 
-/// 128-EIA2 under a key of 16 octets (TS 33.401, B.2.3), which contracts see as the key's octets.
+/// 128-EIA2 under a key of 16 octets (TS 33.401 clause B.2.3), which contracts see as the key's octets.
 /// It is kept expanded, in 208 octets.
 #[derive(Clone, Copy)]
 pub struct Eia2 {

@@ -5,10 +5,10 @@ ghost use Rattle.sim_phone.specs.Messages.{unregistered};
 
 use crate::side::PhoneSide;
 use nas_elements::Guti;
-use nas_security::EpsSecurityContext;
+use nas_security::SecurityContext;
 
 /// A phone's security context. It is the network's, seen from the other side: what that calls downlink is the phone's uplink.
-pub type PhoneContext = EpsSecurityContext<PhoneSide>;
+pub type PhoneContext = SecurityContext<PhoneSide>;
 
 /// What a phone keeps of its registration.
 #[derive(Clone, Copy)]

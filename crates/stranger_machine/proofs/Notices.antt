@@ -25,16 +25,19 @@ left_if true s = refl
 left_if false s = refl
 
 -- it leaves those open whom it doesn't mean
-pub listed_open : (notice : Notice) (id e : ℕ) (s : Stranger) (items : ToReset) → notice ≡ Listed e items → stays_open notice (record { id = id; stranger = s }) ≡ not (is_meant id e items)
+pub listed_open : (notice : Notice) (id e : ℕ) (s : Stranger) (items : ToReset) → notice ≡ Listed e items
+    → stays_open notice (record { id = id; stranger = s }) ≡ not (is_meant id e items)
 unfolding notes unlists
 listed_open notice id e s items is = ap (λ n. is_some (notes id (Some s) n).stranger) is ∙ open_if (is_meant id e items) s
 
 -- nothing is sent for it
-pub listed_sent : (notice : Notice) (id e : ℕ) (s : Option Stranger) (items : ToReset) → notice ≡ Listed e items → (notes id s notice).sent ≡ []
+pub listed_sent : (notice : Notice) (id e : ℕ) (s : Option Stranger) (items : ToReset) → notice ≡ Listed e items
+    → (notes id s notice).sent ≡ []
 unfolding notes unlists
 listed_sent notice id e s items is = ap (λ n. (notes id s n).sent) is ∙ silent_if (is_meant id e items) s
 
 -- who is left open by it is who he was
-pub listed_left : (notice : Notice) (id e : ℕ) (s : Stranger) (items : ToReset) → notice ≡ Listed e items → s ≡ (passed notice (record { id = id; stranger = s })).stranger
+pub listed_left : (notice : Notice) (id e : ℕ) (s : Stranger) (items : ToReset) → notice ≡ Listed e items
+    → s ≡ (passed notice (record { id = id; stranger = s })).stranger
 unfolding notes unlists
 listed_left notice id e s items is = sym (ap (λ n. unwrap_or (notes id (Some s) n).stranger s) is ∙ left_if (is_meant id e items) s)

@@ -11,7 +11,9 @@ use Rattle.nas_elements.specs.declared.identity.MobileIdentity.TheVariants.{Imsi
 use Rattle.nas_messages.specs.declared.emm_types.Direction.TheVariants.{Uplink as UplinkDirection}
 use Rattle.nas_messages.specs.declared.emm_types.Emm.{Emm}
 use Rattle.nas_messages.specs.declared.emm_types.Emm.TheVariants as emm
-use Rattle.nas_messages.specs.Messages.{decoded_emm}
+use Rattle.nas_messages.specs.declared.emm_types.EmmType.TheVariants.{AttachRequest, TrackingAreaUpdateRequest}
+use Rattle.nas_messages.specs.Messages.{code_of, decoded_emm}
+use Rattle.nas_messages.specs.Timers.{t3470_repeats, t3470_ticks}
 use Rattle.s1ap_elements.specs.declared.cause.Cause.TheVariants.{RadioNetwork, Nas}
 use Rattle.s1ap_elements.specs.declared.cause.RadioNetworkCause.TheVariants.{UnknownMmeUeS1apId, UnknownPairUeS1apId}
 use Rattle.s1ap_elements.specs.declared.cause.NasCause.TheVariants.{Unspecified}
@@ -34,12 +36,12 @@ use Rattle.stranger_machine.specs.declared.turn.Notice.{Notice}
 use Rattle.stranger_machine.specs.declared.turn.Notice.TheVariants.{Tick, Gone, Listed}
 use Rattle.stranger_machine.specs.Turns.{Call, Turn, identity_asked, also_calling, closing, as_entry, as_kept, place_of, refused, released, sent_to, stays}
 
--- T3470: the ticks until IDENTITY REQUEST is sent again, and how often it is (TS 24.301 clause 10.2)
+-- T3470: the ticks until IDENTITY REQUEST is sent again, and how often it is
 abbrev pub identity_ticks : ℕ
-identity_ticks = 6
+identity_ticks = t3470_ticks
 
 abbrev pub identity_repeats : ℕ
-identity_repeats = 4
+identity_repeats = t3470_repeats
 
 -- ---- an INITIAL UE MESSAGE that names nobody
 
@@ -62,7 +64,10 @@ welcome_by_message _ = TurnAway
 
 -- a request with a part that can't be read is refused by its type
 abbrev pub welcome_by_type : ℕ → Welcome
-welcome_by_type code = if code == 0x41 then Refuse (attach_reject InvalidMandatory None) else if code == 0x48 then Refuse (update_reject InvalidMandatory) else TurnAway
+welcome_by_type code =
+    if code == code_of AttachRequest then Refuse (attach_reject InvalidMandatory None)
+    else if code == code_of TrackingAreaUpdateRequest then Refuse (update_reject InvalidMandatory)
+    else TurnAway
 
 abbrev pub welcome_by_fault : NasFault → ℕ → Welcome
 welcome_by_fault Mandatory code = welcome_by_type code
@@ -99,8 +104,10 @@ unfoldable pub unknown : UeBody (List ℕ) → UeMessage (List ℕ) → List Ans
 unknown UeContextReleaseComplete m = []
 unknown PathSwitch m = sent_to m.station (path_switch_failure m.mme_ue_id m.enb_ue_id (RadioNetwork UnknownMmeUeS1apId))
 unknown (Uplink nas tai) m = sent_to m.station (error_indication m.mme_ue_id m.enb_ue_id (RadioNetwork UnknownMmeUeS1apId))
-unknown (UeContextReleaseRequest cause) m = sent_to m.station (error_indication m.mme_ue_id m.enb_ue_id (RadioNetwork UnknownMmeUeS1apId))
-unknown InitialContextSetupFailure m = sent_to m.station (error_indication m.mme_ue_id m.enb_ue_id (RadioNetwork UnknownMmeUeS1apId))
+unknown (UeContextReleaseRequest cause) m =
+    sent_to m.station (error_indication m.mme_ue_id m.enb_ue_id (RadioNetwork UnknownMmeUeS1apId))
+unknown InitialContextSetupFailure m =
+    sent_to m.station (error_indication m.mme_ue_id m.enb_ue_id (RadioNetwork UnknownMmeUeS1apId))
 unknown NoticeBody m = sent_to m.station (error_indication m.mme_ue_id m.enb_ue_id (RadioNetwork UnknownMmeUeS1apId))
 
 -- the IMSI of an IDENTITY RESPONSE, which is plain
@@ -115,7 +122,8 @@ imsi_in_response _ = None
 -- who is provisioned claims the association, with the message that began it
 unfoldable pub claimed_by : Option ℕ → ℕ → KeptEntry → Turn
 claimed_by None id k = closing (refused (place_of id k) (attach_reject ServicesNotAllowed None))
-claimed_by (Some slot) id k = record { stranger = Some (Held slot); sent = []; call = Some (record { slot = slot; item = Claim id (as_entry k) }) }
+claimed_by (Some slot) id k =
+    record { stranger = Some (Held slot); sent = []; call = Some (record { slot = slot; item = Claim id (as_entry k) }) }
 
 unfoldable pub identified : Option (List ℕ) → List Profile → ℕ → KeptEntry → Stranger → Turn
 identified None ps id k s = stays (Some s) []
@@ -147,7 +155,8 @@ receives_waiting NoticeBody ps m k s = checked_for_pair ps m k s
 unfoldable pub receives : List Profile → Option Stranger → UeMessage (List ℕ) → Turn
 receives ps None m = closing (unknown m.body m)
 receives ps (Some (Waiting k left repeats)) m = receives_waiting m.body ps m k (Waiting k left repeats)
-receives ps (Some (Held slot)) m = record { stranger = Some (Held slot); sent = []; call = Some (record { slot = slot; item = Message m }) }
+receives ps (Some (Held slot)) m =
+    record { stranger = Some (Held slot); sent = []; call = Some (record { slot = slot; item = Message m }) }
 
 -- ---- what comes to all
 

@@ -11,7 +11,8 @@ use Rattle.stranger_machine.specs.Table.{stays_open}
 use Rattle.stranger_machine.specs.Turns.{Turn, closing, stays}
 
 -- a notice of a station closes a stranger or leaves it as it is
-pub station_notes : (id : ℕ) (s : Option Stranger) (notice : Notice) → is_of_station notice ≡ true → notes id s notice ≡ (if closes id notice then closing [] else stays s [])
+pub station_notes : (id : ℕ) (s : Option Stranger) (notice : Notice) → is_of_station notice ≡ true
+    → notes id s notice ≡ (if closes id notice then closing [] else stays s [])
 unfolding notes loses unlists
 station_notes id s Tick h = cc
 station_notes id s (Gone e) h = refl
@@ -30,8 +31,10 @@ open_by true s = refl
 open_by false s = refl
 
 -- who stays open is told by the id alone
-pub station_open : (id : ℕ) (s : Stranger) (notice : Notice) → is_of_station notice ≡ true → stays_open notice (record { id = id; stranger = s }) ≡ not (closes id notice)
-station_open id s notice h = ap (λ (t : Turn). is_some t.stranger) (station_notes id (Some s) notice h) ∙ open_by (closes id notice) s
+pub station_open : (id : ℕ) (s : Stranger) (notice : Notice) → is_of_station notice ≡ true
+    → stays_open notice (record { id = id; stranger = s }) ≡ not (closes id notice)
+station_open id s notice h =
+    ap (λ (t : Turn). is_some t.stranger) (station_notes id (Some s) notice h) ∙ open_by (closes id notice) s
 
 both_no : (a b : Bool) → a ≡ false → (a && b) ≡ false
 both_no true b h = cc

@@ -1,7 +1,5 @@
 -- What one stranger does at an event, and what it sends.
 use Rattle.std.specs.Prelude.{ℕ, List, ◌++◌, Option, Some, None}
-use Rattle.nas_messages.specs.declared.emm_types.Emm.TheVariants as emm
-use Rattle.nas_messages.specs.Messages.{encoded_emm}
 use Rattle.s1ap_elements.specs.declared.cause.Cause.{Cause}
 use Rattle.s1ap_elements.specs.declared.cause.Cause.TheVariants.{Nas}
 use Rattle.s1ap_elements.specs.declared.cause.NasCause.TheVariants.{NormalRelease}
@@ -12,6 +10,7 @@ use Rattle.mme_types.specs.declared.octets.Answer.{Answer}
 use Rattle.mme_types.specs.declared.connection.Connection.{Connection}
 use Rattle.mme_types.specs.declared.stations.StationState.{StationState}
 use Rattle.mme_types.specs.Answers.{answer_of}
+use Rattle.mme_signalling.specs.Messages.{identity_request}
 use Rattle.mme_signalling.specs.Pdus.{downlink, release_command}
 use Rattle.mme_types.specs.Events.{Item, item_of}
 use Rattle.stranger_machine.specs.declared.state.KeptEntry.{KeptEntry}
@@ -66,10 +65,7 @@ released k cause = sent_to k.station (release_command k.id k.enb_ue_id cause)
 unfoldable pub refused : Connection → List ℕ → List Answer
 refused k nas = sent_to k.station (downlink k nas) ++ released k (Nas NormalRelease)
 
--- IDENTITY REQUEST for the IMSI (TS 24.301 clause 8.2.18)
-unfoldable pub identity_request : List ℕ
-identity_request = encoded_emm emm.IdentityRequest
-
+-- IDENTITY REQUEST
 unfoldable pub identity_asked : Connection → List Answer
 identity_asked k = sent_to k.station (downlink k identity_request)
 

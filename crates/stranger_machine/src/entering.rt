@@ -17,14 +17,9 @@ use identity_slots::AssociationId;
 use mme_signalling::{EmmCause, attach_reject, initial_octets, service_reject, update_reject};
 use mme_types::{Entry, SoloEvent};
 use nas_elements::{MobileIdentity, NasFault};
-use nas_messages::{Direction, Emm, EmmMessage, decode_emm};
+use nas_messages::{Direction, Emm, EmmMessage, codes, decode_emm, timers};
 use s1ap_elements::{Cause, NasCause};
 use std::alloc::{AllocError, Global};
-
-/// T3470 in ticks, and how often IDENTITY REQUEST is sent again (TS 24.301 clause 10.2).
-pub(crate) const IDENTITY_TICKS: u32 = 6;
-
-pub(crate) const IDENTITY_REPEATS: u32 = 4;
 
 /// A request that is refused (TS 24.301 clauses 5.5.1.2.5, 5.5.3.2.5 and 5.6.1.5).
 #[derive(Clone, Copy)]
@@ -70,10 +65,13 @@ fn welcome_by_message(message: &EmmMessage) -> Welcome
 fn welcome_by_type(code: u8) -> Welcome
     ensures { welcome_of result ≡ welcome_by_type code }
 {
-    match code {
-        0x41 => Welcome::Refuse(Rejected::Attach(EmmCause::InvalidMandatory)),
-        0x48 => Welcome::Refuse(Rejected::AreaUpdate(EmmCause::InvalidMandatory)),
-        _ => Welcome::TurnAway,
+    let cause = EmmCause::InvalidMandatory;
+    if code == codes::ATTACH_REQUEST {
+        Welcome::Refuse(Rejected::Attach(cause))
+    } else if code == codes::TRACKING_AREA_UPDATE_REQUEST {
+        Welcome::Refuse(Rejected::AreaUpdate(cause))
+    } else {
+        Welcome::TurnAway
     }
 }
 
@@ -162,8 +160,8 @@ pub fn begins<'a>(
             let sent = identity_asked(alloc, place(id, station, enb_ue_id))?;
             let waiting = Stranger::Waiting {
                 kept: KeptEntry::of_entry(alloc, entry)?,
-                left: IDENTITY_TICKS,
-                repeats: IDENTITY_REPEATS,
+                left: timers::T3470_TICKS,
+                repeats: timers::T3470_REPEATS,
             };
             Ok(Turn {
                 after: After::Is(waiting),

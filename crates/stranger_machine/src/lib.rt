@@ -2,8 +2,8 @@
 //! TS 36.413 clause 8.6.2.1).
 //!
 //! A [`Stranger`] waits for an identity, or is held by the subscriber that it turned out to be; any other is closed. What one
-//! stranger does at an event is a function of its state and the event ([`begins`], [`receives`], [`LentStranger::sends`]). Contracts see
-//! those that aren't closed as a list of [`Known`] by rising id.
+//! stranger does at an event is a function of its state and the event ([`begins`], [`receives`], [`LentStranger::sends`]).
+//! Contracts see those that aren't closed as a list of [`Known`] by rising id.
 #![tactic(auto)]
 
 mod entering;

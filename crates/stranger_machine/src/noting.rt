@@ -7,13 +7,13 @@ ghost use Rattle.stranger_machine.specs.Machine.{is_meant, notes};
 ghost use Rattle.stranger_machine.specs.Table.{passed, stays_open};
 ghost use Rattle.stranger_machine.specs.Ticks.{stranger_aged};
 
-use crate::entering::IDENTITY_TICKS;
 use crate::sending::{identity_asked, released};
 use crate::state::Stranger;
 use crate::table::LentStranger;
 use crate::turn::Notice;
 use identity_slots::{AssociationId, number_in, station_in};
 use mme_types::{Answers, StationNumber, is_listed};
+use nas_messages::timers;
 use s1ap_elements::{AssociationsToReset, Cause, EnbUeId, NasCause};
 use std::alloc::{AllocError, Global};
 
@@ -108,7 +108,7 @@ impl Stranger {
                 if *left > 1 {
                     *left -= 1;
                 } else if *repeats > 0 {
-                    *left = IDENTITY_TICKS;
+                    *left = timers::T3470_TICKS;
                     *repeats -= 1;
                 }
             }

@@ -119,7 +119,8 @@ fn identified<'a>(
     kept: &'a KeptEntry,
     imsi: Option<Imsi>,
 ) -> Result<Turn<'a>, AllocError>
-    ensures { (stations : List StationState) (s : Stranger) → IfOk result (λ t. turn_of stations (Some s) t ≡ identified imsi provision.now.profiles id kept.entry.now s) }
+    ensures { (stations : List StationState) (s : Stranger)
+        → IfOk result (λ t. turn_of stations (Some s) t ≡ identified imsi provision.now.profiles id kept.entry.now s) }
 {
     let Some(imsi) = imsi else {
         return Ok(staying(Answers::new(alloc)));
@@ -180,7 +181,9 @@ fn checked_for_pair<'a>(
     kept: &'a KeptEntry,
     message: &UeMessage<&[u8]>,
 ) -> Result<Turn<'a>, AllocError>
-    ensures { (stations : List StationState) (s : Stranger) → IfOk result (λ t. turn_of stations (Some s) t ≡ checked_for_pair provision.now.profiles (message_lists message.now) kept.entry.now s) }
+    ensures { (stations : List StationState) (s : Stranger)
+        → IfOk result (λ t. turn_of stations (Some s) t
+        ≡ checked_for_pair provision.now.profiles (message_lists message.now) kept.entry.now s) }
 {
     if kept.station == message.station && kept.enb_ue_id == message.enb_ue_id {
         return receives_own(alloc, provision, kept, message);
@@ -214,7 +217,12 @@ fn receives_waiting<'a>(
 // Who holds the association is called.
 fn handed_on<'a>(alloc: Global, slot: Slot, message: &UeMessage<&'a [u8]>) -> Turn<'a>
     ensures { (stations : List StationState) (s : Stranger) → turn_of stations (Some s) result
-        ≡ record { stranger = Some s; sent = []; call = Some (record { slot = slot; item = Message (message_lists message.now) }) } }
+        ≡ record {
+          stranger = Some s;
+          sent = [];
+          call =
+              Some (record { slot = slot; item = Message (message_lists message.now) });
+        } }
 {
     Turn {
         after: After::Stays,

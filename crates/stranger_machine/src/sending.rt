@@ -1,15 +1,13 @@
 //! What is sent to a stranger.
 
 ghost use Rattle.std.specs.Prelude.{◌≡◌, ◌++◌, IfOk, OnOk};
-ghost use Rattle.nas_messages.specs.Messages.{encoded_emm};
 ghost use Rattle.s1ap_pdus.specs.Pdus.{lists};
 ghost use Rattle.mme_signalling.specs.Pdus.{downlink};
-ghost use Rattle.stranger_machine.specs.Turns.{identity_asked, identity_request, refused, released, sent_to};
+ghost use Rattle.stranger_machine.specs.Turns.{identity_asked, refused, released, sent_to};
 
 use identity_slots::AssociationId;
-use mme_signalling::{downlink, release_command};
+use mme_signalling::{downlink, identity_request, release_command};
 use mme_types::{Answer, Answers, Connection, SentOctets, StationNumber};
-use nas_messages::{Emm, EmmMessage, encode_emm};
 use s1ap_elements::{Cause, EnbUeId, NasCause};
 use s1ap_pdus::S1apPdu;
 use std::alloc::{AllocError, Global};
@@ -111,23 +109,6 @@ pub(crate) fn refused(
     let cause = Cause::Nas(NasCause::NormalRelease);
     release(alloc, &mut sent, place(id, station, enb_ue_id), cause)?;
     Ok(sent)
-}
-
-// A message that is lent to be encoded.
-#[derive(Drop)]
-struct Lent<'a> {
-    message: EmmMessage<'a>,
-}
-
-// IDENTITY REQUEST for the IMSI (TS 24.301 clause 8.2.18).
-#[tactic(auto, unfolding(crate::specs::Turns::identity_request))]
-fn identity_request(alloc: Global) -> Result<Vec<u8>, AllocError>
-    ensures { IfOk result (λ o. o.items ≡ identity_request) }
-{
-    let lent = Lent {
-        message: Emm::IdentityRequest,
-    };
-    encode_emm(alloc, &lent.message)
 }
 
 /// IDENTITY REQUEST.

@@ -5,7 +5,7 @@ use super::{compared, is_answer, must};
 use eps_keys::nas_integrity_key;
 use esm_machine::{Bearer, BearerState, Requested};
 use nas_messages::SecurityHeader;
-use nas_security::{Eia2, EpsSecurityContext, SecurityFault};
+use nas_security::{Eia2, SecurityContext, SecurityFault};
 use std::alloc::Global;
 
 /// A connectivity request for IPv6 alone.
@@ -67,7 +67,7 @@ const PROTECTED: &[u8] = &[
     0x37, 0x6a, 0xac, 0x56, 0x90, 0x00, 0x07, 0x5d, 0x02, 0x00, 0x02, 0xe0, 0x60,
 ];
 
-fn protects(context: &mut EpsSecurityContext<Eia2>, alloc: Global) -> bool {
+fn protects(context: &mut SecurityContext<Eia2>, alloc: Global) -> bool {
     let header = SecurityHeader::NewContext;
     match compared(context.protect(alloc, header, &COMMAND), PROTECTED) {
         Ok(is_wanted) => is_wanted,
@@ -81,7 +81,7 @@ fn protects(context: &mut EpsSecurityContext<Eia2>, alloc: Global) -> bool {
 
 #[test]
 fn refused_protection(rt: HostRuntime) {
-    let mut context = EpsSecurityContext::new(Eia2::new(&nas_integrity_key(&KASME)), 0, 0, None);
+    let mut context = SecurityContext::new(Eia2::new(&nas_integrity_key(&KASME)), 0, 0, None);
     must(
         &rt,
         protects(&mut context, rt.alloc()) && context.down_next() == 1,

@@ -7,5 +7,8 @@ use Rattle.emm_uplink.proofs.serving.initial_detach.Goals as goal
 pub returns-in_ok-connect-in-Ok : goal.returns-in_ok-connect-in-Ok
 unfolding initial_detach detached_by took
 returns-in_ok-connect-in-Ok c =
-    let same = connect_beside c.args.setting.now.slot c.args.entry.now.station c.args.entry.now.enb_ue_id (Some (record { place = c.in-Some.context.place; count = c.in-Ok.count })) (Some (counted_up c.in-Some.context c.in-Ok.count)) c.args.draft.now in
+    let same =
+    connect_beside c.args.setting.now.slot c.args.entry.now.station c.args.entry.now.enb_ue_id
+    (Some (record { place = c.in-Some.context.place; count = c.in-Ok.count }))
+    (Some (counted_up c.in-Some.context c.in-Ok.count)) c.args.draft.now in
     search rules

@@ -9,5 +9,7 @@ pub returns-in-Ok : goal.returns-in-Ok
 unfolding service served_by served active ended keyed took
 returns-in-Ok c =
     let done = c.serve.ensures _ refl in
-    let same = connect_beside c.args.setting.now.slot c.args.entry.now.station c.args.entry.now.enb_ue_id c.args.draft.now.accepted (Some (counted_up c.in-Some.context c.in-Ok.count)) c.args.draft.now in
+    let same =
+    connect_beside c.args.setting.now.slot c.args.entry.now.station c.args.entry.now.enb_ue_id c.args.draft.now.accepted
+    (Some (counted_up c.in-Some.context c.in-Ok.count)) c.args.draft.now in
     search rules

@@ -9,7 +9,8 @@ returns-clause-form c =
     let octets = c.args.octets.now in
     let header = c.in_ok-header.header in
     let long : 6 ≤ length octets = omega arith in
-    let low : slice_index octets 0 % 16 ≡ 7 = c.if-octets-ne7.false in
+    let low : slice_index octets 0 % 16 ≡ 7 = c.if-octets-ne-EMM_DISCRIMINATOR.false in
     let named : header_of (slice_index octets 0 / 16) ≡ Some header = sym c.header_of.ensures ∙ c.in_ok-header.was in
-    let rest : take (length octets - 6) (drop 6 octets) ≡ drop 6 octets = take_all (length octets - 6) (drop 6 octets) (omega (arith, length-drop 6 octets)) in
+    let rest : take (length octets - 6) (drop 6 octets) ≡ drop 6 octets =
+    take_all (length octets - 6) (drop 6 octets) (omega (arith, length-drop 6 octets)) in
     (rw rest (parts_form octets header long low named), refl)

@@ -9,12 +9,14 @@ slice_bounds-result-count c =
 
 pub slice_bounds-result-start : goal.slice_bounds-result-start
 slice_bounds-result-start c =
-    let enough : 6 ≤ length c.args.octets.now = long c.args.octets.now (unlent c.in_ok-protected.protected) c.in_ok-protected.ensures.form in
+    let enough : 6 ≤ length c.args.octets.now =
+    long c.args.octets.now (unlent c.in_ok-protected.protected) c.in_ok-protected.ensures.form in
     omega arith
 
 pub returns : goal.returns
 returns c =
-    let e : split c.args.octets.now ≡ Some (unlent c.in_ok-protected.protected) = sym c.split_protected.ensures.value ∙ ap seen_split c.in_ok-protected.was in
+    let e : split c.args.octets.now ≡ Some (unlent c.in_ok-protected.protected) =
+    sym c.split_protected.ensures.value ∙ ap seen_split c.in_ok-protected.was in
     let rest = rest_of c.args.octets.now 5 in
     let content = authenticated c.args.octets.now (unlent c.in_ok-protected.protected) c.in_ok-protected.ensures.form in
     rw (e, rest, content) refl

@@ -67,7 +67,9 @@ profiles : (c : goal.After-insert-2) → c.push_reserved.new.self.items ≡ c.se
 profiles c = c.push_reserved.ensures.items ∙ ap (λ xs. xs ++ c.args.profile ∷ []) c.reserve_one.ensures.profiles
 
 vectors : (c : goal.After-insert-2) → c.push_reserved-2.new.self.items ≡ c.self.inside.vectors.items ++ [] ∷ []
-vectors c = c.push_reserved-2.ensures.items ∙ ap (λ xs. xs ++ c.none.result ∷ []) c.reserve_one.ensures.vectors ∙ ap (λ v. c.self.inside.vectors.items ++ v ∷ []) c.none.ensures
+vectors c =
+    c.push_reserved-2.ensures.items ∙ ap (λ xs. xs ++ c.none.result ∷ []) c.reserve_one.ensures.vectors
+    ∙ ap (λ v. c.self.inside.vectors.items ++ v ∷ []) c.none.ensures
 
 ready : (c : goal.After-insert-2) → IsOk c.reserve_one.result
 ready c = not_err c.reserve_one.result (sym c.is_err.ensures.value ∙ c.if-is_err.false)

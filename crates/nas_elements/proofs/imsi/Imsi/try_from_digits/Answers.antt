@@ -7,4 +7,5 @@ use Rattle.nas_elements.proofs.imsi.Imsi.try_from_digits.Goals as goal
 pub invariant_of-result : goal.invariant_of-result
 invariant_of-result c =
     let same : c.unwrap.result ≡ filled (map (λ (b : ℕ). b - 48) c.as_bytes-octets.result.now) = grind (arith, common_steps) in
-    subst (λ (x : List ℕ). is_imsi x ≡ true) (sym same) (filled_is_imsi c.as_bytes-octets.result.now (sym c.if-not-is_digit_text.ensures))
+    subst (λ (x : List ℕ). is_imsi x ≡ true) (sym same)
+    (filled_is_imsi c.as_bytes-octets.result.now (sym c.if-not-is_digit_text.ensures))

@@ -7,5 +7,6 @@ use Rattle.stranger_machine.proofs.table.LentStranger.sends.Goals as goal
 
 pub returns-in-Listed-default : goal.returns-in-Listed-default
 returns-in-Listed-default c =
-    let none : (notes c.args.id (Some (lent_now c.args.self.now)) c.args.notice.now).sent ≡ [] = listed_sent c.args.notice.now c.args.id _ (Some (lent_now c.args.self.now)) _ c.in-Listed-default.is-0 in
+    let none : (notes c.args.id (Some (lent_now c.args.self.now)) c.args.notice.now).sent ≡ [] =
+    listed_sent c.args.notice.now c.args.id _ (Some (lent_now c.args.self.now)) _ c.in-Listed-default.is-0 in
     cc
