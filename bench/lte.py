@@ -244,7 +244,7 @@ def address_and_tunnel(item, address, teid):
 
 
 def put_list(out, number, criticality, items):
-    """The octets with a list behind them, each item an element with this id and criticality."""
+    """The octets with a list after them, each item an element with this id and criticality."""
     out.whole(len(items), 1, 256)
     for item in items:
         out.put(number, 16).put(criticality, 2).open(item.done())

@@ -4,7 +4,7 @@
     measure.py [PROGRAM] [--only WORD ..] [--rounds N] [--ticks N]
     measure.py [PROGRAM] --table
 
-PROGRAM is the built one of this repository where none is given. `--table` prints, behind the figures one by one, the table of
+PROGRAM is the built one of this repository where none is given. `--table` prints, after the figures one by one, the table of
 bench/README.md. The words: attaches, growth, events, ticks, setups, instructions, stations, waiting, due, scripts, days. Times are those of the
 processor, of one thread; the best of the rounds counts, and a run's start and provisioning, measured in the same rounds, are taken
 off. `instructions`, `stations`, `waiting` and `due` count them by valgrind, which no other work on the machine can change. Most are taken
@@ -233,7 +233,7 @@ def waiting(bench):
 
 
 def challenged(count, alone):
-    """The text of a trace in which so many phones are challenged and don't answer, up to a second in which none is due, behind which
+    """The text of a trace in which so many phones are challenged and don't answer, up to a second in which none is due, after which
     the first challenge is sent again: that of the phone in the middle, a second before the others', or of all at once."""
     trace, station, made = attaches.provisioned(count)
     early = made[count // 2:count // 2 + 1] if alone else []

@@ -396,7 +396,7 @@ def reset_of_a_part_before_setup():
 @row
 def reset_while_paged():
     """A phone is paged at two stations. RESET of a part, of its last association, strikes neither: both are asked once more.
-    Behind the paging it is paged anew, and RESET of the whole interface strikes its station."""
+    After the paging it is paged anew, and RESET of the whole interface strikes its station."""
     trace, [own, other], [phone] = begun(lambda trace: [Phone(trace, 0)], [Station(0), Station(1, 2, 1, 0x201)])
     phone.attaches(own, 1)
     last = phone.m
@@ -427,8 +427,8 @@ NO_RESET_TYPES = (
     "4000005b0005" + "2c01000000",  # an eNB UE S1AP ID of four octets
     "4000005b0003" + "440001",  # an MME UE S1AP ID in two octets where one is enough
     "4000005b0002" + "2101",  # a padding of 1
-    "4000005b0003" + "200100",  # an octet behind an item
-    "4000005b00022001" + "00",  # an octet behind the list
+    "4000005b0003" + "200100",  # an octet after an item
+    "4000005b00022001" + "00",  # an octet after the list
     "4000005b0001" + "20",  # an item whose number is missing
     "4000005a00022001",  # an item of another element
     "4000005bc0022001",  # no criticality

@@ -1,5 +1,5 @@
 #!/usr/bin/env python3
-"""Prints what `mme sim` owes for a script: its events as a trace, and behind each the MME's answers as comments.
+"""Prints what `mme sim` owes for a script: its events as a trace, and after each the MME's answers as comments.
 
     scripts.py SCRIPT      `-` for standard input
 

@@ -1,12 +1,13 @@
 """A run of the MME for the tools of this folder: the events of a trace, and what the MME answered to each.
 
-`mme play` prints answers without saying to which event each is. `played` runs it with a mark behind each event, and so knows;
-`told` takes the answers that stand in the trace as comments, each behind its event, as `mme sim` prints them; `matched` takes
+`mme play` prints answers without saying to which event each is. `played` runs it with a mark after each event, and so knows;
+`told` takes the answers that stand in the trace as comments, each after its event, as `mme sim` prints them; `matched` takes
 answers that were printed before, and finds for each the event that can have caused it, by the standards' procedures. Nothing here
 is part of a proof.
 """
 import bisect
 import collections
+import functools
 import pathlib
 import re
 import subprocess
@@ -22,7 +23,7 @@ LONGEST_TICK = 1000000
 # which can follow on a procedure of under a minute; so nothing is sent after so many ticks without another event.
 TICKS_WITH_ANSWERS = 3480 + 60
 FIRST_STRANGER = 1 << 31  # MME UE S1AP IDs from here on are strangers'
-SLOT_BITS = 16  # an id and an M-TMSI are a slot and so many bits of a counter behind it
+SLOT_BITS = 16  # an id and an M-TMSI are a slot and so many bits of a counter after it
 
 PROVISIONING = {"mme": 7, "sub": 4, "vec": 5}  # the words of a line, with how many fields follow
 EVENTS = {"up": 1, "lost": 1, "in": 2, "tick": 1, "data": 1, "cancel": 1, "show": 1}
@@ -233,7 +234,7 @@ def started(trace):
 
 
 def end_of(steps):
-    """The second behind the last step."""
+    """The second after the last step."""
     return steps[-1].second + (steps[-1].event.ticks or 0) if steps else 0
 
 
@@ -253,16 +254,17 @@ SETS_UP_CONTEXT = {s1ap.SERVICE_REQUEST, s1ap.SECURITY_MODE_COMPLETE, s1ap.INFOR
 # The NAS messages on a connection that may end it with nothing else sent before; a completed update does where it came from idle.
 ENDS_CONNECTION = {s1ap.SECURITY_MODE_REJECT, s1ap.DETACH_REQUEST, s1ap.DETACH_ACCEPT}
 TAU_ACCEPT = 0x49
-# ATTACH REJECT, DETACH ACCEPT, TRACKING AREA UPDATE REJECT, SERVICE REJECT and AUTHENTICATION REJECT: behind them it ends.
+# ATTACH REJECT, DETACH ACCEPT, TRACKING AREA UPDATE REJECT, SERVICE REJECT and AUTHENTICATION REJECT: after them it ends.
 LAST_OF_CONNECTION = {0x44, 0x46, 0x4B, 0x4E, 0x54}
 TIMED_OUT = "nas unspecified"
-# The seconds of the timers that run behind a NAS message: T3450, T3422, T3460, T3470 and T3489 (TS 24.301 tables 10.2.2, 10.3.2).
+# The seconds of the timers that run after a NAS message: T3450, T3422, T3460, T3470 and T3489 (TS 24.301 tables 10.2.2, 10.3.2).
 TIMERS = {0x42: 6, 0x49: 6, 0x45: 6, 0x52: 6, 0x5D: 6, 0x55: 6, 0xD9: 4}
 PAGING_TIMER = 10  # T3413, which the network chooses (TS 24.301 table 10.2.2)
 
 Content = collections.namedtuple("Content", "message name outcome mme_id enb_id cause nas")
 
 
+@functools.lru_cache(1 << 10)
 def content(octets):
     """What is read of a message."""
     message = s1ap.read(octets)
@@ -272,7 +274,7 @@ def content(octets):
 
 def may_follow(first, second):
     """Whether two messages for one phone may answer one message: the release of an old connection is first, that of its own is
-    behind what refuses or detaches the phone."""
+    after what refuses or detaches the phone."""
     if first.message.code == s1ap.RELEASE:
         return second.message.code != s1ap.RELEASE
     return first.nas is not None and first.nas.type in LAST_OF_CONNECTION and second.message.code == s1ap.RELEASE
@@ -465,7 +467,7 @@ def told(trace, answers):
 
 
 def marked(trace, mark):
-    """The trace with a mark behind each event and each second; and for each mark the step's place and its seconds."""
+    """The trace with a mark after each event and each second; and for each mark the step's place and its seconds."""
     lines, marks = list(trace.head), []
     for place, event in enumerate(trace.events):
         singles = min(event.ticks or 0, TICKS_WITH_ANSWERS)
@@ -501,7 +503,7 @@ def output_of(program, text):
 
 
 def played(trace, program=SYSTEM):
-    """The steps of a trace as the program answers them: behind each event stands data for nobody, which is always refused."""
+    """The steps of a trace as the program answers them: after each event stands data for nobody, which is always refused."""
     text, marks = marked(trace, b"data " + unknown_imsi(trace.imsis).encode())
     answers = iter(read_answers(output_of(program, text), "the program's answers"))
     steps, known = started(trace), certain_answers(trace)

@@ -3,6 +3,7 @@
 It reads as much as a picture needs, from octets of any origin, and checks little. Nothing here is part of a proof.
 """
 import collections
+import functools
 
 # --- S1AP: procedures and elements (TS 36.413 clauses 9.1, 9.3.2 and 9.3.6; aligned packed encoding, X.691) ---
 
@@ -177,8 +178,93 @@ class Reader:
         return int.from_bytes(self.whole(self.bits(width) + 1), "big")
 
 
+SHORT, FRAGMENTED = 0x80, 0xC0  # lengths below the first stand in one octet, from the second on in fragments (X.691 clause 11.9.3)
+ODD_BITS, NO_CRITICALITY = 0x3F, 0xC0  # of an octet with a criticality: the bits after it, and a value that there isn't
+
+
+def sized(octets, at):
+    """The octets after a length in the fewest octets, and where they end; None where it isn't so written."""
+    length = octets[at]
+    at += 1
+    if length >= SHORT:
+        first, length = length, (length & 0x3F) << 8 | octets[at]
+        at += 1
+        if length < SHORT or first >= FRAGMENTED:
+            return None, at
+    return octets[at:at + length], at + length
+
+
+def usual(octets):
+    """The elements of a message that is spelled as usual: nothing extended, each element once; else None."""
+    try:
+        value, end = sized(octets, 3)
+        if end != len(octets) or octets[0] & 0x9F or octets[0] >> 5 > UNSUCCESSFUL:
+            return None
+        if octets[2] & ODD_BITS or octets[2] == NO_CRITICALITY:
+            return None
+        elements, at = {}, 3
+        for _ in range(value[1] << 8 | value[2]):
+            number, criticality = value[at] << 8 | value[at + 1], value[at + 2]
+            content, at = sized(value, at + 3)
+            if content is None or number in elements or criticality & ODD_BITS or criticality == NO_CRITICALITY:
+                return None
+            elements[number] = content
+        return None if value[0] or at != len(value) else elements
+    except (IndexError, TypeError):
+        return None
+
+
+def usual_number(octets):
+    """An id in an element of its own that is spelled in the fewest octets; else None."""
+    size = len(octets) - 1
+    number = int.from_bytes(octets[1:], "big")
+    return number if size > 0 and octets[0] == size - 1 << 6 and (size == 1 or number >> 8 * (size - 1)) else None
+
+
+def usual_pair(octets):
+    """Both ids in one element, spelled as usual (TS 36.413 clause 9.2.3.18); else None."""
+    size = (octets[0] >> 2) + 1  # the alternative of the pair, which isn't extended
+    number, enb_id = int.from_bytes(octets[1:size + 1], "big"), usual_number(octets[size + 1:])
+    if octets[0] & 0xF3 or enb_id is None or size > 1 and not number >> 8 * (size - 1):
+        return None
+    return number, enb_id
+
+
+ONE_BEARER, WITH_NAS, BITS_32 = b"\0\0\x34\0", 4, b"\x0f\x80"  # a list of one item; its optional parts; an address's size
+
+
+def usual_bearer(octets):
+    """The NAS message of the one bearer to set up and where it ends; None for other items than that of a default bearer with an
+    IPv4 address (TS 36.413 clause 9.1.4.1)."""
+    item, end = sized(octets, 4)
+    if octets[:4] != ONE_BEARER or item[0] >> 4 != WITH_NAS or item[1] or item[3] >> 6 or item[4:6] != BITS_32:
+        return None, None
+    inner, inner_end = sized(item, 14)
+    return inner, end if inner_end == len(item) else None
+
+
+def usual_nas(elements):
+    """The NAS message in the elements of a message that is spelled as usual; None where there is none, or it isn't."""
+    try:
+        for number, read_one in ((NAS_PDU, lambda content: sized(content, 0)), (SETUP_LIST, usual_bearer)):
+            if number in elements:
+                nas_octets, end = read_one(elements[number])
+                return nas_octets if end == len(elements[number]) else None
+    except (IndexError, TypeError):
+        pass
+    return None
+
+
 def read(octets):
     """A message; what can't be read of it is told by its fault."""
+    elements = usual(octets)
+    if elements is not None:
+        return Message(octets[1], octets[0] >> 5, elements, None)
+    return read_from_left(octets)
+
+
+def read_from_left(octets):
+    """A message that isn't spelled as usual."""
     reader, code, outcome, elements = Reader(octets), None, None, {}
     try:
         outcome = reader.bits(3)
@@ -193,7 +279,7 @@ def read(octets):
             value.bits(2)
             elements.setdefault(named, value.open())
         if value.at < 8 * len(value.octets) or reader.at < 8 * len(octets):
-            raise Unreadable("octets behind its end")
+            raise Unreadable("octets after its end")
     except Unreadable as fault:
         return Message(code, outcome, elements, str(fault))
     return Message(code, outcome, elements, None)
@@ -211,9 +297,15 @@ def name(message):
 
 def number_of(message, named):
     """An id in its element of its own, or nothing."""
+    element = message.elements.get(named)
+    if element is None:
+        return None
+    number = usual_number(element)
+    if number is not None:
+        return number
     try:
-        return Reader(message.elements[named]).sized_number(2)
-    except (KeyError, Unreadable):
+        return Reader(element).sized_number(2)
+    except Unreadable:
         return None
 
 
@@ -222,8 +314,14 @@ def ids(message):
     if BOTH_IDS not in message.elements:
         named = SOURCE_MME_ID if message.code == PATH_SWITCH and message.outcome == INITIATING else MME_ID
         return number_of(message, named), number_of(message, ENB_ID)
+    pair = usual_pair(message.elements[BOTH_IDS]) if message.elements[BOTH_IDS] else None
+    return pair or unusual_pair(message.elements[BOTH_IDS])
+
+
+def unusual_pair(element):
+    """The ids of an element that isn't spelled as usual, or has one id alone."""
     try:
-        reader = Reader(message.elements[BOTH_IDS])
+        reader = Reader(element)
         extended, single = reader.bits(1), reader.bits(1)
         if extended or single:
             return (None if extended else reader.sized_number(2)), None
@@ -274,8 +372,15 @@ def tmsi(message):
 
 def cause(message):
     """The cause in words, or nothing."""
+    element = message.elements.get(CAUSE)
+    return None if element is None else cause_text(element)
+
+
+@functools.lru_cache(1 << 10)
+def cause_text(element):
+    """The cause in its element, in words, or nothing."""
     try:
-        reader = Reader(message.elements[CAUSE])
+        reader = Reader(element)
         extended, group = reader.bits(1), reader.bits(3)
         if extended or group >= len(CAUSES):
             return None
@@ -283,13 +388,16 @@ def cause(message):
         if reader.bits(1):
             return word + " of a later release"
         number = reader.bits(width)
-    except (KeyError, Unreadable):
+    except Unreadable:
         return None
     return "%s %s" % (word, names[number] if number < len(names) else number)
 
 
 def carried(message):
     """The octets of the NAS message in a message, or nothing."""
+    found = usual_nas(message.elements)
+    if found is not None:
+        return found
     try:
         if NAS_PDU in message.elements:
             return Reader(message.elements[NAS_PDU]).open()

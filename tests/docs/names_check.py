@@ -1,7 +1,7 @@
 """Looks up what documents name and quote: those of DOCUMENTS.
 
-- A quotation, a fence whose first line has a file behind its language, stands in that file, line by line and in order; a line `..`
-  is what was left out, and layout isn't compared. Behind a tool's command line stands what it prints.
+- A quotation, a fence whose first line has a file after its language, stands in that file, line by line and in order; a line `..`
+  is what was left out, and layout isn't compared. After a tool's command line stands what it prints.
 - A path is there; NAME in it stands for anything.
 - A word of code, also with another in brackets, is in the crates' code, definitions and edits, or names a crate or a file.
 - A path of items, as `crate::function`, `module::item`, `Type::method` or `Type::Variant` and longer ones, leads from each part to
@@ -93,7 +93,7 @@ class Tree:
 
 
 def quoted_fault(tree, head, lines):
-    """What is wrong with a quotation: its file, or the first line that isn't there behind those before it."""
+    """What is wrong with a quotation: its file, or the first line that isn't there after those before it."""
     words = head.split()
     if len(words) < 2:
         return None
@@ -110,7 +110,7 @@ def quoted_fault(tree, head, lines):
         while at < len(there) and there[at] != line:
             at += 1
         if at == len(there):
-            return "%s doesn't have, or not behind the lines before it: %s" % (words[1], line)
+            return "%s doesn't have, or not after the lines before it: %s" % (words[1], line)
         at += 1
     return None
 

@@ -144,7 +144,7 @@ class Trial:
         return self.row.event.startswith("first ") or self.row.event == "claim"
 
     def connection(self):
-        """The association behind the event, if there is one."""
+        """The association after the event, if there is one."""
         if self.row.next in UNCONNECTED:
             return None
         refused = not self.row.sent or any(text.startswith("aside: ") for text in self.row.sent)

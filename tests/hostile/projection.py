@@ -25,7 +25,7 @@ class Unreadable(Exception):
 
 
 def sized(octets, at):
-    """What stands behind its length (X.691 clause 11.9.3), and where it ends."""
+    """What stands after its length (X.691 clause 11.9.3), and where it ends."""
     if at >= len(octets):
         raise Unreadable
     size = octets[at]
@@ -51,7 +51,7 @@ def read(octets):
 
 
 def number(content):
-    """An id, behind the number of its octets."""
+    """An id, after the number of its octets."""
     if not content:
         return None
     return int.from_bytes(content[1:(content[0] >> 6) + 2], "big")
@@ -65,7 +65,7 @@ def listed(content):
         by_id, by_number = item[0] & 0x40, item[0] & 0x20
         size, rest = (item[0] >> 2 & 3) + 1, item[1:]
         m = int.from_bytes(rest[:size], "big") if by_id else None
-        if by_id and by_number:  # behind the first number the size of the second has an octet of its own
+        if by_id and by_number:  # after the first number the size of the second has an octet of its own
             size, rest = (rest[size] >> 6) + 1, rest[size + 1:]
         found.append((m, int.from_bytes(rest[:size], "big") if by_number else None))
     return found

@@ -44,7 +44,7 @@ def octets_in(line):
 
 
 def is_whole(octets):
-    """Octets that are one frame and nothing behind it."""
+    """Octets that are one frame and nothing after it."""
     try:
         return sized(octets, 3)[1] == len(octets)
     except Unreadable:

@@ -58,7 +58,7 @@ def one_subscriber_too_many():
 
 
 def connected_and_refused(count):
-    """A phone that attached on its slot's first id, and behind that so many SERVICE REQUESTs with a wrong MAC at another number,
+    """A phone that attached on its slot's first id, and after that so many SERVICE REQUESTs with a wrong MAC at another number,
     each refused on the slot's next id; and that id."""
     trace, station, [phone] = provisioned(1, 0)
     phone.attaches(station, 1)

@@ -64,7 +64,7 @@ def row(name, lines=(), **more):
 
 
 def faulty(name, line, fault, before=SET_UP):
-    """A row whose line behind these is at fault."""
+    """A row whose line after these is at fault."""
     row(name, [*before, line, "show " + ONE], fault=(len(before) + 1, fault))
 
 

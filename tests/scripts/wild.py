@@ -45,7 +45,7 @@ def act(chance, player):
 
 
 def script(seed, count):
-    """So many lines behind the first ones, and what is owed for them; lines whose answer isn't known are left out."""
+    """So many lines after the first ones, and what is owed for them; lines whose answer isn't known are left out."""
     chance, lines = random.Random(seed), provided(seed)
     player = rows.scripts.Player()
     for line in lines:

@@ -24,8 +24,10 @@ second    P1                           E0                                MME
      0    |                            |----------- connects ----------->|
           |                            |------- S1 SETUP REQUEST ------->|
           |                            |<------ S1 SETUP RESPONSE -------|
-          |------ ATTACH REQUEST ----->|------ INITIAL UE MESSAGE ------>|
-       !  |<-- ATTACH REJECT cause 8 --|<---- DOWNLINK NAS TRANSPORT ----|
+       !  |------ ATTACH REQUEST ----->|------ INITIAL UE MESSAGE ------>|  nobody is provisioned with IMSI
+          |                            |                                 |     001010000000009
+       !  |<-- ATTACH REJECT cause 8 --|<---- DOWNLINK NAS TRANSPORT ----|  #8 EPS services and non-EPS services not
+          |                            |                                 |     allowed
           |                            |<-- UE CONTEXT RELEASE COMMAND --|  P1 nas normal-release
 """
 
@@ -34,23 +36,26 @@ UNANSWERED = """\
 P1  IMSI 001010000000001
 E0  station 0
 
-second    P1                            E0                                MME
-     0    |                             |----------- connects ----------->|
-          |                             |------- S1 SETUP REQUEST ------->|
-          |                             |<------ S1 SETUP RESPONSE -------|
-          |------ ATTACH REQUEST ------>|------ INITIAL UE MESSAGE ------>|
-          |<-- AUTHENTICATION REQUEST --|<---- DOWNLINK NAS TRANSPORT ----|
-  +6 s    :                             :                                 :
-     6    |<-- AUTHENTICATION REQUEST --|<---- DOWNLINK NAS TRANSPORT ----|
-  +6 s    :                             :                                 :
-    12    |<-- AUTHENTICATION REQUEST --|<---- DOWNLINK NAS TRANSPORT ----|
-  +6 s    :                             :                                 :
-    18    |<-- AUTHENTICATION REQUEST --|<---- DOWNLINK NAS TRANSPORT ----|
-  +6 s    :                             :                                 :
-    24    |<-- AUTHENTICATION REQUEST --|<---- DOWNLINK NAS TRANSPORT ----|
-  +6 s    :                             :                                 :
-    30    |                             |<-- UE CONTEXT RELEASE COMMAND --|  P1 nas unspecified
-          |                             |                                 |  P1 DEREGISTERED IDLE INACTIVE
+second    P1                                     E0                                MME
+     0    |                                      |----------- connects ----------->|
+          |                                      |------- S1 SETUP REQUEST ------->|
+          |                                      |<------ S1 SETUP RESPONSE -------|
+          |----------- ATTACH REQUEST ---------->|------ INITIAL UE MESSAGE ------>|
+          |<------ AUTHENTICATION REQUEST -------|<---- DOWNLINK NAS TRANSPORT ----|
+  +6 s    :                                      :                                 :
+     6    |<-- AUTHENTICATION REQUEST (1 of 4) --|<---- DOWNLINK NAS TRANSPORT ----|
+  +6 s    :                                      :                                 :
+    12    |<-- AUTHENTICATION REQUEST (2 of 4) --|<---- DOWNLINK NAS TRANSPORT ----|
+  +6 s    :                                      :                                 :
+    18    |<-- AUTHENTICATION REQUEST (3 of 4) --|<---- DOWNLINK NAS TRANSPORT ----|
+  +6 s    :                                      :                                 :
+    24    |<-- AUTHENTICATION REQUEST (4 of 4) --|<---- DOWNLINK NAS TRANSPORT ----|
+  +6 s    :                                      :                                 :
+    30    |                                      |                                 |  P1 is given up: T3460 ended the
+          |                                      |                                 |     fifth time without an answer,
+          |                                      |                                 |     so the network gave up
+          |                                      |<-- UE CONTEXT RELEASE COMMAND --|  P1 nas unspecified
+    30    |                                      |                                 |  P1 DEREGISTERED IDLE INACTIVE
 """
 
 
@@ -60,15 +65,19 @@ PAGED = """\
           |                              |   |   |                                     |  data waits for P1
           |                              |<------------------ PAGING ------------------|  P1
           |                              |   |   |<-------------- PAGING --------------|  P1
-          |                              |   |   |                                     |  data waits for P1
+          |                              |   |   |                                     |  data waits for P1 (the phone
+          |                              |   |   |                                     |     is being paged already)
  +10 s    :                              :   :   :                                     :
-    10    |                              |<------------------ PAGING ------------------|  P1
-          |                              |   |   |<-------------- PAGING --------------|  P1
+    10    |                              |<------------- PAGING (1 of 1) --------------|  P1
+          |                              |   |   |<--------- PAGING (1 of 1) ----------|  P1
           |---------- SERVICE REQUEST ---------->|-------- INITIAL UE MESSAGE -------->|
           |                              |   |   |<-- INITIAL CONTEXT SETUP REQUEST ---|  P1
           |                              |   |   |-- INITIAL CONTEXT SETUP RESPONSE -->|  P1
-          |                              |   |   |                                     |  P1 REGISTERED CONNECTED ACTIVE
-          |                              |   |   |                                     |  data waits for P1
+    10    |                              |   |   |                                     |  P1 REGISTERED CONNECTED ACTIVE
+          |                              |   |   |                                     |  data waits for P1 (only a
+          |                              |   |   |                                     |     registered, idle phone is
+          |                              |   |   |                                     |     paged, and this one is in
+          |                              |   |   |                                     |     Registered connected)
  +20 s    :                              :   :   :                                     :
 """
 

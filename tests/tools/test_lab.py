@@ -57,7 +57,7 @@ class Lab(unittest.TestCase):
 
     @unittest.skipUnless(PROGRAM.exists(), "the program isn't built (./mme --prove)")
     def test_live_station(self):
-        """The commands of the live station behind those that it needs, on another port than S1AP's."""
+        """The commands of the live station after those that it needs, on another port than S1AP's."""
         text, port = DOCUMENT.read_text(encoding="utf-8"), str(free_port())
         needed = blocks(text.partition("## 4.")[0])
         commands = "\n".join(needed + blocks(LIVE.search(text)[0]))

@@ -49,7 +49,7 @@ class Told(PHONES.Trace):
         return [(line, answers) for line, answers in self.answered() if line.split(" ")[0] in RUNS.EVENTS]
 
     def commented(self):
-        """The trace with the answers as comments, each behind its event."""
+        """The trace with the answers as comments, each after its event."""
         lines = (text for line, answers in self.answered() for text in [line] + ["# " + answer for answer in answers])
         return "\n".join(lines).encode()
 

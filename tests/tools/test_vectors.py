@@ -67,8 +67,18 @@ class Parts(unittest.TestCase):
 
     def test_round_keys(self):
         """FIPS 197 appendix A.1: the last round's key."""
-        keys = VECTORS.round_keys(bytes.fromhex("2b7e151628aed2a6abf7158809cf4f3c"))
-        self.assertEqual(keys[10].hex(), "d014f9a8c9ee2589e13f0cc8b6630ca6")
+        keys = VECTORS.ciphers.round_keys(bytes.fromhex("2b7e151628aed2a6abf7158809cf4f3c"))
+        self.assertEqual(["%08x" % word for word in keys[10]], ["d014f9a8", "c9ee2589", "e13f0cc8", "b6630ca6"])
+
+    def test_cmac(self):
+        """RFC 4493 clause 4, examples 1 to 4."""
+        cmac = VECTORS.ciphers.Cmac(bytes.fromhex("2b7e151628aed2a6abf7158809cf4f3c"))
+        text = bytes.fromhex("6bc1bee22e409f96e93d7e117393172aae2d8a571e03ac9c9eb76fac45af8e51"
+                             "30c81c46a35ce411e5fbc1191a0a52eff69f2445df4f9b17ad2b417be66c3710")
+        for size, mac in ((0, "bb1d6929e95937287fa37d129b756746"), (16, "070a16b46b4d4144f79bdd9dd04a287c"),
+                          (40, "dfa66747de9ae63030ca32611497c827"), (64, "51f0bebf7e3b9d92fc49741779363cfe")):
+            with self.subTest(size=size):
+                self.assertEqual(cmac.of(text[:size]).hex(), mac)
 
     def test_hmac(self):
         """HMAC by RFC 4231 clause 4.3, and the derivation on it by the second one."""
@@ -87,7 +97,7 @@ class Parts(unittest.TestCase):
                 self.assertEqual(got._asdict(), {name: given[name] for name in VECTORS.Functions._fields})
 
     def test_plmn(self):
-        """TS 24.301 clause 9.9.3.12: two digits of a network code go with the filler, three stand 2, 1 behind 3."""
+        """TS 24.301 clause 9.9.3.12: two digits of a network code go with the filler, three stand 2, 1 after 3."""
         self.assertEqual(VECTORS.plmn_octets("001", "01").hex(), "00f110")
         self.assertEqual(VECTORS.plmn_octets("208", "93").hex(), "02f839")
         self.assertEqual(VECTORS.plmn_octets("310", "410").hex(), "130014")
@@ -133,7 +143,7 @@ class Lines(unittest.TestCase):
         self.assertEqual(len({line.split()[2] for line in seeded if line.startswith("vec")}), 3)
 
     def test_auts(self):
-        """A phone at SQN ff9bb4d0b607 answers with it concealed by f5*, and with f1* over AMF 0000; the next vector is behind."""
+        """A phone at SQN ff9bb4d0b607 answers with it concealed by f5*, and with f1* over AMF 0000; the next vector comes after it."""
         given = FIRST
         functions = VECTORS.milenage(given["k"], given["opc"], given["rand"], given["sqn"], bytes(2))
         auts = bytes(x ^ y for x, y in zip(given["sqn"], functions.f5_star)) + functions.f1_star

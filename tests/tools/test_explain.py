@@ -1,0 +1,203 @@
+"""tools/explain: the reasons of attaches that fail, in words written by hand; that the reader expects what every row has, and what
+the MME does over random events with lies; and that whatever else an MME did would be seen.
+"""
+import importlib
+import json
+import os
+import pathlib
+import random
+import re
+import sys
+import tempfile
+import unittest
+
+import failures
+import tools
+
+EXPLAIN = tools.module("tools/explain")
+sys.path.insert(0, str(tools.TOP / "tools"))
+RUNS = importlib.import_module("runs")
+STORY = importlib.import_module("eps.story")
+WORLD = importlib.import_module("eps.world")
+SKIPPING = importlib.import_module("eps.scripts")
+REASONS = importlib.import_module("eps.reasons")
+del sys.path[0]
+sys.path.insert(0, str(tools.TOP / "tests" / "hostile"))
+FUZZ = importlib.import_module("fuzz")
+LABORATORY = importlib.import_module("laboratory")
+del sys.path[0]
+
+PROGRAM = tools.TOP / "crates" / "mme" / "out" / "mme"
+SESSIONS, EVENTS = 4, 1000  # of random events, by each seed
+TURNED = 40  # bits of a message
+SCRIPTS = {**{path: path.with_suffix(".trace") for path in (tools.TOP / "examples").glob("*.script")},
+           **{path: path.with_suffix(".expect") for path in (tools.TOP / "tests" / "scripts").glob("*.script")}}
+
+
+def explained(trace, answers, *words):
+    """What tools/explain prints for a trace and its answers, as texts."""
+    with tempfile.TemporaryDirectory() as folder:
+        paths = [pathlib.Path(folder, name) for name in ("trace", "answers")]
+        for path, text in zip(paths, (trace, answers)):
+            path.write_text(text)
+        return tools.ran("explain", *words, *paths)
+
+
+def strays(trace, answers):
+    """How the MME did otherwise than is expected in a run."""
+    told, _ = STORY.story_of(trace, STORY.exact_steps(trace, answers) or RUNS.matched(trace, answers))
+    return [text for each in told for _, text in each.otherwise]
+
+
+def unseen(expected, answer, rng):
+    """Those of some bits of an answer that may be turned without a difference."""
+    found = []
+    for place in rng.sample(range(8 * len(answer.octets)), TURNED):
+        octets = bytearray(answer.octets)
+        octets[place // 8] ^= 128 >> place % 8
+        if not list(expected.differences(answer.owner, answer.station, bytes(octets))):
+            found.append(place)
+    return found
+
+
+def runs_of_rows():
+    """Each row with its answers, and each trace with answers of examples/ and of the scripts."""
+    for name in tools.playable():
+        trace, answers = ((tools.ROWS / name).with_suffix(end).read_bytes() for end in (".trace", ".answers"))
+        yield name, RUNS.read_trace(trace), RUNS.read_answers(answers)
+    for path in SCRIPTS.values():
+        octets = path.read_bytes()
+        if b"\n# out" in octets:
+            yield path.name, RUNS.read_trace(octets), [answer for _, answer in RUNS.read_told(octets)]
+
+
+class Reasons(unittest.TestCase):
+    def test_failures(self):
+        for failure in failures.FAILURES:
+            with self.subTest(failure=failure.name, shows=failure.shows):
+                made = failure.make()
+                trace, answers = RUNS.read_trace(made.text().encode()), RUNS.read_answers(made.answer_text().encode())
+                told, world = STORY.story_of(trace, STORY.exact_steps(trace, answers))
+                self.assertEqual("".join(EXPLAIN.text_of(EXPLAIN.entries_of(told), world, brief=True)), failure.words + "\n")
+
+    def test_program(self):
+        """The program prints the same, of a file and of standard input."""
+        failure = failures.FAILURES[3]
+        made = failure.make()
+        done = explained(made.text(), made.answer_text(), "--brief")
+        self.assertEqual((done.returncode, done.stdout.decode(), done.stderr), (0, failure.words + "\n", b""))
+        path = tools.TOP / "examples" / "lies.trace"
+        self.assertEqual(tools.ran("explain", "-", given=path.read_bytes()).stdout, tools.ran("explain", path).stdout)
+
+    def test_json(self):
+        """The same reasons as objects, with the names that tools may rely on."""
+        trace = failures.used_count()
+        done = explained(trace.text(), trace.answer_text(), "--json", "--brief")
+        [entry] = [json.loads(line) for line in done.stdout.splitlines()]
+        [told] = entry["told"]
+        self.assertEqual({name: told[name] for name in ("why", "clause", "lines", "mark", "dropped")}, {
+            "why": "COUNT_USED", "clause": "TS 24.301 clause 4.4.3.2", "lines": [11], "mark": "replayed", "dropped": True})
+        self.assertEqual((entry["line"], entry["imsi"], told["facts"]["count"]), (12, "001010000000001", 1))
+
+    def test_repeats_and_seconds(self):
+        trace = failures.t3460()
+        lines = explained(trace.text(), trace.answer_text()).stdout.decode().splitlines()
+        repeats = [line.split(": ")[0].strip() + line[-6:] for line in lines if "repeat" in line]
+        self.assertEqual(repeats, ["line 8, %d s%d of 4" % (6 * at, at) for at in range(1, 5)])
+
+    def test_one_phone(self):
+        path = tools.TOP / "examples" / "two_stations.trace"
+        text = tools.ran("explain", "--imsi", "001010000000002", path).stdout.decode()
+        self.assertEqual(re.findall("^[^ !?\n].*", text, re.M), ["IMSI 001010000000002"])
+        self.assertEqual(tools.ran("explain", "--imsi", "001010000000009", path).returncode, 2)
+
+    def test_every_reason_has_a_clause(self):
+        for why in REASONS.Why:
+            with self.subTest(why=why.name):
+                self.assertRegex(why.value.clause, r"^(TS (24|33|36)\.\d{3} clause (\d|\{clause\})|docs/SCRIPTS.md, Lines)")
+
+
+class Expected(unittest.TestCase):
+    def test_rows(self):
+        for name, trace, answers in runs_of_rows():
+            with self.subTest(run=name):
+                self.assertEqual(strays(trace, answers), [])
+
+    @unittest.skipIf(not PROGRAM.exists() and not os.environ.get("CI"), "the program isn't built")
+    def test_random_events(self):
+        """Random events with lies, by a seed and by a fresh one: every answer of the MME is expected."""
+        fresh = "%016x" % random.SystemRandom().getrandbits(64)
+        for seed in ["gate", fresh]:
+            for at in range(SESSIONS):
+                with self.subTest(seed="%s.%d" % (seed, at)):
+                    run = FUZZ.lived("%s.%d" % (seed, at), EVENTS, PROGRAM)
+                    text = "".join(line + "\n" for line in LABORATORY.provisioning() + run.events)
+                    answers = [RUNS.answer_of(line.encode()) for lines in run.answers for line in lines]
+                    self.assertEqual(strays(RUNS.read_trace(text.encode()), answers), [])
+
+    def test_a_bit_turned(self):
+        """A bit that is turned in a message of the MME is seen: some bits, by a seed, of one message of each kind and length."""
+        known, rng = set(), random.Random(63)
+        for name, trace, answers in runs_of_rows():
+            world, sent = WORLD.World(trace.head), iter(answer for answer in answers if answer.word == "out")
+            for event in trace.events:
+                for expected in world.take(event)[1]:
+                    answer = next(sent)
+                    kind = expected.text(), len(answer.octets)
+                    if kind not in known:
+                        known.add(kind)
+                        with self.subTest(row=name, message=expected.text()):
+                            self.assertEqual(unseen(expected, answer, rng), [])
+        self.assertGreater(len(known), 60)
+
+    def test_what_is_said_of_it(self):
+        """An answer that is missing, one too many, and one that is another, in a run whose answers stand at their events."""
+        trace = (tools.TOP / "examples" / "attach_whole.trace").read_text()
+        command = next(line for line in trace.splitlines() if "5d0200" in line)
+        changes = (("", "the MME owes DOWNLINK NAS TRANSPORT with SECURITY MODE COMMAND, and doesn't send it"),
+                   (command + "\n" + command, "the MME sends SECURITY MODE COMMAND, which isn't owed"),
+                   (command.replace("5d0200", "5d0201"), "NAS key set identifier is 1, not 0"))
+        for change, words in changes:
+            with self.subTest(words=words), tempfile.NamedTemporaryFile("w", suffix=".trace") as file:
+                file.write(trace.replace(command, change))
+                file.flush()
+                done = tools.ran("explain", file.name)
+                self.assertEqual(done.returncode, 1)
+                lines = [line for line in done.stdout.decode().splitlines() if line[:1] == "?"]
+                self.assertEqual(len(lines), 1)
+                self.assertIn(words, lines[0])
+
+
+class Skipped(unittest.TestCase):
+    def test_scripts(self):
+        """As many lines as were skipped have a reason, in every script of examples/ and tests/scripts."""
+        for script, printed in SCRIPTS.items():
+            octets = printed.read_bytes()
+            if b"\n# out" not in octets or script.with_suffix(".status").exists():
+                continue
+            with self.subTest(script=script.name):
+                trace = RUNS.read_trace(octets)
+                told, _ = STORY.story_of(trace, RUNS.told(trace, RUNS.read_told(octets)))
+                skipped = SKIPPING.skipped(script.read_bytes(), octets, told)
+                self.assertEqual(len(skipped), octets.count(b"## skipped"))
+
+    def test_words(self):
+        files = [tools.TOP / "examples" / ("station." + end) for end in ("script", "trace")]
+        done = tools.ran("explain", "--brief", "--script", *files)
+        self.assertIn("! line 15: up 1 is skipped: no `station` line gives a station 1 (docs/SCRIPTS.md, Lines)\n"
+                      "! line 17: station 0 00002 0001 is skipped: there is a station 0 already (docs/SCRIPTS.md, Lines)\n",
+                      done.stdout.decode())
+
+    def test_strict(self):
+        """--strict ends with status 1 and the line, where a line was skipped."""
+        for name, status, told in (("station", 1, "explain: line 15 of the script is skipped\n"), ("attach_whole", 0, "")):
+            with self.subTest(script=name):
+                files = [tools.TOP / "examples" / (name + end) for end in (".script", ".trace")]
+                done = tools.ran("explain", "--strict", "--script", *files)
+                self.assertEqual((done.returncode, done.stderr.decode()), (status, told))
+
+    def test_another_script(self):
+        files = tools.TOP / "examples" / "station.script", tools.TOP / "examples" / "attach_whole.trace"
+        done = tools.ran("explain", "--script", *files)
+        self.assertEqual(done.returncode, 2)
+        self.assertIn("the output isn't that of the script", done.stderr.decode())

@@ -1,0 +1,161 @@
+"""The words of tools/explain as the documents have them, and the answers to a station's mistakes as docs/STATIONS.md has them."""
+import importlib
+import re
+import sys
+import unittest
+
+import failures
+import tools
+
+sys.path.insert(0, str(tools.TOP / "tools"))
+RUNS = importlib.import_module("runs")
+WORLD = importlib.import_module("eps.world")
+WHY = importlib.import_module("eps.reasons").Why
+del sys.path[0]
+lte, phones = failures.lte, failures.phones
+
+DOCUMENTS = {name: (tools.TOP / "docs" / name).read_text(encoding="utf-8") for name in ("LAB.md", "STATIONS.md", "SCRIPTS.md")}
+NETWORK, STATION = phones.Network(), phones.Station(0)
+NOTIFY, UNKNOWN = 2, 40  # a criticality; a procedure that the profile hasn't
+NEVER_GIVEN = lte.id_of_slot(0, 77)
+FOREIGN_GUTI = bytes.fromhex("f602f83900010212345678")
+STATUS = b"\x07\x60\x61"
+
+
+def words_of(why):
+    """A reason's words, with N for what a run has there."""
+    return re.sub(r"\{\w+\}", "N", why.value.words)
+
+
+def rows_of(text, heading):
+    """The rows of the table with this first column."""
+    table = text.partition("| %s |" % heading)[2].partition("\n\n")[0]
+    return [[cell.strip() for cell in line.strip("|").split(" | ")] for line in table.splitlines()[2:]]
+
+
+class Words(unittest.TestCase):
+    def test_every_reason_stands_in_a_document(self):
+        """As it is printed; and no table has words that aren't printed."""
+        of_scripts = {words_of(why) for why in WHY if why.value.clause.startswith("docs/")}
+        lab, scripts = ({row[0] for row in rows_of(DOCUMENTS[name], "It says")} for name in ("LAB.md", "SCRIPTS.md"))
+        stations = {row[2] for row in rows_of(DOCUMENTS["STATIONS.md"], "Mistake")}
+        self.assertEqual(scripts, of_scripts)
+        beside = set(re.findall("`([^`]*, which ended[^`]*)`", DOCUMENTS["STATIONS.md"]))
+        self.assertEqual(lab | stations | scripts | beside, {words_of(why) for why in WHY})
+
+
+# --- The mistakes of docs/STATIONS.md, each with the trace that makes it ---
+
+
+def ready():
+    """A station that is set up, and a phone."""
+    trace, phone, _ = failures.begun()
+    return trace, phone
+
+
+def attaching():
+    trace, phone = ready()
+    phone.asks_to_attach(STATION, 1)
+    return trace, phone
+
+
+def sends(octets):
+    """A station that is set up sends octets."""
+    trace, _ = ready()
+    trace.hear(STATION, octets)
+    return trace
+
+
+def on_id(mme_id, enb_id=1, released=False):
+    """UPLINK NAS TRANSPORT with these ids of a phone that attaches."""
+    trace, phone = attaching()
+    if released:
+        trace.hear(STATION, lte.release_request(phone.m, phone.b, lte.USER_INACTIVITY))
+    trace.hear(STATION, lte.uplink_nas(NETWORK, STATION, mme_id or phone.m, enb_id, STATUS))
+    return trace
+
+
+def set_up_with(*more, without=0):
+    elements = [(lte.REJECT, lte.enb_identity(NETWORK, 1)), (lte.REJECT, lte.supported_areas(NETWORK, 1)),
+                (lte.IGNORE, (137, lte.bits((0, 1), (2, 2))))]
+    return sends(lte.s1ap(lte.INITIATING, 17, lte.REJECT, *elements[without:], *more))
+
+
+def unknown(criticality):
+    return sends(lte.s1ap(lte.INITIATING, UNKNOWN, criticality))
+
+
+def without_set_up(*lines):
+    trace = phones.Trace()
+    trace.provision([phones.Phone(trace, 0)])
+    for line in lines:
+        trace.say(line)
+    return trace
+
+
+def of_a_stranger():
+    """A phone that came by a foreign GUTI, told its IMSI, and is switched on the stranger's id."""
+    trace, phone = ready()
+    esm = lte.pdn_connectivity_request(1, 1, False)
+    trace.hear(STATION, lte.initial_ue_message(NETWORK, STATION, 2, lte.attach_request(1, FOREIGN_GUTI, phone.capability, esm)))
+    stranger = (1 << 31) + 2
+    trace.hear(STATION, lte.uplink_nas(NETWORK, STATION, stranger, 2, lte.identity_response(lte.imsi_identity(phone.imsi))))
+    trace.hear(STATION, lte.path_switch_request(NETWORK, STATION, stranger, 7, phone.capability))
+    return trace
+
+
+def switched_early():
+    trace, phone = attaching()
+    trace.hear(STATION, lte.path_switch_request(NETWORK, STATION, phone.m, 7, phone.capability))
+    return trace
+
+
+def not_set_up():
+    trace, phone = attaching()
+    trace.hear(STATION, lte.s1ap(lte.UNSUCCESSFUL, 9, lte.REJECT, (lte.IGNORE, lte.mme_id(phone.m)), (lte.IGNORE, lte.enb_id(1)),
+                                 (lte.IGNORE, lte.cause((lte.RADIO, 0)))))
+    return trace
+
+
+SETUP = lte.s1_setup_request(NETWORK, STATION)
+# (the id 1 in two octets; a bit set after the bits that say how many octets an id has)
+LONG_ID = bytes.fromhex("000d402e00000500000003400001000800020001001a000403076061006440080000f11000001010004340060000f1100001")
+PADDED = bytes.fromhex("000d402d00000500000002010100080002000" + "1001a000403076061006440080000f11000001010004340060000f1100001")
+MISTAKES = {
+    "a message that is cut": lambda: sends(SETUP[:-1]),
+    "octets after the message's end": lambda: sends(SETUP + b"\0"),
+    "a number in more octets than it needs": lambda: sends(LONG_ID),
+    "padding that isn't zero": lambda: sends(PADDED),
+    "a mandatory element is missing": lambda: set_up_with(without=1),
+    "an unknown element that is marked reject": lambda: set_up_with((lte.REJECT, (200, b"\0"))),
+    "an element twice": lambda: set_up_with((lte.REJECT, lte.enb_identity(NETWORK, 1))),
+    "a procedure out of the profile, marked reject": lambda: unknown(lte.REJECT),
+    "a procedure out of the profile, marked notify": lambda: unknown(NOTIFY),
+    "a procedure out of the profile, marked ignore": lambda: unknown(lte.IGNORE),
+    "a message that only an MME sends": lambda: sends(lte.downlink_nas(1, 1, STATUS)),
+    "a message before S1 SETUP": lambda: without_set_up("up 0", "in 0 " + lte.reset().hex()),
+    "S1 SETUP of another network": lambda: without_set_up(
+        "up 0", "in 0 " + lte.s1_setup_request(failures.OTHER_NETWORK, STATION).hex()),
+    "an MME UE S1AP ID that was never given": lambda: on_id(NEVER_GIVEN),
+    "an MME UE S1AP ID after the release": lambda: on_id(None, released=True),
+    "another eNB UE S1AP ID than the connection's": lambda: on_id(None, 9),
+    "PATH SWITCH REQUEST in the midst of an attach": switched_early,
+    "PATH SWITCH REQUEST with an id that was a stranger's": of_a_stranger,
+    "INITIAL CONTEXT SETUP FAILURE": not_set_up,
+    "a message without a connection": lambda: without_set_up("in 0 " + SETUP.hex()),
+    "a second connection": lambda: without_set_up("up 0", "up 0"),
+}
+
+
+class Mistakes(unittest.TestCase):
+    def test_rows(self):
+        """Each row's mistake is answered, and has its words, as the row says."""
+        rows = rows_of(DOCUMENTS["STATIONS.md"], "Mistake")
+        self.assertEqual([row[0] for row in rows], list(MISTAKES))
+        for mistake, sent, words in rows:
+            with self.subTest(mistake=mistake):
+                trace = RUNS.read_trace(MISTAKES[mistake]().text().encode())
+                world = WORLD.World(trace.head)
+                *_, (line, owed, tellings) = [world.take(event) for event in trace.events]
+                self.assertEqual(line or "; ".join(each.text() for each in owed) or "nothing", sent)
+                self.assertEqual([words_of(telling.why) for telling in tellings], [words])

@@ -1,0 +1,186 @@
+"""A run told: each event of a trace with what it was, each message of the MME with what it was to the procedure, and where the
+MME did otherwise than the standards' model (world.py) expects.
+"""
+import dataclasses
+
+import runs
+from eps import messages, render
+from eps.elements import CAUSE
+from eps.telling import Expected
+from eps.world import World
+
+
+MOST_TOLD = 50000  # events of a run that is told where that isn't asked for
+
+
+@dataclasses.dataclass
+class Answered:
+    """An answer of the MME with its owner and second, and the message that is expected in its place; `fits` where it is that."""
+    owner: str
+    second: int
+    answer: runs.Answer
+    expected: Expected | None = None
+    fits: bool = False
+
+    def text(self):
+        """The answer in words: a message by its innermost name."""
+        answer = self.answer
+        if answer.word == "refused":
+            return "refused %d: %s" % (answer.fault, runs.REFUSALS.get(answer.fault, "?"))
+        return answer.states if answer.word == "state" else message_name(answer.octets, True)
+
+
+@dataclasses.dataclass
+class Told:
+    """An event: what it was to each of its owners, what was sent for it, and how the MME did otherwise, by owner and in words."""
+    event: runs.Event
+    second: int
+    tellings: list
+    answered: list
+    otherwise: list = dataclasses.field(default_factory=list)
+
+    def owners(self):
+        """Who has a part in it, in order."""
+        parts = [telling.owner for telling in self.tellings] + [each.owner for each in self.answered]
+        return list(dict.fromkeys(parts + [owner for owner, _ in self.otherwise]))
+
+    def subject(self, telling):
+        """What a telling is said of: a station's message by its innermost name, or what else the telling says."""
+        return telling.subject or message_name(self.event.octets)
+
+    def sentence(self, telling):
+        """A telling in words: what it is said of, what that was, and why, as `ATTACH COMPLETE is dropped (replayed): ..`."""
+        mark, reason = telling.mark(), telling.reason()
+        text = "%s %s%s" % (self.subject(telling), telling.role, " (%s)" % mark.value if mark else "")
+        return "%s: %s" % (text, reason) if reason else text
+
+
+def message_name(octets, from_mme=False):
+    """The name of the NAS message in a message, with its causes; else that of S1AP."""
+    message = messages.decode(octets)
+    carried = message.nas()
+    if carried:
+        return render.Nas(carried, from_mme).short_text()
+    cause = message.get(CAUSE)
+    name = message.name if message.code is not None else "a message that can't be read"
+    return "%s %s" % (name, render.cause_text(cause)) if cause else name
+
+
+def differences(expected, answered):
+    """How an answer isn't what is expected, a line or a message, in words."""
+    answer = answered.answer
+    if isinstance(expected, str) or answer.word != "out":
+        return [] if expected == line_of(answer) else ["it answers %s" % answered.text()]
+    return list(expected.differences(answer.owner, answer.station, answer.octets))
+
+
+def line_of(answer):
+    """A refusal or a state as the line of an answer."""
+    return "refused %d" % answer.fault if answer.word == "refused" else "state %s %s" % (answer.imsi, answer.states)
+
+
+def text_of(expected):
+    return expected if isinstance(expected, str) else expected.text()
+
+
+def owner_of(expected):
+    return "" if isinstance(expected, str) else expected.owner
+
+
+class Teller:
+    """Tells a run, event by event, by a world of its own."""
+
+    def __init__(self, trace):
+        self.world = World(trace.head)
+        self.strayed = set()  # owners of which the MME did otherwise: no more of theirs is compared
+
+    def owed(self, event):
+        """The second of an event, its refusals and states as lines and its messages, and what it was."""
+        second = self.world.second
+        line, sent, tellings = self.world.take(event)
+        return second, ([line] if line else []) + sent, tellings
+
+    def told(self, event, pairs):
+        """An event with its answers, each with its second."""
+        second, owed, tellings = self.owed(event)
+        own = self.owner(event)
+        told = Told(event, second, tellings, [Answered(answer.owner or own, at, answer) for at, answer in pairs])
+        missing, place = [], 0
+        for answered in told.answered:
+            found = next((at for at in range(place, len(owed)) if not differences(owed[at], answered)), None)
+            if found is not None:
+                missing += owed[place:found]
+                self.fit(answered, owed[found], second)
+                place = found + 1
+        self.strays(told, missing + owed[place:])
+        return told
+
+    def owner(self, event):
+        """Whose a refusal of an event, or a state that it asks for, is."""
+        if event.station is not None:
+            return "e%d" % event.station
+        subscriber = self.world.by_imsi.get(event.imsi)
+        return subscriber.owner if subscriber else ""
+
+    @staticmethod
+    def fit(answered, expected, second):
+        answered.fits = True
+        if isinstance(expected, str):
+            answered.second = second
+        else:
+            answered.second, answered.expected = expected.second, expected
+
+    def strays(self, told, missing):
+        """Says how the MME did otherwise, of each owner once."""
+        for answered in told.answered:
+            if answered.fits:
+                continue
+            instead = next((each for each in missing if owner_of(each) in ("", answered.owner)), None)
+            if instead is None:
+                self.stray(told, answered.owner, "the MME sends %s, which isn't owed" % answered.text())
+            else:
+                missing.remove(instead)
+                self.stray(told, answered.owner, "the MME does otherwise: %s is expected, and %s" % (
+                    text_of(instead), "; ".join(differences(instead, answered))))
+        for each in missing:
+            self.stray(told, owner_of(each) or self.owner(told.event), "the MME owes %s, and doesn't send it" % text_of(each))
+
+    def stray(self, told, owner, text):
+        if owner not in self.strayed:
+            self.strayed.add(owner)
+            told.otherwise.append((owner, text))
+
+
+def story_of(trace, steps):
+    """Each event of a run, told, and the network as it is at the end."""
+    teller = Teller(trace)
+    return [teller.told(step.event, step.answers) for step in steps], teller.world
+
+
+# --- Which event each answer is to ---
+
+
+def exact_steps(trace, answers):
+    """The steps of a trace with its answers as the model owes them, in their order; None where they aren't those."""
+    teller, at, steps = Teller(trace), 0, runs.started(trace)
+    for step in steps:
+        second, owed, _ = teller.owed(step.event)
+        taken = answers[at:at + len(owed)]
+        if len(taken) < len(owed) or any(differences(each, Answered("", second, answer)) for each, answer in zip(owed, taken)):
+            return None
+        step.answers = [(getattr(each, "second", second), answer) for each, answer in zip(owed, taken)]
+        at += len(owed)
+    return steps if at == len(answers) else None
+
+
+def run_of(trace_path, answers_path, program=None, most=None):
+    """A trace and its steps, as runs.run_of has them; answers that are given go to the events that owe them by the standards.
+
+    Where there are more than `most` events, the answers are matched by their kinds alone, which is quicker.
+    """
+    if answers_path is None or "-" == trace_path == answers_path:
+        return runs.run_of(trace_path, answers_path, program)
+    trace = runs.read_trace(runs.read_file(trace_path), trace_path)
+    answers = runs.read_answers(runs.read_file(answers_path), answers_path)
+    is_long = most is not None and len(trace.events) > most
+    return trace, (None if is_long else exact_steps(trace, answers)) or runs.matched(trace, answers)

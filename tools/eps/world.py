@@ -1,0 +1,291 @@
+"""The network as the standards have it, over the events of a trace: stations, strangers and subscribers, each by its own rules.
+
+It knows docs/TABLE.md and docs/PROFILE.md and not the MME. For each event it says what the MME owes and why.
+"""
+import enum
+
+import s1ap
+from eps import messages, nas
+from eps.context import Spent
+from eps.elements import CAPACITY, CAUSE, GUMMEIS, RESET_LIST, RESET_TYPE, S_TMSI, SUPPORTED_TAS
+from eps.messages import Fault, Sender
+from eps.provisioned import FIRST_STRANGER, IDS_OF_A_SLOT, provisioned, stranger_of
+from eps.reasons import Why
+from eps.stranger import Stranger, closed
+from eps.subscriber import Subscriber
+from eps.telling import NOT_COMPATIBLE, Now, cause
+from eps.timers import Alarms
+
+NOT_UP, ALREADY_UP, UNKNOWN_IMSI = 1, 2, 5  # what `refused` says (README.md, "A trace")
+# How octets that are no message are answered (TS 36.413 clause 10.3.4.1 for what a procedure's criticality asks for).
+SYNTAX, ABSTRACT, NOTIFIED, FALSE = ("protocol " + name for name in (
+    "transfer-syntax-error", "abstract-syntax-error-reject", "abstract-syntax-error-ignore-and-notify",
+    "abstract-syntax-error-falsely-constructed-message"))
+UNKNOWN_CAUSES = {messages.REJECT: ABSTRACT, messages.NOTIFY: NOTIFIED, messages.IGNORE: None}
+FAULTS = {Fault.SYNTAX: (Why.SYNTAX, SYNTAX), Fault.MISSING_ELEMENT: (Why.MISSING_ELEMENT, ABSTRACT),
+          Fault.REFUSED_ELEMENT: (Why.REFUSED_ELEMENT, ABSTRACT), Fault.REPEATED_ELEMENT: (Why.REPEATED_ELEMENT, FALSE)}
+STATION = "the station"
+NOTICES = {"data": "downlink data", "cancel": "the subscription"}
+NEVER_ANSWERED = ((s1ap.ERROR, 0), (s1ap.RESET, 1))
+
+
+class State(enum.Enum):
+    """A station's state (docs/TABLE.md, "Station")."""
+    DOWN, UP, READY = "down", "up", "ready"
+
+
+class Stations:
+    """The state of each station, and the areas of those that are set up."""
+
+    def __init__(self):
+        self.states, self.areas = {}, {}
+
+    def state(self, station):
+        return self.states.get(station, State.DOWN)
+
+    def set(self, station, state, areas=()):
+        self.states[station], self.areas[station] = state, areas
+
+    def broadcasting(self, area):
+        """The stations that are set up and broadcast a tracking area, by number."""
+        return [station for station in sorted(self.states) if self.state(station) is State.READY and any(
+            item["TAC"] == area["TAC"] and area["PLMN"] in item["broadcast PLMNs"] for item in self.areas[station])]
+
+
+def order_of(owner):
+    """Where an owner's messages stand in an event's: stations, strangers, subscribers."""
+    numbers = tuple(map(int, owner[1:].split(".")))
+    return "exs".index(owner[0]), numbers
+
+
+class World:
+    """The network of a trace's head."""
+
+    def __init__(self, head):
+        self.network, profiles = provisioned(head)
+        self.alarms, self.stations, self.strangers = Alarms(), Stations(), {}
+        self.subscribers = [Subscriber(self.network, profile, self.alarms) for profile in profiles]
+        self.by_imsi = {each.profile.imsi: each for each in self.subscribers}
+        self.second = 0
+
+    # --- Events ---
+
+    def take(self, event):
+        """What comes of an event: refusals or states as `refused K` or `state ..`, messages that are owed, and tellings."""
+        now = Now(event.line, self.second, event.station)
+        answer = getattr(self, "on_" + event.word)(now, event)
+        now.sent.sort(key=lambda expected: (expected.second, order_of(expected.owner)))
+        return answer, now.sent, now.tellings
+
+    def on_up(self, now, event):
+        if self.stations.state(event.station) is not State.DOWN:
+            now.tell(station_owner(now), "connects", Why.CONNECTED_ALREADY, dropped=True, subject=STATION, station=event.station)
+            return "refused %d" % ALREADY_UP
+        self.stations.set(event.station, State.UP)
+        now.tell(station_owner(now), "connects", subject=STATION)
+        return None
+
+    def on_lost(self, now, event):
+        if self.stations.state(event.station) is State.DOWN:
+            now.tell(station_owner(now), "is lost", Why.NOT_CONNECTED, dropped=True, subject=STATION, station=event.station)
+            return "refused %d" % NOT_UP
+        self.stations.set(event.station, State.DOWN)
+        now.tell(station_owner(now), "is lost, and with it all its connections", subject=STATION)
+        self.station_gone(now, "was lost", "8.7.1.2.2")
+        return None
+
+    def on_data(self, now, event):
+        return self.on_notice(now, event, lambda subscriber: subscriber.on_data(now, self.stations))
+
+    def on_cancel(self, now, event):
+        return self.on_notice(now, event, lambda subscriber: subscriber.on_cancel(now))
+
+    def on_notice(self, now, event, act):
+        subscriber = self.by_imsi.get(event.imsi)
+        if subscriber is None:
+            now.tell("", "is refused", Why.NO_SUBSCRIBER, dropped=True, subject=NOTICES[event.word], imsi=event.imsi)
+            return "refused %d" % UNKNOWN_IMSI
+        self.acting(now, subscriber, lambda: act(subscriber))
+        return None
+
+    def on_show(self, _, event):
+        return "state %s %s" % (event.imsi, self.by_imsi[event.imsi].states())
+
+    def on_tick(self, now, event):
+        """The seconds up to the end of a tick, those alone at which a timer ends."""
+        end = self.second + event.ticks
+        while due := self.alarms.due(end):
+            now.second, keys = due
+            for key in keys:
+                self.on_time(now, key)
+        self.second = now.second = end
+
+    def on_time(self, now, key):
+        if key[0] == 0:
+            self.strangers[key[1:]].on_time(now)
+        else:
+            subscriber = self.subscribers[key[1]]
+            self.acting(now, subscriber, lambda: subscriber.on_time(now))
+
+    @staticmethod
+    def acting(now, subscriber, act):
+        """A subscriber's act; where it needs a count that there isn't, the connection ends instead."""
+        before = len(now.sent)
+        try:
+            act()
+        except Spent:
+            subscriber.spends_last(now, before)
+
+    # --- Octets of a station ---
+
+    def on_in(self, now, event):
+        state = self.stations.state(event.station)
+        if state is State.DOWN:
+            now.tell(station_owner(now), "isn't heard", Why.NOT_CONNECTED, dropped=True, station=event.station)
+            return "refused %d" % NOT_UP
+        now.message = messages.decode(event.octets)
+        kind = now.message.code, now.message.outcome
+        if now.message.fault:
+            self.on_fault(now)
+        elif kind == (s1ap.SETUP, 0):
+            self.on_setup(now)
+        elif kind in NEVER_ANSWERED:
+            now.tell(station_owner(now), "is taken without an answer")
+        elif now.message.form.sender is Sender.MME:
+            self.not_compatible(now, Why.MME_MESSAGE)
+        elif state is State.UP:
+            self.not_compatible(now, Why.NOT_SET_UP, station=event.station)
+        else:
+            self.on_ready(now, kind)
+        return None
+
+    @staticmethod
+    def not_compatible(now, why, **facts):
+        now.tell(station_owner(now), "is refused", why, **facts)
+        now.send_error(station_owner(now), NOT_COMPATIBLE, with_received_ids=False)
+
+    @staticmethod
+    def on_fault(now):
+        """Octets that are no message of the profile (TS 36.413 clause 10)."""
+        message = now.message
+        if message.fault is Fault.UNKNOWN_PROCEDURE:
+            why, answer = Why.UNKNOWN_PROCEDURE, UNKNOWN_CAUSES[message.criticality]
+        else:
+            why, answer = FAULTS[message.fault]
+        now.tell(station_owner(now), "is refused", why, dropped=answer is None, fault=message.why, element=message.why)
+        if answer:
+            now.send_error(station_owner(now), cause(answer), with_received_ids=False)
+
+    def on_setup(self, now):
+        """S1 SETUP REQUEST (TS 36.413 clause 8.7.3): all that the station had before ends first."""
+        self.station_gone(now, "set up again", "8.7.3.1")
+        areas = now.message.get(SUPPORTED_TAS)
+        broadcast = sorted({plmn for item in areas for plmn in item["broadcast PLMNs"]})
+        if self.network.plmn in broadcast:
+            self.stations.set(now.station, State.READY, areas)
+            now.tell(station_owner(now), "sets up the interface")
+            served = {"PLMNs": [self.network.plmn], "MME groups": [self.network.group], "MME codes": [self.network.code]}
+            now.send(station_owner(now), now.station, (s1ap.SETUP, 1), {GUMMEIS: [served], CAPACITY: 255}, "says which MME this is")
+        else:
+            self.stations.set(now.station, State.UP)
+            now.tell(station_owner(now), "is refused", Why.OTHER_PLMN, broadcast=", ".join(broadcast), network=self.network.plmn)
+            now.send(station_owner(now), now.station, (s1ap.SETUP, 2), {CAUSE: cause("misc unknown-PLMN")}, "refuses the set-up")
+
+    def station_gone(self, now, how, clause):
+        """All connections and strangers of the station end."""
+        for stranger in self.strangers_of(now.station):
+            stranger.close()
+        for subscriber in self.subscribers:
+            subscriber.on_station_gone(now, now.station, how, clause)
+
+    def strangers_of(self, station):
+        return [stranger for (at, _), stranger in self.strangers.items() if at == station]
+
+    def on_ready(self, now, kind):
+        """A phone's message, or a RESET, of a station that is set up."""
+        if kind == (s1ap.RESET, 0):
+            self.on_reset(now, now.message.get(RESET_TYPE))
+        elif kind == (s1ap.INITIAL_UE, 0):
+            self.on_initial(now, now.message.nas())
+        else:
+            self.on_ids(now, kind)
+
+    def on_reset(self, now, reset_type):
+        """RESET of the interface or of a part of it (TS 36.413 clause 8.7.1)."""
+        owner, items = station_owner(now), reset_type.get("part of S1 interface")
+        if items is None:
+            now.tell(owner, "resets the whole interface")
+            for stranger in self.strangers_of(now.station):
+                stranger.close()
+            for subscriber in self.subscribers:
+                subscriber.on_station_gone(now, now.station, "reset the interface", "8.7.1.2.2")
+            now.send(owner, now.station, (s1ap.RESET, 1), {}, "acknowledges the reset")
+            return
+        now.tell(owner, "resets %d associations" % len(items))
+        for stranger in self.strangers_of(now.station):
+            if any(map(stranger.place.is_listed, items)):
+                stranger.close()
+        for subscriber in self.subscribers:
+            subscriber.on_part_reset(now, items)
+        now.send(owner, now.station, (s1ap.RESET, 1), {RESET_LIST: items}, "acknowledges the reset")
+
+    # --- Whose a message is ---
+
+    def slot_of_tmsi(self, tmsi):
+        """The subscriber of an M-TMSI, or None."""
+        slot = tmsi // IDS_OF_A_SLOT if tmsi is not None else len(self.subscribers)
+        return self.subscribers[slot] if slot < len(self.subscribers) else None
+
+    def named(self, now, octets):
+        """The subscriber that an INITIAL UE MESSAGE names, or None (docs/PROFILE.md, Identities)."""
+        message = nas.decode_emm(nas.named_message(octets), nas.UP)
+        if message.fault:
+            return None
+        if message.type == nas.SERVICE_REQUEST:
+            identity = now.message.get(S_TMSI)
+            known = identity and identity["MME code"] == self.network.code
+            return self.slot_of_tmsi(identity["M-TMSI"]) if known else None
+        if message.type not in (nas.ATTACH_REQUEST, nas.DETACH_REQUEST, nas.TAU_REQUEST):
+            return None
+        identity = message.fields["old GUTI" if message.type == nas.TAU_REQUEST else "EPS mobile identity"]
+        if "IMSI" in identity:
+            return self.by_imsi.get(identity["IMSI"])
+        return self.slot_of_tmsi(self.network.tmsi_of(identity["GUTI"]))
+
+    def on_initial(self, now, octets):
+        subscriber = self.named(now, octets)
+        if subscriber:
+            self.acting(now, subscriber, lambda: subscriber.on_initial(now, octets))
+            return
+        stranger = self.stranger(now.station, now.enb_id)
+        holder = stranger.holder
+        stranger.on_first(now, octets)
+        if holder:
+            holder.on_displaced(now, stranger.mme_id)
+
+    def stranger(self, station, enb_id):
+        if (station, enb_id) not in self.strangers:
+            self.strangers[station, enb_id] = Stranger(station, enb_id, self.alarms)
+        return self.strangers[station, enb_id]
+
+    def on_ids(self, now, kind):
+        """A message that names an association by its MME UE S1AP ID."""
+        if now.mme_id < FIRST_STRANGER:
+            subscriber = self.slot_of_tmsi(now.mme_id)
+            if subscriber is None:
+                closed(now, station_owner(now), kind)
+            else:
+                self.acting(now, subscriber, lambda: subscriber.on_message(now))
+            return
+        stranger = self.stranger(*stranger_of(now.mme_id))
+        if stranger.holder:
+            self.acting(now, stranger.holder, lambda: stranger.holder.on_message(now))
+            return
+        claimed = stranger.on_message(now, self.by_imsi)
+        if claimed:
+            attach = stranger.attach
+            self.acting(now, claimed, lambda: claimed.on_claim(now, stranger.place, attach.message, attach.area))
+
+
+def station_owner(now):
+    return "e%d" % now.station
