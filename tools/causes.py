@@ -1,6 +1,18 @@
 """The causes of EMM and ESM in words (TS 24.301 clauses 9.9.3.9 and 9.9.4.4); those of S1AP are in s1ap.py."""
 import s1ap
 
+# The causes of protocol errors, which EMM and ESM share (TS 24.301 annexes A and B).
+PROTOCOL_ERRORS = {
+    95: "Semantically incorrect message",
+    96: "Invalid mandatory information",
+    97: "Message type non-existent or not implemented",
+    98: "Message type not compatible with the protocol state",
+    99: "Information element non-existent or not implemented",
+    100: "Conditional IE error",
+    101: "Message not compatible with the protocol state",
+    111: "Protocol error, unspecified",
+}
+
 EMM_CAUSES = {
     2: "IMSI unknown in HSS",
     3: "Illegal UE",
@@ -28,14 +40,7 @@ EMM_CAUSES = {
     26: "Non-EPS authentication unacceptable",
     39: "CS service temporarily not available",
     40: "No EPS bearer context activated",
-    95: "Semantically incorrect message",
-    96: "Invalid mandatory information",
-    97: "Message type non-existent or not implemented",
-    98: "Message type not compatible with the protocol state",
-    99: "Information element non-existent or not implemented",
-    100: "Conditional IE error",
-    101: "Message not compatible with the protocol state",
-    111: "Protocol error, unspecified",
+    **PROTOCOL_ERRORS,
 }
 
 ESM_CAUSES = {
@@ -69,14 +74,7 @@ ESM_CAUSES = {
     56: "Collision with network initiated request",
     59: "Unsupported QCI value",
     81: "Invalid PTI value",
-    95: "Semantically incorrect message",
-    96: "Invalid mandatory information",
-    97: "Message type non-existent or not implemented",
-    98: "Message type not compatible with the protocol state",
-    99: "Information element non-existent or not implemented",
-    100: "Conditional IE error",
-    101: "Message not compatible with the protocol state",
-    111: "Protocol error, unspecified",
+    **PROTOCOL_ERRORS,
     112: "APN restriction value incompatible with active EPS bearer context",
 }
 
