@@ -20,10 +20,10 @@ LONGEST_LINE = 40000  # octets
 STATIONS = 128
 LONGEST_TICK = 1000000
 # No countdown of the MME is longer than its mobile reachable timer (T3412 of 54 minutes and 4 more, TS 24.301 table 10.2.2),
-# which can follow on a procedure of under a minute; so nothing is sent after so many ticks without another event.
+# which can follow on a procedure of under a minute; so nothing is sent after that many ticks without another event.
 TICKS_WITH_ANSWERS = 3480 + 60
 FIRST_STRANGER = 1 << 31  # MME UE S1AP IDs from here on are strangers'
-SLOT_BITS = 16  # an id and an M-TMSI are a slot and so many bits of a counter after it
+SLOT_BITS = 16  # an id and an M-TMSI are a slot, and a counter of this many bits after it
 
 PROVISIONING = {"mme": 7, "sub": 4, "vec": 5}  # the words of a line, with how many fields follow
 EVENTS = {"up": 1, "lost": 1, "in": 2, "tick": 1, "data": 1, "cancel": 1, "show": 1}

@@ -5,6 +5,7 @@
   what another of these stands on, libraries of the toolchain among it. Used by: who so stands on it, and how many crates list it.
 - docs/ARCHITECTURE.md: "What it does" is the sentence of crates/README.md, "Stands on" the same as there.
 - The picture of the layers is the same in both, at most 100 columns wide. It has each crate once, and none stands on one above it.
+- No crate has more than 1,500 lines of source or 100 functions, tests left out.
 """
 import re
 
@@ -12,6 +13,8 @@ import tables
 
 PAGE, MAP = "crates/README.md", "docs/ARCHITECTURE.md"
 WIDTH = 100
+LINES, FUNCTIONS = 1500, 100
+FUNCTION = re.compile(r"^\s*(?:pub(?:\(\w+\))? )?(?:const )?(?:unsafe )?fn \w+", re.M)
 
 
 def listed():
@@ -124,6 +127,21 @@ def picture_faults(text, uses):
                 yield "%s stands on %s, which the picture has above it" % (crate, one)
 
 
+def size(crate):
+    """How many lines and functions the sources of a crate have, without its tests."""
+    texts = [file.read_text(encoding="utf-8") for file in sorted((tables.TOP / "crates" / crate / "src").rglob("*.rt"))]
+    texts = [text for text in texts if "#[test]" not in text]
+    return sum(text.count("\n") for text in texts), sum(len(FUNCTION.findall(text)) for text in texts)
+
+
+def size_faults(uses):
+    """Which crates are too large."""
+    for crate in uses:
+        lines, functions = size(crate)
+        if lines > LINES or functions > FUNCTIONS:
+            yield "%s has %d lines and %d functions: at most %d and %d" % (crate, lines, functions, LINES, FUNCTIONS)
+
+
 def checked(_words=()):
     """How many crates stand as they should, and what is wrong; prints that."""
     uses, passed, faults = listed(), 0, []
@@ -138,6 +156,7 @@ def checked(_words=()):
             if has != owed:
                 faults.append("%s: should be %s ('tests/docs/write crates' writes it)" % (path, owed))
     faults += ["%s: %s" % (PAGE, fault) for fault in picture_faults(tables.text(PAGE), uses)]
+    faults += size_faults(uses)
     for fault in faults:
         print("FAILED " + fault)
     return passed, len(faults)

@@ -210,7 +210,7 @@ def alternatives(term, known):
 def s1ap_elements():
     """Id: type and form of each element that some message has, and those that are passed over."""
     ids = element_ids()
-    known = definitions(text_of("s1ap_elements/specs/Formats.antt")) | ids
+    known = definitions(text_of("s1ap_causes/specs/Causes.antt")) | definitions(text_of("s1ap_elements/specs/Formats.antt")) | ids
     known["octet_string"] = "octet_string"
     forms, types = {}, {}
     for name, term in definitions(text_of("s1ap_pdus/specs/Profile.antt")).items():
@@ -225,7 +225,8 @@ def s1ap_elements():
 def element_clauses():
     """Type: the clause that its doc line has."""
     found = {}
-    for path in sorted((tables.TOP / "crates/s1ap_elements/src").glob("*.rt")):
+    crates = tables.TOP / "crates"
+    for path in sorted(path for crate in ("s1ap_causes", "s1ap_elements") for path in (crates / crate / "src").glob("*.rt")):
         for clause, name in re.findall(r"TS 36\.413 clauses? ([\d.a]+)[^\n]*\n(?:#\[.*\]\n)*pub (?:struct|enum|type) (\w+)",
                                        path.read_text(encoding="utf-8")):
             found[name] = clause
@@ -247,7 +248,7 @@ GROUPS = (("radioNetwork", "radio_network", "RadioNetwork"), ("transport", "tran
 
 def s1ap_causes():
     """Cause: its number, of each that the MME names."""
-    text, used = text_of("s1ap_elements/src/cause_element.rt"), "".join(map(texts_of, MACHINES))
+    text, used = text_of("s1ap_causes/src/element.rt"), "".join(map(texts_of, MACHINES))
     standard = {group: names for group, _, names in s1ap.CAUSES}
     found = {}
     for group, macro, named in GROUPS:
@@ -265,7 +266,7 @@ def nas_causes(path, kind):
 def s1ap_faults():
     """Fault: the cause that answers it, from the definition."""
     text = text_of("mme_routing/specs/Outcomes.antt")
-    numbers = numbered("protocol", text_of("s1ap_elements/src/cause_element.rt"))
+    numbers = numbered("protocol", text_of("s1ap_causes/src/element.rt"))
     names = next(names for group, _, names in s1ap.CAUSES if group == "protocol")
     unknown = cases(text, "cause_of_unknown")
     rights = cases(text, "cause_of") | {"UnknownProcedure " + name: unknown[name] for name in unknown}
@@ -319,7 +320,7 @@ def parts(text):
 
 def with_identifiers(text):
     """The text with the identifiers of optional elements and the octet of T3412 in the place of their names."""
-    texts = text_of("nas_elements/specs/Identifiers.antt") + text_of("nas_messages/specs/Timers.antt")
+    texts = text_of("nas_elements/specs/Identifiers.antt") + text_of("nas_elements/specs/Timers.antt")
     named = dict(re.findall(r"^(\w+_iei|t3412_octet) = (0x\w\w)$", texts, re.M))
     return re.sub(r"\w+_iei|t3412_octet", lambda name: named[name.group()], text)
 
@@ -374,8 +375,8 @@ def skipping():
 
 def timers():
     """Timer: ticks and repeats, in definition and program alike."""
-    specs = re.findall(r"^(\w+)_(ticks|repeats) = (\d+)$", text_of("nas_messages/specs/Timers.antt"), re.M)
-    code = re.findall(r"^pub const (\w+)_(TICKS|REPEATS): u32 = (\d+);$", text_of("nas_messages/src/timers.rt"), re.M)
+    specs = re.findall(r"^(\w+)_(ticks|repeats) = (\d+)$", text_of("nas_elements/specs/Timers.antt"), re.M)
+    code = re.findall(r"^pub const (\w+)_(TICKS|REPEATS): u32 = (\d+);$", text_of("nas_elements/src/timers.rt"), re.M)
     if [(name.upper(), part.upper(), count) for name, part, count in specs] != code:
         raise ValueError("the timers of definition and program: %s, %s" % (specs, code))
     counts = {(name, part): count for name, part, count in code}
@@ -400,22 +401,22 @@ LIMITS = {
     "octets of a trace's line": ("trace_words/src/line.rt", r"LONGEST_LINE: usize = (.*);"),
     "ticks of a trace's line": ("trace_words/src/fields.rt", r"number\(text, 1, (1_000_000)\)"),
     "bits a second of an aggregate bit rate": ("trace_words/src/fields.rt", r"number\(text, 1, (10_000_000_000)\)"),
-    "octets of an access point name": ("trace_words/src/values.rt", r"text\.len\(\) > (\d+)"),
+    "octets of an access point name": ("mme_types/src/network.rt", r"label: ArrayString<(\d+)>"),
     "reads of a run": ("trace_player/src/watched.rt", r"MOST_TURNS: u64 = (.*);"),
 }
 BELOW = {"octets of a string or an open type"}  # the code has the first that isn't
 
 # The constants that the MME writes, and where the code has them.
 CONSTANTS = {
-    "RelativeMMECapacity": ("mme_routing/src/answers.rt", r"RelativeCapacity::try_new\((\d+)\)"),
-    "E-RAB ID": ("nas_messages/specs/Codes.antt", r"default_bearer = (\d+)"),
+    "RelativeMMECapacity": ("mme_routing/src/answers.rt", r"GREATEST_CAPACITY: u64 = (\d+);"),
+    "E-RAB ID": ("nas_elements/specs/Codes.antt", r"default_bearer = (\d+)"),
     "QCI": ("mme_signalling/specs/Pdus.antt", r"qci = (\d+);"),
     "priority level": ("mme_signalling/specs/Pdus.antt", r"priority = (\d+);"),
     "pre-emption capability": ("mme_signalling/specs/Pdus.antt", r"capability = (\d+);"),
     "pre-emption vulnerability": ("mme_signalling/specs/Pdus.antt", r"vulnerability = (\d+) "),
-    "EPS bearer identity": ("nas_messages/src/codes.rt", r"DEFAULT_BEARER: u8 = (\d+)"),
+    "EPS bearer identity": ("nas_elements/src/codes.rt", r"DEFAULT_BEARER: u8 = (\d+)"),
 }
-HEX_CONSTANTS = {"T3412": ("nas_messages/src/timers.rt", r"T3412_OCTET: u8 = (0x\w+);")}
+HEX_CONSTANTS = {"T3412": ("nas_elements/src/timers.rt", r"T3412_OCTET: u8 = (0x\w+);")}
 
 
 def constant(place):

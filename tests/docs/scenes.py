@@ -198,7 +198,7 @@ LATER = tuple(phase for phase in CONNECTED if phase not in ("Authenticating", "S
 
 
 def scene_of(phase, spare_vectors=None, **choices):
-    """A phone in a phase, with so many vectors left, or plenty."""
+    """A phone in a phase, with this number of vectors left, or plenty."""
     scene = Scene(**choices)
     PHASES[phase](scene)
     if spare_vectors is not None:

@@ -91,7 +91,7 @@ class Run:
         return Difference(owner, place, wanted[at][1] if at < len(wanted) else "nothing", got[at] if at < len(got) else "nothing")
 
     def difference(self, strangers=None):
-        """The first difference of any owner, of the strangers that were heard most so many alone."""
+        """The first difference of any owner, of strangers those alone that were heard most, this number of them."""
         if self.stirred:
             return self.stirred
         slots, stations, others = self.owners()

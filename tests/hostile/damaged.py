@@ -119,7 +119,7 @@ def variants(rows):
 
 
 def nas_in_place(rows, stride=1, first=0):
-    """The first difference where each damaged NAS message stands in place of its own, or each so many; and how many there were."""
+    """The first difference where each damaged NAS message stands in place of its own, or every Nth; and how many there were."""
     count, found = 0, None
     for number, (row, place, octets) in enumerate(variants(rows)):
         if number % stride != first:

@@ -20,7 +20,7 @@ def names():
 
 
 def lived(seed, count, used=program.PROGRAM):
-    """The run of one session: so many events, chosen by the seed and by what the MME answers."""
+    """The run of one session: this number of events, chosen by the seed and by what the MME answers."""
     lab = Liar(random.Random(seed))
     provisioning = laboratory.provisioning()
     run = compare.Run(names(), provisioning, laboratory.IMSIS, used)

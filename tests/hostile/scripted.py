@@ -104,7 +104,7 @@ def printed(lines):
 
 
 def scripted(seed, count, used=program.PROGRAM):
-    """A random script of so many acts, the events that came of it with their answers, and how many lies it has."""
+    """A random script of this number of acts, the events that came of it with their answers, and how many lies it has."""
     scripter = Scripter(random.Random(seed))
     script = laboratory.provisioning() + scripter.begins()
     live = Simulated(script, IMSIS, used)

@@ -49,7 +49,7 @@ OTHER_CONTENTS = [
     (60, "1 00000011 #6e616d65", "fault Syntax(Range)"),
     (60, "0 10010110 #6e616d65", "fault Syntax(Range)"),
     (107, "(, 1 1100000000000000 0 0100000000000000 )", "fault Syntax(Range)"),
-    # paddings that aren't zero, an octet behind the end, an id in two octets where one is enough
+    # paddings that aren't zero, an octet after the end, an id in two octets where one is enough
     (80, "0000000001 000001", "fault Syntax(Padding)"),
     (8, "00 000001 #01", "fault Syntax(Padding)"),
     (87, "#ff00", "fault Syntax(Trailing)"),
@@ -103,7 +103,7 @@ def spelled(text, extended):
 
 
 def opened(content):
-    """Octets behind their length."""
+    """Octets after their length."""
     length = len(content)
     return (bytes([length]) if length < 128 else (length | 0x8000).to_bytes(2, "big")) + content
 

@@ -17,7 +17,7 @@ class Failing:
 
     def __init__(self, shim, words, given, wanted):
         self.shim, self.words, self.given, self.wanted = shim, words, given, wanted
-        self.behind = {}  # what is owed for so many whole lines
+        self.after = {}  # what is owed, by the number of whole lines
         self.tried, self.otherwise = 0, []
 
     def must_be(self, what, output, text, status, **refusals):
@@ -27,14 +27,14 @@ class Failing:
             self.otherwise.append("%s: %s" % (what, fault))
 
     def owed(self, count):
-        """What is owed for the lines that end in the first so many octets."""
+        """What is owed for the lines that end in the first octets, this number of them."""
         lines = self.given[:count].rpartition(b"\n")
         whole = len(lines[0] + lines[1])
-        if whole not in self.behind:
-            self.behind[whole] = self.shim.ran(self.words, self.given[:whole]).output
-            if not self.wanted.startswith(self.behind[whole]):
+        if whole not in self.after:
+            self.after[whole] = self.shim.ran(self.words, self.given[:whole]).output
+            if not self.wanted.startswith(self.after[whole]):
                 self.otherwise.append("other output for %d octets" % whole)
-        return self.behind[whole]
+        return self.after[whole]
 
     def one_octet_each(self):
         """One octet a read, one a write, and both: nothing is changed."""
@@ -72,7 +72,7 @@ class Failing:
         self.otherwise += from_file.otherwise
 
     def writes(self):
-        """Each write fails, with those behind it: what went before it stays, and no more."""
+        """Each write fails, with those after it: what went before it stays, and no more."""
         for failed in range(1, len(self.wanted) + 1):
             self.must_be("write %d of one octet" % failed, self.wanted[:failed - 1], WRITE_FAILED, 3, NARROW_WRITE=1,
                          FAIL_WRITE=failed, LASTING=1)

@@ -27,8 +27,8 @@ def played(shim, words, given, wanted):
 
 
 class Calculated:
-    """The calculator over rows of tests/parts. Where a call answers that there is no memory, all behind it is answered as if it
-    hadn't been made. Where the calculator says so, the call was refused, or the text of its answer: then all behind it is answered
+    """The calculator over rows of tests/parts. Where a call answers that there is no memory, all after it is answered as if it
+    hadn't been made. Where the calculator says so, the call was refused, or the text of its answer: then all after it is answered
     as if it hadn't been made, or as if it had.
     """
 

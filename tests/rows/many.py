@@ -21,7 +21,7 @@ NEVER_SEEN = "DEREGISTERED IDLE INACTIVE"
 
 
 def provisioned(count, *with_vector):
-    """A trace with so many subscribers, of which these slots have a vector, and a station that is set up."""
+    """A trace with this number of subscribers, of which these slots have a vector, and a station that is set up."""
     trace = phones.Trace()
     made = [phones.Phone(trace, slot, (phones.KNOWN_VECTOR,) if slot in with_vector else ()) for slot in range(count)]
     trace.provision(made)
@@ -58,7 +58,7 @@ def one_subscriber_too_many():
 
 
 def connected_and_refused(count):
-    """A phone that attached on its slot's first id, and after that so many SERVICE REQUESTs with a wrong MAC at another number,
+    """A phone that attached on its slot's first id, and after that this number of SERVICE REQUESTs with a wrong MAC at another number,
     each refused on the slot's next id; and that id."""
     trace, station, [phone] = provisioned(1, 0)
     phone.attaches(station, 1)
@@ -91,7 +91,7 @@ def ids_wrap():
 
 
 def served_on_its_own_id(refused=lte.IDS_OF_A_SLOT - 1):
-    """A phone is connected on its slot's first id, and so many requests were refused that this is the next one. The phone asks for
+    """A phone is connected on its slot's first id, and requests were refused until this is the next one. The phone asks for
     service at another number: the old connection is released, and the new one has its id."""
     trace, station, phone, last = connected_and_refused(refused)
     old, count, phone.up_count = lte.release_command(phone.m, phone.b, lte.NORMAL_RELEASE), phone.up_count, phone.up_count + 1

@@ -5,7 +5,7 @@ use Rattle.sorted_list.specs.Ordered.{at, add, without}
 
 pub record Table : Type 0 where
   pub entries : List Association  -- by rising id
-  pub room : ℕ  -- so many more can be opened with no allocation
+  pub room : ℕ  -- how many more can be opened with no allocation
 
 abbrev pub association_id : Association → ℕ
 association_id a = a.id

@@ -86,7 +86,7 @@ impl Associations {
         }
     }
 
-    /// Makes room for so many more. Where that is refused the entries are as they were.
+    /// Makes room for `more` further ones. Where that is refused the entries are as they were.
     pub fn reserve(&mut self, more: usize) -> Result<(), AllocError>
         ensures entries { self.new.entries ≡ self.old.entries }
         ensures room { OnOk result (more ≤ self.new.room) }

@@ -1,4 +1,4 @@
-//! Steps of a sequence of calls: a word, and behind a colon its value.
+//! Steps of a sequence of calls: a word, and after a colon its value.
 
 use calc_text::{Fault, Field};
 use std::alloc::Global;

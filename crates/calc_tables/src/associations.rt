@@ -22,7 +22,7 @@ impl AssociationDesk {
         }
     }
 
-    /// The answer of a call behind the word `associations`.
+    /// The answer of a call after the word `associations`.
     pub fn answer(&mut self, call: Call) -> CallAnswer {
         match call.word {
             "open" => self.open(call),
@@ -70,7 +70,7 @@ impl AssociationDesk {
         }
     }
 
-    /// Closes what the items behind a station mean.
+    /// Closes what the items after a station mean.
     fn close_listed(&mut self, call: Call) -> CallAnswer {
         let (station, others) = call.first()?;
         let mut items = Vec::new(call.alloc);
@@ -141,7 +141,7 @@ fn associations_answer(call: Call, found: Result<Vec<Association>, AllocError>) 
     Ok(text)
 }
 
-/// A text and an association: its id, its owner, its station and its number there.
+/// A text and an association: its id, its owner, its station and its eNB UE S1AP ID.
 fn with_association(text: Text, association: &Association) -> Text {
     let text = text.with("", &association.id);
     let text = match association.owner {

@@ -6,7 +6,7 @@ use calc_text::{Call, CallAnswer, Fault};
 use esm_machine::{Bearer, Reaction, Requested};
 use std::alloc::AllocError;
 
-/// The answer of a call behind the word `bearer`.
+/// The answer of a call after the word `bearer`.
 pub fn bearer_answer(bearer: &mut Bearer, call: Call) -> CallAnswer {
     match call.word {
         "request" | "accept" | "message" | "awaited" => octets_answer(bearer, call),

@@ -23,7 +23,7 @@ pub fn context_of(
     )
 }
 
-/// The answer of a call behind the word `context`.
+/// The answer of a call after the word `context`.
 pub fn context_answer(context: &mut SecurityContext<Eia2>, call: Call) -> CallAnswer {
     match call.word {
         "new" => renewed(context, call),

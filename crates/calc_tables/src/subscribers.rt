@@ -47,7 +47,7 @@ pub fn id_answer(call: Call) -> CallAnswer {
     }
 }
 
-/// The next association id or TMSI of a slot, behind a counter.
+/// The next association id or TMSI of a slot, after a counter.
 fn counted_answer(call: Call) -> CallAnswer {
     let (SlotWord(slot), counter) = call.two()?;
     if counter >= COUNTERS {
@@ -70,7 +70,7 @@ fn stranger_answer(call: Call) -> CallAnswer {
     call.value_answer("", &AssociationId::of_stranger(station, enb_ue_id).get())
 }
 
-/// The answer of a call behind the word `provision`.
+/// The answer of a call after the word `provision`.
 pub fn answer(provision: &mut Provision, call: Call) -> CallAnswer {
     match call.word {
         "add" => added(provision, call),

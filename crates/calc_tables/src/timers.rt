@@ -25,7 +25,7 @@ impl TimerDesk {
         }
     }
 
-    /// The answer of a call behind the word `timers`.
+    /// The answer of a call after the word `timers`.
     pub fn answer(&mut self, call: Call) -> CallAnswer {
         match call.word {
             "new" => self.renew(call),
@@ -157,7 +157,7 @@ impl<'a> Field<'a> for KindWord {
     }
 }
 
-/// `s` and a slot, or `x`, a station, `.` and a phone's number there.
+/// `s` and a slot, or `x`, a station, `.` and a phone's eNB UE S1AP ID.
 #[derive(Clone, Copy)]
 struct OwnerWord(TimerOwner);
 

@@ -6,7 +6,7 @@ use crate::text::{CallAnswer, Text};
 use std::alloc::Global;
 use std::fmt;
 
-/// A word and the fields behind it.
+/// A word and the fields after it.
 #[derive(Clone, Copy)]
 pub struct Call<'a> {
     /// The memory for what is read and answered.
@@ -34,7 +34,7 @@ impl<'a> Call<'a> {
         }
     }
 
-    /// The call behind the word.
+    /// The call after the word.
     pub fn inner(self) -> Call<'a> {
         Call::new(self.alloc, self.fields)
     }
@@ -96,7 +96,7 @@ impl<'a> Call<'a> {
         Ok(self.text(word))
     }
 
-    /// An answer of one value behind a text.
+    /// An answer of one value after a text.
     pub fn value_answer(self, before: &str, value: &impl fmt::Display) -> CallAnswer {
         Ok(self.text(before).with("", value))
     }

@@ -6,7 +6,7 @@ use thiserror::Error;
 /// What is wrong with a line.
 #[derive(Debug, Drop, Error)]
 pub enum Fault {
-    /// No call has this word and so many fields.
+    /// No call has this word and this number of fields.
     #[error("no such call")]
     NoCall,
     /// A field is not octets in hex, or not as many as it should be.

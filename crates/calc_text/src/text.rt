@@ -37,7 +37,7 @@ impl Text {
         }
     }
 
-    /// The text with more behind it: what stands before a value, and the value.
+    /// The text with more after it: what stands before a value, and the value.
     pub fn with(self, before: &str, value: &impl fmt::Display) -> Text {
         match self.grown {
             Ok(text) => Text {

@@ -17,7 +17,7 @@ trait Element: Sized + Drop {
     fn shown(&self, text: Text) -> Text;
 
     /// Writes the element.
-    fn put(&self, out: &mut Vec<u8>) -> Result<(), AllocError>;
+    fn put(&self, out: &mut Vec<u8>) -> Result<(), NasFault>;
 }
 
 impl Element for Imsi {
@@ -30,7 +30,7 @@ impl Element for Imsi {
             .octets("; octets ", &self.octets())
     }
 
-    fn put(&self, out: &mut Vec<u8>) -> Result<(), AllocError> {
+    fn put(&self, out: &mut Vec<u8>) -> Result<(), NasFault> {
         self.write(out)
     }
 }
@@ -44,7 +44,7 @@ impl Element for MobileIdentity {
         with_identity(text, self)
     }
 
-    fn put(&self, out: &mut Vec<u8>) -> Result<(), AllocError> {
+    fn put(&self, out: &mut Vec<u8>) -> Result<(), NasFault> {
         self.write(out)
     }
 }
@@ -58,7 +58,7 @@ impl Element for Guti {
         with_guti(text, "GUTI ", self)
     }
 
-    fn put(&self, out: &mut Vec<u8>) -> Result<(), AllocError> {
+    fn put(&self, out: &mut Vec<u8>) -> Result<(), NasFault> {
         self.write(out)
     }
 }
@@ -72,7 +72,7 @@ impl Element for TaiList {
         with_tai_list(text, self)
     }
 
-    fn put(&self, out: &mut Vec<u8>) -> Result<(), AllocError> {
+    fn put(&self, out: &mut Vec<u8>) -> Result<(), NasFault> {
         self.write(out)
     }
 }
@@ -90,7 +90,7 @@ impl Element for UeCapability {
             .octets("; replayed ", self.replayed().as_slice())
     }
 
-    fn put(&self, out: &mut Vec<u8>) -> Result<(), AllocError> {
+    fn put(&self, out: &mut Vec<u8>) -> Result<(), NasFault> {
         self.write(out)
     }
 }
@@ -129,7 +129,9 @@ fn element_answer<T: Element>(call: Call) -> CallAnswer {
 
 fn written_answer<T: Element>(call: Call, element: &T) -> CallAnswer {
     let mut written = Vec::new(call.alloc);
-    element.put(&mut written)?;
+    let Ok(()) = element.put(&mut written) else {
+        return Err(Fault::NoMemory(AllocError));
+    };
     Ok(element.shown(call.text("")).octets("; written ", &written))
 }
 

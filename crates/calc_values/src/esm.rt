@@ -3,7 +3,7 @@
 use calc_text::{Call, Text};
 use nas_messages::{EsmBody, EsmMessage};
 
-/// A message behind its bearer and its transaction.
+/// A message after its bearer and its transaction.
 pub fn esm_text(call: Call, message: &EsmMessage) -> Text {
     let text = call
         .text("bearer ")

@@ -1,13 +1,16 @@
-//! Calls of `trace_words`: lines of a trace, the lines of its answers, and what stands in them.
+//! Calls of `trace_text`: lines of a trace, the lines of its answers, and what stands in them.
 
 use calc_text::{Call, CallAnswer, Fault, Field};
-use identity_slots::StationNumber;
+use identity_slots::{AssociationId, Slot, StationNumber};
 use nas_elements::Imsi;
 use std::alloc::Global;
 use trace_text::{
-    Answer, AnswerOwner, ApnLabel, BitRate, EcmWord, EmmWord, EsmWord, Line, TraceFault,
-    TraceTicks, parse_line, write_answer, write_line,
+    AggregateBitRate, Answer, Apn, BearerState, EcmState, EmmState, Line, Owner, States,
+    TraceFault, TraceTicks, parse_line, write_answer, write_line,
 };
+
+/// The last number of a phone at its station (TS 36.413 clause 9.2.3.4).
+const LAST_PHONE: u32 = 0xff_ffff;
 
 /// What a line of a trace says, written again, with the octets of its network, or its fault. A comment says nothing.
 pub fn line_answer(call: Call, text: &[u8]) -> CallAnswer {
@@ -21,7 +24,7 @@ pub fn line_answer(call: Call, text: &[u8]) -> CallAnswer {
     let written = write_line(call.alloc, &line)?;
     let text = call.text("is ").word(written.as_str());
     match &line {
-        Line::Mme(fields) => Ok(text.octets("; network ", &fields.plmn)),
+        Line::Mme(network) => Ok(text.octets("; network ", network.plmn.as_slice())),
         _ => Ok(text),
     }
 }
@@ -45,11 +48,11 @@ pub fn answer(call: Call) -> CallAnswer {
 fn range_answer(call: Call) -> CallAnswer {
     match call.word {
         "trace_station" => call.yes_answer(StationNumber::try_new(call.one()?).is_some()),
-        "bit_rate" => call.yes_answer(BitRate::try_new(call.one()?).is_some()),
+        "bit_rate" => call.yes_answer(AggregateBitRate::try_new(call.one()?).is_some()),
         "trace_ticks" => call.yes_answer(TraceTicks::try_new(call.one()?).is_some()),
         "apn_label" => {
             let label: &str = call.one()?;
-            call.yes_answer(ApnLabel::try_new(call.alloc, label.as_bytes())?.is_some())
+            call.yes_answer(Apn::try_new(label.as_bytes()).is_some())
         }
         _ => Err(Fault::NoCall),
     }
@@ -87,29 +90,43 @@ fn faults_answer(call: Call) -> CallAnswer {
 }
 
 fn out_answer(call: Call) -> CallAnswer {
-    let (OwnerWord(owner), station, octets): (_, _, Vec<u8>) = call.three()?;
+    let (OwnerWord(owner), StationWord(station), octets): (_, _, Vec<u8>) = call.three()?;
     shown(call, &Answer::Sent(owner, station, &octets))
 }
 
 fn state_answer(call: Call) -> CallAnswer {
     let (digits, EmmField(emm), EcmField(ecm), EsmField(esm)) = call.four()?;
     match Imsi::try_from_digits(digits) {
-        Some(imsi) => shown(call, &Answer::State(imsi, emm, ecm, esm)),
+        Some(imsi) => shown(call, &Answer::State(imsi, States { emm, ecm, esm })),
         None => Err(Fault::Number),
     }
 }
 
-/// `e` and a station, `s` and a slot, or `x`, a station, `.` and a phone's number there.
+/// The number of a station.
 #[derive(Clone, Copy)]
-struct OwnerWord(AnswerOwner);
+struct StationWord(StationNumber);
+
+impl<'a> Field<'a> for StationWord {
+    fn read(alloc: Global, text: &'a str) -> Result<StationWord, Fault> {
+        match StationNumber::try_new(u8::read(alloc, text)?) {
+            Some(station) => Ok(StationWord(station)),
+            None => Err(Fault::Number),
+        }
+    }
+}
+
+/// `e` and a station, `s` and a slot, or `x`, a station, `.` and a phone's eNB UE S1AP ID.
+#[derive(Clone, Copy)]
+struct OwnerWord(Owner);
 
 impl<'a> Field<'a> for OwnerWord {
     fn read(alloc: Global, text: &'a str) -> Result<OwnerWord, Fault> {
         if let Some(station) = text.strip_prefix("e") {
-            return Ok(OwnerWord(AnswerOwner::Station(u8::read(alloc, station)?)));
+            let StationWord(station) = StationWord::read(alloc, station)?;
+            return Ok(OwnerWord(Owner::Station(station)));
         }
         if let Some(slot) = text.strip_prefix("s") {
-            return Ok(OwnerWord(AnswerOwner::Subscriber(u32::read(alloc, slot)?)));
+            return subscriber_of(alloc, slot);
         }
         match text.strip_prefix("x") {
             Some(stranger) => stranger_of(alloc, stranger),
@@ -118,25 +135,37 @@ impl<'a> Field<'a> for OwnerWord {
     }
 }
 
+fn subscriber_of(alloc: Global, text: &str) -> Result<OwnerWord, Fault> {
+    match Slot::try_new(u32::read(alloc, text)?) {
+        Some(slot) => Ok(OwnerWord(Owner::Subscriber(slot))),
+        None => Err(Fault::Number),
+    }
+}
+
 fn stranger_of(alloc: Global, text: &str) -> Result<OwnerWord, Fault> {
     let Some((station, phone)) = text.split_once(".") else {
         return Err(Fault::Name);
     };
-    let owner = AnswerOwner::Stranger(u8::read(alloc, station)?, u32::read(alloc, phone)?);
-    Ok(OwnerWord(owner))
+    let StationWord(station) = StationWord::read(alloc, station)?;
+    let phone = u32::read(alloc, phone)?;
+    if phone > LAST_PHONE {
+        return Err(Fault::Number);
+    }
+    let id = AssociationId::of_stranger(station.get(), phone);
+    Ok(OwnerWord(Owner::Stranger(id)))
 }
 
 /// The word of how a subscriber is registered.
 #[derive(Clone, Copy)]
-struct EmmField(EmmWord);
+struct EmmField(EmmState);
 
 impl<'a> Field<'a> for EmmField {
     fn read(_alloc: Global, text: &'a str) -> Result<EmmField, Fault> {
         match text {
-            "DEREGISTERED" => Ok(EmmField(EmmWord::Deregistered)),
-            "COMMON-PROCEDURE-INITIATED" => Ok(EmmField(EmmWord::CommonProcedureInitiated)),
-            "REGISTERED" => Ok(EmmField(EmmWord::Registered)),
-            "DEREGISTERED-INITIATED" => Ok(EmmField(EmmWord::DeregisteredInitiated)),
+            "DEREGISTERED" => Ok(EmmField(EmmState::Deregistered)),
+            "COMMON-PROCEDURE-INITIATED" => Ok(EmmField(EmmState::CommonProcedureInitiated)),
+            "REGISTERED" => Ok(EmmField(EmmState::Registered)),
+            "DEREGISTERED-INITIATED" => Ok(EmmField(EmmState::DeregisteredInitiated)),
             _ => Err(Fault::Name),
         }
     }
@@ -144,13 +173,13 @@ impl<'a> Field<'a> for EmmField {
 
 /// The word of whether a subscriber has a connection.
 #[derive(Clone, Copy)]
-struct EcmField(EcmWord);
+struct EcmField(EcmState);
 
 impl<'a> Field<'a> for EcmField {
     fn read(_alloc: Global, text: &'a str) -> Result<EcmField, Fault> {
         match text {
-            "IDLE" => Ok(EcmField(EcmWord::Idle)),
-            "CONNECTED" => Ok(EcmField(EcmWord::Connected)),
+            "IDLE" => Ok(EcmField(EcmState::Idle)),
+            "CONNECTED" => Ok(EcmField(EcmState::Connected)),
             _ => Err(Fault::Name),
         }
     }
@@ -158,14 +187,14 @@ impl<'a> Field<'a> for EcmField {
 
 /// The word of how far a subscriber's bearer is.
 #[derive(Clone, Copy)]
-struct EsmField(EsmWord);
+struct EsmField(BearerState);
 
 impl<'a> Field<'a> for EsmField {
     fn read(_alloc: Global, text: &'a str) -> Result<EsmField, Fault> {
         match text {
-            "INACTIVE" => Ok(EsmField(EsmWord::Inactive)),
-            "ACTIVE-PENDING" => Ok(EsmField(EsmWord::ActivePending)),
-            "ACTIVE" => Ok(EsmField(EsmWord::Active)),
+            "INACTIVE" => Ok(EsmField(BearerState::Inactive)),
+            "ACTIVE-PENDING" => Ok(EsmField(BearerState::ActivePending)),
+            "ACTIVE" => Ok(EsmField(BearerState::Active)),
             _ => Err(Fault::Name),
         }
     }

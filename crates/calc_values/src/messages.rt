@@ -5,6 +5,7 @@ use crate::emm::emm_text;
 use crate::esm::esm_text;
 use crate::lines;
 use calc_text::{Call, CallAnswer, Codec, Fault, Field, Text, turned_answer};
+use nas_elements::NasFault;
 use nas_messages::{
     Direction, Protected, decode_emm, decode_esm, encode_emm, encode_esm, join_protected,
     split_protected,
@@ -33,11 +34,15 @@ impl Codec for NasCodec {
     fn again(&self, alloc: Global, octets: &[u8]) -> Result<Option<Vec<u8>>, AllocError> {
         match self {
             NasCodec::Emm(direction) => match decode_emm(octets, *direction) {
-                Ok(message) => Ok(Some(encode_emm(alloc, &message)?)),
+                Ok(message) => encode_emm(alloc, &message)
+                    .map(Some)
+                    .map_err(|_| AllocError),
                 Err(_) => Ok(None),
             },
             NasCodec::Esm => match decode_esm(octets) {
-                Ok(message) => Ok(Some(encode_esm(alloc, &message)?)),
+                Ok(message) => encode_esm(alloc, &message)
+                    .map(Some)
+                    .map_err(|_| AllocError),
                 Err(_) => Ok(None),
             },
         }
@@ -100,9 +105,9 @@ fn protected_text(call: Call, protected: &Protected<&[u8]>) -> Text {
 }
 
 /// The text and what is written of a message that was read, unless memory for it was refused.
-fn again_answer(text: Text, octets: &[u8], written: Result<Vec<u8>, AllocError>) -> CallAnswer {
+fn again_answer(text: Text, octets: &[u8], written: Result<Vec<u8>, NasFault>) -> CallAnswer {
     match written {
         Ok(written) => Ok(text.again("; written ", octets, &written)),
-        Err(error) => Err(Fault::NoMemory(error)),
+        Err(_) => Err(Fault::NoMemory(AllocError)),
     }
 }

@@ -47,7 +47,7 @@ fn answered(rt: &(impl Print + AllocGlobal), desk: &mut Desk, line: &str) -> io:
     }
 }
 
-/// What a line is answered with. `line` has the rest of the line as its one field; the words of each other call stand behind
+/// What a line is answered with. `line` has the rest of the line as its one field; the words of each other call stand after
 /// one blank each.
 fn answer(alloc: Global, desk: &mut Desk, line: &str) -> Result<String, Fault> {
     let words: Vec<&str> = line.split(" ").collect(alloc)?;

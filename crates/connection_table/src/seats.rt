@@ -11,7 +11,7 @@ use s1ap_elements::EnbUeId;
 use sorted_list::{Keyed, SortedList};
 use std::alloc::AllocError;
 
-/// How many eNB UE ids there are: so many benches are for one MME UE id at a station.
+/// How many eNB UE ids there are: that many benches are for one MME UE id at a station.
 pub(crate) const ENB_IDS: u64 = 0x100_0000;
 
 /// A slot on its bench.
@@ -137,7 +137,7 @@ pub(crate) fn move_seat(
     sit_down(seats, slot, new);
 }
 
-/// Makes room in a list for so many slots in all. Where that is refused, each slot sits where it sat.
+/// Makes room in a list for that many slots in all. Where that is refused, each slot sits where it sat.
 pub(crate) fn make_room(seats: &mut SortedList<Seat>, count: usize) -> Result<(), AllocError>
     ensures kept { (benches : List (Option ℕ)) → IsIndex benches seats.old → IsIndex benches seats.new }
     ensures more { OnOk result

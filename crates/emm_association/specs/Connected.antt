@@ -1,10 +1,10 @@
 -- The rows of messages on an association (TS 36.413 clause 8), and of what ends one.
 use Rattle.std.specs.Prelude.{ℕ, ◌+◌, ◌%◌, ◌==◌, ◌&&◌, Bool, false, not, if◌then◌else◌, List, filter, Option, Some, None, unwrap_or}
 use Rattle.std.specs.Option.{option_map_or}
-use Rattle.s1ap_elements.specs.declared.cause.Cause.{Cause}
-use Rattle.s1ap_elements.specs.declared.cause.Cause.TheVariants as causes
-use Rattle.s1ap_elements.specs.declared.cause.RadioNetworkCause.TheVariants as radio
-use Rattle.s1ap_elements.specs.declared.cause.ProtocolCause.TheVariants as protocol
+use Rattle.s1ap_causes.specs.declared.cause.Cause.{Cause}
+use Rattle.s1ap_causes.specs.declared.cause.Cause.TheVariants as causes
+use Rattle.s1ap_causes.specs.declared.cause.RadioNetworkCause.TheVariants as radio
+use Rattle.s1ap_causes.specs.declared.cause.ProtocolCause.TheVariants as protocol
 use Rattle.eps_keys.specs.Hmac.{next_hop}
 use Rattle.identity_slots.specs.Ids.{is_of_slot}
 use Rattle.mme_types.specs.declared.event.UeBody.{UeBody}
@@ -39,7 +39,7 @@ indicate cause m d = emit m.station (error_indication m.mme_ue_id m.enb_ue_id ca
 unfoldable pub not_switched : Cause → UeMessage (List ℕ) → Draft → Draft
 not_switched cause m d = emit m.station (path_switch_failure m.mme_ue_id m.enb_ue_id cause) None d
 
--- the next hop chaining count behind this one: it goes round at 8 (TS 33.401 clause 7.2.8.1)
+-- the next hop chaining count after this one: it goes round at 8 (TS 33.401 clause 7.2.8.1)
 abbrev pub next_chaining_count : ℕ → ℕ
 next_chaining_count n = (n + 1) % 8
 
@@ -48,7 +48,7 @@ next_chaining_count n = (n + 1) % 8
 abbrev pub standing_hop : List ℕ → RadioKeys → List ℕ
 standing_hop kasme keys = unwrap_or keys.next_hop (next_hop kasme keys.kenb)
 
--- the next hop behind it, which a path switch takes
+-- the next hop after it, which a path switch takes
 abbrev pub hop_behind : Context → List ℕ
 hop_behind x = next_hop x.kasme (standing_hop x.kasme x.radio)
 

@@ -20,7 +20,7 @@ use std::alloc::{AllocError, Global};
 // Next hop chaining counts are below this (TS 33.401 clause 7.2.8.1).
 const CHAINING_COUNTS: u8 = 8;
 
-// The next hop chaining count behind this one: it goes round.
+// The next hop chaining count after this one: it goes round.
 fn next_chaining_count(count: u8) -> u8
     ensures { result ≡ next_chaining_count count }
 {
@@ -37,7 +37,7 @@ fn standing_hop(schedule: &mut KeySchedule, kasme: &[u8; 32], radio: &RadioKeys)
     }
 }
 
-// The next hop behind the one that stands.
+// The next hop after the one that stands.
 fn hop_behind(schedule: &mut KeySchedule, context: &Context) -> [u8; 32]
     ensures { result ≡ hop_behind context.now }
 {

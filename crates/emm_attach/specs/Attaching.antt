@@ -2,11 +2,11 @@
 -- A row goes from a step under way to the step with the row done; none where a downlink count is spent.
 use Rattle.std.specs.Prelude.{ℕ, ◌+◌, ◌-◌, ◌%◌, ◌==◌, Bool, true, false, if◌then◌else◌, List, [], ◌∷◌, replicate, slice_get, Option, Some, None, Ok, Err}
 use Rattle.std.specs.Option.{option_map_or}
-use Rattle.s1ap_elements.specs.declared.cause.Cause.TheVariants.{Nas}
-use Rattle.s1ap_elements.specs.declared.cause.NasCause.TheVariants.{AuthenticationFailure, Detach, NormalRelease, Unspecified}
+use Rattle.s1ap_causes.specs.declared.cause.Cause.TheVariants.{Nas}
+use Rattle.s1ap_causes.specs.declared.cause.NasCause.TheVariants.{AuthenticationFailure, Detach, NormalRelease, Unspecified}
 use Rattle.s1ap_elements.specs.declared.phone.Tai.{Tai}
 use Rattle.nas_elements.specs.Capability.{has_eia2}
-use Rattle.nas_messages.specs.Codes.{emm_discriminator}
+use Rattle.nas_elements.specs.Codes.{emm_discriminator}
 use Rattle.nas_messages.specs.declared.protection.SecurityHeader.TheVariants.{IntegrityProtectedCiphered, NewContext, NewContextCiphered}
 use Rattle.eps_keys.specs.Hmac.{kenb, nas_integrity_key}
 use Rattle.eps_keys.specs.Same.{same_octets}

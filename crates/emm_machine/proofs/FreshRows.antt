@@ -12,7 +12,7 @@ use Rattle.nas_security.specs.declared.fault.SecurityFault.{SecurityFault}
 use Rattle.nas_security.specs.Accepting.{Acceptance, accepted, short_accepted}
 use Rattle.nas_security.specs.Context.{Mac}
 use Rattle.nas_security.specs.Counts.{first_after}
-use Rattle.s1ap_elements.specs.declared.cause.Cause.{Cause}
+use Rattle.s1ap_causes.specs.declared.cause.Cause.{Cause}
 use Rattle.s1ap_elements.specs.declared.phone.Tai.{Tai}
 use Rattle.s1ap_pdus.specs.declared.pdu.Pdu.{Pdu}
 use Rattle.emm_state.specs.declared.draft.Draft.{Draft}

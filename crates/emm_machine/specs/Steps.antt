@@ -1,7 +1,7 @@
 -- The step of the one-subscriber machine, and runs of it.
 use Rattle.std.specs.Prelude.{List, [], ◌∷◌, Option, Some, unwrap_or}
-use Rattle.s1ap_elements.specs.declared.cause.Cause.TheVariants.{Nas}
-use Rattle.s1ap_elements.specs.declared.cause.NasCause.TheVariants.{Unspecified}
+use Rattle.s1ap_causes.specs.declared.cause.Cause.TheVariants.{Nas}
+use Rattle.s1ap_causes.specs.declared.cause.NasCause.TheVariants.{Unspecified}
 use Rattle.mme_types.specs.declared.octets.Answer.{Answer}
 use Rattle.mme_types.specs.Events.{Item, Nothing, Initial, Claim, Message, Displaced, StationGone, ConnectionsGone, Tick, Data, Cancel}
 use Rattle.emm_state.specs.declared.draft.Draft.{Draft}

@@ -107,7 +107,7 @@ above_more : (n : ℕ) (o : Option ℕ) → IsAbove n o → IsAbove 1 (less n o)
 above_more n None h k = tt
 above_more n (Some m) h k = omega arith
 
--- where more than one tick is left behind n ticks, more than n + 1 were left
+-- where more than one tick is left after n ticks, more than n + 1 were left
 pub above_later : (s : Setting) (n : ℕ) (solo : Solo) → AreAbove n (countdowns solo)
     → AreAbove 1 (countdowns (ticks_after s n solo)) → AreAbove (n + 1) (countdowns solo)
 above_later s n solo h later =
@@ -145,7 +145,7 @@ timed_less : (n : ℕ) (o : Option ℕ) → IsAbove n o → IsTimed o → IsTime
 timed_less n None above h = tt
 timed_less n (Some left) above h = let most = h.1 in (omega arith, omega arith)
 
--- where each countdown has more than n ticks left, it runs on behind n ticks
+-- where each countdown has more than n ticks left, it runs on after n ticks
 pub running_later : (s : Setting) (n : ℕ) (solo : Solo) → AreAbove n (countdowns solo) → IsRunning solo
     → IsRunning (ticks_after s n solo)
 unfolding countdowns solo_aged

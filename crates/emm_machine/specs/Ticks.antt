@@ -9,7 +9,7 @@ use Rattle.emm_state.specs.Timers.{reachable_ticks}
 use Rattle.emm_machine.specs.Steps.{solo_step}
 use Rattle.emm_machine.specs.Words.{procedure_left}
 
--- the state after so many ticks
+-- the state after n ticks
 unfoldable pub ticks_after : Setting → ℕ → Solo → Solo
 ticks_after s zero solo = solo
 ticks_after s (suc n) solo = (solo_step s (ticks_after s n solo) Tick).solo
@@ -60,7 +60,7 @@ IsTimed (Some left) = (0 < left) × (left ≤ reachable_ticks)
 abbrev pub AreTimed : Option ℕ × Option ℕ → Type 0
 AreTimed both = IsTimed both.0 × IsTimed both.1
 
--- a procedure that is counted is timed, and has what is sent again behind its last tick
+-- a procedure that is counted is timed, and has what is sent again after its last tick
 abbrev pub IsGoing : Option Countdown → Option Repeat → Type 0
 IsGoing None repeat = Unit {0}
 IsGoing (Some c) repeat = IsTimed (Some c.left) × IsSome repeat

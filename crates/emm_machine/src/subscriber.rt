@@ -259,7 +259,7 @@ impl Subscriber {
         age(&mut self.state.solo, ticks);
     }
 
-    /// The connection: its association, station and number there.
+    /// The connection: its association, station and eNB UE S1AP ID.
     pub fn connection(&self) -> Option<Connection>
         ensures { result ≡ self.now.solo.connection }
     {

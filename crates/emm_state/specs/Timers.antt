@@ -1,6 +1,6 @@
 -- The timers of procedures: lengths in ticks, and how often the message is sent again.
 use Rattle.std.specs.Prelude.{ℕ}
-use Rattle.nas_messages.specs.Timers.{mobile_reachable_ticks, t3413_repeats, t3413_ticks, t3422_repeats, t3422_ticks, t3450_repeats, t3450_ticks, t3460_repeats, t3460_ticks, t3489_repeats, t3489_ticks}
+use Rattle.nas_elements.specs.Timers.{mobile_reachable_ticks, t3413_repeats, t3413_ticks, t3422_repeats, t3422_ticks, t3450_repeats, t3450_ticks, t3460_repeats, t3460_ticks, t3489_repeats, t3489_ticks}
 use Rattle.emm_state.specs.declared.solo.NasTimer.{NasTimer}
 use Rattle.emm_state.specs.declared.solo.NasTimer.TheVariants.{T3413, T3422, T3450, T3460, T3489}
 

@@ -2,8 +2,8 @@
 
 ghost use Rattle.std.specs.Prelude.{◌≡◌, ◌<◌, ◌^◌, IfOk, OnOk, Some, None, option_map};
 ghost use Rattle.s1ap_pdus.specs.Pdus.{encoded, lists};
-ghost use Rattle.s1ap_elements.specs.declared.cause.Cause.TheVariants as causes;
-ghost use Rattle.s1ap_elements.specs.declared.cause.NasCause.TheVariants as nas_causes;
+ghost use Rattle.s1ap_causes.specs.declared.cause.Cause.TheVariants as causes;
+ghost use Rattle.s1ap_causes.specs.declared.cause.NasCause.TheVariants as nas_causes;
 ghost use Rattle.emm_state.specs.Actions.{connect, connect_on, association_counted, disconnected, emit, ended, fall, is_registered, leave_old, lost, next_id, protect, protect_and_await, refuse, release, resting, seal, sealed_under, send, set_up, set_up_with, start, turn_away, wipe, with_context};
 ghost use Rattle.emm_state.specs.Does.{Does, Makes};
 ghost use Rattle.emm_state.specs.declared.draft.Draft.{Draft};

@@ -9,6 +9,7 @@ mod solo;
 
 pub use actions::is_registered;
 pub use draft::{Draft, Sealed, StepStop};
+pub use nas_elements::timers;
 pub use setting::Setting;
 pub use solo::{
     Asked, Context, Countdown, Counter, NasTimer, Phase, Protection, Repeat, Solo, Stations, ksi_of,

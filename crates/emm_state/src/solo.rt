@@ -3,7 +3,7 @@
 ghost use Rattle.std.specs.Prelude.{◌≡◌, ◌<◌, ◌==◌, not, filter, IfOk};
 ghost use Rattle.std.specs.List.{list_any};
 ghost use Rattle.identity_slots.specs.Ids.{next_counter, id_of_slot};
-ghost use Rattle.nas_messages.specs.Codes.{no_key_set};
+ghost use Rattle.nas_elements.specs.Codes.{no_key_set};
 ghost use Rattle.emm_state.specs.KeySets.{ksi_of};
 ghost use Rattle.emm_state.specs.Phases.{is};
 ghost use Rattle.emm_state.specs.Timers.{repeats_of, ticks_of};

@@ -2,8 +2,8 @@
 use Rattle.std.specs.Prelude.{◌≡◌, ℕ, Bool, true, false, if◌then◌else◌, Option, Some, None}
 use Rattle.std.proofs.Common.{refl, ap, ◌∙◌}
 use Rattle.std.specs.Option.{option_map_or}
-use Rattle.s1ap_elements.specs.declared.cause.Cause.TheVariants.{Nas}
-use Rattle.s1ap_elements.specs.declared.cause.NasCause.TheVariants.{NormalRelease}
+use Rattle.s1ap_causes.specs.declared.cause.Cause.TheVariants.{Nas}
+use Rattle.s1ap_causes.specs.declared.cause.NasCause.TheVariants.{NormalRelease}
 use Rattle.mme_types.specs.declared.connection.Connection.{Connection}
 use Rattle.mme_types.specs.declared.octets.Mark.{Mark}
 use Rattle.mme_signalling.specs.Pdus.{release_command}
@@ -37,7 +37,7 @@ leave_beside : (station enb_ue_id : ℕ) (a : Option Mark) (c : Option Context) 
 unfolding leave_old
 leave_beside station enb_ue_id a c d = left_beside station enb_ue_id d.solo.connection a c d
 
--- where the connection is made, the context may be set before or behind
+-- where the connection is made, the context may be set before or after
 pub connect_beside : (slot station enb_ue_id : ℕ) (a : Option Mark) (c : Option Context) (d : Draft)
     → connect slot station enb_ue_id (beside a c d) ≡ beside a c (connect slot station enb_ue_id d)
 unfolding connect connect_on association_counted

@@ -1,8 +1,8 @@
 -- The rows of a phone that is known: its INITIAL UE MESSAGEs, and its protected messages.
 use Rattle.std.specs.Prelude.{ℕ, Bool, true, false, if◌then◌else◌, List, [], ◌∷◌, Option, Some, None, Result, Ok, Err}
 use Rattle.std.specs.Option.{option_map_or}
-use Rattle.s1ap_elements.specs.declared.cause.Cause.TheVariants.{Nas}
-use Rattle.s1ap_elements.specs.declared.cause.NasCause.TheVariants.{Detach, NormalRelease, Unspecified}
+use Rattle.s1ap_causes.specs.declared.cause.Cause.TheVariants.{Nas}
+use Rattle.s1ap_causes.specs.declared.cause.NasCause.TheVariants.{Detach, NormalRelease, Unspecified}
 use Rattle.s1ap_elements.specs.declared.phone.Tai.{Tai}
 use Rattle.nas_messages.specs.declared.protection.SecurityHeader.{SecurityHeader}
 use Rattle.nas_messages.specs.declared.protection.SecurityHeader.TheVariants.{IntegrityProtected, IntegrityProtectedCiphered}
@@ -192,7 +192,7 @@ reacted (Answered octets) s d = protect IntegrityProtectedCiphered octets d
 unfoldable pub inner_esm : List ℕ → Setting → Draft → Option Draft
 inner_esm octets s d = reacted (reaction d.solo.bearer (is EsmInformation d.solo.phase) octets) s d
 
--- a message behind its protection
+-- a message after its protection
 unfoldable pub inner_message : List ℕ → Setting → Tai → Draft → Option Draft
 inner_message octets s tai d = if is_esm octets then inner_esm octets s d else inner_emm (heard octets) s tai d
 

@@ -11,7 +11,7 @@ use Rattle.per_bits.specs.Spelling.{length_octets}
 use Rattle.per_bits.specs.Formats.{raw}
 use Rattle.per_bits.specs.Written.{aligned_form, length_form, string_form, string_fits, written}
 
--- at most so many bits, and so many octets
+-- at most n bits, and n octets
 pub record Short (n : ℕ) (bs : List Bool) : Type 0 where
   pub most : length bs ≤ n
 

@@ -12,7 +12,7 @@ use Rattle.enb_sim.specs.declared.profile.StationProfile.{StationProfile}
 abbrev pub area_of : StationProfile → Tai
 area_of s = record { plmn = s.plmn; tac = s.tac }
 
--- the number of a cell behind that of its station: cell 1 (TS 36.413 clause 9.2.1.38)
+-- the number of a cell after that of its station: cell 1 (TS 36.413 clause 9.2.1.38)
 abbrev pub cell_number : List Bool
 cell_number = false ∷ false ∷ false ∷ false ∷ false ∷ false ∷ false ∷ true ∷ []
 

@@ -1,7 +1,7 @@
 -- The S1AP messages that a station sends.
 use Rattle.std.specs.Prelude.{ℕ, List, [], ◌∷◌, Option, None}
-use Rattle.s1ap_elements.specs.declared.cause.Cause.TheVariants.{RadioNetwork}
-use Rattle.s1ap_elements.specs.declared.cause.RadioNetworkCause.TheVariants.{UserInactivity}
+use Rattle.s1ap_causes.specs.declared.cause.Cause.TheVariants.{RadioNetwork}
+use Rattle.s1ap_causes.specs.declared.cause.RadioNetworkCause.TheVariants.{UserInactivity}
 use Rattle.s1ap_elements.specs.declared.phone.RrcCause.TheVariants.{MoSignalling}
 use Rattle.s1ap_elements.specs.declared.phone.STmsi.{STmsi}
 use Rattle.s1ap_elements.specs.declared.phone.UeIdPair.{UeIdPair}

@@ -5,7 +5,7 @@ use Rattle.enb_sim.specs.declared.profile.StationProfile.{StationProfile}
 use Rattle.enb_sim.specs.declared.station.StationAct.{StationAct}
 use Rattle.enb_sim.specs.declared.station.StationAct.TheVariants.{SetUp, Initial, Uplink, Switch, Release}
 use Rattle.enb_sim.specs.Sending.{initial_pdu, release_pdu, setup_pdu, switch_pdu, uplink_pdu}
-use Rattle.enb_sim.specs.Delivering.{StationView, holds_pair}
+use Rattle.enb_sim.specs.Delivering.{StationView, holds_pair, pair_with}
 
 -- not set up, with no association
 abbrev pub new_station : StationProfile → StationView
@@ -20,9 +20,10 @@ sent_if possible octets = if possible then octets else None
 unfoldable pub act_octets : StationAct → StationView → Option (List ℕ)
 act_octets SetUp s = encoded (setup_pdu s.profile)
 act_octets (Initial enb_ue_id nas s_tmsi) s = sent_if s.ready (encoded (initial_pdu s.profile enb_ue_id nas.now s_tmsi))
-act_octets (Uplink pair nas) s = sent_if (s.ready && holds_pair pair s.pairs) (encoded (uplink_pdu s.profile pair nas.now))
-act_octets (Switch pair) s = sent_if s.ready (encoded (switch_pdu s.profile pair))
-act_octets (Release pair) s = sent_if (s.ready && holds_pair pair s.pairs) (encoded (release_pdu pair))
+act_octets (Uplink m b nas) s =
+    sent_if (s.ready && holds_pair (pair_with m b) s.pairs) (encoded (uplink_pdu s.profile (pair_with m b) nas.now))
+act_octets (Switch m b) s = sent_if s.ready (encoded (switch_pdu s.profile (pair_with m b)))
+act_octets (Release m b) s = sent_if (s.ready && holds_pair (pair_with m b) s.pairs) (encoded (release_pdu (pair_with m b)))
 
 -- setting up ends what was
 abbrev pub after_station_act : StationAct → StationView → StationView

@@ -18,7 +18,7 @@ use s1ap_messages::{
 };
 use std::alloc::{AllocError, Global};
 
-// The number 1 of a cell, behind 20 bits for its station's.
+// The number 1 of a cell, after 20 bits for its station's.
 const CELL: [bool; 28] = [
     false, false, false, false, false, false, false, false, false, false, false, false, false,
     false, false, false, false, false, false, false, false, false, false, false, false, false,
@@ -100,10 +100,7 @@ fn capabilities() -> SecurityCapabilities
 fn default_bearer() -> ErabId
     ensures { result ≡ 5 }
 {
-    match Whole::try_new(5) {
-        Some(id) => id,
-        None => unreachable!(),
-    }
+    Whole::new(5)
 }
 
 /// INITIAL UE MESSAGE (TS 36.413 clause 8.6.2.1).

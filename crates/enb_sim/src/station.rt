@@ -14,7 +14,9 @@ use crate::messages::{
 use crate::pairs::{drop_pair, hold_pair, holds_pair, pair_of, pair_with};
 use crate::profile::StationProfile;
 use crate::setup::setup;
-use s1ap_elements::{EnbUeId, MmeUeId, STmsi, UeIdPair, UeS1apIds};
+use identity_slots::StationNumber;
+use per_bits::BitField;
+use s1ap_elements::{EnbUeId, MmeUeId, Plmn, STmsi, Tac, UeIdPair, UeS1apIds};
 use s1ap_messages::{DownlinkNasTransport, InitialContextSetupRequest, Pdu, S1apFault, decode};
 use std::alloc::{AllocError, Global};
 use std::marker::Model;
@@ -32,16 +34,19 @@ pub enum StationAct<'a> {
     },
     /// UPLINK NAS TRANSPORT on an association that the station holds.
     Uplink {
-        pair: UeIdPair,
+        mme_ue_id: MmeUeId,
+        enb_ue_id: EnbUeId,
         nas: &'a [u8],
     },
-    /// PATH SWITCH REQUEST: a phone came here with an association of another station, under a new number.
+    /// PATH SWITCH REQUEST: a phone came here with an association of another station, under a new eNB UE S1AP ID.
     Switch {
-        pair: UeIdPair,
+        mme_ue_id: MmeUeId,
+        enb_ue_id: EnbUeId,
     },
     /// UE CONTEXT RELEASE REQUEST for inactivity, of an association that the station holds.
     Release {
-        pair: UeIdPair,
+        mme_ue_id: MmeUeId,
+        enb_ue_id: EnbUeId,
     },
 }
 
@@ -64,13 +69,26 @@ impl Model for Station {
 }
 
 impl Station {
-    /// A station that isn't set up and holds no association.
-    pub fn new(alloc: Global, profile: StationProfile) -> Station
-        ensures { result ≡ new_station profile }
+    /// A station that isn't set up and holds no association, by its number here, its network in the form of S1AP, its Macro eNB ID
+    /// and its one tracking area. Takes no memory.
+    pub fn new(
+        alloc: Global,
+        number: StationNumber,
+        plmn: Plmn,
+        macro_id: BitField<20>,
+        tac: Tac,
+    ) -> Station
+        ensures { result
+            ≡ new_station (record { number = number; plmn = plmn; macro_id = macro_id; tac = tac }) }
     {
         Station {
             alloc,
-            profile,
+            profile: StationProfile {
+                number,
+                plmn,
+                macro_id,
+                tac,
+            },
             ready: false,
             pairs: Vec::new(alloc),
         }
@@ -83,11 +101,11 @@ impl Station {
         self.ready
     }
 
-    /// Whether it holds an association.
-    pub fn holds(&self, pair: &UeIdPair) -> bool
-        ensures { result ≡ holds_pair pair.now self.now.pairs }
+    /// Whether it holds the association with these ids.
+    pub fn holds(&self, mme_ue_id: MmeUeId, enb_ue_id: EnbUeId) -> bool
+        ensures { result ≡ holds_pair (pair_with mme_ue_id enb_ue_id) self.now.pairs }
     {
-        holds_pair(&self.pairs, pair)
+        holds_pair(&self.pairs, &pair_with(mme_ue_id, enb_ue_id))
     }
 
     // Whether it is set up and holds an association.
@@ -97,7 +115,7 @@ impl Station {
         if !self.ready {
             return false;
         }
-        self.holds(pair)
+        holds_pair(&self.pairs, pair)
     }
 
     /// Its connection to the MME is lost: it isn't set up, and its associations have ended.
@@ -146,23 +164,35 @@ impl Station {
                 }
                 initial(alloc, &self.profile, *enb_ue_id, nas, *s_tmsi)
             }
-            StationAct::Uplink { pair, nas } => {
-                if !self.serves(pair) {
+            StationAct::Uplink {
+                mme_ue_id,
+                enb_ue_id,
+                nas,
+            } => {
+                let pair = pair_with(*mme_ue_id, *enb_ue_id);
+                if !self.serves(&pair) {
                     return Ok(None);
                 }
-                uplink(alloc, &self.profile, *pair, nas)
+                uplink(alloc, &self.profile, pair, nas)
             }
-            StationAct::Switch { pair } => {
+            StationAct::Switch {
+                mme_ue_id,
+                enb_ue_id,
+            } => {
                 if !self.ready {
                     return Ok(None);
                 }
-                switch(alloc, &self.profile, *pair)
+                switch(alloc, &self.profile, pair_with(*mme_ue_id, *enb_ue_id))
             }
-            StationAct::Release { pair } => {
-                if !self.serves(pair) {
+            StationAct::Release {
+                mme_ue_id,
+                enb_ue_id,
+            } => {
+                let pair = pair_with(*mme_ue_id, *enb_ue_id);
+                if !self.serves(&pair) {
                     return Ok(None);
                 }
-                release_request(alloc, *pair)
+                release_request(alloc, pair)
             }
         }
     }

@@ -1,7 +1,7 @@
 -- What becomes of a bearer.
 use Rattle.std.specs.Prelude.{ℕ, ◌<◌, ◌^◌, ◌==◌, List, length, Option, Some, None, if◌then◌else◌, Vec}
 use Rattle.std.specs.Global.{Global}
-use Rattle.nas_messages.specs.Codes.{pdn_type_ipv4v6, pdn_type_ipv6}
+use Rattle.nas_elements.specs.Codes.{pdn_type_ipv4v6, pdn_type_ipv6}
 use Rattle.esm_machine.specs.declared.bearer.BearerState.TheVariants.{Inactive, ActivePending, Active}
 use Rattle.esm_machine.specs.declared.cause.EsmCause.TheVariants.{RequestRejected, OnlyIpv4}
 use Rattle.esm_machine.specs.declared.reading.Connectivity.{Connectivity}

@@ -2,7 +2,7 @@
 use Rattle.std.specs.Prelude.{ℕ, Bool, List, [], ◌∷◌, Option, Some, None, if◌then◌else◌}
 use Rattle.nas_messages.specs.declared.esm_types.Esm.{Esm}
 use Rattle.nas_messages.specs.declared.esm_types.EsmBody.TheVariants as bodies
-use Rattle.nas_messages.specs.Codes.{default_bearer, no_bearer}
+use Rattle.nas_elements.specs.Codes.{default_bearer, no_bearer}
 use Rattle.nas_messages.specs.EsmMessages.{encoded_esm}
 use Rattle.esm_machine.specs.declared.cause.EsmCause.{EsmCause}
 use Rattle.esm_machine.specs.declared.cause.EsmCause.TheVariants.{LastDisconnection, OnlyIpv4}

@@ -1,17 +1,19 @@
 //! The messages that are sent to a phone.
 
 ghost use Rattle.std.specs.Prelude.{◌≡◌, ◌<◌, ◌≤◌, IfOk, length, ◌^◌};
-ghost use Rattle.nas_messages.specs.EsmMessages.{BodyFits, body_lists, encoded_esm, typed_body};
+ghost use Rattle.nas_messages.specs.EsmMessages.{BodyFits, IsWritableEsm, body_lists, encoded_esm, esm_lists, typed_body};
 ghost use Rattle.esm_machine.specs.Sent.{connectivity_reject, disconnect_reject, status};
 
 use crate::cause::EsmCause;
 use nas_messages::{Esm, EsmBody, EsmMessage, codes, encode_esm};
 use std::alloc::{AllocError, Global};
 
-// A message that was put together, from which it is lent.
-#[derive(Clone, Copy)]
-struct Outgoing<'a> {
-    message: EsmMessage<'a>,
+// The octets of a message. Encoding has one fault, that there is no memory.
+fn encoded(alloc: Global, message: EsmMessage) -> Result<Vec<u8>, AllocError>
+    requires { IsWritableEsm (esm_lists message) }
+    ensures { IfOk result (λ octets. octets.items ≡ encoded_esm (esm_lists message.entry)) }
+{
+    encode_esm(alloc, &message).map_err(|_| AllocError)
 }
 
 /// The octets of a message.
@@ -26,14 +28,14 @@ pub fn written(
     ensures { IfOk result (λ octets. octets.items
         ≡ encoded_esm (record { bearer = bearer; transaction = transaction; body = body_lists body.entry })) }
 {
-    let outgoing = Outgoing {
-        message: Esm {
+    encoded(
+        alloc,
+        Esm {
             bearer,
             transaction,
             body,
         },
-    };
-    encode_esm(alloc, &outgoing.message)
+    )
 }
 
 /// PDN CONNECTIVITY REJECT.

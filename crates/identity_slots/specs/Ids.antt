@@ -36,7 +36,7 @@ slot_in id = id / counters
 abbrev pub stranger_id : ℕ → ℕ → ℕ
 stranger_id station enb_ue_id = strangers + station * enb_ue_ids + enb_ue_id
 
--- the station of a stranger's id, and its number there
+-- the station of a stranger's id, and its eNB UE S1AP ID
 abbrev pub station_in : ℕ → ℕ
 station_in id = (id - strangers) / enb_ue_ids
 

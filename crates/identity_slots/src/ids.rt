@@ -140,7 +140,7 @@ impl AssociationId {
     }
 }
 
-/// The station of a stranger's id, which is 2^31, its station, and its number there in 24 bits.
+/// The station of a stranger's id, which is 2^31, its station, and its eNB UE S1AP ID in 24 bits.
 pub fn station_in(id: AssociationId) -> u8
     ensures { result ≡ station_in id }
 {

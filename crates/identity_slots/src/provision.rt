@@ -24,13 +24,13 @@ const VECTORS: usize = 64;
 #[derive(Clone, Copy, PartialEq, Eq, Debug)]
 pub enum ProvisionFault {
     /// A slot has the IMSI.
-    RepeatedImsi,
+    RepeatedImsi = 1,
     /// A slot has the address.
-    RepeatedAddress,
+    RepeatedAddress = 2,
     /// Every slot is taken, or the subscriber has 64 vectors.
-    Full,
+    Full = 3,
     /// A growth was refused.
-    NoMemory,
+    NoMemory = 4,
 }
 
 fn imsi_number(imsi: Imsi) -> u64

@@ -4,7 +4,7 @@ use Rattle.std.proofs.lemmas.Option.{same_Some}
 use Rattle.identity_slots.specs.Ids.{is_of_slot}
 use Rattle.nas_security.specs.declared.fault.SecurityFault.{SecurityFault}
 use Rattle.nas_security.specs.Accepting.{Acceptance, short_accepted}
-use Rattle.s1ap_elements.specs.declared.cause.Cause.{Cause}
+use Rattle.s1ap_causes.specs.declared.cause.Cause.{Cause}
 use Rattle.s1ap_elements.specs.declared.phone.Tai.{Tai}
 use Rattle.s1ap_pdus.specs.declared.pdu.Pdu.{Pdu}
 use Rattle.mme_types.specs.declared.event.Entry.{Entry}

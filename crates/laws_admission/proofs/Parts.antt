@@ -6,7 +6,7 @@ use Rattle.identity_slots.specs.declared.profile.Vector.{Vector}
 use Rattle.nas_messages.specs.declared.protection.SecurityHeader.{SecurityHeader}
 use Rattle.nas_messages.specs.declared.protection.SecurityHeader.TheVariants.{NewContextCiphered}
 use Rattle.nas_security.specs.Accepting.{accepted}
-use Rattle.s1ap_elements.specs.declared.cause.Cause.{Cause}
+use Rattle.s1ap_causes.specs.declared.cause.Cause.{Cause}
 use Rattle.s1ap_pdus.specs.declared.pdu.Pdu.{Pdu}
 use Rattle.mme_types.specs.declared.octets.Mark.{Mark}
 use Rattle.mme_types.specs.Events.{Item}

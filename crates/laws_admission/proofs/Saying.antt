@@ -7,7 +7,7 @@ use Rattle.std.proofs.lemmas.Option.{none-some, same_Some}
 use Rattle.identity_slots.specs.declared.profile.Vector.{Vector}
 use Rattle.nas_messages.specs.declared.protection.SecurityHeader.{SecurityHeader}
 use Rattle.nas_security.specs.Counts.{first_after}
-use Rattle.s1ap_elements.specs.declared.cause.Cause.{Cause}
+use Rattle.s1ap_causes.specs.declared.cause.Cause.{Cause}
 use Rattle.s1ap_pdus.specs.declared.pdu.Pdu.{Pdu}
 use Rattle.s1ap_pdus.specs.Pdus.{encoded}
 use Rattle.mme_types.specs.declared.connection.Connection.{Connection}

@@ -16,7 +16,7 @@ use Rattle.nas_messages.specs.declared.protection.SecurityHeader.{SecurityHeader
 use Rattle.nas_security.specs.Accepting.{Acceptance, accepted}
 use Rattle.nas_security.specs.Context.{Mac}
 use Rattle.nas_security.specs.Counts.{first_after}
-use Rattle.s1ap_elements.specs.declared.cause.Cause.{Cause}
+use Rattle.s1ap_causes.specs.declared.cause.Cause.{Cause}
 use Rattle.s1ap_elements.specs.declared.phone.Tai.{Tai}
 use Rattle.s1ap_pdus.specs.declared.pdu.Pdu.{Pdu}
 use Rattle.mme_types.specs.declared.connection.Connection.{Connection}

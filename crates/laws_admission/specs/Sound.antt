@@ -31,12 +31,12 @@ abbrev pub hop_at : ℕ → List ℕ → List ℕ → List ℕ
 hop_at zero kasme kenb = kenb
 hop_at (suc n) kasme kenb = next_hop kasme (hop_at n kasme kenb)
 
--- the hop that a station was told last, after so many path switches: none is told the first (TS 33.401 clause 7.2.8.4.2)
+-- the hop that a station was sent last, after n path switches: none is sent the first (TS 33.401 clause 7.2.8.4.2)
 abbrev pub told_after : ℕ → List ℕ → List ℕ → Option (List ℕ)
 told_after zero kasme kenb = None
 told_after (suc moves) kasme kenb = Some (hop_at (suc (suc moves)) kasme kenb)
 
--- the radio keys of a count after so many path switches: the chaining count is the number of the hop that stands, modulo 8
+-- the radio keys of a count after n path switches: the chaining count is the number of the hop that stands, modulo 8
 -- (TS 33.401 clause 7.2.8.1, A.3)
 abbrev pub keys_after : ℕ → List ℕ → ℕ → RadioKeys
 keys_after moves kasme count =

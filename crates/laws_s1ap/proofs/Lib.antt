@@ -5,3 +5,4 @@ pub mod Elements
 pub mod Fronts
 pub mod Messages
 pub mod Frames
+pub mod Least

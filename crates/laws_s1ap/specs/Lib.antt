@@ -1,1 +1,2 @@
 pub mod S1apFaults
+pub mod Least

@@ -1,10 +1,12 @@
 //! Laws of faults. Each function has the law as its contract, and does nothing.
 
-ghost use Rattle.std.specs.Prelude.{◌≡◌, ℕ, List, Ok, Err, ◌⊎◌};
+ghost use Rattle.std.specs.Prelude.{◌≡◌, ◌<◌, ◌^◌, ℕ, List, Ok, Err, ◌⊎◌};
 ghost use Rattle.s1ap_rows.specs.declared.fault.S1apFault.{S1apFault};
 ghost use Rattle.s1ap_rows.specs.declared.fault.S1apFault.TheVariants.{NoMemory};
 ghost use Rattle.s1ap_pdus.specs.declared.pdu.Pdu.{Pdu};
 ghost use Rattle.s1ap_pdus.specs.Pdus.{SpellsMessage, decoded};
+ghost use Rattle.per_numbers.specs.Numbers.{octets_for, width_of};
+ghost use Rattle.laws_s1ap.specs.Least.{AreFewestOctets, IsLeastWidth};
 ghost use Rattle.laws_s1ap.specs.S1apFaults.{HasS1apFault};
 
 use s1ap_pdus::decoded_exactly;
@@ -33,4 +35,11 @@ pub fn one_outcome()
 /// Memory is no matter of octets.
 pub fn no_memory_is_no_fault()
     ensures { (os : List ℕ) → decoded os ≡ Err NoMemory → ⊥ }
+{}
+
+/// The bits of a number of a small range and the octets of one of a large range are the fewest that hold it (X.691 clauses 11.3
+/// and 11.5).
+pub fn widths_are_least()
+    ensures bits { (n : ℕ) → n < 256 → IsLeastWidth n (width_of n) }
+    ensures octets { (n : ℕ) → n < 2 ^ 64 → AreFewestOctets n (octets_for n) }
 {}

@@ -8,9 +8,9 @@ use Rattle.identity_slots.specs.Ids.{id_of_slot, next_counter, slots}
 use Rattle.identity_slots.specs.declared.profile.Profile.{Profile}
 use Rattle.nas_messages.specs.declared.protection.SecurityHeader.{SecurityHeader}
 use Rattle.eps_keys.specs.declared.direction.DirectionBit.TheVariants.{Downlink}
-use Rattle.s1ap_elements.specs.declared.cause.Cause.{Cause}
-use Rattle.s1ap_elements.specs.declared.cause.Cause.TheVariants.{Nas}
-use Rattle.s1ap_elements.specs.declared.cause.NasCause.TheVariants.{NormalRelease}
+use Rattle.s1ap_causes.specs.declared.cause.Cause.{Cause}
+use Rattle.s1ap_causes.specs.declared.cause.Cause.TheVariants.{Nas}
+use Rattle.s1ap_causes.specs.declared.cause.NasCause.TheVariants.{NormalRelease}
 use Rattle.s1ap_elements.specs.declared.phone.Tai.{Tai}
 use Rattle.s1ap_pdus.specs.declared.pdu.Pdu.{Pdu}
 use Rattle.mme_types.specs.declared.connection.Connection.{Connection}

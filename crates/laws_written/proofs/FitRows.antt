@@ -12,10 +12,10 @@ use Rattle.identity_slots.specs.declared.profile.Vector.{Vector}
 use Rattle.identity_slots.specs.Ids.{is_of_slot}
 use Rattle.nas_security.specs.declared.fault.SecurityFault.{SecurityFault}
 use Rattle.nas_security.specs.Accepting.{Acceptance}
-use Rattle.s1ap_elements.specs.declared.cause.Cause.{Cause}
-use Rattle.s1ap_elements.specs.declared.cause.Cause.TheVariants as causes
-use Rattle.s1ap_elements.specs.declared.cause.ProtocolCause.TheVariants as protocol
-use Rattle.s1ap_elements.specs.declared.cause.RadioNetworkCause.TheVariants as radio
+use Rattle.s1ap_causes.specs.declared.cause.Cause.{Cause}
+use Rattle.s1ap_causes.specs.declared.cause.Cause.TheVariants as causes
+use Rattle.s1ap_causes.specs.declared.cause.ProtocolCause.TheVariants as protocol
+use Rattle.s1ap_causes.specs.declared.cause.RadioNetworkCause.TheVariants as radio
 use Rattle.s1ap_elements.specs.declared.phone.Tai.{Tai}
 use Rattle.s1ap_pdus.specs.declared.pdu.Pdu.{Pdu}
 use Rattle.mme_types.specs.declared.event.Entry.{Entry}

@@ -1,4 +1,4 @@
--- What is made of octets that are heard is in range: the octets behind a header, the parts of an ATTACH REQUEST, and what is asked
+-- What is made of octets that are heard is in range: the octets after a header, the parts of an ATTACH REQUEST, and what is asked
 -- for and answered of session management.
 use Rattle.std.proofs.Common.{◌≡◌, ℕ, ◌+◌, ◌*◌, ◌/◌, ◌^◌, ◌<◌, Bool, true, false, cond, ltb, eqb, List, [], ◌∷◌, ◌++◌, length, slice_index, Option, Some, None, Result, Ok, Err, refl, subst, arith}
 use Rattle.std.specs.Prelude.{option_map}
@@ -40,7 +40,7 @@ use Rattle.mme_signalling.specs.Hearing.{heard, heard_of, initial_octets, inner_
 use Rattle.laws_written.specs.NasLaws.{below_at, below_drop, brief_connectivity_reject, brief_disconnect_reject, brief_esm_status}
 use Rattle.laws_written.specs.Ranges.{IsBrief}
 
--- ---- behind a header
+-- ---- after a header
 
 abbrev PartsInRange : Option (Protected (List ℕ)) → Type 0
 PartsInRange None = Unit {0}

@@ -43,7 +43,7 @@ ready_below [] e tas is = absurd (cc is)
 ready_below (s ∷ stations) zero tas is = omega arith
 ready_below (s ∷ stations) (suc e) tas is = let less = ready_below stations e tas is in omega (arith, less)
 
--- an id that is made of one of 128 stations and a number there has 32 bits
+-- an id that is made of one of 128 stations and an eNB UE S1AP ID has 32 bits
 stranger_id_below : (e enb_ue_id : ℕ) → e < 128 → enb_ue_id < 2 ^ 24 → stranger_id e enb_ue_id < 2 ^ 32
 stranger_id_below e enb_ue_id low less = omega (arith, low, less)
 

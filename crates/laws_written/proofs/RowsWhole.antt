@@ -1,8 +1,8 @@
 -- Rows of an attach send their messages whole.
 use Rattle.std.proofs.Common.{◌≡◌, ℕ, ◌+◌, ◌%◌, List, Option, Some, None, refl, sym, ap, subst, ◌∙◌, arith}
 use Rattle.std.specs.Option.{option_map_or}
-use Rattle.s1ap_elements.specs.declared.cause.Cause.TheVariants as causes
-use Rattle.s1ap_elements.specs.declared.cause.NasCause.TheVariants.{AuthenticationFailure, NormalRelease}
+use Rattle.s1ap_causes.specs.declared.cause.Cause.TheVariants as causes
+use Rattle.s1ap_causes.specs.declared.cause.NasCause.TheVariants.{AuthenticationFailure, NormalRelease}
 use Rattle.mme_types.specs.declared.connection.Connection.{Connection}
 use Rattle.mme_signalling.specs.Messages.{attach_reject, authentication_reject, authentication_request}
 use Rattle.emm_state.specs.declared.draft.Draft.{Draft}

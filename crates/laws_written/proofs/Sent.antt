@@ -2,13 +2,12 @@
 use Rattle.std.proofs.Common.{◌≡◌, ℕ, ◌^◌, ◌<◌, ◌&&◌, Bool, true, false, cond, List, ◌∷◌, ◌++◌, length, Option, Some, None, refl, ap, subst, sym, ◌∙◌, arith}
 use Rattle.std.proofs.lemmas.Bool.{and_from}
 use Rattle.std.proofs.lemmas.Option.{same_Some}
-use Rattle.s1ap_elements.specs.Causes.{typed_cause}
-use Rattle.s1ap_elements.specs.Formats.{cause}
-use Rattle.s1ap_elements.specs.declared.cause.Cause.{Cause}
-use Rattle.s1ap_elements.specs.declared.cause.Cause.TheVariants.{Nas, Protocol, RadioNetwork}
-use Rattle.s1ap_elements.specs.declared.cause.NasCause.TheVariants.{NormalRelease}
-use Rattle.s1ap_elements.specs.declared.cause.ProtocolCause.TheVariants.{MessageNotCompatible}
-use Rattle.s1ap_elements.specs.declared.cause.RadioNetworkCause.TheVariants.{UnknownMmeUeS1apId}
+use Rattle.s1ap_causes.specs.Causes.{cause, typed_cause}
+use Rattle.s1ap_causes.specs.declared.cause.Cause.{Cause}
+use Rattle.s1ap_causes.specs.declared.cause.Cause.TheVariants.{Nas, Protocol, RadioNetwork}
+use Rattle.s1ap_causes.specs.declared.cause.NasCause.TheVariants.{NormalRelease}
+use Rattle.s1ap_causes.specs.declared.cause.ProtocolCause.TheVariants.{MessageNotCompatible}
+use Rattle.s1ap_causes.specs.declared.cause.RadioNetworkCause.TheVariants.{UnknownMmeUeS1apId}
 use Rattle.s1ap_elements.specs.declared.reset.ResetType.{ResetType}
 use Rattle.s1ap_elements.specs.declared.station.SupportedTa.{SupportedTa}
 use Rattle.s1ap_rows.specs.declared.criticality.Criticality.TheVariants.{Reject, Ignore, Notify}

@@ -1,10 +1,10 @@
 -- What is sent for a station and for a stranger is sent: each message has a written form, so each answer is there.
 use Rattle.std.specs.Prelude.{◌≡◌, ℕ, ◌^◌, ◌<◌, true, false, List, [], ◌∷◌, Some, None, Ok, Err}
-use Rattle.s1ap_elements.specs.declared.cause.Cause.{Cause}
-use Rattle.s1ap_elements.specs.declared.cause.Cause.TheVariants.{Nas, Protocol, RadioNetwork}
-use Rattle.s1ap_elements.specs.declared.cause.NasCause.TheVariants.{NormalRelease}
-use Rattle.s1ap_elements.specs.declared.cause.ProtocolCause.TheVariants.{MessageNotCompatible}
-use Rattle.s1ap_elements.specs.declared.cause.RadioNetworkCause.TheVariants.{UnknownMmeUeS1apId}
+use Rattle.s1ap_causes.specs.declared.cause.Cause.{Cause}
+use Rattle.s1ap_causes.specs.declared.cause.Cause.TheVariants.{Nas, Protocol, RadioNetwork}
+use Rattle.s1ap_causes.specs.declared.cause.NasCause.TheVariants.{NormalRelease}
+use Rattle.s1ap_causes.specs.declared.cause.ProtocolCause.TheVariants.{MessageNotCompatible}
+use Rattle.s1ap_causes.specs.declared.cause.RadioNetworkCause.TheVariants.{UnknownMmeUeS1apId}
 use Rattle.s1ap_elements.specs.declared.reset.ResetAll.{ResetAll}
 use Rattle.s1ap_elements.specs.declared.reset.ResetType.TheVariants.{All, Part}
 use Rattle.s1ap_elements.specs.declared.station.SupportedTa.{SupportedTa}
@@ -36,7 +36,7 @@ abbrev pub AnswersWith : ℕ → Pdu (List ℕ) → List Answer → Type 0
 AnswersWith station message sent =
     (octets : List ℕ) × (encoded message ≡ Some octets) × (sent ≡ record { station = station; octets = octets; under = None } ∷ [])
 
--- and one behind another
+-- and one after another
 abbrev pub AnswersWithBoth : ℕ → Pdu (List ℕ) → Pdu (List ℕ) → List Answer → Type 0
 AnswersWithBoth station first second sent =
     (one : List ℕ) × (two : List ℕ) × (encoded first ≡ Some one) × (encoded second ≡ Some two)

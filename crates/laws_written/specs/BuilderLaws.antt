@@ -7,15 +7,14 @@ use Rattle.per_streams.specs.Bits.{octet_bits}
 use Rattle.per_streams.specs.BitLaws.{length-octet_bits}
 use Rattle.per_bits.specs.Formats.{octet_string}
 use Rattle.per_bits.specs.Written.{number_fits, optional_fits}
-use Rattle.s1ap_elements.specs.Causes.{typed_cause}
-use Rattle.s1ap_elements.specs.Formats.{cause}
-use Rattle.s1ap_elements.specs.declared.cause.Cause.{Cause}
-use Rattle.s1ap_elements.specs.declared.cause.Cause.TheVariants as causes
-use Rattle.s1ap_elements.specs.declared.cause.RadioNetworkCause.TheVariants as radio
-use Rattle.s1ap_elements.specs.declared.cause.TransportCause.TheVariants as transport
-use Rattle.s1ap_elements.specs.declared.cause.NasCause.TheVariants as nas
-use Rattle.s1ap_elements.specs.declared.cause.ProtocolCause.TheVariants as protocol
-use Rattle.s1ap_elements.specs.declared.cause.MiscCause.TheVariants as misc
+use Rattle.s1ap_causes.specs.Causes.{cause, typed_cause}
+use Rattle.s1ap_causes.specs.declared.cause.Cause.{Cause}
+use Rattle.s1ap_causes.specs.declared.cause.Cause.TheVariants as causes
+use Rattle.s1ap_causes.specs.declared.cause.RadioNetworkCause.TheVariants as radio
+use Rattle.s1ap_causes.specs.declared.cause.TransportCause.TheVariants as transport
+use Rattle.s1ap_causes.specs.declared.cause.NasCause.TheVariants as nas
+use Rattle.s1ap_causes.specs.declared.cause.ProtocolCause.TheVariants as protocol
+use Rattle.s1ap_causes.specs.declared.cause.MiscCause.TheVariants as misc
 use Rattle.s1ap_elements.specs.declared.phone.Tai.{Tai}
 use Rattle.identity_slots.specs.declared.profile.Profile.{Profile}
 use Rattle.mme_types.specs.declared.connection.Connection.{Connection}
@@ -135,7 +134,7 @@ short_paging n imsi tmsi tai network area =
       size = omega (arith, code, plmn, tac, four);
     }
 
--- a NAS message, where there is one, is written behind its length
+-- a NAS message, where there is one, is written after its length
 optional_in_range : (nas : Option (List ℕ)) → IsBriefIf 15000 nas → optional_fits (all_below 256) nas ≡ true
 optional_in_range None brief = refl
 optional_in_range (Some nas) brief = brief.octets

@@ -73,7 +73,7 @@ below_drop (suc n) (o ∷ os) e = below_drop n os (and_parts (ltb o 256) (all_be
 at_below : (os : List ℕ) (i : ℕ) → all_below 256 os ≡ true → ltb (slice_index os i) 256 ≡ true
 at_below os i e = lt-ltb (slice_index os i) 256 (below_at os i e)
 
--- behind a length of one octet, and of two
+-- after a length of one octet, and of two
 brief_short : {n : ℕ} {os : List ℕ} → IsBrief n os → n ≤ 255 → IsBrief (1 + n) (short os)
 brief_short {os = os} h le = let few = h.few in brief_more (lt-ltb (length os) 256 (omega (arith, few, le))) h
 

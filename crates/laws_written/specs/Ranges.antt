@@ -15,12 +15,12 @@ use Rattle.mme_types.specs.declared.network.Network.{Network}
 abbrev pub IsWritten : Pdu (List ℕ) → Type 0
 IsWritten m = (os : List ℕ) × (encoded m ≡ Some os)
 
--- at most so many octets
+-- at most n octets
 pub record IsBrief (most : ℕ) (os : List ℕ) : Type 0 where
   pub few : length os ≤ most
   pub octets : all_below 256 os ≡ true
 
--- so many octets, where there are some
+-- n octets, where there are some
 abbrev pub AreBytesIf : ℕ → Option (List ℕ) → Type 0
 AreBytesIf n None = Unit {0}
 AreBytesIf n (Some os) = AreBytes n os

@@ -1,4 +1,4 @@
--- Over a run of the MME all is in range: the MME behind each event, and what the events have for each slot.
+-- Over a run of the MME all is in range: the MME after each event, and what the events have for each slot.
 use Rattle.std.specs.Prelude.{◌≡◌, ℕ, false, List, ◌∷◌, ◌++◌, Some, slice_get}
 use Rattle.identity_slots.specs.Provisioned.{Provisioned}
 use Rattle.mme_types.specs.Events.{Item}
@@ -28,7 +28,7 @@ ItemsAreInRange =
 -- ---- the steps of a slot
 
 -- what the laws of one subscriber's machine ask for, at a step: what never changes, the state before it, and its item; and what
--- they say of it: the state behind it is in range, and each message that the step builds is sent
+-- they say of it: the state after it is in range, and each message that the step builds is sent
 pub record StepInRange (x : SubscriberView) (item : Item) : Type 0 where
   pub setting : SettingInRange x.setting
   pub before : SoloInRange x.solo
@@ -36,7 +36,7 @@ pub record StepInRange (x : SubscriberView) (item : Item) : Type 0 where
   pub after : SoloInRange (subscriber_after x item).solo
   pub whole : (solo_step x.setting x.solo item).unwritten ≡ false
 
--- the MME that is given these, behind a list of events
+-- the MME that is given these, after a list of events
 abbrev pub world_behind : Config → Provisioned → List Event → World
 world_behind config p seen = world_run (fresh_world config p) seen
 

@@ -21,7 +21,7 @@ abbrev pub most_of_optional : {A : Type 0} → (A → ℕ) → Option A → ℕ
 most_of_optional most None = 0
 most_of_optional most (Some a) = most a
 
--- at most so many octets
+-- at most n octets
 abbrev mutual
   pub most_octets : (f : Format) → Value f → ℕ
   most_octets (number lo hi) n = 10

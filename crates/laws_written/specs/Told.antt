@@ -1,9 +1,9 @@
 -- What is so sent over a run: the challenge of whoever has proved itself, and whatever strangers are told.
 use Rattle.std.specs.Prelude.{◌≡◌, ℕ, false, List, Some, slice_get}
-use Rattle.s1ap_elements.specs.declared.cause.Cause.{Cause}
-use Rattle.s1ap_elements.specs.declared.cause.Cause.TheVariants.{Nas, RadioNetwork}
-use Rattle.s1ap_elements.specs.declared.cause.NasCause.TheVariants.{NormalRelease}
-use Rattle.s1ap_elements.specs.declared.cause.RadioNetworkCause.TheVariants.{UnknownPairUeS1apId}
+use Rattle.s1ap_causes.specs.declared.cause.Cause.{Cause}
+use Rattle.s1ap_causes.specs.declared.cause.Cause.TheVariants.{Nas, RadioNetwork}
+use Rattle.s1ap_causes.specs.declared.cause.NasCause.TheVariants.{NormalRelease}
+use Rattle.s1ap_causes.specs.declared.cause.RadioNetworkCause.TheVariants.{UnknownPairUeS1apId}
 use Rattle.identity_slots.specs.Provisioned.{Provisioned}
 use Rattle.mme_types.specs.declared.connection.Connection.{Connection}
 use Rattle.mme_types.specs.declared.event.Entry.{Entry}
@@ -38,7 +38,7 @@ ChallengesAreSent =
 
 -- ---- a stranger
 
--- what is told on an association is sent: IDENTITY REQUEST, a refusal with the release behind it, and a release alone
+-- what is told on an association is sent: IDENTITY REQUEST, a refusal with the release after it, and a release alone
 pub record IsToldWhole (k : Connection) : Type 0 where
   pub asked : AnswersWith k.station (downlink k identity_request) (identity_asked k)
   pub refusal : (nas : List ℕ) → IsBrief 15000 nas
@@ -66,7 +66,7 @@ SendersAreAnswered =
     (config : Config) (p : Provisioned) (seen : List Event) (next : Event) (m : UeMessage (List ℕ))
     → IsProvisionedInRange config p → (happens (world_behind config p seen).sight next).destination ≡ Stranger m → IsAnsweredWhole m
 
--- and whoever waits behind one
+-- and whoever waits after one
 abbrev pub WaitingAreTold : Type 0
 WaitingAreTold =
     (config : Config) (p : Provisioned) (seen : List Event) (id : ℕ) (k : KeptEntry) (left repeats : ℕ)

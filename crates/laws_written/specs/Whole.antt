@@ -1,9 +1,9 @@
--- What an action sends, it sends whole: the message has a written form, and stands behind what was sent before.
+-- What an action sends, it sends whole: the message has a written form, and stands after what was sent before.
 use Rattle.std.specs.Prelude.{◌≡◌, ℕ, ◌%◌, ◌^◌, ◌<◌, false, List, [], ◌∷◌, ◌++◌, map, Option, Some, None}
 use Rattle.per_streams.specs.Octet.{AreBytes}
-use Rattle.s1ap_elements.specs.declared.cause.Cause.{Cause}
-use Rattle.s1ap_elements.specs.declared.cause.Cause.TheVariants.{Nas}
-use Rattle.s1ap_elements.specs.declared.cause.NasCause.TheVariants.{AuthenticationFailure, NormalRelease}
+use Rattle.s1ap_causes.specs.declared.cause.Cause.{Cause}
+use Rattle.s1ap_causes.specs.declared.cause.Cause.TheVariants.{Nas}
+use Rattle.s1ap_causes.specs.declared.cause.NasCause.TheVariants.{AuthenticationFailure, NormalRelease}
 use Rattle.s1ap_pdus.specs.declared.pdu.Pdu.{Pdu}
 use Rattle.s1ap_pdus.specs.Pdus.{encoded}
 use Rattle.nas_messages.specs.declared.protection.SecurityHeader.{SecurityHeader}
@@ -71,7 +71,7 @@ TurnAwayIsWhole =
     → SendsWhole station None (release_command (next_id s.slot d) enb_ue_id (Nas NormalRelease)) d
     (turn_away s.slot station enb_ue_id d)
 
--- the refusal of a phone, and the release behind it
+-- the refusal of a phone, and the release after it
 abbrev pub RefuseIsWhole : Type 0
 RefuseIsWhole =
     (s : Setting) (d : Draft) (station enb_ue_id : ℕ) (nas : List ℕ) → SettingInRange s → enb_ue_id < 2 ^ 24 → IsBrief 1000 nas

@@ -2,7 +2,7 @@
 
 ghost use Rattle.std.specs.Prelude.{◌≡◌, ◌<◌, ◌^◌, ℕ, true, false, List, Option};
 ghost use Rattle.per_streams.specs.Octet.{AreBytes, all_below};
-ghost use Rattle.s1ap_elements.specs.declared.cause.Cause.{Cause};
+ghost use Rattle.s1ap_causes.specs.declared.cause.Cause.{Cause};
 ghost use Rattle.s1ap_elements.specs.declared.phone.Tai.{Tai};
 ghost use Rattle.nas_messages.specs.declared.protection.SecurityHeader.{SecurityHeader};
 ghost use Rattle.eps_keys.specs.declared.direction.DirectionBit.{DirectionBit};

@@ -29,10 +29,7 @@ fn slot_of(place: usize) -> Slot
     requires { place < slots }
     ensures { result ≡ place }
 {
-    match Slot::try_new(place as u32) {
-        Some(slot) => slot,
-        None => unreachable!(),
-    }
+    Slot::new(place as u32)
 }
 
 fn network_is_in_range(network: &Network)

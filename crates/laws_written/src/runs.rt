@@ -20,7 +20,7 @@ pub fn runs_are_in_range()
     what_stations_tell_is_in_range();
 }
 
-/// At every step of every slot over such a run the setting, the state before it, its item and the state behind it are in range: so
+/// At every step of every slot over such a run the setting, the state before it, its item and the state after it are in range: so
 /// the laws of one subscriber's machine apply to it, and each message that it builds is sent. By the event that comes next in a
 /// run, and by the slot's items alone.
 pub fn steps_are_in_range()

@@ -9,7 +9,7 @@ ghost use Rattle.laws_written.specs.Sizes.{IsShortMessage, in_range, most_octets
 
 use s1ap_pdus::encoded_exactly;
 
-/// The written form of a value has at most so many octets as its format and its strings say, wherever it stands; and a value with
+/// The written form of a value has at most as many octets as its format and its strings say, wherever it stands; and a value with
 /// its numbers in range, its lists of a length that is allowed and at most 16383 octets in all is writable.
 pub fn short_values_are_writable()
     ensures size { (f : Format) (v : Value f) (at : ℕ) → length (written f v at) ≤ 8 * most_octets f v }

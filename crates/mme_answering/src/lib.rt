@@ -1,7 +1,7 @@
 //! What one event makes of the strangers and subscribers that it goes to, and what they send: worked out first, on copies, and then
 //! settled.
 //!
-//! [`prepare`] says what is to become of them, with what they send behind what is sent so far, and changes none of them; [`settle`]
+//! [`prepare`] says what is to become of them, with what they send after what is sent so far, and changes none of them; [`settle`]
 //! makes it so.
 #![tactic(auto)]
 

@@ -13,7 +13,7 @@ use std::marker::Model;
 pub enum Owner {
     /// The station itself.
     Station(StationNumber),
-    /// A phone that no subscriber is known for, by its id: 2^31, its station and its number there.
+    /// A phone that no subscriber is known for, by its id: 2^31, its station and its eNB UE S1AP ID.
     Stranger(AssociationId),
     /// A subscriber, by slot.
     Subscriber(Slot),

@@ -34,7 +34,7 @@ use stranger_machine::{Call, Notice, Turn, begins, receives};
 use stranger_table::Strangers;
 use subscriber_table::{Stepped, Subscribers};
 
-// A subscriber's step, on a copy: its state after it; what it sends stands behind what is sent so far.
+// A subscriber's step, on a copy: its state after it; what it sends stands after what is sent so far.
 fn prepare_step(
     alloc: Global,
     subscribers: &mut Subscribers,
@@ -57,7 +57,7 @@ fn prepare_step(
     Ok(Stepped::new(slot, draft))
 }
 
-// The step of each of some slots; what they send stands behind what is sent so far.
+// The step of each of some slots; what they send stands after what is sent so far.
 #[inline(never)]
 fn prepare_each(
     alloc: Global,
@@ -374,7 +374,7 @@ fn prepare_own<'a>(
     }
 }
 
-/// What is to become of those whom an event goes to, worked out on copies; what they send stands behind what is sent so far.
+/// What is to become of those whom an event goes to, worked out on copies; what they send stands after what is sent so far.
 pub fn prepare<'a>(
     alloc: Global,
     provision: &Provision,

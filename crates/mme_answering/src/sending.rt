@@ -1,4 +1,4 @@
-//! What owners send, behind what is sent so far.
+//! What owners send, after what is sent so far.
 
 ghost use Rattle.std.specs.Prelude.{◌≡◌, ◌++◌, ◌∷◌, [], map, OnOk};
 ghost use Rattle.std.specs.Option.{option_map_or};
@@ -32,7 +32,7 @@ fn send_answer(outs: &mut Outs, owner: &Owner, answer: Answer) -> Result<(), All
     })
 }
 
-/// What an owner's machine sends, behind what is sent so far; its octets are moved, and the room for the answers stays.
+/// What an owner's machine sends, after what is sent so far; its octets are moved, and the room for the answers stays.
 pub fn send_all(outs: &mut Outs, owner: Owner, answers: &mut Answers) -> Result<(), AllocError>
     ensures sent { OnOk result (outs.new ≡ outs.old ++ map (owner_out owner) answers.old) }
     ensures emptied { OnOk result (answers.new ≡ []) }
@@ -74,7 +74,7 @@ fn send_some(
     Ok(())
 }
 
-/// What those strangers send at a tick whose T3470 it ends, by id, behind what is sent so far; the others send nothing.
+/// What those strangers send at a tick whose T3470 it ends, by id, after what is sent so far; the others send nothing.
 pub(crate) fn send_due(
     alloc: Global,
     strangers: &Strangers,

@@ -21,9 +21,9 @@ pub enum Choice<'a> {
 /// Why a command line is not taken.
 #[derive(Debug, Drop)]
 pub enum CommandFault {
-    /// It doesn't ask for what the program does, or asks for help.
+    /// 1: it doesn't ask for what the program does, or asks for help.
     Usage(Error),
-    /// A growth of memory was refused.
+    /// 2: a growth of memory was refused.
     NoMemory,
 }
 

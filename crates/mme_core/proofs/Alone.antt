@@ -22,7 +22,7 @@ projection_same slot s g h (e ∷ es) same =
     ∙ ap (λ is. item_for slot s h e ∷ is) (projection_same slot (sight_after s e) (strangers_after s g e) (strangers_after s h e) es
     (λ id. ap (λ x. (stranger_step s.profiles id x (stranger_input s id e)).stranger) (same id)))
 
--- the items behind an event
+-- the items after an event
 items_on : (w : World) (e : Event) (es : List Event) (slot : ℕ) → Rising known_id w.strangers
     → projection slot (world_after w e).sight (strangers_in (world_after w e)) es
     ≡ projection slot (sight_after w.sight e) (strangers_after w.sight (strangers_in w) e) es
@@ -53,7 +53,7 @@ slots_end w (e ∷ es) slot x r h =
     slots_end (world_after w e) es slot (subscriber_after x i) (rising_once w e r) (slot_after w e slot x h)
     ∙ ap (λ is. Some (alone_after (subscriber_after x i) is)) (items_on w e es slot r)
 
--- and its states behind each event
+-- and its states after each event
 states_seen : (slot : ℕ) (w : World) (x : SubscriberView) → slice_get w.subscribers slot ≡ Some x
     → states_at slot w ≡ Some (states_of x.solo)
 states_seen slot w x h = ap (option_map (λ (s : SubscriberView). states_of s.solo)) h

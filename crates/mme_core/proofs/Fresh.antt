@@ -25,7 +25,7 @@ fresh_more n slot ps vectors p vs h k =
     (get_or_from_slice_get ps slot p p h)
     ∙ ap (λ ys. fresh_one n slot p ys ∷ fresh_subscribers n (slot + 1) (drop (slot + 1) ps) vectors) k
 
--- one more stands behind those who were made
+-- one more stands after those who were made
 pub fresh_pushed : (made now rest rest_now all : List SubscriberView) (w x : SubscriberView) → now ≡ made ++ w ∷ [] → w ≡ x
     → rest ≡ x ∷ rest_now → made ++ rest ≡ all → now ++ rest_now ≡ all
 fresh_pushed made now rest rest_now all w x push same more whole =

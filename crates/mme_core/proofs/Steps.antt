@@ -8,7 +8,7 @@ use Rattle.mme_answering.specs.Settled.{IsInTime, IsPassing, MayPass, settled_cl
 
 -- ---- the clock
 
--- where the subscribers' clock is not past the MME's, it isn't behind what was prepared either
+-- where the subscribers' clock is not past the MME's, it isn't after what was prepared either
 pub passes : (p : Prepared) (t c m : ℕ) → t ≤ c → IsInTime p c m → MayPass p t
 passes prepared.Nobody t c m le h = tt
 passes (prepared.Subscriber x) t c m le h = tt

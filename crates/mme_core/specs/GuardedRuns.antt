@@ -32,7 +32,7 @@ GivesKeysToTheProved w seen item =
     → GoesToTheProved (solo_step w.setting (state_after w seen) item).solo a m)
     (solo_step w.setting (state_after w seen) item).sent
 
--- and, where the phone was deregistered before, only behind its proof that it has the key of that context
+-- and, where the phone was deregistered before, only after its proof that it has the key of that context
 abbrev pub GivesKeysByProof : SubscriberView → List Item → Item → Type 0
 GivesKeysByProof w seen item =
     All (λ a. (m : Pdu (List ℕ)) → decoded a.octets ≡ Ok m → has_radio_key m ≡ true

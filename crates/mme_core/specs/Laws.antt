@@ -58,7 +58,7 @@ SameFromMme =
 
 -- ---- a subscriber is as its machine alone
 
--- behind a list of events each subscriber is in the state of its machine over what the list has for its slot
+-- after a list of events each subscriber is in the state of its machine over what the list has for its slot
 abbrev pub GoesAlone : Type 0
 GoesAlone =
     (w : World) (events : List Event) (slot : ℕ) (x : SubscriberView) → Rising known_id w.strangers

@@ -121,7 +121,7 @@ silence (event ∷ events) = [] ∷ silence events
 
 -- ---- the owners of an output, in their order
 
--- stations by number, then strangers by id, that is by station and number there, then subscribers by slot
+-- stations by number, then strangers by id, that is by station and eNB UE S1AP ID, then subscribers by slot
 abbrev pub IsNotBehind : Owner → Owner → Type 0
 IsNotBehind (Station a) (Station b) = a ≤ b
 IsNotBehind (Station a) (Stranger b) = Unit {0}
@@ -160,7 +160,7 @@ station_run s e state (event ∷ events) =
     station_run (sight_after s event) e
     (unless (event_fault s event) state (own_state (station_of event) e state (happens s event).state)) events
 
--- the states of a subscriber behind each of a list of items
+-- the states of a subscriber after each of a list of items
 abbrev pub states_run : SubscriberView → List Item → List (Option States)
 states_run w [] = []
 states_run w (item ∷ items) = Some (states_of (subscriber_after w item).solo) ∷ states_run (subscriber_after w item) items
@@ -169,7 +169,7 @@ states_run w (item ∷ items) = Some (states_of (subscriber_after w item).solo) 
 abbrev pub states_at : ℕ → World → Option States
 states_at slot w = option_map (λ s. states_of s.solo) (slice_get w.subscribers slot)
 
--- and behind each of a list of events
+-- and after each of a list of events
 abbrev pub states_along : ℕ → World → List Event → List (Option States)
 states_along slot w [] = []
 states_along slot w (event ∷ events) = states_at slot (world_after w event) ∷ states_along slot (world_after w event) events

@@ -16,7 +16,7 @@ pub fn same_to_slot()
 
 /// After a list of events each subscriber is in the state of its one machine over what the list has for its slot, whatever else the
 /// list holds.
-pub fn goes_alone()
+pub fn slots_end()
     ensures { GoesAlone }
 {}
 
@@ -40,7 +40,7 @@ pub fn names_slot()
 {}
 
 /// Two events in a row that name different slots may change places: each has the same reply in either order, and the MME is the
-/// same behind both.
+/// same after both.
 pub fn exchanges()
     ensures { Exchanges }
 {}

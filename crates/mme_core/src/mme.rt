@@ -384,7 +384,7 @@ impl Surroundings {
         }
     }
 
-    // What is to become of those whom an event goes to, on copies; what they send stands behind what is sent so far.
+    // What is to become of those whom an event goes to, on copies; what they send stands after what is sent so far.
     fn prepared<'a>(
         &'a self,
         subscribers: &mut Subscribers,

@@ -72,12 +72,6 @@ fn slot_of_message(
     }
 }
 
-// A message that is lent to be read.
-#[derive(Drop)]
-struct LentMessage<'a> {
-    message: EmmMessage<'a>,
-}
-
 /// The slot that an INITIAL UE MESSAGE names by its NAS message and the S-TMSI beside it, or nobody's. Takes no memory.
 #[tactic(auto, unfolding(crate::specs::Naming::named_slot))]
 pub fn named_slot(
@@ -89,10 +83,7 @@ pub fn named_slot(
     ensures { result ≡ named_slot network.now provision.now.profiles nas.now s_tmsi }
 {
     match decode_emm(initial_octets(nas), Direction::Uplink) {
-        Ok(message) => {
-            let decoded = LentMessage { message };
-            slot_of_message(network, provision, s_tmsi, &decoded.message)
-        }
+        Ok(message) => slot_of_message(network, provision, s_tmsi, &message),
         Err(_) => None,
     }
 }

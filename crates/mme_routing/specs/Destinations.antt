@@ -32,7 +32,7 @@ input_for (Beginner n m) id = if n == id then Begins m else Nothing
 input_for (Stranger m) id = if m.mme_ue_id == id then Receives m else Nothing
 input_for (Everyone notice) id = Notes notice
 
--- the strangers behind it
+-- the strangers after it
 abbrev pub strangers_behind : List Profile → Destination → List Known → List Known
 strangers_behind ps Nobody ks = ks
 strangers_behind ps (Subscriber n item) ks = ks

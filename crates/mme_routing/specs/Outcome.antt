@@ -1,8 +1,8 @@
 -- What comes of what a station sends.
 use Rattle.std.specs.Prelude.{ℕ, List, [], Option, Some, None}
-use Rattle.s1ap_elements.specs.declared.cause.Cause.{Cause}
-use Rattle.s1ap_elements.specs.declared.cause.Cause.TheVariants.{Protocol}
-use Rattle.s1ap_elements.specs.declared.cause.ProtocolCause.TheVariants.{MessageNotCompatible}
+use Rattle.s1ap_causes.specs.declared.cause.Cause.{Cause}
+use Rattle.s1ap_causes.specs.declared.cause.Cause.TheVariants.{Protocol}
+use Rattle.s1ap_causes.specs.declared.cause.ProtocolCause.TheVariants.{MessageNotCompatible}
 use Rattle.s1ap_pdus.specs.declared.pdu.Pdu.{Pdu}
 use Rattle.s1ap_pdus.specs.declared.pdu.Pdu.TheVariants as pdu
 use Rattle.mme_types.specs.declared.octets.Answer.{Answer}

@@ -1,10 +1,10 @@
 -- What is sent to stations, and what a station that is not down makes of what it sends (TS 36.413 clauses 8.7.3 and 8.7.2).
 use Rattle.std.specs.Prelude.{ℕ, Bool, List, [], ◌∷◌, Option, Some, None, Result, Ok, Err, if◌then◌else◌}
 use Rattle.std.specs.List.{list_any}
-use Rattle.s1ap_elements.specs.declared.cause.Cause.{Cause}
-use Rattle.s1ap_elements.specs.declared.cause.Cause.TheVariants.{Protocol, Misc}
-use Rattle.s1ap_elements.specs.declared.cause.ProtocolCause.TheVariants.{TransferSyntaxError, AbstractSyntaxErrorReject, AbstractSyntaxErrorIgnoreAndNotify, FalselyConstructedMessage}
-use Rattle.s1ap_elements.specs.declared.cause.MiscCause.TheVariants.{UnknownPlmn}
+use Rattle.s1ap_causes.specs.declared.cause.Cause.{Cause}
+use Rattle.s1ap_causes.specs.declared.cause.Cause.TheVariants.{Protocol, Misc}
+use Rattle.s1ap_causes.specs.declared.cause.ProtocolCause.TheVariants.{TransferSyntaxError, AbstractSyntaxErrorReject, AbstractSyntaxErrorIgnoreAndNotify, FalselyConstructedMessage}
+use Rattle.s1ap_causes.specs.declared.cause.MiscCause.TheVariants.{UnknownPlmn}
 use Rattle.s1ap_elements.specs.declared.station.SupportedTa.{SupportedTa}
 use Rattle.s1ap_elements.specs.declared.station.ServedGummei.{ServedGummei}
 use Rattle.s1ap_rows.specs.declared.criticality.Criticality.{Criticality}

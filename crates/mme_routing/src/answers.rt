@@ -14,14 +14,8 @@ use s1ap_pdus::{
 };
 use std::alloc::{AllocError, Global};
 
-fn whole_capacity() -> RelativeCapacity
-    ensures { result ≡ 255 }
-{
-    match RelativeCapacity::try_new(255) {
-        Some(capacity) => capacity,
-        None => unreachable!(),
-    }
-}
+// The greatest relative MME capacity (TS 36.413 clause 9.2.3.17).
+const GREATEST_CAPACITY: u64 = 255;
 
 /// S1 SETUP RESPONSE with the one network, group and code (TS 36.413 clause 8.7.3.2).
 pub fn setup_response<'a>(alloc: Global, network: &Network) -> Result<S1apPdu<'a>, AllocError>
@@ -35,7 +29,7 @@ pub fn setup_response<'a>(alloc: Global, network: &Network) -> Result<S1apPdu<'a
     let served_gummeis = Items::only(alloc, gummei)?;
     Ok(Pdu::S1SetupResponse(S1SetupResponse {
         served_gummeis,
-        capacity: whole_capacity(),
+        capacity: RelativeCapacity::new(GREATEST_CAPACITY),
     }))
 }
 

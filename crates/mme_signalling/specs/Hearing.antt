@@ -9,7 +9,7 @@ use Rattle.nas_messages.specs.declared.emm_types.Emm.TheVariants as emm
 use Rattle.nas_messages.specs.declared.protection.Protected.{Protected}
 use Rattle.nas_messages.specs.declared.protection.SecurityHeader.{SecurityHeader}
 use Rattle.nas_messages.specs.declared.protection.SecurityHeader.TheVariants.{IntegrityProtected, IntegrityProtectedCiphered, NewContext, NewContextCiphered}
-use Rattle.nas_messages.specs.Codes.{combined_attach, combined_update, combined_update_with_attach, esm_discriminator}
+use Rattle.nas_elements.specs.Codes.{combined_attach, combined_update, combined_update_with_attach, esm_discriminator}
 use Rattle.nas_messages.specs.Messages.{decoded_emm}
 use Rattle.nas_messages.specs.Protection.{split}
 use Rattle.mme_signalling.specs.declared.heard.Heard.{Heard}
@@ -94,7 +94,7 @@ abbrev pub inner_octets : List ℕ → Option (Protected (List ℕ)) → List �
 inner_octets octets None = octets
 inner_octets octets (Some p) = if is_initial_header p.header then p.message else octets
 
--- the octets by which an INITIAL UE MESSAGE is known: those behind the header, where it is protected under a context
+-- the octets by which an INITIAL UE MESSAGE is known: those after the header, where it is protected under a context
 unfoldable pub initial_octets : List ℕ → List ℕ
 initial_octets octets = inner_octets octets (split octets)
 

@@ -7,7 +7,7 @@ use Rattle.nas_elements.specs.declared.identity.Guti.{Guti}
 use Rattle.nas_elements.specs.declared.identity.TaiList.{TaiList}
 use Rattle.nas_messages.specs.declared.emm_types.Emm.TheVariants as emm
 use Rattle.nas_messages.specs.Messages.{encoded_emm}
-use Rattle.nas_messages.specs.Timers.{t3412_octet}
+use Rattle.nas_elements.specs.Timers.{t3412_octet}
 use Rattle.mme_types.specs.declared.network.Network.{Network}
 use Rattle.mme_signalling.specs.declared.cause.EmmCause.{EmmCause}
 use Rattle.mme_signalling.specs.declared.cause.EmmCause.TheVariants.{CsDomainNotAvailable}

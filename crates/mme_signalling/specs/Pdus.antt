@@ -3,13 +3,13 @@ use Rattle.std.specs.Prelude.{ℕ, ◌+◌, ◌*◌, ◌-◌, ◌/◌, ◌%◌, 
 use Rattle.std.specs.Int.{w32, to_be_bytes}
 use Rattle.per_streams.specs.Bits.{octet_bits}
 use Rattle.s1ap_elements.specs.declared.bearer.Qos.{Qos}
-use Rattle.s1ap_elements.specs.declared.cause.Cause.{Cause}
-use Rattle.s1ap_elements.specs.declared.cause.Cause.TheVariants as causes
-use Rattle.s1ap_elements.specs.declared.cause.RadioNetworkCause.TheVariants as radio
-use Rattle.s1ap_elements.specs.declared.cause.TransportCause.TheVariants as transport
-use Rattle.s1ap_elements.specs.declared.cause.NasCause.TheVariants as nas
-use Rattle.s1ap_elements.specs.declared.cause.ProtocolCause.TheVariants as protocol
-use Rattle.s1ap_elements.specs.declared.cause.MiscCause.TheVariants as misc
+use Rattle.s1ap_causes.specs.declared.cause.Cause.{Cause}
+use Rattle.s1ap_causes.specs.declared.cause.Cause.TheVariants as causes
+use Rattle.s1ap_causes.specs.declared.cause.RadioNetworkCause.TheVariants as radio
+use Rattle.s1ap_causes.specs.declared.cause.TransportCause.TheVariants as transport
+use Rattle.s1ap_causes.specs.declared.cause.NasCause.TheVariants as nas
+use Rattle.s1ap_causes.specs.declared.cause.ProtocolCause.TheVariants as protocol
+use Rattle.s1ap_causes.specs.declared.cause.MiscCause.TheVariants as misc
 use Rattle.s1ap_elements.specs.declared.phone.CnDomain.TheVariants.{Ps}
 use Rattle.s1ap_elements.specs.declared.phone.Tai.{Tai}
 use Rattle.s1ap_elements.specs.declared.phone.UePagingId.TheVariants.{STmsi}
@@ -17,7 +17,7 @@ use Rattle.s1ap_elements.specs.declared.phone.UeS1apIds.TheVariants.{Pair}
 use Rattle.s1ap_pdus.specs.declared.pdu.Pdu.{Pdu}
 use Rattle.s1ap_pdus.specs.declared.pdu.Pdu.TheVariants as pdu
 use Rattle.nas_elements.specs.Digits.{imsi_text}
-use Rattle.nas_messages.specs.Codes.{default_bearer}
+use Rattle.nas_elements.specs.Codes.{default_bearer}
 use Rattle.identity_slots.specs.declared.profile.Profile.{Profile}
 use Rattle.mme_types.specs.declared.network.Network.{Network}
 use Rattle.mme_types.specs.declared.connection.Connection.{Connection}

@@ -51,12 +51,6 @@ pub enum Heard<B> {
     Unreadable(NasFault),
 }
 
-// A message that is lent to be sorted.
-#[derive(Drop)]
-struct LentMessage<'a> {
-    message: EmmMessage<'a>,
-}
-
 // What an ATTACH REQUEST that was decoded asks for.
 #[tactic(auto, unfolding(nas_elements::specs::Capability::capability_of))]
 fn attach_of<'a>(request: &AttachRequest<&'a [u8]>) -> Heard<&'a [u8]>
@@ -119,10 +113,7 @@ pub fn hear<'a>(octets: &'a [u8]) -> Heard<&'a [u8]>
     ensures { heard_lists result ≡ heard octets.entry.now }
 {
     match decode_emm(octets, Direction::Uplink) {
-        Ok(message) => {
-            let decoded = LentMessage { message };
-            sorted(&decoded.message)
-        }
+        Ok(message) => sorted(&message),
         Err(fault) => Heard::Unreadable(fault),
     }
 }
@@ -136,7 +127,7 @@ fn is_initial_header(header: SecurityHeader) -> bool
     }
 }
 
-/// The octets of an INITIAL UE MESSAGE's NAS message by which it is known: those behind the header, where it is protected
+/// The octets of an INITIAL UE MESSAGE's NAS message by which it is known: those after the header, where it is protected
 /// under a context.
 #[tactic(auto, unfolding(crate::specs::Hearing::initial_octets))]
 pub fn initial_octets<'a>(octets: &'a [u8]) -> &'a [u8]

@@ -3,7 +3,7 @@
 ghost use Rattle.std.specs.Prelude.{◌≡◌, ◌<◌, ◌^◌, length, IfOk, IfSome, Some, None};
 ghost use Rattle.nas_elements.specs.Identities.{TaiListFits};
 ghost use Rattle.nas_elements.specs.Seen.{octets_of};
-ghost use Rattle.nas_messages.specs.Messages.{encoded_emm};
+ghost use Rattle.nas_messages.specs.Messages.{IsWritable, encoded_emm, lists};
 ghost use Rattle.mme_signalling.specs.Messages.{attach_accept, attach_reject, authentication_reject, authentication_request, detach_accept, emm_status, guti, identity_request, network_detach, security_mode_command, service_reject, tai_list, update_accept, update_reject};
 
 use crate::cause::EmmCause;
@@ -11,7 +11,7 @@ use identity_slots::Tmsi;
 use mme_types::Network;
 use nas_elements::{Guti, Plmn, TaiList, UeCapability};
 use nas_messages::{
-    AttachAccept, AttachReject, AuthenticationRequest, Emm, EmmMessage, SecurityModeCommand,
+    AttachAccept, AttachReject, AuthenticationRequest, Emm, EmmMessage, Lent, SecurityModeCommand,
     TrackingAreaUpdateAccept, encode_emm, timers,
 };
 use s1ap_elements::Tai;
@@ -52,10 +52,12 @@ fn tai_list(tai: Tai) -> TaiList
     }
 }
 
-// A message that is lent to be encoded.
-#[derive(Drop)]
-struct Lent<'a> {
-    message: EmmMessage<'a>,
+// The octets of a message. Encoding has one fault, that there is no memory.
+fn encoded(alloc: Global, message: &Lent<EmmMessage>) -> Result<Vec<u8>, AllocError>
+    requires { IsWritable (lists message.now.value) }
+    ensures { IfOk result (λ o. o.items ≡ encoded_emm (lists message.now.value)) }
+{
+    encode_emm(alloc, &message.value).map_err(|_| AllocError)
 }
 
 /// ATTACH REJECT without an ESM message (TS 24.301 clause 8.2.3).
@@ -64,10 +66,12 @@ pub fn attach_reject(alloc: Global, cause: EmmCause) -> Result<Vec<u8>, AllocErr
     ensures { IfOk result (λ o. o.items ≡ attach_reject cause None) }
 {
     let cause = cause.code();
-    let lent = Lent {
-        message: Emm::AttachReject(AttachReject { cause, esm: None }),
-    };
-    encode_emm(alloc, &lent.message)
+    encoded(
+        alloc,
+        &Lent {
+            value: Emm::AttachReject(AttachReject { cause, esm: None }),
+        },
+    )
 }
 
 /// ATTACH REJECT with an ESM message of fewer than 2^16 octets (TS 24.301 clause 8.2.3).
@@ -77,13 +81,15 @@ pub fn attach_reject_with(alloc: Global, cause: EmmCause, esm: &[u8]) -> Result<
     ensures { IfOk result (λ o. o.items ≡ attach_reject cause (Some esm.now)) }
 {
     let cause = cause.code();
-    let lent = Lent {
-        message: Emm::AttachReject(AttachReject {
-            cause,
-            esm: Some(esm),
-        }),
-    };
-    encode_emm(alloc, &lent.message)
+    encoded(
+        alloc,
+        &Lent {
+            value: Emm::AttachReject(AttachReject {
+                cause,
+                esm: Some(esm),
+            }),
+        },
+    )
 }
 
 /// AUTHENTICATION REQUEST under a key set identifier below 8 (TS 24.301 clause 8.2.7).
@@ -97,14 +103,16 @@ pub fn authentication_request(
     requires { ksi < 8 }
     ensures { IfOk result (λ o. o.items ≡ authentication_request ksi rand autn) }
 {
-    let lent = Lent {
-        message: Emm::AuthenticationRequest(AuthenticationRequest {
-            ksi,
-            rand: rand.as_slice(),
-            autn: autn.as_slice(),
-        }),
-    };
-    encode_emm(alloc, &lent.message)
+    encoded(
+        alloc,
+        &Lent {
+            value: Emm::AuthenticationRequest(AuthenticationRequest {
+                ksi,
+                rand: rand.as_slice(),
+                autn: autn.as_slice(),
+            }),
+        },
+    )
 }
 
 /// AUTHENTICATION REJECT (TS 24.301 clause 8.2.6).
@@ -112,10 +120,12 @@ pub fn authentication_request(
 pub fn authentication_reject(alloc: Global) -> Result<Vec<u8>, AllocError>
     ensures { IfOk result (λ o. o.items ≡ authentication_reject) }
 {
-    let lent = Lent {
-        message: Emm::AuthenticationReject,
-    };
-    encode_emm(alloc, &lent.message)
+    encoded(
+        alloc,
+        &Lent {
+            value: Emm::AuthenticationReject,
+        },
+    )
 }
 
 /// IDENTITY REQUEST for the IMSI (TS 24.301 clause 8.2.18).
@@ -123,10 +133,12 @@ pub fn authentication_reject(alloc: Global) -> Result<Vec<u8>, AllocError>
 pub fn identity_request(alloc: Global) -> Result<Vec<u8>, AllocError>
     ensures { IfOk result (λ o. o.items ≡ identity_request) }
 {
-    let lent = Lent {
-        message: Emm::IdentityRequest,
-    };
-    encode_emm(alloc, &lent.message)
+    encoded(
+        alloc,
+        &Lent {
+            value: Emm::IdentityRequest,
+        },
+    )
 }
 
 /// SECURITY MODE COMMAND for EEA0 and EIA2 under a key set identifier below 8, with the capability that the phone told
@@ -141,13 +153,15 @@ pub fn security_mode_command(
     ensures { IfOk result (λ o. o.items ≡ security_mode_command ksi capability.now) }
 {
     let replayed = capability.replayed();
-    let lent = Lent {
-        message: Emm::SecurityModeCommand(SecurityModeCommand {
-            ksi,
-            capability: replayed.as_slice(),
-        }),
-    };
-    encode_emm(alloc, &lent.message)
+    encoded(
+        alloc,
+        &Lent {
+            value: Emm::SecurityModeCommand(SecurityModeCommand {
+                ksi,
+                capability: replayed.as_slice(),
+            }),
+        },
+    )
 }
 
 /// ATTACH ACCEPT with an ESM message of fewer than 2^16 octets (TS 24.301 clause 8.2.1).
@@ -194,15 +208,17 @@ fn accept_octets<'a>(
               octets_of cause.entry;
         }))) }
 {
-    let lent = Lent {
-        message: Emm::AttachAccept(AttachAccept {
-            tai_list,
-            esm,
-            guti: Some(guti),
-            cause,
-        }),
-    };
-    encode_emm(alloc, &lent.message)
+    encoded(
+        alloc,
+        &Lent {
+            value: Emm::AttachAccept(AttachAccept {
+                tai_list,
+                esm,
+                guti: Some(guti),
+                cause,
+            }),
+        },
+    )
 }
 
 /// TRACKING AREA UPDATE ACCEPT (TS 24.301 clause 8.2.26).
@@ -245,15 +261,17 @@ fn update_octets<'a>(
               octets_of cause.entry;
         }))) }
 {
-    let lent = Lent {
-        message: Emm::TrackingAreaUpdateAccept(TrackingAreaUpdateAccept {
-            timer: Some(timer),
-            guti: Some(guti),
-            tai_list: Some(areas),
-            cause,
-        }),
-    };
-    encode_emm(alloc, &lent.message)
+    encoded(
+        alloc,
+        &Lent {
+            value: Emm::TrackingAreaUpdateAccept(TrackingAreaUpdateAccept {
+                timer: Some(timer),
+                guti: Some(guti),
+                tai_list: Some(areas),
+                cause,
+            }),
+        },
+    )
 }
 
 /// TRACKING AREA UPDATE REJECT (TS 24.301 clause 8.2.28).
@@ -262,10 +280,12 @@ pub fn update_reject(alloc: Global, cause: EmmCause) -> Result<Vec<u8>, AllocErr
     ensures { IfOk result (λ o. o.items ≡ update_reject cause) }
 {
     let cause = cause.code();
-    let lent = Lent {
-        message: Emm::TrackingAreaUpdateReject { cause },
-    };
-    encode_emm(alloc, &lent.message)
+    encoded(
+        alloc,
+        &Lent {
+            value: Emm::TrackingAreaUpdateReject { cause },
+        },
+    )
 }
 
 /// SERVICE REJECT (TS 24.301 clause 8.2.24).
@@ -274,10 +294,12 @@ pub fn service_reject(alloc: Global, cause: EmmCause) -> Result<Vec<u8>, AllocEr
     ensures { IfOk result (λ o. o.items ≡ service_reject cause) }
 {
     let cause = cause.code();
-    let lent = Lent {
-        message: Emm::ServiceReject { cause },
-    };
-    encode_emm(alloc, &lent.message)
+    encoded(
+        alloc,
+        &Lent {
+            value: Emm::ServiceReject { cause },
+        },
+    )
 }
 
 /// DETACH ACCEPT (TS 24.301 clause 8.2.10).
@@ -285,10 +307,12 @@ pub fn service_reject(alloc: Global, cause: EmmCause) -> Result<Vec<u8>, AllocEr
 pub fn detach_accept(alloc: Global) -> Result<Vec<u8>, AllocError>
     ensures { IfOk result (λ o. o.items ≡ detach_accept) }
 {
-    let lent = Lent {
-        message: Emm::DetachAccept,
-    };
-    encode_emm(alloc, &lent.message)
+    encoded(
+        alloc,
+        &Lent {
+            value: Emm::DetachAccept,
+        },
+    )
 }
 
 /// DETACH REQUEST of the network, re-attach not required (TS 24.301 clause 8.2.11.2).
@@ -296,10 +320,12 @@ pub fn detach_accept(alloc: Global) -> Result<Vec<u8>, AllocError>
 pub fn network_detach(alloc: Global) -> Result<Vec<u8>, AllocError>
     ensures { IfOk result (λ o. o.items ≡ network_detach) }
 {
-    let lent = Lent {
-        message: Emm::NetworkDetach,
-    };
-    encode_emm(alloc, &lent.message)
+    encoded(
+        alloc,
+        &Lent {
+            value: Emm::NetworkDetach,
+        },
+    )
 }
 
 /// EMM STATUS (TS 24.301 clause 8.2.14).
@@ -308,8 +334,10 @@ pub fn emm_status(alloc: Global, cause: EmmCause) -> Result<Vec<u8>, AllocError>
     ensures { IfOk result (λ o. o.items ≡ emm_status cause) }
 {
     let cause = cause.code();
-    let lent = Lent {
-        message: Emm::EmmStatus { cause },
-    };
-    encode_emm(alloc, &lent.message)
+    encoded(
+        alloc,
+        &Lent {
+            value: Emm::EmmStatus { cause },
+        },
+    )
 }

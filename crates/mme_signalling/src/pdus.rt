@@ -20,23 +20,11 @@ use s1ap_pdus::{
 };
 use std::alloc::{AllocError, Global};
 
-// A number of a range that has it.
-fn whole<const LO: u64, const HI: u64>(value: u64) -> Whole<LO, HI>
-    requires low { LO ≤ value }
-    requires high { value ≤ HI }
-    ensures { result ≡ value }
-{
-    match Whole::try_new(value) {
-        Some(number) => number,
-        None => unreachable!(),
-    }
-}
-
 // An association's id as S1AP has it.
 fn mme_ue_id_of(id: AssociationId) -> MmeUeId
     ensures { result ≡ id }
 {
-    whole::<0, 4294967295>(u64::from(id.get()))
+    Whole::new(u64::from(id.get()))
 }
 
 /// DOWNLINK NAS TRANSPORT (TS 36.413 clause 8.6.2.2).
@@ -138,7 +126,7 @@ pub fn path_switch_acknowledge<'a>(
         mme_ue_id: mme_ue_id_of(connection.id),
         enb_ue_id: connection.enb_ue_id,
         context: SecurityContext {
-            chaining_count: whole::<0, 7>(u64::from(chaining_count)),
+            chaining_count: Whole::new(u64::from(chaining_count)),
             next_hop: Octets::new(next_hop),
         },
     })
@@ -149,11 +137,11 @@ fn qos() -> Qos
     ensures { result ≡ qos }
 {
     Qos {
-        qci: whole::<0, 255>(9),
+        qci: Whole::new(9),
         arp: Arp {
-            priority: whole::<0, 15>(15),
-            capability: whole::<0, 1>(0),
-            vulnerability: whole::<0, 1>(0),
+            priority: Whole::new(15),
+            capability: Whole::new(0),
+            vulnerability: Whole::new(0),
         },
     }
 }
@@ -200,7 +188,7 @@ pub fn context_setup<'a>(
     let Some(address) = Address::try_new(&profile.gateway) else {
         unreachable!()
     };
-    let id: ErabId = whole::<0, 15>(u64::from(codes::DEFAULT_BEARER));
+    let id: ErabId = Whole::new(u64::from(codes::DEFAULT_BEARER));
     let erab = ErabToBeSetup {
         id,
         qos: qos(),
@@ -213,8 +201,8 @@ pub fn context_setup<'a>(
         mme_ue_id: mme_ue_id_of(connection.id),
         enb_ue_id: connection.enb_ue_id,
         ambr: Ambr {
-            down: whole::<0, 10000000000>(network.down.get()),
-            up: whole::<0, 10000000000>(network.up.get()),
+            down: Whole::new(network.down.get()),
+            up: Whole::new(network.up.get()),
         },
         erabs,
         capabilities: SecurityCapabilities {

@@ -3,7 +3,7 @@
 use identity_slots::{AssociationId, StationNumber};
 use s1ap_elements::EnbUeId;
 
-/// Where the phone is connected: the association, its station and its number there.
+/// Where the phone is connected: the association, its station and its eNB UE S1AP ID.
 #[derive(Clone, Copy)]
 pub struct Connection {
     pub id: AssociationId,

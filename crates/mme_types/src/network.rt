@@ -3,7 +3,7 @@
 ghost use Rattle.std.specs.Prelude.{◌≡◌, ◌↔◌, ◌≤◌, length, IsSome, IfSome, IfOk, IsTrue};
 ghost use Rattle.mme_types.specs.Network.{IsLabel, is_label_octet};
 
-use arrayvec::ArrayVec;
+use arrayvec::ArrayString;
 use per_bits::Whole;
 use s1ap_elements::{MmeCode, MmeGroup, Plmn};
 use std::alloc::{AllocError, Global};
@@ -16,7 +16,7 @@ pub type AggregateBitRate = Whole<1, 10000000000>;
 /// An access point name of one label, 1 to 63 letters, digits and hyphens (TS 23.003 clause 9.1); a contract sees its octets.
 #[derive(Drop)]
 pub struct Apn {
-    label: ArrayVec<u8, 63>,
+    label: ArrayString<63>,
 }
 
 impl Model for Apn {
@@ -26,9 +26,9 @@ impl Model for Apn {
 
     ghost use Rattle.mme_types.specs.Network.{IsLabel};
 
-    ghost view = { λ a. a.label.items };
+    ghost view = { λ a. a.label.bytes };
 
-    ghost invariant = { λ a. IsLabel a.label.items };
+    ghost invariant = { λ a. IsLabel a.label.bytes };
 }
 
 impl Apn {
@@ -40,9 +40,11 @@ impl Apn {
         if label.is_empty() || !label.iter().all(|octet| is_label_octet(*octet)) {
             return None;
         }
-        let mut octets = ArrayVec::new();
-        match octets.try_extend_from_slice(label) {
-            Ok(()) => Some(Apn { label: octets }),
+        let Ok(text) = str::from_utf8(label) else {
+            return None;
+        };
+        match ArrayString::from(text) {
+            Ok(label) => Some(Apn { label }),
             Err(_) => None,
         }
     }
@@ -53,7 +55,14 @@ impl Apn {
         ensures least { 1 ≤ length self.now }
         ensures most { length self.now ≤ 63 }
     {
-        self.label.as_slice()
+        self.label.as_bytes()
+    }
+
+    /// The label as a text.
+    pub fn as_str(&self) -> &str
+        ensures { result.now ≡ self.now }
+    {
+        self.label.as_str()
     }
 }
 
@@ -63,9 +72,7 @@ impl Clone for Apn {
     ghost is_clone = { λ x y. y ≡ x };
 
     fn clone(&self) -> Result<Apn, AllocError> {
-        Ok(Apn {
-            label: self.label.clone()?,
-        })
+        Ok(Apn { label: self.label })
     }
 }
 

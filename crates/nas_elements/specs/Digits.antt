@@ -49,7 +49,7 @@ is_digit b = nat_le 48 b && nat_le b 57
 abbrev pub is_digit_text : List ℕ → Bool
 is_digit_text bs = (length bs == 14 || length bs == 15) && list_all is_digit bs
 
--- the filler behind fourteen digits
+-- the filler after fourteen digits
 abbrev pub filled : List ℕ → List ℕ
 filled ds = take 15 (ds ++ 15 ∷ [])
 

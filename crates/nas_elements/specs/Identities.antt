@@ -86,7 +86,7 @@ tai_list_of os = if length os == 6 && slice_index os 0 == 0 then Some (tai_list_
 abbrev pub TaiListFits : TaiList → Type 0
 TaiListFits a = (length a.plmn.octets ≡ 3) × (length a.tac ≡ 2)
 
--- ---- one label of a name, behind its length (RFC 1035 clause 3.1)
+-- ---- one label of a name, after its length (RFC 1035 clause 3.1)
 
 abbrev pub SpellsLabel : List ℕ → List ℕ → Type 0
 SpellsLabel xs os = (os ≡ length xs ∷ xs) × (1 ≤ length xs) × (length xs ≤ 63)

@@ -1,3 +1,5 @@
+pub mod Codes
+pub mod Timers
 pub mod Faults
 pub mod Digits
 pub mod Capability

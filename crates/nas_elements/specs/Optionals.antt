@@ -28,7 +28,7 @@ rule_of domain i =
 
 -- ---- spelling
 
--- the octets behind an identifier i
+-- the octets after an identifier i
 abbrev pub SpellsBy : Rule → ℕ → Element (List ℕ) → List ℕ → Type 0
 SpellsBy Itself i e os = (e ≡ record { iei = i / 16 * 16; octets = i ∷ [] }) × (os ≡ [])
 SpellsBy (SoMany n) i e os = (e.iei ≡ i) × (os ≡ e.octets) × (length e.octets ≡ n)
@@ -67,7 +67,7 @@ element_at domain os = do
   i ← octet_at os
   by_rule (rule_of domain i.0) i.0 i.1
 
--- at most so many elements
+-- at most n elements
 unfoldable pub parted : ℕ → Domain → List ℕ → Option (List (Element (List ℕ)))
 parted n domain [] = Some []
 parted zero domain (o ∷ os) = None

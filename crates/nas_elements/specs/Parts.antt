@@ -31,9 +31,9 @@ pub data Part : Type 0 where
   constant : ℕ → Part  -- this octet
   octet : Part  -- any octet
   halves : Half → Half → Part  -- an octet: the low half, the high half
-  fixed : ℕ → Part  -- so many octets
-  lv : Content → Part  -- behind a length of one octet
-  long : Part  -- any octets behind a length of two octets
+  fixed : ℕ → Part  -- this number of octets
+  lv : Content → Part  -- after a length of one octet
+  long : Part  -- any octets after a length of two octets
 
 abbrev pub HalfValue : Half → Type 0
 HalfValue spare = Unit {0}

@@ -1,10 +1,9 @@
 //! The UE security capability (TS 24.301 clause 9.9.3.34).
 
-ghost use Rattle.std.specs.Prelude.{◌≡◌, ◌++◌, slice_index, OnErr, OnOk, ok_or};
+ghost use Rattle.std.specs.Prelude.{◌≡◌, ◌++◌, slice_index, IfErr, OnErr, OnOk, ok_or};
 ghost use Rattle.nas_elements.specs.Capability.{capability_of, has_eia2, replayed};
 
 use crate::fault::NasFault;
-use std::alloc::AllocError;
 use std::marker::Model;
 
 /// The algorithms that a phone knows: from 2 to 13 octets. Contracts see the list of them.
@@ -114,11 +113,12 @@ impl UeCapability {
         }
     }
 
-    /// Appends its octets; refused, `out` is as before.
-    pub fn write(&self, out: &mut Vec<u8>) -> Result<(), AllocError>
+    /// Appends its octets; where that is refused, with the fault NoMemory, `out` is as before.
+    pub fn write(&self, out: &mut Vec<u8>) -> Result<(), NasFault>
         ensures ok { OnOk result (out.new.items ≡ out.old.items ++ self.now) }
         ensures err { OnErr result (out.new.items ≡ out.old.items) }
+        ensures memory { IfErr result (λ fault. fault ≡ NasFault.NoMemory) }
     {
-        out.extend_from_slice(self.as_slice())
+        Ok(out.extend_from_slice(self.as_slice())?)
     }
 }

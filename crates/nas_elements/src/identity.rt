@@ -1,11 +1,10 @@
 //! Who a phone is, and where it is.
 
-ghost use Rattle.std.specs.Prelude.{◌≡◌, ◌++◌, OnErr, OnOk, ok_or};
+ghost use Rattle.std.specs.Prelude.{◌≡◌, ◌++◌, IfErr, OnErr, OnOk, ok_or};
 ghost use Rattle.nas_elements.specs.Identities.{guti_octets, guti_of, identity_octets, identity_of, plmn_from_s1ap, plmn_of, tai_list_octets, tai_list_of};
 
 use crate::fault::NasFault;
 use crate::imsi::Imsi;
-use std::alloc::AllocError;
 
 /// A network, as NAS writes it: country digits 2 and 1, network digit 3 (or f) and country digit 3, network digits 2 and 1
 /// (TS 24.301 clause 9.9.3.12).
@@ -73,12 +72,13 @@ impl Plmn {
         })
     }
 
-    /// Appends its three octets; refused, `out` is as before.
-    pub fn write(&self, out: &mut Vec<u8>) -> Result<(), AllocError>
+    /// Appends its three octets; where that is refused, with the fault NoMemory, `out` is as before.
+    pub fn write(&self, out: &mut Vec<u8>) -> Result<(), NasFault>
         ensures ok { OnOk result (out.new.items ≡ out.old.items ++ self.now.octets) }
         ensures err { OnErr result (out.new.items ≡ out.old.items) }
+        ensures memory { IfErr result (λ fault. fault ≡ NasFault.NoMemory) }
     {
-        out.extend_from_slice(&self.octets)
+        Ok(out.extend_from_slice(&self.octets)?)
     }
 }
 
@@ -118,12 +118,13 @@ impl TaiList {
         [0, a, b, c, d, e]
     }
 
-    /// Appends its six octets; refused, `out` is as before.
-    pub fn write(&self, out: &mut Vec<u8>) -> Result<(), AllocError>
+    /// Appends its six octets; where that is refused, with the fault NoMemory, `out` is as before.
+    pub fn write(&self, out: &mut Vec<u8>) -> Result<(), NasFault>
         ensures ok { OnOk result (out.new.items ≡ out.old.items ++ tai_list_octets self.now) }
         ensures err { OnErr result (out.new.items ≡ out.old.items) }
+        ensures memory { IfErr result (λ fault. fault ≡ NasFault.NoMemory) }
     {
-        out.extend_from_slice(&self.octets())
+        Ok(out.extend_from_slice(&self.octets())?)
     }
 }
 
@@ -166,12 +167,13 @@ impl Guti {
         [0xf6, a, b, c, d, e, self.code, f, g, h, i]
     }
 
-    /// Appends its eleven octets; refused, `out` is as before.
-    pub fn write(&self, out: &mut Vec<u8>) -> Result<(), AllocError>
+    /// Appends its eleven octets; where that is refused, with the fault NoMemory, `out` is as before.
+    pub fn write(&self, out: &mut Vec<u8>) -> Result<(), NasFault>
         ensures ok { OnOk result (out.new.items ≡ out.old.items ++ guti_octets self.now) }
         ensures err { OnErr result (out.new.items ≡ out.old.items) }
+        ensures memory { IfErr result (λ fault. fault ≡ NasFault.NoMemory) }
     {
-        out.extend_from_slice(&self.octets())
+        Ok(out.extend_from_slice(&self.octets())?)
     }
 }
 
@@ -196,10 +198,11 @@ impl MobileIdentity {
         None
     }
 
-    /// Appends its octets: eight of an IMSI, eleven of a GUTI; refused, `out` is as before.
-    pub fn write(&self, out: &mut Vec<u8>) -> Result<(), AllocError>
+    /// Appends its octets: eight of an IMSI, eleven of a GUTI; where that is refused, with the fault NoMemory, `out` is as before.
+    pub fn write(&self, out: &mut Vec<u8>) -> Result<(), NasFault>
         ensures ok { OnOk result (out.new.items ≡ out.old.items ++ identity_octets self.now) }
         ensures err { OnErr result (out.new.items ≡ out.old.items) }
+        ensures memory { IfErr result (λ fault. fault ≡ NasFault.NoMemory) }
     {
         match self {
             MobileIdentity::Imsi(imsi) => imsi.write(out),

@@ -1,12 +1,11 @@
 //! IMSIs (TS 23.003 clause 2.2).
 
-ghost use Rattle.std.specs.Prelude.{◌≡◌, ◌+◌, ◌*◌, ◌<◌, ◌≤◌, ◌++◌, length, map, OnErr, OnOk, ok_or, true};
+ghost use Rattle.std.specs.Prelude.{◌≡◌, ◌+◌, ◌*◌, ◌<◌, ◌≤◌, ◌++◌, length, map, IfErr, OnErr, OnOk, ok_or, true};
 ghost use Rattle.nas_elements.specs.Digits.{are_digits, imsi_checked, imsi_octets, imsi_of, imsi_of_text, imsi_text, is_digit, is_digit_text, is_imsi};
 ghost use Rattle.std.specs.List.{list_all};
 
 use crate::fault::NasFault;
 use arrayvec::{ArrayString, ArrayVec};
-use std::alloc::AllocError;
 use std::marker::Model;
 
 /// A phone's IMSI: fourteen or fifteen digits. Contracts see fifteen half octets, the last of which is 15 where there are
@@ -158,12 +157,13 @@ impl Imsi {
         ]
     }
 
-    /// Appends its eight octets; refused, `out` is as before.
-    pub fn write(&self, out: &mut Vec<u8>) -> Result<(), AllocError>
+    /// Appends its eight octets; where that is refused, with the fault NoMemory, `out` is as before.
+    pub fn write(&self, out: &mut Vec<u8>) -> Result<(), NasFault>
         ensures ok { OnOk result (out.new.items ≡ out.old.items ++ imsi_octets self.now) }
         ensures err { OnErr result (out.new.items ≡ out.old.items) }
+        ensures memory { IfErr result (λ fault. fault ≡ NasFault.NoMemory) }
     {
-        out.extend_from_slice(&self.octets())
+        Ok(out.extend_from_slice(&self.octets())?)
     }
 }
 

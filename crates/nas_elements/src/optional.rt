@@ -1,4 +1,4 @@
-//! The optional part of a message: the elements behind its mandatory part (TS 24.007 clause 11.2.4).
+//! The optional part of a message: the elements after its mandatory part (TS 24.007 clause 11.2.4).
 
 ghost use Rattle.std.specs.Prelude.{◌≡◌, ◌++◌, option_map, ok_or, OnOk};
 ghost use Rattle.nas_elements.specs.Optionals.{FitsBy, cause_rule, element_at, elements, first, rule_of, write_by};
@@ -174,7 +174,7 @@ pub fn is_set(element: Option<&[u8]>) -> bool
     }
 }
 
-/// Appends an element behind its identifier and its length, if there is one.
+/// Appends an element after its identifier and its length, if there is one.
 pub fn put_element(
     out: &mut Vec<u8>,
     domain: Domain,

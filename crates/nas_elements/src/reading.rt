@@ -30,7 +30,7 @@ pub fn fixed_at(count: usize, octets: &[u8]) -> Option<(&[u8], &[u8])>
     Some(octets.split_at(count))
 }
 
-/// Octets behind a length of one octet.
+/// Octets after a length of one octet.
 #[tactic(auto, unfolding(crate::specs::Parts::short_at))]
 pub fn short_at(octets: &[u8]) -> Option<(&[u8], &[u8])>
     ensures { at (λ s. s.now) result ≡ short_at octets.now }
@@ -39,7 +39,7 @@ pub fn short_at(octets: &[u8]) -> Option<(&[u8], &[u8])>
     fixed_at(count as usize, rest)
 }
 
-/// Octets behind a length of two octets.
+/// Octets after a length of two octets.
 #[tactic(auto, unfolding(crate::specs::Parts::long_at))]
 pub fn long_at(octets: &[u8]) -> Option<(&[u8], &[u8])>
     ensures { at (λ s. s.now) result ≡ long_at octets.now }
@@ -60,7 +60,7 @@ pub fn constant_at(expected: u8, octets: &[u8]) -> Option<((), &[u8])>
     Some(((), rest))
 }
 
-/// From `low` to `high` octets behind their length.
+/// From `low` to `high` octets after their length.
 pub fn bounded_at(low: usize, high: usize, octets: &[u8]) -> Option<(&[u8], &[u8])>
     ensures { at (λ s. s.now) result ≡ read_part (lv (between low high)) octets.now }
 {
@@ -74,7 +74,7 @@ pub fn bounded_at(low: usize, high: usize, octets: &[u8]) -> Option<(&[u8], &[u8
     Some((content, rest))
 }
 
-/// An identity behind its length.
+/// An identity after its length.
 pub fn identity_at(octets: &[u8]) -> Option<(MobileIdentity, &[u8])>
     ensures { at (λ i. i) result ≡ read_part (lv identity) octets.now }
 {
@@ -82,7 +82,7 @@ pub fn identity_at(octets: &[u8]) -> Option<(MobileIdentity, &[u8])>
     Some((MobileIdentity::of_octets(content)?, rest))
 }
 
-/// A GUTI behind its length.
+/// A GUTI after its length.
 pub fn guti_at(octets: &[u8]) -> Option<(Guti, &[u8])>
     ensures { at (λ g. g) result ≡ read_part (lv guti) octets.now }
 {
@@ -90,7 +90,7 @@ pub fn guti_at(octets: &[u8]) -> Option<(Guti, &[u8])>
     Some((Guti::of_octets(content)?, rest))
 }
 
-/// A list of one tracking area behind its length.
+/// A list of one tracking area after its length.
 pub fn tai_list_at(octets: &[u8]) -> Option<(TaiList, &[u8])>
     ensures { at (λ a. a) result ≡ read_part (lv tai_list) octets.now }
 {
@@ -98,7 +98,7 @@ pub fn tai_list_at(octets: &[u8]) -> Option<(TaiList, &[u8])>
     Some((TaiList::of_octets(content)?, rest))
 }
 
-/// A label of 1 to 63 octets behind two lengths: its own, and that of both.
+/// A label of 1 to 63 octets after two lengths: its own, and that of both.
 pub fn label_at(octets: &[u8]) -> Option<(&[u8], &[u8])>
     ensures { at (λ s. s.now) result ≡ read_part (lv label) octets.now }
 {

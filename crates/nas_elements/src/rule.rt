@@ -20,7 +20,7 @@ pub enum Rule {
     ByTwo,
 }
 
-/// An element: its identifier, and its octets behind identifier and length. Where it is one octet, the identifier is
+/// An element: its identifier, and its octets after identifier and length. Where it is one octet, the identifier is
 /// the high half, and the octet itself is kept.
 #[derive(Clone, Copy)]
 pub struct Element<B> {

@@ -21,7 +21,7 @@ pub fn put_fixed(out: &mut Vec<u8>, octets: &[u8]) -> Result<(), AllocError>
     Ok(out.extend_from_slice(octets)?)
 }
 
-/// Appends octets behind a length of one octet.
+/// Appends octets after a length of one octet.
 pub fn put_short(out: &mut Vec<u8>, octets: &[u8]) -> Result<(), AllocError>
     requires { length octets.now < 256 }
     ensures { OnOk result (out.new.items ≡ out.old.items ++ short octets.now) }
@@ -31,7 +31,7 @@ pub fn put_short(out: &mut Vec<u8>, octets: &[u8]) -> Result<(), AllocError>
     Ok(())
 }
 
-/// Appends octets behind a length of two octets.
+/// Appends octets after a length of two octets.
 pub fn put_long(out: &mut Vec<u8>, octets: &[u8]) -> Result<(), AllocError>
     requires { length octets.now < 65536 }
     ensures { OnOk result (out.new.items ≡ out.old.items ++ wide octets.now) }
@@ -42,17 +42,17 @@ pub fn put_long(out: &mut Vec<u8>, octets: &[u8]) -> Result<(), AllocError>
     Ok(())
 }
 
-/// Appends a GUTI behind its length.
+/// Appends a GUTI after its length.
 #[tactic(auto, unfolding(crate::specs::Identities::guti_octets))]
 pub fn put_guti(out: &mut Vec<u8>, value: &Guti) -> Result<(), AllocError>
     requires { PartFits (lv guti) value.now }
     ensures { OnOk result (out.new.items ≡ out.old.items ++ write_part (lv guti) value.now) }
 {
     out.push(11)?;
-    value.write(out)
+    Ok(out.extend_from_slice(&value.octets())?)
 }
 
-/// Appends an identity behind its length.
+/// Appends an identity after its length.
 #[tactic(auto, unfolding(crate::specs::Digits::imsi_octets))]
 pub fn put_identity(out: &mut Vec<u8>, value: &MobileIdentity) -> Result<(), AllocError>
     requires { PartFits (lv identity) value.now }
@@ -61,23 +61,23 @@ pub fn put_identity(out: &mut Vec<u8>, value: &MobileIdentity) -> Result<(), All
     match value {
         MobileIdentity::Imsi(imsi) => {
             out.push(8)?;
-            imsi.write(out)
+            Ok(out.extend_from_slice(&imsi.octets())?)
         }
         MobileIdentity::Temporary(guti) => put_guti(out, guti),
     }
 }
 
-/// Appends a list of one tracking area behind its length.
+/// Appends a list of one tracking area after its length.
 #[tactic(auto, unfolding(crate::specs::Identities::tai_list_octets))]
 pub fn put_tai_list(out: &mut Vec<u8>, value: &TaiList) -> Result<(), AllocError>
     requires { PartFits (lv tai_list) value.now }
     ensures { OnOk result (out.new.items ≡ out.old.items ++ write_part (lv tai_list) value.now) }
 {
     out.push(6)?;
-    value.write(out)
+    Ok(out.extend_from_slice(&value.octets())?)
 }
 
-/// Appends a label behind two lengths: its own, and that of both.
+/// Appends a label after two lengths: its own, and that of both.
 pub fn put_label(out: &mut Vec<u8>, octets: &[u8]) -> Result<(), AllocError>
     requires { PartFits (lv label) octets.now }
     ensures { OnOk result (out.new.items ≡ out.old.items ++ write_part (lv label) octets.now) }

@@ -11,7 +11,7 @@ use Rattle.nas_messages.specs.declared.esm_types.EsmBody.{EsmBody}
 use Rattle.nas_messages.specs.declared.esm_types.EsmBody.TheVariants as bodies
 use Rattle.nas_messages.specs.declared.esm_types.EsmType.{EsmType}
 use Rattle.nas_messages.specs.declared.esm_types.EsmType.TheVariants.{ActivateRequest, ActivateAccept, ActivateReject, ConnectivityRequest, ConnectivityReject, DisconnectRequest, DisconnectReject, InformationRequest, InformationResponse, EsmStatus}
-use Rattle.nas_messages.specs.Codes.{esm_discriminator}
+use Rattle.nas_elements.specs.Codes.{esm_discriminator}
 use Rattle.nas_messages.specs.Formats.{esm_row_of}
 
 -- ---- a message without where it lies in memory
@@ -132,7 +132,7 @@ seen_esm (Err e) = Err e
 
 -- ---- when each fault comes
 
--- ESM's discriminator, any bearer and transaction, a type, and octets behind them
+-- ESM's discriminator, any bearer and transaction, a type, and octets after them
 abbrev pub HasEsmType : List ℕ → EsmType → List ℕ → Type 0
 HasEsmType os t rest =
     (bearer : ℕ) × (transaction : ℕ) × (os ≡ (bearer * 16 + esm_discriminator) ∷ transaction ∷ esm_code_of t ∷ rest)

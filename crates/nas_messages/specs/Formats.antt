@@ -4,13 +4,13 @@ use Rattle.nas_elements.specs.declared.rule.Domain.TheVariants.{Emm, Esm}
 use Rattle.nas_elements.specs.Identifiers.{emm_cause_iei, esm_cause_iei, esm_information_flag_iei, esm_message_container_iei, guti_iei, t3412_value_iei, tai_list_iei}
 use Rattle.nas_elements.specs.Parts.{Part, constant, octet, halves, fixed, lv, long, spare, three, flagged, four, exactly, between, identity, guti, tai_list, label}
 use Rattle.nas_elements.specs.Rows.{Row, Keep, element, flag}
-use Rattle.nas_messages.specs.Timers.{t3412_octet}
+use Rattle.nas_elements.specs.Timers.{t3412_octet}
 use Rattle.nas_messages.specs.declared.emm_types.EmmType.{EmmType}
 use Rattle.nas_messages.specs.declared.emm_types.EmmType.TheVariants.{AttachRequest, AttachAccept, AttachComplete, AttachReject, DetachRequest, NetworkDetach, DetachAccept, TrackingAreaUpdateRequest, TrackingAreaUpdateAccept, TrackingAreaUpdateComplete, TrackingAreaUpdateReject, ServiceReject, AuthenticationRequest, AuthenticationResponse, AuthenticationReject, IdentityRequest, IdentityResponse, AuthenticationFailure, SecurityModeCommand, SecurityModeComplete, SecurityModeReject, EmmStatus}
 use Rattle.nas_messages.specs.declared.esm_types.EsmType.{EsmType}
 use Rattle.nas_messages.specs.declared.esm_types.EsmType.TheVariants.{ActivateRequest, ActivateAccept, ActivateReject, ConnectivityRequest, ConnectivityReject, DisconnectRequest, DisconnectReject, InformationRequest, InformationResponse, EsmStatus}
 
--- ---- EPS mobility management (TS 24.301 clause 8.2), behind discriminator and type
+-- ---- EPS mobility management (TS 24.301 clause 8.2), after discriminator and type
 
 abbrev pub parts_of : EmmType → List Part
 parts_of AttachRequest = halves three three ∷ lv identity ∷ lv (between 2 13) ∷ long ∷ []
@@ -63,7 +63,7 @@ kept_of EmmStatus = []
 abbrev pub row_of : EmmType → Row
 row_of t = record { parts = parts_of t; domain = Emm; kept = kept_of t }
 
--- ---- EPS session management (TS 24.301 clause 8.3), behind discriminator, transaction and type
+-- ---- EPS session management (TS 24.301 clause 8.3), after discriminator, transaction and type
 
 abbrev pub esm_parts_of : EsmType → List Part
 esm_parts_of ActivateRequest = constant 1 ∷ constant 9 ∷ lv label ∷ constant 5 ∷ constant 1 ∷ fixed 4 ∷ []

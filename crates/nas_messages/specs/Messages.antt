@@ -12,7 +12,7 @@ use Rattle.nas_messages.specs.declared.emm_types.EmmType.{EmmType}
 use Rattle.nas_messages.specs.declared.emm_types.EmmType.TheVariants.{AttachRequest, AttachAccept, AttachComplete, AttachReject, DetachRequest, NetworkDetach, DetachAccept, TrackingAreaUpdateRequest, TrackingAreaUpdateAccept, TrackingAreaUpdateComplete, TrackingAreaUpdateReject, ServiceReject, AuthenticationRequest, AuthenticationResponse, AuthenticationReject, IdentityRequest, IdentityResponse, AuthenticationFailure, SecurityModeCommand, SecurityModeComplete, SecurityModeReject, EmmStatus}
 use Rattle.nas_messages.specs.declared.emm_types.Direction.{Direction}
 use Rattle.nas_messages.specs.declared.emm_types.Direction.TheVariants.{Uplink, Downlink}
-use Rattle.nas_messages.specs.Codes.{emm_discriminator, service_request_head}
+use Rattle.nas_elements.specs.Codes.{emm_discriminator, service_request_head}
 use Rattle.nas_messages.specs.Formats.{row_of}
 
 -- ---- a message without where it lies in memory
@@ -205,7 +205,7 @@ seen (Err e) = Err e
 
 -- ---- when each fault comes
 
--- discriminator 7, a type of this direction, and octets behind them
+-- discriminator 7, a type of this direction, and octets after them
 abbrev pub HasType : Direction → List ℕ → EmmType → List ℕ → Type 0
 HasType direction os t rest = (os ≡ 7 ∷ code_of t ∷ rest) × (type_of direction (code_of t) ≡ Some t)
 

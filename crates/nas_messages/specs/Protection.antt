@@ -1,7 +1,7 @@
 -- The protected form of a message: security header type and protocol discriminator, MAC, sequence number, message.
 use Rattle.std.specs.Prelude.{ℕ, ◌+◌, ◌*◌, ◌/◌, ◌%◌, ◌==◌, ◌&&◌, nat_le, if◌then◌else◌, List, [], ◌∷◌, ◌++◌, length, drop, slice_index, Option, Some, None, option_map}
 use Rattle.std.specs.Borrow.{Bor}
-use Rattle.nas_messages.specs.Codes.{emm_discriminator}
+use Rattle.nas_elements.specs.Codes.{emm_discriminator}
 use Rattle.nas_messages.specs.declared.protection.SecurityHeader.{SecurityHeader}
 use Rattle.nas_messages.specs.declared.protection.SecurityHeader.TheVariants.{IntegrityProtected, IntegrityProtectedCiphered, NewContext, NewContextCiphered}
 use Rattle.nas_messages.specs.declared.protection.Protected.{Protected}
@@ -25,7 +25,7 @@ header_of code =
 unfoldable pub protected_form : Protected (List ℕ) → List ℕ
 protected_form p = (header_code p.header * 16 + emm_discriminator) ∷ p.mac ++ p.sequence ∷ p.message
 
--- six octets and a message behind this header
+-- six octets and a message after this header
 abbrev pub protected_from : SecurityHeader → List ℕ → Protected (List ℕ)
 protected_from header os = record {
   header = header;

@@ -13,10 +13,9 @@ use crate::emm_types::{
     EmmMessage, EmmType, SecurityModeCommand, TrackingAreaUpdateAccept, TrackingAreaUpdateRequest,
 };
 use crate::simple::{cause_in, nothing_in, three_at, three_in};
-use crate::{codes, timers};
 use nas_elements::{
-    Domain, NasFault, Optional, TaiList, bounded_at, constant_at, fixed_at, guti_at, identifier,
-    identity_at, long_at, octet_at, tai_list_at,
+    Domain, NasFault, Optional, TaiList, bounded_at, codes, constant_at, fixed_at, guti_at,
+    identifier, identity_at, long_at, octet_at, tai_list_at, timers,
 };
 
 #[tactic(auto, unfolding(crate::specs::Messages::read_typed, nas_elements::specs::Rows::read_row))]

@@ -1,6 +1,6 @@
 //! EMM messages to octets.
 
-ghost use Rattle.std.specs.Prelude.{◌≡◌, ◌++◌, ◌∷◌, [], OnOk, IfOk, ◌<◌, length};
+ghost use Rattle.std.specs.Prelude.{◌≡◌, ◌++◌, ◌∷◌, [], OnOk, IfErr, IfOk, ◌<◌, length};
 ghost use Rattle.nas_elements.specs.Parts.{flagged, write_half};
 ghost use Rattle.nas_elements.specs.Rows.{RowFits, write_row};
 ghost use Rattle.nas_elements.specs.Seen.{octets_of};
@@ -8,14 +8,14 @@ ghost use Rattle.nas_messages.specs.Formats.{row_of};
 ghost use Rattle.nas_messages.specs.Messages.{IsWritable, encoded_emm, lists};
 ghost use Rattle.nas_messages.specs.declared.emm_types.Emm.TheVariants as messages;
 
+use crate::USUAL_ROOM;
 use crate::emm_types::{
     AttachAccept, AttachReject, AttachRequest, AuthenticationRequest, DetachRequest, EmmMessage,
     SecurityModeCommand, TrackingAreaUpdateAccept, TrackingAreaUpdateRequest,
 };
-use crate::{USUAL_ROOM, timers};
 use nas_elements::{
-    Domain, identifier, put_element, put_fixed, put_guti, put_identity, put_long, put_short,
-    put_tai_list,
+    Domain, NasFault, identifier, put_element, put_fixed, put_guti, put_identity, put_long,
+    put_short, put_tai_list, timers,
 };
 use std::alloc::{AllocError, Global};
 
@@ -156,10 +156,11 @@ fn put_emm(out: &mut Vec<u8>, message: &EmmMessage) -> Result<(), AllocError>
 }
 
 /// The one written form of a message: optional elements in the order of its type's clause, spare bits 0. What was decoded
-/// may be encoded.
-pub fn encode_emm(alloc: Global, message: &EmmMessage) -> Result<Vec<u8>, AllocError>
+/// may be encoded. The one fault is NoMemory.
+pub fn encode_emm(alloc: Global, message: &EmmMessage) -> Result<Vec<u8>, NasFault>
     requires { IsWritable (lists message.now) }
-    ensures { IfOk result (λ octets. octets.items ≡ encoded_emm (lists message.now)) }
+    ensures ok { IfOk result (λ octets. octets.items ≡ encoded_emm (lists message.now)) }
+    ensures memory { IfErr result (λ fault. fault ≡ NasFault.NoMemory) }
 {
     let mut octets = Vec::with_capacity(alloc, USUAL_ROOM)?;
     put_emm(&mut octets, message)?;

@@ -7,11 +7,11 @@ ghost use Rattle.nas_messages.specs.Formats.{esm_parts_of};
 ghost use Rattle.nas_messages.specs.EsmMessages.{IsWritableEsm, decoded_esm, esm_lists, esm_type_of, read_body, seen_body, seen_esm};
 ghost use Rattle.nas_messages.specs.declared.esm_types.EsmType.TheVariants as types;
 
-use crate::codes;
 use crate::esm_types::{ActivateRequest, Esm, EsmBody, EsmMessage, EsmType};
 use crate::simple::{cause_in, nothing_in};
 use nas_elements::{
-    Domain, NasFault, Optional, constant_at, fixed_at, identifier, is_set, label_at, octet_at,
+    Domain, NasFault, Optional, codes, constant_at, fixed_at, identifier, is_set, label_at,
+    octet_at,
 };
 
 #[tactic(auto, unfolding(crate::specs::EsmMessages::read_body, nas_elements::specs::Rows::read_row))]

@@ -1,12 +1,14 @@
 //! ESM messages to octets.
 
-ghost use Rattle.std.specs.Prelude.{◌≡◌, ◌++◌, OnOk, IfOk};
+ghost use Rattle.std.specs.Prelude.{◌≡◌, ◌++◌, OnOk, IfErr, IfOk};
 ghost use Rattle.nas_messages.specs.EsmMessages.{BodyFits, IsWritableEsm, body_lists, encoded_esm, esm_lists, typed_body, written_body};
 ghost use Rattle.nas_messages.specs.declared.esm_types.EsmBody.TheVariants as bodies;
 
+use crate::USUAL_ROOM;
 use crate::esm_types::{ActivateRequest, EsmBody, EsmMessage};
-use crate::{USUAL_ROOM, codes};
-use nas_elements::{Domain, identifier, put_element, put_fixed, put_label, put_octet};
+use nas_elements::{
+    Domain, NasFault, codes, identifier, put_element, put_fixed, put_label, put_octet,
+};
 use std::alloc::{AllocError, Global};
 
 fn put_activate_request(out: &mut Vec<u8>, m: &ActivateRequest<&[u8]>) -> Result<(), AllocError>
@@ -61,10 +63,11 @@ fn put_body(out: &mut Vec<u8>, body: &EsmBody<&[u8]>) -> Result<(), AllocError>
 }
 
 /// The one written form of a message, with the bearer and the transaction that it holds; spare bits 0. What was decoded may
-/// be encoded.
-pub fn encode_esm(alloc: Global, message: &EsmMessage) -> Result<Vec<u8>, AllocError>
+/// be encoded. The one fault is NoMemory.
+pub fn encode_esm(alloc: Global, message: &EsmMessage) -> Result<Vec<u8>, NasFault>
     requires { IsWritableEsm (esm_lists message.now) }
-    ensures { IfOk result (λ octets. octets.items ≡ encoded_esm (esm_lists message.now)) }
+    ensures ok { IfOk result (λ octets. octets.items ≡ encoded_esm (esm_lists message.now)) }
+    ensures memory { IfErr result (λ fault. fault ≡ NasFault.NoMemory) }
 {
     let mut octets = Vec::with_capacity(alloc, USUAL_ROOM)?;
     put_octet(&mut octets, message.bearer * 16 + codes::ESM_DISCRIMINATOR)?;

@@ -2,7 +2,6 @@
 //! in both directions; and the protected form. Decoding and splitting take no memory.
 #![tactic(auto)]
 
-pub mod codes;
 mod emm_decoding;
 mod emm_encoding;
 mod emm_types;
@@ -12,7 +11,6 @@ mod esm_types;
 mod laws;
 mod protection;
 mod simple;
-pub mod timers;
 
 // The octets that a message is given room for at once, so that it isn't moved while it is written; a longer one gets more then.
 const USUAL_ROOM: usize = 64;
@@ -32,4 +30,5 @@ pub use laws::{
     fault_is_named, fault_of_esm_is_named, one_esm_message, one_message, protected_is_split,
     spelled_esm_is_decoded, spelled_is_decoded, split_is_protected,
 };
+pub use nas_elements::{Lent, codes, timers};
 pub use protection::{Protected, SecurityHeader, join_protected, split_protected};

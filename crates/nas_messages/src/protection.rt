@@ -1,10 +1,10 @@
 //! The protected form of a message (TS 24.301 clause 9.1).
 
-ghost use Rattle.std.specs.Prelude.{◌≡◌, IfOk, IfSome, length};
+ghost use Rattle.std.specs.Prelude.{◌≡◌, IfErr, IfOk, IfSome, length};
 ghost use Rattle.nas_messages.specs.Protection.{header_code, header_of, protected_form, seen_split, split, unlent};
 
-use crate::codes;
-use std::alloc::{AllocError, Global};
+use nas_elements::{NasFault, codes};
+use std::alloc::Global;
 
 // The octets before the message: the security header type with the protocol discriminator, the MAC and the sequence number.
 const HEADER_LENGTH: usize = 6;
@@ -84,10 +84,11 @@ pub fn split_protected<'a>(octets: &'a [u8]) -> Option<Protected<&'a [u8]>>
     })
 }
 
-/// The octets of a protected message.
+/// The octets of a protected message. The one fault is NoMemory.
 #[tactic(auto, unfolding(crate::specs::Protection::protected_form))]
-pub fn join_protected(alloc: Global, protected: &Protected<&[u8]>) -> Result<Vec<u8>, AllocError>
-    ensures { IfOk result (λ octets. octets.items ≡ protected_form (unlent protected.now)) }
+pub fn join_protected(alloc: Global, protected: &Protected<&[u8]>) -> Result<Vec<u8>, NasFault>
+    ensures ok { IfOk result (λ octets. octets.items ≡ protected_form (unlent protected.now)) }
+    ensures memory { IfErr result (λ fault. fault ≡ NasFault.NoMemory) }
 {
     let [a, b, c, d] = protected.mac;
     let first = protected.header.code() * 16 + codes::EMM_DISCRIMINATOR;

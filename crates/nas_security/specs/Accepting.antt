@@ -6,7 +6,7 @@ use Rattle.eps_keys.specs.Same.{same_octets}
 use Rattle.eps_keys.specs.declared.direction.DirectionBit.TheVariants.{Uplink}
 use Rattle.nas_messages.specs.declared.protection.SecurityHeader.{SecurityHeader}
 use Rattle.nas_messages.specs.declared.protection.Protected.{Protected}
-use Rattle.nas_messages.specs.Codes.{service_request_head}
+use Rattle.nas_elements.specs.Codes.{service_request_head}
 use Rattle.nas_messages.specs.Protection.{header_code, split, unlent}
 use Rattle.nas_security.specs.declared.fault.SecurityFault.{SecurityFault}
 use Rattle.nas_security.specs.declared.fault.SecurityFault.TheVariants.{BadMac, CountSpent, WrongHeader}

@@ -197,7 +197,9 @@ fn protected<I: Integrity>(
         sequence,
         message,
     };
-    let mut form = join_protected(alloc, &blank)?;
+    let Ok(mut form) = join_protected(alloc, &blank) else {
+        return Err(AllocError);
+    };
     let [a, b, c, d] = integrity.mac(count, DirectionBit::Downlink, &form.as_slice()[5..]);
     form[1] = a;
     form[2] = b;

@@ -10,13 +10,13 @@ use std::alloc::{AllocError, AllocFailed};
 #[derive(Clone, Copy, Debug, PartialEq, Eq)]
 pub enum SecurityFault {
     /// The MAC isn't the one of the message.
-    BadMac,
+    BadMac = 1,
     /// No count of 24 bits is left that could be the message's.
-    CountSpent,
+    CountSpent = 2,
     /// The octets have no allowed security header, or another form, or another key set identifier.
-    WrongHeader,
+    WrongHeader = 3,
     /// Memory was refused.
-    NoMemory,
+    NoMemory = 4,
 }
 
 impl<T: Drop> From<AllocFailed<T>> for SecurityFault {

@@ -62,12 +62,6 @@ served_gummeis = items 1 8 served_gummei
 abbrev pub paging_drx : Format
 paging_drx = enumerated 3
 
--- ---- causes
-
-abbrev pub cause : Format
-cause =
-    choice (either (enumerated 35) (either (enumerated 1) (either (enumerated 3) (either (enumerated 6) (last (enumerated 5))))))
-
 -- ---- phones
 
 abbrev pub tai : Format

@@ -1,14 +1,11 @@
 pub mod Ids
 pub mod Formats
-pub mod Causes
 pub mod Stations
 pub mod Phones
 pub mod Resets
 pub mod Bearers
 pub mod BearerLaws
-pub mod CauseLaws
 pub mod ListLaws
-pub mod NameLaws
 pub mod PhoneLaws
 pub mod ResetLaws
 pub mod StationLaws

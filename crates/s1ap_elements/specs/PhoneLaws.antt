@@ -12,7 +12,7 @@ use Rattle.s1ap_elements.specs.declared.phone.CnDomain.TheVariants.{Ps, Cs}
 use Rattle.s1ap_elements.specs.declared.phone.UeS1apIds.{UeS1apIds}
 use Rattle.s1ap_elements.specs.declared.phone.UeS1apIds.TheVariants.{Pair, MmeUeId}
 use Rattle.s1ap_elements.specs.ListLaws.{map_back}
-use Rattle.s1ap_elements.specs.NameLaws.{Spelled, names_again}
+use Rattle.s1ap_causes.specs.NameLaws.{Spelled, names_again}
 
 pub tai_list_again : (ts : List ListedTai) → named_tai_list (typed_tai_list ts) ≡ ts
 tai_list_again ts = map_back (λ t. (typed_tai_item t.value, tt)) (λ x. record { value = named_tai_item x.0 }) (λ t. refl) ts

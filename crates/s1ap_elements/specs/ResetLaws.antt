@@ -8,7 +8,7 @@ use Rattle.s1ap_elements.specs.declared.reset.ResetAll.TheVariants as reset
 use Rattle.s1ap_elements.specs.declared.reset.ResetType.{ResetType}
 use Rattle.s1ap_elements.specs.declared.reset.ResetType.TheVariants.{All, Part}
 use Rattle.s1ap_elements.specs.ListLaws.{map_back}
-use Rattle.s1ap_elements.specs.NameLaws.{Spelled, chosen_spelled, left_spelled, names_again}
+use Rattle.s1ap_causes.specs.NameLaws.{Spelled, chosen_spelled, left_spelled, names_again}
 
 reset_all_again : (a : ResetAll) → named_reset_all (typed_reset_all a) ≡ a
 reset_all_again reset.ResetAll = refl

@@ -11,7 +11,7 @@ use Rattle.s1ap_elements.specs.declared.station.PagingDrx.TheVariants.{Frames32,
 use Rattle.per_bits.specs.Formats.{Value}
 use Rattle.s1ap_elements.specs.Formats.{enb_id, global_enb_id, supported_ta, supported_tas, served_gummei, served_gummeis, paging_drx}
 use Rattle.s1ap_elements.specs.ListLaws.{map_back, each_is}
-use Rattle.s1ap_elements.specs.NameLaws.{Spelled, names_again}
+use Rattle.s1ap_causes.specs.NameLaws.{Spelled, names_again}
 
 enb_id_again : (e : EnbId) → named_enb_id (typed_enb_id e) ≡ e
 enb_id_again (Macro b) = refl

@@ -13,8 +13,6 @@ macro_rules! read_choice {
 
 mod bearer;
 mod bearer_element;
-mod cause;
-mod cause_element;
 mod container;
 mod identity;
 pub mod ids;
@@ -30,7 +28,6 @@ pub use bearer::{
     Ambr, Arp, ErabSetupItem, ErabToBeSetup, ErabToBeSetupItem, ErabToBeSwitchedItem, ErabTunnel,
     ErabsSetup, ErabsToBeSetup, ErabsToBeSwitched, Gbr, Qos,
 };
-pub use cause::{Cause, MiscCause, NasCause, ProtocolCause, RadioNetworkCause, TransportCause};
 pub use container::{IGNORE, Listed, REJECT};
 pub use identity::{
     Address, BitRate, CellId, EnbUeId, ErabId, MTmsi, MmeCode, MmeGroup, MmeUeId, Plmn,
@@ -43,6 +40,9 @@ pub use phone::{
 pub use reset::{
     AssociationReset, AssociationToReset, AssociationsReset, AssociationsToReset,
     ListedAssociation, ResetAll, ResetType,
+};
+pub use s1ap_causes::{
+    Cause, MiscCause, NasCause, ProtocolCause, RadioNetworkCause, TransportCause,
 };
 pub use station::{
     EnbId, GlobalEnbId, PagingDrx, ServedGummei, ServedGummeis, SupportedTa, SupportedTas,

@@ -5,17 +5,17 @@ use crate::criticality::Criticality;
 /// Why octets are no message: the first fault from the left, a missing element last.
 #[derive(Debug, Drop)]
 pub enum S1apFault {
-    /// Octets that spell nothing at some place.
+    /// 1: octets that spell nothing at some place.
     Syntax(per_bits::PerFault),
-    /// A procedure of no row, with its criticality.
+    /// 2: a procedure of no row, with its criticality.
     UnknownProcedure(Criticality),
-    /// The id of the first row whose element must stand and does not.
+    /// 3: the id of the first row whose element must stand and does not.
     MissingElement(u16),
-    /// The id of an element that stands a second time.
+    /// 4: the id of an element that stands a second time.
     RepeatedElement(u16),
-    /// The id of an element of no row that is marked reject.
+    /// 5: the id of an element of no row that is marked reject.
     RefusedElement(u16),
-    /// A growth of memory was refused.
+    /// 6: a growth of memory was refused.
     NoMemory,
 }
 

@@ -2,7 +2,7 @@
 
 use crate::acted::Acted;
 use crate::crowd::Crowd;
-use crate::site::{Connection, enb_ue_id};
+use crate::site::Connection;
 use enb_sim::{PhoneAct, StationAct};
 use identity_slots::StationNumber;
 use s1ap_elements::{STmsi, UeIdPair};
@@ -69,7 +69,7 @@ impl Crowd {
     // A phone was there and is there no more.
     fn leave(&mut self, phone: usize, place: &RadioPlace) {
         if let Some(site) = self.sites.get_mut(place.station) {
-            site.leave(phone, place.phone);
+            site.leave(phone, place.enb_ue_id);
         }
     }
 
@@ -153,7 +153,7 @@ impl Crowd {
         };
         site.come(phone, &place, act)?;
         let octets = site.station.act(&StationAct::Initial {
-            enb_ue_id: enb_ue_id(place.phone),
+            enb_ue_id: place.enb_ue_id,
             nas: &words.nas,
             s_tmsi: words.s_tmsi,
         })?;
@@ -170,7 +170,8 @@ impl Crowd {
             return Ok(Acted::Skipped);
         };
         let octets = site.station.act(&StationAct::Uplink {
-            pair: connection.pair,
+            mme_ue_id: connection.pair.mme_ue_id,
+            enb_ue_id: connection.pair.enb_ue_id,
             nas,
         })?;
         Ok(Acted::by(connection.station, octets))
@@ -206,7 +207,7 @@ impl Crowd {
         };
         let pair = UeIdPair {
             mme_ue_id: connection.pair.mme_ue_id,
-            enb_ue_id: enb_ue_id(place.phone),
+            enb_ue_id: place.enb_ue_id,
         };
         let station = place.station;
         self.ask_for_path(phone, &Connection { station, pair })
@@ -217,7 +218,10 @@ impl Crowd {
         let Some(site) = self.sites.get_mut(moved.station) else {
             return Ok(Acted::Skipped);
         };
-        let octets = site.station.act(&StationAct::Switch { pair: moved.pair })?;
+        let octets = site.station.act(&StationAct::Switch {
+            mme_ue_id: moved.pair.mme_ue_id,
+            enb_ue_id: moved.pair.enb_ue_id,
+        })?;
         if octets.is_some() {
             self.expect_path(phone, *moved)?;
         }
@@ -263,7 +267,8 @@ impl Crowd {
             return Ok(Acted::Skipped);
         };
         let octets = site.station.act(&StationAct::Release {
-            pair: connection.pair,
+            mme_ue_id: connection.pair.mme_ue_id,
+            enb_ue_id: connection.pair.enb_ue_id,
         })?;
         Ok(Acted::by(connection.station, octets))
     }

@@ -4,11 +4,11 @@ ghost use Rattle.std.specs.Prelude.{vec_len};
 ghost use Rattle.std.specs.List.Sorted.{IsSearchInRange};
 
 use crate::list::PhoneList;
-use enb_sim::{PhoneAct, Station, StationProfile};
+use enb_sim::{PhoneAct, Station};
 use identity_slots::{AssociationId, StationNumber};
 use per_bits::{BitField, Octets, Whole};
 use s1ap_elements::{EnbUeId, UeIdPair};
-use sim_words::{MacroId, PhoneNumber, RadioPlace, StationLine};
+use sim_words::{MacroId, RadioPlace, StationLine};
 use std::alloc::{AllocError, Global};
 
 /// An association of a phone at a station.
@@ -21,26 +21,15 @@ pub(crate) struct Connection {
 impl Connection {
     /// Where a phone with this association is.
     pub(crate) fn place(&self) -> RadioPlace {
-        match PhoneNumber::try_new(self.pair.enb_ue_id.get() as u32) {
-            Some(phone) => RadioPlace {
-                station: self.station,
-                phone,
-            },
-            None => unreachable!(),
+        RadioPlace {
+            station: self.station,
+            enb_ue_id: self.pair.enb_ue_id,
         }
     }
 
     /// Whether a phone with this association is there.
     pub(crate) fn is_at(&self, place: &RadioPlace) -> bool {
-        self.station == place.station && self.pair.enb_ue_id == enb_ue_id(place.phone)
-    }
-}
-
-/// The eNB UE S1AP ID of a phone.
-pub(crate) fn enb_ue_id(phone: PhoneNumber) -> EnbUeId {
-    match Whole::try_new(u64::from(phone.get())) {
-        Some(id) => id,
-        None => unreachable!(),
+        self.station == place.station && self.pair.enb_ue_id == place.enb_ue_id
     }
 }
 
@@ -58,15 +47,12 @@ fn key_of(pair: &UeIdPair) -> PairKey {
     }
 }
 
-// The association of a phone that the MME doesn't know: it has but one for each number at a station.
+// The association of a phone that the MME doesn't know: it has but one for each eNB UE id at a station.
 fn pair_of_stranger(place: &RadioPlace) -> UeIdPair {
-    let id = AssociationId::of_stranger(place.station.get(), place.phone.get());
-    match Whole::try_new(u64::from(id.get())) {
-        Some(mme_ue_id) => UeIdPair {
-            mme_ue_id,
-            enb_ue_id: enb_ue_id(place.phone),
-        },
-        None => unreachable!(),
+    let id = AssociationId::of_stranger(place.station.get(), place.enb_ue_id.get() as u32);
+    UeIdPair {
+        mme_ue_id: Whole::new(u64::from(id.get())),
+        enb_ue_id: place.enb_ue_id,
     }
 }
 
@@ -95,21 +81,21 @@ pub(crate) struct Site {
 impl Site {
     /// A station of a network where nobody is.
     pub(crate) fn new(alloc: Global, plmn: [u8; 3], line: &StationLine) -> Site {
-        let profile = StationProfile {
-            number: line.station,
-            plmn: Octets::new(plmn),
-            macro_id: macro_bits(line.macro_id),
-            tac: Octets::new(line.tac),
-        };
         Site {
             number: line.station,
-            station: Station::new(alloc, profile),
+            station: Station::new(
+                alloc,
+                line.station,
+                Octets::new(plmn),
+                macro_bits(line.macro_id),
+                Octets::new(line.tac),
+            ),
             comers: PhoneList::new(alloc),
             connected: PhoneList::new(alloc),
         }
     }
 
-    /// The phone with this association: a new one is that of the phone that came last with its number.
+    /// The phone with this association: a new one is that of the phone that came last with its eNB UE id.
     pub(crate) fn phone_with(&self, pair: &UeIdPair) -> Option<usize> {
         match self.connected.get(key_of(pair)) {
             Some(phone) => Some(phone),
@@ -121,10 +107,10 @@ impl Site {
     pub(crate) fn serves(&self, phone: usize, pair: &UeIdPair) -> bool {
         self.connected.get(key_of(pair)) == Some(phone)
             && self.station.is_ready()
-            && self.station.holds(pair)
+            && self.station.holds(pair.mme_ue_id, pair.enb_ue_id)
     }
 
-    /// A phone came, and is known by its number. The MME's association for one that it doesn't know is then this phone's.
+    /// A phone came, and is known by its eNB UE id. The MME's association for one that it doesn't know is then this phone's.
     pub(crate) fn come(
         &mut self,
         phone: usize,
@@ -135,12 +121,12 @@ impl Site {
             let pair = pair_of_stranger(place);
             self.connected.free(key_of(&pair));
         }
-        self.comers.put(u64::from(place.phone.get()), phone)
+        self.comers.put(place.enb_ue_id.get(), phone)
     }
 
-    /// A phone that had this number is gone.
-    pub(crate) fn leave(&mut self, phone: usize, number: PhoneNumber) {
-        self.comers.take(u64::from(number.get()), phone);
+    /// A phone that had this eNB UE id is gone.
+    pub(crate) fn leave(&mut self, phone: usize, enb_ue_id: EnbUeId) {
+        self.comers.take(enb_ue_id.get(), phone);
     }
 
     /// A phone has this association, or will have it.

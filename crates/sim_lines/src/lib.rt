@@ -1,4 +1,4 @@
-//! What a line of a script does: it is printed and played, and what stations and phones send at that is played behind it.
+//! What a line of a script does: it is printed and played, and what stations and phones send at that is played after it.
 #![tactic(auto)]
 
 mod acts;

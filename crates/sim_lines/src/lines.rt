@@ -10,6 +10,7 @@ use crate::acts::play_act;
 use crate::script::Script;
 use crate::turns::play_answers;
 use identity_slots::{Profile, StationNumber, Vector};
+use mme_types::Network;
 use nas_elements::Imsi;
 use sim_printing::{
     is_begun, play_cancel, play_data, play_lost, play_mme, play_show, play_sub, play_tick, play_vec,
@@ -17,7 +18,7 @@ use sim_printing::{
 use sim_words::ScriptAct;
 use std::alloc::{AllocError, Global};
 use trace_player::PlayFault;
-use trace_words::{Line, MmeLine, TraceFault};
+use trace_words::{Line, TraceFault};
 
 /// What a line does that is read as in a trace; `text` is the line of that number, as it was read.
 pub(crate) fn play_trace_line(
@@ -33,7 +34,7 @@ pub(crate) fn play_trace_line(
 {
     match line {
         Line::Skip => Ok(()),
-        Line::Mme(fields) => provide_network(alloc, script, number, &fields, text, out),
+        Line::Mme(network) => provide_network(alloc, script, number, network, text, out),
         Line::Sub(profile) => provide_phone(script, number, profile, text, out),
         Line::Vec(imsi, vector) => provide_vector(script, number, imsi, vector, text, out),
         Line::Show(imsi) => answer_question(alloc, script, number, imsi, text, out),
@@ -52,22 +53,23 @@ fn provide_network(
     alloc: Global,
     script: &mut Script,
     number: u64,
-    fields: &MmeLine,
+    network: Network,
     text: &[u8],
     out: &mut Vec<u8>,
 ) -> Result<(), PlayFault>
-    requires { ReadsAs (Mme fields.now) text.now }
+    requires { ReadsAs (Mme network) text.now }
     ensures { PrintsScriptLine number
-        (kept_line (Mme fields.now)) script.old.progress out.old.items result script.new.progress out.new.items }
+        (kept_line (Mme network)) script.old.progress out.old.items result script.new.progress out.new.items }
 {
     if script.acted {
         return Err(PlayFault::Trace(number, TraceFault::Order));
     }
-    match play_mme(alloc, &mut script.progress, number, fields, text, out) {
+    let plmn = network.plmn.get();
+    match play_mme(alloc, &mut script.progress, number, network, text, out) {
         Ok(()) => {}
         Err(fault) => return Err(fault),
     }
-    script.crowd.set_network(fields.plmn);
+    script.crowd.set_network(plmn);
     Ok(())
 }
 

@@ -10,7 +10,7 @@ use sim_crowd::{Crowd, Uplink};
 use sim_printing::{play_in, push_dropped};
 use std::alloc::{AllocError, Global};
 
-/// The most messages of stations and phones that are played behind a line, or behind a tick.
+/// The most messages of stations and phones that are played after a line, or after a tick.
 const MOST_ANSWERS: usize = 64;
 
 /// A station sends a message: it is played, and what is answered to it.
@@ -60,7 +60,7 @@ pub(crate) fn deliver(
     Ok(())
 }
 
-/// Plays the messages of the queue in order, and what is answered to them behind it, up to the most that are played; the
+/// Plays the messages of the queue in order, and what is answered to them after it, up to the most that are played; the
 /// number of the others is printed.
 pub(crate) fn play_queue(
     alloc: Global,

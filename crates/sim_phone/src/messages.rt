@@ -3,12 +3,13 @@
 ghost use Rattle.std.specs.Prelude.{◌≡◌, ◌<◌, ◌≤◌, IfOk, length, slice_index};
 ghost use Rattle.nas_elements.specs.Identities.{IdentityFits, GutiFits};
 ghost use Rattle.nas_messages.specs.EsmMessages.{IsWritableEsm, encoded_esm, esm_lists};
+ghost use Rattle.nas_messages.specs.Messages.{IsWritable, encoded_emm, lists};
 ghost use Rattle.nas_elements.specs.declared.identity.MobileIdentity.TheVariants as identities;
 ghost use Rattle.sim_phone.specs.Messages.{attach_complete_octets, attach_octets, connectivity_octets, detach_accept_octets, detach_octets, failure_octets, foreign_guti, identity_octets_of, information_octets, mode_complete_octets, response_octets, update_complete_octets, update_octets};
 
 use nas_elements::{Guti, Imsi, MobileIdentity, Plmn};
 use nas_messages::{
-    AttachRequest, DetachRequest, Emm, EmmMessage, Esm, EsmBody, EsmMessage,
+    AttachRequest, DetachRequest, Emm, EmmMessage, Esm, EsmBody, EsmMessage, Lent,
     TrackingAreaUpdateRequest, encode_emm, encode_esm,
 };
 use std::alloc::{AllocError, Global};
@@ -73,17 +74,19 @@ pub fn temporary(guti: Guti) -> MobileIdentity
     MobileIdentity::Temporary(guti)
 }
 
-// A message that is lent to be encoded.
-#[derive(Drop)]
-struct Lent<'a> {
-    message: EmmMessage<'a>,
+// The octets of a message. Encoding has one fault, that there is no memory.
+fn encoded(alloc: Global, message: &Lent<EmmMessage>) -> Encoded
+    requires { IsWritable (lists message.now.value) }
+    ensures { IfOk result (λ o. o.items ≡ encoded_emm (lists message.now.value)) }
+{
+    encode_emm(alloc, &message.value).map_err(|_| AllocError)
 }
 
 fn encoded_session(alloc: Global, message: EsmMessage) -> Encoded
     requires { IsWritableEsm (esm_lists message) }
     ensures { IfOk result (λ o. o.items ≡ encoded_esm (esm_lists message.entry)) }
 {
-    encode_esm(alloc, &message)
+    encode_esm(alloc, &message).map_err(|_| AllocError)
 }
 
 // PDN CONNECTIVITY REQUEST (TS 24.301 clause 8.3.20).
@@ -113,16 +116,18 @@ pub(crate) fn attach_request(alloc: Global, identity: MobileIdentity, informatio
     ensures { IfOk result (λ o. o.items ≡ attach_octets identity information) }
 {
     let esm = connectivity_request(alloc, information)?;
-    let lent = Lent {
-        message: Emm::AttachRequest(AttachRequest {
-            attach_type: EPS_ATTACH,
-            ksi: NO_KEY_SET,
-            identity,
-            capability: CAPABILITY.as_slice(),
-            esm: esm.as_slice(),
-        }),
-    };
-    encode_emm(alloc, &lent.message)
+    encoded(
+        alloc,
+        &Lent {
+            value: Emm::AttachRequest(AttachRequest {
+                attach_type: EPS_ATTACH,
+                ksi: NO_KEY_SET,
+                identity,
+                capability: CAPABILITY.as_slice(),
+                esm: esm.as_slice(),
+            }),
+        },
+    )
 }
 
 /// SERVICE REQUEST, its four octets (TS 24.301 clause 8.2.25).
@@ -130,10 +135,12 @@ pub(crate) fn service_octets(alloc: Global, octets: [u8; 4]) -> Encoded
     requires { slice_index octets 0 ≡ 0xc7 }
     ensures { IfOk result (λ o. o.items ≡ octets) }
 {
-    let lent = Lent {
-        message: Emm::ServiceRequest { octets },
-    };
-    encode_emm(alloc, &lent.message)
+    encoded(
+        alloc,
+        &Lent {
+            value: Emm::ServiceRequest { octets },
+        },
+    )
 }
 
 /// TRACKING AREA UPDATE REQUEST under a key set identifier below 8 (TS 24.301 clause 8.2.29).
@@ -142,15 +149,17 @@ pub(crate) fn area_update_request(alloc: Global, ksi: u8, guti: Guti) -> Encoded
     requires { ksi < 8 }
     ensures { IfOk result (λ o. o.items ≡ update_octets ksi guti) }
 {
-    let lent = Lent {
-        message: Emm::TrackingAreaUpdateRequest(TrackingAreaUpdateRequest {
-            update_type: TA_UPDATING,
-            active: false,
-            ksi,
-            guti,
-        }),
-    };
-    encode_emm(alloc, &lent.message)
+    encoded(
+        alloc,
+        &Lent {
+            value: Emm::TrackingAreaUpdateRequest(TrackingAreaUpdateRequest {
+                update_type: TA_UPDATING,
+                active: false,
+                ksi,
+                guti,
+            }),
+        },
+    )
 }
 
 /// DETACH REQUEST under a key set identifier below 8 (TS 24.301 clause 8.2.11.1).
@@ -165,15 +174,17 @@ pub(crate) fn detach_request(
     requires ksi { ksi < 8 }
     ensures { IfOk result (λ o. o.items ≡ detach_octets identity switch_off ksi) }
 {
-    let lent = Lent {
-        message: Emm::DetachRequest(DetachRequest {
-            detach_type: EPS_DETACH,
-            switch_off,
-            ksi,
-            identity,
-        }),
-    };
-    encode_emm(alloc, &lent.message)
+    encoded(
+        alloc,
+        &Lent {
+            value: Emm::DetachRequest(DetachRequest {
+                detach_type: EPS_DETACH,
+                switch_off,
+                ksi,
+                identity,
+            }),
+        },
+    )
 }
 
 /// IDENTITY RESPONSE (TS 24.301 clause 8.2.19).
@@ -182,10 +193,12 @@ pub(crate) fn identity_response(alloc: Global, identity: MobileIdentity) -> Enco
     requires { IdentityFits identity }
     ensures { IfOk result (λ o. o.items ≡ identity_octets_of identity) }
 {
-    let lent = Lent {
-        message: Emm::IdentityResponse { identity },
-    };
-    encode_emm(alloc, &lent.message)
+    encoded(
+        alloc,
+        &Lent {
+            value: Emm::IdentityResponse { identity },
+        },
+    )
 }
 
 /// AUTHENTICATION RESPONSE with 4 to 16 octets (TS 24.301 clause 8.2.8).
@@ -195,10 +208,12 @@ pub(crate) fn authentication_response(alloc: Global, res: &[u8]) -> Encoded
     requires high { length res.now ≤ 16 }
     ensures { IfOk result (λ o. o.items ≡ response_octets res.now) }
 {
-    let lent = Lent {
-        message: Emm::AuthenticationResponse { res },
-    };
-    encode_emm(alloc, &lent.message)
+    encoded(
+        alloc,
+        &Lent {
+            value: Emm::AuthenticationResponse { res },
+        },
+    )
 }
 
 /// AUTHENTICATION FAILURE, MAC failure (TS 24.301 clause 8.2.5).
@@ -206,10 +221,12 @@ pub(crate) fn authentication_response(alloc: Global, res: &[u8]) -> Encoded
 pub(crate) fn authentication_failure(alloc: Global) -> Encoded
     ensures { IfOk result (λ o. o.items ≡ failure_octets) }
 {
-    let lent = Lent {
-        message: Emm::AuthenticationFailure { cause: MAC_FAILURE },
-    };
-    encode_emm(alloc, &lent.message)
+    encoded(
+        alloc,
+        &Lent {
+            value: Emm::AuthenticationFailure { cause: MAC_FAILURE },
+        },
+    )
 }
 
 /// SECURITY MODE COMPLETE (TS 24.301 clause 8.2.21).
@@ -217,10 +234,12 @@ pub(crate) fn authentication_failure(alloc: Global) -> Encoded
 pub(crate) fn security_mode_complete(alloc: Global) -> Encoded
     ensures { IfOk result (λ o. o.items ≡ mode_complete_octets) }
 {
-    let lent = Lent {
-        message: Emm::SecurityModeComplete,
-    };
-    encode_emm(alloc, &lent.message)
+    encoded(
+        alloc,
+        &Lent {
+            value: Emm::SecurityModeComplete,
+        },
+    )
 }
 
 /// ATTACH COMPLETE for the default bearer (TS 24.301 clause 8.2.2).
@@ -234,12 +253,14 @@ pub(crate) fn attach_complete(alloc: Global) -> Encoded
         body: EsmBody::ActivateAccept,
     };
     let esm = encoded_session(alloc, accept)?;
-    let lent = Lent {
-        message: Emm::AttachComplete {
-            esm: esm.as_slice(),
+    encoded(
+        alloc,
+        &Lent {
+            value: Emm::AttachComplete {
+                esm: esm.as_slice(),
+            },
         },
-    };
-    encode_emm(alloc, &lent.message)
+    )
 }
 
 /// TRACKING AREA UPDATE COMPLETE (TS 24.301 clause 8.2.27).
@@ -247,10 +268,12 @@ pub(crate) fn attach_complete(alloc: Global) -> Encoded
 pub(crate) fn area_update_complete(alloc: Global) -> Encoded
     ensures { IfOk result (λ o. o.items ≡ update_complete_octets) }
 {
-    let lent = Lent {
-        message: Emm::TrackingAreaUpdateComplete,
-    };
-    encode_emm(alloc, &lent.message)
+    encoded(
+        alloc,
+        &Lent {
+            value: Emm::TrackingAreaUpdateComplete,
+        },
+    )
 }
 
 /// DETACH ACCEPT (TS 24.301 clause 8.2.10).
@@ -258,10 +281,12 @@ pub(crate) fn area_update_complete(alloc: Global) -> Encoded
 pub(crate) fn detach_accept(alloc: Global) -> Encoded
     ensures { IfOk result (λ o. o.items ≡ detach_accept_octets) }
 {
-    let lent = Lent {
-        message: Emm::DetachAccept,
-    };
-    encode_emm(alloc, &lent.message)
+    encoded(
+        alloc,
+        &Lent {
+            value: Emm::DetachAccept,
+        },
+    )
 }
 
 /// ESM INFORMATION RESPONSE to a request of this transaction (TS 24.301 clause 8.3.14).

@@ -136,5 +136,8 @@ pub fn forged(alloc: Global, sent: &[u8]) -> Result<Option<Vec<u8>>, AllocError>
         sequence: protected.sequence.wrapping_add(1),
         message: protected.message,
     };
-    Ok(Some(join_protected(alloc, &forged)?))
+    match join_protected(alloc, &forged) {
+        Ok(octets) => Ok(Some(octets)),
+        Err(_) => Err(AllocError),
+    }
 }

@@ -3,6 +3,7 @@ use Rattle.std.proofs.Common.{◌≡◌, ◌≢◌, ℕ, List, [], ◌∷◌, �
 use Rattle.identity_slots.specs.declared.profile.Profile.{Profile}
 use Rattle.identity_slots.specs.declared.profile.Vector.{Vector}
 use Rattle.emm_machine.specs.declared.subscriber.States.{States}
+use Rattle.mme_types.specs.declared.network.Network.{Network}
 use Rattle.mme_core.specs.World.{World, happens, reply, world_after}
 use Rattle.mme_core.specs.declared.event.Event.{Event}
 use Rattle.mme_core.specs.declared.event.Event.TheVariants as event
@@ -10,9 +11,8 @@ use Rattle.mme_core.specs.declared.event.StepFault.{StepFault}
 use Rattle.mme_answering.specs.declared.out.Out.{Out}
 use Rattle.trace_words.specs.declared.line.Line.{Line}
 use Rattle.trace_words.specs.declared.line.Line.TheVariants.{Skip, Mme, Sub, Vec, Tick, Show}
-use Rattle.trace_words.specs.declared.line.MmeLine.{MmeLine}
 use Rattle.trace_words.specs.declared.fault.TraceFault.{TraceFault}
-use Rattle.trace_words.specs.Trace.{line_of, refused_text, ◌>>=◌}
+use Rattle.trace_words.specs.Trace.{line_of, ◌>>=◌}
 use Rattle.sim_words.specs.Kept.{kept_line}
 use Rattle.sim_words.specs.Script.{FirstWordTells}
 use Rattle.trace_player.specs.declared.fault.PlayFault.{PlayFault}
@@ -21,7 +21,7 @@ use Rattle.trace_player.specs.Acts.{Acts}
 use Rattle.trace_player.specs.declared.progress.Progress.{Progress}
 use Rattle.trace_player.specs.declared.progress.Progress.TheVariants.{Running}
 use Rattle.trace_player.specs.Effects.{Effect, configured, effect_of, event_played, in_event, left, left_by, running, states_of_imsi, states_shown, subscriber_added, tick_then, ticked, vector_given}
-use Rattle.trace_answers.specs.Words.{answers_of, states_text}
+use Rattle.trace_answers.specs.Words.{answers_of, refused_text, states_text}
 use Rattle.trace_player.specs.Replies.{refusal_number, reply_text}
 use Rattle.sim_printing.specs.Printed.{AddsComments, IfSent, Prints, PrintsFrom, PrintsLine, ReadsAs, event_line}
 use Rattle.sim_printing.specs.PrintLaws.{AddsComments-none, Prints-line}
@@ -128,9 +128,9 @@ Prints-show law world imsi states before mid after l reads e m adds progress r =
 
 -- ---- provisioning
 
-pub mme_effect : (progress : Progress) (fields : MmeLine) → effect_of progress (Mme fields) ≡ configured progress fields
+pub mme_effect : (progress : Progress) (network : Network) → effect_of progress (Mme network) ≡ configured progress network
 unfolding effect_of
-mme_effect progress fields = refl
+mme_effect progress network = refl
 
 pub sub_effect : (progress : Progress) (profile : Profile) → effect_of progress (Sub profile) ≡ subscriber_added progress profile
 unfolding effect_of

@@ -3,7 +3,8 @@ use Rattle.std.proofs.Common.{◌≡◌, ◌≢◌, ℕ, ◌+◌, ◌≤◌, ◌
 use Rattle.trace_words.specs.declared.line.Line.{Line}
 use Rattle.trace_words.specs.declared.line.Line.TheVariants.{Skip}
 use Rattle.trace_words.specs.declared.fault.TraceFault.{TraceFault}
-use Rattle.trace_words.specs.Lines.{is_unbroken, IsLineWithin}
+use Rattle.trace_words.specs.Lines.{is_unbroken}
+use Rattle.trace_answers.specs.Lines.{IsLineWithin}
 use Rattle.trace_words.specs.Trace.{line_of, is_skipped, ◌>>=◌}
 use Rattle.sim_words.specs.Kept.{kept_in, kept_line, is_kept_text}
 use Rattle.sim_words.specs.Script.{CommentsAreNotKept, FirstWordTells}
@@ -93,7 +94,7 @@ pub ReadsAs-text : (line : Line) (text same : List ℕ) → same ≡ text → li
     → ReadsAs line same
 ReadsAs-text line text same e read unbroken = subst (λ (v : List ℕ). ReadsAs line v) (sym e) (unbroken_breaks text unbroken, read)
 
--- an answer line behind `# `
+-- an answer line after `# `
 AreComments-body : CommentsAreNotKept → (body : List ℕ) → breaks body ≡ 0 → length body ≤ 39998
     → AreComments (35 ∷ 32 ∷ (body ++ 10 ∷ [])) (body ++ 10 ∷ [])
 AreComments-body law body h short =

@@ -28,7 +28,7 @@ abbrev pub answers_in : List (List ℕ) → List ℕ
 answers_in [] = []
 answers_in (line ∷ lines) = answer_in line ++ answers_in lines
 
--- whole lines that do nothing in a trace: what stands behind `# ` on them; none is a kept line
+-- whole lines that do nothing in a trace: what stands after `# ` on them; none is a kept line
 pub record AreComments (text said : List ℕ) : Type 0 where
   pub whole : (more : List ℕ) → lines_of (text ++ more) ≡ lines_of text ++ lines_of more
   pub silent : (progress : Progress) (n : ℕ) (more : List ℕ)

@@ -3,9 +3,8 @@
 ghost use Rattle.std.specs.Prelude.{◌≡◌, ◌≢◌, ◌≤◌, ◌++◌, ◌∷◌, [], OnOk, codes};
 ghost use Rattle.std.specs.Fmt.{decimal};
 ghost use Rattle.s1ap_pdus.specs.Pdus.{longest};
-ghost use Rattle.trace_words.specs.Lines.{octets_said};
-ghost use Rattle.trace_words.specs.Trace.{answer_text, refused_text};
-ghost use Rattle.trace_answers.specs.Words.{answers_of, out_text, states_text};
+ghost use Rattle.trace_answers.specs.Lines.{octets_said};
+ghost use Rattle.trace_answers.specs.Words.{answer_text, answers_of, out_text, refused_text, states_text};
 ghost use Rattle.trace_player.specs.Replies.{refusal_number};
 ghost use Rattle.sim_printing.specs.Printed.{AddsComments};
 
@@ -14,8 +13,7 @@ use mme_core::{Out, StepFault};
 use nas_elements::Imsi;
 use sim_words::comments_are_not_kept;
 use std::alloc::{AllocError, Global};
-use trace_answers::{sent_line, states_line};
-use trace_words::{Answer, write_answer};
+use trace_answers::{Answer, sent_line, write_answer};
 
 /// Appends a line.
 pub(crate) fn push_line(text: &[u8], out: &mut Vec<u8>) -> Result<(), AllocError>
@@ -71,7 +69,7 @@ pub(crate) fn push_states(
 ) -> Result<(), AllocError>
     ensures { OnOk result (AddsComments out.old.items out.new.items (states_text imsi states)) }
 {
-    push_answer(alloc, &states_line(imsi, states), out)?;
+    push_answer(alloc, &Answer::State(imsi, states), out)?;
     Ok(())
 }
 
@@ -102,7 +100,7 @@ pub fn push_skipped(out: &mut Vec<u8>) -> Result<(), AllocError>
     Ok(())
 }
 
-/// Appends the line `## dropped N`, which answers nothing: so many events were left out.
+/// Appends the line `## dropped N`, which answers nothing: N events were left out.
 pub fn push_dropped(alloc: Global, count: usize, out: &mut Vec<u8>) -> Result<(), AllocError>
     ensures { OnOk result (AddsComments out.old.items out.new.items []) }
 {

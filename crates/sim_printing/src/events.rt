@@ -1,4 +1,4 @@
-//! Events and questions, each printed as its trace line with its answers behind it.
+//! Events and questions, each printed as its trace line with its answers after it.
 
 ghost use Rattle.std.specs.Prelude.{◌≡◌, true, false, IfOk, OnOk, is_some};
 ghost use Rattle.std.specs.Result.{result_ok};
@@ -15,7 +15,7 @@ use sim_words::first_word_tells;
 use std::alloc::{AllocError, Global};
 use trace_player::states_of_imsi;
 
-/// Plays an event: appends `text`, the line that says it, and then its answers, each behind `# `. What is sent, or None where
+/// Plays an event: appends `text`, the line that says it, and then its answers, each after `# `. What is sent, or None where
 /// the event was refused. A refusal leaves the MME as it was; where memory is refused the output may end within a line.
 pub fn print_event(
     alloc: Global,
@@ -42,7 +42,7 @@ pub fn print_event(
     }
 }
 
-/// Shows a subscriber: appends `text`, the line that asks for it, and then its states behind `# `. Answers `false`, with
+/// Shows a subscriber: appends `text`, the line that asks for it, and then its states after `# `. Answers `false`, with
 /// nothing appended, where nobody is provisioned with the IMSI.
 pub fn print_show(
     alloc: Global,

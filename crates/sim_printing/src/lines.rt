@@ -12,11 +12,12 @@ use crate::comments::push_line;
 use crate::events::{print_event, print_show};
 use identity_slots::{Profile, StationNumber, Vector};
 use mme_core::{Event, Outs};
+use mme_types::Network;
 use nas_elements::Imsi;
 use sim_words::first_word_tells;
 use std::alloc::{AllocError, Global};
 use trace_player::{PlayFault, Progress, add, give, run, start};
-use trace_words::{LONGEST_LINE, MmeLine, write_in, write_lost, write_up};
+use trace_words::{LONGEST_LINE, write_in, write_lost, write_up};
 
 // ---- provisioning
 
@@ -25,15 +26,15 @@ pub fn play_mme(
     alloc: Global,
     progress: &mut Progress,
     number: u64,
-    fields: &MmeLine,
+    network: Network,
     text: &[u8],
     out: &mut Vec<u8>,
 ) -> Result<(), PlayFault>
-    requires { ReadsAs (Mme fields.now) text.now }
-    ensures { PrintsLine number (Mme fields.now) progress.old out.old.items result progress.new out.new.items }
+    requires { ReadsAs (Mme network) text.now }
+    ensures { PrintsLine number (Mme network) progress.old out.old.items result progress.new out.new.items }
 {
     first_word_tells();
-    match start(alloc, progress, number, fields) {
+    match start(alloc, progress, number, network) {
         Ok(()) => {}
         Err(fault) => return Err(fault),
     }
@@ -218,13 +219,11 @@ fn play_event(
     let Ok(()) = run(alloc, progress, 0) else {
         return Err(AllocError);
     };
-    match progress {
-        Progress::Running(mme) => {
-            let sent = print_event(alloc, mme, event, text, out)?;
-            Ok(sent)
-        }
-        Progress::Nothing | Progress::Provisioning(_, _) => unreachable!(),
-    }
+    let Progress::Running(mme) = progress else {
+        return Ok(None);
+    };
+    let sent = print_event(alloc, mme, event, text, out)?;
+    Ok(sent)
 }
 
 /// Shows a subscriber, as `text` asks. Answers `false`, with nothing printed, where nobody is provisioned with the IMSI.
@@ -246,11 +245,9 @@ pub fn play_show(
     let Ok(()) = run(alloc, progress, 0) else {
         return Err(AllocError);
     };
-    match progress {
-        Progress::Running(mme) => {
-            let known = print_show(alloc, mme, imsi, text, out)?;
-            Ok(known)
-        }
-        Progress::Nothing | Progress::Provisioning(_, _) => unreachable!(),
-    }
+    let Progress::Running(mme) = progress else {
+        return Ok(false);
+    };
+    let known = print_show(alloc, mme, imsi, text, out)?;
+    Ok(known)
 }

@@ -22,7 +22,7 @@ take_nil (suc n) = refl
 pub kept_none : kept_in (lines_of []) ≡ []
 kept_none = ap kept_in lines_of-nil
 
--- the kept lines of an output that goes on behind whole lines
+-- the kept lines of an output that goes on after whole lines
 pub kept_both : (old new : Progress) (written added : List ℕ) → Speaks old written new
     → kept_in (lines_of (written ++ added)) ≡ kept_in (lines_of written) ++ kept_in (lines_of added)
 kept_both old new written added s = ap kept_in (s.whole added) ∙ kept_in-append (lines_of written) (lines_of added)

@@ -61,7 +61,7 @@ impl ScriptPlayer {
         Ok(())
     }
 
-    /// Takes the piece up to the end of the line, which is played then, or all of it: so many octets.
+    /// Takes the piece up to the end of the line, which is played then, or all of it. Answers how many octets that are.
     fn take_line<W: Write>(
         &mut self,
         alloc: Global,

@@ -45,8 +45,8 @@ abbrev pub area_field : List ℕ → Result (List ℕ) TraceFault
 area_field text = as_number (sized_of 2 text)
 
 -- a phone's number at its station: twenty-four bits
-abbrev pub phone_field : List ℕ → Result ℕ TraceFault
-phone_field text = number_field 0 16777215 text
+abbrev pub enb_ue_id_field : List ℕ → Result ℕ TraceFault
+enb_ue_id_field text = number_field 0 16777215 text
 
 -- ---- acts
 
@@ -90,9 +90,9 @@ read_raw (number ∷ octets ∷ []) = station_field number >>= (λ e. octets_fie
 read_raw _ = Err FieldCount
 
 abbrev pub read_radio : RadioWord → List (List ℕ) → Result ScriptAct TraceFault
-read_radio word (imsi ∷ number ∷ phone ∷ []) =
-    subscriber_field imsi >>= (λ i. station_field number >>= (λ e. phone_field phone >>= (λ b.
-    Ok (Radio word i (record { station = e; phone = b })))))
+read_radio word (imsi ∷ number ∷ id ∷ []) =
+    subscriber_field imsi >>= (λ i. station_field number >>= (λ e. enb_ue_id_field id >>= (λ b.
+    Ok (Radio word i (record { station = e; enb_ue_id = b })))))
 read_radio word _ = Err FieldCount
 
 abbrev pub read_phone : PhoneWord → List (List ℕ) → Result ScriptAct TraceFault

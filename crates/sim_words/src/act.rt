@@ -3,10 +3,11 @@
 ghost use Rattle.std.specs.Prelude.{◌≡◌, ◌⊎◌, [], ◌∷◌, map, Ok, Err};
 ghost use Rattle.sim_words.specs.Script.{radio_word, phone_word, read_act, read_station, station_of, read_up_act, read_raw, read_radio, read_phone};
 
-use crate::fields::{macro_id, phone, tracking_area};
-use crate::values::{MacroId, PhoneNumber};
+use crate::fields::{enb_ue_id, macro_id, tracking_area};
+use crate::values::MacroId;
 use identity_slots::StationNumber;
 use nas_elements::Imsi;
+use s1ap_elements::EnbUeId;
 use std::alloc::Global;
 use trace_words::fields::{imsi, is_named, octets, station};
 use trace_words::{TraceFault, TraceOctets};
@@ -20,7 +21,7 @@ pub enum ScriptAct {
     Up(StationNumber),
     /// `raw E OCTETS`: the station sends these octets.
     Raw(StationNumber, TraceOctets),
-    /// `WORD IMSI E B`: the phone does this at a station, by a number.
+    /// `WORD IMSI E B`: the phone does this at a station, by its eNB UE S1AP ID.
     Radio(RadioWord, Imsi, RadioPlace),
     /// `WORD IMSI`: the phone does this where it is.
     Phone(PhoneWord, Imsi),
@@ -37,13 +38,13 @@ pub struct StationLine {
     pub tac: [u8; 2],
 }
 
-/// Where a phone is: at a station, by a number there.
+/// Where a phone is: at a station, by its eNB UE S1AP ID.
 #[derive(Clone, Copy, PartialEq, Eq)]
 pub struct RadioPlace {
     /// The station.
     pub station: StationNumber,
-    /// Its number for the phone.
-    pub phone: PhoneNumber,
+    /// What the station calls the phone (TS 36.413 clause 9.2.3.4).
+    pub enb_ue_id: EnbUeId,
 }
 
 /// What a phone does at a station.
@@ -222,7 +223,7 @@ fn radio_line(
     let of = imsi(subscriber)?;
     let place = RadioPlace {
         station: station(number)?,
-        phone: phone(there)?,
+        enb_ue_id: enb_ue_id(there)?,
     };
     Ok(ScriptAct::Radio(word, of, place))
 }

@@ -1,9 +1,11 @@
 //! The fields of acts, each from its text.
 
 ghost use Rattle.std.specs.Prelude.{◌≡◌, ◌<◌, IfOk};
-ghost use Rattle.sim_words.specs.Script.{area_field, five_digits, hex_digit, macro_field, phone_field};
+ghost use Rattle.sim_words.specs.Script.{area_field, enb_ue_id_field, five_digits, hex_digit, macro_field};
 
-use crate::values::{MacroId, PhoneNumber};
+use crate::values::MacroId;
+use per_bits::Whole;
+use s1ap_elements::EnbUeId;
 use trace_words::TraceFault;
 use trace_words::fields::{number, sized_octets};
 
@@ -43,14 +45,11 @@ fn five_digits(a: u8, b: u8, c: u8, d: u8, e: u8) -> Result<MacroId, TraceFault>
     }
 }
 
-/// The phone's number at its station.
-pub(crate) fn phone(text: &[u8]) -> Result<PhoneNumber, TraceFault>
-    ensures { result ≡ phone_field text.now }
+/// An eNB UE S1AP ID, in 24 bits (TS 36.413 clause 9.2.3.4).
+pub(crate) fn enb_ue_id(text: &[u8]) -> Result<EnbUeId, TraceFault>
+    ensures { result ≡ enb_ue_id_field text.now }
 {
-    match PhoneNumber::try_new(number(text, 0, 0xff_ffff)? as u32) {
-        Some(phone) => Ok(phone),
-        None => unreachable!(),
-    }
+    Ok(Whole::new(number(text, 0, 0xff_ffff)?))
 }
 
 /// A tracking area code, in four hex digits.

@@ -13,4 +13,4 @@ pub use laws::{
     written_is_kept,
 };
 pub use line::{ScriptLine, parse_script_line};
-pub use values::{MacroId, PhoneNumber};
+pub use values::MacroId;

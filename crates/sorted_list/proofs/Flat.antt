@@ -39,7 +39,7 @@ module _ {X : Type 0} (key : X → ℕ) where
       → AllUnder key (k + 1) xs
   last_under i k x xs h l e s = subst (λ n. AllUnder key (n + 1) xs) (sym s) (last_by i x xs h l e)
 
-  -- ---- two lists, one behind the other
+  -- ---- two lists, one after the other
 
   over_right : (k : ℕ) (xs ys : List X) → AllOver key k (xs ++ ys) → AllOver key k ys
   over_right k [] ys h = h

@@ -48,7 +48,7 @@ module _ {X : Type 0} where
   paired_removed (suc (suc i)) c d (a ∷ (b ∷ cs)) lt e one f h =
       (h.0, paired_removed (suc i) c d (b ∷ cs) (omega arith) e one f.1 h.1)
 
-  -- before a chunk that shrinks, and behind it
+  -- before a chunk that shrinks, and after it
   pub to_shrunk : (i : ℕ) (d : List X) (cs : List (List X)) → IsPaired cs → IsPairedTo i (set cs i d)
   to_shrunk zero d cs h = tt
   to_shrunk (suc i) d [] h = tt

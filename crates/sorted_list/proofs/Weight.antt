@@ -29,7 +29,7 @@ module _ {X : Type 0} where
   weight_full (suc i) c (d ∷ []) lt e n = absurd (omega arith)
   weight_full (suc i) c (d ∷ (b ∷ cs)) lt e n = let ih = weight_full i c (b ∷ cs) (omega arith) e n in omega arith
 
-  -- a chunk is replaced by one with at most so many more
+  -- a chunk is replaced by one with at most n more
   pub weight_set : (i n : ℕ) (c d : List X) (cs : List (List X)) → i < length cs → c ≡ get_or cs i c → length d ≤ length c + n
       → weight (set cs i d) ≤ weight cs + n
   weight_set i n c d [] lt e le = absurd (omega arith)

@@ -22,7 +22,7 @@ module _ {X : Type 0} where
   AllUnder key k [] = Unit {0}
   AllUnder key k (y ∷ ys) = (key y < k) × AllUnder key k ys
 
-  -- the key belongs to the chunk at this index: the chunks before it are below the key, those behind it above
+  -- the key belongs to the chunk at this index: the chunks before it are below the key, those after it above
   abbrev pub IsHome : (X → ℕ) → ℕ → ℕ → List (List X) → Type 0
   IsHome key k i [] = ⊥
   IsHome key k zero (c ∷ cs) = AllOver key k (flat cs)
@@ -53,7 +53,7 @@ module _ {X : Type 0} where
   IsPairedFrom (suc i) [] = Unit {0}
   IsPairedFrom (suc i) (c ∷ cs) = IsPairedFrom i cs
 
-  -- the same of so many chunks at the front
+  -- the same of the first n chunks
   abbrev pub IsPairedTo : ℕ → List (List X) → Type 0
   IsPairedTo zero cs = Unit {0}
   IsPairedTo (suc i) [] = Unit {0}
@@ -66,15 +66,15 @@ module _ {X : Type 0} where
 abbrev pub IsEnough : ℕ → ℕ → ℕ → ℕ → Type 0
 IsEnough more weight used total = min (128 * (used + more)) (weight + more - 128) ≤ 128 * total
 
--- so many free chunks are enough for so many more elements beside `len`, however full the chunks are
+-- these free chunks are enough for `more` elements beside `len`, however full the chunks are
 abbrev pub wanted : ℕ → ℕ → ℕ
 wanted len more = min more ((len + more) / 128 + 1)
 
--- so many chunks, of which each two neighbours have more than 128 together, hold so many elements, however they are spread
+-- these chunks, of which each two neighbours have more than 128 together, hold n elements, however they are spread
 abbrev pub spread : ℕ → ℕ
 spread count = count / 64 + min (count % 64) 1
 
--- so many free chunks are kept beside `len` elements and room for more: in a steady list enough for all of them
+-- how many free chunks are kept beside `len` elements and room for more: in a steady list enough for all of them
 abbrev pub kept_chunks : ℕ → ℕ → Bool → ℕ
 kept_chunks len room steady = if steady then spread (len + room) else wanted len room
 
@@ -82,7 +82,7 @@ kept_chunks len room steady = if steady then spread (len + room) else wanted len
 abbrev pub regained : Bool → ℕ
 regained steady = if steady then 1 else 0
 
--- in a steady list there are chunks, places for them, and places for the free ones, for so many elements
+-- in a steady list there are chunks, places for them, and places for the free ones, for n elements
 abbrev pub IsSteady : Bool → ℕ → ℕ → ℕ → ℕ → Type 0
 IsSteady steady count total most held = steady ≡ true → (spread count ≤ total) × (spread count ≤ most) × (spread count ≤ held)
 
@@ -92,7 +92,7 @@ pub record IsChunked {X : Type 0} (key : X → ℕ) (chunks spares : List (List 
   pub empty : Every IsEmpty spares
   pub count : len ≡ length (flat chunks)
 
--- There is room for so many more elements beside `len`, where `used` chunks of this weight are there: `total` chunks with the
+-- There is room for `more` elements beside `len`, where `used` chunks of this weight are there: `total` chunks with the
 -- free ones, `most` of them at once, and places for `held` free ones.
 pub record IsRoom (weight used total most held len room : ℕ) : Type 0 where
   pub chunks : IsEnough room weight used total

@@ -4,7 +4,7 @@ use Rattle.std.specs.Coded.{Coded, code_by, coded×, coded_ℕ, coded_bool, code
 
 pub record Sorted (X : Type 0) : Type 0 where
   pub items : List X  -- by rising key
-  pub room : ℕ  -- so many more can be inserted with no allocation
+  pub room : ℕ  -- how many more can be inserted with no allocation
   pub steady : Bool  -- where an element is taken out there is room for another, at any key
 
 -- a list is stored as the tuple of its fields

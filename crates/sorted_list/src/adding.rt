@@ -13,7 +13,7 @@ use std::alloc::{AllocError, Global};
 /// Two chunks that stand side by side have more than twice this together.
 const SPREAD: usize = 64;
 
-/// How many free chunks are enough for so many more elements, however full the chunks are.
+/// How many free chunks are enough for `more` further elements, however full the chunks are.
 pub(crate) fn wanted(len: usize, more: usize) -> usize
     requires { len + more < 2 ^ 64 }
     ensures { result ≡ wanted len more }
@@ -21,7 +21,7 @@ pub(crate) fn wanted(len: usize, more: usize) -> usize
     more.min((len + more) / HALF + 1)
 }
 
-/// How many chunks hold so many elements, however they are spread.
+/// How many chunks hold that many elements, however they are spread.
 pub(crate) fn spread(count: usize) -> usize
     ensures { result ≡ spread count }
 {
@@ -48,7 +48,7 @@ pub(crate) fn regained(steady: bool) -> usize
     if steady { 1 } else { 0 }
 }
 
-/// Makes so many empty chunks.
+/// Makes `count` empty chunks.
 pub(crate) fn make_spares<T: Keyed>(
     alloc: Global,
     spares: &mut Vec<Chunk<T>>,
@@ -66,7 +66,7 @@ pub(crate) fn make_spares<T: Keyed>(
     Ok(())
 }
 
-/// Makes chunks for so many elements, however they are spread, with places for all of them, where the list is steady.
+/// Makes chunks for that many elements, however they are spread, with places for all of them, where the list is steady.
 pub(crate) fn hold<T: Keyed>(
     alloc: Global,
     chunks: &mut Vec<Chunk<T>>,
@@ -93,7 +93,7 @@ pub(crate) fn hold<T: Keyed>(
 }
 
 /// Adds an element to a full chunk, whose upper half goes to an empty one. Where the chunk is the last one and the
-/// element comes behind all of it, the element goes there alone, so that elements that come in order fill their chunks.
+/// element comes after all of it, the element goes there alone, so that elements that come in order fill their chunks.
 fn add_divided<T: Keyed>(lower: &mut Chunk<T>, upper: &mut Chunk<T>, item: T, is_last: bool)
     requires rising { Rising T.rank lower.old }
     requires full { 256 ≤ length lower.old }

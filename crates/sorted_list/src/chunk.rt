@@ -222,7 +222,7 @@ impl<T: Keyed> Chunk<T> {
         self.items.len() + next.items.len() <= JOINED
     }
 
-    /// Moves all of the next chunk behind its own elements.
+    /// Moves all of the next chunk after its own elements.
     pub(crate) fn append(&mut self, next: &mut Chunk<T>)
         requires filled { IsFilled self.old }
         requires fits { length self.old + length next.old ≤ 256 }
@@ -232,7 +232,7 @@ impl<T: Keyed> Chunk<T> {
         let _ = self.items.append(&mut next.items);
     }
 
-    /// Writes the elements behind those of a list.
+    /// Writes the elements after those of a list.
     pub(crate) fn list_into(&self, listed: &mut Vec<T>) -> Result<(), AllocError>
         ensures { OnOk result (listed.new.items ≡ listed.old.items ++ self.now) }
     {

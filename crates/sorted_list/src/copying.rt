@@ -7,7 +7,7 @@ use crate::chunk::Chunk;
 use crate::keyed::Keyed;
 use std::alloc::{AllocError, Global};
 
-/// The elements of the chunks, of which there are so many.
+/// The elements of the chunks, of which there are `length`.
 pub(crate) fn listed<T: Keyed>(
     alloc: Global,
     chunks: &Vec<Chunk<T>>,

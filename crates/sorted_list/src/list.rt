@@ -13,7 +13,7 @@ use crate::taking::{replace_in, take_from};
 use std::alloc::{AllocError, Global};
 use std::marker::Model;
 
-/// Elements with keys of their own. Contracts see them by rising key, and for how many more there is room: so many can be
+/// Elements with keys of their own. Contracts see them by rising key, and for how many more there is room: that many can be
 /// inserted with no allocation, whatever is taken out or replaced between. A call that is refused keeps the elements.
 #[derive(Drop)]
 pub struct SortedList<T: Keyed> {
@@ -124,7 +124,7 @@ impl<T: Keyed> SortedList<T> {
         first_in(&self.chunks, key)
     }
 
-    /// Makes room for so many more. It takes a free chunk for each at most, and no more than the number of elements that
+    /// Makes room for `more` further ones. It takes a free chunk for each at most, and no more than the number of elements that
     /// there will be, divided by 128, and one. Where that is refused the elements are as they were.
     pub fn reserve(&mut self, more: usize) -> Result<(), AllocError>
         ensures items { self.new.items ≡ self.old.items }

@@ -97,7 +97,7 @@ fn join_around<T: Keyed>(
 }
 
 /// Takes the element with a key out. A chunk that it empties goes, and one that fits to a neighbour is joined with it.
-/// Of the chunks that become free so many are kept as are enough.
+/// Of the chunks that become free as many are kept as are enough.
 pub(crate) fn take_from<T: Keyed>(
     chunks: &mut Vec<Chunk<T>>,
     spares: &mut Vec<Chunk<T>>,

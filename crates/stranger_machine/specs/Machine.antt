@@ -1,4 +1,4 @@
--- The machine of one stranger: a phone that no subscriber is known for, at a station and under its number there. It is closed,
+-- The machine of one stranger: a phone that no subscriber is known for, at a station and under its eNB UE S1AP ID. It is closed,
 -- waits for an identity (TS 24.301 clause 5.4.4), or is held by the subscriber that it turned out to be.
 use Rattle.std.specs.Prelude.{ℕ, ◌-◌, ◌==◌, ◌&&◌, nat_lt, if◌then◌else◌, Bool, true, false, List, [], slice_index, Option, Some, None, Result, Ok, Err}
 use Rattle.identity_slots.specs.declared.profile.Profile.{Profile}
@@ -13,10 +13,10 @@ use Rattle.nas_messages.specs.declared.emm_types.Emm.{Emm}
 use Rattle.nas_messages.specs.declared.emm_types.Emm.TheVariants as emm
 use Rattle.nas_messages.specs.declared.emm_types.EmmType.TheVariants.{AttachRequest, TrackingAreaUpdateRequest}
 use Rattle.nas_messages.specs.Messages.{code_of, decoded_emm}
-use Rattle.nas_messages.specs.Timers.{t3470_repeats, t3470_ticks}
-use Rattle.s1ap_elements.specs.declared.cause.Cause.TheVariants.{RadioNetwork, Nas}
-use Rattle.s1ap_elements.specs.declared.cause.RadioNetworkCause.TheVariants.{UnknownMmeUeS1apId, UnknownPairUeS1apId}
-use Rattle.s1ap_elements.specs.declared.cause.NasCause.TheVariants.{Unspecified}
+use Rattle.nas_elements.specs.Timers.{t3470_repeats, t3470_ticks}
+use Rattle.s1ap_causes.specs.declared.cause.Cause.TheVariants.{RadioNetwork, Nas}
+use Rattle.s1ap_causes.specs.declared.cause.RadioNetworkCause.TheVariants.{UnknownMmeUeS1apId, UnknownPairUeS1apId}
+use Rattle.s1ap_causes.specs.declared.cause.NasCause.TheVariants.{Unspecified}
 use Rattle.mme_types.specs.declared.event.Entry.{Entry}
 use Rattle.mme_types.specs.declared.event.UeBody.{UeBody}
 use Rattle.mme_types.specs.declared.event.UeBody.TheVariants.{Uplink, UeContextReleaseRequest, UeContextReleaseComplete, InitialContextSetupFailure, PathSwitch, Notice as NoticeBody}

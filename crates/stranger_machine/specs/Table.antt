@@ -22,7 +22,7 @@ abbrev pub known_if : ℕ → Option Stranger → List Known → List Known
 known_if id None ks = ks
 known_if id (Some s) ks = record { id = id; stranger = s } ∷ ks
 
--- each behind the notice
+-- each after the notice
 abbrev pub noted : Notice → List Known → List Known
 noted notice [] = []
 noted notice (k ∷ ks) = known_if k.id (notes k.id (Some k.stranger) notice).stranger (noted notice ks)

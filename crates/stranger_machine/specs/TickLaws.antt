@@ -1,4 +1,4 @@
--- What follows of many ticks: where they don't end T3470, they are so many ticks less.
+-- What many ticks do: where they don't end T3470, it has that many ticks less.
 use Rattle.std.proofs.Common.{◌≡◌, ℕ, zero, suc, ◌+◌, ◌<◌, true, false, Some, [], refl, sym, ◌∙◌, ap, add-one, arith}
 use Rattle.std.specs.Prelude.{nat_lt}
 use Rattle.std.proofs.lemmas.Bool.Decides.{nat_tests}

@@ -5,7 +5,7 @@ use Rattle.stranger_machine.specs.declared.state.Stranger.TheVariants.{Waiting, 
 use Rattle.stranger_machine.specs.declared.turn.Notice.TheVariants.{Tick}
 use Rattle.stranger_machine.specs.Machine.{notes}
 
--- what a stranger is after so many ticks
+-- what a stranger is after n ticks
 unfoldable pub stranger_ticked : ℕ → ℕ → Option Stranger → Option Stranger
 stranger_ticked id zero s = s
 stranger_ticked id (suc n) s = (notes id (stranger_ticked id n s) Tick).stranger
@@ -14,12 +14,12 @@ stranger_ticked id (suc n) s = (notes id (stranger_ticked id n s) Tick).stranger
 abbrev pub ends_in : ℕ → ℕ
 ends_in left = left - 1 + 1
 
--- so many ticks don't end its T3470
+-- n ticks don't end its T3470
 abbrev pub IsAsleep : ℕ → Stranger → Type 0
 IsAsleep n (Waiting k left repeats) = n < ends_in left
 IsAsleep n (Held slot) = Unit {0}
 
--- so many ticks less left; one that is held is as it is
+-- n ticks less left; one that is held is as it is
 abbrev pub stranger_aged : ℕ → Stranger → Stranger
 stranger_aged n (Waiting k left repeats) = Waiting k (left - n) repeats
 stranger_aged n (Held slot) = Held slot

@@ -1,8 +1,8 @@
 -- What one stranger does at an event, and what it sends.
 use Rattle.std.specs.Prelude.{ℕ, List, ◌++◌, Option, Some, None}
-use Rattle.s1ap_elements.specs.declared.cause.Cause.{Cause}
-use Rattle.s1ap_elements.specs.declared.cause.Cause.TheVariants.{Nas}
-use Rattle.s1ap_elements.specs.declared.cause.NasCause.TheVariants.{NormalRelease}
+use Rattle.s1ap_causes.specs.declared.cause.Cause.{Cause}
+use Rattle.s1ap_causes.specs.declared.cause.Cause.TheVariants.{Nas}
+use Rattle.s1ap_causes.specs.declared.cause.NasCause.TheVariants.{NormalRelease}
 use Rattle.s1ap_pdus.specs.declared.pdu.Pdu.{Pdu}
 use Rattle.s1ap_pdus.specs.Pdus.{encoded}
 use Rattle.mme_types.specs.declared.event.Entry.{Entry}
@@ -25,7 +25,7 @@ pub record Call : Type 0 where
   pub slot : ℕ
   pub item : Item
 
--- the stranger behind an event, what it sends, and whom it calls; a stranger that is none is closed
+-- the stranger after an event, what it sends, and whom it calls; a stranger that is none is closed
 pub record Turn : Type 0 where
   pub stranger : Option Stranger
   pub sent : List Answer
@@ -35,7 +35,7 @@ pub record Turn : Type 0 where
 abbrev pub stays : Option Stranger → List Answer → Turn
 stays s sent = record { stranger = s; sent = sent; call = None }
 
--- it is closed behind these
+-- it is closed after these
 abbrev pub closing : List Answer → Turn
 closing sent = record { stranger = None; sent = sent; call = None }
 

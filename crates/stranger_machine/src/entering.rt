@@ -84,12 +84,6 @@ fn welcome_by_fault(fault: NasFault, code: u8) -> Welcome
     }
 }
 
-// A message that is lent to be read.
-#[derive(Drop)]
-struct LentMessage<'a> {
-    message: EmmMessage<'a>,
-}
-
 fn second(octets: &[u8]) -> u8
     ensures { result ≡ slice_index octets.now 1 }
 {
@@ -106,10 +100,7 @@ fn meet(nas: &[u8]) -> Welcome
 {
     let octets = initial_octets(nas);
     match decode_emm(octets, Direction::Uplink) {
-        Ok(message) => {
-            let decoded = LentMessage { message };
-            welcome_by_message(&decoded.message)
-        }
+        Ok(message) => welcome_by_message(&message),
         Err(fault) => welcome_by_fault(fault, second(octets)),
     }
 }

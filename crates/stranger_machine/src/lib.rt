@@ -1,4 +1,4 @@
-//! Strangers: phones that no subscriber is known for, each at a station and under its number there (TS 24.301 clause 5.4.4,
+//! Strangers: phones that no subscriber is known for, each at a station and under its eNB UE S1AP ID (TS 24.301 clause 5.4.4,
 //! TS 36.413 clause 8.6.2.1).
 //!
 //! A [`Stranger`] waits for an identity, or is held by the subscriber that it turned out to be; any other is closed. What one

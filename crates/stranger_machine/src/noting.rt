@@ -17,21 +17,18 @@ use nas_messages::timers;
 use s1ap_elements::{AssociationsToReset, Cause, EnbUeId, NasCause};
 use std::alloc::{AllocError, Global};
 
-// A stranger's number at its station, as S1AP has it.
-fn own_number(id: AssociationId) -> EnbUeId
+// The eNB UE S1AP ID that a stranger's id is made of.
+fn own_enb_ue_id(id: AssociationId) -> EnbUeId
     ensures { result ≡ number_in id }
 {
-    match EnbUeId::try_new(u64::from(number_in(id))) {
-        Some(number) => number,
-        None => unreachable!(),
-    }
+    EnbUeId::new(u64::from(number_in(id)))
 }
 
 // Whether a list in a RESET of a station means the stranger with this id (TS 36.413 clause 8.7.1.2.2).
 fn is_meant(id: AssociationId, station: StationNumber, items: &AssociationsToReset) -> bool
     ensures { result ≡ is_meant id station items.now }
 {
-    station_in(id) == station.get() && is_listed(id, own_number(id), items.as_slice())
+    station_in(id) == station.get() && is_listed(id, own_enb_ue_id(id), items.as_slice())
 }
 
 impl LentStranger<'_> {
@@ -91,7 +88,7 @@ impl Stranger {
         }
     }
 
-    /// What it is behind a notice that leaves it open.
+    /// What it is after a notice that leaves it open.
     #[tactic(auto, unfolding(crate::specs::Machine::notes, crate::specs::Machine::ticks, crate::specs::Machine::waits, crate::specs::Machine::loses))]
     pub fn pass(&mut self, notice: &Notice)
         ensures { (id : ℕ) → self.new ≡ (passed notice.now (record { id = id; stranger = self.old })).stranger }
@@ -118,7 +115,7 @@ impl Stranger {
         }
     }
 
-    /// Its T3470, if it runs, has so many ticks less: what it is behind ticks that don't end it.
+    /// Its T3470, if it runs, has that many ticks less: what it is after ticks that don't end it.
     pub fn pass_ticks(&mut self, ticks: u64)
         ensures { self.new ≡ stranger_aged ticks self.old }
     {

@@ -82,12 +82,6 @@ fn imsi_of_identity(identity: &MobileIdentity) -> Option<Imsi>
     }
 }
 
-// A message that is lent to be read.
-#[derive(Drop)]
-struct LentMessage<'a> {
-    message: EmmMessage<'a>,
-}
-
 fn imsi_in(message: &EmmMessage) -> Option<Imsi>
     ensures { result ≡ imsi_in_response (Ok (lists message.now)) }
 {
@@ -102,10 +96,7 @@ fn imsi_in_response(nas: &[u8]) -> Option<Imsi>
     ensures { result ≡ imsi_in_response (decoded_emm Uplink nas.now) }
 {
     match decode_emm(nas, Direction::Uplink) {
-        Ok(message) => {
-            let decoded = LentMessage { message };
-            imsi_in(&decoded.message)
-        }
+        Ok(message) => imsi_in(&message),
         Err(_) => None,
     }
 }

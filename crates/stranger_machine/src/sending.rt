@@ -12,7 +12,7 @@ use s1ap_elements::{Cause, EnbUeId, NasCause};
 use s1ap_pdus::S1apPdu;
 use std::alloc::{AllocError, Global};
 
-// The message behind what is sent so far; one without a written form isn't sent. It is taken, so that it ends here and not in each
+// The message after what is sent so far; one without a written form isn't sent. It is taken, so that it ends here and not in each
 // caller.
 pub(crate) fn push_sent(
     alloc: Global,
@@ -45,7 +45,7 @@ pub fn sent_to(
     Ok(sent)
 }
 
-// UE CONTEXT RELEASE COMMAND behind what is sent so far.
+// UE CONTEXT RELEASE COMMAND after what is sent so far.
 #[tactic(auto, unfolding(crate::specs::Turns::released))]
 fn release(
     alloc: Global,
@@ -83,7 +83,7 @@ fn sent_plainly(alloc: Global, place: Connection, nas: &[u8]) -> Result<Answers,
     sent_to(alloc, place.station, downlink(place, nas))
 }
 
-/// A stranger's association, by its id, its station and its number there.
+/// A stranger's association, by its id, its station and its eNB UE S1AP ID.
 pub(crate) fn place(id: AssociationId, station: StationNumber, enb_ue_id: EnbUeId) -> Connection
     ensures { result ≡ record { id = id; station = station; enb_ue_id = enb_ue_id } }
 {

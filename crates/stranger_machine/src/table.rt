@@ -3,7 +3,7 @@
 use crate::state::Stranger;
 use identity_slots::AssociationId;
 
-/// A stranger that isn't closed, by its id, as contracts see it: 2^31, and its station and its number there.
+/// A stranger that isn't closed, by its id, as contracts see it: 2^31, and its station and its eNB UE S1AP ID.
 #[derive(Drop)]
 pub struct Known {
     pub id: AssociationId,

@@ -32,7 +32,7 @@ pub struct Call<'a> {
     pub event: SoloEvent<'a>,
 }
 
-/// What a stranger is behind an event, what it sends, and whom it calls.
+/// What a stranger is after an event, what it sends, and whom it calls.
 #[derive(Drop)]
 pub struct Turn<'a> {
     pub after: After,

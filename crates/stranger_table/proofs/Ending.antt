@@ -43,7 +43,7 @@ met_is_due clock (r ∷ rs) h =
     ap (λ b. cond b (r.id ∷ met_ids (clock + 1) rs) (met_ids (clock + 1) rs)) (met_is_ending clock r h.0)
     ∙ ap (λ ids. cond (is_ending (sleeper_now clock r.sleeper)) (r.id ∷ ids) ids) (met_is_due clock rs h.1)
 
--- ---- all, as they are behind the tick
+-- ---- all, as they are after the tick
 
 row_now : (id next : ℕ) (o : Option Stranger) (rs : List Row)
     → all_now next (row_if id (option_map (touched_at next) o) rs) ≡ known_if id o (all_now next rs)

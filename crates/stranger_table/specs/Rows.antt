@@ -29,7 +29,7 @@ pub record AreRows (rs : List Row) : Type 0 where
 
 -- ---- as they are now
 
--- the stranger behind the ticks since it was touched
+-- the stranger after the ticks since it was touched
 abbrev pub sleeper_now : ℕ → Sleeper → Stranger
 sleeper_now clock s = stranger_aged (clock - s.touched) s.stranger
 

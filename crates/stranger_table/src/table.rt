@@ -203,7 +203,7 @@ impl Strangers {
         }
     }
 
-    /// All behind a notice of a station. Only the strangers of that station are looked at. Takes no memory.
+    /// All after a notice of a station. Only the strangers of that station are looked at. Takes no memory.
     pub fn note(&mut self, notice: &Notice)
         requires { is_of_station notice.now ≡ true }
         ensures clock { self.new.clock ≡ self.old.clock }

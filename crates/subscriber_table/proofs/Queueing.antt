@@ -108,7 +108,7 @@ over_with : (j n : ℕ) (k : Kind) (o : Option ℕ) (cs : List Countdown) → n 
 over_with j n k None cs small lt h = h
 over_with j n k (Some t) cs small lt h = let e = rank_is n k small in (omega arith, h)
 
--- what stands for the slots from n on stands behind the ranks of those before
+-- what stands for the slots from n on stands after the ranks of those before
 over_from : (j n : ℕ) (ps : List (Option ℕ × Option ℕ)) → n + length ps ≤ 2 ^ 32 → j < 2 * (2 ^ 40 + n)
     → AllOver countdown_rank j (running_from n ps)
 over_from j n [] small lt = tt
@@ -139,7 +139,7 @@ module _ {X : Type 0} (key : X → ℕ) where
   at_same : (k : ℕ) (y : X) (ys : List X) → key y ≡ k → at key k (y ∷ ys) ≡ Some y
   at_same k y ys e = grind (arith, nat_tests)
 
--- what a change behind a countdown makes
+-- what a change after a countdown makes
 put_with : (x : Countdown) (n : ℕ) (k : Kind) (o : Option ℕ) (cs : List Countdown)
     → rank (timer_of (Subscriber n) k) < countdown_rank x
     → put countdown_rank x (with_countdown n k o cs) ≡ with_countdown n k o (put countdown_rank x cs)

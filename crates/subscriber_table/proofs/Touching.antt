@@ -1,4 +1,4 @@
--- Where the phones are behind a new state, a tick and a newcomer, and whom an item of a station touches.
+-- Where the phones are after a new state, a tick and a newcomer, and whom an item of a station touches.
 use Rattle.std.proofs.Common.{◌≡◌, ℕ, zero, suc, ◌+◌, ◌<◌, List, [], ◌∷◌, length, refl, sym, ◌∙◌, ap, subst}
 use Rattle.std.specs.Prelude.{slice_set, Option, Some, None, Bool, true, false, cond, not, ◌&&◌, ◌||◌, ◌==◌, map}
 use Rattle.mme_types.specs.declared.connection.Connection.{Connection}

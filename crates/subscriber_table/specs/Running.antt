@@ -83,7 +83,7 @@ abbrev pub owner_slot : TimerOwner → ℕ
 owner_slot (Stranger station enb_ue_id) = 0
 owner_slot (Subscriber slot) = slot
 
--- each once, where they stand side by side, behind the one that was last
+-- each once, where they stand side by side, after the one that was last
 abbrev pub slots_once : Option ℕ → List Timer → List ℕ
 slots_once last [] = []
 slots_once last (t ∷ ts) =

@@ -14,7 +14,7 @@ use Rattle.subscriber_table.specs.Running.{AreInRange, due_from}
 pub record SubscriberTable : Type 0 where
   pub clock : ℕ
   pub subscribers : List SubscriberView
-  pub room : ℕ  -- so many more steps can be settled with no allocation
+  pub room : ℕ  -- how many more steps can be settled with no allocation
 
 -- ---- steps
 

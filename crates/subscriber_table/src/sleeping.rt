@@ -203,7 +203,7 @@ impl Sleepers {
         slots_of(self.alloc, timers.as_slice())
     }
 
-    /// Room for so many more steps, of which there are no more than slots. Refused, all but the room is as it was.
+    /// Room for `more` further steps, of which there are no more than slots. Refused, all but the room is as it was.
     pub fn reserve(&mut self, steps: usize) -> Result<(), AllocError>
         requires { steps ≤ slots }
         ensures clock { self.new.clock ≡ self.old.clock }

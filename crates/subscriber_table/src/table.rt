@@ -133,7 +133,7 @@ impl Subscribers {
         self.connections.listed(station, items)
     }
 
-    /// Room for so many more steps, of which there are no more than slots. Refused, all but the room is as it was.
+    /// Room for `more` further steps, of which there are no more than slots. Refused, all but the room is as it was.
     pub fn reserve(&mut self, steps: usize) -> Result<(), AllocError>
         requires { steps ≤ slots }
         ensures clock { self.new.clock ≡ self.old.clock }

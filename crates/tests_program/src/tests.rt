@@ -122,7 +122,7 @@ fn one_octet_at_a_time(rt: HostRuntime) {
     );
 }
 
-/// Whether a run whose read fails after so many ends by that.
+/// Whether a run whose read fails after N reads ends by that.
 fn ends_at_read(alloc: Global, good_reads: usize, held: &mut Vec<u8>) -> bool {
     let mut reader = Watched::new(Slow {
         rest: SETUP,
@@ -152,7 +152,7 @@ fn each_read_fails(rt: HostRuntime) {
     }
 }
 
-/// Whether a run whose write or flush fails after so many ends by that.
+/// Whether a run whose write or flush fails after N of them ends by that.
 fn ends_at_write(
     alloc: Global,
     good_writes: usize,

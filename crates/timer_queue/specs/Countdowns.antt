@@ -17,7 +17,7 @@ countdown_rank c = rank c.timer
 pub record Countdowns : Type 0 where
   pub clock : ℕ
   pub running : List Countdown
-  pub room : ℕ  -- so many more can be started with no allocation
+  pub room : ℕ  -- how many more can be started with no allocation
 
 abbrev pub timer_of : TimerOwner → Kind → Timer
 timer_of owner kind = record { owner = owner; kind = kind }

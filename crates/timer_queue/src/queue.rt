@@ -175,7 +175,7 @@ impl Timers {
         }
     }
 
-    /// Makes room for so many more timers. Where that is refused the timers are as they were.
+    /// Makes room for `more` further timers. Where that is refused the timers are as they were.
     pub fn reserve(&mut self, more: usize) -> Result<(), AllocError>
         ensures clock { self.new.clock ≡ self.old.clock }
         ensures running { self.new.running ≡ self.old.running }

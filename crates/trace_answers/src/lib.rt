@@ -1,6 +1,8 @@
-//! What an event answers, and a subscriber's states, as lines of a trace.
+//! The lines of a trace's answers: what an event sends, why it is refused, and a subscriber's states.
 #![tactic(auto)]
 
-mod lines;
+mod answer;
+mod laws;
 
-pub use lines::{sent_line, states_line};
+pub use answer::{Answer, sent_line, write_answer};
+pub use laws::answers_are_lines;

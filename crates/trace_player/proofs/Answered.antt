@@ -20,7 +20,7 @@ answers_of-front outs i out h e = (
 front_of-front : (front text all : List ℕ) → IsPrefix front text → IsPrefix text all → IsPrefix front all
 front_of-front front text all p q = IsPrefix-of front (text ++ q.0) all (sym q.1) (IsPrefix-more front text q.0 p)
 
--- a text that is not wholly written, behind one that is
+-- a text that is not wholly written, after one that is
 pub Puts-after : (A B : Type 0) (before text all written : List ℕ) (fault : PlayFault) → IsPrefix (before ++ text) all
     → Puts {A = A} text (Err fault) written → Puts {A = B} all (Err fault) (before ++ written)
 Puts-after A B before text all written NoMemory p h =

@@ -10,7 +10,7 @@ use Rattle.trace_player.specs.Effects.{left_by, with_text_before, tick_then, tic
 use Rattle.trace_player.specs.Acts.{IsPrefix}
 use Rattle.trace_player.specs.FrontLaws.{IsPrefix-of, IsPrefix-after}
 
--- after so many ticks: what they wrote, and the world that they left
+-- after n ticks: what they wrote, and the world that they left
 abbrev pub Ticking : World → ℕ → World → List ℕ → Type 0
 Ticking old done mid written = (n : ℕ) → ticked (done + n) old ≡ with_text_before written (ticked n mid)
 

@@ -38,6 +38,12 @@ Acts line effect (Err Write) new written = IsPrefix written (effect_text effect)
 Acts line effect (Err Read) new written = ⊥
 Acts line effect (Err (Trace number fault)) new written = (effect ≡ Err fault) × (number ≡ line) × (written ≡ [])
 
+-- no MME runs yet
+abbrev pub IsIdle : Progress → Type 0
+IsIdle Nothing = ⊤
+IsIdle (Provisioning config provisioned) = ⊤
+IsIdle (Running world) = ⊥
+
 -- the MME runs, and is the one that was wanted
 abbrev pub RunsAs : Result World TraceFault → Progress → Type 0
 RunsAs wanted Nothing = ⊥

@@ -5,6 +5,7 @@ use Rattle.identity_slots.specs.declared.profile.Vector.{Vector}
 use Rattle.identity_slots.specs.declared.provision.ProvisionFault.{ProvisionFault}
 use Rattle.identity_slots.specs.Provisioned.{Provisioned, add_fault, slot_of_imsi, vectors_at, with_profile, with_vector}
 use Rattle.emm_machine.specs.declared.subscriber.States.{States}
+use Rattle.mme_types.specs.declared.network.Network.{Network}
 use Rattle.mme_core.specs.World.{World, fresh_world, reply, world_after}
 use Rattle.mme_core.specs.Projection.{states_at}
 use Rattle.mme_core.specs.declared.config.Config.{Config}
@@ -15,7 +16,6 @@ use Rattle.mme_answering.specs.declared.out.Out.{Out}
 use Rattle.trace_words.specs.Trace.{◌>>=◌}
 use Rattle.trace_words.specs.declared.line.Line.{Line}
 use Rattle.trace_words.specs.declared.line.Line.TheVariants.{Skip, Mme, Sub, Vec, Up, Lost, In, Tick, Data, Cancel, Show}
-use Rattle.trace_words.specs.declared.line.MmeLine.{MmeLine}
 use Rattle.trace_words.specs.declared.fault.TraceFault.{TraceFault}
 use Rattle.trace_words.specs.declared.fault.TraceFault.TheVariants.{Order, Provision}
 use Rattle.trace_player.specs.declared.progress.Progress.{Progress}
@@ -30,19 +30,16 @@ Effect = Result (Progress × List ℕ) TraceFault
 -- ---- provisioning
 
 -- what an MME is made of; its clock starts at 0
-abbrev pub config_of : MmeLine → Config
-config_of line = record {
-  network = record { plmn = line.plmn; group = line.group; code = line.code; apn = line.apn; down = line.down; up = line.up };
-  clock = 0;
-}
+abbrev pub config_of : Network → Config
+config_of network = record { network = network; clock = 0 }
 
 abbrev pub nobody : Provisioned
 nobody = record { profiles = []; vectors = [] }
 
-abbrev pub configured : Progress → MmeLine → Effect
-configured Nothing line = Ok (Provisioning (config_of line) nobody, [])
-configured (Provisioning config provisioned) line = Err Order
-configured (Running world) line = Err Order
+abbrev pub configured : Progress → Network → Effect
+configured Nothing network = Ok (Provisioning (config_of network) nobody, [])
+configured (Provisioning config provisioned) network = Err Order
+configured (Running world) network = Err Order
 
 -- a subscriber more, unless that is refused
 abbrev pub with_subscriber : Config → Provisioned → Profile → Option ProvisionFault → Effect
@@ -98,7 +95,7 @@ abbrev pub tick_then : World → Result (List Out) StepFault → (World → Worl
 tick_then world (Ok outs) others = with_text_before (reply_text (Ok outs)) (others (world_after world event.Tick))
 tick_then world (Err fault) others = (world, reply_text (Err fault))
 
--- so many ticks, up to the first that is refused
+-- n ticks, up to the first that is refused
 unfoldable pub ticked : ℕ → World → World × List ℕ
 ticked zero world = (world, [])
 ticked (suc n) world = tick_then world (reply world event.Tick) (λ after. ticked n after)
@@ -130,7 +127,7 @@ in_event e octets = event.In e (record { ref_ptr = (0, 0); now = octets })
 
 unfoldable pub effect_of : Progress → Line → Effect
 effect_of progress Skip = Ok (progress, [])
-effect_of progress (Mme line) = configured progress line
+effect_of progress (Mme network) = configured progress network
 effect_of progress (Sub profile) = subscriber_added progress profile
 effect_of progress (Vec imsi vector) = vector_given progress imsi vector
 effect_of progress (Up e) = happened progress (event.Up e)

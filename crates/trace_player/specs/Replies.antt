@@ -3,8 +3,7 @@ use Rattle.std.specs.Prelude.{ℕ, List, Result, Ok, Err}
 use Rattle.mme_answering.specs.declared.out.Out.{Out}
 use Rattle.mme_core.specs.declared.event.StepFault.{StepFault}
 use Rattle.mme_core.specs.declared.event.StepFault.TheVariants.{NotUp, AlreadyUp, ClockSpent, NoMemory, UnknownImsi}
-use Rattle.trace_words.specs.Trace.{refused_text}
-use Rattle.trace_answers.specs.Words.{answers_of}
+use Rattle.trace_answers.specs.Words.{answers_of, refused_text}
 
 -- the number that a refusal is written with
 abbrev pub refusal_number : StepFault → ℕ

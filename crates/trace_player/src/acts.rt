@@ -37,7 +37,7 @@ pub fn act_on_line<W: Write>(
 {
     match line {
         Line::Skip => Ok(()),
-        Line::Mme(fields) => start(alloc, progress, number, &fields),
+        Line::Mme(network) => start(alloc, progress, number, network),
         Line::Sub(profile) => add(progress, number, profile),
         Line::Vec(imsi, vector) => give(progress, number, imsi, vector),
         Line::Up(station) => {
@@ -80,16 +80,16 @@ fn play_event<W: Write>(
     ensures write { IsErrOf result PlayFault.Write → writer.new.failed ≡ true }
 {
     run(alloc, progress, number)?;
-    match progress {
-        Progress::Running(mme) => match step_event(alloc, mme, event, room, writer) {
-            Ok(_) => Ok(()),
-            Err(fault) => Err(fault),
-        },
-        Progress::Nothing | Progress::Provisioning(_, _) => unreachable!(),
+    let Progress::Running(mme) = progress else {
+        return Err(PlayFault::Trace(number, TraceFault::Order));
+    };
+    match step_event(alloc, mme, event, room, writer) {
+        Ok(_) => Ok(()),
+        Err(fault) => Err(fault),
     }
 }
 
-/// Plays so many ticks and writes their answers.
+/// Plays `count` ticks and writes their answers.
 fn play_ticks<W: Write>(
     alloc: Global,
     progress: &mut Progress,
@@ -103,10 +103,10 @@ fn play_ticks<W: Write>(
     ensures write { IsErrOf result PlayFault.Write → writer.new.failed ≡ true }
 {
     run(alloc, progress, number)?;
-    match progress {
-        Progress::Running(mme) => step_ticks(alloc, mme, count, room, writer),
-        Progress::Nothing | Progress::Provisioning(_, _) => unreachable!(),
-    }
+    let Progress::Running(mme) = progress else {
+        return Err(PlayFault::Trace(number, TraceFault::Order));
+    };
+    step_ticks(alloc, mme, count, room, writer)
 }
 
 /// Writes the states of the subscriber of that IMSI.
@@ -123,10 +123,10 @@ fn show<W: Write>(
     ensures write { IsErrOf result PlayFault.Write → writer.new.failed ≡ true }
 {
     run(alloc, progress, number)?;
-    match progress {
-        Progress::Running(mme) => show_states(alloc, mme, number, imsi, room, writer),
-        Progress::Nothing | Progress::Provisioning(_, _) => unreachable!(),
-    }
+    let Progress::Running(mme) = progress else {
+        return Err(PlayFault::Trace(number, TraceFault::Order));
+    };
+    show_states(alloc, mme, number, imsi, room, writer)
 }
 
 /// One event: whether it was taken.

@@ -2,8 +2,7 @@
 
 ghost use Rattle.std.specs.Prelude.{◌≡◌, ℕ, List, length, take, true, false, IfOk, IsErrOf, IsTrue};
 ghost use Rattle.std.specs.Io.KnownBytes.{Appends};
-ghost use Rattle.trace_words.specs.Trace.{answer_text, refused_text};
-ghost use Rattle.trace_answers.specs.Words.{answers_of, out_text, states_text};
+ghost use Rattle.trace_answers.specs.Words.{answer_text, answers_of, out_text, refused_text, states_text};
 ghost use Rattle.trace_player.specs.Acts.{GrowsBy, Puts};
 
 use crate::fault::PlayFault;
@@ -14,8 +13,7 @@ use nas_elements::Imsi;
 use std::alloc::Global;
 use std::io::Write;
 use std::mem;
-use trace_answers::{sent_line, states_line};
-use trace_words::{Answer, write_answer};
+use trace_answers::{Answer, sent_line, write_answer};
 
 /// Writes these octets; at `false` the writer failed, and has the first of them.
 pub fn write_whole<W: Write>(writer: &mut Watched<W>, octets: &[u8]) -> bool
@@ -116,5 +114,5 @@ pub(crate) fn write_states<W: Write>(
     ensures put { GrowsBy (W.contents writer.old.inner) (W.contents writer.new.inner) (Puts (states_text imsi states) result) }
     ensures write { IsErrOf result PlayFault.Write → writer.new.failed ≡ true }
 {
-    write_one(alloc, &states_line(imsi, states), room, writer)
+    write_one(alloc, &Answer::State(imsi, states), room, writer)
 }

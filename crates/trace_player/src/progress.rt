@@ -1,22 +1,18 @@
 //! How far a trace has got: what is provisioned, and the MME that is made of it.
 
-ghost use Rattle.std.specs.Prelude.{◌≡◌, ◌≢◌, [], Err, IfErr, OnErr, OnOk};
-ghost use Rattle.trace_player.specs.Effects.{subscriber_added, config_of, vector_given, running, configured};
-ghost use Rattle.trace_player.specs.Acts.{Acts, Runs, RunsAs};
-ghost use Rattle.trace_player.specs.declared.progress.Progress.TheVariants.{Provisioning};
-ghost use Rattle.identity_slots.specs.Provisioned.{Provisioned};
-ghost use Rattle.mme_core.specs.declared.config.Config.{Config};
+ghost use Rattle.std.specs.Prelude.{◌≡◌, ◌≢◌, [], Err, IfErr, OnErr};
+ghost use Rattle.trace_player.specs.Effects.{subscriber_added, vector_given, running, configured};
+ghost use Rattle.trace_player.specs.Acts.{Acts, IsIdle, Runs};
 ghost use Rattle.trace_player.specs.Faults.{in_provision};
 
 use crate::fault::PlayFault;
 use identity_slots::{Profile, Provision, ProvisionFault, Vector};
 use mme_core::{Config, Mme};
-use mme_types::{AggregateBitRate, Apn, Network};
+use mme_types::Network;
 use nas_elements::Imsi;
-use per_bits::Octets;
 use std::alloc::Global;
 use std::mem;
-use trace_words::{ApnLabel, BitRate, MmeLine, TraceFault};
+use trace_words::TraceFault;
 
 /// How far a trace has got.
 #[derive(Drop)]
@@ -34,19 +30,20 @@ pub fn start(
     alloc: Global,
     progress: &mut Progress,
     number: u64,
-    fields: &MmeLine,
+    network: Network,
 ) -> Result<(), PlayFault>
-    ensures acts { Acts number (configured progress.old fields.now) result progress.new [] }
-    ensures fault { IfErr (configured progress.old fields.now) (λ fault. result ≡ Err (PlayFault.Trace number fault)) }
+    ensures acts { Acts number (configured progress.old network) result progress.new [] }
+    ensures fault { IfErr (configured progress.old network) (λ fault. result ≡ Err (PlayFault.Trace number fault)) }
     ensures memory { IfErr result (λ fault. fault ≢ PlayFault.NoMemory) }
     ensures err { OnErr result (progress.new ≡ progress.old) }
     ensures write { IfErr result (λ fault. fault ≢ PlayFault.Write) }
 {
     match progress {
         Progress::Nothing => {
+            let config = Config { network, clock: 0 };
             reach(
                 progress,
-                Progress::Provisioning(config(fields), Provision::new(alloc)),
+                Progress::Provisioning(config, Provision::new(alloc)),
             );
             Ok(())
         }
@@ -129,59 +126,27 @@ pub fn run(alloc: Global, progress: &mut Progress, number: u64) -> Result<(), Pl
     ensures err { IfErr result (λ fault. fault ≢ PlayFault.NoMemory → progress.new ≡ progress.old) }
 {
     match progress {
-        Progress::Nothing => Err(PlayFault::Trace(number, TraceFault::Order)),
         Progress::Running(_) => Ok(()),
-        Progress::Provisioning(_, _) => set_out(alloc, progress),
+        Progress::Nothing | Progress::Provisioning(_, _) => set_out(alloc, progress, number),
     }
 }
 
-/// Makes the MME of what is provisioned, and NoMemory is its only fault. It stands apart, so that room for an MME is made ready
-/// once, and not at each line.
-fn set_out(alloc: Global, progress: &mut Progress) -> Result<(), PlayFault>
-    requires { (config : Config) × (provisioned : Provisioned) × (progress.old ≡ Provisioning config provisioned) }
-    ensures ok { OnOk result (RunsAs (running progress.old) progress.new) }
-    ensures err { IfErr result (λ fault. fault ≡ PlayFault.NoMemory) }
+/// Makes the MME of what is provisioned, where none runs; faults as in `run`. It stands apart, so that room for an MME is made
+/// ready once, and not at each line.
+fn set_out(alloc: Global, progress: &mut Progress, number: u64) -> Result<(), PlayFault>
+    requires { IsIdle progress.old }
+    ensures runs { Runs number (running progress.old) result progress.new }
+    ensures fault { IfErr (running progress.old) (λ fault. result ≡ Err (PlayFault.Trace number fault)) }
+    ensures err { IfErr result (λ fault. fault ≢ PlayFault.NoMemory → progress.new ≡ progress.old) }
 {
-    match mem::replace(progress, Progress::Nothing) {
-        Progress::Provisioning(config, provision) => match Mme::new(alloc, config, provision) {
-            Ok(mme) => {
-                reach(progress, Progress::Running(mme));
-                Ok(())
-            }
-            Err(_) => Err(PlayFault::NoMemory),
-        },
-        Progress::Nothing | Progress::Running(_) => unreachable!(),
-    }
-}
-
-pub(crate) fn config(fields: &MmeLine) -> Config
-    ensures { result ≡ config_of fields.now }
-{
-    let network = Network {
-        plmn: Octets::new(fields.plmn),
-        group: Octets::new(fields.group),
-        code: Octets::new(fields.code),
-        apn: apn(&fields.apn),
-        down: bit_rate(fields.down),
-        up: bit_rate(fields.up),
+    let Progress::Provisioning(config, provision) = mem::replace(progress, Progress::Nothing) else {
+        return Err(PlayFault::Trace(number, TraceFault::Order));
     };
-    Config { network, clock: 0 }
-}
-
-fn bit_rate(rate: BitRate) -> AggregateBitRate
-    ensures { result ≡ rate }
-{
-    match AggregateBitRate::try_new(rate.get()) {
-        Some(rate) => rate,
-        None => unreachable!(),
-    }
-}
-
-fn apn(label: &ApnLabel) -> Apn
-    ensures { result ≡ label.now }
-{
-    match Apn::try_new(label.as_slice()) {
-        Some(apn) => apn,
-        None => unreachable!(),
+    match Mme::new(alloc, config, provision) {
+        Ok(mme) => {
+            reach(progress, Progress::Running(mme));
+            Ok(())
+        }
+        Err(_) => Err(PlayFault::NoMemory),
     }
 }

@@ -64,7 +64,7 @@ impl Player {
         Ok(())
     }
 
-    /// Takes the piece up to the end of the line, which is played then, or all of it: so many octets.
+    /// Takes the piece up to the end of the line, which is played then, or all of it. Answers how many octets that are.
     fn take_line<W: Write>(
         &mut self,
         alloc: Global,
@@ -84,7 +84,7 @@ impl Player {
         }
     }
 
-    /// Plays the line that ends there, where it lies in the piece: so many octets.
+    /// Plays the line that ends there, where it lies in the piece. Answers how many octets that are.
     fn take_whole<W: Write>(
         &mut self,
         alloc: Global,
@@ -114,7 +114,7 @@ impl Player {
         }
     }
 
-    /// Takes the piece up to the end of the line that has begun before or ends after it: so many octets.
+    /// Takes the piece up to the end of the line that has begun before or ends after it. Answers how many octets that are.
     fn go_on<W: Write>(
         &mut self,
         alloc: Global,

@@ -3,10 +3,14 @@
 //! This crate passes on what stands in those below it: who reads or writes lines needs it alone.
 #![tactic(auto)]
 
+pub use emm_machine::{EcmState, EmmState, States};
+pub use esm_machine::BearerState;
+pub use mme_answering::Owner;
+pub use mme_types::{AggregateBitRate, Apn, Network};
 pub use sim_words::{
     PhoneWord, RadioPlace, RadioWord, ScriptAct, ScriptLine, StationLine, parse_script_line,
 };
+pub use trace_answers::{Answer, write_answer};
 pub use trace_words::{
-    Answer, AnswerOwner, ApnLabel, BitRate, EcmWord, EmmWord, EsmWord, LONGEST_LINE, Line, MmeLine,
-    TraceFault, TraceOctets, TraceTicks, parse_line, write_answer, write_line,
+    LONGEST_LINE, Line, TraceFault, TraceOctets, TraceTicks, parse_line, write_line,
 };

@@ -7,7 +7,8 @@ use Rattle.trace_words.specs.declared.line.Line.TheVariants.{Up, Lost, In}
 use Rattle.trace_words.specs.declared.fault.TraceFault.{TraceFault}
 use Rattle.trace_words.specs.Trace.{◌>>=◌, ◌␣◌, station_field, octets_text, line_text, read_in}
 use Rattle.trace_words.specs.Lines.{IsRewritten, is_unbroken}
-use Rattle.trace_words.proofs.Words.{spaced, decimal_word, shown_word, unbroken_field}
+use Rattle.trace_words.specs.WordLaws.{decimal_word, shown_word}
+use Rattle.trace_words.proofs.Words.{spaced, unbroken_field}
 use Rattle.trace_words.proofs.Rewritten.{number_written, octets_of-shown}
 use Rattle.trace_words.proofs.Reread.{rewritten, up_reread, lost_reread, in_reread}
 

@@ -12,7 +12,8 @@ use Rattle.trace_words.specs.declared.line.Line.TheVariants.{In}
 use Rattle.trace_words.specs.declared.fault.TraceFault.TheVariants.{BadHex}
 use Rattle.trace_words.specs.Trace.{hex_of, octets_field, station_field, read_words}
 use Rattle.trace_words.proofs.Rewritten.{hex_read}
-use Rattle.trace_words.proofs.Words.{is_word, word_over, split_word}
+use Rattle.trace_words.specs.WordLaws.{is_word, word_over}
+use Rattle.trace_words.proofs.Words.{split_word}
 use Rattle.trace_words.proofs.SplitWords.{first_word}
 
 digit_over : (c : ℕ) → is_hex_digit c ≡ true → 33 ≤ c

@@ -8,7 +8,7 @@ use Rattle.std.proofs.lemmas.Bool.Decides.{nat_tests}
 use Rattle.trace_words.specs.declared.fault.TraceFault.TheVariants.{BadNumber}
 use Rattle.trace_words.specs.Trace.{digit_of, country_of, network_of, packed, plmn_octets, plmn_field, country_text, network_text, ◌>>=◌}
 use Rattle.trace_words.proofs.Rewritten.{ok_with}
-use Rattle.trace_words.proofs.Words.{is_word, word_over}
+use Rattle.trace_words.specs.WordLaws.{is_word, word_over}
 
 record IsDigit (c d : ℕ) : Type 0 where
   text : c ≡ 48 + d

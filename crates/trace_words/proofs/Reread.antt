@@ -13,7 +13,8 @@ use Rattle.trace_words.specs.declared.fault.TraceFault.{TraceFault}
 use Rattle.trace_words.specs.declared.fault.TraceFault.TheVariants.{UnknownWord, TooLong}
 use Rattle.trace_words.specs.Trace.{◌>>=◌, ◌␣◌, plmn_field, sized_of, label_field, station_field, rate_field, ticks_field, octets_field, xres_field, subscriber_field, octets_text, country_text, network_text, line_of, line_text, is_skipped, read_words, read_event, read_mme, read_sub, read_vec, read_up, read_lost, read_in, read_tick, read_data, read_cancel, read_show}
 use Rattle.trace_words.specs.Lines.{IsRewritten, WrittenIsRead}
-use Rattle.trace_words.proofs.Words.{is_word, spaced, spaced-split, Spelled, Spelled-word, Spelled-field}
+use Rattle.trace_words.specs.WordLaws.{is_word}
+use Rattle.trace_words.proofs.Words.{spaced, spaced-split, Spelled, Spelled-word, Spelled-field}
 use Rattle.trace_words.proofs.Rewritten.{TextIsImsi, ok_with, number_again, sized_again, xres_again, octets_again, label_again, subscriber_again}
 use Rattle.trace_words.proofs.Networks.{plmn_same}
 
@@ -288,7 +289,7 @@ from_vec w f = cond (bytes_eq w (codes "vec")) (read_vec f) (read_event w f)
 abbrev from_sub : List ℕ → List (List ℕ) → Result Line TraceFault
 from_sub w f = cond (bytes_eq w (codes "sub")) (read_sub f) (from_vec w f)
 
--- the word of a line counts with the space behind it
+-- the word of a line counts with the space after it
 worded : (line : Line) (w v : List ℕ) (n : ℕ) → bytes_eq w v ≡ true → Reread line (length v + 1 + n)
     → Reread line (length w + 1 + n)
 worded line w v n b r =

@@ -18,7 +18,7 @@ use Rattle.trace_words.specs.Fields.{is_apn_label}
 use Rattle.trace_words.specs.Trace.{decimal_of, decimal_from, capped, at_least, number_field, hex_of, octets_field, sized_of, xres_sized, xres_field, label_field, subscriber_field, octets_text, ◌>>=◌}
 use Rattle.trace_words.proofs.Printed.{decimal_from-decimal, length-decimal-read}
 use Rattle.trace_words.proofs.Texts.{label_octets}
-use Rattle.trace_words.proofs.Words.{is_word, decimal_word, digits_word, label_word, hex_word, shown_word}
+use Rattle.trace_words.specs.WordLaws.{is_word, decimal_word, digits_word, label_word, hex_word, shown_word}
 
 pub record Again {A : Type 0} (read : List ℕ → Result A TraceFault) (x : A) (text written : List ℕ) : Type 0 where
   pub again : read written ≡ Ok x

@@ -20,7 +20,7 @@ spaceless rest at first =
     let low : k < at = omega (arith, length-take at rest) in
     rw (get_or-take at rest k 0 low) (false_from_ne_true _ (first.0.before k (omega arith) low)))
 
--- the first word of a text stands before its first space, and the others are the words of what stands behind it
+-- the first word of a text stands before its first space, and the others are the words of what stands after it
 pub first_word : (rest : List ℕ) (at : ℕ) → IsFirstByte (is_byte 32) rest (Some at)
     → slice_split (λ c. c == 32) rest ≡ take at rest ∷ slice_split (λ c. c == 32) (drop (at + 1) rest)
 first_word rest at first =

@@ -1,11 +1,7 @@
 -- What an access point name may be.
-use Rattle.std.specs.Prelude.{◌||◌, ◌&&◌, ◌==◌, ℕ, Bool, List, length, nat_le, not}
+use Rattle.std.specs.Prelude.{◌&&◌, ◌==◌, ℕ, Bool, List, length, nat_le, not}
 use Rattle.std.specs.List.{list_all}
-use Rattle.std.specs.Char.{is_ascii_alphanumeric}
-
--- a letter, a digit or a hyphen
-abbrev pub is_label_octet : ℕ → Bool
-is_label_octet c = is_ascii_alphanumeric c || (c == 45)
+use Rattle.mme_types.specs.Network.{is_label_octet}
 
 -- a label of 1 to 63 of these (TS 23.003 clause 9.1)
 abbrev pub is_apn_label : List ℕ → Bool

@@ -1,4 +1,4 @@
--- The lines of a trace and of its answers, as functions on lists of octets.
+-- The lines of a trace, as functions on lists of octets.
 use Rattle.std.specs.Prelude.{ℕ, ◌+◌, ◌*◌, ◌-◌, ◌/◌, ◌%◌, ◌==◌, ◌&&◌, Bool, true, nat_lt, nat_le, List, [], ◌∷◌, ◌++◌, length, slice_index, codes, Option, Some, None, Result, Ok, Err, ok_or, if◌then◌else◌}
 use Rattle.std.specs.List.{slice_split}
 use Rattle.std.specs.Str.{bytes_eq}
@@ -10,16 +10,6 @@ use Rattle.nas_elements.specs.Digits.{imsi_of_text, imsi_text}
 use Rattle.trace_words.specs.Fields.{is_apn_label}
 use Rattle.trace_words.specs.declared.line.Line.{Line}
 use Rattle.trace_words.specs.declared.line.Line.TheVariants.{Skip, Mme, Sub, Vec, Up, Lost, In, Tick, Data, Cancel, Show}
-use Rattle.trace_words.specs.declared.answer.Answer.{Answer}
-use Rattle.trace_words.specs.declared.answer.Answer.TheVariants.{Sent, Refused, State}
-use Rattle.trace_words.specs.declared.answer.AnswerOwner.{AnswerOwner}
-use Rattle.trace_words.specs.declared.answer.AnswerOwner.TheVariants.{Station, Stranger, Subscriber}
-use Rattle.trace_words.specs.declared.answer.EmmWord.{EmmWord}
-use Rattle.trace_words.specs.declared.answer.EmmWord.TheVariants.{Deregistered, CommonProcedureInitiated, Registered, DeregisteredInitiated}
-use Rattle.trace_words.specs.declared.answer.EcmWord.{EcmWord}
-use Rattle.trace_words.specs.declared.answer.EcmWord.TheVariants.{Idle, Connected}
-use Rattle.trace_words.specs.declared.answer.EsmWord.{EsmWord}
-use Rattle.trace_words.specs.declared.answer.EsmWord.TheVariants.{Inactive, ActivePending, Active}
 use Rattle.trace_words.specs.declared.fault.TraceFault.{TraceFault}
 use Rattle.trace_words.specs.declared.fault.TraceFault.TheVariants.{UnknownWord, FieldCount, BadNumber, BadHex, TooLong, Order, Provision, NoMemory}
 
@@ -258,44 +248,3 @@ line_text (Tick n) = codes "tick" ␣ decimal n
 line_text (Data i) = codes "data" ␣ imsi_text i
 line_text (Cancel i) = codes "cancel" ␣ imsi_text i
 line_text (Show i) = codes "show" ␣ imsi_text i
-
--- ---- answers
-
--- whom a message is for
-abbrev pub owner_text : AnswerOwner → List ℕ
-owner_text (Station e) = codes "out e" ++ decimal e ++ codes " "
-owner_text (Stranger e b) = codes "out x" ++ decimal e ++ codes "." ++ decimal b ++ codes " "
-owner_text (Subscriber slot) = codes "out s" ++ decimal slot ++ codes " "
-
-unfoldable pub sent_text : AnswerOwner → ℕ → List ℕ → List ℕ
-sent_text owner e octets = owner_text owner ++ (decimal e ++ codes " ") ++ octets_text octets ++ codes "\n"
-
-unfoldable pub refused_text : ℕ → List ℕ
-refused_text k = codes "refused " ++ decimal k ++ codes "\n"
-
--- the states of a subscriber (TS 24.301 clause 5.1.3)
-abbrev pub emm_word : EmmWord → List ℕ
-emm_word Deregistered = codes "DEREGISTERED"
-emm_word CommonProcedureInitiated = codes "COMMON-PROCEDURE-INITIATED"
-emm_word Registered = codes "REGISTERED"
-emm_word DeregisteredInitiated = codes "DEREGISTERED-INITIATED"
-
--- whether it has a connection (TS 23.401 clause 4.6.3)
-abbrev pub ecm_word : EcmWord → List ℕ
-ecm_word Idle = codes "IDLE"
-ecm_word Connected = codes "CONNECTED"
-
--- the states of its default bearer (TS 24.301 clause 6.1.3)
-abbrev pub esm_word : EsmWord → List ℕ
-esm_word Inactive = codes "INACTIVE"
-esm_word ActivePending = codes "ACTIVE-PENDING"
-esm_word Active = codes "ACTIVE"
-
-unfoldable pub state_text : List ℕ → EmmWord → EcmWord → EsmWord → List ℕ
-state_text imsi emm ecm esm = (codes "state" ␣ imsi_text imsi ␣ emm_word emm ␣ ecm_word ecm ␣ esm_word esm) ++ codes "\n"
-
--- the line of an answer, with its LF
-abbrev pub answer_text : Answer → List ℕ
-answer_text (Sent owner e octets) = sent_text owner e octets.now
-answer_text (Refused k) = refused_text k
-answer_text (State imsi emm ecm esm) = state_text imsi emm ecm esm

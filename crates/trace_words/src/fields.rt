@@ -5,9 +5,10 @@ ghost use Rattle.std.specs.Str.{bytes_eq};
 ghost use Rattle.trace_words.specs.Trace.{capped, decimal_of, number_field, station_field, rate_field, digit_of, country_of, network_of, plmn_field, octets_field, sized_of, label_field, ticks_field, xres_field, subscriber_field};
 
 use crate::fault::TraceFault;
-use crate::values::{ApnLabel, BitRate, TraceOctets, TraceTicks};
+use crate::values::{TraceOctets, TraceTicks};
 use hex::FromHexError;
 use identity_slots::{StationNumber, Xres};
+use mme_types::{AggregateBitRate, Apn};
 use nas_elements::Imsi;
 use std::alloc::Global;
 
@@ -55,28 +56,22 @@ pub fn number(text: &[u8], least: u64, most: u64) -> Result<u64, TraceFault>
 pub fn station(text: &[u8]) -> Result<StationNumber, TraceFault>
     ensures { result ≡ station_field text.now }
 {
-    match StationNumber::try_new(number(text, 0, 127)? as u8) {
-        Some(station) => Ok(station),
-        None => unreachable!(),
-    }
+    let value = number(text, 0, 127)?;
+    Ok(StationNumber::new(value as u8))
 }
 
-pub(crate) fn bit_rate(text: &[u8]) -> Result<BitRate, TraceFault>
+pub(crate) fn bit_rate(text: &[u8]) -> Result<AggregateBitRate, TraceFault>
     ensures { result ≡ rate_field text.now }
 {
-    match BitRate::try_new(number(text, 1, 10_000_000_000)?) {
-        Some(rate) => Ok(rate),
-        None => unreachable!(),
-    }
+    let rate = number(text, 1, 10_000_000_000)?;
+    Ok(AggregateBitRate::new(rate))
 }
 
 pub(crate) fn ticks(text: &[u8]) -> Result<TraceTicks, TraceFault>
     ensures { result ≡ ticks_field text.now }
 {
-    match TraceTicks::try_new(number(text, 1, 1_000_000)? as u32) {
-        Some(ticks) => Ok(ticks),
-        None => unreachable!(),
-    }
+    let ticks = number(text, 1, 1_000_000)?;
+    Ok(TraceTicks::new(ticks as u32))
 }
 
 fn digit(octet: u8) -> Result<u8, TraceFault>
@@ -154,14 +149,10 @@ pub fn sized_octets<const N: usize>(text: &[u8]) -> Result<[u8; N], TraceFault>
     }
 }
 
-pub(crate) fn label(alloc: Global, text: &[u8]) -> Result<ApnLabel, TraceFault>
-    ensures { (result ≡ Err TraceFault.NoMemory) ⊎ (result ≡ label_field text.now) }
+pub(crate) fn label(text: &[u8]) -> Result<Apn, TraceFault>
+    ensures { result ≡ label_field text.now }
 {
-    match ApnLabel::try_new(alloc, text) {
-        Ok(Some(label)) => Ok(label),
-        Ok(None) => Err(TraceFault::BadNumber),
-        Err(_) => Err(TraceFault::NoMemory),
-    }
+    Apn::try_new(text).ok_or(TraceFault::BadNumber)
 }
 
 /// An IMSI in its fourteen or fifteen digits, else BadNumber.

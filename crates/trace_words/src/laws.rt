@@ -1,6 +1,6 @@
-//! Laws of what is written. Each function has the law as its contract, and does nothing.
+//! A law of what is written: the contract of a function that does nothing.
 
-ghost use Rattle.trace_words.specs.Lines.{AnswersAreLines, WrittenIsRead};
+ghost use Rattle.trace_words.specs.Lines.{WrittenIsRead};
 
 use nas_elements::text_is_imsi;
 
@@ -10,8 +10,3 @@ pub fn written_is_read()
 {
     text_is_imsi();
 }
-
-/// An answer is one line that ends with its LF, and is longer than its octets in hex by at most 80 octets.
-pub fn answers_are_lines()
-    ensures { AnswersAreLines }
-{}

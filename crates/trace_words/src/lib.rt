@@ -1,7 +1,6 @@
-//! The lines of a trace: what each says, and the lines of its answers.
+//! The lines of a trace: what each says, and how it is written.
 #![tactic(auto)]
 
-mod answer;
 mod fault;
 pub mod fields;
 mod laws;
@@ -9,9 +8,8 @@ mod line;
 mod values;
 mod written;
 
-pub use answer::{Answer, AnswerOwner, EcmWord, EmmWord, EsmWord, write_answer};
 pub use fault::TraceFault;
-pub use laws::{answers_are_lines, written_is_read};
-pub use line::{LONGEST_LINE, Line, MmeLine, parse_line, parse_words, split_words};
-pub use values::{ApnLabel, BitRate, TraceOctets, TraceTicks};
+pub use laws::written_is_read;
+pub use line::{LONGEST_LINE, Line, parse_line, parse_words, split_words};
+pub use values::{TraceOctets, TraceTicks};
 pub use written::{write_in, write_line, write_lost, write_up};

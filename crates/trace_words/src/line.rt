@@ -10,10 +10,12 @@ use crate::fault::TraceFault;
 use crate::fields::{
     bit_rate, imsi, is_named, label, octets, plmn, sized_octets, station, ticks, xres,
 };
-use crate::values::{ApnLabel, BitRate, TraceOctets, TraceTicks};
+use crate::values::{TraceOctets, TraceTicks};
 use identity_slots::{Profile, StationNumber, Vector};
 use memchr::memchr;
+use mme_types::Network;
 use nas_elements::Imsi;
+use per_bits::Octets;
 use std::alloc::{AllocError, Global};
 
 /// What a line of a trace says.
@@ -21,8 +23,8 @@ use std::alloc::{AllocError, Global};
 pub enum Line {
     /// Nothing: it is empty, or a comment.
     Skip,
-    /// `mme ..`: what the MME is.
-    Mme(MmeLine),
+    /// `mme MCC MNC GROUP CODE APN AMBRDOWN AMBRUP`: what the MME is, and what it grants each phone.
+    Mme(Network),
     /// `sub IMSI ADDRESS SGW TEID`: a subscriber is provisioned.
     Sub(Profile),
     /// `vec IMSI RAND AUTN XRES KASME`: a subscriber is given an authentication vector.
@@ -33,7 +35,7 @@ pub enum Line {
     Lost(StationNumber),
     /// `in E OCTETS`: a station sends one whole message.
     In(StationNumber, TraceOctets),
-    /// `tick N`: so many seconds pass.
+    /// `tick N`: N seconds pass.
     Tick(TraceTicks),
     /// `data IMSI`: downlink data waits for a subscriber.
     Data(Imsi),
@@ -41,23 +43,6 @@ pub enum Line {
     Cancel(Imsi),
     /// `show IMSI`: the states of a subscriber are asked for.
     Show(Imsi),
-}
-
-/// The fields of `mme MCC MNC GROUP CODE APN AMBRDOWN AMBRUP`.
-#[derive(Drop)]
-pub struct MmeLine {
-    /// The network, as S1AP packs its digits (TS 36.413 clause 9.2.3.8).
-    pub plmn: [u8; 3],
-    /// The group of MMEs.
-    pub group: [u8; 2],
-    /// The MME in its group.
-    pub code: [u8; 1],
-    /// Where bearers lead.
-    pub apn: ApnLabel,
-    /// Downlink rate of each phone.
-    pub down: BitRate,
-    /// Uplink rate of each phone.
-    pub up: BitRate,
 }
 
 /// The most octets of a line, without its LF.
@@ -138,7 +123,7 @@ pub fn parse_words(alloc: Global, words: &[&[u8]]) -> Result<Line, TraceFault>
         return Err(TraceFault::UnknownWord);
     };
     if is_named(word, "mme") {
-        return parse_mme(alloc, fields);
+        return parse_mme(fields);
     }
     if is_named(word, "sub") {
         return parse_sub(fields);
@@ -176,19 +161,18 @@ fn parse_event(alloc: Global, word: &[u8], fields: &[&[u8]]) -> Result<Line, Tra
     Err(TraceFault::UnknownWord)
 }
 
-fn parse_mme(alloc: Global, fields: &[&[u8]]) -> Result<Line, TraceFault>
-    ensures { (result ≡ Err TraceFault.NoMemory) ⊎ (result ≡ read_mme (map (λ f. f.now) fields.now)) }
+fn parse_mme(fields: &[&[u8]]) -> Result<Line, TraceFault>
+    ensures { result ≡ read_mme (map (λ f. f.now) fields.now) }
 {
     match fields {
         [country, network, group, code, apn, down, up] => {
-            mme_line(alloc, country, network, group, code, apn, down, up)
+            mme_line(country, network, group, code, apn, down, up)
         }
         _ => Err(TraceFault::FieldCount),
     }
 }
 
 fn mme_line(
-    alloc: Global,
     country: &[u8],
     network: &[u8],
     group: &[u8],
@@ -197,14 +181,13 @@ fn mme_line(
     down: &[u8],
     up: &[u8],
 ) -> Result<Line, TraceFault>
-    ensures { (result ≡ Err TraceFault.NoMemory)
-        ⊎ (result ≡ mme_of country.now network.now group.now code.now apn.now down.now up.now) }
+    ensures { result ≡ mme_of country.now network.now group.now code.now apn.now down.now up.now }
 {
-    Ok(Line::Mme(MmeLine {
-        plmn: plmn(country, network)?,
-        group: sized_octets::<2>(group)?,
-        code: sized_octets::<1>(code)?,
-        apn: label(alloc, apn)?,
+    Ok(Line::Mme(Network {
+        plmn: Octets::new(plmn(country, network)?),
+        group: Octets::new(sized_octets::<2>(group)?),
+        code: Octets::new(sized_octets::<1>(code)?),
+        apn: label(apn)?,
         down: bit_rate(down)?,
         up: bit_rate(up)?,
     }))

@@ -4,13 +4,13 @@ ghost use Rattle.std.specs.Prelude.{◌≡◌, ◌≤◌, ◌++◌, ℕ, List, c
 ghost use Rattle.std.specs.Fmt.{decimal};
 ghost use Rattle.hex.specs.Hex.{encode_lower};
 ghost use Rattle.nas_elements.specs.Digits.{imsi_text};
-ghost use Rattle.trace_words.specs.Trace.{◌␣◌, line_of, line_text, country_text, network_text};
+ghost use Rattle.trace_words.specs.Trace.{◌␣◌, line_of, line_text, octets_text, country_text, network_text};
 ghost use Rattle.trace_words.specs.Lines.{is_unbroken};
 ghost use Rattle.trace_words.specs.declared.line.Line.TheVariants.{Mme, Sub, Vec, Up, Lost, In};
 
-use crate::answer::write_octets;
-use crate::line::{Line, MmeLine};
+use crate::line::Line;
 use identity_slots::{Profile, StationNumber, Vector};
+use mme_types::Network;
 use nas_elements::{Imsi, text_is_imsi};
 use std::alloc::{AllocError, Global};
 
@@ -33,7 +33,7 @@ fn line_as_text(alloc: Global, line: &Line) -> Result<String, AllocError>
 {
     match line {
         Line::Skip => Ok(String::new(alloc)),
-        Line::Mme(fields) => write_mme(alloc, fields),
+        Line::Mme(network) => write_mme(alloc, network),
         Line::Sub(profile) => write_sub(alloc, profile),
         Line::Vec(imsi, vector) => write_vec(alloc, imsi, vector),
         Line::Up(station) => write_up(alloc, *station),
@@ -47,15 +47,15 @@ fn line_as_text(alloc: Global, line: &Line) -> Result<String, AllocError>
 }
 
 #[tactic(auto, unfolding(crate::specs::Trace::line_text))]
-fn write_mme(alloc: Global, fields: &MmeLine) -> Result<String, AllocError>
-    ensures { IfOk result (λ text. string_bytes text ≡ line_text (Mme fields.now)) }
+fn write_mme(alloc: Global, network: &Network) -> Result<String, AllocError>
+    ensures { IfOk result (λ text. string_bytes text ≡ line_text (Mme network.now)) }
 {
-    let mut text = write_plmn(alloc, &fields.plmn)?;
-    push_octets(alloc, &mut text, &fields.group)?;
-    push_octets(alloc, &mut text, &fields.code)?;
-    push_field(&mut text, fields.apn.as_str())?;
-    push_number(&mut text, fields.down.get())?;
-    push_number(&mut text, fields.up.get())?;
+    let mut text = write_plmn(alloc, &network.plmn.get())?;
+    push_octets(alloc, &mut text, network.group.as_slice())?;
+    push_octets(alloc, &mut text, network.code.as_slice())?;
+    push_field(&mut text, network.apn.as_str())?;
+    push_number(&mut text, network.down.get())?;
+    push_number(&mut text, network.up.get())?;
     Ok(text)
 }
 
@@ -179,8 +179,19 @@ fn push_octets(alloc: Global, text: &mut String, octets: &[u8]) -> Result<(), Al
     push_field(text, hex.as_str())
 }
 
+/// Octets in lower case, or `-` for none.
+fn write_octets(alloc: Global, octets: &[u8]) -> Result<String, AllocError>
+    ensures { IfOk result (λ text. string_bytes text ≡ octets_text octets.now) }
+{
+    if octets.is_empty() {
+        String::from_str(alloc, "-")
+    } else {
+        hex::encode(alloc, octets)
+    }
+}
+
 /// Appends a space and a field.
-pub(crate) fn push_field(text: &mut String, field: &str) -> Result<(), AllocError>
+fn push_field(text: &mut String, field: &str) -> Result<(), AllocError>
     ensures { OnOk result (string_bytes text.new ≡ string_bytes text.old ␣ field.now) }
 {
     text.push_str(" ")?;

@@ -1,6 +1,6 @@
 use Rattle.std.proofs.Common.{ℕ, ◌+◌, ◌*◌, List, ◌∷◌, ◌++◌, ap, ◌∙◌, subst, arith}
-use Rattle.trace_words.specs.Lines.{IsLineWithin, octets_said}
-use Rattle.trace_words.specs.Trace.{answer_text}
+use Rattle.trace_answers.specs.Lines.{IsLineWithin, octets_said}
+use Rattle.trace_answers.specs.Words.{answer_text}
 use Rattle.sim_printing.specs.PrintLaws.{AreComments-answer}
 use Rattle.sim_printing.proofs.comments.push_answer.Goals as goal
 

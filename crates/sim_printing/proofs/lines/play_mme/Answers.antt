@@ -6,11 +6,11 @@ use Rattle.sim_printing.proofs.lines.play_mme.Goals as goal
 
 pub returns-in-Err : goal.returns-in-Err
 returns-in-Err c =
-    PrintsLine-fault c.args.number (Mme c.args.fields.now)
-    (configured c.args.progress.now c.args.fields.now) c.args.progress.now c.start.new.progress c.args.out.now.items c.in-Err.fault
-    (mme_effect c.args.progress.now c.args.fields.now) c.in-Err.ensures.acts c.in-Err.ensures.write
+    PrintsLine-fault c.args.number (Mme c.args.network)
+    (configured c.args.progress.now c.args.network) c.args.progress.now c.start.new.progress c.args.out.now.items c.in-Err.fault
+    (mme_effect c.args.progress.now c.args.network) c.in-Err.ensures.acts c.in-Err.ensures.write
 
 pub returns-in-Ok-push_line : goal.returns-in-Ok-push_line
 returns-in-Ok-push_line c =
     Prints-provisioned c.first_word_tells.ensures c.args.progress.now c.start.new.progress c.args.out.now.items c.push_line.new.out.items c.args.text.now
-    (Mme c.args.fields.now) c.requires (λ s. cc s) (mme_effect c.args.progress.now c.args.fields.now ∙ c.in-Ok.ensures.acts) c.in-Ok-push_line.ensures
+    (Mme c.args.network) c.requires (λ s. cc s) (mme_effect c.args.progress.now c.args.network ∙ c.in-Ok.ensures.acts) c.in-Ok-push_line.ensures

@@ -1,5 +1,5 @@
 use Rattle.std.proofs.Common.{◌∙◌, take}
-use Rattle.trace_words.specs.Trace.{answer_text}
+use Rattle.trace_answers.specs.Words.{answer_text}
 use Rattle.trace_player.specs.FrontLaws.{IsPrefix-take, IsPrefix-of, IsPrefix-all}
 use Rattle.trace_player.proofs.answers.write_one.Goals as goal
 

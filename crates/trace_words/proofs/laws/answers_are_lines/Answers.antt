@@ -1,5 +1,0 @@
-use Rattle.trace_words.proofs.AnswerLines.{answers_are_lines}
-use Rattle.trace_words.proofs.laws.answers_are_lines.Goals as goal
-
-pub returns : goal.returns
-returns c = answers_are_lines
