@@ -1,12 +1,12 @@
 #!/usr/bin/env python3
 """Prints a trace for `mme play` in which subscribers attach one after another on one station.
 
-    attaches.py N [--release] [--information] [--no-show] [--answers FILE]
+    attaches.py N [--times T] [--release] [--information] [--no-show] [--answers FILE]
 
-Each of the N subscribers (1 to 32768) has one vector of its own and attaches by IMSI: ATTACH REQUEST, AUTHENTICATION RESPONSE,
+Each of the N subscribers (1 to 32768) has vectors of its own and attaches by IMSI: ATTACH REQUEST, AUTHENTICATION RESPONSE,
 SECURITY MODE COMPLETE, ESM INFORMATION RESPONSE where --information has the phone ask for it, INITIAL CONTEXT SETUP RESPONSE,
-ATTACH COMPLETE. With --release the station then asks for the release and completes it. At the end each is shown. FILE gets
-the answers that the MME owes, by the standards' formats (phones.py, lte.py).
+ATTACH COMPLETE. With --release the station then asks for the release and completes it. All do so T times (1 to 64), once where
+it isn't given; at the end each is shown. FILE gets the answers that the MME owes, by the standards' formats (phones.py, lte.py).
 """
 import argparse
 import sys
@@ -14,7 +14,7 @@ import sys
 import lte
 import phones
 
-MOST = lte.SLOTS
+MOST, MOST_TIMES = lte.SLOTS, 64
 
 
 def provisioned(count, vectors=1):
@@ -30,10 +30,10 @@ def provisioned(count, vectors=1):
     return trace, station, made
 
 
-def attached(count, release=False, information=False, show=True):
+def attached(count, release=False, information=False, show=True, times=1):
     """The trace of so many attaches, one after another; the station's ids of phones count from 1."""
-    trace, station, made = provisioned(count)
-    for phone in made:
+    trace, station, made = provisioned(count, times)
+    for phone in made * times:
         phone.attaches(station, phone.slot + 1, information=information)
         if release:
             phone.is_released()
@@ -46,12 +46,13 @@ def attached(count, release=False, information=False, show=True):
 def main():
     parser = argparse.ArgumentParser(description=__doc__, formatter_class=argparse.RawDescriptionHelpFormatter)
     parser.add_argument("count", type=int, choices=range(1, MOST + 1), metavar="N")
+    parser.add_argument("--times", type=int, choices=range(1, MOST_TIMES + 1), default=1, metavar="T")
     parser.add_argument("--release", action="store_true")
     parser.add_argument("--information", action="store_true")
     parser.add_argument("--no-show", action="store_true")
     parser.add_argument("--answers", metavar="FILE")
     given = parser.parse_args()
-    trace = attached(given.count, given.release, given.information, not given.no_show)[0]
+    trace = attached(given.count, given.release, given.information, not given.no_show, given.times)[0]
     if given.answers:
         with open(given.answers, "w") as file:
             file.write(trace.answer_text())

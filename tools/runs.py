@@ -14,7 +14,10 @@ import subprocess
 import sys
 import tempfile
 
+import progress
 import s1ap
+from causes import nas_cause
+from eps import messages, quick
 
 LONGEST_LINE = 40000  # octets
 STATIONS = 128
@@ -48,12 +51,16 @@ class Step:
         self.event, self.second, self.answers = event, second, []
 
 
+@functools.lru_cache(1)
+def standard_input():
+    """All of it, whoever asks first."""
+    return sys.stdin.buffer.read()
+
+
 def read_file(path):
     """The octets of a file, or of standard input for `-`."""
     try:
-        if path == "-":
-            return sys.stdin.buffer.read()
-        return pathlib.Path(path).read_bytes()
+        return standard_input() if path == "-" else pathlib.Path(path).read_bytes()
     except OSError as fault:
         raise Fault("%s: %s" % (path, fault.strerror)) from None
 
@@ -61,6 +68,7 @@ def read_file(path):
 # --- Lines ---
 
 
+@functools.lru_cache(1 << 10)
 def number(text, low, high):
     digits = text.lstrip("0") or "0"
     if not (text.isascii() and text.isdigit() and len(digits) < 20 and low <= int(digits) <= high):
@@ -71,9 +79,13 @@ def number(text, low, high):
 def octets_of(text):
     if text == "-":
         return b""
-    if not re.fullmatch("(?:[0-9a-fA-F]{2})+", text):
+    try:
+        octets = bytes.fromhex(text)
+    except ValueError:
+        octets = b""
+    if not octets or 2 * len(octets) != len(text):  # (spaces may stand between octets elsewhere)
         raise Fault("%r aren't octets in hex" % text[:40])
-    return bytes.fromhex(text)
+    return octets
 
 
 def imsi_of(text):
@@ -112,7 +124,8 @@ def fields_of(text, counts):
 
 def lines_of(octets, name, read, comments=False):
     """Reads each line that isn't empty, of those that are comments or of those that aren't; a fault gets the line's number."""
-    for line, text in enumerate(octets.split(b"\n"), 1):
+    lines = octets.split(b"\n")
+    for line, text in enumerate(progress.over("reads line", lines, len(lines)), 1):
         if text:
             try:
                 if len(text) > LONGEST_LINE:
@@ -261,23 +274,65 @@ TIMED_OUT = "nas unspecified"
 TIMERS = {0x42: 6, 0x49: 6, 0x45: 6, 0x52: 6, 0x5D: 6, 0x55: 6, 0xD9: 4}
 PAGING_TIMER = 10  # T3413, which the network chooses (TS 24.301 table 10.2.2)
 
-Content = collections.namedtuple("Content", "message name outcome mme_id enb_id cause nas")
+# What is read of a message. `outcome` is a pair of its procedure's code and which of its messages it is; `tmsi` the M-TMSI in the
+# element S-TMSI; `listed` the associations that it lists; `said` has its causes and its fault in words; `fails` says whether it
+# refuses, fails, or can't be read.
+Content = collections.namedtuple("Content", "name code outcome fault mme_id enb_id cause nas tmsi listed said fails")
+# NAS messages that refuse or fail (TS 24.301 clause 9.8): rejects, failures and statuses.
+NAS_FAULTS = {0x44, 0x4B, 0x4E, 0x54, 0x5C, 0x5F, 0x60, 0xC3, 0xD1, 0xD3, 0xE8}
+
+
+class Kept:
+    """The content of a message with where its parts stand, for those of its shape."""
+
+    def __init__(self, octets, made):
+        found = s1ap.spans(octets)
+        self.made, self.nas = made, quick.nas_span(octets, found)
+        self.tmsi = None if made.tmsi is None else found[s1ap.S_TMSI][1] - TMSI_OCTETS
+
+    def of(self, octets, ids):
+        """The content of another message with these ids."""
+        name, code, outcome, fault, mme_id, enb_id, cause, nas, tmsi, listed, said, fails = self.made
+        if nas and self.nas:
+            end = self.nas[1]
+            nas = s1ap.Nas(nas.header, nas.type, octets[end - len(nas.octets):end], nas.name)
+        if self.tmsi:
+            tmsi = int.from_bytes(octets[self.tmsi:self.tmsi + TMSI_OCTETS], "big")
+        mme_id, enb_id = None if mme_id is None else ids[0], None if enb_id is None else ids[-1]
+        return Content(name, code, outcome, fault, mme_id, enb_id, cause, nas, tmsi, listed, said, fails)
+
+
+TMSI_OCTETS = 4
+SHAPES = quick.Shapes()
 
 
 @functools.lru_cache(1 << 10)
 def content(octets):
     """What is read of a message."""
+    found = SHAPES.find(octets)
+    return found[0].of(octets, found[1]) if found else met(octets)
+
+
+def met(octets):
+    """What is read of a message of another shape than those before; its own is kept, where it has one."""
     message = s1ap.read(octets)
-    return Content(message, s1ap.name(message), (message.code, message.outcome), *s1ap.ids(message), s1ap.cause(message),
-                   s1ap.nas(s1ap.carried(message)))
+    cause, nas = s1ap.cause(message), s1ap.nas(s1ap.carried(message))
+    said = (cause, nas_cause(nas) if nas else None, message.fault and "can't be read: " + message.fault)
+    fails = message.outcome == s1ap.UNSUCCESSFUL or message.code == s1ap.ERROR or nas is not None and nas.type in NAS_FAULTS
+    made = Content(s1ap.name(message), message.code, (message.code, message.outcome), message.fault, *s1ap.ids(message), cause, nas,
+                   s1ap.tmsi(message), s1ap.listed(message), "; ".join(filter(None, said)), bool(message.fault) or fails)
+    holes = quick.holes_of(messages.decode(octets), None)
+    if holes is not None:
+        SHAPES.keep(octets, quick.Shape(octets, holes, Kept(octets, made)))
+    return made
 
 
 def may_follow(first, second):
     """Whether two messages for one phone may answer one message: the release of an old connection is first, that of its own is
     after what refuses or detaches the phone."""
-    if first.message.code == s1ap.RELEASE:
-        return second.message.code != s1ap.RELEASE
-    return first.nas is not None and first.nas.type in LAST_OF_CONNECTION and second.message.code == s1ap.RELEASE
+    if first.code == s1ap.RELEASE:
+        return second.code != s1ap.RELEASE
+    return first.nas is not None and first.nas.type in LAST_OF_CONNECTION and second.code == s1ap.RELEASE
 
 
 class Causes:
@@ -293,7 +348,7 @@ class Causes:
             return heard.mme_id >> SLOT_BITS
         imsi, tmsi = s1ap.identity(heard.nas) if heard.nas else (None, None)
         if tmsi is None:
-            tmsi = s1ap.tmsi(heard.message)
+            tmsi = heard.tmsi
         if imsi is not None:
             return self.slots.get(imsi)
         return None if tmsi is None else tmsi >> SLOT_BITS
@@ -311,10 +366,10 @@ class Causes:
         event = step.event
         if answer.owner != "e%d" % event.station or any(other.owner == answer.owner for _, other in step.answers):
             return False
-        if said.message.code != s1ap.ERROR:
-            same = s1ap.listed(heard.message) == s1ap.listed(said.message)
-            return same and heard.outcome == (said.message.code, s1ap.INITIATING)
-        wrong = heard.message.fault or heard.outcome not in s1ap.OF_STATION
+        if said.code != s1ap.ERROR:
+            same = heard.listed == said.listed
+            return same and heard.outcome == (said.code, s1ap.INITIATING)
+        wrong = heard.fault or heard.outcome not in s1ap.OF_STATION
         return bool(wrong) or event.station not in self.ready
 
     def fits_message(self, step, answer, said):
@@ -322,22 +377,22 @@ class Causes:
         event, heard = step.event, content(step.event.octets)
         if answer.owner[0] == "e":
             return self.fits_station(step, heard, answer, said)
-        if said.message.code == s1ap.ERROR:
+        if said.code == s1ap.ERROR:
             return (heard.mme_id, heard.enb_id) == (said.mme_id, said.enb_id)
-        if said.message.code == s1ap.PATH_SWITCH:
+        if said.code == s1ap.PATH_SWITCH:
             return heard.outcome == (s1ap.PATH_SWITCH, s1ap.INITIATING) and heard.enb_id == said.enb_id
         before = [content(other.octets) for _, other in step.answers if other.owner == answer.owner]
         if before and not may_follow(before[-1], said) or not self.concerns(event, heard, answer, said):
             return False
         kind = heard.nas.type if heard.nas else None
-        first = heard.message.code == s1ap.INITIAL_UE
-        if said.message.code == s1ap.CONTEXT_SETUP:
+        first = heard.code == s1ap.INITIAL_UE
+        if said.code == s1ap.CONTEXT_SETUP:
             return kind in SETS_UP_CONTEXT
-        if said.message.code == s1ap.RELEASE:
-            asked = heard.message.code == s1ap.RELEASE_REQUEST or heard.outcome == (s1ap.CONTEXT_SETUP, s1ap.UNSUCCESSFUL)
+        if said.code == s1ap.RELEASE:
+            asked = heard.code == s1ap.RELEASE_REQUEST or heard.outcome == (s1ap.CONTEXT_SETUP, s1ap.UNSUCCESSFUL)
             updated = kind == s1ap.TAU_COMPLETE and answer.owner in self.from_idle
             return first or asked or updated or bool(before) or kind in ENDS_CONNECTION
-        if said.message.code == s1ap.DOWNLINK_NAS and heard.nas and said.nas:
+        if said.code == s1ap.DOWNLINK_NAS and heard.nas and said.nas:
             return said.nas.type in ANSWERS_TO.get(kind, ()) or said.nas.type in STATUSES and kind not in UNANSWERED
         return False
 
@@ -351,8 +406,8 @@ class Causes:
         named = answer.owner == "s%s" % self.slots.get(event.imsi)
         if event.word == "data":
             paged = any(other.station == answer.station for _, other in step.answers)
-            return named and not paged and said.message.code == s1ap.PAGING
-        return event.word == "cancel" and named and said.message.code in (s1ap.RELEASE, s1ap.DOWNLINK_NAS)
+            return named and not paged and said.code == s1ap.PAGING
+        return event.word == "cancel" and named and said.code in (s1ap.RELEASE, s1ap.DOWNLINK_NAS)
 
     @staticmethod
     def kind_of(said):
@@ -366,7 +421,7 @@ class Causes:
                 return None
             if other.owner == answer.owner and other.octets == answer.octets and other.station < answer.station:
                 return second
-        timed_out = said.message.code == s1ap.RELEASE and said.cause == TIMED_OUT
+        timed_out = said.code == s1ap.RELEASE and said.cause == TIMED_OUT
         due = self.due.get(answer.owner, step.second)
         if timed_out or self.kind_of(said) in self.sent.get(answer.owner, ()):
             return due if step.second < due <= step.second + step.event.ticks else None
@@ -377,17 +432,17 @@ class Causes:
         self.sent.setdefault(answer.owner, set()).add(self.kind_of(said))
         if said.outcome == (s1ap.SETUP, s1ap.SUCCESSFUL):
             self.ready.add(answer.station)
-        timer = PAGING_TIMER if said.message.code == s1ap.PAGING else TIMERS.get(said.nas.type if said.nas else None)
+        timer = PAGING_TIMER if said.code == s1ap.PAGING else TIMERS.get(said.nas.type if said.nas else None)
         if timer:
             self.due[answer.owner] = second + timer
         if said.nas and said.nas.type == TAU_ACCEPT and step.event.word == "in":
-            first = content(step.event.octets).message.code == s1ap.INITIAL_UE
+            first = content(step.event.octets).code == s1ap.INITIAL_UE
             (self.from_idle.add if first else self.from_idle.discard)(answer.owner)
 
     def give(self, steps, answers):
         """Gives each answer to the first step, not before that of the answer before, which fits it; else to the one before."""
         at = 0
-        for answer in answers:
+        for answer in progress.over("finds the event of answer", answers, len(answers)):
             said = content(answer.octets)
             fitting = (place for place in range(at, len(steps)) if self.fits(steps[place], answer, said))
             at = next(fitting, at)
@@ -530,4 +585,6 @@ def run_of(trace_path, answers_path, program=None):
     if answers_path is not None:
         return trace, matched(trace, read_answers(read_file(answers_path), answers_path))
     comments = [] if program else read_told(octets, trace_path)
+    if not trace.events:
+        return trace, []
     return trace, told(trace, comments) if comments else played(trace, program or SYSTEM)

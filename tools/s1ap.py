@@ -105,6 +105,7 @@ EMM_NAMES = {
     0x5F: "SECURITY MODE REJECT", 0x60: "EMM STATUS", 0x61: "EMM INFORMATION", 0x62: "DOWNLINK NAS TRANSPORT",
     0x63: "UPLINK NAS TRANSPORT", 0x64: "CS SERVICE NOTIFICATION", SERVICE_REQUEST: "SERVICE REQUEST",
 }
+EMM_TYPES = {kind: name for kind, name in EMM_NAMES.items() if kind != SERVICE_REQUEST}  # those that have a message type
 ESM_NAMES = {
     0xC1: "ACTIVATE DEFAULT EPS BEARER CONTEXT REQUEST", 0xC2: "ACTIVATE DEFAULT EPS BEARER CONTEXT ACCEPT",
     0xC3: "ACTIVATE DEFAULT EPS BEARER CONTEXT REJECT", 0xC5: "ACTIVATE DEDICATED EPS BEARER CONTEXT REQUEST",
@@ -182,8 +183,8 @@ SHORT, FRAGMENTED = 0x80, 0xC0  # lengths below the first stand in one octet, fr
 ODD_BITS, NO_CRITICALITY = 0x3F, 0xC0  # of an octet with a criticality: the bits after it, and a value that there isn't
 
 
-def sized(octets, at):
-    """The octets after a length in the fewest octets, and where they end; None where it isn't so written."""
+def sized_span(octets, at):
+    """Where the octets after a length in the fewest octets begin and end; None where it isn't so written."""
     length = octets[at]
     at += 1
     if length >= SHORT:
@@ -191,27 +192,39 @@ def sized(octets, at):
         at += 1
         if length < SHORT or first >= FRAGMENTED:
             return None, at
-    return octets[at:at + length], at + length
+    return at, at + length
 
 
-def usual(octets):
-    """The elements of a message that is spelled as usual: nothing extended, each element once; else None."""
+def sized(octets, at):
+    """The octets after a length in the fewest octets, and where they end; None where it isn't so written."""
+    start, end = sized_span(octets, at)
+    return None if start is None else octets[start:end], end
+
+
+def spans(octets):
+    """Where each element of a message that is spelled as usual begins and ends: nothing extended, each element once; else None."""
     try:
-        value, end = sized(octets, 3)
-        if end != len(octets) or octets[0] & 0x9F or octets[0] >> 5 > UNSUCCESSFUL:
+        start, end = sized_span(octets, 3)
+        if start is None or end != len(octets) or octets[0] & 0x9F or octets[0] >> 5 > UNSUCCESSFUL or octets[start]:
             return None
         if octets[2] & ODD_BITS or octets[2] == NO_CRITICALITY:
             return None
-        elements, at = {}, 3
-        for _ in range(value[1] << 8 | value[2]):
-            number, criticality = value[at] << 8 | value[at + 1], value[at + 2]
-            content, at = sized(value, at + 3)
-            if content is None or number in elements or criticality & ODD_BITS or criticality == NO_CRITICALITY:
+        found, at = {}, start + 3
+        for _ in range(octets[start + 1] << 8 | octets[start + 2]):
+            number, criticality = octets[at] << 8 | octets[at + 1], octets[at + 2]
+            first, at = sized_span(octets, at + 3)
+            if first is None or number in found or criticality & ODD_BITS or criticality == NO_CRITICALITY:
                 return None
-            elements[number] = content
-        return None if value[0] or at != len(value) else elements
-    except (IndexError, TypeError):
+            found[number] = first, at
+        return found if at == end else None
+    except IndexError:
         return None
+
+
+def usual(octets):
+    """The elements of a message that is spelled as usual; else None."""
+    found = spans(octets)
+    return None if found is None else {number: octets[start:end] for number, (start, end) in found.items()}
 
 
 def usual_number(octets):
@@ -455,7 +468,7 @@ def nas_name(octets, kind):
     if kind is None:
         return "unreadable NAS"
     of_session = octets[0] & 0xF == ESM
-    names, with_cause = (ESM_NAMES, ESM_WITH_CAUSE) if of_session else (EMM_NAMES, EMM_WITH_CAUSE)
+    names, with_cause = (ESM_NAMES, ESM_WITH_CAUSE) if of_session else (EMM_TYPES, EMM_WITH_CAUSE)
     place = 3 if of_session else 2
     text = names.get(kind, "%s type %02x" % ("ESM" if of_session else "EMM", kind))
     return text + " cause %d" % octets[place] if kind in with_cause and len(octets) > place else text

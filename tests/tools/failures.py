@@ -18,6 +18,7 @@ FAILURES = []
 NOBODYS_IMSI = "001010000000009"
 FAILED = ((2, 2), 1)  # nas authentication-failure (TS 36.413 clause 9.2.1.3)
 ALGORITHMS_WITHOUT_EIA2 = b"\xe0\x40"
+STATUS = b"\x07\x60\x61"
 OTHER_NETWORK = phones.Network("208", "93")
 
 
@@ -96,7 +97,8 @@ def unknown_imsi():
 
 @failure("""\
 IMSI 001010000000001
-! line 7, 0 s: ATTACH REQUEST is refused: the phone's capability hasn't 128-EIA2 (TS 33.401 clause 7.2.4)
+! line 7, 0 s: ATTACH REQUEST is refused: the phone doesn't have 128-EIA2, the only integrity algorithm here \
+(TS 33.401 clause 7.2.4)
   at the end: Deregistered (its attach was refused)
 """)
 def no_eia2():
@@ -109,7 +111,7 @@ def no_eia2():
 
 @failure("""\
 IMSI 001010000000001
-! line 7, 0 s: ATTACH REQUEST is refused: the phone asks for IPv6 alone, and has an IPv4 address (TS 24.301 clause 6.5.1.4)
+! line 7, 0 s: ATTACH REQUEST is refused: the phone asks for IPv6 alone, and its subscription has IPv4 (TS 24.301 clause 6.5.1.4)
   at the end: Deregistered (its attach was refused)
 """)
 def ipv6_alone():
@@ -164,7 +166,7 @@ def cause_20():
 @failure("""\
 IMSI 001010000000001
 ! line 8, 0 s: AUTHENTICATION FAILURE #26 Non-EPS authentication unacceptable fails: \
-the AUTN of vector 1 hasn't the separation bit (TS 24.301 clause 5.4.2.7)
+the AUTN of vector 1 lacks the separation bit, which a vector for LTE has (TS 24.301 clause 5.4.2.7)
   at the end: Deregistered (its authentication failed)
 """)
 def cause_26():
@@ -246,7 +248,8 @@ def wrong_pair():
 
 @failure("""\
 IMSI 001010000000001
-! line 13, 0 s: ATTACH REQUEST is refused: no vector is left: all 1 were spent (TS 24.301 clause 5.4.2.2)
+! line 13, 0 s: ATTACH REQUEST is refused: no vector is left: the phone was given 1, and each challenge takes one \
+(TS 24.301 clause 5.4.2.2)
   at the end: Deregistered (its attach was refused)
 """)
 def no_vector_left():
@@ -365,7 +368,8 @@ def answer_after_the_release():
 
 @failure("""\
 IMSI 001010000000001
-! line 12, 0 s: DETACH REQUEST is dropped: header 4 isn't taken here: it belongs to SECURITY MODE COMPLETE (TS 24.301 clause 9.3.1)
+! line 12, 0 s: DETACH REQUEST is dropped: security header 4 isn't taken here: it belongs to SECURITY MODE COMPLETE \
+(TS 24.301 clause 9.3.1)
   at the end: Registered connected
 """)
 def header_4():
@@ -378,7 +382,7 @@ def header_4():
 
 @failure("""\
 IMSI 001010000000001
-! line 9, 0 s: SECURITY MODE COMPLETE is dropped: the message is plain, and here only a protected one is heard \
+! line 9, 0 s: SECURITY MODE COMPLETE is dropped: the message isn't protected, and only a protected one is taken here \
 (TS 24.301 clause 4.4.4.3)
   at the end: SecurityMode
 """)
@@ -392,11 +396,115 @@ def plain_completion():
 @failure("""\
 IMSI 001010000000001
 ! line 9, 0 s: the phone loses its connection: station 0 was lost, which ended the phone's connection \
-(TS 36.413 clause 8.7.1.2.2; line 7)
+(TS 36.412 clause 7; line 7)
   at the end: Deregistered (its connection was lost)
 """)
 def station_lost():
     """The station is lost in the midst of the attach."""
     trace, _, _ = secured()
     trace.say("lost 0")
+    return trace
+
+
+@failure("""\
+IMSI 001010000000001
+! line 13, 0 s: EMM STATUS #97 Message type non-existent or not implemented is dropped: its count 2 is below 3, which was accepted \
+at line 12 (TS 24.301 clause 4.4.3.2; line 12)
+  at the end: Registered connected
+""")
+def passed_count():
+    """Two messages in the wrong order: the second comes too late, and isn't a replay."""
+    trace, phone, _ = registered()
+    first, second = (phone.protected_up(STATUS) for _ in range(2))
+    phone.sends(second)
+    phone.sends(first)
+    return trace
+
+
+@failure("""\
+A stranger, eNB UE S1AP ID 1 at station 0
+! line 7, 0 s: ATTACH REQUEST is refused: the request can't be read: the mandatory part ends too early (TS 24.301 clause 7.5.1)
+""")
+def cut_request():
+    """ATTACH REQUEST is cut after the phone's identity."""
+    trace, phone, station = begun()
+    trace.hear(station, lte.initial_ue_message(trace.network, station, 1, b"\x07\x41\x71" + lte.imsi_identity(phone.imsi)))
+    trace.owe("x0.1", station, lte.downlink_nas((1 << 31) + 1, 1, b"\x07\x44\x60"))
+    trace.owe("x0.1", station, lte.release_command((1 << 31) + 1, 1, lte.NORMAL_RELEASE))
+    return trace
+
+
+@failure("""\
+IMSI 001010000000001
+! line 12, 0 s: an unreadable NAS message is dropped: it is too short for the security header that it has (TS 24.301 clause 9.1)
+  at the end: Registered connected
+""")
+def cut_in_its_protection():
+    """A protected message of three octets."""
+    trace, phone, _ = registered()
+    phone.sends(b"\x27\0\1")
+    return trace
+
+
+@failure("""\
+IMSI 001010000000001
+! line 7, 0 s: TRACKING AREA UPDATE REQUEST is refused: the phone isn't registered: it is in Deregistered (it hasn't attached yet) \
+(TS 24.301 clause 5.5.3.2.5)
+  at the end: Deregistered (it hasn't attached yet)
+""")
+def update_before_attach():
+    """The first that the phone does is an update, by a GUTI that would be its own."""
+    trace, phone, station = begun()
+    phone.sends_first(station, 1, lte.tau_request(0, 0, trace.network, lte.id_of_slot(0, 1)))
+    phone.owed_nas(b"\x07\x4b\x0a")
+    phone.owed(lte.release_command(phone.m, phone.b, lte.NORMAL_RELEASE))
+    return trace
+
+
+@failure("""\
+IMSI 001010000000001
+! line 15, 20 s: the phone is paged no more: T3413 ended the second time: the phone didn't answer the paging \
+(TS 24.301 clause 5.6.2.2)
+  at the end: Registered idle
+""")
+def paging_unanswered():
+    """An idle phone doesn't answer the paging."""
+    trace, phone, station = registered()
+    phone.is_released()
+    phone.has_data_waiting([station])
+    trace.say("tick 30")
+    phone.is_paged([station])
+    return trace
+
+
+@failure("""\
+IMSI 001010000000001
+! line 13, 0 s: the phone loses its connection: station 0 set up again, which ended the phone's connection \
+(TS 36.413 clause 8.7.3.1; line 7)
+  at the end: Registered idle
+
+Nobody
+! line 12, 0 s: the end of a subscription is refused: nobody is provisioned with IMSI 001010000000009 (README.md, A trace)
+""")
+def set_up_again():
+    """`cancel` of nobody, and a station that sets up its interface again."""
+    trace, phone, station = registered()
+    trace.say("cancel " + NOBODYS_IMSI)
+    trace.answers.append("refused 5")
+    trace.set_up(station, connects=False)
+    return trace
+
+
+@failure("""\
+A stranger, eNB UE S1AP ID 1 at station 0
+! line 7, 0 s: EMM message type c7 is answered by a release: the message names nobody who is provisioned here \
+(TS 24.301 clause 4.4.4.3)
+""")
+def type_that_no_message_has():
+    """What would be an ATTACH REQUEST has another type, which is the first octet of SERVICE REQUEST (TS 24.301 clause 8.2.25)."""
+    trace, phone, station = begun()
+    esm = lte.pdn_connectivity_request(1, 1, False)
+    nas = b"\x07\xc7" + lte.attach_request(1, lte.imsi_identity(phone.imsi), phone.capability, esm)[2:]
+    trace.hear(station, lte.initial_ue_message(trace.network, station, 1, nas))
+    trace.owe("x0.1", station, lte.release_command((1 << 31) + 1, 1, lte.NAS_UNSPECIFIED))
     return trace

@@ -19,9 +19,9 @@ def packets_of(octets, *fields):
 
 def capture_of(trace, answers):
     read = RUNS.read_trace(trace.encode())
-    steps = STORY.exact_steps(read, RUNS.read_answers(answers.encode()))
-    writer = CAPTURE.write_steps(steps, read.imsis, STORY.story_of(read, steps)[0])
-    return b"".join(CAPTURE.pcapng(writer, RUNS.end_of(steps)))
+    run = STORY.exact_run(read, RUNS.read_answers(answers.encode()))
+    writer = CAPTURE.write_steps(run.steps, read.imsis, run.told)
+    return b"".join(CAPTURE.pcapng(writer, RUNS.end_of(run.steps)))
 
 
 @unittest.skipIf(dissection.IS_MISSING, "no tshark")

@@ -51,7 +51,7 @@ second    P1                                     E0                             
   +6 s    :                                      :                                 :
     24    |<-- AUTHENTICATION REQUEST (4 of 4) --|<---- DOWNLINK NAS TRANSPORT ----|
   +6 s    :                                      :                                 :
-    30    |                                      |                                 |  P1 is given up: T3460 ended the
+    30 !  |                                      |                                 |  P1 is given up: T3460 ended the
           |                                      |                                 |     fifth time without an answer,
           |                                      |                                 |     so the network gave up
           |                                      |<-- UE CONTEXT RELEASE COMMAND --|  P1 nas unspecified
@@ -178,7 +178,7 @@ class Text(unittest.TestCase):
     def test_phone_of_another_mme(self):
         """A phone that comes with a foreign GUTI is the one whose IMSI it then tells."""
         rows, _ = rows_of("foreign_guti")
-        [phone] = CHART.lanes_of(rows)[0]
+        [phone] = CHART.Ends(rows).phones
         self.assertEqual(phone.name(), "IMSI 001010000000001")
 
     def test_phones_that_are_not_known(self):
@@ -188,7 +188,7 @@ class Text(unittest.TestCase):
                              ("guti_of_other_plmn", ["IMSI 001010000000001", "UE 2 at station 0"]),
                              ("unknown_mme_id", ["UE 1 at station 0"])):
             with self.subTest(row=name):
-                self.assertEqual([phone.name() for phone in CHART.lanes_of(rows_of(name)[0])[2]], phones)
+                self.assertEqual([phone.name() for phone in CHART.Ends(rows_of(name)[0]).told], phones)
 
     def test_phones_and_stations(self):
         """Each phone and each station has its lane: a path switch moves no phone to another."""
@@ -196,9 +196,9 @@ class Text(unittest.TestCase):
                                        ("two_phones_on_two_stations", ["001010000000001", "001010000000002"], [0, 127]),
                                        ("two_phones_on_one_radio_id", ["001010000000001", "001010000000002"], [0])):
             with self.subTest(row=name):
-                found = CHART.lanes_of(rows_of(name)[0])
-                self.assertEqual([phone.name() for phone in found[0]], ["IMSI " + imsi for imsi in phones])
-                self.assertEqual(found[1], stations)
+                found = CHART.Ends(rows_of(name)[0])
+                self.assertEqual([phone.name() for phone in found.phones], ["IMSI " + imsi for imsi in phones])
+                self.assertEqual(found.stations, stations)
 
     def test_many_phones(self):
         """They share a lane, and each arrow says whose it is."""
@@ -210,6 +210,8 @@ class Text(unittest.TestCase):
         self.assertEqual(len(re.findall(r"- P\d+ ATTACH REQUEST -", text)), 60)
         self.assertIn("- P60 ATTACH COMPLETE -", text)
         self.assertIn("P60  IMSI 001010000000060", text)
+        legend = text.partition("\n\n")[0].split("\n")
+        self.assertEqual((len(legend), re.findall(r"P\d+|E0", "".join(legend))), (16, ["P%d" % at for at in range(1, 61)] + ["E0"]))
 
     def test_one_phone(self):
         words = [tools.ROWS / "two_phones_on_two_stations.trace", tools.ROWS / "two_phones_on_two_stations.answers"]

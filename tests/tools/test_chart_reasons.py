@@ -31,8 +31,8 @@ def rows_of(name):
     """The rows of a failure, with its reasons, and the second at the end."""
     trace = next(failure for failure in failures.FAILURES if failure.name == name).make()
     read = RUNS.read_trace(trace.text().encode())
-    steps = STORY.exact_steps(read, RUNS.read_answers(trace.answer_text().encode()))
-    return CHART.rows_of(read, steps, STORY.story_of(read, steps)[0]), RUNS.end_of(steps)
+    run = STORY.exact_run(read, RUNS.read_answers(trace.answer_text().encode()))
+    return CHART.rows_of(read, run.steps, run.told), RUNS.end_of(run.steps)
 
 
 def text_of(name):
@@ -51,13 +51,14 @@ class Text(unittest.TestCase):
         for failure in failures.FAILURES:
             with self.subTest(failure=failure.name):
                 rows, _ = rows_of(failure.name)
-                CHART.lanes_of(rows)
+                CHART.Ends(rows)
                 said = " ".join(CHART.note_texts(row) for row in rows)
-                for line in failure.words.splitlines():
+                for line in re.findall(r"^!.*\(TS .*", failure.words, re.M):
                     reason = re.fullmatch(r"! line \d+, \d+ s: .*?(?: is refused| fails| is dropped(?: \(\w+\))?|challenge|"
-                                          r" is given up| comes too late| isn't the phone's| loses its connection): (.*) \(TS .*\)",
-                                          line)
-                    self.assertTrue(line[0] != "!" or reason and reason[1] in said, line)
+                                          r" is given up| is paged no more| is answered by a release|"
+                                          r" comes too late| isn't the phone's|"
+                                          r" loses its connection): (.*) \(TS .*\)", line)
+                    self.assertTrue(reason and reason[1] in said, line)
                 self.assertEqual(any(row.dropped for row in rows), " is dropped" in failure.words)
 
     def test_states_have_times(self):
@@ -91,6 +92,26 @@ class Text(unittest.TestCase):
         os.close(ours)
         return text.decode().replace("\r", "").splitlines()
 
+    def test_what_is_marked(self):
+        """A phone that is given up is marked like what is refused, and what is said of one message is parted."""
+        for name, marked in (("t3460", "P1 is given up: T3460 ended the fifth time without an answer, so the network gave up"),
+                             ("cause_26", "#26 Non-EPS authentication unacceptable; the AUTN of vector 1 lacks the separation bit, "
+                                          "which a vector for LTE has")):
+            with self.subTest(failure=name):
+                rows, _ = rows_of(name)
+                CHART.Ends(rows)
+                self.assertIn(marked, [CHART.note_texts(row) for row in rows if row.kind == CHART.FAULT])
+
+    def test_marks_are_not_cut(self):
+        """Where an arrow is too short for its label, the name loses its end, and the mark stays (T3450 has 4 repeats)."""
+        rows, end = rows_of("t3450")
+        for width in (80, 100):
+            text = CHART.text_of(rows, end, width)
+            for mark in ("(%d of 4)" % at for at in range(1, 5)):
+                with self.subTest(width=width, mark=mark):
+                    self.assertRegex(text, r"<-* ?A[A-Z ]*(\.\.)? %s -" % re.escape(mark))
+        self.assertIn("(replayed)", CHART.text_of(*rows_of("used_count"), 100))
+
     def test_long_runs(self):
         """A run that is too long for reasons says so, and has them where they are asked for."""
         with tempfile.NamedTemporaryFile("w", suffix=".trace") as trace, tempfile.NamedTemporaryFile(suffix=".answers") as answers:
@@ -100,7 +121,8 @@ class Text(unittest.TestCase):
             self.assertEqual(done.returncode, 0)
             self.assertIn(b"drawn without reasons", done.stderr)
             said = " ".join(self.at_terminal(trace.name, 80, answers.name, stream="stderr"))
-            self.assertIn("chart: reads event 20000 of %d" % (STORY.MOST_TOLD + 2), said)
+            for doing in ("reads line", "places event", "draws row"):
+                self.assertRegex(said, r"chart: %s \d+ of \d+" % doing)
 
 
 class Svg(unittest.TestCase):
@@ -119,6 +141,11 @@ class Svg(unittest.TestCase):
         steps = [after - before for before, after in zip(heads, heads[1:] + [float(root.get("height"))])]
         self.assertGreater(len(heads), 1)
         self.assertLess(max(steps), CHART.SCREEN_HEIGHT + 100)
+
+    def test_marks_are_red(self):
+        """The `!` of a fault has the fault's colour, though heads have their own."""
+        style = CHART.STYLE
+        self.assertGreater(style.index(".fault text.head { fill: var(--fault) }"), style.index("text.head {"))
 
     def test_times_have_their_own_colour(self):
         style = CHART.STYLE

@@ -45,8 +45,7 @@ def explained(trace, answers, *words):
 
 def strays(trace, answers):
     """How the MME did otherwise than is expected in a run."""
-    told, _ = STORY.story_of(trace, STORY.exact_steps(trace, answers) or RUNS.matched(trace, answers))
-    return [text for each in told for _, text in each.otherwise]
+    return [text for each in STORY.matched_run(trace, answers).told for _, text in each.otherwise]
 
 
 def unseen(expected, answer, rng):
@@ -77,8 +76,8 @@ class Reasons(unittest.TestCase):
             with self.subTest(failure=failure.name, shows=failure.shows):
                 made = failure.make()
                 trace, answers = RUNS.read_trace(made.text().encode()), RUNS.read_answers(made.answer_text().encode())
-                told, world = STORY.story_of(trace, STORY.exact_steps(trace, answers))
-                self.assertEqual("".join(EXPLAIN.text_of(EXPLAIN.entries_of(told), world, brief=True)), failure.words + "\n")
+                run = STORY.exact_run(trace, answers)
+                self.assertEqual("".join(EXPLAIN.text_of(EXPLAIN.entries_of(run.told), run.world, brief=True)), failure.words + "\n")
 
     def test_program(self):
         """The program prints the same, of a file and of standard input."""
@@ -114,7 +113,7 @@ class Reasons(unittest.TestCase):
     def test_every_reason_has_a_clause(self):
         for why in REASONS.Why:
             with self.subTest(why=why.name):
-                self.assertRegex(why.value.clause, r"^(TS (24|33|36)\.\d{3} clause (\d|\{clause\})|docs/SCRIPTS.md, Lines)")
+                self.assertRegex(why.value.clause, r"^(TS (24|33|36)\.\d{3} clause (\d|\{clause\})|\{clause\}$|docs/SCRIPTS.md, Lines|README.md, A trace)")
 
 
 class Expected(unittest.TestCase):
@@ -188,6 +187,15 @@ class Skipped(unittest.TestCase):
                       "! line 17: station 0 00002 0001 is skipped: there is a station 0 already (docs/SCRIPTS.md, Lines)\n",
                       done.stdout.decode())
 
+    def test_standard_input(self):
+        """What `mme sim` prints may come by a pipe, or the script; not both."""
+        script, printed = (tools.TOP / "examples" / ("station." + end) for end in ("script", "trace"))
+        wanted = tools.ran("explain", "--script", script, printed).stdout
+        self.assertIn(b"is skipped", wanted)
+        self.assertEqual(tools.ran("explain", "--script", script, "-", given=printed.read_bytes()).stdout, wanted)
+        self.assertEqual(tools.ran("explain", "--script", "-", printed, given=script.read_bytes()).stdout, wanted)
+        self.assertEqual(tools.ran("explain", "--script", "-", "-").returncode, 2)
+
     def test_strict(self):
         """--strict ends with status 1 and the line, where a line was skipped."""
         for name, status, told in (("station", 1, "explain: line 15 of the script is skipped\n"), ("attach_whole", 0, "")):
@@ -195,6 +203,12 @@ class Skipped(unittest.TestCase):
                 files = [tools.TOP / "examples" / (name + end) for end in (".script", ".trace")]
                 done = tools.ran("explain", "--strict", "--script", *files)
                 self.assertEqual((done.returncode, done.stderr.decode()), (status, told))
+
+    def test_no_events(self):
+        """Where nothing happened there is nothing to play."""
+        for given in (b"", b"mme 001 01 8001 01 internet 1 1\n"):
+            done = tools.ran("explain", "-", "--mme", "/nowhere", given=given)
+            self.assertEqual((done.returncode, done.stdout, done.stderr), (0, b"", b""))
 
     def test_another_script(self):
         files = tools.TOP / "examples" / "station.script", tools.TOP / "examples" / "attach_whole.trace"

@@ -2,7 +2,6 @@
 import importlib
 import json
 import random
-import tempfile
 import unittest
 
 import dissection
@@ -12,6 +11,7 @@ from eps import messages, quick, render
 
 S1AP = importlib.import_module("s1ap")
 RUNS = importlib.import_module("runs")
+FILLED = 4  # of a shape, and bits turned
 FILES = [path for kind in ("*.trace", "*.answers") for path in sorted(tools.ROWS.glob(kind))]
 FILES += sorted((tools.TOP / "examples").glob("*.trace"))
 NAS_FIRST = {"emm": "nas_eps.nas_msg_emm_type", "esm": "nas_eps.nas_msg_esm_type"}
@@ -59,6 +59,32 @@ def is_spelled(octets, from_mme):
     return not carried.plain.fault and not getattr(carried.inside(), "fault", None)
 
 
+class Counted(quick.Lines):
+    """Lines that count how many messages were decoded whole."""
+    decoded = 0
+
+    def met(self, octets, from_mme):
+        self.decoded += 1
+        return super().met(octets, from_mme)
+
+
+def with_bits(octets, first, width, bits=None):
+    """The octets with other bits from one on: these, or each turned."""
+    shift = 8 * len(octets) - first - width
+    mask, number = (1 << width) - 1 << shift, int.from_bytes(octets, "big")
+    return ((number & ~mask | bits << shift) if bits is not None else number ^ mask).to_bytes(len(octets), "big")
+
+
+def filled(octets, holes, rng):
+    """A message of the same shape, with anything in its holes."""
+    for hole in holes:
+        bits = rng.randrange(hole.least or 0, 1 << hole.width)
+        if hole.is_decimal:
+            bits = int("".join(rng.choice("0123456789") for _ in range(hole.width // 4)), 16)
+        octets = with_bits(octets, hole.first, hole.width, bits)
+    return octets
+
+
 @unittest.skipIf(dissection.IS_MISSING, "no tshark")
 class Dissected(unittest.TestCase):
     def test_values_and_lengths(self):
@@ -92,21 +118,33 @@ class Dissected(unittest.TestCase):
 
 class Printed(unittest.TestCase):
     def test_quick_lines(self):
-        """The line that is read quickly is that of the whole decoder, of messages as they are and with a bit turned."""
-        rng, answered = random.Random(63), 0
+        """The line of a message that is spelled as one before it is that of the whole decoder, and what charts take from it the
+        same: with its holes filled at random, and with a bit turned anywhere. Most such lines are found without the decoder."""
+        rng, lines, asked, decoded = random.Random(63), Counted(), 0, 0
         for octets, from_mme in sent():
-            turned = bytearray(octets)
-            for each in [octets] + ([] if not octets else [None] * 4):
-                if each is None:
-                    place = rng.randrange(8 * len(octets))
-                    turned[:] = octets
-                    turned[place // 8] ^= 128 >> place % 8
-                    each = bytes(turned)
-                line = quick.brief(each, from_mme)
-                answered += line is not None
+            message = messages.decode(octets)
+            holes = quick.holes_of(message, from_mme)
+            others = [filled(octets, holes, rng) for _ in range(FILLED)] if holes is not None else []
+            turned = [with_bits(octets, rng.randrange(8 * len(octets)), 1) for _ in range(FILLED)] if octets else []
+            for each in [octets, *others, *turned]:
+                before = lines.decoded
                 with self.subTest(octets=each.hex()):
-                    self.assertIn(line, (None, render.brief(messages.decode(each), from_mme)))
-        self.assertGreater(answered, 1500)
+                    self.assertEqual(lines.of(each, from_mme), render.brief(messages.decode(each), from_mme))
+                    self.assertEqual(RUNS.content(each), RUNS.met(each))
+                is_other = each in others
+                asked, decoded = asked + is_other, decoded + is_other * (lines.decoded - before)
+        self.assertGreater(asked, 2000)
+        self.assertLess(decoded, asked / 5)
+
+    def test_ids(self):
+        """An id stands in the fewest octets, and a station's in three at the most (TS 36.413 clause 9.2.3.4)."""
+        lines = quick.Lines()
+        for content, wanted in (("0001", "eNB id 1"), ("40ffff", "eNB id 65535"), ("80ffffff", "eNB id 16777215"),
+                                ("400001", "more octets than it needs"), ("c001000000", "beyond its range")):
+            element = "000840%02x%s" % (len(content) // 2, content)
+            octets = bytes.fromhex("000f40%02x000001%s" % (3 + len(element) // 2, element))
+            with self.subTest(content=content):
+                self.assertIn(wanted, lines.of(octets, False))
 
     def test_every_file(self):
         """Each file of the rows gives a line, a tree and an object for each of its messages."""
@@ -147,8 +185,14 @@ class Printed(unittest.TestCase):
                 done = tools.ran("show", "-", given=given)
                 self.assertEqual(done.returncode, 2)
                 self.assertIn(why, done.stderr.decode())
-        with tempfile.TemporaryDirectory() as folder:
-            self.assertEqual(tools.ran("show", folder + "/nothing").returncode, 2)
+        for word in ("nothing.trace", "000d403", ""):
+            with self.subTest(word=word):
+                done = tools.ran("show", word)
+                self.assertEqual((done.returncode, done.stderr.decode()), (2, "show: %r is neither a file nor octets in hex\n" % word))
+
+    def test_one_octet(self):
+        self.assertEqual(tools.ran("show", "07").stdout.decode(),
+                         "unreadable NAS message, header 0 plain, 1 octet, ! too short for a message type: 1 octet\n\n")
 
 
 TREE = """\

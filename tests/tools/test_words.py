@@ -19,7 +19,7 @@ NETWORK, STATION = phones.Network(), phones.Station(0)
 NOTIFY, UNKNOWN = 2, 40  # a criticality; a procedure that the profile hasn't
 NEVER_GIVEN = lte.id_of_slot(0, 77)
 FOREIGN_GUTI = bytes.fromhex("f602f83900010212345678")
-STATUS = b"\x07\x60\x61"
+STATUS = failures.STATUS
 
 
 def words_of(why):

@@ -47,13 +47,15 @@ class PastEnd(Exception):
 class Plain:
     """A plain NAS message, or one without its protection: what was read of it, and its first fault with words on it, or None.
 
-    `lengths` has the octets of each element that stands after its length, by its name; `spare` says that a spare bit is set.
+    `lengths` has the octets of each element that stands after its length, by its name, and `places` where an element's octets
+    begin; `spare` says that a spare bit is set.
     """
     octets: bytes
     is_esm: bool
     type: int | None = None
     fields: dict = dataclasses.field(default_factory=dict)
     lengths: dict = dataclasses.field(default_factory=dict)
+    places: dict = dataclasses.field(default_factory=dict)
     spare: bool = False
     fault: Fault | None = None
     why: str | None = None
@@ -64,8 +66,14 @@ class Plain:
             return "unreadable NAS message"
         if (self.type == DETACH_REQUEST, self.is_esm) == (True, False):
             return "DETACH REQUEST"
-        names = s1ap.ESM_NAMES if self.is_esm else s1ap.EMM_NAMES
+        if self.is_service_request():
+            return "SERVICE REQUEST"
+        names = s1ap.ESM_NAMES if self.is_esm else s1ap.EMM_TYPES
         return names.get(self.type, "%s message type %02x" % ("ESM" if self.is_esm else "EMM", self.type))
+
+    def is_service_request(self):
+        """Whether it is one by its form: there is no such message type, and a message of this type has a fault."""
+        return self.type == SERVICE_REQUEST and not self.is_esm and self.fault is None
 
     def cause(self):
         """The message's cause in words, or None."""
@@ -131,6 +139,7 @@ class Fixed:
     size: int
 
     def take(self, cursor, message):
+        message.places[self.name] = cursor.at
         kept(message, self.name, forms.hexed, cursor.take(self.size))
 
 
@@ -144,7 +153,7 @@ class Sized:
 
     def take(self, cursor, message):
         octets = cursor.take(cursor.number(self.octets_of_length))
-        message.lengths[self.name] = len(octets)
+        message.lengths[self.name], message.places[self.name] = len(octets), cursor.at - len(octets)
         kept(message, self.name, self.form, octets, self.only)
 
 
@@ -293,7 +302,7 @@ def options(cursor, message):
         octets = cursor.take(cursor.number(2 if identifier in LONG else 1) if sized else size)
         name = names.get(identifier, "element %02x" % identifier)
         if name not in message.fields:
-            message.fields[name] = option_value(name, octets)
+            message.fields[name], message.places[name] = option_value(name, octets), cursor.at - len(octets)
             message.lengths.update({name: len(octets)} if sized else {})
 
 
@@ -325,11 +334,15 @@ def read_parts(message, parts, at):
         message.at_fault(Fault.OPTIONAL, "an optional element ends after the message")
 
 
+def octets_text(count):
+    return "%d octet%s" % (count, "" if count == 1 else "s")
+
+
 def decode_emm(octets, direction):
     """An EMM message, or octets that are read as one."""
     message = Plain(octets, is_esm=False)
     if len(octets) < 2:
-        message.at_fault(Fault.TOO_SHORT, "%d octets" % len(octets))
+        message.at_fault(Fault.TOO_SHORT, octets_text(len(octets)))
     elif octets[0] == SERVICE_REQUEST and len(octets) == SERVICE_OCTETS:
         message.type = SERVICE_REQUEST
         message.fields = {KEY_SET: octets[1] >> 5, "sequence number": octets[1] & 31, "short MAC": octets[2:].hex()}
@@ -349,7 +362,7 @@ def decode_esm(octets):
     """An ESM message, or octets that are read as one."""
     message = Plain(octets, is_esm=True)
     if len(octets) < 3:
-        message.at_fault(Fault.TOO_SHORT, "%d octets" % len(octets))
+        message.at_fault(Fault.TOO_SHORT, octets_text(len(octets)))
     elif octets[0] & 0xF != s1ap.ESM:
         message.at_fault(Fault.UNKNOWN_TYPE, "first octet %02x" % octets[0])
     else:

@@ -1,100 +1,237 @@
-"""One line of a message that is spelled as usual, read without its values: for traces of millions of lines.
+"""The line of a message, for traces of millions of lines: one that is spelled as one before it isn't decoded again.
 
-`brief` answers what render.brief does, or None for what isn't spelled so; then the whole decoder says it.
-tests/tools compares both.
+`Lines.of` answers what render.brief does. Of a message that was decoded a shape is kept: the octets that such messages share, and
+holes where the line is the same whatever stands there, or tells it as a number. tests/tools fills the holes at random, and
+compares each line with that of the whole decoder.
 """
-import functools
+import dataclasses
+import re
 
 import s1ap
-from causes import emm_cause
-from eps import messages, nas, render
-from eps.elements import BOTH_IDS, CAUSE, ELEMENTS, ENB_ID, MME_ID, NAS_PDU, SECURITY_KEY, SETUP_LIST, SOURCE_MME_ID
-from s1ap import sized, usual_bearer, usual_number, usual_pair
+from eps import elements, messages, nas, render
+from eps.nas_elements import IMSI_OCTETS
 
+HEAD = 5  # octets by which shapes are looked up: kind, procedure, criticality, and what begins the length and the value
+MOST_HEADS, MOST_OF_A_HEAD = 1 << 12, 32  # that are kept
 KNOWN = {kind: frozenset(form.ids()) for kind, form in messages.FORMS.items()}
-NEEDED = {kind: KNOWN[kind] - form.optional for kind, form in messages.FORMS.items()}
-NAMES = {kind: s1ap.NAMES[kind[0]][kind[1]] for kind in messages.FORMS}
-KEY_OCTETS = 32
-PLAIN = bytes([nas.PLAIN_EMM])
-PROTECTED = tuple(header << 4 | s1ap.EMM for header in nas.PROTECTED_HEADERS)
-# The NAS messages whose form is their type alone, or a cause after it.
-BARE = {nas.DETACH_ACCEPT, nas.TAU_COMPLETE, nas.SECURITY_MODE_COMPLETE, nas.AUTHENTICATION_REJECT}
-ONE_CAUSE = {nas.TAU_REJECT, nas.SERVICE_REJECT, nas.SECURITY_MODE_REJECT, nas.EMM_STATUS}
 
 
-@functools.lru_cache(1 << 12)
-def text_of(number, octets):
-    """What a line says of an element beside the ids, or None where it isn't spelled right."""
-    try:
-        value = ELEMENTS[number][1].whole(octets)
-    except messages.Unreadable:
-        return None
-    return render.cause_text(value) if number == CAUSE else ""
+@dataclasses.dataclass(frozen=True)
+class Hole:
+    """Bits of a message: the first one, and how many. `least` is the least number there, where the line tells it; `is_decimal`
+    says that each half octet is a digit."""
+    first: int
+    width: int
+    least: int | None = None
+    is_decimal: bool = False
 
 
-def value_of(number, octets):
-    """What a line says of an element, or None where it isn't spelled as usual."""
-    if number in (MME_ID, ENB_ID, SOURCE_MME_ID):
-        value = usual_number(octets)
-        return None if value is None else ("eNB id %d" if number == ENB_ID else "MME id %d") % value
-    if number == BOTH_IDS:
-        pair = usual_pair(octets)
-        return None if pair is None else "MME id %d eNB id %d" % pair
-    if number == SECURITY_KEY:
-        return "" if len(octets) == KEY_OCTETS else None
-    return text_of(number, octets)
+def of_octets(start, end, **more):
+    """A hole of whole octets."""
+    return Hole(8 * start, 8 * (end - start), **more)
 
 
-@functools.lru_cache(1 << 12)
-def nas_text(octets, from_mme):
-    return render.Nas(octets, from_mme).text()
+class Shape:
+    """Messages with the same octets but for holes; `kept` is what is known of them beside the numbers."""
 
+    def __init__(self, octets, holes, kept):
+        size, free, self.holes, self.digits, self.numbers, self.kept = 8 * len(octets), 0, holes, 0, [], kept
+        for hole in holes:
+            shift, mask = size - hole.first - hole.width, (1 << hole.width) - 1
+            free |= mask << shift
+            if hole.is_decimal:
+                self.digits |= mask // 15 << shift  # the low bit of each half octet
+            if hole.least is not None:
+                self.numbers.append((shift, mask, hole.least))
+        self.same = ~free
+        self.value = int.from_bytes(octets, "big") & self.same
 
-def carried(octets, from_mme):
-    """The name of a NAS message."""
-    inner = octets[s1ap.PROTECTED:] if len(octets) > s1ap.PROTECTED + 1 and octets[0] in PROTECTED else octets
-    if inner[:1] == PLAIN and len(inner) == 2 and inner[1] in BARE:
-        return s1ap.EMM_NAMES[inner[1]]
-    if inner[:1] == PLAIN and len(inner) == 3 and inner[1] in ONE_CAUSE:
-        return "%s %s" % (s1ap.EMM_NAMES[inner[1]], emm_cause(inner[2]))
-    if len(inner) == nas.SERVICE_OCTETS and inner[0] == nas.SERVICE_REQUEST:
-        return s1ap.EMM_NAMES[nas.SERVICE_REQUEST]
-    if len(inner) == 36 and inner[:2] == b"\x07\x52" and inner[19] == 16 and inner[2] < 8:
-        return s1ap.EMM_NAMES[nas.AUTHENTICATION_REQUEST]
-    if inner[:2] == b"\x07\x53" and len(inner) > 6 and inner[2] == len(inner) - 3 <= 16:
-        return s1ap.EMM_NAMES[nas.AUTHENTICATION_RESPONSE]
-    return nas_text(inner if inner[:1] == PLAIN or inner[:1] and inner[0] & 0xF == s1ap.ESM else octets, from_mme)
-
-
-def brief(octets, from_mme):
-    """One line of a message, or None where it isn't spelled as usual."""
-    elements = s1ap.usual(octets)
-    if elements is None:
-        return None
-    kind = octets[1], octets[0] >> 5
-    if kind not in KNOWN or not NEEDED[kind] <= elements.keys() <= KNOWN[kind]:
-        return None
-    try:
-        return line_of(kind, elements, from_mme)
-    except (IndexError, TypeError):
-        return None
-
-
-def line_of(kind, elements, from_mme):
-    """The line of a message by its elements, or None."""
-    texts = {}
-    for number, content in elements.items():
-        if number in (NAS_PDU, SETUP_LIST):
-            inner, end = sized(content, 0) if number == NAS_PDU else usual_bearer(content)
-            if end != len(content):
+    def told(self, number):
+        """The numbers in a message, itself a number, that are told of it; None where it isn't of this shape."""
+        if number & self.same != self.value or self.digits and number >> 3 & (number >> 2 | number >> 1) & self.digits:
+            return None
+        told = []
+        for shift, mask, least in self.numbers:
+            value = number >> shift & mask
+            if value < least:
                 return None
-            texts[NAS_PDU] = "[%s]" % carried(inner, from_mme)
-        else:
-            text = value_of(number, content)
-            if text is None:
-                return None
-            texts[number] = text
-    name = NAMES[kind]
-    first = texts.get(SOURCE_MME_ID if kind == (s1ap.PATH_SWITCH, 0) else MME_ID)
-    parts = (name, first or texts.get(BOTH_IDS), texts.get(ENB_ID), texts.get(CAUSE), texts.get(NAS_PDU))
-    return " ".join(filter(None, parts))
+            told.append(value)
+        return told
+
+
+class Shapes:
+    """The shapes that were met."""
+
+    def __init__(self):
+        self.heads = {}
+
+    def find(self, octets):
+        """What is kept of a message's shape, and the numbers in it; or None."""
+        known = self.heads.get(octets[:HEAD])
+        if known:
+            number = int.from_bytes(octets, "big")
+            for shape in known:
+                told = shape.told(number)
+                if told is not None:
+                    return shape.kept, told
+        return None
+
+    def keep(self, octets, shape):
+        """Keeps the shape of a message as the first to be looked at."""
+        head = octets[:HEAD]
+        if head not in self.heads and len(self.heads) >= MOST_HEADS:
+            self.heads.clear()
+        known = self.heads.setdefault(head, [])
+        del known[MOST_OF_A_HEAD - 1:]
+        known.insert(0, shape)
+
+
+class Lines:
+    """Lines of messages."""
+
+    def __init__(self):
+        self.shapes = {from_mme: Shapes() for from_mme in (True, False, None)}
+
+    def of(self, octets, from_mme):
+        """The line of a message; `from_mme` is None where it isn't known who sent it."""
+        found = self.shapes[from_mme].find(octets)
+        return found[0] % tuple(found[1]) if found else self.met(octets, from_mme)
+
+    def met(self, octets, from_mme):
+        """The line of a message by the whole decoder; its shape is kept, where it has one."""
+        message = messages.decode(octets)
+        line, holes = render.brief(message, from_mme), holes_of(message, from_mme)
+        if holes is not None:
+            shape = Shape(octets, holes, template(message, line))
+            told = shape.told(int.from_bytes(octets, "big"))
+            if told is not None and shape.kept % tuple(told) == line:
+                self.shapes[from_mme].keep(octets, shape)
+        return line
+
+
+def template(message, line):
+    """The line of a message with `%d` for its ids."""
+    before = " ".join(filter(None, (message.name, render.ids_text(*render.message_ids(message)))))
+    return re.sub(r" id \d+", " id %d", before) + line[len(before):].replace("%", "%%")
+
+
+# --- What a line doesn't depend on ---
+
+# Bits of elements with so many octets: the first one and how many. They are of areas, cells, identities and keys (TS 36.413
+# clauses 9.2.1 and 9.2.3).
+BITS = {
+    (elements.TAI, 6): [(8, 40)], (elements.TAI_LIST, 11): [(48, 40)], (elements.CELL, 8): [(8, 24), (32, 28)],
+    (elements.S_TMSI, 6): [(16, 32)], (elements.PAGING_ID, 6): [(16, 32)], (elements.PAGING_INDEX, 2): [(0, 10)],
+    (elements.SECURITY_KEY, 32): [(0, 256)], (elements.SECURITY_CONTEXT, 33): [(2, 3), (8, 256)],
+}
+OF_ONE_BEARER = {(elements.DONE_LIST, 15), (elements.SWITCHED_LIST, 15)}
+IPV4_BITS = 31  # of an address, less one
+PAIR_BITS = 0xF0  # of both ids in one element: those before the size of the first
+# NAS elements whose value may be any octets, and identities (TS 24.301 clause 9.9).
+ANY_OCTETS = {"RAND", "AUTN", "RES", "authentication failure parameter", "protocol configuration options"}
+IDENTITIES = {"EPS mobile identity", "mobile identity", "old GUTI", "GUTI"}
+
+
+def holes_of(message, from_mme):
+    """The holes of a message that is spelled as usual and has no fault, those of its ids first; else None."""
+    found = s1ap.spans(message.octets)
+    if message.fault or found is None or not found.keys() <= KNOWN[message.code, message.outcome]:
+        return None
+    numbers = list(id_holes(message.octets, found))
+    if len(numbers) != 2 - render.message_ids(message).count(None):
+        return None
+    return numbers + list(element_holes(message.octets, found, from_mme))
+
+
+def id_holes(octets, found):
+    """The ids that a message names an association by: the MME's, then the station's."""
+    for number in (elements.MME_ID, elements.SOURCE_MME_ID, elements.ENB_ID):
+        if number in found:
+            start, end = found[number]
+            yield id_hole(start + 1, end)
+    if elements.BOTH_IDS in found:
+        start, end = found[elements.BOTH_IDS]
+        middle = start + (octets[start] >> 2) + 2
+        if not octets[start] & PAIR_BITS:
+            yield id_hole(start + 1, middle)
+            yield id_hole(middle + 1, end)
+
+
+def id_hole(start, end):
+    """An id in the fewest octets (X.691 clause 11.5.7.4)."""
+    return of_octets(start, end, least=1 << 8 * (end - start - 1) if end - start > 1 else 0)
+
+
+def element_holes(octets, found, from_mme):
+    """The holes in elements that aren't ids."""
+    for number, (start, end) in found.items():
+        yield from (Hole(8 * start + first, width) for first, width in BITS.get((number, end - start), ()))
+        if (number, end - start) in OF_ONE_BEARER and octets[start + 6] == IPV4_BITS:
+            yield of_octets(start + 7, end)
+        elif number == elements.RADIO_CAPABILITY:
+            yield of_octets(*s1ap.sized_span(octets, start))
+    item = bearer_place(octets, found)
+    if item is not None:
+        yield of_octets(item + 6, item + 14)
+    inside = nas_span(octets, found)
+    if inside:
+        yield from nas_holes(octets, *inside, from_mme)
+
+
+def bearer_place(octets, found):
+    """Where the item of the one bearer to set up begins, which has an IPv4 address (TS 36.413 clause 9.1.4.1); or None."""
+    if elements.SETUP_LIST not in found:
+        return None
+    start = found[elements.SETUP_LIST][0]
+    at = s1ap.sized_span(octets, start + 4)[0]
+    is_usual = octets[start:start + 4] == s1ap.ONE_BEARER and octets[at + 4:at + 6] == s1ap.BITS_32
+    return at if is_usual and octets[at] >> 4 in (0, s1ap.WITH_NAS) and not octets[at + 1] and not octets[at + 3] >> 6 else None
+
+
+def nas_span(octets, found):
+    """Where the NAS message in a message begins and ends, or None."""
+    if elements.NAS_PDU in found:
+        return s1ap.sized_span(octets, found[elements.NAS_PDU][0])
+    item = bearer_place(octets, found)
+    return s1ap.sized_span(octets, item + 14) if item is not None and octets[item] >> 4 == s1ap.WITH_NAS else None
+
+
+def nas_holes(octets, start, end, from_mme):
+    """Those of a NAS message: MAC and sequence number, and what is in the message."""
+    message = render.Nas(octets[start:end], from_mme)
+    if message.protected:
+        yield of_octets(start + 1, start + s1ap.PROTECTED)
+        start += s1ap.PROTECTED
+    yield from plain_holes(message.plain, start)
+
+
+def plain_holes(message, at):
+    """Those of a plain NAS message that begins at an octet: the values of elements, and a transaction."""
+    if message.fault:
+        return
+    if message.is_esm:
+        yield of_octets(at + 1, at + 2)
+    elif message.is_service_request():
+        yield of_octets(at + 1, at + nas.SERVICE_OCTETS)
+    for name, place in message.places.items():
+        start, value = at + place, message.fields[name]
+        size = message.lengths.get(name, 0)
+        if name in ANY_OCTETS:
+            yield of_octets(start, start + (size or len(value) // 2))
+        elif name in IDENTITIES:
+            yield from identity_holes(start, size, value)
+        elif name == "PDN address":
+            yield of_octets(start + 1, start + size)
+        elif isinstance(value, nas.Plain):
+            yield from plain_holes(value, start)
+
+
+def identity_holes(start, size, value):
+    """Those of a GUTI, and the digits of an IMSI of 14 or 15 (TS 24.301 clause 9.9.3.12)."""
+    if "GUTI" in value:
+        yield of_octets(start + 1, start + size)
+    elif "IMSI" in value and size == IMSI_OCTETS:
+        filler = 4 if len(value["IMSI"]) == 14 else 0
+        yield Hole(8 * start, 4, is_decimal=True)
+        yield of_octets(start + 1, start + size - 1, is_decimal=True)
+        yield Hole(8 * (start + size - 1) + filler, 8 - filler, is_decimal=True)

@@ -6,11 +6,13 @@ import dataclasses
 import enum
 
 NAS, S1AP, KEYS = "TS 24.301 clause ", "TS 36.413 clause ", "TS 33.401 clause "
+SCTP, RESET, SET_UP = "TS 36.412 clause 7", S1AP + "8.7.1.2.2", S1AP + "8.7.3.1"
+TRACE, SCRIPT = "README.md, A trace", "docs/SCRIPTS.md, Lines"
 
 
 @dataclasses.dataclass(frozen=True)
 class Reason:
-    """The words of a reason, and where the standards (or docs/PROFILE.md) have it."""
+    """The words of a reason, and where the standards in their Release 8 (or a page of this repository) have it."""
     words: str
     clause: str
 
@@ -19,15 +21,16 @@ class Why(enum.Enum):
     """The reasons. A name is stable: it stands in what `explain --json` prints."""
 
     # Stations and their messages.
-    NOT_CONNECTED = Reason("station {station} isn't connected", "TS 36.412 clause 7")
-    CONNECTED_ALREADY = Reason("station {station} is connected already", "TS 36.412 clause 7")
+    NOT_CONNECTED = Reason("station {station} isn't connected", SCTP)
+    CONNECTED_ALREADY = Reason("station {station} is connected already", SCTP)
     NO_SUBSCRIBER = Reason("nobody is provisioned with IMSI {imsi}", NAS + "5.5.1.2.5")
+    NO_SUCH_IMSI = Reason("nobody is provisioned with IMSI {imsi}", TRACE)
     SYNTAX = Reason("the octets spell no S1AP message: {fault}", S1AP + "10.2")
     UNKNOWN_PROCEDURE = Reason("the profile has no such procedure", S1AP + "10.3.4.1")
     MISSING_ELEMENT = Reason("an element is missing: {element}", S1AP + "10.3.5")
     REFUSED_ELEMENT = Reason("an element isn't of this message and is marked reject: {element}", S1AP + "10.3.4.2")
     REPEATED_ELEMENT = Reason("an element stands twice: {element}", S1AP + "10.3.6")
-    NOT_SET_UP = Reason("station {station} isn't set up", S1AP + "8.7.3.1")
+    NOT_SET_UP = Reason("station {station} isn't set up", SET_UP)
     OTHER_PLMN = Reason("the station broadcasts {broadcast}, and not the MME's network {network}", S1AP + "8.7.3.4")
     MME_MESSAGE = Reason("only an MME sends this message", S1AP + "10.4")
 
@@ -36,42 +39,42 @@ class Why(enum.Enum):
     ASSOCIATION_ENDED = Reason("MME id {mme_id} was of a connection that ended at line {line}: {how}", S1AP + "10.6")
     WRONG_PAIR = Reason("the pair isn't the connection's: MME id {mme_id} is of station {station} with eNB id {enb_id}",
                         S1AP + "10.6")
-    SWITCH_OF_STRANGER = Reason("MME id {mme_id} was given before the phone was known, and can't be switched", S1AP + "8.4.4.4")
-    SWITCH_UNREGISTERED = Reason("a path is switched of a registered phone alone, and this one is in {phase}", S1AP + "8.4.4.4")
+    SWITCH_OF_STRANGER = Reason("MME id {mme_id} was given before the phone was known, and can't be switched", S1AP + "8.4.4.3")
+    SWITCH_UNREGISTERED = Reason("a path is switched of a registered phone alone, and this one is in {phase}", S1AP + "8.4.4.3")
 
     # First messages.
     UNREADABLE_REQUEST = Reason("the request can't be read: {fault}", NAS + "7.5.1")
     UNREADABLE_ESM = Reason("the ESM message in it is no PDN CONNECTIVITY REQUEST that can be read", NAS + "7.5.1")
-    IPV6_ALONE = Reason("the phone asks for IPv6 alone, and has an IPv4 address", NAS + "6.5.1.4")
-    NO_EIA2 = Reason("the phone's capability hasn't 128-EIA2", KEYS + "7.2.4")
-    NO_VECTOR = Reason("no vector is left: all {vectors} were spent", NAS + "5.4.2.2")
-    FOREIGN_IDENTITY = Reason("the identity is of another MME or of nobody, and only an ATTACH REQUEST is asked for its IMSI",
-                              NAS + "5.5.3.2.5")
-    NO_S_TMSI = Reason("no S-TMSI of this MME's subscribers goes with it", NAS + "5.6.1.5")
-    NAMES_NOBODY = Reason("the message names no phone", NAS + "4.4.4.3")
-    NOT_REGISTERED = Reason("the phone isn't registered: it is in {phase}", NAS + "5.6.1.5")
-    WRONG_KEY_SET = Reason("key set {key_set} isn't that of the phone's context, {wanted}", NAS + "5.6.1.5")
+    IPV6_ALONE = Reason("the phone asks for IPv6 alone, and its subscription has IPv4", NAS + "6.5.1.4")
+    NO_EIA2 = Reason("the phone doesn't have 128-EIA2, the only integrity algorithm here", KEYS + "7.2.4")
+    NO_VECTOR = Reason("no vector is left: the phone was given {vectors}, and each challenge takes one", NAS + "5.4.2.2")
+    FOREIGN_IDENTITY = Reason(
+        "the old GUTI is of another MME or of nobody here, and a phone is asked for its IMSI only at an attach", NAS + "5.5.3.2.5")
+    NO_S_TMSI = Reason("its S-TMSI is missing, or is of no subscriber of this MME", NAS + "5.6.1.5")
+    NAMES_NOBODY = Reason("the message names nobody who is provisioned here", NAS + "4.4.4.3")
+    NOT_REGISTERED = Reason("the phone isn't registered: it is in {phase}", NAS + "{clause}")
+    WRONG_KEY_SET = Reason("key set {key_set} isn't the phone's, whose context has {wanted}", NAS + "5.6.1.5")
 
     # Protection.
-    NO_CONTEXT = Reason("there is no security context yet, and only plain EMM messages are heard", NAS + "4.4.4.3")
-    PLAIN = Reason("the message is plain, and here only a protected one is heard", NAS + "4.4.4.3")
-    WRONG_HEADER = Reason("header {header} isn't taken here: {belongs}", NAS + "9.3.1")
+    NO_CONTEXT = Reason("there is no security context yet, and only plain EMM messages are taken", NAS + "4.4.4.3")
+    PLAIN = Reason("the message isn't protected, and only a protected one is taken here", NAS + "4.4.4.3")
+    WRONG_HEADER = Reason("security header {header} isn't taken here: {belongs}", NAS + "9.3.1")
     CUT_SHORT = Reason("it is too short for the security header that it has", NAS + "9.1")
     COUNT_USED = Reason("count {count} was accepted at line {line}", NAS + "4.4.3.2")
     COUNT_PASSED = Reason("its count {count} is below {last}, which was accepted at line {line}", NAS + "4.4.3.2")
     OTHER_KEY = Reason("the MAC is right under vector {other}'s key, and the context is vector {vector}'s", NAS + "4.4.4.3")
     WRONG_MAC = Reason("the MAC is wrong under vector {vector}'s key, for count {count}", NAS + "4.4.4.3")
-    COUNTS_SPENT = Reason("the counts of the context are spent", NAS + "4.4.3.5")
+    COUNTS_SPENT = Reason("the context has no count left", NAS + "4.4.3.5")
 
     # Authentication and security mode.
     WRONG_RES = Reason("RES isn't XRES of vector {vector}", NAS + "5.4.2.5")
     OTHER_RES = Reason("RES is XRES of vector {other}, and the challenge is vector {vector}'s", NAS + "5.4.2.5")
     MAC_FAILURE = Reason("the phone found the MAC of vector {vector}'s AUTN wrong: another K or OPc", NAS + "5.4.2.7")
     SYNCH_FAILURE = Reason("the SQN of vector {vector} isn't above the phone's", NAS + "5.4.2.7")
-    NON_EPS = Reason("the AUTN of vector {vector} hasn't the separation bit", NAS + "5.4.2.7")
-    REFUSED_CHALLENGE = Reason("the phone refuses the challenge with vector {vector}", NAS + "5.4.2.7")
+    NON_EPS = Reason("the AUTN of vector {vector} lacks the separation bit, which a vector for LTE has", NAS + "5.4.2.7")
+    REFUSED_CHALLENGE = Reason("the phone refuses the challenge with vector {vector}", NAS + "5.4.2.6")
     SECURITY_REFUSED = Reason("the phone refuses the security mode", NAS + "5.4.3.5")
-    NOT_COMPLETE = Reason("only SECURITY MODE COMPLETE is heard here", NAS + "5.4.3.4")
+    NOT_COMPLETE = Reason("only SECURITY MODE COMPLETE is taken here", NAS + "5.4.3.4")
 
     # What follows.
     BEARER_REFUSED = Reason("the phone doesn't accept the default bearer", NAS + "6.4.1.4")
@@ -87,9 +90,9 @@ class Why(enum.Enum):
 
     # Timers, notices, stations.
     GAVE_UP = Reason("{timer} ended the {time} time without an answer, so the network gave up", NAS + "{clause}")
-    PAGING_ENDED = Reason("T3413 ended the second time: the phone didn't answer the paging", NAS + "5.6.2.3")
+    PAGING_ENDED = Reason("T3413 ended the second time: the phone didn't answer the paging", NAS + "5.6.2.2")
     UNREACHABLE = Reason("the phone was idle for {seconds} s, the mobile reachable timer", NAS + "5.3.5")
-    STATION_GONE = Reason("station {station} {how}, which ended the phone's connection", S1AP + "{clause}")
+    STATION_GONE = Reason("station {station} {how}, which ended the phone's connection", "{clause}")
     DISPLACED = Reason("another phone came to station {station} under eNB id {enb_id}, which ended the connection",
                        S1AP + "8.6.2.1")
     NOT_PAGED = Reason("only a registered, idle phone is paged, and this one is in {phase}", NAS + "5.6.2")
@@ -98,15 +101,15 @@ class Why(enum.Enum):
     NOTHING_TO_END = Reason("there is no registration that could be ended: the phone is in {phase}", NAS + "5.5.2.3")
 
     # Lines of a script.
-    NO_PHONE = Reason("no `sub` line gives a phone {imsi}", "docs/SCRIPTS.md, Lines")
-    NO_STATION = Reason("no `station` line gives a station {station}", "docs/SCRIPTS.md, Lines")
-    STATION_TWICE = Reason("there is a station {station} already", "docs/SCRIPTS.md, Lines")
-    STATION_NOT_READY = Reason("station {station} isn't set up", "docs/SCRIPTS.md, Lines")
-    NO_KEYS = Reason("the phone has no security context", "docs/SCRIPTS.md, Lines")
-    NO_GUTI = Reason("the phone has no GUTI", "docs/SCRIPTS.md, Lines")
-    NEVER_CONNECTED = Reason("the phone was never connected", "docs/SCRIPTS.md, Lines")
-    IS_IDLE = Reason("the phone has no connection", "docs/SCRIPTS.md, Lines")
-    NOTHING_SENT = Reason("the phone has sent no protected message", "docs/SCRIPTS.md, Lines")
+    NO_PHONE = Reason("no `sub` line gives a phone {imsi}", SCRIPT)
+    NO_STATION = Reason("no `station` line gives a station {station}", SCRIPT)
+    STATION_TWICE = Reason("there is a station {station} already", SCRIPT)
+    STATION_NOT_READY = Reason("station {station} isn't set up", SCRIPT)
+    NO_KEYS = Reason("the phone has no security context", SCRIPT)
+    NO_GUTI = Reason("the phone has no GUTI", SCRIPT)
+    NEVER_CONNECTED = Reason("the phone was never connected", SCRIPT)
+    IS_IDLE = Reason("the phone has no connection", SCRIPT)
+    NOTHING_SENT = Reason("the phone has sent no protected message", SCRIPT)
 
     def text(self, facts):
         return self.value.words.format(**facts)
@@ -121,4 +124,4 @@ class Mark(enum.Enum):
 
 
 FORGERIES = (Why.WRONG_MAC,)
-REPLAYS = (Why.COUNT_USED, Why.COUNT_PASSED)
+REPLAYS = (Why.COUNT_USED,)

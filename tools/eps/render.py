@@ -42,7 +42,7 @@ class Nas:
     def header(self):
         if self.protected:
             return self.protected.header
-        return nas.SERVICE_HEADER if self.plain.type == nas.SERVICE_REQUEST and not self.plain.is_esm else 0
+        return nas.SERVICE_HEADER if self.plain.is_service_request() else 0
 
     def inside(self):
         """The ESM message in its container, or None."""
@@ -57,15 +57,20 @@ class Nas:
     def short_text(self):
         """The message's name with its cause, and the ESM message in it only where that has a cause, as `ATTACH REJECT #19 ESM
         failure (PDN CONNECTIVITY REJECT #50 PDN type IPv4 only allowed)`."""
-        inside = self.inside()
+        inside, name = self.inside(), with_cause(self.plain) if self.plain.type is not None else "an unreadable NAS message"
         has_cause = isinstance(inside, nas.Plain) and inside.cause() is not None
-        return self.text() if has_cause else named_with_cause(self.plain)
+        return "%s (%s)" % (name, with_cause(inside)) if has_cause else name
+
+
+def with_cause(plain):
+    """A message's name with its cause."""
+    cause = plain.cause()
+    return plain.name + (" %s" % cause if cause is not None else "")
 
 
 def named_with_cause(plain):
-    cause = plain.cause()
-    fault = " ! " + fault_text(plain.fault, plain.why) if plain.fault else ""
-    return plain.name + (" %s" % cause if cause is not None else "") + fault
+    """The same, with its fault."""
+    return with_cause(plain) + (" ! " + fault_text(plain.fault, plain.why) if plain.fault else "")
 
 
 def nas_object(octets, from_mme):
@@ -153,7 +158,7 @@ def head_texts(made):
     if made["procedure"] is not None:
         yield "procedure %d %s" % (made["procedure"], made["outcome"])
         yield "criticality %s" % made["criticality"]
-    yield "%d octets" % made["octets"]
+    yield nas.octets_text(made["octets"])
     if "fault" in made:
         yield "! " + made["fault"]
 
@@ -199,7 +204,7 @@ def nas_texts(made):
         yield "header %d %s" % (made["header"], made["header name"])
     if "mac" in made:
         yield "MAC %s, sequence number %d" % (made["mac"], made["sequence"])
-    yield "%d octets" % made["octets"]
+    yield nas.octets_text(made["octets"])
     if "fault" in made:
         yield "! " + made["fault"]
 

@@ -2,13 +2,14 @@
 MME did otherwise than the standards' model (world.py) expects.
 """
 import dataclasses
+import typing
 
+import progress
 import runs
 from eps import messages, render
 from eps.elements import CAUSE
 from eps.telling import Expected
 from eps.world import World
-
 
 MOST_TOLD = 50000  # events of a run that is told where that isn't asked for
 
@@ -154,33 +155,59 @@ class Teller:
 def story_of(trace, steps):
     """Each event of a run, told, and the network as it is at the end."""
     teller = Teller(trace)
-    return [teller.told(step.event, step.answers) for step in steps], teller.world
+    return [teller.told(step.event, step.answers) for step in progress.over("tells event", steps, len(steps))], teller.world
 
 
 # --- Which event each answer is to ---
 
 
-def exact_steps(trace, answers):
-    """The steps of a trace with its answers as the model owes them, in their order; None where they aren't those."""
-    teller, at, steps = Teller(trace), 0, runs.started(trace)
-    for step in steps:
-        second, owed, _ = teller.owed(step.event)
-        taken = answers[at:at + len(owed)]
-        if len(taken) < len(owed) or any(differences(each, Answered("", second, answer)) for each, answer in zip(owed, taken)):
+class Run(typing.NamedTuple):
+    """A trace, its steps, and their story with the network as it is at the end, where they were told."""
+    trace: runs.Trace
+    steps: list
+    told: list | None = None
+    world: World | None = None
+
+
+def exact_run(trace, answers):
+    """The run of a trace with its answers as the model owes them, in their order; None where they aren't those."""
+    teller, at, steps, told = Teller(trace), 0, runs.started(trace), []
+    for step in progress.over("tells event", steps, len(steps)):
+        second, owed, tellings = teller.owed(step.event)
+        own, taken = teller.owner(step.event), answers[at:at + len(owed)]
+        answered = [Answered(answer.owner or own, second, answer) for answer in taken]
+        if len(taken) < len(owed) or any(map(differences, owed, answered)):
             return None
-        step.answers = [(getattr(each, "second", second), answer) for each, answer in zip(owed, taken)]
+        for each, expected in zip(answered, owed):
+            teller.fit(each, expected, second)
+        step.answers = [(each.second, each.answer) for each in answered]
+        told.append(Told(step.event, second, tellings, answered))
         at += len(owed)
-    return steps if at == len(answers) else None
+    return Run(trace, steps, told, teller.world) if at == len(answers) else None
+
+
+def matched_run(trace, answers):
+    """The run of a trace with answers that may be others than the model owes."""
+    return exact_run(trace, answers) or told_run(trace, runs.matched(trace, answers))
+
+
+def told_run(trace, steps):
+    return Run(trace, steps, *story_of(trace, steps))
 
 
 def run_of(trace_path, answers_path, program=None, most=None):
-    """A trace and its steps, as runs.run_of has them; answers that are given go to the events that owe them by the standards.
+    """A run by the paths of its trace and answers, as runs.run_of has them; answers that are given go to the events that owe them
+    by the standards.
 
-    Where there are more than `most` events, the answers are matched by their kinds alone, which is quicker.
+    Where there are more than `most` events, the run isn't told, and answers are matched by their kinds alone, which is quicker.
     """
     if answers_path is None or "-" == trace_path == answers_path:
-        return runs.run_of(trace_path, answers_path, program)
+        trace, steps = runs.run_of(trace_path, answers_path, program)
+        return Run(trace, steps) if is_beyond(steps, most) else told_run(trace, steps)
     trace = runs.read_trace(runs.read_file(trace_path), trace_path)
     answers = runs.read_answers(runs.read_file(answers_path), answers_path)
-    is_long = most is not None and len(trace.events) > most
-    return trace, (None if is_long else exact_steps(trace, answers)) or runs.matched(trace, answers)
+    return Run(trace, runs.matched(trace, answers)) if is_beyond(trace.events, most) else matched_run(trace, answers)
+
+
+def is_beyond(events, most):
+    return most is not None and len(events) > most

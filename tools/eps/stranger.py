@@ -54,7 +54,7 @@ class Stranger:
             self.reject(now, message, INVALID, Why.UNREADABLE_REQUEST, fault=message.why)
         elif message.type == nas.TAU_REQUEST and not message.fault:
             self.reject(now, message, NOT_DERIVED, Why.FOREIGN_IDENTITY)
-        elif message.type == nas.SERVICE_REQUEST:
+        elif message.is_service_request():
             self.reject(now, message, NOT_DERIVED, Why.NO_S_TMSI)
         else:
             self.tell(now, "is answered by a release", Why.NAMES_NOBODY)

@@ -12,7 +12,7 @@ from eps.elements import AMBR, CAPABILITIES, CAUSE, CN_DOMAIN, PAGING_ID, PAGING
 from eps.elements import SETUP_LIST, TAI, TAI_LIST
 from eps.nas_elements import emm, esm, named, timer
 from eps.provisioned import FIRST_STRANGER, IDS_OF_A_SLOT, id_of_slot
-from eps.reasons import Why
+from eps.reasons import RESET, Why
 from eps.telling import DETACHED, FAILED, NORMAL_RELEASE, NOT_COMPATIBLE, RADIO_UNSPECIFIED, UNKNOWN_ID, UNKNOWN_PAIR, UNSPECIFIED
 from eps.telling import Place, Said
 
@@ -223,7 +223,7 @@ class Subscriber:
     def serve(self, now, message):
         """SERVICE REQUEST (clause 5.6.1)."""
         if self.phase not in SERVED:
-            self.tell(now, "is refused", Why.NOT_REGISTERED, phase=self.phase_text())
+            self.tell(now, "is refused", Why.NOT_REGISTERED, phase=self.phase_text(), clause="5.6.1.5")
             self.refuse(now, service_reject(10), "refuses the service")
             return
         refusal = self.context.accept_short(message.octets, now.line)
@@ -241,7 +241,7 @@ class Subscriber:
     def update_first(self, now, octets, message):
         """TRACKING AREA UPDATE REQUEST as a first message (clause 5.5.3.2)."""
         if self.phase not in SERVED:
-            self.tell(now, "is refused", Why.NOT_REGISTERED, phase=self.phase_text())
+            self.tell(now, "is refused", Why.NOT_REGISTERED, phase=self.phase_text(), clause="5.5.3.2.5")
             self.refuse(now, update_reject(10), "refuses the update")
             return
         inside = self.accepted(octets, security.LATER, now.line)
@@ -602,7 +602,7 @@ class Subscriber:
 
     def on_part_reset(self, now, items):
         if self.place and self.place.station == now.station and any(map(self.place.is_listed, items)):
-            self.loses_place(now, Why.STATION_GONE, station=now.station, how="reset it", clause="8.7.1.2.2")
+            self.loses_place(now, Why.STATION_GONE, station=now.station, how="reset the phone's association", clause=RESET)
 
     def on_displaced(self, now, mme_id):
         if self.place and self.place.mme_id == mme_id:

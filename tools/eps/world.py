@@ -10,7 +10,7 @@ from eps.context import Spent
 from eps.elements import CAPACITY, CAUSE, GUMMEIS, RESET_LIST, RESET_TYPE, S_TMSI, SUPPORTED_TAS
 from eps.messages import Fault, Sender
 from eps.provisioned import FIRST_STRANGER, IDS_OF_A_SLOT, provisioned, stranger_of
-from eps.reasons import Why
+from eps.reasons import RESET, SCTP, SET_UP, Why
 from eps.stranger import Stranger, closed
 from eps.subscriber import Subscriber
 from eps.telling import NOT_COMPATIBLE, Now, cause
@@ -25,7 +25,7 @@ UNKNOWN_CAUSES = {messages.REJECT: ABSTRACT, messages.NOTIFY: NOTIFIED, messages
 FAULTS = {Fault.SYNTAX: (Why.SYNTAX, SYNTAX), Fault.MISSING_ELEMENT: (Why.MISSING_ELEMENT, ABSTRACT),
           Fault.REFUSED_ELEMENT: (Why.REFUSED_ELEMENT, ABSTRACT), Fault.REPEATED_ELEMENT: (Why.REPEATED_ELEMENT, FALSE)}
 STATION = "the station"
-NOTICES = {"data": "downlink data", "cancel": "the subscription"}
+NOTICES = {"data": "downlink data", "cancel": "the end of a subscription"}
 NEVER_ANSWERED = ((s1ap.ERROR, 0), (s1ap.RESET, 1))
 
 
@@ -91,7 +91,7 @@ class World:
             return "refused %d" % NOT_UP
         self.stations.set(event.station, State.DOWN)
         now.tell(station_owner(now), "is lost, and with it all its connections", subject=STATION)
-        self.station_gone(now, "was lost", "8.7.1.2.2")
+        self.station_gone(now, "was lost", SCTP)
         return None
 
     def on_data(self, now, event):
@@ -103,7 +103,7 @@ class World:
     def on_notice(self, now, event, act):
         subscriber = self.by_imsi.get(event.imsi)
         if subscriber is None:
-            now.tell("", "is refused", Why.NO_SUBSCRIBER, dropped=True, subject=NOTICES[event.word], imsi=event.imsi)
+            now.tell("", "is refused", Why.NO_SUCH_IMSI, dropped=True, subject=NOTICES[event.word], imsi=event.imsi)
             return "refused %d" % UNKNOWN_IMSI
         self.acting(now, subscriber, lambda: act(subscriber))
         return None
@@ -178,7 +178,7 @@ class World:
 
     def on_setup(self, now):
         """S1 SETUP REQUEST (TS 36.413 clause 8.7.3): all that the station had before ends first."""
-        self.station_gone(now, "set up again", "8.7.3.1")
+        self.station_gone(now, "set up again", SET_UP)
         areas = now.message.get(SUPPORTED_TAS)
         broadcast = sorted({plmn for item in areas for plmn in item["broadcast PLMNs"]})
         if self.network.plmn in broadcast:
@@ -218,7 +218,7 @@ class World:
             for stranger in self.strangers_of(now.station):
                 stranger.close()
             for subscriber in self.subscribers:
-                subscriber.on_station_gone(now, now.station, "reset the interface", "8.7.1.2.2")
+                subscriber.on_station_gone(now, now.station, "reset the interface", RESET)
             now.send(owner, now.station, (s1ap.RESET, 1), {}, "acknowledges the reset")
             return
         now.tell(owner, "resets %d associations" % len(items))
