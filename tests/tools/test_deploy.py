@@ -6,12 +6,14 @@ import re
 import shlex
 import shutil
 import subprocess
+import sys
 import tempfile
 import unittest
 
 import tools
 
-FRONT = tools.module("tools/front")
+sys.path.insert(0, str(tools.TOP / "tools"))
+from fronting import command
 UNIT, CONTAINER = tools.TOP / "deploy" / "soizkadur@.service", tools.TOP / "deploy" / "Containerfile"
 INSTALLED = "/opt/soizkadur/"
 BUILT = "crates/mme/out/mme"
@@ -56,14 +58,14 @@ class Unit(unittest.TestCase):
         program, *words = front_words(runtime="/run", credentials="/run/credentials", state="/var/lib", address="192.0.2.1",
                                       words="--tcp --rate 500")
         self.assertEqual(program, INSTALLED + "tools/front")
-        given = FRONT.parser().parse_args(words)
-        self.assertEqual((given.code, str(given.listen), given.tcp, given.rate, given.keep), ("01", "192.0.2.1", True, 500, 7))
+        given = command.parser("").parse_args(words)
+        self.assertEqual((given.code, *map(str, given.listen), given.tcp, given.rate, given.keep), ("01", "192.0.2.1", True, 500, 7))
         self.assertEqual((given.subscribers, given.log, given.control),
                          ("/run/credentials/subscribers", "/var/lib/soizkadur/01/trace", "/run/soizkadur/01/control"))
 
     @unittest.skipUnless((tools.TOP / BUILT).exists(), "the program isn't built (./mme --prove)")
     def test_commands(self):
-        """Twice, so that the trace of the first run is kept."""
+        """Twice, so that the second run goes on after the first."""
         folder = self.enterContext(tempfile.TemporaryDirectory())
         place, log = folder + "/soizkadur/01/", pathlib.Path(folder, "soizkadur/01/trace")
         commands = re.findall("^    sudo (install .*/opt/.*)", (tools.TOP / "deploy" / "README.md").read_text(), re.MULTILINE)
@@ -78,9 +80,9 @@ class Unit(unittest.TestCase):
                 self.assertEqual(done.stdout.decode(), "state %s DEREGISTERED IDLE INACTIVE\n" % IMSI)
                 running.terminate()
             self.assertEqual(running.returncode, 0)
-            self.assertEqual(len(list(pathlib.Path(place).glob("trace*"))), count + 1)
-        played = subprocess.run([folder + INSTALLED + "mme", "play", log], capture_output=True, timeout=60, check=False)
-        self.assertEqual(played.stdout, b"refused 1\n" + done.stdout)
+            self.assertEqual({path.name for path in pathlib.Path(place).glob("trace*")}, {"trace", "trace.counts"})
+            played = subprocess.run([folder + INSTALLED + "mme", "play", log], capture_output=True, timeout=60, check=False)
+            self.assertEqual(played.stdout, done.stdout * (count + 1))
 
 
 class Container(unittest.TestCase):
@@ -95,7 +97,9 @@ class Container(unittest.TestCase):
                 for source in sources:
                     into = pathlib.Path(folder, target.lstrip("/") + (pathlib.Path(source).name if target.endswith("/") else ""))
                     into.parent.mkdir(parents=True, exist_ok=True)
-                    if source != BUILT:
+                    if (tools.TOP / source).is_dir():
+                        shutil.copytree(tools.TOP / source, into, ignore=shutil.ignore_patterns("__pycache__"))
+                    elif source != BUILT:
                         shutil.copy(tools.TOP / source, into)
             [line] = self.lines("ENTRYPOINT")
             [program] = json.loads(line)
@@ -106,5 +110,5 @@ class Container(unittest.TestCase):
 
     def test_words(self):
         [line] = self.lines("CMD")
-        given = FRONT.parser().parse_args(json.loads(line))
-        self.assertEqual((str(given.listen), given.keep, given.log), ("0.0.0.0", 7, "/var/lib/soizkadur/trace"))
+        given = command.parser("").parse_args(json.loads(line))
+        self.assertEqual((*map(str, given.listen), given.keep, given.log), ("0.0.0.0", 7, "/var/lib/soizkadur/trace"))

@@ -61,12 +61,13 @@ class Lab(unittest.TestCase):
         text, port = DOCUMENT.read_text(encoding="utf-8"), str(free_port())
         needed = blocks(text.partition("## 4.")[0])
         commands = "\n".join(needed + blocks(LIVE.search(text)[0]))
-        for before, after in (("--tcp", "--tcp --port " + port), ("36412", port), ("sleep 1", "sleep 0.3"), ("sleep 2", "sleep 1")):
+        for before, after in (("--tcp", "--tcp --port " + port), ("36412", port), ("sleep 1", "sleep 0.3"), ("sleep 2", "sleep 1"),
+                              ("127.0.0.1:9101", "127.0.0.1:0")):
             self.assertIn(before, commands)
             commands = commands.replace(before, after)
         with tempfile.TemporaryDirectory() as folder:
             commands = commands.replace("lab=$(mktemp -d)", "lab=" + folder)
-            done = subprocess.run(["bash", "-euc", commands], cwd=tools.TOP, capture_output=True, timeout=60, check=False)
+            done = subprocess.run(["bash", "-euc", commands], cwd=tools.TOP, capture_output=True, timeout=240, check=False)
             self.assertEqual((done.returncode, done.stderr.decode()), (0, ""))
             lab = pathlib.Path(folder)
             got = (lab / "station.got").read_text().splitlines()
@@ -74,6 +75,8 @@ class Lab(unittest.TestCase):
             self.assertEqual(got, owed)
             printed = done.stdout.decode()
             shown = ["state 001010000000001 DEREGISTERED IDLE INACTIVE", "state 001010000000001 REGISTERED IDLE ACTIVE"]
-            self.assertEqual(re.findall("^(?:state|taken).*", printed, re.MULTILINE)[:3], shown + ["taken"])
+            told = re.findall(r"^(?:state|taken|given \d).*", printed, re.MULTILINE)
+            again = shown[1:] + ["given 0 subscribers, 4 vectors"]
+            self.assertEqual(told, shown + ["taken"] + shown + again)
             self.assertEqual(re.findall("^out .*? 0 (.*)", printed, re.MULTILINE), owed)
             self.assertIn("- PAGING -", printed)

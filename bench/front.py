@@ -1,0 +1,254 @@
+#!/usr/bin/env python3
+"""What tools/front takes: messages a second through it, and the time from a message to its answer.
+
+    front.py [PROGRAM] [--only WORD ..] [--stations N ..] [--seconds N]
+
+WORD is one of these, and all of them where none is given:
+  throughput  stations that each keep messages under way, as many as go; and the processor time of a message
+  latency     stations that together send 20,000 messages a second
+  flood       one station that sends 100 messages a second, beside 127 that send as many as go
+  attaches    500 phones that attach through one station at the front's own rate, all begun at once
+
+Messages are S1 SETUP REQUESTs, 35 octets each, whose answers have 27; each connection is TCP on this machine. PROGRAM is
+../crates/mme/out/mme where none is given. Times are of the clock, so nothing else should run; the processor time is disturbed less.
+"""
+import argparse
+import collections
+import contextlib
+import os
+import pathlib
+import re
+import select
+import socket
+import subprocess
+import sys
+import tempfile
+import time
+
+sys.dont_write_bytecode = True
+import lte
+import phones
+
+TOP = pathlib.Path(__file__).resolve().parent.parent
+NETWORK = phones.Network()
+REQUEST = lte.s1_setup_request(NETWORK, phones.Station(0))
+ANSWER = lte.s1_setup_response(NETWORK)
+FRAMED, ANSWERED = len(REQUEST).to_bytes(2, "big") + REQUEST, len(ANSWER) + 2
+UNDER_WAY = 512  # messages that all stations together keep under way, but at least two each
+RATE, QUIET_RATE, PHONES = 20000, 100, 500
+TICKS = os.sysconf("SC_CLK_TCK")
+AT_WILL = ("--rate", "1000000")
+
+
+class Front:
+    """A front that runs."""
+
+    def __init__(self, program, head, *words):
+        self.folder = tempfile.TemporaryDirectory()
+        folder = pathlib.Path(self.folder.name)
+        (folder / "subscribers").write_text(head)
+        self.process = subprocess.Popen(
+            [sys.executable, TOP / "tools" / "front", "run", folder / "subscribers", folder / "log", "--tcp", "--port", "0",
+             "--per-address", "128", "--setup-seconds", "3600", "--mme", program, *words], stderr=subprocess.PIPE, text=True)
+        self.port = None
+        for line in self.process.stderr:
+            found = re.search(r"ready: stations at \S+ port (\d+)", line)
+            if found:
+                self.port = int(found[1])
+                break
+        if self.port is None:
+            raise SystemExit("front.py: the front doesn't begin")
+
+    def processes(self):
+        """The front's process and its MME's."""
+        children = pathlib.Path("/proc/%d/task/%d/children" % (self.process.pid, self.process.pid)).read_text().split()
+        return self.process.pid, int(children[0])
+
+    def seconds(self):
+        """The processor time of the front, and of the MME."""
+        found = []
+        for pid in self.processes():
+            fields = pathlib.Path("/proc/%d/stat" % pid).read_text().rpartition(")")[2].split()
+            found.append((int(fields[11]) + int(fields[12])) / TICKS)
+        return found
+
+    def close(self):
+        self.process.terminate()
+        self.process.wait()
+        self.process.stderr.close()
+        self.folder.cleanup()
+
+
+class Station:
+    """A connection, and when each message was sent whose answer is due."""
+
+    def __init__(self, port):
+        self.socket = socket.create_connection(("127.0.0.1", port))
+        self.socket.setsockopt(socket.IPPROTO_TCP, socket.TCP_NODELAY, 1)
+        self.socket.setblocking(False)
+        self.due, self.rest, self.unsent = collections.deque(), 0, b""
+
+    def send(self, count, now):
+        """Sends so many messages."""
+        self.due.extend([now] * count)
+        self.unsent += FRAMED * count
+        with contextlib.suppress(BlockingIOError):
+            self.unsent = self.unsent[self.socket.send(self.unsent):]
+
+    def receive(self, times):
+        """Notes the times of the answers that came; how many these are."""
+        try:
+            octets = self.rest + len(self.socket.recv(1 << 20))
+        except BlockingIOError:
+            return 0
+        now = time.perf_counter()
+        count, self.rest = divmod(octets, ANSWERED)
+        for _ in range(count):
+            times.append(now - self.due.popleft())
+        return count
+
+
+class Load:
+    """Stations that send."""
+
+    def __init__(self, port, count):
+        self.stations = [Station(port) for _ in range(count)]
+        self.poll, self.by_file = select.epoll(), {}
+        for station in self.stations:
+            self.by_file[station.socket.fileno()] = station
+            self.poll.register(station.socket.fileno(), select.EPOLLIN)
+
+    def ready(self, seconds):
+        return [self.by_file[file] for file, _ in self.poll.poll(max(0.0, seconds), 256)]
+
+    def at_will(self, seconds):
+        """Each answer is followed by a message; the times of the answers."""
+        each, times, end = max(2, UNDER_WAY // len(self.stations)), [], time.perf_counter() + seconds
+        for station in self.stations:
+            station.send(each, time.perf_counter())
+        while (now := time.perf_counter()) < end:
+            for station in self.ready(0.1):
+                count = station.receive(times)
+                station.send(count, now)
+        return times
+
+    def paced(self, rate, seconds):
+        """So many messages a second of all stations together; the times of the answers."""
+        begun, sent, times, turn = time.perf_counter(), 0, [], 0
+        while (now := time.perf_counter()) < begun + seconds:
+            owed = int((now - begun) * rate) - sent
+            for _ in range(owed):
+                self.stations[turn].send(1, now)
+                turn = (turn + 1) % len(self.stations)
+            sent += owed
+            for station in self.ready(0.0005):
+                station.receive(times)
+        end = time.perf_counter() + 5
+        while any(station.due for station in self.stations) and time.perf_counter() < end:
+            for station in self.ready(0.1):
+                station.receive(times)
+        return times
+
+    def close(self):
+        for station in self.stations:
+            station.socket.close()
+        self.poll.close()
+
+
+def head():
+    return NETWORK.words + "\n"
+
+
+def share(times, part):
+    """The time that a part of all are under, in milliseconds."""
+    times = sorted(times)
+    return 1000 * times[min(len(times) - 1, int(part * len(times)))]
+
+
+def throughput(given):
+    print("| stations | messages a second | the front's processor time for each, in microseconds | the MME's |\n|---|---|---|---|")
+    for count in given.stations:
+        front = Front(given.program, head(), *AT_WILL)
+        load = Load(front.port, count)
+        before = front.seconds()
+        times = load.at_will(given.seconds)
+        spent = [after - at for after, at in zip(front.seconds(), before)]
+        print("| %d | %d | %.1f | %.1f |" % (count, len(times) / given.seconds, *(1e6 * part / len(times) for part in spent)))
+        load.close()
+        front.close()
+
+
+def latency(given):
+    print("| stations, together %d messages a second | answered | median, ms | 99 of 100 within, ms |\n|---|---|---|---|" % RATE)
+    for count in given.stations:
+        front = Front(given.program, head(), *AT_WILL)
+        load = Load(front.port, count)
+        times = load.paced(RATE, given.seconds)
+        print("| %d | %d | %.2f | %.2f |" % (count, len(times), share(times, 0.5), share(times, 0.99)))
+        load.close()
+        front.close()
+
+
+def flood(given):
+    front = Front(given.program, head(), *AT_WILL)
+    child = os.fork()
+    if child == 0:
+        try:
+            Load(front.port, 127).at_will(given.seconds + 4)
+        finally:
+            os._exit(0)
+    time.sleep(2)
+    load = Load(front.port, 1)
+    times = load.paced(QUIET_RATE, given.seconds)
+    print("| one station beside 127 that flood | answered | median, ms | 99 of 100 within, ms |\n|---|---|---|---|")
+    print("| %d messages a second | %d | %.2f | %.2f |" % (QUIET_RATE, len(times), share(times, 0.5), share(times, 0.99)))
+    load.close()
+    os.waitpid(child, 0)
+    front.close()
+
+
+def attaches(given):
+    """A step of all phones at a time, since a step has to wait for the answers to the one before."""
+    trace, station = phones.Trace(), phones.Station(0)
+    made = [phones.Phone(trace, slot, [phones.Vector.made(str(slot))]) for slot in range(PHONES)]
+    trace.provision(made)
+    front = Front(given.program, trace.text())
+    connection = socket.create_connection(("127.0.0.1", front.port))
+    answers, said = connection.makefile("rb"), len(trace.lines)
+    trace.set_up(station)
+    steps = [phone.attach_steps(station, phone.slot + 1) for phone in made]
+    begun, owed = time.perf_counter(), 0
+    while True:
+        messages = [bytes.fromhex(line.split(" ")[2]) for line in trace.lines[said:] if line.startswith("in ")]
+        said = len(trace.lines)
+        connection.sendall(b"".join(len(octets).to_bytes(2, "big") + octets for octets in messages))
+        for line in trace.answers[owed:]:
+            got = answers.read(int.from_bytes(answers.read(2), "big"))
+            assert got.hex() == line.split(" ")[3]
+        owed = len(trace.answers)
+        due = [step for step in (next(phone, None) for phone in steps) if step is not None]
+        if not due:
+            break
+        for step in due:
+            step()
+    print("%d phones attached within %.2f s, what they sent and were owed worked out among it"
+          % (PHONES, time.perf_counter() - begun))
+    connection.close()
+    front.close()
+
+
+def main():
+    words = argparse.ArgumentParser(description=__doc__, formatter_class=argparse.RawDescriptionHelpFormatter)
+    words.add_argument("program", metavar="PROGRAM", nargs="?", default=TOP / "crates" / "mme" / "out" / "mme")
+    measures = {measure.__name__: measure for measure in (throughput, latency, flood, attaches)}
+    words.add_argument("--only", nargs="+", choices=measures, default=list(measures))
+    words.add_argument("--stations", nargs="+", type=int, default=[1, 10, 100])
+    words.add_argument("--seconds", type=float, default=5.0)
+    given = words.parse_args()
+    for name in given.only:
+        measures[name](given)
+        print(flush=True)
+
+
+if __name__ == "__main__":
+    main()

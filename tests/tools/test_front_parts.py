@@ -1,0 +1,388 @@
+"""The parts of tools/fronting: connections, paces, segments, what counts, and what is compared where something is given."""
+import contextlib
+import itertools
+import os
+import pathlib
+import socket
+import stat
+import struct
+import sys
+import tempfile
+import time
+import unittest
+
+import tools
+from fronted import HEAD, IMSI
+
+sys.path.insert(0, str(tools.TOP / "tools"))
+sys.path.insert(0, str(tools.TOP / "bench"))
+LTE = tools.module("bench/lte.py")
+PHONES = tools.module("bench/phones.py")
+import runs as RUNS
+from fronting import giving, journal, limits, links, provisioning, sctp, segments
+from fronting.faults import Failed
+from fronting.meters import Meters
+from fronting.notify import Manager
+from fronting.pace import Pace
+del sys.path[:2]
+
+SETUP = bytes.fromhex("201100170000020069000b000000f11000008001000100574001ff")  # S1 SETUP RESPONSE
+ERROR = bytes.fromhex("000f40070000010002400110")  # ERROR INDICATION with a cause (TS 36.413 clause 9.1.8.3)
+
+
+@contextlib.contextmanager
+def pair():
+    """Both ends of a connection by TCP."""
+    with socket.create_server(("127.0.0.1", 0)) as listener, socket.create_connection(listener.getsockname()) as far:
+        near, _ = listener.accept()
+        with near:
+            yield far, near
+
+
+class Tcp(unittest.TestCase):
+    def received(self, pieces, closed=True, most=100, octets=1 << 20):
+        """What a link makes of octets that come in these pieces, and why it ended."""
+        with pair() as (far, near):
+            link, messages = links.TcpLink(near), []
+            for piece in pieces:
+                far.sendall(piece)
+                time.sleep(0.002)
+                link.readable = True
+                messages += link.take(most, octets)
+            if closed:
+                far.shutdown(socket.SHUT_WR)
+                end = time.monotonic() + 20
+                while link.why is None and time.monotonic() < end:
+                    link.readable = link.readable or link.last is None
+                    messages += link.take(most, octets)
+            return messages, link.why
+
+    def test_messages(self):
+        longest = (bytes(range(250)) * 80)[:limits.LONGEST_MESSAGE]
+        whole = b"\0\5hello" + b"\0\0" + len(longest).to_bytes(2, "big") + longest + b"\0\1!"
+        single = [bytes([octet]) for octet in whole[:12]]
+        for pieces in ([whole], [whole[:1], whole[1:]], [whole[:9], whole[9:]], single + [whole[12:]]):
+            for most, octets in ((100, 1 << 20), (1, 1 << 20), (100, 1)):
+                with self.subTest(pieces=len(pieces), most=most, octets=octets):
+                    self.assertEqual(self.received(pieces, most=most, octets=octets), ([b"hello", b"", longest, b"!"], links.ENDED))
+        self.assertEqual(self.received([]), ([], links.ENDED))
+
+    def test_turns(self):
+        """No more messages than are asked for, and none after so many octets."""
+        with pair() as (far, near):
+            link = links.TcpLink(near)
+            far.sendall(b"\0\3abc" * 10)
+            time.sleep(0.01)
+            self.assertEqual(link.take(4, 1000), [b"abc"] * 4)
+            self.assertTrue(link.has_more)
+            self.assertEqual(link.take(4, 1), [b"abc"])
+            self.assertEqual(link.take(100, 1000), [b"abc"] * 5)
+            self.assertFalse(link.has_more or link.readable)
+
+    def test_longest(self):
+        """The longest message is one of a trace for each station, and one octet more isn't."""
+        for more, fits in ((0, True), (1, False)):
+            line = b"in 127 " + b"00" * (limits.LONGEST_MESSAGE + more)
+            self.assertEqual(len(line) <= RUNS.LONGEST_LINE, fits)
+
+    def test_faults(self):
+        """What came whole before a fault counts."""
+        for pieces, messages, why in (([b"\x4e\x1d"], [], "a message of 19997 octets"),
+                                      ([b"\0\1!\xff\xff" + bytes(9)], [b"!"], "a message of 65535 octets"),
+                                      ([b"\0"], [], links.CUT), ([b"\0\5hell"], [], links.CUT),
+                                      ([b"\0\1!\0\5"], [b"!"], links.CUT)):
+            with self.subTest(why=why, pieces=pieces):
+                self.assertEqual(self.received(pieces), (messages, why))
+
+    def test_half_a_message(self):
+        """Since when there is half of one is known, and forgotten once it is whole."""
+        with pair() as (far, near):
+            link = links.TcpLink(near)
+            far.sendall(b"\0\5hel")
+            time.sleep(0.01)
+            self.assertEqual(link.take(10, 1000), [])
+            self.assertLessEqual(link.half_since, time.monotonic())
+            far.sendall(b"lo")
+            time.sleep(0.01)
+            link.readable = True
+            self.assertEqual(link.take(10, 1000), [b"hello"])
+            self.assertIsNone(link.half_since)
+
+    def test_send(self):
+        """By one call for all that waits; what doesn't go at once waits, and what waits is known."""
+        with pair() as (far, near):
+            link = links.TcpLink(near)
+            messages = [bytes([number % 250]) * 15000 for number in range(1000)]
+            link.put(b"hello")
+            link.put(b"")
+            link.flush()
+            self.assertEqual(far.recv(100), b"\0\5hello\0\0")
+            for message in messages:
+                link.put(message)
+            link.flush()
+            self.assertFalse(link.writable)
+            self.assertGreater(link.size, 0)
+            got = b""
+            while len(got) < 1000 * 15002:
+                got += far.recv(1 << 20)
+                link.writable = True
+                link.flush()
+            self.assertEqual(got, b"".join(len(message).to_bytes(2, "big") + message for message in messages))
+            self.assertEqual(link.size, 0)
+
+
+class Streams(unittest.TestCase):
+    def test_streams(self):
+        """The common one for what is no phone's, PAGING among that; a phone's by its eNB UE S1AP ID (TS 36.412 clause 7)."""
+        paging = LTE.paging(PHONES.Network(), IMSI, 0x10001, 1)
+        for octets in (SETUP, ERROR, paging, b"", b"\xff"):
+            self.assertEqual(sctp.stream_of(octets, 10), 0)
+        for enb_id in (0, 1, 8, 9, 300, 1 << 23):
+            nas = LTE.downlink_nas(0x10001, enb_id, b"\x07\x60\x6f")
+            release = LTE.release_command(0x10001, enb_id, LTE.NORMAL_RELEASE)
+            self.assertEqual(sctp.stream_of(nas, 10), 1 + enb_id % 9)
+            self.assertEqual(sctp.stream_of(release, 10), sctp.stream_of(nas, 10))
+            self.assertEqual(sctp.stream_of(nas, 1), 0)
+
+    def test_restart(self):
+        """The notification of a restart has the streams (RFC 6458 clause 6.1.1); others, and what is cut, have none."""
+        def change(kind, state):
+            return struct.pack("=HHIHHHHi", kind, 0, 20, state, 0, 3, 4, 7)
+        self.assertEqual(sctp.streams_after_restart(change(0x8001, 2)), 3)
+        for octets in (change(0x8001, 0), change(0x8001, 1), change(0x8002, 2), change(0x8001, 2)[:19], b""):
+            self.assertIsNone(sctp.streams_after_restart(octets))
+
+
+class Paces(unittest.TestCase):
+    def test_pace(self):
+        """A second's worth at once, and then so many a second."""
+        pace = Pace(100)
+        self.assertEqual(pace.allows(1000.0), 100)
+        pace.take(100, 1000.0)
+        self.assertEqual(pace.allows(1000.0), 0)
+        self.assertAlmostEqual(pace.next(), 1000.01)
+        self.assertEqual([pace.allows(1000 + seconds) for seconds in (0.009, 0.011, 0.305, 1.0, 50.0)], [0, 1, 30, 100, 100])
+        pace.take(300, 1001.0)
+        self.assertEqual(pace.allows(1002.9), 0)
+
+
+class Segments(unittest.TestCase):
+    def setUp(self):
+        self.folder = pathlib.Path(self.enterContext(tempfile.TemporaryDirectory()))
+        self.path = str(self.folder / "log")
+
+    def series(self, size=200, most=3):
+        made = segments.Series(self.path, "what happened", size, most, HEAD.encode())
+        self.addCleanup(made.close)
+        return made
+
+    def test_segments(self):
+        """In their order they are one trace; the oldest goes for a new one."""
+        series = self.series()
+        for number in range(20):
+            series.add(b"tick %d\n" % (10000 + number))
+        self.assertEqual(series.trim(series.number), [])
+        self.assertTrue(series.is_whole)
+        text = "".join(pathlib.Path(path).read_text() for path in series.paths())
+        self.assertTrue(text.startswith(HEAD))
+        self.assertEqual([line for line in text.splitlines() if line.startswith("tick")],
+                         ["tick %d" % (10000 + number) for number in range(20)])
+        for number in range(20, 60):
+            series.add(b"tick %d\n" % (10000 + number))
+        self.assertEqual(series.trim(2), [self.path + ".segment.000001"])
+        self.assertEqual(series.trim(series.number)[0], self.path + ".segment.000002")
+        self.assertFalse(series.is_whole)
+        self.assertLessEqual(len(series.paths()), 3)
+        self.assertLess(series.octets(), 800)
+
+    def test_owner_alone(self):
+        """The vectors in it are nobody else's."""
+        series = self.series(size=100)
+        series.add(b"tick 1\n" * 20)
+        for path in series.paths():
+            self.assertEqual(stat.S_IMODE(os.stat(path).st_mode), 0o600)
+
+    def test_places(self):
+        self.series()
+        with self.assertRaisesRegex(RUNS.Fault, "there is one already") as caught:
+            self.series()
+        self.assertEqual(caught.exception.status, 2)
+        with self.assertRaisesRegex(RUNS.Fault, "No such file"):
+            segments.Series(str(self.folder / "none" / "log"), "what happened", 100, 3, b"")
+
+    def test_moved_and_cut(self):
+        """Both are noticed, what comes goes into a new file, and a number stays free, so that the series isn't taken for whole."""
+        series = self.series()
+        series.add(b"tick 1\n")
+        self.assertIsNone(series.check())
+        os.replace(self.path, self.path + ".elsewhere")
+        self.assertEqual(series.check(), "was moved")
+        series.add(b"tick 2\n")
+        self.assertEqual([line for line in pathlib.Path(self.path).read_text().splitlines() if line.startswith("tick")], ["tick 2"])
+        os.truncate(self.path, 3)
+        self.assertEqual(series.check(), "was cut")
+        series.add(b"tick 3\n")
+        self.assertFalse(series.is_whole)
+        self.assertEqual(series.number, 4)
+        self.assertEqual(sorted(segments.older_segments(self.path)), [2])
+        pathlib.Path(self.path).unlink()
+        pathlib.Path(self.path).write_text("another's")
+        with self.assertRaisesRegex(Failed, "another file stands in its place"):
+            series.check()
+
+    def test_longer_head(self):
+        """It stands in the first segment, which may be the one that is written, and the events stay."""
+        for count in (1, 30):
+            with self.subTest(count=count):
+                for path in self.folder.iterdir():
+                    path.unlink()
+                series = segments.Series(self.path, "what happened", 200, 100, HEAD.encode())
+                for number in range(count):
+                    series.add(b"tick %d\n" % (10000 + number))
+                place = series.place
+                series.lengthen(HEAD.encode() + b"# more\n")
+                self.assertEqual(series.place, place)
+                series.add(b"tick 77\n")
+                text = "".join(pathlib.Path(path).read_text() for path in series.paths())
+                self.assertTrue(text.startswith(HEAD + "# more\n# segment 1, "))
+                self.assertEqual([line for line in text.splitlines() if line.startswith("tick")],
+                                 ["tick %d" % (10000 + number) for number in range(count)] + ["tick 77"])
+                series.close()
+
+
+class Counting(unittest.TestCase):
+    def batch(self, *items):
+        made = journal.Batch()
+        for line, station in items:
+            made.add(line, station)
+            if station is not None:
+                made.heard[station] = made.heard.get(station, 0) + 1
+        return made
+
+    def test_what_counts(self):
+        """Where each message of a station was answered by an ERROR INDICATION they don't count; else all of them do."""
+        items = [("up 1", None), ("in 0 aa", 0), ("in 1 bb", 1), ("in 0 cc", 0), ("in 2 dd", 2)]
+        for errors, left in (({}, items), ({0: 1}, items), ({0: 2}, [items[0], items[2], items[4]]),
+                             ({0: 2, 1: 1, 2: 1}, items[:1])):
+            batch = self.batch(*items)
+            batch.errors = errors
+            self.assertEqual(batch.counting(), [line for line, _ in left])
+
+    def test_ticks(self):
+        """Seconds in which nothing else counts are one line."""
+        folder = self.enterContext(tempfile.TemporaryDirectory())
+        made = journal.Journal.begun(folder + "/log", provisioning.Head(HEAD.splitlines()), 1 << 20, 3)
+        self.addCleanup(made.close)
+        for lines in (["tick 1"], ["tick 1"], ["tick 1", "up 0"], ["tick 1"], ["tick 7"], ["lost 0"]):
+            batch = self.batch(*((line, None) for line in lines))
+            made.add([batch])
+            made.settle(batch)
+        made.write_settled(0.0)
+        lines = pathlib.Path(folder, "log.counts").read_text().splitlines()
+        self.assertEqual([line for line in lines[2:] if line[0] != "#"], ["tick 3", "up 0", "tick 8", "lost 0"])
+        self.assertEqual(lines[-1], "# settled until segment 1, octet %d" % made.happened.place[1])
+
+
+class Comparing(unittest.TestCase):
+    """What two MMEs answer, one with a longer head; `refused 5` stands after the answers to each line."""
+
+    def compared(self, old, new, slots, piece=7):
+        made = giving.Comparison(set(slots), slots)
+        old, new = (b"".join(line + b"\n" for line in lines) for lines in (old, new))
+        for at in range(0, max(len(old), len(new)), piece):
+            made.old += old[at:at + piece]
+            made.new += new[at:at + piece]
+            made.go_on()
+        return made.lines, made.differing
+
+    def test_same(self):
+        lines = [b"out e0 0 aa", b"refused 5", b"refused 5", b"state 001010000000001 A B C", b"refused 5"]
+        for piece in (1, 7, 1000):
+            self.assertEqual(self.compared(lines, lines, {IMSI: 0}, piece), (3, set()))
+
+    def test_changed_subscribers(self):
+        """What is otherwise for those whose provisioning changes is allowed, and known."""
+        for piece in (1, 7, 1000):
+            self.assertEqual(self.compared([b"out s1 0 aa", b"refused 5", b"out s0 0 bb", b"refused 5"],
+                                           [b"out s1 0 aa", b"out s1 0 ab", b"refused 5", b"out s0 0 bb", b"refused 5"],
+                                           {"001010000000002": 1}, piece), (2, {"001010000000002"}))
+
+    def test_others(self):
+        """What is otherwise for anybody else isn't."""
+        for old, new in (([b"out s0 0 aa", b"refused 5"], [b"out s0 0 ab", b"refused 5"]),
+                         ([b"out s0 0 aa", b"refused 5"], [b"refused 5"]),
+                         ([b"state 001010000000001 A B C", b"refused 5"], [b"state 001010000000001 A B D", b"refused 5"])):
+            with self.assertRaises(giving.Differs):
+                self.compared(old, new, {"001010000000002": 1})
+
+    def test_stranger_who_is_a_subscriber_now(self):
+        """What a phone was answered as a stranger, at this station and with this eNB UE S1AP ID, isn't compared."""
+        answer = LTE.downlink_nas(0x10001, 77, b"\x07\x44\x08").hex().encode()
+        self.assertEqual(self.compared([b"out x0.77 0 " + answer, b"refused 5"], [b"out s1 0 " + answer, b"refused 5"],
+                                       {"001010000000002": 1}), (1, {"001010000000002"}))
+        with self.assertRaises(giving.Differs):
+            self.compared([b"out x0.78 0 " + answer, b"refused 5"], [b"out s1 0 " + answer, b"refused 5"], {"001010000000002": 1})
+
+
+class Provisioning(unittest.TestCase):
+    def test_more(self):
+        """Further lines are of a new subscriber, or vectors of one that there is; anything else is refused with its line."""
+        head = provisioning.Head(HEAD.splitlines())
+        sub, vector = "sub 001010000000002 0a000002 0a000064 00000002", "vec %s aa bb cc dd" % IMSI
+        longer = head.with_more(["# more", sub, vector, vector.replace(IMSI, "001010000000002")])
+        self.assertEqual((longer.imsis, longer.slots["001010000000002"]), ([IMSI, "001010000000002"], 1))
+        self.assertTrue(head.is_beginning_of(longer))
+        self.assertFalse(longer.is_beginning_of(head))
+        for lines, why in ((["up 0"], "line 1: no line begins with 'up'"), ([sub, sub], "line 2: it stands already"),
+                           ([sub.replace("0a000002", "0a000003"), sub], "line 2: 001010000000002 has its line sub"),
+                           (["vec 001010000000003 aa bb cc dd"], "line 1: 001010000000003 has no line sub"),
+                           (["sub x 0a000002 0a000064 00000002"], "line 1: 'x' isn't an IMSI"),
+                           ([vector[:-1]], "aren't octets in hex"),
+                           ([head.lines[0]], "line 1: no line begins with 'mme'"), (["sub"], "line 1: sub has 4 fields, not 0")):
+            with self.subTest(why=why), self.assertRaisesRegex(RUNS.Fault, why):
+                head.with_more(lines)
+
+
+class Counts(unittest.TestCase):
+    def test_attach(self):
+        """The steps of an attach, by the messages of an example trace."""
+        meters = Meters()
+        row = (tools.TOP / "examples" / "attach_whole.trace").read_text()
+        for line in row.splitlines():
+            words = line.removeprefix("# ").split(" ")
+            if words[0] == "in":
+                meters.count_in(int(words[1]), bytes.fromhex(words[2]))
+            elif words[0] == "out" and line.startswith("# out"):
+                meters.count_out(int(words[2]), bytes.fromhex(words[3]))
+        self.assertEqual(meters.attaches, {"requested": 1, "accepted": 1, "completed": 1})
+        self.assertEqual(meters.inward[b"\0\x0c"], 1)
+
+    def test_junk(self):
+        """What is no S1AP has one name, however much of it there is."""
+        meters = Meters()
+        for first, second in itertools.product(range(0, 256, 5), repeat=2):
+            meters.count_in(0, bytes([first, second]))
+        self.assertLess(len(meters.inward), 60)
+
+    def test_times(self):
+        meters = Meters()
+        for seconds, count in ((0.0001, 5), (0.003, 2), (100.0, 1)):
+            meters.count_answers(seconds, count)
+        self.assertEqual((meters.answered, meters.buckets[0], meters.buckets[3], meters.buckets[-1]), (8, 5, 2, 1))
+
+
+class ServiceManager(unittest.TestCase):
+    def test_notify(self):
+        """sd_notify(3): a datagram of words to the socket that the environment names, by path or by abstract name."""
+        with tempfile.TemporaryDirectory() as folder:
+            abstract = "soizkadur.%d" % os.getpid()
+            for name, bound in ((folder + "/notify", folder + "/notify"), ("@" + abstract, "\0" + abstract)):
+                with socket.socket(socket.AF_UNIX, socket.SOCK_DGRAM) as manager:
+                    manager.bind(bound)
+                    made = Manager({"NOTIFY_SOCKET": name, "WATCHDOG_USEC": "10000000"})
+                    self.assertEqual(made.period, 5.0)
+                    made.tell(READY=1, STATUS="two words")
+                    self.assertEqual(manager.recv(100), b"READY=1\nSTATUS=two words")
+        Manager({"NOTIFY_SOCKET": "/none/there"}).tell(READY=1)
+        self.assertIsNone(Manager({"WATCHDOG_USEC": "10000000"}).period)
+        self.assertIsNone(Manager({"NOTIFY_SOCKET": "/none", "WATCHDOG_USEC": "1000000", "WATCHDOG_PID": "1"}).period)

@@ -1,0 +1,220 @@
+"""The command line of tools/front."""
+import argparse
+import contextlib
+import ipaddress
+import json
+import socket
+import time
+
+import runs
+
+from fronting import limits
+from fronting.exchange import END, GO_ON, REFUSE
+from fronting.faults import WRONG, told
+from fronting.front import Front
+from fronting.listening import ControlSocket, listener_of, page_listener_of
+from fronting.page import Page
+from fronting.provisioning import read_head
+from fronting.saying import Voice
+
+S1AP_PORT = 36412  # TS 36.412 clause 7
+OF_PHONE, OF_FILE, OF_FRONT = ("data", "cancel", "show"), ("give",), ("stations", "phones", "counters")
+
+
+def run(given):
+    """Runs the front by these words."""
+    given.control = given.control or given.log + ".control"
+    given.listen = given.listen or [address_of("127.0.0.1")]
+    voice = Voice(given.log_form == "json")
+    try:
+        head = read_head(runs.read_file(given.subscribers), given.subscribers, given.code)
+        with contextlib.ExitStack() as after:
+            listener, link = listener_of(given.listen, given.port, given.tcp)
+            after.enter_context(listener)
+            control = after.enter_context(contextlib.closing(ControlSocket(given.control)))
+            page = None
+            if given.page is not None:
+                pages = after.enter_context(page_listener_of(*given.page))
+                page = lambda front: Page(front, pages)
+            Front(given, head, voice).run(listener, link, control.listener, page)
+        return 0
+    except runs.Fault as fault:
+        status = getattr(fault, "status", WRONG)
+        voice.say("ends", str(fault), status=status)
+        return status
+    finally:
+        voice.close()
+
+
+# --- Asking ---
+
+
+def connected(path, wait):
+    """A connection to a control socket, that may only come within so many seconds."""
+    until = time.monotonic() + wait
+    while True:
+        asking = socket.socket(socket.AF_UNIX)
+        try:
+            asking.connect(path)
+            return asking
+        except OSError as fault:
+            asking.close()
+            if not isinstance(fault, (FileNotFoundError, ConnectionRefusedError)) or time.monotonic() > until:
+                raise runs.Fault("%s: %s" % (path, told(fault))) from None
+            time.sleep(0.05)
+
+
+def question(given):
+    """What is sent for the words of `ask`."""
+    wanted = 0 if given.word in OF_FRONT else 1
+    if len(given.more) != wanted:
+        raise runs.Fault("%s has %d words after it" % (given.word, wanted))
+    if given.word in OF_FILE:
+        octets = runs.read_file(given.more[0])
+        return b"give %d\n" % len(octets) + octets
+    return " ".join([given.word, *given.more]).encode() + b"\n"
+
+
+def table(word, found):
+    """What was told of a front, a line for each thing."""
+    if word == "phones":
+        return "".join("%s %s\n" % item for item in found.items())
+    if word == "stations":
+        return "".join(" ".join("%s=%s" % item for item in station.items()) + "\n" for station in found)
+    return "".join("%s: %s\n" % (name, json.dumps(value)) for name, value in found.items())
+
+
+def ask(given):
+    """Asks a front that runs."""
+    try:
+        octets = question(given)
+        with connected(given.control, given.wait) as asking:
+            asking.settimeout(limits.GIVING_SECONDS + limits.HOLD_SECONDS)
+            try:
+                asking.sendall(octets)
+                answer = asking.makefile().readline()
+            except OSError as fault:
+                raise runs.Fault("%s: %s" % (given.control, told(fault))) from None
+        if not answer:
+            raise runs.Fault("the front ended before it answered")
+    except runs.Fault as fault:
+        voice = Voice()
+        voice.say("fault", str(fault))
+        voice.close()
+        return WRONG
+    word, _, rest = answer.partition(" ")
+    if word in OF_FRONT and not given.json:
+        print(table(word, json.loads(rest)), end="")
+    else:
+        print(rest if word in OF_FRONT else answer, end="")
+    return 0 if word.strip() in ("taken", "state", "given", *OF_FRONT) else 1
+
+
+# --- Words ---
+
+
+def whole(low, high):
+    """Reads a number of a range."""
+    def read(text):
+        try:
+            return runs.number(text, low, high)
+        except runs.Fault as fault:
+            raise argparse.ArgumentTypeError(str(fault)) from None
+    return read
+
+
+def seconds(text):
+    try:
+        if 0.001 <= float(text) <= 86400:
+            return float(text)
+    except ValueError:
+        pass
+    raise argparse.ArgumentTypeError("%r isn't a number of seconds from 0.001 to 86400" % text)
+
+
+def address_of(text):
+    try:
+        return ipaddress.ip_address(text)
+    except ValueError as fault:
+        raise argparse.ArgumentTypeError(str(fault)) from None
+
+
+def network_of(text):
+    try:
+        return ipaddress.ip_network(text)
+    except ValueError as fault:
+        raise argparse.ArgumentTypeError(str(fault)) from None
+
+
+def page_of(text):
+    """An address and a port, as 127.0.0.1:9100 or [::1]:9100."""
+    address, _, port = text.rpartition(":")
+    return address_of(address.removeprefix("[").removesuffix("]")), whole(0, 65535)(port)
+
+
+def add_interface(words):
+    """The words on stations and who may ask."""
+    words.add_argument("--listen", metavar="ADDRESS", type=address_of, action="append",
+                       help="where stations connect to; by SCTP it may be given for each of several addresses; 127.0.0.1, this "
+                       "machine alone, where not given")
+    words.add_argument("--port", type=whole(0, 65535), default=S1AP_PORT, help="36412 where not given; 0 for any that is free")
+    links = words.add_mutually_exclusive_group()
+    links.add_argument("--sctp", action="store_true", help="by SCTP, as where neither is given")
+    links.add_argument("--tcp", action="store_true", help="by TCP, with two octets of length before each message")
+    words.add_argument("--allow", metavar="NETWORK", type=network_of, action="append",
+                       help="an address or a network that stations may come from, as 192.0.2.0/24; may be given several times; "
+                       "any where not given")
+    words.add_argument("--per-address", type=whole(1, runs.STATIONS), default=limits.PER_ADDRESS, metavar="N",
+                       help="connections of one address at a time; %d where not given" % limits.PER_ADDRESS)
+    words.add_argument("--rate", type=whole(1, 1000000), default=limits.RATE, metavar="N", help="messages a second of a station")
+    words.add_argument("--setup-seconds", type=seconds, default=limits.SETUP_SECONDS, metavar="SECONDS",
+                       help="from the connection to S1 SETUP RESPONSE")
+    words.add_argument("--control", metavar="PATH", help="of the control socket; LOG.control where not given")
+    words.add_argument("--page", metavar="ADDRESS:PORT", type=page_of,
+                       help="where a browser finds the page of its state, and Prometheus /metrics; nowhere where not given")
+
+
+def add_log(words):
+    """The words on the log, and what the front says."""
+    words.add_argument("--keep", type=whole(0, 99), default=0, metavar="N", help="older logs to keep, as LOG.1 to LOG.N")
+    words.add_argument("--resume", action="store_true", help="play the last log first and go on after it, where it is whole")
+    words.add_argument("--segment-size", type=whole(1, 4096), default=limits.SEGMENT_SIZE, metavar="MIB",
+                       help="of a segment of the log; %d MiB where not given" % limits.SEGMENT_SIZE)
+    words.add_argument("--segments", type=whole(2, 10000), default=limits.SEGMENTS, metavar="N",
+                       help="segments to keep of what happened, and of what counts; %d where not given" % limits.SEGMENTS)
+    words.add_argument("--full-disk", choices=(END, REFUSE, GO_ON), default=END,
+                       help="what is done where the log can't be written: end with status 74 (as where not given), refuse stations "
+                       "for up to %d s, or go on without a log" % limits.FULL_SECONDS)
+    words.add_argument("--log", dest="log_form", choices=("text", "json"), default="text", help="the form of what it says")
+
+
+def parser(description):
+    form = {"formatter_class": argparse.RawDescriptionHelpFormatter, "allow_abbrev": False}
+    words = argparse.ArgumentParser(description=description,
+                                    epilog="`tools/front run --help` has the options and the limits.", **form)
+    ways = words.add_subparsers(required=True, metavar="run|ask")
+    live = ways.add_parser("run", help="take stations", epilog=limits.LIMITS, **form)
+    live.add_argument("subscribers", metavar="SUBSCRIBERS", help="a file with the lines mme, sub and vec")
+    live.add_argument("log", metavar="LOG", help="the file that gets the trace")
+    add_interface(live)
+    add_log(live)
+    live.add_argument("--code", metavar="HEX", help="refuse SUBSCRIBERS of another MME code than this")
+    live.add_argument("--answer-seconds", type=seconds, default=limits.ANSWER_SECONDS, metavar="SECONDS",
+                      help="that the MME may owe an answer; then the front ends with status 76")
+    live.add_argument("--second", type=seconds, default=1.0, metavar="SECONDS", help="the length of a tick, for tests")
+    live.add_argument("--mme", metavar="PROGRAM", default=runs.SYSTEM, help="the program to run, for ./mme")
+    live.set_defaults(act=run)
+    asking = ways.add_parser("ask", help="ask a front that runs", **form)
+    asking.add_argument("control", metavar="CONTROL", help="its control socket")
+    asking.add_argument("word", metavar="WORD", choices=sorted((*OF_PHONE, *OF_FILE, *OF_FRONT)),
+                        help="data, cancel or show, with an IMSI; give with a FILE; stations, phones or counters")
+    asking.add_argument("more", metavar="IMSI|FILE", nargs="*")
+    asking.add_argument("--json", action="store_true", help="print what is told of the front as JSON")
+    asking.add_argument("--wait", type=seconds, default=0.0, metavar="SECONDS", help="for a front that only begins")
+    asking.set_defaults(act=ask)
+    return words
+
+
+def main(description):
+    given = parser(description).parse_args()
+    return given.act(given)

@@ -1,0 +1,89 @@
+"""The control socket: its lines and their answers."""
+import json
+
+import runs
+
+from fronting import limits, status
+from fronting.guests import Door
+
+WORDS = {"data": 1, "cancel": 1, "show": 1, "give": 1, "stations": 0, "phones": 0, "counters": 0}
+NOBODY = "refused %d: %s" % (runs.UNKNOWN_IMSI, runs.REFUSALS[runs.UNKNOWN_IMSI])
+
+
+class Control:
+    """Answers those who ask, each line after the one before."""
+
+    def __init__(self, front, listener):
+        self.front = front
+        self.busy = set()  # guests whose line isn't answered yet
+        self.door = Door(front.loop, listener, limits.MOST_ASKING, limits.LONGEST_GIVEN + limits.LONGEST_ASKED,
+                         limits.ASKING_SECONDS, self.take)
+
+    def take(self, guest, received):
+        """Answers the lines that are whole; returns what is left."""
+        while guest not in self.busy and guest.is_open:
+            line, end, rest = received.partition(b"\n")
+            if not end or len(line) > limits.LONGEST_ASKED:
+                if len(line) > limits.LONGEST_ASKED:
+                    guest.close()
+                break
+            length = self.length_of(line)
+            if length is not None and len(rest) < length:
+                break
+            received = rest[length or 0:]
+            self.answer(guest, line, None if length is None else rest[:length])
+        return received
+
+    @staticmethod
+    def length_of(line):
+        """How many octets follow a line `give`, or nothing for another line."""
+        word, _, count = line.partition(b" ")
+        if word != b"give" or not count.isdigit() or len(count) > 9 or int(count) > limits.LONGEST_GIVEN:
+            return None
+        return int(count)
+
+    def answer(self, guest, line, text):
+        """Does what a line says, and answers it once that is done."""
+        self.busy.add(guest)
+        now = True
+
+        def reply(answer):
+            self.busy.discard(guest)
+            guest.say((answer + "\n").encode())
+            if not now:
+                guest.go_on()
+
+        try:
+            word, fields = runs.fields_of(line, WORDS)
+            if word in ("data", "cancel", "show"):
+                self.tell_mme(word, runs.imsi_of(fields[0]), reply)
+            elif word == "give":
+                self.give(text, reply)
+            elif word == "phones":
+                status.states(self.front, lambda states: reply("phones " + json.dumps(states)))
+            else:
+                found = status.stations(self.front) if word == "stations" else status.counters(self.front)
+                reply("%s %s" % (word, json.dumps(found)))
+        except runs.Fault as fault:
+            reply("fault %s" % fault)
+        now = False
+
+    def tell_mme(self, word, imsi, reply):
+        """A line of a trace, for one who is provisioned."""
+        if imsi not in self.front.head.slots:
+            reply(NOBODY)
+            return
+        self.front.exchange.put("%s %s" % (word, imsi))
+        if word == "show":
+            self.front.exchange.shows.append(lambda answer: reply("state %s %s" % (answer.imsi, answer.states)))
+        else:
+            reply("taken")
+
+    def give(self, text, reply):
+        """Further subscribers and vectors."""
+        if text is None:
+            raise runs.Fault("give has the number of octets that follow, up to %d" % limits.LONGEST_GIVEN)
+        self.front.give(text, reply)
+
+    def close(self):
+        self.door.close()

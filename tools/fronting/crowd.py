@@ -1,0 +1,248 @@
+"""The stations that are connected: their numbers, their turns, and what they are sent."""
+import collections
+import ipaddress
+import itertools
+import re
+import select
+import time
+
+import runs
+
+from fronting import limits
+from fronting.faults import told
+from fronting.pace import Pace
+from fronting.stations import Station, heard
+
+EVENTS = select.EPOLLIN | select.EPOLLOUT | select.EPOLLRDHUP | select.EPOLLET
+GONE = select.EPOLLIN | select.EPOLLRDHUP | select.EPOLLHUP | select.EPOLLERR
+
+
+def host_of(text):
+    """An address by what the system calls it; one of IPv4 that came by IPv6 is of IPv4."""
+    address = ipaddress.ip_address(text.partition("%")[0])
+    return getattr(address, "ipv4_mapped", None) or address
+
+
+class Crowd:
+    """Takes connections, gives each the lowest number that is free, and has them speak in turns."""
+
+    def __init__(self, loop, exchange, voice, meters, settings):
+        self.loop, self.exchange, self.voice, self.meters = loop, exchange, voice, meters
+        self.rate, self.per_address = settings.rate, settings.per_address
+        self.allowed, self.setup_seconds = settings.allow, settings.setup_seconds
+        self.stations, self.used = {}, set()  # by number; the numbers that a connection had
+        self.eager, self.addresses = {}, collections.Counter()
+        self.pace, self.wakes, self.listeners = Pace(limits.CONNECTION_RATE), None, []
+
+    # Connections.
+
+    def listen(self, listener, link):
+        """Takes connections of a listening socket."""
+        self.listeners.append(listener)
+        self.loop.watch(listener.fileno(), select.EPOLLIN, lambda events: self.accept(listener, link))
+
+    def rest(self, listener, link, seconds):
+        """Takes none for a while."""
+        self.loop.unwatch(listener.fileno())
+        self.loop.after(seconds, lambda: listener in self.listeners and self.loop.watch(
+            listener.fileno(), select.EPOLLIN, lambda events: self.accept(listener, link)))
+
+    def accept(self, listener, link):
+        """Takes the connections that wait."""
+        now = time.monotonic()
+        for _ in range(self.pace.allows(now)):
+            try:
+                connection, address = listener.accept()
+            except BlockingIOError:
+                return
+            except OSError as fault:
+                self.voice.say("not_taken", "a connection isn't taken: " + told(fault))
+                self.rest(listener, link, 1 / limits.CONNECTION_RATE)
+                return
+            self.pace.take(1, now)
+            self.meters.connections += 1
+            self.take(connection, address, link)
+        self.rest(listener, link, 1 / limits.CONNECTION_RATE)
+
+    def refusal(self, address):
+        """Why a further connection of an address isn't taken, or nothing."""
+        if self.allowed and not any(address in network for network in self.allowed):
+            return "its address isn't among those that may come"
+        if len(self.stations) == runs.STATIONS:
+            return "there are %d stations already" % runs.STATIONS
+        if self.addresses[address] >= self.per_address:
+            return "there are %d connections of its address already" % self.per_address
+        if self.exchange.held_since is not None:
+            return "the log can't be written"
+        return None
+
+    def take(self, connection, address, link):
+        """Makes a connection a station, or closes it."""
+        host, port = host_of(address[0]), address[1]
+        why = self.refusal(host)
+        if why is None:
+            try:
+                self.connect(Station(link(connection), host, port, self.rate, time.monotonic()))
+                return
+            except OSError as fault:
+                why = told(fault)
+        connection.close()
+        self.meters.refused += 1
+        self.voice.say("refused", "%s port %d isn't taken: %s" % (host, port, why), address=str(host), port=port)
+
+    def connect(self, station):
+        """Gives a station the lowest number that is free. What was sent for that number before isn't for it."""
+        number = next(number for number in range(runs.STATIONS) if number not in self.stations)
+        exchange, key = self.exchange, b"%d" % number
+        station.number, self.stations[number] = number, station
+        self.addresses[station.address] += 1
+        if number in self.used:
+            exchange.part(lambda: station.is_lost or exchange.receivers.update({key: station}))
+        else:
+            exchange.receivers[key] = station
+        self.used.add(number)
+        exchange.put("# station %d: %s" % (number, station))
+        exchange.put("up %d" % number)
+        self.eager[station] = True
+        self.loop.watch(station.link.connection.fileno(), EVENTS, lambda events: self.look(station, events))
+        self.voice.say("connects", "station %d: %s connects" % (number, station), station=number, address=str(station.address),
+                       port=station.port)
+
+    def look(self, station, events):
+        """What epoll says of a connection."""
+        if events & GONE:
+            station.link.readable = True
+            self.eager[station] = True
+        if events & select.EPOLLOUT and not station.link.writable and station.link.why is None:
+            station.link.writable = True
+            if station.link.size:
+                self.exchange.dirty.add(station)
+
+    # Turns.
+
+    def collect(self):
+        """Gives each station that has something to say its turn; whether one still has."""
+        if not self.exchange.is_free or not self.eager:
+            return False
+        now, due, paced = time.monotonic(), [], []
+        for station in self.eager:
+            (due if station.allows(now) else paced).append(station)
+        parts = len(due) or 1
+        share, octets = max(1, limits.TURN_MESSAGES // parts), limits.TURN_OCTETS // parts
+        said = []
+        for station in due:
+            messages = station.take(share, octets, now)
+            if messages:
+                said.append(self.lines_of(station, messages))
+        self.put_in_turn(said)
+        for station in due:
+            self.settle(station)
+        self.wake_for(paced, now)
+        return any(station in self.eager and station.allows(now) for station in due)
+
+    def lines_of(self, station, messages):
+        """What the messages of a station are in the log, each with its number."""
+        number, found = station.number, []
+        for octets in messages:
+            self.meters.count_in(number, octets)
+            found.append((number, "\n".join(heard(number, octets))))
+        return found
+
+    def put_in_turn(self, said):
+        """Puts a message of each station after one of each other."""
+        put = self.exchange.batch.add
+        for found in said:
+            heard_counts = self.exchange.batch.heard
+            number = found[0][0]
+            heard_counts[number] = heard_counts.get(number, 0) + len(found)
+        for round_of_all in itertools.zip_longest(*said):
+            for item in round_of_all:
+                if item is not None:
+                    put(item[1], item[0])
+
+    def settle(self, station):
+        """What becomes of a station that had its turn."""
+        link = station.link
+        del self.eager[station]
+        if link.why is not None:
+            self.lose(station, link.why)
+        elif link.has_restarted:
+            self.begin_anew(station)
+        elif link.readable or link.has_more:
+            self.eager[station] = True
+
+    def wake_for(self, paced, now):
+        """Comes back when the first of those that were too fast may go on."""
+        if paced and self.wakes is None:
+            soonest = min(station.next() for station in paced)
+            self.wakes = self.loop.after(max(0.001, soonest - now), self.has_woken)
+
+    def has_woken(self):
+        self.wakes = None
+
+    def send(self):
+        """Sends what waits, by one call for each station."""
+        dirty = self.exchange.dirty
+        while dirty:
+            station = dirty.pop()
+            if station.is_lost:
+                continue
+            station.link.flush()
+            if station.link.why is not None or station.link.size > limits.MOST_WAITING:
+                self.lose(station, station.fault(time.monotonic(), self.setup_seconds))
+
+    def sweep(self, now):
+        """Ends the connections that take too long."""
+        for station in list(self.stations.values()):
+            why = station.fault(now, self.setup_seconds)
+            if why is not None:
+                self.lose(station, why)
+
+    # Ends.
+
+    def lose(self, station, why):
+        """Ends a connection."""
+        self.part_from(station)
+        station.link.close()
+        self.meters.losses[re.sub(r"\d+", "N", why)] += 1
+        self.voice.say("lost", "station %d: lost: %s" % (station.number, why), station=station.number, why=why)
+
+    def part_from(self, station):
+        """A station is lost, and its number free."""
+        number = station.number
+        station.is_lost = True
+        self.loop.unwatch(station.link.connection.fileno())
+        self.eager.pop(station, None)
+        self.addresses[station.address] -= 1
+        if not self.addresses[station.address]:
+            del self.addresses[station.address]
+        del self.stations[number]
+        self.exchange.receivers[b"%d" % number] = None
+        self.exchange.put("lost %d" % number)
+
+    def begin_anew(self, station):
+        """The other side of an association has begun anew: the station is lost and comes again."""
+        self.part_from(station)
+        self.voice.say("restarts", "station %d: lost: it began anew" % station.number, station=station.number)
+        self.meters.losses["it began anew"] += 1
+        station.link.restart()
+        self.connect(Station(station.link, station.address, station.port, self.rate, time.monotonic()))
+
+    def refuse(self):
+        """Takes no connection any more."""
+        for listener in self.listeners:
+            self.loop.unwatch(listener.fileno())
+        self.listeners = []
+
+    def lose_all(self):
+        """Each station is lost; its connection stays until the last answers are sent."""
+        for number in sorted(self.stations):
+            self.exchange.put("lost %d" % number)
+
+    def close(self):
+        for station in self.stations.values():
+            station.link.close()
+
+    def has_sent(self):
+        """Whether nothing waits to be sent any more."""
+        return not any(station.link.size and station.link.why is None for station in self.stations.values())

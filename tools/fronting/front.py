@@ -1,0 +1,285 @@
+"""The front: gives the MME what stations send, and them what it answers."""
+import gc
+import os
+import select
+import signal
+import time
+
+from fronting import limits
+from fronting.control import Control
+from fronting.crowd import Crowd
+from fronting.exchange import Exchange
+from fronting.faults import SILENT, Ended, Failed
+from fronting.giving import Giving
+from fronting.journal import Journal
+from fronting.loop import Loop
+from fronting.meters import Meters
+from fronting.notify import Manager
+from fronting.resuming import NoResume, Standing, make_way, note_stations
+
+import runs
+
+CARE_SECONDS = 1.0  # between two looks at what takes too long
+UNCOLLECTED = 50000  # objects after which unused ones are looked for; cycles of them are few
+
+
+class Front:
+    """The MME, the stations, and whoever asks."""
+
+    def __init__(self, settings, head, voice):
+        self.settings, self.head, self.voice = settings, head, voice
+        self.loop, self.meters, self.manager = Loop(), Meters(), Manager(os.environ)
+        self.exchange = self.crowd = self.control = self.page = self.giving = None
+        self.is_over, self.is_busy = False, False
+        self.resumed, self.given = 0, 0
+
+    # The beginning.
+
+    def begin(self):
+        """Starts the MME, with the last log before it where that is to be resumed; it has answered then."""
+        more = self.resume() if self.settings.resume and os.path.exists(self.settings.log) else None
+        if more is None:
+            make_way(self.settings.log, self.settings.keep)
+            journal = Journal.begun(self.settings.log, self.head, *self.log_size)
+            self.start(self.head)
+            self.exchange.journal = journal
+            self.exchange.replay(b"")
+            self.wait()
+        return more
+
+    @property
+    def log_size(self):
+        return self.settings.segment_size << 20, self.settings.segments
+
+    def start(self, head):
+        self.exchange = Exchange(self.loop, self.voice, self.meters, self.settings.full_disk)
+        self.exchange.begin(self.settings.mme, head)
+
+    def wait(self):
+        """Waits until the MME has answered all that it was given."""
+        while self.exchange.marks and not self.is_over:
+            self.turn_before_stations()
+
+    def turn_before_stations(self):
+        """Turns once, and sees that the MME doesn't take too long."""
+        timer = self.loop.after(CARE_SECONDS, lambda: None)
+        self.loop.turn()
+        timer.cancel()
+        if self.exchange.has_answered:
+            self.exchange.check_answers(time.monotonic(), self.settings.answer_seconds)
+        elif time.monotonic() - self.exchange.heard_at > limits.FIRST_SECONDS:
+            raise Failed("%s doesn't answer a line within %d s; the proved program does (./mme --prove)"
+                         % (self.settings.mme, limits.FIRST_SECONDS), SILENT)
+
+    def resume(self):
+        """Plays the log that stands, and goes on after it. The lines of provisioning that came since; nothing where it can't be."""
+        try:
+            standing = Standing(self.settings.log)
+            if not standing.head.is_beginning_of(self.head):
+                raise NoResume("%s begins with other lines than %s" % (self.settings.log, self.settings.subscribers))
+            up = self.play(standing)
+        except (NoResume, Ended) as fault:
+            self.voice.say("not_resumed", "the last run isn't resumed, and nobody is attached: %s" % fault)
+            if self.exchange is not None:
+                self.exchange.program.close()
+            return None
+        seconds = standing.seconds_since()
+        self.exchange.journal = standing.journal(*self.log_size)
+        for batch in self.tail:
+            self.exchange.journal.settle(batch)
+        self.exchange.put("# resumed")
+        if seconds:
+            self.exchange.put("tick %d" % seconds)
+        for number in sorted(up):
+            self.exchange.put("lost %d" % number)
+        self.exchange.flush()
+        self.wait()
+        self.resumed = 1
+        more = self.head.facts[len(standing.head.facts):]
+        self.head = standing.head
+        self.voice.say("resumed", "the run of %s goes on: %d stations were lost, %d s passed"
+                       % (self.settings.log, len(up), seconds), stations=len(up), seconds=seconds)
+        return more
+
+    def play(self, standing):
+        """Gives the MME what counts of a log, and what happened since that was settled; the stations that were connected."""
+        up = set()
+        self.start(standing.head)
+        exchange, exchange.is_replaying = self.exchange, True
+        for piece in standing.events():
+            note_stations(piece, up)
+            exchange.replay(piece)
+            while exchange.program.size and not self.is_over:
+                self.turn_before_stations()
+        exchange.replay(b"")
+        self.wait()
+        exchange.is_replaying = False
+        self.tail = standing.tail_batches()
+        for batch, octets in zip(self.tail, standing.tail):
+            note_stations(octets, up)
+            exchange.shows.extend([lambda answer: None] * sum(line.startswith("show ") for line in batch.lines))
+            exchange.marks.append(batch)
+            exchange.program.give("".join(line + "\n" for line in batch.lines).encode("latin-1") + exchange.mark)
+        self.wait()
+        return up
+
+    def open(self, listener, link, control, page):
+        """Takes stations and those who ask."""
+        self.crowd = Crowd(self.loop, self.exchange, self.voice, self.meters, self.settings)
+        if self.resumed:
+            self.crowd.used = set(range(runs.STATIONS))
+        self.crowd.listen(listener, link)
+        self.control = Control(self, control)
+        if page is not None:
+            self.page = page(self)
+        self.tick_due = time.monotonic() + self.settings.second
+        self.loop.after(self.settings.second, self.tick)
+        self.care()
+        self.manager.tell(READY=1)
+        if self.manager.period:
+            self.watchdog()
+
+    # While it runs.
+
+    def handle_signals(self):
+        """Has signals turn the loop, and note what is to be done."""
+        reading, writing = os.pipe()
+        for file in (reading, writing):
+            os.set_blocking(file, False)
+        self.wakes = reading, writing
+        signal.set_wakeup_fd(writing, warn_on_full_buffer=False)
+        self.loop.watch(reading, select.EPOLLIN, lambda events: os.read(reading, 100))
+        acts = {signal.SIGINT: self.finish, signal.SIGTERM: self.finish, signal.SIGHUP: lambda: self.loop.after(0, self.roll)}
+        self.handlers = {number: signal.signal(number, lambda number, frame: acts[number]()) for number in acts}
+
+    def finish(self):
+        self.is_over = True
+
+    def roll(self):
+        """Begins new segments of the log."""
+        self.exchange.look_after_log(rolls=True)
+        self.voice.say("rolled", "the log begins new segments")
+
+    def serve(self):
+        """Turns until it is to end: what can be read is read and what can be sent is sent, all of a kind at once."""
+        gc.collect()
+        gc.freeze()
+        gc.set_threshold(UNCOLLECTED, 10, 100)
+        while not self.is_over:
+            self.loop.turn(self.is_busy)
+            self.meters.now = time.time()
+            self.crowd.send()
+            self.is_busy = self.crowd.collect()
+            self.exchange.flush()
+
+    def tick(self):
+        """Gives the MME each second."""
+        now, seconds = time.monotonic(), 0
+        while self.tick_due <= now:
+            self.tick_due += self.settings.second
+            seconds += 1
+        if seconds:
+            self.exchange.put("tick %d" % seconds)
+        self.loop.after(self.tick_due - now, self.tick)
+
+    def care(self):
+        """Looks at what takes too long, and after the log."""
+        now = time.monotonic()
+        self.crowd.sweep(now)
+        self.exchange.check_answers(now, self.settings.answer_seconds)
+        self.exchange.look_after_log()
+        self.loop.after(CARE_SECONDS, self.care)
+
+    def watchdog(self):
+        """Tells the service manager that it still turns."""
+        self.manager.tell(WATCHDOG=1, STATUS="%d stations" % len(self.crowd.stations))
+        self.loop.after(self.manager.period, self.watchdog)
+
+    def give(self, text, reply):
+        """Provisions further subscribers and vectors, and replies how that went."""
+        if self.giving is not None:
+            raise runs.Fault("something is being given already")
+        if self.exchange.journal is None or not self.exchange.journal.counts.is_whole:
+            raise runs.Fault("the log isn't whole since the start, so that nothing can be given")
+        self.giving = Giving(self, text.decode("latin-1").removesuffix("\n").split("\n"), reply)
+
+    # The end.
+
+    def stop(self):
+        """Has each station be lost, ends the MME's input and sends its last answers; the MME's status."""
+        self.manager.tell(STOPPING=1)
+        if self.exchange is None or self.exchange.program is None:
+            return 0
+        if self.giving is not None:
+            self.giving.refuse("the front ends")
+        if self.crowd is not None:
+            self.crowd.refuse()
+            self.crowd.lose_all()
+        self.exchange.end_input()
+        program = self.exchange.program
+        self.turn_until(lambda: program.status is not None and program.is_silent, limits.LAST_SECONDS)
+        for number in (signal.SIGTERM, signal.SIGKILL):
+            if program.status is None:
+                self.voice.say("mme_stays", "the MME doesn't end with its input, so by %s" % number.name)
+                program.kill(number)
+                self.turn_until(lambda: program.status is not None, limits.SENDING_SECONDS)
+        if self.crowd is not None:
+            self.turn_until(self.crowd.has_sent, limits.SENDING_SECONDS)
+        try:
+            self.exchange.write_settled(at_once=True)
+        except (OSError, Failed) as fault:
+            self.voice.say("log_fails", str(fault))
+        return program.status or 0
+
+    def turn_until(self, holds, seconds):
+        """Turns until something holds, or so many seconds have passed."""
+        end = time.monotonic() + seconds
+        while not holds() and time.monotonic() < end:
+            timer = self.loop.after(min(0.05, max(0.0, end - time.monotonic())), lambda: None)
+            try:
+                self.loop.turn()
+            except Failed:
+                pass
+            timer.cancel()
+            if self.crowd is not None:
+                self.crowd.send()
+
+    def close(self):
+        for part in (self.control, self.page, self.crowd):
+            if part is not None:
+                part.close()
+        if self.exchange is not None:
+            if self.exchange.program is not None:
+                self.exchange.program.close()
+            if self.exchange.journal is not None:
+                self.exchange.journal.close()
+        for number, handler in self.handlers.items():
+            signal.signal(number, handler)
+        signal.set_wakeup_fd(-1)
+        for file in self.wakes:
+            os.close(file)
+        self.loop.close()
+
+    def run(self, listener, link, control, page=None):
+        """Runs to its end."""
+        self.handle_signals()
+        status, failed = 0, None
+        try:
+            more = self.begin()
+            if not self.is_over:
+                self.open(listener, link, control, page)
+                self.voice.say("ready", "ready: stations at %s port %d by %s; control at %s; log in %s" % (
+                    *listener.getsockname()[:2], link.NAME, self.settings.control, self.settings.log))
+                if more:
+                    self.give("\n".join(more).encode("latin-1"), lambda answer: None)
+                self.serve()
+        except Failed as fault:
+            failed = fault
+        try:
+            status = self.stop()
+        finally:
+            self.close()
+        if failed is not None:
+            raise failed
+        if status:
+            raise Ended(status)

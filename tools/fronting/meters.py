@@ -1,0 +1,84 @@
+"""What is counted while the front runs: messages by procedure and cause, attaches by outcome, and times from message to answer."""
+import bisect
+import collections
+import functools
+import time
+
+import s1ap
+
+ERROR_INDICATION, SETUP_RESPONSE = bytes([0, s1ap.ERROR]), bytes([s1ap.SUCCESSFUL << 5, s1ap.SETUP])
+INITIAL_MESSAGE, UPLINK, DOWNLINK = (bytes([0, code]) for code in (s1ap.INITIAL_UE, s1ap.UPLINK_NAS, s1ap.DOWNLINK_NAS))
+CONTEXT_REQUEST = bytes([0, s1ap.CONTEXT_SETUP])
+# The messages whose cause is counted.
+WITH_CAUSE = {ERROR_INDICATION, bytes([0, s1ap.RELEASE_REQUEST]), bytes([0, s1ap.RELEASE]), bytes([0, s1ap.NON_DELIVERY])}
+WITH_CAUSE |= {bytes([s1ap.UNSUCCESSFUL << 5, code]) for code in (s1ap.SETUP, s1ap.PATH_SWITCH, s1ap.CONTEXT_SETUP)}
+# Of which messages which NAS type says how an attach goes (TS 24.301 clause 9.8), and what it says.
+ATTACH_STEPS = {
+    INITIAL_MESSAGE: {s1ap.ATTACH_REQUEST: "requested"},
+    UPLINK: {s1ap.ATTACH_REQUEST: "requested", s1ap.ATTACH_COMPLETE: "completed"},
+    CONTEXT_REQUEST: {0x42: "accepted"}, DOWNLINK: {0x44: "rejected", 0x54: "authentication rejected"},
+}
+KNOWN = {bytes([outcome << 5, code]) for code, names in s1ap.NAMES.items() for outcome in range(len(names))}
+SHOWN = 1024  # octets of a message that are kept for the page
+RECENT = 2000  # messages that are kept for the page
+OTHER = b""  # stands for octets that begin as no message of S1AP does
+BOUNDS = (0.0005, 0.001, 0.002, 0.005, 0.01, 0.02, 0.05, 0.1, 0.25, 0.5, 1.0, 2.5, 5.0)  # seconds
+
+
+@functools.lru_cache(1 << 12)
+def cause_of(octets):
+    """The cause in a message."""
+    return s1ap.cause(s1ap.read(octets)) or ""
+
+
+def name_of(kind):
+    """The name of a message by how its octets begin."""
+    if len(kind) < 2:
+        return "no S1AP"
+    return s1ap.name(s1ap.Message(kind[1], kind[0] >> 5, {}, None))
+
+
+class Meters:
+    """The counts since the front began."""
+
+    def __init__(self):
+        self.begun = self.now = time.time()  # the second is when the turn under way began
+        self.inward, self.outward = collections.Counter(), collections.Counter()
+        self.inward_causes, self.outward_causes = collections.Counter(), collections.Counter()
+        self.attaches, self.losses = collections.Counter(), collections.Counter()
+        self.connections = self.refused = self.protected = self.gone = 0
+        self.recent = collections.deque(maxlen=RECENT)  # the last messages: when, of which station, whether it sent them, octets
+        self.answered, self.seconds, self.buckets = 0, 0.0, [0] * (len(BOUNDS) + 1)
+        # An attach step is looked for where its type stands after the discriminator of EMM.
+        self.steps = {kind: [(bytes([s1ap.EMM, number]), number) for number in steps] for kind, steps in ATTACH_STEPS.items()}
+
+    def count_in(self, station, octets):
+        kind = octets[:2]
+        self.recent.append((self.now, station, True, octets[:SHOWN]))
+        self.inward[kind if kind in KNOWN else OTHER] += 1
+        if kind in WITH_CAUSE:
+            self.inward_causes[kind, cause_of(octets)] += 1
+        elif kind in self.steps:
+            self.count_steps(kind, octets)
+
+    def count_out(self, station, octets):
+        kind = octets[:2]
+        self.recent.append((self.now, station, False, octets[:SHOWN]))
+        self.outward[kind if kind in KNOWN else OTHER] += 1
+        if kind in WITH_CAUSE:
+            self.outward_causes[kind, cause_of(octets)] += 1
+        elif kind in self.steps:
+            self.count_steps(kind, octets)
+
+    def count_steps(self, kind, octets):
+        for pattern, number in self.steps[kind]:
+            if pattern in octets:
+                nas = s1ap.nas(s1ap.carried(s1ap.read(octets)))
+                if nas is not None and nas.type == number:
+                    self.attaches[ATTACH_STEPS[kind][number]] += 1
+
+    def count_answers(self, seconds, count):
+        """So many answers came so long after their messages."""
+        self.answered += count
+        self.seconds += seconds * count
+        self.buckets[bisect.bisect_left(BOUNDS, seconds)] += count

@@ -1,0 +1,95 @@
+"""The metrics in Prometheus' text form (version 0.0.4)."""
+import collections
+
+from fronting import status
+from fronting.meters import BOUNDS, OTHER, name_of
+
+
+class Text:
+    """Metrics as text, each with its help and its type before its first value."""
+
+    def __init__(self):
+        self.lines = []
+
+    def add(self, name, kind, about, values):
+        """A metric: its values by their labels."""
+        self.lines += ["# HELP soizkadur_%s %s" % (name, about), "# TYPE soizkadur_%s %s" % (name, kind)]
+        for labels, value in values:
+            self.lines.append("soizkadur_%s%s %s" % (name, labelled(labels), number(value)))
+
+    def add_histogram(self, name, about, bounds, buckets, total):
+        """A histogram: how many values there are up to each bound, their sum and their number."""
+        self.add(name, "histogram", about, [])
+        count = 0
+        for bound, more in zip([*map(repr, bounds), "+Inf"], buckets):
+            count += more
+            self.lines.append('soizkadur_%s_bucket{le="%s"} %d' % (name, bound, count))
+        self.lines += ["soizkadur_%s_sum %s" % (name, number(total)), "soizkadur_%s_count %d" % (name, count)]
+
+    def octets(self):
+        return ("\n".join(self.lines) + "\n").encode()
+
+
+def number(value):
+    return repr(value) if isinstance(value, float) else str(value)
+
+
+def labelled(labels):
+    """Labels with their values, as a metric's name has them after it."""
+    def escaped(value):
+        return str(value).replace("\\", "\\\\").replace('"', '\\"').replace("\n", "\\n")
+    return "{%s}" % ",".join('%s="%s"' % (name, escaped(value)) for name, value in labels.items()) if labels else ""
+
+
+def of_messages(meters):
+    """The messages by direction and name, and those with a cause by it."""
+    counts, causes = collections.Counter(), collections.Counter()
+    for direction, found in (("in", meters.inward), ("out", meters.outward)):
+        for kind, count in found.items():
+            counts[direction, name_of(kind) if kind != OTHER else name_of(b"")] += count
+    for direction, found in (("in", meters.inward_causes), ("out", meters.outward_causes)):
+        for (kind, cause), count in found.items():
+            causes[direction, name_of(kind), cause] += count
+    return ([({"direction": direction, "message": name}, count) for (direction, name), count in sorted(counts.items())],
+            [({"direction": direction, "message": name, "cause": cause}, count)
+             for (direction, name, cause), count in sorted(causes.items())])
+
+
+def text_of(front, states):
+    """All metrics; the states of the phones were asked for before."""
+    text, meters, exchange = Text(), front.meters, front.exchange
+    stations = front.crowd.stations.values()
+    set_up = sum(station.is_set_up for station in stations)
+    text.add("stations", "gauge", "Stations that are connected.",
+             [({"state": "set up"}, set_up), ({"state": "connected"}, len(stations) - set_up)])
+    phones = collections.Counter(states.values())
+    text.add("phones", "gauge", "Subscribers by their EMM, ECM and ESM state.",
+             [(dict(zip(("emm", "ecm", "esm"), state.split(" "))), count) for state, count in sorted(phones.items())])
+    messages, causes = of_messages(meters)
+    text.add("messages_total", "counter", "S1AP messages.", messages)
+    text.add("causes_total", "counter", "S1AP messages that have a cause.", causes)
+    text.add("attaches_total", "counter", "Steps of attaches.",
+             [({"step": name}, count) for name, count in sorted(meters.attaches.items())])
+    text.add("losses_total", "counter", "Connections that ended.",
+             [({"why": why}, count) for why, count in sorted(meters.losses.items())])
+    text.add("connections_total", "counter", "Connections that came.", [({}, meters.connections)])
+    text.add("connections_refused_total", "counter", "Connections that weren't taken.", [({}, meters.refused)])
+    text.add("waiting_octets", "gauge", "Octets that wait to be read.",
+             [({"for": "mme"}, exchange.program.size), ({"for": "stations"}, sum(station.link.size for station in stations))])
+    text.add("batches_in_flight", "gauge", "Turns whose answers are due.", [({}, len(exchange.marks))])
+    text.add_histogram("answer_seconds", "Time from a message to its answer.", BOUNDS, meters.buckets, meters.seconds)
+    add_upkeep(text, front)
+    return text.octets()
+
+
+def add_upkeep(text, front):
+    """What the front itself is like."""
+    meters, journal = front.meters, front.exchange.journal
+    text.add("log_octets", "gauge", "Octets of the log.",
+             [({"of": series.what}, series.octets()) for series in (journal.series if journal else ())])
+    text.add("log_segments_removed_total", "counter", "Segments of the log that went for new ones.", [({}, meters.gone)])
+    text.add("memory_octets", "gauge", "Memory of the processes.",
+             [({"of": "front"}, status.memory()), ({"of": "mme"}, status.memory(front.exchange.program.pid))])
+    text.add("start_seconds", "gauge", "When the front began, in seconds since 1970.", [({}, meters.begun)])
+    text.add("resumed", "gauge", "Whether this run goes on after another one.", [({}, front.resumed)])
+    text.add("changes_of_mme_total", "counter", "Times that further subscribers or vectors were given.", [({}, front.given)])

@@ -1,0 +1,182 @@
+"""A series of files that together are one trace: PATH is the one that is written, PATH.segment.000001 and so on are those before
+it, in their order. A file's own number stands in the line that ends the head of the first, or begins a further one."""
+import errno
+import mmap
+import os
+import pathlib
+import re
+import time
+
+from fronting.faults import Failed, LOG_FAILS, WRONG, told
+
+NUMBERED = re.compile(rb"^# segment (\d+), begun .*\n", re.MULTILINE)
+DIGITS = 6
+
+
+def name_of(path, number):
+    """Where a segment stands that is written no more."""
+    return "%s.segment.%0*d" % (path, DIGITS, number)
+
+
+def line_of(number):
+    """The line of a segment's number."""
+    return b"# segment %d, begun " % number + time.strftime("%F %T UTC\n", time.gmtime()).encode()
+
+
+def older_segments(path):
+    """The segments before the one that is written, by number."""
+    prefix = os.path.basename(path) + ".segment."
+    folder = pathlib.Path(path).parent
+    found = [entry.name for entry in folder.iterdir() if entry.name.startswith(prefix)] if folder.is_dir() else []
+    return {int(name[len(prefix):]): str(folder / name) for name in found if name[len(prefix):].isdigit()}
+
+
+def open_new(path):
+    """A new file for its owner alone, since vectors are in it."""
+    return os.open(path, os.O_RDWR | os.O_CREAT | os.O_EXCL | os.O_APPEND, 0o600)
+
+
+class Series:
+    """What one run writes, in segments of a size, of which a number is kept."""
+
+    def __init__(self, path, what, size, most, head=None):
+        self.path, self.what, self.most_octets, self.most = str(path), what, size, most
+        self.is_whole = True  # whether all of it since the start is there
+        self.number, self.first, self.head = 1, 1, head
+        self.file, self.size, self.base = None, 0, 0
+        if head is not None:
+            self.begin(head)
+
+    @classmethod
+    def taken_up(cls, path, what, size, most, number, first):
+        """The series that stands there, to be written on."""
+        series = cls(path, what, size, most)
+        series.number, series.first = number, first
+        series.file = os.open(path, os.O_RDWR | os.O_APPEND)
+        series.size = os.fstat(series.file).st_size
+        with mmap.mmap(series.file, 0, access=mmap.ACCESS_READ) as octets:
+            series.base = NUMBERED.search(octets).end()
+        return series
+
+    def begin(self, head=b""):
+        """Opens a file for what comes, with the line of its number."""
+        try:
+            self.file, self.size = open_new(self.path), 0
+            self.write(head + line_of(self.number))
+        except FileExistsError:
+            raise Failed("%s: there is one already: move it away, or keep it by --keep" % self.path, WRONG) from None
+        except OSError as fault:
+            raise Failed("%s: %s" % (self.path, told(fault)), WRONG if self.file is None else LOG_FAILS) from None
+        self.base = self.size
+
+    @property
+    def place(self):
+        """Where the next line comes: the segment, and the octets after the line of its number."""
+        return self.number, self.size - self.base
+
+    def write(self, octets):
+        """Adds octets whole, or none of them and raises the system's fault."""
+        added = 0
+        try:
+            while added < len(octets):
+                added += os.write(self.file, octets[added:] if added else octets)
+        except OSError:
+            os.ftruncate(self.file, self.size)
+            raise
+        self.size += added
+
+    def make_room(self):
+        """Begins a new segment where the one that is written has its size."""
+        if self.size >= self.most_octets:
+            self.roll()
+
+    def add(self, octets):
+        """Adds whole lines."""
+        self.make_room()
+        self.write(octets)
+
+    def roll(self):
+        """Begins a new segment; where that can't be, nothing changes."""
+        line, new = line_of(self.number + 1), self.path + ".new"
+        pathlib.Path(new).unlink(missing_ok=True)
+        file = open_new(new)
+        try:
+            if os.write(file, line) < len(line):
+                raise OSError(errno.ENOSPC, os.strerror(errno.ENOSPC))
+        except OSError:
+            os.close(file)
+            pathlib.Path(new).unlink(missing_ok=True)
+            raise
+        os.replace(self.path, name_of(self.path, self.number))
+        os.replace(new, self.path)
+        os.close(self.file)
+        self.file, self.number = file, self.number + 1
+        self.size = self.base = len(line)
+
+    def trim(self, needed):
+        """Removes the segments that are too many, but none from the needed one on; those that went."""
+        gone = []
+        while self.number - self.first >= self.most and self.first < needed:
+            gone.append(name_of(self.path, self.first))
+            pathlib.Path(gone[-1]).unlink(missing_ok=True)
+            self.first, self.is_whole = self.first + 1, False
+        return gone
+
+    def check(self):
+        """What happened to the file that is written, if it was moved or cut. Then it goes on in a new one, and as the number of
+        what is missing stays free, the series isn't whole any more."""
+        mine = os.fstat(self.file)
+        try:
+            there = os.stat(self.path)
+        except FileNotFoundError:
+            there = None
+        if there is None:
+            self.go_on()
+            return "was moved"
+        if (there.st_dev, there.st_ino) != (mine.st_dev, mine.st_ino):
+            raise Failed("%s: another file stands in its place" % self.path, LOG_FAILS)
+        if mine.st_size < self.size:
+            os.replace(self.path, name_of(self.path, self.number))
+            self.number += 1
+            self.go_on()
+            return "was cut"
+        return None
+
+    def go_on(self):
+        """A new file after something that is missing."""
+        os.close(self.file)
+        self.number, self.is_whole = self.number + 1, False
+        self.begin()
+
+    def paths(self):
+        """The files of the series, in their order."""
+        return [path for _, path in sorted(older_segments(self.path).items())] + [self.path]
+
+    def octets(self):
+        """How large it is altogether."""
+        return self.size + sum(os.path.getsize(path) for path in older_segments(self.path).values())
+
+    def lengthen(self, head):
+        """Gives the first segment another head, in the place of its own."""
+        path = self.path if self.number == 1 else name_of(self.path, 1)
+        whole = pathlib.Path(path).read_bytes()
+        end = NUMBERED.search(whole).start()
+        new = path + ".new"
+        pathlib.Path(new).unlink(missing_ok=True)
+        file = open_new(new)
+        try:
+            with os.fdopen(os.dup(file), "wb") as writing:
+                writing.write(head + whole[end:])
+            os.replace(new, path)
+        except OSError:
+            os.close(file)
+            pathlib.Path(new).unlink(missing_ok=True)
+            raise
+        if self.number > 1:
+            os.close(file)
+            return
+        os.close(self.file)
+        self.file, self.size, self.base = file, len(head) + len(whole) - end, self.base - end + len(head)
+
+    def close(self):
+        os.close(self.file)

@@ -1,0 +1,57 @@
+"""A station: its connection, its number, its pace, and how far it has come."""
+from fronting import hearing, limits
+from fronting.pace import Pace
+
+import runs
+
+
+def heard(number, octets):
+    """The lines of a message that a station sent: what is handed on for it, after a comment of what came where that differs."""
+    plain = hearing.plain(octets)
+    if plain is None:
+        return ["in %d %s" % (number, octets.hex() or "-")]
+    return [("# came protected: in %d %s" % (number, octets.hex()))[:runs.LONGEST_LINE], "in %d %s" % (number, plain.hex())]
+
+
+class Station:
+    """A connection and the number that it gets."""
+
+    def __init__(self, link, address, port, rate, now):
+        self.link, self.address, self.port = link, address, port
+        self.pace, self.octet_pace = Pace(rate), Pace(rate * limits.OCTETS)
+        self.number, self.since, self.is_set_up = None, now, False
+        self.is_lost = False
+        self.heard = self.sent = 0
+
+    def __str__(self):
+        return "%s port %d" % (self.address, self.port)
+
+    def allows(self, now):
+        """How many messages it may say now."""
+        return self.pace.allows(now) if self.octet_pace.allows(now) > 0 else 0
+
+    def next(self):
+        """When it may say one, where it may say none now."""
+        return max(self.pace.next(), self.octet_pace.next())
+
+    def take(self, most, most_octets, now):
+        """What it says: so many messages at the most, and none after so many octets."""
+        messages = self.link.take(min(most, self.pace.allows(now)), most_octets)
+        if messages:
+            self.pace.take(len(messages), now)
+            self.octet_pace.take(sum(map(len, messages)), now)
+            self.heard += len(messages)
+        return messages
+
+    def fault(self, now, setup_seconds):
+        """Why its connection is to end, or nothing."""
+        link = self.link
+        if link.why is not None:
+            return link.why
+        if link.size > limits.MOST_WAITING:
+            return "more than %d octets wait for it to read" % limits.MOST_WAITING
+        if link.half_since is not None and now - link.half_since > limits.PATIENCE:
+            return "a message wasn't whole within %d s" % limits.PATIENCE
+        if not self.is_set_up and now - self.since > setup_seconds:
+            return "S1 SETUP wasn't done within %g s" % setup_seconds
+        return None
