@@ -7,6 +7,7 @@
 - A path of items, as `crate::function`, `module::item`, `Type::method` or `Type::Variant` and longer ones, leads from each part to
   the next by what the code declares (items.py): that both words are somewhere isn't enough. So it is in all documents.
 - Any other piece of code stands in some file of the repository as it is, unless it is a command; `..` in it was left out.
+- A word of PROMISES.md that is the name of a lemma of specs/ names a contract too: a lemma alone is no promise.
 - Each row of PROOFS.md under "From promise to clause" has a function whose contract has its clauses, definitions that are public in
   some crate's specs/, and edits that are there.
 """
@@ -20,10 +21,11 @@ import tables
 from items import Items
 
 DOCUMENTS = ("docs/TOUR.md", "docs/PROOFS.md", "docs/PROMISES.md", "docs/REFUSALS.md", "docs/DEFINITIONS.md", "CONTRIBUTING.md",
-             "CHANGELOG.md", "crates/README.md", "docs/ARCHITECTURE.md", "docs/DECISIONS.md")
+             "CHANGELOG.md", "crates/README.md", "docs/ARCHITECTURE.md", "docs/DECISIONS.md", "docs/SECURITY.md")
 MORE_DOCUMENTS = ("README.md", "bench/README.md", "deploy/README.md", "docs/*.md")  # whose paths of items are looked up
 SPAN = r"`([^`]+)`"
 ITEM_PATH = re.compile(r"\w+(?:::\w+)+")
+PROMISED = "docs/PROMISES.md"
 PROMISES = "From promise to clause"
 COMMANDS = ("rt ", "git ")
 CODE = {".rt", ".antt", ".edit"}
@@ -68,6 +70,10 @@ class Tree:
             self.words.update(re.findall(r"\w+", re.sub(r"(?m)^\s*(//|--).*$", "", text)))
         specs = "\n".join(text for path, text in self.code.items() if "/specs/" in path)
         self.definitions = set(re.findall(r"\b(?:pub|record|data) (?!record|data)(\w+)", specs))
+        source = "\n".join(text for path, text in self.code.items() if "/src/" in path)
+        self.bare_lemmas = (set(re.findall(r"(?m)^pub ([a-z]\w*) :", specs))
+                            - set(re.findall(r"(?m)^(?:abbrev|unfoldable) pub (\w+)", specs))
+                            - set(re.findall(r"\b(?:fn|ensures) (\w+)", source)))
         self.edits = {pathlib.PurePath(path).stem for path in self.code if path.endswith(".edit")}
 
     def has_path(self, path):
@@ -130,6 +136,14 @@ def span_fault(tree, span):
     return None if span in tree.names | KNOWN_TEXT or tree.has_text(span) else "no file has %s" % span
 
 
+def lemma_faults(tree):
+    """The words of the promises: for each its line and what is wrong, if it is a lemma of specs/ and no contract."""
+    for number, line in enumerate(tables.text(PROMISED).split("\n"), 1):
+        for span in re.findall(SPAN, line):
+            if re.fullmatch(r"\w+", span):
+                yield number, "%s is a lemma of specs/ and no contract" % span if span in tree.bare_lemmas else None
+
+
 def faults_of(tree, path):
     """What was looked up in a document: for each its line and what is wrong, if anything."""
     fence, head, quoted = False, "", []
@@ -190,6 +204,7 @@ def checked(_words=()):
     tree, passed, faults = Tree(), 0, []
     looked_up = [(path, faults_of(tree, path)) for path in DOCUMENTS]
     looked_up += [(path, path_faults_of(tree, path)) for path in all_documents()]
+    looked_up.append((PROMISED, lemma_faults(tree)))
     for path, found in looked_up:
         for number, fault in found:
             passed += not fault

@@ -1,0 +1,3 @@
+mod Wire
+mod Bidding
+mod Plain

@@ -1,0 +1,2 @@
+pub mod Bidding
+pub mod Plain

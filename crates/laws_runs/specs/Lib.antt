@@ -1,0 +1,5 @@
+pub mod Alone
+pub mod Guards
+pub mod Joined
+pub mod Same
+pub mod Steps

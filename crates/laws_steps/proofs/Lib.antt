@@ -1,0 +1,3 @@
+mod Challenges
+mod Connections
+mod Counting

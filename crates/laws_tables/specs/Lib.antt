@@ -1,0 +1,2 @@
+pub mod Strangers
+pub mod Subscribers
