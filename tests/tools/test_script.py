@@ -65,25 +65,6 @@ class Script(unittest.TestCase):
         self.assertEqual(self.told("mme: write failed", 3, "play", "bad.trace"), ["mme: write failed"])
         self.assertEqual(self.told("mme: line 3: fault 1", 1, "play", "bad.trace", terminal=False), ["mme: line 3: fault 1"])
 
-    def proved(self, *words):
-        """What is asked of the toolchain, a line for each call, where another in its place does nothing but build a program."""
-        (self.room / "crates.txt").write_text("low:\nother:\nmme: low\n")
-        (self.room / "crates" / "low").mkdir(exist_ok=True)
-        toolchain, calls = self.room / "bin" / "rt", self.room / "calls"
-        toolchain.parent.mkdir(exist_ok=True)
-        toolchain.write_text(f'#!/bin/sh\necho "${{PWD##*/}}: $*" >>"{calls}"\nmkdir -p out\ntouch out/mme\n')
-        toolchain.chmod(0o755)
-        calls.write_text("")
-        there = dict(os.environ, PATH=f"{toolchain.parent}:{os.environ['PATH']}")
-        ran = subprocess.run([self.room / "mme", "--prove", *words], env=there, capture_output=True, timeout=30)
-        self.assertEqual((ran.returncode, ran.stdout), (0, b""))
-        return calls.read_text().splitlines()
-
-    def test_what_is_proved(self):
-        """The libraries below the program, then the program, for the processor that is named."""
-        self.assertEqual(self.proved(), ["low: lib", "mme: run -- play"])
-        self.assertEqual(self.proved("x86-64-v3"), ["low: lib", "mme: run --cpu=x86-64-v3 -- play"])
-
 
 if __name__ == "__main__":
     unittest.main()

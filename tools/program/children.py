@@ -1,0 +1,92 @@
+"""Commands that a signal ends whole: what was started, and whatever that started, is gone before anybody hears of it."""
+import contextlib
+import ctypes
+import os
+import pathlib
+import signal
+import subprocess
+import time
+
+SIGNALS = (signal.SIGINT, signal.SIGTERM, signal.SIGHUP)
+PR_SET_CHILD_SUBREAPER = 36  # prctl(2): what a child leaves behind becomes this process's child
+PATIENCE = 5.0  # seconds for what was asked to end
+STEP = 0.02  # seconds between two looks
+
+
+class Stopped(Exception):
+    """A signal that ends this process; `status` is what a shell would say."""
+
+    def __init__(self, number):
+        super().__init__(signal.Signals(number).name)
+        self.status = 128 + number
+
+
+def stop(number, _frame):
+    """Raises the signal where this process is, once."""
+    for each in SIGNALS:
+        signal.signal(each, signal.SIG_IGN)
+    raise Stopped(number)
+
+
+def catch_signals():
+    """Makes signals stop this process by `Stopped`, with all that it started as its children."""
+    for each in SIGNALS:
+        if signal.getsignal(each) is not signal.SIG_IGN or each == signal.SIGINT:
+            signal.signal(each, stop)
+    with contextlib.suppress(OSError, AttributeError):
+        ctypes.CDLL(None).prctl(PR_SET_CHILD_SUBREAPER, 1, 0, 0, 0)
+
+
+def below(process):
+    """The ids of all that a process has started and that still runs."""
+    found, todo = [], [process]
+    while todo:
+        one = todo.pop()
+        for path in pathlib.Path("/proc/%d/task" % one).glob("*/children"):
+            with contextlib.suppress(OSError):
+                ids = [int(word) for word in path.read_text().split()]
+                found += ids
+                todo += ids
+    return found
+
+
+def reap():
+    """Takes the status of every child that has ended; whether one is left."""
+    try:
+        while os.waitpid(-1, os.WNOHANG)[0]:
+            pass
+    except ChildProcessError:
+        return False
+    return True
+
+
+def end_all(first):
+    """Ends what was started in a session of its own, and all that it has started: first by asking, then by force."""
+    with contextlib.suppress(ProcessLookupError):
+        os.killpg(first, signal.SIGTERM)
+    until = time.monotonic() + PATIENCE
+    while reap():
+        if time.monotonic() > until:
+            for one in below(os.getpid()):
+                with contextlib.suppress(ProcessLookupError):
+                    os.kill(one, signal.SIGKILL)
+        time.sleep(STEP)
+
+
+@contextlib.contextmanager
+def started(words, **named):
+    """A command in a session of its own; where it doesn't come to its end here, all of it is ended."""
+    running = subprocess.Popen(words, stdin=named.pop("stdin", subprocess.DEVNULL), start_new_session=True, **named)
+    try:
+        yield running
+        running.wait()
+    except BaseException:
+        end_all(running.pid)
+        raise
+
+
+def status_of(words, **named):
+    """Runs a command to its end; its status as a shell has it."""
+    with started(words, **named) as running:
+        running.wait()
+    return running.returncode if running.returncode >= 0 else 128 - running.returncode

@@ -1,0 +1,117 @@
+#!/usr/bin/env python3
+"""Proves each crate in turn and builds the program, with a line for each: `./mme --prove [PROCESSOR]`.
+
+The program's record (record.py) is written where text and toolchain are the same at the end as before the first proof. Ctrl-C says
+what was stopped; the crates that were proved stay so, and the program that stood before stands again.
+"""
+import contextlib
+import os
+import pathlib
+import shutil
+import sys
+import tempfile
+import time
+
+sys.dont_write_bytecode = True
+sys.path.insert(0, str(pathlib.Path(__file__).resolve().parent))
+import children
+import record
+from words import BAD_WORDS, Failed, say
+
+PROCESSORS = ("x86-64", "x86-64-v2", "x86-64-v3")
+PROGRAM = record.TOP / "crates" / record.NAME / "out" / record.NAME
+MADE = ("", ".o", ".stamp", record.END)  # the ends of the names of what a build writes
+
+
+def processor_of(given):
+    """The processor that the words name, or None where they name none."""
+    if len(given) > 1:
+        raise Failed("--prove takes one processor at the most", BAD_WORDS)
+    if given and given[0] not in PROCESSORS:
+        raise Failed("--prove takes %s or %s, and not %s" % (", ".join(PROCESSORS[:-1]), PROCESSORS[-1], given[0]), BAD_WORDS)
+    return given[0] if given else None
+
+
+@contextlib.contextmanager
+def program_replaced(program):
+    """Where what is done here doesn't come to its end, the program and its record are again what they were before."""
+    made = [program.with_name(program.name + end) for end in MADE]
+    with tempfile.TemporaryDirectory() as room:
+        for path in made:
+            if path.exists():
+                shutil.copy2(path, room)
+        record.path_of(program).unlink(missing_ok=True)
+        try:
+            yield
+        except BaseException:
+            for path in made:
+                kept = pathlib.Path(room, path.name)
+                path.unlink(missing_ok=True)
+                if kept.exists():
+                    shutil.copy2(kept, path)
+            raise
+
+
+def asked_of(name, processor):
+    """What the toolchain is asked for a crate."""
+    if name != record.NAME:
+        return ["rt", "lib"]
+    return ["rt", "run", *(["--cpu=" + processor] if processor else []), "--", "play"]
+
+
+def made(name, words):
+    """Has the toolchain make a crate; says what it said where it couldn't."""
+    with tempfile.TemporaryFile() as log:
+        status = children.status_of(words, cwd=record.TOP / "crates" / name, stdout=log, stderr=log)
+        if status:
+            log.seek(0)
+            sys.stderr.buffer.write(log.read())
+            raise Failed("%s isn't proved" % name)
+
+
+def prove(processor, begun):
+    """Proves the crates below the program, and builds it."""
+    crates = record.crates_of(record.NAME)
+    before = record.now()
+    for at, name in enumerate(crates, 1):
+        what = "%s, %d of %d" % (name, at, len(crates))
+        say("proving %s, %d s so far" % (what, time.monotonic() - begun))
+        try:
+            with program_replaced(PROGRAM) if name == record.NAME else contextlib.nullcontext():
+                made(name, asked_of(name, processor))
+                if name == record.NAME:
+                    keep_record(before, processor)
+        except children.Stopped as signal:
+            raise Failed("stopped while proving %s; what was proved before it is kept" % what, signal.status) from None
+
+
+def keep_record(before, processor):
+    """Writes the record, where the text is what was read before the first proof."""
+    if record.digests_of_crates() != before["crates"]:
+        raise Failed("the crates changed while they were proved: ./mme --prove once more")
+    os.utime(PROGRAM)
+    record.write(PROGRAM, before["crates"], before["toolchain"], processor or record.DEFAULT_PROCESSOR)
+
+
+def main(given):
+    begun = time.monotonic()
+    try:
+        processor = processor_of(given)
+        if not record.has_sources():
+            raise Failed("no sources here: --prove is for a clone of the repository")
+        if record.kit() is None:
+            raise Failed("no toolchain on the path: --prove needs `rt`")
+        children.catch_signals()
+        prove(processor, begun)
+    except Failed as fault:
+        say(fault)
+        return fault.status
+    except children.Stopped as signal:
+        say("stopped before the first proof")
+        return signal.status
+    say("proved and built in %d s" % (time.monotonic() - begun))
+    return 0
+
+
+if __name__ == "__main__":
+    sys.exit(main(sys.argv[1:]))
