@@ -21,11 +21,32 @@ class Stopped(Exception):
         self.status = 128 + number
 
 
-def stop(number, _frame):
-    """Raises the signal where this process is, once."""
+class Waiting:
+    """How many parts of the program must come to their end before a signal counts, and the signal that waits for them."""
+    parts, number = 0, None
+
+
+def stop(number, _frame=None):
+    """Raises the signal where this process is, once, or when nothing holds it up any more."""
     for each in SIGNALS:
         signal.signal(each, signal.SIG_IGN)
+    if Waiting.parts:
+        Waiting.number = number
+        return
     raise Stopped(number)
+
+
+@contextlib.contextmanager
+def uninterrupted():
+    """A part that comes to its end before a signal counts."""
+    Waiting.parts += 1
+    try:
+        yield
+    finally:
+        Waiting.parts -= 1
+        number, Waiting.number = Waiting.number, None
+        if number is not None:
+            stop(number)
 
 
 def catch_signals():
@@ -76,12 +97,15 @@ def end_all(first):
 @contextlib.contextmanager
 def started(words, **named):
     """A command in a session of its own; where it doesn't come to its end here, all of it is ended."""
-    running = subprocess.Popen(words, stdin=named.pop("stdin", subprocess.DEVNULL), start_new_session=True, **named)
+    running = None
     try:
+        with uninterrupted():
+            running = subprocess.Popen(words, stdin=named.pop("stdin", subprocess.DEVNULL), start_new_session=True, **named)
         yield running
         running.wait()
     except BaseException:
-        end_all(running.pid)
+        if running is not None:
+            end_all(running.pid)
         raise
 
 

@@ -40,16 +40,22 @@ def program_replaced(program):
         for path in made:
             if path.exists():
                 shutil.copy2(path, room)
-        record.path_of(program).unlink(missing_ok=True)
         try:
+            record.path_of(program).unlink(missing_ok=True)
             yield
         except BaseException:
-            for path in made:
-                kept = pathlib.Path(room, path.name)
-                path.unlink(missing_ok=True)
-                if kept.exists():
-                    shutil.copy2(kept, path)
+            with children.uninterrupted():
+                put_back(made, room)
             raise
+
+
+def put_back(made, room):
+    """Puts back what is kept in a folder, and takes away what isn't there."""
+    for path in made:
+        kept = pathlib.Path(room, path.name)
+        path.unlink(missing_ok=True)
+        if kept.exists():
+            shutil.copy2(kept, path)
 
 
 def asked_of(name, processor):
@@ -81,8 +87,8 @@ def prove(processor, begun):
                 made(name, asked_of(name, processor))
                 if name == record.NAME:
                     keep_record(before, processor)
-        except children.Stopped as signal:
-            raise Failed("stopped while proving %s; what was proved before it is kept" % what, signal.status) from None
+        except children.Stopped as stopped:
+            raise Failed("stopped while proving %s; what was proved before it is kept" % what, stopped.status) from None
 
 
 def keep_record(before, processor):
@@ -106,9 +112,9 @@ def main(given):
     except Failed as fault:
         say(fault)
         return fault.status
-    except children.Stopped as signal:
+    except children.Stopped as stopped:
         say("stopped before the first proof")
-        return signal.status
+        return stopped.status
     say("proved and built in %d s" % (time.monotonic() - begun))
     return 0
 
