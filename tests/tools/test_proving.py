@@ -47,7 +47,7 @@ class Proving(unittest.TestCase):
         self.room = pathlib.Path(self.enterContext(tempfile.TemporaryDirectory()))
         self.top = self.room / "clone"
         shutil.copytree(tools.TOP / "tools" / "program", self.top / "tools" / "program")
-        for name in ("mme", "VERSION"):
+        for name in ("mme", "VERSION", "tools/versions.py"):
             shutil.copy(tools.TOP / name, self.top / name)
         (self.top / "crates.txt").write_text(CRATES)
         (self.top / "HANDLES").write_text("Handles allowed: none.\n")

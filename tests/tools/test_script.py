@@ -21,7 +21,7 @@ class Script(unittest.TestCase):
     def setUp(self):
         self.room = pathlib.Path(self.enterContext(tempfile.TemporaryDirectory()))
         shutil.copytree(tools.TOP / "tools" / "program", self.room / "tools" / "program")
-        for name in ("mme", "VERSION"):
+        for name in ("mme", "VERSION", "tools/versions.py"):
             shutil.copy(tools.TOP / name, self.room / name)
         (self.room / "crates.txt").write_text("")
         (self.room / "crates" / "mme" / "src").mkdir(parents=True)

@@ -10,13 +10,10 @@ import sys
 import time
 
 sys.dont_write_bytecode = True
-sys.path.insert(0, str(pathlib.Path(__file__).resolve().parent))
+HERE = pathlib.Path(__file__).resolve().parent
+sys.path[:0] = [str(HERE), str(HERE.parent)]
 import record
-
-
-def number():
-    """The version's number."""
-    return (record.TOP / "VERSION").read_text(encoding="utf-8").strip()
+import versions
 
 
 def commit():
@@ -76,7 +73,7 @@ def main(given):
         print_changes(pathlib.Path(given[1]))
         return 0
     described = commit()
-    print("mme %s%s" % (number(), ", commit " + described if described else ""))
+    print("mme %s%s" % (versions.number(), ", commit " + described if described else ""))
     if record.has_sources():
         print("toolchain: %s" % (record.toolchain_name() or "none on the path"))
     else:
