@@ -7,6 +7,7 @@ import socket
 import time
 
 import runs
+import versions
 
 from fronting import limits
 from fronting.exchange import END, GO_ON, REFUSE
@@ -192,6 +193,7 @@ def parser(description):
     form = {"formatter_class": argparse.RawDescriptionHelpFormatter, "allow_abbrev": False}
     words = argparse.ArgumentParser(description=description,
                                     epilog="`tools/front run --help` has the options and the limits.", **form)
+    versions.add_to(words)
     ways = words.add_subparsers(required=True, metavar="run|ask")
     live = ways.add_parser("run", help="take stations", epilog=limits.LIMITS, **form)
     live.add_argument("subscribers", metavar="SUBSCRIBERS", help="a file with the lines mme, sub and vec")
