@@ -58,6 +58,12 @@ def catch_signals():
         ctypes.CDLL(None).prctl(PR_SET_CHILD_SUBREAPER, 1, 0, 0, 0)
 
 
+def leave_signals():
+    """Makes signals what they were before, for what is run in this process's place."""
+    for each in SIGNALS:
+        signal.signal(each, signal.default_int_handler if each == signal.SIGINT else signal.SIG_DFL)
+
+
 def below(process):
     """The ids of all that a process has started and that still runs."""
     found, todo = [], [process]

@@ -158,11 +158,9 @@ def start(program, words, **named):
     return running[0]
 
 
-def main(given):
-    program, *words = given
-    verb = words[0] if words and words[0] in lines.WORDS else None
-    file = file_of(words) if verb else None
-    passed = Passed(verb) if verb and file is None and len(words) == 1 else None
+def run(program, words, verb, file):
+    """Runs the program with these words; what it reads by them is a trace or a script, of this file or of standard input."""
+    passed = Passed(verb) if verb and file is None else None
     running = start(program, words, stdin=subprocess.PIPE if passed else None)
     said = pass_on(STDIN, running, passed) if passed else running.stderr.read()
     status = running.wait()
@@ -173,6 +171,12 @@ def main(given):
         return 128 - status
     explain(said.decode(errors="replace").removesuffix("\n"), verb, file, passed)
     return status
+
+
+def main(given):
+    program, *words = given
+    verb = words[0] if words and words[0] in lines.WORDS and len(words) <= 2 else None
+    return run(program, words, verb, file_of(words) if verb else None)
 
 
 if __name__ == "__main__":

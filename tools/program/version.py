@@ -28,7 +28,9 @@ def commit():
 
 
 def proved_when(told):
-    """When a program was proved and built, as a sentence has it, and for which processors."""
+    """When a program was proved and built, where that is known, as a sentence has it, and for which processors."""
+    if told["proved"] is None:
+        return "for %s" % told["processor"]
     at = time.strptime(told["proved"], "%Y-%m-%dT%H:%M:%SZ")
     return "%s for %s" % (time.strftime("%Y-%m-%d %H:%M:%S UTC", at), told["processor"])
 
@@ -36,7 +38,7 @@ def proved_when(told):
 def basis():
     """What could be compared with the record."""
     if not record.has_sources():
-        return ", the very octets that were"
+        return ", to the octet"
     return ", of this text by this toolchain" if record.kit() else ", of this text; its toolchain isn't here"
 
 
