@@ -1,0 +1,5 @@
+mod Garbage
+mod Steps
+mod Turning
+mod Routing
+mod Worlds

@@ -1,0 +1,5 @@
+use Rattle.laws_stations.proofs.Worlds.{leaves_empty}
+use Rattle.laws_stations.proofs.laws.stations_are_left_empty.Goals as goal
+
+pub returns : goal.returns
+returns c = leaves_empty

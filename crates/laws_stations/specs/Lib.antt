@@ -1,0 +1,3 @@
+pub mod Garbage
+pub mod Placed
+pub mod Spoken
