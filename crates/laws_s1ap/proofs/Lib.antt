@@ -6,3 +6,4 @@ pub mod Fronts
 pub mod Messages
 pub mod Frames
 pub mod Least
+pub mod Ranged

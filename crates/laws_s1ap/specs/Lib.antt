@@ -1,2 +1,3 @@
 pub mod S1apFaults
 pub mod Least
+pub mod Ranged

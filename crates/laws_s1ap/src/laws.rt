@@ -7,6 +7,7 @@ ghost use Rattle.s1ap_pdus.specs.declared.pdu.Pdu.{Pdu};
 ghost use Rattle.s1ap_pdus.specs.Pdus.{SpellsMessage, decoded};
 ghost use Rattle.per_numbers.specs.Numbers.{octets_for, width_of};
 ghost use Rattle.laws_s1ap.specs.Least.{AreFewestOctets, IsLeastWidth};
+ghost use Rattle.laws_s1ap.specs.Ranged.{DecodedIsInRange};
 ghost use Rattle.laws_s1ap.specs.S1apFaults.{HasS1apFault};
 
 use s1ap_pdus::decoded_exactly;
@@ -43,3 +44,11 @@ pub fn widths_are_least()
     ensures bits { (n : ℕ) → n < 256 → IsLeastWidth n (width_of n) }
     ensures octets { (n : ℕ) → n < 2 ^ 64 → AreFewestOctets n (octets_for n) }
 {}
+
+/// Each element that a message must have is in the range that its format gives: each number, each string's octets, and how many a
+/// list has (TS 36.413 clauses 9.2 and 9.3.4).
+pub fn decoded_is_in_range()
+    ensures { DecodedIsInRange }
+{
+    decoded_exactly();
+}

@@ -5,7 +5,7 @@ ghost use Rattle.laws_written.specs.Received.{EntriesAreInRange, MessagesAreInRa
 
 use crate::messages::phone_messages_are_written;
 use crate::sizes::short_messages_are_written;
-use s1ap_pdus::decoded_exactly;
+use laws_s1ap::decoded_is_in_range;
 
 /// An S1 SETUP REQUEST, a RESET of the interface and one of a part that was read, octets with a fault that has a cause, a message
 /// out of place and one with the id of nobody are each answered: the answer has a written form (TS 36.413 clauses 8.7, 10).
@@ -19,7 +19,7 @@ pub fn stations_are_answered()
 {
     phone_messages_are_written();
     short_messages_are_written();
-    decoded_exactly();
+    decoded_is_in_range();
 }
 
 /// What a stranger is told is sent: the release of its association, a NAS message before it, and what asks for its identity.
@@ -38,5 +38,5 @@ pub fn what_stations_tell_is_in_range()
     ensures messages { MessagesAreInRange }
     ensures resets { ResetsAreInRange }
 {
-    decoded_exactly();
+    decoded_is_in_range();
 }

@@ -105,7 +105,7 @@ as_many_after : (each : ℕ → Item) (n : ℕ) (xs : List SubscriberView) → l
 as_many_after each n [] = refl
 as_many_after each n (x ∷ xs) = ap suc (as_many_after each (n + 1) xs)
 
-as_many_fresh : (n : Network) (slot : ℕ) (ps : List Profile) (vs : List (List Vector))
+pub as_many_fresh : (n : Network) (slot : ℕ) (ps : List Profile) (vs : List (List Vector))
     → length (fresh_subscribers n slot ps vs) ≡ length ps
 as_many_fresh n slot [] vs = refl
 as_many_fresh n slot (p ∷ ps) vs = ap suc (as_many_fresh n (slot + 1) ps vs)

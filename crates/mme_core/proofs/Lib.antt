@@ -11,6 +11,7 @@ pub mod Named
 pub mod Exchange
 pub mod InUse
 pub mod Kept
+pub mod Apart
 pub mod Ending
 pub mod OneOutput
 pub mod Faults

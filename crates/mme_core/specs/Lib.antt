@@ -6,5 +6,6 @@ pub mod FreshRuns
 pub mod GuardedRuns
 pub mod EndingRuns
 pub mod Kept
+pub mod Apart
 pub mod Laws
 pub mod Faults

@@ -1,10 +1,12 @@
 //! Laws of the definitions: each is the contract of a function that does nothing.
 
+ghost use Rattle.mme_core.specs.Apart.{EventsGoMade, IdsBeginApart, IdsStayApart};
 ghost use Rattle.mme_core.specs.Kept.{BeginsKept, StaysKept};
 ghost use Rattle.mme_core.specs.Laws.{Exchanges, GoesAlone, NamedById, NamedByIdentity, NamedByImsi, OneOutput, RepliesSo, SameFromMme, SameToSlot};
 
 use emm_machine::in_use_is_kept;
 use laws_admission::soundness_is_kept;
+use laws_apart::{ids_stay_apart, octets_go_made};
 use laws_ends::{clocks_are_kept, strangers_are_closed};
 
 /// Two lists of events that have the same items for a slot, where those that have nothing for it are left out, tell the slot
@@ -29,6 +31,17 @@ pub fn worlds_are_kept()
     soundness_is_kept();
     clocks_are_kept();
     strangers_are_closed();
+}
+
+/// No two phones share an association's id (TS 36.413 clause 9.2.3.3): an MME begins so, and every list of events keeps it so,
+/// whatever octets stations send, since a stranger that begins has the id that is made of its station and number.
+pub fn ids_are_apart()
+    ensures begins { IdsBeginApart }
+    ensures stays { IdsStayApart }
+    ensures goes { EventsGoMade }
+{
+    ids_stay_apart();
+    octets_go_made();
 }
 
 /// What names a slot: data for its IMSI and the end of its subscription, and from a station that is set up an INITIAL UE

@@ -13,6 +13,8 @@ mod station;
 
 pub use config::Config;
 pub use event::{Event, StepFault};
-pub use laws::{exchanges, names_slot, one_output, same_to_slot, slots_end, worlds_are_kept};
+pub use laws::{
+    exchanges, ids_are_apart, names_slot, one_output, same_to_slot, slots_end, worlds_are_kept,
+};
 pub use mme::Mme;
 pub use mme_answering::{Out, Outs, Owner};

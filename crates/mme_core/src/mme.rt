@@ -4,7 +4,7 @@ ghost use Rattle.std.specs.Prelude.{◌≡◌, ◌≢◌, ◌⊎◌, ◌<◌, �
 ghost use Rattle.identity_slots.specs.Provisioned.{slot_of_imsi};
 ghost use Rattle.mme_types.specs.Stations.{station_at};
 ghost use Rattle.emm_machine.specs.SubscriberView.{SubscriberView};
-ghost use Rattle.sorted_list.specs.Ordered.{Every, Rising};
+ghost use Rattle.sorted_list.specs.Ordered.{Distinct, Every, Rising};
 ghost use Rattle.stranger_machine.specs.Table.{known_id, stranger_at};
 ghost use Rattle.mme_core.specs.declared.event.StepFault.TheVariants.{NoMemory};
 ghost use Rattle.mme_core.specs.Projection.{AllInOrder, AreInOrder, alone_after, is_slot, is_station, is_stranger, projection, silence, station_run, station_told, states_along, states_at, states_run, stranger_run, stranger_told, subscriber_told, told};
@@ -12,6 +12,9 @@ ghost use Rattle.mme_types.specs.declared.stations.StationState.{StationState};
 ghost use Rattle.mme_routing.specs.Destinations.{item_at, strangers_behind};
 ghost use Rattle.mme_routing.specs.Seen.{destination_of, seen_outcome};
 ghost use Rattle.mme_answering.specs.Settled.{IsFor, IsInTime, IsPassing, settled_strangers, settled_subscribers};
+ghost use Rattle.association_table.specs.Table.{association_id};
+ghost use Rattle.laws_apart.specs.Associations.{associations};
+ghost use Rattle.mme_core.specs.Apart.{AreApart};
 ghost use Rattle.mme_core.specs.EndingRuns.{IsEndingRun};
 ghost use Rattle.mme_core.specs.FreshRuns.{AreInUse, IsFreshRun};
 ghost use Rattle.mme_core.specs.GuardedRuns.{IsGuardedRun};
@@ -23,7 +26,7 @@ ghost use Rattle.mme_core.specs.World.{clock_after, each_after, each_sent, event
 
 use crate::config::Config;
 use crate::event::{Event, StepFault};
-use crate::laws::worlds_are_kept;
+use crate::laws::{ids_are_apart, worlds_are_kept};
 use crate::provisioning::fresh_subscribers;
 use crate::station::{settle_station, station_outs};
 use emm_machine::{
@@ -35,6 +38,7 @@ use laws_admission::{
     keys_go_to_the_proved, protected_forms_are_marked, registered_by_proof, soundness_is_kept,
     unproved_leaves,
 };
+use laws_apart::associations_are_a_map;
 use laws_ends::{clocks_are_kept, silent_phones_end, strangers_are_closed};
 use mme_answering::{Outs, Prepared, prepare, settle};
 use mme_routing::{Destination, Outcome, outcome_of};
@@ -86,6 +90,7 @@ pub struct Mme {
 
 impl Model for Mme {
     ghost use Rattle.std.specs.Prelude.{◌≤◌};
+    ghost use Rattle.mme_core.specs.Apart.{AreApart};
     ghost use Rattle.mme_core.specs.Kept.{IsKept};
     ghost use Rattle.mme_core.specs.World.{World, world_of};
 
@@ -94,7 +99,8 @@ impl Model for Mme {
     ghost view = { λ m. world_of m.surroundings m.subscribers.subscribers };
 
     ghost invariant = { λ m. (m.subscribers.clock ≤ m.surroundings.sight.clock)
-        × IsKept (world_of m.surroundings m.subscribers.subscribers) };
+        × IsKept (world_of m.surroundings m.subscribers.subscribers)
+        × AreApart (world_of m.surroundings m.subscribers.subscribers) };
 }
 
 /// What an event makes of the station that it is of, if it is of one, and of the clock.
@@ -122,6 +128,7 @@ impl Mme {
         in_use_is_kept();
         soundness_is_kept();
         clocks_are_kept();
+        ids_are_apart();
         let mut provision = provision;
         let network = SharedNetwork::new(alloc, config.network.clone()?)?;
         let subscribers = fresh_subscribers(alloc, &network, &mut provision)?;
@@ -158,14 +165,18 @@ impl Mme {
 
     /// What always holds: the strangers' ids rise and those that wait have ticks of T3470 left, there are 128 stations and as many
     /// subscribers as are provisioned, no vector of a context that stands can become one again, each subscriber's context is the
-    /// vector at its place, and of its countdowns that of its phase runs alone.
+    /// vector at its place, of its countdowns that of its phase runs alone, and no two phones share an association's id: in the list
+    /// of all associations, of subscribers and of strangers that wait, each id stands once.
     pub fn well_kept(&self)
         ensures strangers { Rising known_id self.now.strangers }
         ensures stations { length self.now.sight.stations ≡ 128 }
         ensures subscribers { length self.now.subscribers ≡ length self.now.sight.profiles }
         ensures in_use { AreInUse self.now.subscribers }
         ensures timed { Every IsKnownTimed self.now.strangers }
+        ensures apart { AreApart self.now }
+        ensures associations { Distinct association_id (associations self.now.strangers self.now.subscribers) }
     {
+        associations_are_a_map();
         // (a contract has the invariant where a field is used)
         let _ = &self.surroundings;
     }
@@ -256,8 +267,10 @@ impl Mme {
             ⊎ ((fault ≡ NoMemory) × (event_fault self.old.sight event.now ≡ None))) }
         ensures same { self.new ≡ self.old }
         ensures kept { IfOk result (λ r. IsKept (ready_world r self.new)) }
+        ensures apart { IfOk result (λ r. AreApart (ready_world r self.new)) }
     {
         worlds_are_kept();
+        ids_are_apart();
         self.surroundings.ready(&mut self.subscribers, event)
     }
 
@@ -266,6 +279,7 @@ impl Mme {
         requires fits { IsFor ready.prepared self.old.subscribers }
         requires in_time { IsInTime ready.prepared self.old.sight.clock ready.moves.clock }
         requires kept { IsKept (ready_world ready self.old) }
+        requires apart { AreApart (ready_world ready self.old) }
         ensures after { OnOk result (self.new ≡ ready_world ready self.old) }
         ensures outs { IfOk result (λ outs. outs ≡ ready.outs) }
         ensures short { IfOk result (λ outs. AreShort outs) }

@@ -1,6 +1,6 @@
 //! The subscribers of a provisioning.
 
-ghost use Rattle.std.specs.Prelude.{◌≡◌, ◌<◌, length, IfOk, OnOk};
+ghost use Rattle.std.specs.Prelude.{◌≡◌, ◌<◌, ◌≤◌, length, IfOk, OnOk};
 ghost use Rattle.identity_slots.specs.Ids.{slots};
 ghost use Rattle.mme_core.specs.World.{fresh_subscribers};
 
@@ -32,6 +32,7 @@ pub(crate) fn fresh_subscribers(
     ensures value { IfOk result
         (λ t. t.subscribers ≡ fresh_subscribers network.now 0 provision.old.profiles provision.old.vectors) }
     ensures count { IfOk result (λ t. length t.subscribers ≡ length provision.old.profiles) }
+    ensures few { OnOk result (length provision.old.profiles ≤ slots) }
     ensures profiles { OnOk result (provision.new.profiles ≡ provision.old.profiles) }
 {
     let count = provision.len();

@@ -11,7 +11,7 @@ returns c =
     record {
       setup = setup_is_answered short;
       reset = reset_is_answered short;
-      part_reset = part_reset_is_answered short (resets_are_in_range c.decoded_exactly.ensures.spelled);
+      part_reset = part_reset_is_answered short (resets_are_in_range c.decoded_is_in_range.ensures);
       fault = fault_is_answered short;
       incompatible = incompatible_is_answered short;
       unknown = unknown_is_answered tells;

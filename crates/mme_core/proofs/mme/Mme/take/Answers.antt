@@ -1,4 +1,5 @@
 use Rattle.std.proofs.Common.{sym, subst}
+use Rattle.mme_core.specs.Apart.{AreApart}
 use Rattle.mme_core.specs.Kept.{IsKept}
 use Rattle.mme_core.specs.Ready.{ready_world}
 use Rattle.mme_core.specs.World.{World}
@@ -12,3 +13,4 @@ invariant_of-self c =
     kept c.take.result r c.self.inside.subscribers.clock c.take.new.subscribers.clock c.self.inside.surroundings c.take.new.self c.self.inside.subscribers.subscribers c.take.new.subscribers.subscribers
     done.after done.clock done.err done.err_subscribers done.err_clock c.self.invariant
     (subst (λ (v : World). IsKept (ready_world r v)) (sym c.self.view_is) c.requires.kept)
+    (subst (λ (v : World). AreApart (ready_world r v)) (sym c.self.view_is) c.requires.apart)

@@ -1,0 +1,5 @@
+pub mod Alone
+pub mod Turning
+pub mod Octets
+pub mod Apart
+pub mod Found

@@ -1,0 +1,4 @@
+pub mod Alone
+pub mod Goes
+pub mod Apart
+pub mod Associations

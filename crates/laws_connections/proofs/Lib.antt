@@ -1,0 +1,3 @@
+pub mod Standing
+pub mod Rows
+pub mod Steps
