@@ -12,28 +12,28 @@ use Rattle.sorted_list.specs.Indexed.{every-add, every-without, rising-add, risi
 use Rattle.association_table.specs.declared.association.Association.{Association}
 use Rattle.association_table.specs.declared.places.Held.{Held}
 use Rattle.association_table.specs.declared.places.SlabPlace.{SlabPlace}
-use Rattle.association_table.specs.declared.places.Seat.{Seat}
+use Rattle.association_table.specs.declared.places.IndexEntry.{IndexEntry}
 use Rattle.association_table.specs.Table.{association_id, found, opened, closed}
-use Rattle.association_table.specs.Kept.{place_id, place_key, or_blank, with_id, entry_at, entries_of, station_bench, number_bench, seat_of, seat_rank, seating, seats_of, IsId, IsTable}
+use Rattle.association_table.specs.Kept.{place_id, place_key, or_blank, with_id, entry_at, entries_of, station_group, number_group, index_entry, index_rank, indexing, index_of, IsId, IsTable}
 
-apart : (bench : Association → ℕ) (x y : Association) → IsId x → IsId y → seating bench x ≡ seating bench y
+apart : (group : Association → ℕ) (x y : Association) → IsId x → IsId y → indexing group x ≡ indexing group y
     → association_id x ≡ association_id y
-apart bench x y a b e = let p = a.0 in let q = b.0 in omega (arith, p, q, e)
+apart group x y a b e = let p = a.0 in let q = b.0 in omega (arith, p, q, e)
 
 pub rising_entries : (s : Slab Held) (ps : List SlabPlace) → Rising place_id ps → Rising association_id (entries_of s ps)
 rising_entries s ps h = rising-map (entry_at s) association_id ps h
 
--- the seats of a bench stand for entries
-distinct_seats : (bench : Association → ℕ) (es : List Association) → Rising association_id es → Every IsId es
-    → Distinct (seating bench) es
-distinct_seats bench es h i =
-    apart_distinct association_id (seating bench) IsId (apart bench) es i (rising_distinct association_id es h)
+-- the index of a group stand for entries
+distinct_index : (group : Association → ℕ) (es : List Association) → Rising association_id es → Every IsId es
+    → Distinct (indexing group) es
+distinct_index group es h i =
+    apart_distinct association_id (indexing group) IsId (apart group) es i (rising_distinct association_id es h)
 
-pub rising_seats : (bench : Association → ℕ) (es : List Association) → Rising association_id es → Every IsId es
-    → Rising seat_rank (seats_of bench es)
-rising_seats bench es h i =
-    rising-map (seat_of bench) seat_rank (ordered (seating bench) es)
-    (rising-ordered (seating bench) es (distinct_seats bench es h i))
+pub rising_index : (group : Association → ℕ) (es : List Association) → Rising association_id es → Every IsId es
+    → Rising index_rank (index_of group es)
+rising_index group es h i =
+    rising-map (index_entry group) index_rank (ordered (indexing group) es)
+    (rising-ordered (indexing group) es (distinct_index group es h i))
 
 pub found_place : (s : Slab Held) (id : ℕ) (ps : List SlabPlace)
     → found id (entries_of s ps) ≡ option_map (entry_at s) (at place_id id ps)
@@ -55,17 +55,17 @@ pub taken_place : (s : Slab Held) (id : ℕ) (a : Association) (ps : List SlabPl
     → (p : SlabPlace) × (at place_id id ps ≡ Some p) × (entry_at s p ≡ a)
 taken_place s id a ps h = mapped_some s a (at place_id id ps) (sym (found_place s id ps) ∙ h)
 
-pub free_seat : (bench : Association → ℕ) (a : Association) (es : List Association) → Rising association_id es → Every IsId es
-    → IsId a → found a.id es ≡ None → at seat_rank (seat_rank (seat_of bench a)) (seats_of bench es) ≡ None
-free_seat bench a es h k i f =
-    at-map (seat_of bench) seat_rank (seat_rank (seat_of bench a)) (ordered (seating bench) es)
-    ∙ ap (option_map (seat_of bench)) (at-ordered (seating bench) (seating bench a) es (distinct_seats bench es h k) ∙ apart_none association_id (seating bench) IsId (apart bench) a es i k f)
+pub free_entry : (group : Association → ℕ) (a : Association) (es : List Association) → Rising association_id es → Every IsId es
+    → IsId a → found a.id es ≡ None → at index_rank (index_rank (index_entry group a)) (index_of group es) ≡ None
+free_entry group a es h k i f =
+    at-map (index_entry group) index_rank (index_rank (index_entry group a)) (ordered (indexing group) es)
+    ∙ ap (option_map (index_entry group)) (at-ordered (indexing group) (indexing group a) es (distinct_index group es h k) ∙ apart_none association_id (indexing group) IsId (apart group) a es i k f)
 
-seats_opened : (bench : Association → ℕ) (a : Association) (es : List Association) → Every IsId es → IsId a → found a.id es ≡ None
-    → add seat_rank (seat_of bench a) (seats_of bench es) ≡ seats_of bench (opened a es)
-seats_opened bench a es k i f =
-    sym (map-add (seat_of bench) seat_rank a (ordered (seating bench) es))
-    ∙ ap (map (seat_of bench)) (sym (ordered-add association_id (seating bench) a es (apart_none association_id (seating bench) IsId (apart bench) a es i k f)))
+index_opened : (group : Association → ℕ) (a : Association) (es : List Association) → Every IsId es → IsId a → found a.id es ≡ None
+    → add index_rank (index_entry group a) (index_of group es) ≡ index_of group (opened a es)
+index_opened group a es k i f =
+    sym (map-add (index_entry group) index_rank a (ordered (indexing group) es))
+    ∙ ap (map (index_entry group)) (sym (ordered-add association_id (indexing group) a es (apart_none association_id (indexing group) IsId (apart group) a es i k f)))
 
 -- another key of the slab
 pub none_some : {X : Type 0} (o : Option X) → IsSome o → o ≡ None → ⊥
@@ -115,11 +115,11 @@ open_entries s t a key ps n h u =
     ∙ ap (λ x. add association_id (with_id a.id (or_blank x)) (entries_of t ps)) u.changed
     ∙ ap (add association_id a) (same_entries s t key ps u.others (vacant_none s key ps n h))
 
-pub open_kept : (s t : Slab Held) (a : Association) (key : ℕ) (ps : List SlabPlace) (seats chairs : List Seat)
-    → IsTable s ps seats chairs → IsId a → found a.id (entries_of s ps) ≡ None → get s key ≡ None
+pub open_kept : (s t : Slab Held) (a : Association) (key : ℕ) (ps : List SlabPlace) (index chairs : List IndexEntry)
+    → IsTable s ps index chairs → IsId a → found a.id (entries_of s ps) ≡ None → get s key ≡ None
     → Updates s t key (Some (record { owner = a.owner; station = a.station; enb_ue_id = a.enb_ue_id }))
-    → IsTable t (add place_id (record { id = a.id; key = key }) ps) (add seat_rank (seat_of station_bench a) seats) (add seat_rank (seat_of number_bench a) chairs)
-open_kept s t a key ps seats chairs k i f n u =
+    → IsTable t (add place_id (record { id = a.id; key = key }) ps) (add index_rank (index_entry station_group a) index) (add index_rank (index_entry number_group a) chairs)
+open_kept s t a key ps index chairs k i f n u =
     let p : SlabPlace = record { id = a.id; key = key } in
     let es = entries_of s ps in
     let none = vacant_none s key ps n k.held in
@@ -129,8 +129,8 @@ open_kept s t a key ps seats chairs k i f n u =
       keys = distinct_add place_id place_key p ps k.keys none;
       held = every-add (λ q. IsSome (get t q.key)) place_id p ps (some_is (get t key) _ u.changed) (same_held s t key ps u.others none k.held);
       ids = subst (Every IsId) (sym e) (every-add IsId association_id a es i k.ids);
-      seats = ap (add seat_rank (seat_of station_bench a)) k.seats ∙ seats_opened station_bench a es k.ids i f ∙ ap (seats_of station_bench) (sym e);
-      numbers = ap (add seat_rank (seat_of number_bench a)) k.numbers ∙ seats_opened number_bench a es k.ids i f ∙ ap (seats_of number_bench) (sym e);
+      index = ap (add index_rank (index_entry station_group a)) k.index ∙ index_opened station_group a es k.ids i f ∙ ap (index_of station_group) (sym e);
+      numbers = ap (add index_rank (index_entry number_group a)) k.numbers ∙ index_opened number_group a es k.ids i f ∙ ap (index_of number_group) (sym e);
     }
 
 -- a closing
@@ -141,28 +141,28 @@ close_entries s t id p ps d h u =
     same_entries s t p.key (without place_id id ps) u.others (gone_other place_id place_key id p ps d h)
     ∙ map-without (entry_at s) association_id id ps
 
-pub seats_with : (bench : Association → ℕ) (id : ℕ) (a : Association) (es : List Association) → Every IsId es → found id es ≡ Some a
-    → seats_of bench es ≡ add seat_rank (seat_of bench a) (seats_of bench (closed id es))
-seats_with bench id a es k f =
-    ap (map (seat_of bench)) (ordered_left association_id (seating bench) IsId (apart bench) id a es k f)
-    ∙ map-add (seat_of bench) seat_rank a (ordered (seating bench) (closed id es))
+pub index_with : (group : Association → ℕ) (id : ℕ) (a : Association) (es : List Association) → Every IsId es → found id es ≡ Some a
+    → index_of group es ≡ add index_rank (index_entry group a) (index_of group (closed id es))
+index_with group id a es k f =
+    ap (map (index_entry group)) (ordered_left association_id (indexing group) IsId (apart group) id a es k f)
+    ∙ map-add (index_entry group) index_rank a (ordered (indexing group) (closed id es))
 
-pub seat_there : (bench : Association → ℕ) (id : ℕ) (a : Association) (es : List Association) → Every IsId es → found id es ≡ Some a
-    → at seat_rank (seat_rank (seat_of bench a)) (seats_of bench es) ≡ Some (seat_of bench a)
-seat_there bench id a es k f =
-    ap (at seat_rank (seat_rank (seat_of bench a))) (seats_with bench id a es k f)
-    ∙ at_added seat_rank (seat_of bench a) (seats_of bench (closed id es))
+pub entry_there : (group : Association → ℕ) (id : ℕ) (a : Association) (es : List Association) → Every IsId es → found id es ≡ Some a
+    → at index_rank (index_rank (index_entry group a)) (index_of group es) ≡ Some (index_entry group a)
+entry_there group id a es k f =
+    ap (at index_rank (index_rank (index_entry group a))) (index_with group id a es k f)
+    ∙ at_added index_rank (index_entry group a) (index_of group (closed id es))
 
-seats_closed : (bench : Association → ℕ) (id : ℕ) (a : Association) (es : List Association) → Every IsId es → found id es ≡ Some a
-    → without seat_rank (seat_rank (seat_of bench a)) (seats_of bench es) ≡ seats_of bench (closed id es)
-seats_closed bench id a es k f =
-    ap (without seat_rank (seat_rank (seat_of bench a))) (seats_with bench id a es k f)
-    ∙ without-add seat_rank (seat_rank (seat_of bench a)) (seat_of bench a) (seats_of bench (closed id es)) refl
+index_closed : (group : Association → ℕ) (id : ℕ) (a : Association) (es : List Association) → Every IsId es → found id es ≡ Some a
+    → without index_rank (index_rank (index_entry group a)) (index_of group es) ≡ index_of group (closed id es)
+index_closed group id a es k f =
+    ap (without index_rank (index_rank (index_entry group a))) (index_with group id a es k f)
+    ∙ without-add index_rank (index_rank (index_entry group a)) (index_entry group a) (index_of group (closed id es)) refl
 
-pub close_kept : (s t : Slab Held) (id : ℕ) (a : Association) (p : SlabPlace) (ps : List SlabPlace) (seats chairs : List Seat)
-    → IsTable s ps seats chairs → found id (entries_of s ps) ≡ Some a → at place_id id ps ≡ Some p
-    → Updates s t p.key None → IsTable t (without place_id id ps) (without seat_rank (seat_rank (seat_of station_bench a)) seats) (without seat_rank (seat_rank (seat_of number_bench a)) chairs)
-close_kept s t id a p ps seats chairs k f h u =
+pub close_kept : (s t : Slab Held) (id : ℕ) (a : Association) (p : SlabPlace) (ps : List SlabPlace) (index chairs : List IndexEntry)
+    → IsTable s ps index chairs → found id (entries_of s ps) ≡ Some a → at place_id id ps ≡ Some p
+    → Updates s t p.key None → IsTable t (without place_id id ps) (without index_rank (index_rank (index_entry station_group a)) index) (without index_rank (index_rank (index_entry number_group a)) chairs)
+close_kept s t id a p ps index chairs k f h u =
     let es = entries_of s ps in
     let e = close_entries s t id p ps k.keys h u in
     let gone = gone_other place_id place_key id p ps k.keys h in
@@ -171,23 +171,23 @@ close_kept s t id a p ps seats chairs k f h u =
       keys = distinct_other place_id place_key id ps k.keys;
       held = same_held s t p.key (without place_id id ps) u.others gone (every-without (λ q. IsSome (get s q.key)) place_id id ps k.held);
       ids = subst (Every IsId) (sym e) (every-without IsId association_id id es k.ids);
-      seats = ap (without seat_rank (seat_rank (seat_of station_bench a))) k.seats ∙ seats_closed station_bench id a es k.ids f ∙ ap (seats_of station_bench) (sym e);
-      numbers = ap (without seat_rank (seat_rank (seat_of number_bench a))) k.numbers ∙ seats_closed number_bench id a es k.ids f ∙ ap (seats_of number_bench) (sym e);
+      index = ap (without index_rank (index_rank (index_entry station_group a))) k.index ∙ index_closed station_group id a es k.ids f ∙ ap (index_of station_group) (sym e);
+      numbers = ap (without index_rank (index_rank (index_entry number_group a))) k.numbers ∙ index_closed number_group id a es k.ids f ∙ ap (index_of number_group) (sym e);
     }
 
 -- the same slab and lists
-pub same_kept : (s t : Slab Held) (ps qs : List SlabPlace) (seats stools chairs benches : List Seat) → IsTable s ps seats chairs
-    → t ≡ s → qs ≡ ps → stools ≡ seats → benches ≡ chairs → IsTable t qs stools benches
-same_kept s t ps qs seats stools chairs benches k e f g h =
-    subst (λ x. IsTable x qs stools benches) (sym e) (subst (λ x. IsTable s x stools benches) (sym f) (subst (λ x. IsTable s ps x benches) (sym g) (subst (λ x. IsTable s ps seats x) (sym h) k)))
+pub same_kept : (s t : Slab Held) (ps qs : List SlabPlace) (index stools chairs groups : List IndexEntry) → IsTable s ps index chairs
+    → t ≡ s → qs ≡ ps → stools ≡ index → groups ≡ chairs → IsTable t qs stools groups
+same_kept s t ps qs index stools chairs groups k e f g h =
+    subst (λ x. IsTable x qs stools groups) (sym e) (subst (λ x. IsTable s x stools groups) (sym f) (subst (λ x. IsTable s ps x groups) (sym g) (subst (λ x. IsTable s ps index x) (sym h) k)))
 
 -- more room
-pub kept_room : (s t : Slab Held) (ps qs : List SlabPlace) (seats stools chairs benches : List Seat) → IsTable s ps seats chairs
-    → t ≡ record s { capacity = t.capacity } → qs ≡ ps → stools ≡ seats → benches ≡ chairs → IsTable t qs stools benches
-kept_room s t ps qs seats stools chairs benches k e f g h =
-    let there : IsTable (record s { capacity = t.capacity }) ps seats chairs =
-    record { rising = k.rising; keys = k.keys; held = k.held; ids = k.ids; seats = k.seats; numbers = k.numbers } in
-    same_kept (record s { capacity = t.capacity }) t ps qs seats stools chairs benches there e f g h
+pub kept_room : (s t : Slab Held) (ps qs : List SlabPlace) (index stools chairs groups : List IndexEntry) → IsTable s ps index chairs
+    → t ≡ record s { capacity = t.capacity } → qs ≡ ps → stools ≡ index → groups ≡ chairs → IsTable t qs stools groups
+kept_room s t ps qs index stools chairs groups k e f g h =
+    let there : IsTable (record s { capacity = t.capacity }) ps index chairs =
+    record { rising = k.rising; keys = k.keys; held = k.held; ids = k.ids; index = k.index; numbers = k.numbers } in
+    same_kept (record s { capacity = t.capacity }) t ps qs index stools chairs groups there e f g h
 
 pub when_ok : {X E Y : Type 0} (r : Result X E) (a b : Y) → IsOk r → (if is_ok r then a else b) ≡ a
 when_ok (Ok x) a b h = refl
@@ -224,19 +224,19 @@ copied_map s t (p ∷ ps) e =
 pub copied_entries : (s t : Slab Held) (ps qs : List SlabPlace) → t.slots ≡ s.slots → qs ≡ ps → entries_of t qs ≡ entries_of s ps
 copied_entries s t ps qs e f = ap (entries_of t) f ∙ copied_map s t ps e
 
-pub copied_kept : (s t : Slab Held) (ps qs : List SlabPlace) (seats stools chairs benches : List Seat) → IsTable s ps seats chairs
-    → t.slots ≡ s.slots → qs ≡ ps → stools ≡ seats → benches ≡ chairs → IsTable t qs stools benches
-copied_kept s t ps qs seats stools chairs benches k e f g h =
+pub copied_kept : (s t : Slab Held) (ps qs : List SlabPlace) (index stools chairs groups : List IndexEntry) → IsTable s ps index chairs
+    → t.slots ≡ s.slots → qs ≡ ps → stools ≡ index → groups ≡ chairs → IsTable t qs stools groups
+copied_kept s t ps qs index stools chairs groups k e f g h =
     let es = copied_map s t ps e in
-    let there : IsTable t ps seats chairs = record {
+    let there : IsTable t ps index chairs = record {
       rising = k.rising;
       keys = k.keys;
       held = copied_held s t ps e k.held;
       ids = subst (Every IsId) (sym es) k.ids;
-      seats = k.seats ∙ ap (seats_of station_bench) (sym es);
-      numbers = k.numbers ∙ ap (seats_of number_bench) (sym es);
+      index = k.index ∙ ap (index_of station_group) (sym es);
+      numbers = k.numbers ∙ ap (index_of number_group) (sym es);
     } in
-    same_kept t t ps qs seats stools chairs benches there refl f g h
+    same_kept t t ps qs index stools chairs groups there refl f g h
 
 pub on_some : {X P : Type 0} (o : Option X) → IsSome o → OnSome o P → P
 on_some None h p = absurd (cc)

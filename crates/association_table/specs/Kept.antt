@@ -5,7 +5,7 @@ use Rattle.association_table.specs.declared.association.AssociationOwner.TheVari
 use Rattle.association_table.specs.declared.association.Association.{Association}
 use Rattle.association_table.specs.declared.places.Held.{Held}
 use Rattle.association_table.specs.declared.places.SlabPlace.{SlabPlace}
-use Rattle.association_table.specs.declared.places.Seat.{Seat}
+use Rattle.association_table.specs.declared.places.IndexEntry.{IndexEntry}
 use Rattle.sorted_list.specs.Ordered.{ordered, Rising, Every, Distinct}
 
 abbrev pub place_id : SlabPlace → ℕ
@@ -28,49 +28,49 @@ entry_at s p = with_id p.id (or_blank (get s p.key))
 abbrev pub entries_of : Slab Held → List SlabPlace → List Association
 entries_of s ps = map (entry_at s) ps
 
--- the benches of an association: its station, and its eNB UE id there
-abbrev pub station_bench : Association → ℕ
-station_bench a = a.station
+-- the groups of an association: its station, and its eNB UE id there
+abbrev pub station_group : Association → ℕ
+station_group a = a.station
 
-abbrev pub bench_at : ℕ → ℕ → ℕ
-bench_at e n = e * 2 ^ 32 + n
+abbrev pub group_at : ℕ → ℕ → ℕ
+group_at e n = e * 2 ^ 32 + n
 
-abbrev pub number_bench : Association → ℕ
-number_bench a = bench_at a.station a.enb_ue_id
+abbrev pub number_group : Association → ℕ
+number_group a = group_at a.station a.enb_ue_id
 
-abbrev pub seat_of : (Association → ℕ) → Association → Seat
-seat_of bench a = record { bench = bench a; id = a.id }
+abbrev pub index_entry : (Association → ℕ) → Association → IndexEntry
+index_entry group a = record { group = group a; id = a.id }
 
-abbrev pub seat_rank : Seat → ℕ
-seat_rank s = s.bench * 2 ^ 32 + s.id
+abbrev pub index_rank : IndexEntry → ℕ
+index_rank s = s.group * 2 ^ 32 + s.id
 
-abbrev pub seating : (Association → ℕ) → Association → ℕ
-seating bench a = seat_rank (seat_of bench a)
+abbrev pub indexing : (Association → ℕ) → Association → ℕ
+indexing group a = index_rank (index_entry group a)
 
-abbrev pub seats_of : (Association → ℕ) → List Association → List Seat
-seats_of bench es = map (seat_of bench) (ordered (seating bench) es)
+abbrev pub index_of : (Association → ℕ) → List Association → List IndexEntry
+index_of group es = map (index_entry group) (ordered (indexing group) es)
 
 abbrev pub IsId : Association → Type 0
 IsId a = (a.id < 2 ^ 32) × (a.enb_ue_id < 2 ^ 32)
 
-pub record IsTable (s : Slab Held) (by_id : List SlabPlace) (by_station by_number : List Seat) : Type 0 where
+pub record IsTable (s : Slab Held) (by_id : List SlabPlace) (by_station by_number : List IndexEntry) : Type 0 where
   pub rising : Rising place_id by_id
   pub keys : Distinct place_key by_id
   pub held : Every (λ p. IsSome (get s p.key)) by_id
   pub ids : Every IsId (entries_of s by_id)
-  pub seats : by_station ≡ seats_of station_bench (entries_of s by_id)
-  pub numbers : by_number ≡ seats_of number_bench (entries_of s by_id)
+  pub index : by_station ≡ index_of station_group (entries_of s by_id)
+  pub numbers : by_number ≡ index_of number_group (entries_of s by_id)
 
-abbrev pub IsSeat : Seat → Type 0
-IsSeat s = s.id < 2 ^ 32
+abbrev pub IsIndexEntry : IndexEntry → Type 0
+IsIndexEntry s = s.id < 2 ^ 32
 
--- the id of the first seat of a bench whose id is at least the number
-abbrev pub first_seat : ℕ → ℕ → List Seat → Option ℕ
-first_seat b n [] = None
-first_seat b n (s ∷ ss) = if s.bench == b then (if nat_le n s.id then Some s.id else first_seat b n ss) else first_seat b n ss
+-- the id of the first entry of a group whose id is at least the number
+abbrev pub first_indexed : ℕ → ℕ → List IndexEntry → Option ℕ
+first_indexed b n [] = None
+first_indexed b n (s ∷ ss) = if s.group == b then (if nat_le n s.id then Some s.id else first_indexed b n ss) else first_indexed b n ss
 
--- the first entry of a bench whose id is at least the number
+-- the first entry of a group whose id is at least the number
 abbrev pub first_from : (Association → ℕ) → ℕ → ℕ → List Association → Option Association
-first_from bench b n [] = None
-first_from bench b n (a ∷ es) =
-    if bench a == b then (if nat_le n a.id then Some a else first_from bench b n es) else first_from bench b n es
+first_from group b n [] = None
+first_from group b n (a ∷ es) =
+    if group a == b then (if nat_le n a.id then Some a else first_from group b n es) else first_from group b n es

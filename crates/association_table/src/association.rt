@@ -47,16 +47,16 @@ pub struct Listed {
 #[derive(Clone, Copy, PartialEq, Eq, Debug)]
 pub enum OpenFault {
     /// The id has an association.
-    Taken,
+    Taken = 1,
     /// A growth was refused.
-    NoMemory,
+    NoMemory = 2,
 }
 
 /// Why an association was not moved, in the order of the checks.
 #[derive(Clone, Copy, PartialEq, Eq, Debug)]
 pub enum MoveFault {
     /// The id has no association.
-    Unknown,
+    Unknown = 1,
     /// A growth was refused. Moving within the place that the association has needs none, so this isn't answered today.
-    NoMemory,
+    NoMemory = 2,
 }

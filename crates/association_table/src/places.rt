@@ -2,7 +2,7 @@
 
 ghost use Rattle.std.specs.Prelude.{◌≡◌, ℕ, ◌+◌, ◌*◌, ◌<◌, ◌≤◌, ◌^◌, Option, None, IsSome, true, is_some};
 ghost use Rattle.sorted_list.specs.Ordered.{at, add, without, Rising, Every};
-ghost use Rattle.association_table.specs.Kept.{place_id, seat_of, seat_rank, station_bench, number_bench, bench_at, IsSeat, first_seat};
+ghost use Rattle.association_table.specs.Kept.{place_id, index_entry, index_rank, station_group, number_group, group_at, IsIndexEntry, first_indexed};
 
 use crate::association::{Association, AssociationOwner};
 use sorted_list::{Keyed, SortedList};
@@ -30,54 +30,54 @@ impl Keyed for SlabPlace {
     }
 }
 
-/// An association on its bench: among those of a station, or of an eNB UE id there.
+/// An association in an index: among those of a station, or of an eNB UE id there.
 #[derive(Clone, Copy)]
-pub(crate) struct Seat {
-    pub(crate) bench: u64,
+pub(crate) struct IndexEntry {
+    pub(crate) group: u64,
     pub(crate) id: u32,
 }
 
-/// The bench of an eNB UE id of a station: the station above the 32 bits of the id.
-pub(crate) fn bench_at(station: u8, enb_ue_id: u32) -> u64
-    ensures bench { result ≡ bench_at station enb_ue_id }
+/// The group of an eNB UE id of a station: the station above the 32 bits of the id.
+pub(crate) fn group_at(station: u8, enb_ue_id: u32) -> u64
+    ensures group { result ≡ group_at station enb_ue_id }
     ensures small { enb_ue_id < 2 ^ 32 }
 {
     u64::from(station) * 0x1_0000_0000 + u64::from(enb_ue_id)
 }
 
-/// Where an association sits among those of its station.
-pub(crate) fn station_seat(association: Association) -> Seat
-    ensures { result ≡ seat_of station_bench association }
+/// The entry of an association among those of its station.
+pub(crate) fn station_entry(association: Association) -> IndexEntry
+    ensures { result ≡ index_entry station_group association }
 {
-    Seat {
-        bench: u64::from(association.station),
+    IndexEntry {
+        group: u64::from(association.station),
         id: association.id,
     }
 }
 
-/// Where an association sits among those of its eNB UE id.
-pub(crate) fn number_seat(association: Association) -> Seat
-    ensures seat { result ≡ seat_of number_bench association }
+/// The entry of an association among those of its eNB UE id.
+pub(crate) fn number_entry(association: Association) -> IndexEntry
+    ensures entry { result ≡ index_entry number_group association }
     ensures small { association.enb_ue_id < 2 ^ 32 }
 {
-    Seat {
-        bench: bench_at(association.station, association.enb_ue_id),
+    IndexEntry {
+        group: group_at(association.station, association.enb_ue_id),
         id: association.id,
     }
 }
 
-/// The number by which seats are kept in order: the bench above the 32 bits of the id.
-fn seat_rank(seat: Seat) -> u128
-    ensures { result ≡ seat_rank seat }
+/// The number by which the entries of an index are in order: the group above the 32 bits of the id.
+fn index_rank(entry: IndexEntry) -> u128
+    ensures { result ≡ index_rank entry }
 {
-    u128::from(seat.bench) * 0x1_0000_0000 + u128::from(seat.id)
+    u128::from(entry.group) * 0x1_0000_0000 + u128::from(entry.id)
 }
 
-impl Keyed for Seat {
-    ghost rank = { seat_rank };
+impl Keyed for IndexEntry {
+    ghost rank = { index_rank };
 
     fn key(&self) -> u128 {
-        seat_rank(*self)
+        index_rank(*self)
     }
 }
 
@@ -98,26 +98,26 @@ pub(crate) fn take_place(places: &mut SortedList<SlabPlace>, id: u32) -> Option<
     places.take(u128::from(id))
 }
 
-/// Takes a seat out.
-pub(crate) fn take_seat(seats: &mut SortedList<Seat>, seat: Seat)
-    requires { IsSome (at seat_rank (seat_rank seat) seats.old.items) }
-    ensures items { seats.new.items ≡ without seat_rank (seat_rank seat) seats.old.items }
-    ensures room { seats.old.steady ≡ true → seats.old.room + 1 ≤ seats.new.room }
-    ensures steady { seats.new.steady ≡ seats.old.steady }
+/// Takes an entry out.
+pub(crate) fn take_entry(index: &mut SortedList<IndexEntry>, entry: IndexEntry)
+    requires { IsSome (at index_rank (index_rank entry) index.old.items) }
+    ensures items { index.new.items ≡ without index_rank (index_rank entry) index.old.items }
+    ensures room { index.old.steady ≡ true → index.old.room + 1 ≤ index.new.room }
+    ensures steady { index.new.steady ≡ index.old.steady }
 {
-    seats.take(seat_rank(seat));
+    index.take(index_rank(entry));
 }
 
-/// The bench's seat with the lowest id of at least `least`: that id.
-pub(crate) fn first_seat(seats: &SortedList<Seat>, bench: u64, least: u64) -> Option<u32>
-    requires rising { Rising seat_rank seats.now.items }
-    requires small { Every IsSeat seats.now.items }
+/// The group's entry with the lowest id of at least `least`: that id.
+pub(crate) fn first_indexed(index: &SortedList<IndexEntry>, group: u64, least: u64) -> Option<u32>
+    requires rising { Rising index_rank index.now.items }
+    requires small { Every IsIndexEntry index.now.items }
     requires least { least ≤ 2 ^ 32 }
-    ensures { result ≡ first_seat bench least seats.now.items }
+    ensures { result ≡ first_indexed group least index.now.items }
 {
-    let seat = seats.first_from(u128::from(bench) * 0x1_0000_0000 + u128::from(least))?;
-    if seat.bench != bench {
+    let entry = index.first_from(u128::from(group) * 0x1_0000_0000 + u128::from(least))?;
+    if entry.group != group {
         return None;
     }
-    Some(seat.id)
+    Some(entry.id)
 }

@@ -6,14 +6,14 @@ ghost use Rattle.association_table.specs.declared.association.MoveFault.TheVaria
 ghost use Rattle.sorted_list.specs.Ordered.{Rising};
 ghost use Rattle.association_table.specs.Table.{association_id, found, opened, closed, moved, at_station, elsewhere};
 ghost use Rattle.association_table.specs.Listing.{listed_at, unlisted};
-ghost use Rattle.association_table.specs.Kept.{station_bench, first_from};
+ghost use Rattle.association_table.specs.Kept.{station_group, first_from};
 ghost use Rattle.association_table.specs.Gathering.{first_numbered, closed_all};
 
 use crate::association::{Association, Listed, MoveFault, OpenFault};
 use crate::gathering::gathered;
 use crate::places::{
-    Held, Seat, SlabPlace, bench_at, find_place, first_seat, number_seat, station_seat, take_place,
-    take_seat,
+    Held, IndexEntry, SlabPlace, find_place, first_indexed, group_at, number_entry, station_entry,
+    take_entry, take_place,
 };
 use slab::Slab;
 use sorted_list::SortedList;
@@ -31,8 +31,8 @@ pub(crate) fn association_id(association: Association) -> u32
 pub struct Associations {
     slab: Slab<Held>,
     by_id: SortedList<SlabPlace>,
-    by_station: SortedList<Seat>,
-    by_number: SortedList<Seat>,
+    by_station: SortedList<IndexEntry>,
+    by_number: SortedList<IndexEntry>,
     alloc: Global,
 }
 
@@ -125,16 +125,16 @@ impl Associations {
         ensures room { self.old.room ≤ self.new.room + 1 }
     {
         let id = association_id(association);
-        let station_seat = station_seat(association);
-        let number_seat = number_seat(association);
+        let station_entry = station_entry(association);
+        let number_entry = number_entry(association);
         let key = self.slab.insert_reserved(Held {
             owner: association.owner,
             station: association.station,
             enb_ue_id: association.enb_ue_id,
         });
         self.by_id.insert_reserved(SlabPlace { id, key });
-        self.by_station.insert_reserved(station_seat);
-        self.by_number.insert_reserved(number_seat);
+        self.by_station.insert_reserved(station_entry);
+        self.by_number.insert_reserved(number_entry);
     }
 
     /// Moves an association to another station and eNB UE id; Unknown where there is none. Takes no memory.
@@ -180,17 +180,17 @@ impl Associations {
     {
         let place = take_place(&mut self.by_id, association.id).unwrap();
         let _ = self.slab.try_remove(place.key);
-        take_seat(&mut self.by_station, station_seat(association));
-        take_seat(&mut self.by_number, number_seat(association));
+        take_entry(&mut self.by_station, station_entry(association));
+        take_entry(&mut self.by_number, number_entry(association));
     }
 
     /// The station's association with the lowest id of at least `least`.
     fn first_at(&self, station: u8, least: u64) -> Option<Association>
         requires { least ≤ 2 ^ 32 }
-        ensures value { result ≡ first_from station_bench station least self.now.entries }
+        ensures value { result ≡ first_from station_group station least self.now.entries }
         ensures order { Rising association_id self.now.entries }
     {
-        match first_seat(&self.by_station, u64::from(station), least) {
+        match first_indexed(&self.by_station, u64::from(station), least) {
             Some(id) => self.find(id),
             None => None,
         }
@@ -207,7 +207,7 @@ impl Associations {
         ensures value { result ≡ first_numbered station enb_ue_id least self.now.entries }
         ensures order { Rising association_id self.now.entries }
     {
-        match first_seat(&self.by_number, bench_at(station, enb_ue_id), least) {
+        match first_indexed(&self.by_number, group_at(station, enb_ue_id), least) {
             Some(id) => self.find(id),
             None => None,
         }
@@ -215,7 +215,8 @@ impl Associations {
 
     /// The associations of a station, by id.
     pub fn entries_at(&self, station: u8) -> Result<Vec<Association>, AllocError>
-        ensures { IfOk result (λ entries. entries.items ≡ at_station station self.now.entries) }
+        ensures value { IfOk result (λ entries. entries.items ≡ at_station station self.now.entries) }
+        ensures order { Rising association_id self.now.entries }
     {
         let mut entries = Vec::new(self.alloc);
         let mut least = 0;
@@ -224,6 +225,18 @@ impl Associations {
             least = u64::from(association_id(association)) + 1;
         }
         Ok(entries)
+    }
+
+    /// The associations of a station that some item of a list matches, by id (TS 36.413 clause 8.7.1.2.2): an item matches where
+    /// it gives an id, and each id that it gives is the association's.
+    pub fn listed(&self, station: u8, items: &[Listed]) -> Result<Vec<Association>, AllocError>
+        ensures value { IfOk result (λ entries. entries.items ≡ listed_at station items.now self.now.entries) }
+        ensures order { Rising association_id self.now.entries }
+    {
+        // (that the entries stand by rising id)
+        let _ = &self.by_id;
+        let gathered = gathered(self.alloc, self, station, items)?;
+        gathered.items(self.alloc)
     }
 
     /// Closes all associations of a station. Takes no memory.

@@ -1,4 +1,4 @@
-pub mod Seated
-pub mod Walked
+pub mod Lookups
+pub mod Gathered
+pub mod Changed
 pub mod Meant
-pub mod Tables

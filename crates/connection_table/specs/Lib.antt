@@ -1,3 +1,3 @@
 pub mod Whereabouts
-pub mod Seats
-pub mod Gathering
+pub mod Kept
+pub mod Items

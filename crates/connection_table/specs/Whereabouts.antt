@@ -1,12 +1,30 @@
 -- Where phones are, and which slots an event of a station concerns.
-use Rattle.std.specs.Prelude.{ℕ, ◌+◌, List, [], ◌∷◌, Option, Some, None, Bool, false, ◌==◌, ◌&&◌, ◌||◌, if◌then◌else◌}
+use Rattle.std.specs.Prelude.{◌≡◌, ℕ, ◌+◌, List, [], ◌∷◌, Option, Some, None, Bool, false, ◌==◌, ◌&&◌, ◌||◌, if◌then◌else◌, slice_index_or}
 use Rattle.mme_types.specs.declared.connection.Connection.{Connection}
 use Rattle.mme_types.specs.Listed.{ToReset, is_listed}
 use Rattle.connection_table.specs.declared.whereabouts.Whereabouts.{Whereabouts}
 
+pub record ConnectionTable : Type 0 where
+  pub whereabouts : List Whereabouts  -- by slot
+  pub room : ℕ  -- how many more changes take no allocation
+
 -- no connection, and no paging that is to be sent again
 abbrev pub nowhere : Whereabouts
 nowhere = record { connection = None; is_paged = false }
+
+abbrev pub whereabouts_at : ℕ → List Whereabouts → Whereabouts
+whereabouts_at i ws = slice_index_or ws i nowhere
+
+abbrev pub connection_at : ℕ → List Whereabouts → Option Connection
+connection_at i ws = (whereabouts_at i ws).connection
+
+-- no other slot has a connection with the id of the one that a slot is to have
+abbrev pub IsFree : ℕ → Option Connection → List Whereabouts → Type 0
+IsFree slot new ws = (i : ℕ) (k l : Connection) → new ≡ Some k → connection_at i ws ≡ Some l → l.id ≡ k.id → i ≡ slot
+
+-- no two slots have connections with one id
+abbrev pub AreApart : List Whereabouts → Type 0
+AreApart ws = (i : ℕ) → IsFree i (connection_at i ws) ws
 
 -- a connection at the station
 abbrev pub is_there : ℕ → Option Connection → Bool

@@ -1,58 +1,51 @@
 //! The table.
 
-ghost use Rattle.std.specs.Prelude.{◌≡◌, ◌<◌, ◌++◌, ◌∷◌, [], IfOk, OnOk, OnErr, length, slice_set};
+ghost use Rattle.std.specs.Prelude.{◌≡◌, ◌+◌, ◌<◌, ◌≤◌, ◌++◌, ◌∷◌, [], IfOk, OnOk, OnErr, length, slice_set};
 ghost use Rattle.identity_slots.specs.Ids.{slots};
-ghost use Rattle.connection_table.specs.Whereabouts.{nowhere, is_concerned, is_meant, slots_where};
-ghost use Rattle.connection_table.specs.Seats.{whereabouts_at};
-ghost use Rattle.connection_table.specs.Gathering.{is_item, Gathers, GathersNext};
+ghost use Rattle.connection_table.specs.Whereabouts.{nowhere, is_concerned, is_meant, slots_where, AreApart, IsFree};
 
-use crate::gathering::{GatheredSlot, gather_between, slots_of};
-use crate::repeated::is_repeated;
-use crate::seats::{
-    ENB_IDS, Seat, id_bench, ids_bench, ids_of, make_room, move_seat, page_of, radio_bench,
-    radio_of,
-};
+use crate::items::listed_items;
+use crate::opening::reopen;
+use crate::slots::{OrderedSlot, gather_owners, list_slot, slots_of};
 use crate::whereabouts::{Whereabouts, is_same};
-use identity_slots::{AssociationId, Slot, StationNumber};
-use s1ap_elements::{AssociationToReset, EnbUeId, ListedAssociation};
+use association_table::Associations;
+use identity_slots::{Slot, StationNumber};
+use s1ap_elements::AssociationToReset;
 use sorted_list::SortedList;
 use std::alloc::{AllocError, Global};
 use std::marker::Model;
 
-/// Where the phone of each slot is. Contracts see the list, by slot.
+/// Where the phone of each slot is. Contracts see the list, by slot, and for how many changes there is room.
 #[derive(Drop)]
 pub struct Connections {
     by_slot: Vec<Whereabouts>,
-    // By station and eNB UE id.
-    by_radio: SortedList<Seat>,
-    // By station, MME UE id and eNB UE id.
-    by_ids: SortedList<Seat>,
-    paged: SortedList<Seat>,
+    // Those of the slots that have a connection.
+    associations: Associations,
+    // The slots for which a paging is to be sent again.
+    paged: SortedList<OrderedSlot>,
     alloc: Global,
 }
 
 impl Model for Connections {
-    ghost use Rattle.std.specs.Prelude.{List};
-    ghost use Rattle.connection_table.specs.declared.whereabouts.Whereabouts.{Whereabouts};
+    ghost use Rattle.std.specs.Prelude.{min};
+    ghost use Rattle.connection_table.specs.Whereabouts.{ConnectionTable};
+    ghost use Rattle.connection_table.specs.Kept.{IsTable};
 
-    ghost Value = { List Whereabouts };
+    ghost Value = { ConnectionTable };
 
-    ghost use Rattle.connection_table.specs.Seats.{IsTable};
+    ghost view = { λ t. record { whereabouts = t.by_slot.items; room = min t.associations.room t.paged.room } };
 
-    ghost view = { λ t. t.by_slot.items };
-
-    ghost invariant = { λ t. IsTable t.by_slot.items t.by_radio t.by_ids t.paged };
+    ghost invariant = { λ t. IsTable t.by_slot.items t.associations.entries t.paged.items };
 }
 
 impl Connections {
     /// No slots.
     pub fn new(alloc: Global) -> Connections
-        ensures { result ≡ [] }
+        ensures { result.whereabouts ≡ [] }
     {
         Connections {
             by_slot: Vec::new(alloc),
-            by_radio: SortedList::steady(alloc),
-            by_ids: SortedList::steady(alloc),
+            associations: Associations::new(alloc),
             paged: SortedList::steady(alloc),
             alloc,
         }
@@ -60,14 +53,11 @@ impl Connections {
 
     /// One slot more, whose phone is nowhere. Refused, all is as it was.
     pub fn push(&mut self) -> Result<(), AllocError>
-        requires { length self.old < slots }
-        ensures ok { OnOk result (self.new ≡ self.old ++ nowhere ∷ []) }
+        requires { length self.old.whereabouts < slots }
+        ensures ok { OnOk result (self.new.whereabouts ≡ self.old.whereabouts ++ nowhere ∷ []) }
+        ensures room { self.new.room ≡ self.old.room }
         ensures err { OnErr result (self.new ≡ self.old) }
     {
-        let count = self.by_slot.len() + 1;
-        make_room(&mut self.by_radio, count)?;
-        make_room(&mut self.by_ids, count)?;
-        make_room(&mut self.paged, count)?;
         self.by_slot.push(Whereabouts {
             connection: None,
             is_paged: false,
@@ -75,36 +65,56 @@ impl Connections {
         Ok(())
     }
 
-    /// The phone of a slot is there from now on. Takes no memory. Where it was there before, nothing is searched.
+    /// Makes room for `more` further changes. Refused, each phone is where it was.
+    pub fn reserve(&mut self, more: usize) -> Result<(), AllocError>
+        ensures whereabouts { self.new.whereabouts ≡ self.old.whereabouts }
+        ensures room { OnOk result (more ≤ self.new.room) }
+        ensures kept { self.old.room ≤ self.new.room }
+    {
+        self.associations.reserve(more)?;
+        self.paged.reserve(more)
+    }
+
+    /// No two slots have connections with one id. Takes no memory.
+    pub fn are_apart(&self)
+        ensures { AreApart self.now.whereabouts }
+    {
+        // (a contract has the invariant where a field is used)
+        let _ = &self.associations;
+    }
+
+    /// The phone of a slot is there from now on, on an id that no other slot has. Takes no memory. Where it was there before,
+    /// nothing is searched.
     pub fn set(&mut self, slot: Slot, whereabouts: Whereabouts)
-        requires { slot < length self.old }
-        ensures { self.new ≡ slice_set self.old slot whereabouts }
+        requires within { slot < length self.old.whereabouts }
+        requires free { IsFree slot whereabouts.connection self.old.whereabouts }
+        requires room { 0 < self.old.room }
+        ensures whereabouts { self.new.whereabouts ≡ slice_set self.old.whereabouts slot whereabouts }
+        ensures room { self.old.room ≤ self.new.room + 1 }
     {
         let place = slot.get() as usize;
         let old = self.by_slot[place];
         if is_same(&old, &whereabouts) {
             return;
         }
-        move_seat(
-            &mut self.by_radio,
+        reopen(
+            &mut self.associations,
             slot,
-            radio_of(&old),
-            radio_of(&whereabouts),
+            &old.connection,
+            &whereabouts.connection,
         );
-        move_seat(&mut self.by_ids, slot, ids_of(&old), ids_of(&whereabouts));
-        move_seat(&mut self.paged, slot, page_of(&old), page_of(&whereabouts));
+        list_slot(&mut self.paged, slot, old.is_paged, whereabouts.is_paged);
         self.by_slot[place] = whereabouts;
     }
 
     /// The slots that the loss of a station concerns, by rising slot: those with a connection there, and those for which a
     /// paging is to be sent again, since it was sent there too.
     pub fn concerned(&self, station: StationNumber) -> Result<Vec<Slot>, AllocError>
-        ensures { IfOk result (λ s. s.items ≡ slots_where (is_concerned station) 0 self.now) }
+        ensures { IfOk result (λ s. s.items ≡ slots_where (is_concerned station) 0 self.now.whereabouts) }
     {
-        let low = u64::from(station.get()) * ENB_IDS;
-        let mut gathered = SortedList::new(self.alloc);
-        gather_between(&self.paged, 0, 1, &mut gathered)?;
-        gather_between(&self.by_radio, low, low + ENB_IDS, &mut gathered)?;
+        let there = self.associations.entries_at(station.get())?;
+        let mut gathered = self.paged.copy()?;
+        gather_owners(there.as_slice(), &mut gathered)?;
         slots_of(self.alloc, &gathered)
     }
 
@@ -114,84 +124,12 @@ impl Connections {
         station: StationNumber,
         items: &[AssociationToReset],
     ) -> Result<Vec<Slot>, AllocError>
-        ensures { IfOk result (λ s. s.items ≡ slots_where (is_meant station items.now) 0 self.now) }
+        ensures { IfOk result (λ s. s.items ≡ slots_where (is_meant station items.now) 0 self.now.whereabouts) }
     {
+        let items = listed_items(self.alloc, items)?;
+        let meant = self.associations.listed(station.get(), items.as_slice())?;
         let mut gathered = SortedList::new(self.alloc);
-        for place in 0..items.len() {
-            let item = items[place].value;
-            self.gather_next(station, &items[..place], item, &mut gathered)?;
-        }
+        gather_owners(meant.as_slice(), &mut gathered)?;
         slots_of(self.alloc, &gathered)
-    }
-
-    /// Gathers the slots that an item means, where those that the items before it mean were gathered.
-    fn gather_next(
-        &self,
-        station: StationNumber,
-        before: &[AssociationToReset],
-        item: ListedAssociation,
-        gathered: &mut SortedList<GatheredSlot>,
-    ) -> Result<(), AllocError>
-        ensures { OnOk result (GathersNext station before.now item self.now gathered.old.items gathered.new.items) }
-    {
-        if is_repeated(&item, before) {
-            return Ok(());
-        }
-        self.gather_item(station, item, gathered)
-    }
-
-    /// Gathers the slots whose connection an item means.
-    fn gather_item(
-        &self,
-        station: StationNumber,
-        item: ListedAssociation,
-        gathered: &mut SortedList<GatheredSlot>,
-    ) -> Result<(), AllocError>
-        ensures { OnOk result
-            (Gathers (λ i. is_item station item (whereabouts_at i self.now).connection) gathered.old.items gathered.new.items) }
-    {
-        if let Some(id) = item.mme_ue_id {
-            let id = AssociationId::new(id.get() as u32);
-            return self.gather_id(station, id, item.enb_ue_id, gathered);
-        }
-        match item.enb_ue_id {
-            Some(enb_ue_id) => self.gather_radio(station, enb_ue_id, gathered),
-            None => Ok(()),
-        }
-    }
-
-    /// Gathers the slots with a connection that has an MME UE id, and the eNB UE id that may be given.
-    fn gather_id(
-        &self,
-        station: StationNumber,
-        id: AssociationId,
-        enb_ue_id: Option<EnbUeId>,
-        gathered: &mut SortedList<GatheredSlot>,
-    ) -> Result<(), AllocError>
-        ensures { OnOk result
-            (Gathers (λ i. is_item station (record { mme_ue_id = Some id; enb_ue_id = enb_ue_id })
-            (whereabouts_at i self.now).connection) gathered.old.items gathered.new.items) }
-    {
-        if let Some(enb_ue_id) = enb_ue_id {
-            let bench = ids_bench(station, id, enb_ue_id);
-            return gather_between(&self.by_ids, bench, bench + 1, gathered);
-        }
-        let bench = id_bench(station, id);
-        gather_between(&self.by_ids, bench, bench + ENB_IDS, gathered)
-    }
-
-    /// Gathers the slots with a connection that has an eNB UE id.
-    fn gather_radio(
-        &self,
-        station: StationNumber,
-        enb_ue_id: EnbUeId,
-        gathered: &mut SortedList<GatheredSlot>,
-    ) -> Result<(), AllocError>
-        ensures { OnOk result
-            (Gathers (λ i. is_item station (record { mme_ue_id = None; enb_ue_id = Some enb_ue_id })
-            (whereabouts_at i self.now).connection) gathered.old.items gathered.new.items) }
-    {
-        let bench = radio_bench(station, enb_ue_id);
-        gather_between(&self.by_radio, bench, bench + 1, gathered)
     }
 }

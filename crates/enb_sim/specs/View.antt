@@ -1,5 +1,5 @@
 -- A station's acts.
-use Rattle.std.specs.Prelude.{ℕ, ◌&&◌, Bool, false, if◌then◌else◌, List, [], Option, None}
+use Rattle.std.specs.Prelude.{ℕ, ◌&&◌, Bool, true, false, if◌then◌else◌, List, [], Option, None}
 use Rattle.s1ap_pdus.specs.Pdus.{encoded}
 use Rattle.enb_sim.specs.declared.profile.StationProfile.{StationProfile}
 use Rattle.enb_sim.specs.declared.station.StationAct.{StationAct}
@@ -24,6 +24,14 @@ act_octets (Uplink m b nas) s =
     sent_if (s.ready && holds_pair (pair_with m b) s.pairs) (encoded (uplink_pdu s.profile (pair_with m b) nas.now))
 act_octets (Switch m b) s = sent_if s.ready (encoded (switch_pdu s.profile (pair_with m b)))
 act_octets (Release m b) s = sent_if (s.ready && holds_pair (pair_with m b) s.pairs) (encoded (release_pdu (pair_with m b)))
+
+-- the act can be done: one that sends for a phone by a station that is set up, and for a phone that it serves
+unfoldable pub can_act : StationAct → StationView → Bool
+can_act SetUp s = true
+can_act (Initial enb_ue_id nas s_tmsi) s = s.ready
+can_act (Uplink m b nas) s = s.ready && holds_pair (pair_with m b) s.pairs
+can_act (Switch m b) s = s.ready
+can_act (Release m b) s = s.ready && holds_pair (pair_with m b) s.pairs
 
 -- setting up ends what was
 abbrev pub after_station_act : StationAct → StationView → StationView

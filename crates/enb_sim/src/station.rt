@@ -1,11 +1,11 @@
 //! A station.
 
-ghost use Rattle.std.specs.Prelude.{◌≡◌, ◌&&◌, ℕ, IfOk, OnOk, OnErr, IfSome, IsSome, Ok, Some, [], false, option_map};
+ghost use Rattle.std.specs.Prelude.{◌≡◌, ◌&&◌, ℕ, IfOk, OnOk, OnErr, IfSome, IsSome, Ok, Some, None, [], false, option_map};
 ghost use Rattle.s1ap_pdus.specs.Pdus.{context_setup_request_lists, decoded, downlink_nas_transport_lists, encoded, listed};
 ghost use Rattle.s1ap_pdus.specs.declared.pdu.Pdu.TheVariants as pdu;
 ghost use Rattle.enb_sim.specs.Sending.{setup_pdu};
 ghost use Rattle.enb_sim.specs.Delivering.{delivered, holding, holds_pair, pair_with, received, ended, handed, named_pair, seen_delivery, unmoved};
-ghost use Rattle.enb_sim.specs.View.{act_octets, after_station_act, new_station};
+ghost use Rattle.enb_sim.specs.View.{act_octets, after_station_act, can_act, new_station};
 
 use crate::delivering::{Delivery, first_bearer, handed};
 use crate::messages::{
@@ -138,12 +138,13 @@ impl Station {
         Ok(octets)
     }
 
-    /// Does an act: the octets to send, or `None` where it can't be done. Refused for want of memory alone, and the station is
-    /// then as it was.
-    #[tactic(auto, unfolding(crate::specs::View::act_octets))]
+    /// Does an act: the octets to send, or `None` where it can't be done, whatever memory there is, or its message would be too long.
+    /// Refused for want of memory alone, and the station is then as it was.
+    #[tactic(auto, unfolding(crate::specs::View::act_octets, crate::specs::View::can_act))]
     pub fn act(&mut self, act: &StationAct<'_>) -> Sent
         ensures octets { IfOk result (λ o. option_map (λ v. v.items) o ≡ act_octets act.now self.old) }
         ensures station { OnOk result (self.new ≡ after_station_act act.now self.old) }
+        ensures undone { can_act act.now self.old ≡ false → result ≡ Ok None }
         ensures err { OnErr result (self.new ≡ self.old) }
 
         // Setting up always answers the request, which is decoded as that.

@@ -20,7 +20,7 @@ use Rattle.subscriber_table.specs.Table.{each_after, subscriber_after}
 use Rattle.mme_routing.specs.Destinations.{Destination, input_for, item_at, strangers_behind}
 use Rattle.mme_routing.specs.Destinations as to
 use Rattle.laws_apart.specs.Alone.{IsMadeIf, IsOwn, WaitsMade}
-use Rattle.laws_apart.specs.Apart.{AreNumbered, BeginsApart, Has, IdsApart, IsApart, NoTwoShare, NoneHasWaiting, StaysApart, by_id}
+use Rattle.laws_apart.specs.Apart.{BeginsApart, Has, IdsApart, IsApart, NoTwoShare, NoneHasWaiting, StaysApart, by_id}
 use Rattle.laws_connections.specs.Comes.{ComesSo, ConnectionsComeSo}
 use Rattle.laws_apart.specs.Goes.{GoesMade}
 use Rattle.laws_apart.proofs.Alone.{begun_made, moved_made, own_low, stranger_high}

@@ -12,6 +12,7 @@ use Rattle.stranger_machine.specs.declared.state.Stranger.TheVariants.{Waiting, 
 use Rattle.stranger_machine.specs.declared.table.Known.{Known}
 use Rattle.stranger_machine.specs.Table.{known_id, stranger_at}
 use Rattle.subscriber_table.specs.Table.{each_after}
+pub use Rattle.subscriber_table.specs.Touched.{Has}
 use Rattle.mme_routing.specs.Destinations.{Destination, item_at, strangers_behind}
 use Rattle.laws_apart.specs.Alone.{IsOfStranger, IsOwn, WaitsMade}
 use Rattle.laws_apart.specs.Goes.{GoesMade}
@@ -51,12 +52,6 @@ StaysApart =
     → IdsApart (strangers_behind ps d ks) (each_after (item_at d ps (by_id ks)) 0 ws)
 
 -- ---- what follows
-
--- a subscriber's connection
-pub record Has (ws : List SubscriberView) (slot : ℕ) (k : Connection) : Type 0 where
-  pub subscriber : SubscriberView
-  pub there : slice_get ws slot ≡ Some subscriber
-  pub connected : subscriber.solo.connection ≡ Some k
 
 -- no two slots have one id
 abbrev pub NoTwoShare : Type 0

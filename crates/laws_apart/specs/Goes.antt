@@ -1,5 +1,5 @@
 -- Where an event goes: whoever begins has the id that is made of its station and number, and nobody is claimed but by a stranger.
-use Rattle.std.specs.Prelude.{◌≡◌, ℕ, List, Option}
+use Rattle.std.specs.Prelude.{ℕ, List, Option}
 use Rattle.s1ap_pdus.specs.Pdus.{decoded}
 use Rattle.identity_slots.specs.declared.profile.Profile.{Profile}
 use Rattle.mme_types.specs.declared.network.Network.{Network}

@@ -1,5 +1,5 @@
 -- What octets spell is in range, by induction on formats; so are the elements of a message that is decoded.
-use Rattle.std.proofs.Common.{◌≡◌, ℕ, zero, suc, ◌+◌, Bool, true, false, List, [], ◌∷◌, length, filter, not, Option, Some, None, Ok, inl, inr, refl, subst, arith}
+use Rattle.std.proofs.Common.{◌≡◌, ℕ, zero, suc, ◌+◌, Bool, true, false, List, [], ◌∷◌, length, filter, not, Option, Some, None, Ok, inl, inr, subst}
 use Rattle.std.specs.List.{AllByRecursion}
 use Rattle.std.proofs.lemmas.Option.{same_Some}
 use Rattle.per_streams.specs.Each.{SpellsEach}

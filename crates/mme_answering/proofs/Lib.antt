@@ -3,3 +3,4 @@ pub mod Stepping
 pub mod Room
 pub mod Short
 pub mod Known
+pub mod Places

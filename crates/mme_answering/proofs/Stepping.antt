@@ -64,7 +64,7 @@ touched_fit item xs ws touched k =
 
 -- ---- one alone is called
 
-stepped_at : {P : Type 0} (item : Item) (s : Solo) (o : Option SubscriberView)
+pub stepped_at : {P : Type 0} (item : Item) (s : Solo) (o : Option SubscriberView)
     → option_map (λ (d : Draft). d.solo) (option_map (λ v. subscriber_step v item) o) ≡ Some s
     → ((w : SubscriberView) → o ≡ Some w → (subscriber_step w item).solo ≡ s → P) → P
 stepped_at item s None h k = absurd (cc)

@@ -13,6 +13,7 @@ use Rattle.stranger_machine.specs.Machine.{is_of_station, notes}
 use Rattle.stranger_machine.specs.Table.{noted, stranger_at, with_stranger}
 use Rattle.stranger_machine.specs.Turns.{after_of}
 use Rattle.subscriber_table.specs.SteppedView.{SteppedView}
+use Rattle.subscriber_table.specs.Touched.{IsFreeFor, KeepsPlace}
 use Rattle.subscriber_table.specs.Table.{IsCounting, due_slots, slots_stepped, step_at, subscriber_step, tick_settled}
 use Rattle.mme_answering.specs.declared.out.Out.{Out}
 use Rattle.mme_answering.specs.declared.prepared.Prepared.{Prepared}
@@ -59,13 +60,26 @@ abbrev pub IsFitIf : ℕ → Option SteppedView → Type 0
 IsFitIf n None = Unit {0}
 IsFitIf n (Some x) = IsFit n x
 
--- each is that of a subscriber, at a tick they are those who are due, and any other notice is that of a station
+-- each is that of a subscriber, at a tick they are those who are due, and any other notice is that of a station; at both each is
+-- connected as it was, or no longer
 abbrev pub IsFor : Prepared → List SubscriberView → Type 0
 IsFor prepared.Nobody ws = Unit {0}
 IsFor (prepared.Subscriber x) ws = IsFit (length ws) x
 IsFor (prepared.Stranger id after x) ws = IsFitIf (length ws) x
-IsFor (prepared.Everyone notice xs) ws = AreFit (length ws) xs.items × (length xs.items ≤ length ws) × (is_of_station notice ≡ true)
-IsFor (prepared.Tick xs) ws = (slots_stepped xs.items ≡ due_slots ws) × Every (λ (x : SteppedView). IsCounting x.solo) xs.items
+IsFor (prepared.Everyone notice xs) ws =
+    AreFit (length ws) xs.items × (length xs.items ≤ length ws) × (is_of_station notice ≡ true) × Every (KeepsPlace ws) xs.items
+IsFor (prepared.Tick xs) ws =
+    (slots_stepped xs.items ≡ due_slots ws) × Every (λ (x : SteppedView). IsCounting x.solo) xs.items × Every (KeepsPlace ws) xs.items
+
+-- and of one alone no other has the id of the connection that was prepared
+abbrev pub IsFreeIf : List SubscriberView → Option SteppedView → Type 0
+IsFreeIf ws None = Unit {0}
+IsFreeIf ws (Some x) = IsFreeFor ws x
+
+abbrev pub IsPlaced : Prepared → List SubscriberView → Type 0
+IsPlaced (prepared.Subscriber x) ws = IsFreeFor ws x
+IsPlaced (prepared.Stranger id after x) ws = IsFreeIf ws x
+IsPlaced _ ws = Unit {0}
 
 -- for how many steps room is made
 abbrev pub steps_of : Prepared → ℕ

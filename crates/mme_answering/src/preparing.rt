@@ -15,7 +15,7 @@ ghost use Rattle.stranger_machine.specs.Turns.{after_of, call_of};
 ghost use Rattle.subscriber_table.specs.declared.stepped.Stepped.{Stepped};
 ghost use Rattle.subscriber_table.specs.Laws.{some_give};
 ghost use Rattle.subscriber_table.specs.Table.{IsCounting, IsStepped, each_after, slots_stepped};
-ghost use Rattle.subscriber_table.specs.Touched.{touched_slots};
+ghost use Rattle.subscriber_table.specs.Touched.{touched_slots, KeepsPlace};
 ghost use Rattle.mme_routing.specs.Destinations.{Destination as DestinationInSpecs, Everyone, for_all, for_one, if_called, item_at, item_of_notice, strangers_behind};
 ghost use Rattle.mme_routing.specs.Seen.{destination_of};
 ghost use Rattle.mme_answering.specs.InUse.{AreInUse};
@@ -26,6 +26,7 @@ use crate::out::{Outs, Owner};
 use crate::prepared::Prepared;
 use crate::sending::{send_all, send_due};
 use identity_slots::{AssociationId, Provision, Slot};
+use laws_connections::connections_come_so;
 use laws_ends::clocks_are_kept;
 use mme_routing::Destination;
 use mme_types::{EnbWorld, Entry, SoloEvent, UeMessage};
@@ -194,6 +195,7 @@ fn prepare_tick(
     ensures passing { IfOk result (λ p. IsPassing (Everyone notices.Tick) p) }
     ensures same { subscribers.new ≡ subscribers.old }
 {
+    connections_come_so();
     send_due(alloc, strangers, outs)?;
     let due = subscribers.due()?;
     let called = due.as_slice();
@@ -246,8 +248,10 @@ fn prepare_all(
         ≡ each_after (for_all (item_of_notice notice.now)) 0 subscribers.old.subscribers) }
     ensures fits { IfOk result
         (λ xs. AreFit (length subscribers.old.subscribers) xs.items × (length xs.items ≤ length subscribers.old.subscribers)) }
+    ensures places { IfOk result (λ xs. Every (KeepsPlace subscribers.old.subscribers) xs.items) }
     ensures same { subscribers.new ≡ subscribers.old }
 {
+    connections_come_so();
     let touched = touched_by(subscribers, notice)?;
     let called = touched.as_slice();
     prepare_each(alloc, subscribers, called, event, stations, outs)

@@ -1,24 +1,12 @@
 //! What was prepared is so.
 
-ghost use Rattle.std.specs.Prelude.{◌≡◌, ◌≤◌, length, OnOk, OnErr};
-ghost use Rattle.mme_answering.specs.Settled.{AreFit, IsFor, MayPass, settled_clock, settled_strangers, settled_subscribers, steps_of, with_stepped};
+ghost use Rattle.std.specs.Prelude.{◌≡◌, OnOk, OnErr};
+ghost use Rattle.mme_answering.specs.Settled.{IsFor, IsPlaced, MayPass, settled_clock, settled_strangers, settled_subscribers, steps_of};
 
 use crate::prepared::Prepared;
 use std::alloc::AllocError;
 use stranger_table::Strangers;
-use subscriber_table::{Stepped, Subscribers};
-
-// Each has the state that it was prepared for.
-fn settle_everyone(subscribers: &mut Subscribers, stepped: Vec<Stepped>)
-    requires fits { AreFit (length subscribers.old.subscribers) stepped.items }
-    requires room { length stepped.items ≤ subscribers.old.room }
-    ensures clock { subscribers.new.clock ≡ subscribers.old.clock }
-    ensures subscribers { subscribers.new.subscribers ≡ with_stepped stepped.items subscribers.old.subscribers }
-{
-    for one in stepped {
-        subscribers.settle(one);
-    }
-}
+use subscriber_table::Subscribers;
 
 // For how many steps room is made.
 fn steps_of(prepared: &Prepared) -> usize
@@ -38,6 +26,7 @@ pub fn settle(
     prepared: Prepared,
 ) -> Result<(), AllocError>
     requires fits { IsFor prepared subscribers.old.subscribers }
+    requires placed { IsPlaced prepared subscribers.old.subscribers }
     requires clock { MayPass prepared subscribers.old.clock }
     requires strangers_clock { MayPass prepared strangers.old.clock }
     ensures strangers { OnOk result (strangers.new.strangers ≡ settled_strangers prepared strangers.old.strangers) }
@@ -62,7 +51,7 @@ pub fn settle(
         }
         Prepared::Everyone(notice, stepped) => {
             strangers.note(&notice);
-            settle_everyone(subscribers, stepped);
+            subscribers.settle_all(stepped);
         }
         Prepared::Tick(stepped) => {
             strangers.tick();

@@ -6,12 +6,11 @@ use Rattle.identity_slots.specs.declared.profile.Profile.{Profile}
 use Rattle.identity_slots.specs.declared.profile.Vector.{Vector}
 use Rattle.identity_slots.specs.Ids.{slots}
 use Rattle.identity_slots.specs.Provisioned.{slot_of_imsi}
-use Rattle.s1ap_pdus.specs.Pdus.{decoded}
 use Rattle.mme_types.specs.declared.network.Network.{Network}
 use Rattle.mme_types.specs.Events.{Cancel, Data, Item}
 use Rattle.mme_types.specs.Stations.{station_at}
 use Rattle.emm_machine.specs.SubscriberView.{SubscriberView}
-use Rattle.laws_apart.specs.Apart.{BeginsApart, IdsApart, StaysApart}
+use Rattle.laws_apart.specs.Apart.{BeginsApart, StaysApart}
 use Rattle.laws_apart.specs.Goes.{ClaimsNone, GoesMade, OctetsGoMade}
 use Rattle.mme_core.specs.declared.event.Event.{Event}
 use Rattle.mme_core.specs.declared.event.Event.TheVariants.{Up as UpEvent, Lost as LostEvent, In as InEvent, Tick as TickEvent, Data as DataEvent, Cancel as CancelEvent}

@@ -17,3 +17,4 @@ pub mod OneOutput
 pub mod Faults
 pub mod Taken
 pub mod Ticks
+pub mod Placing

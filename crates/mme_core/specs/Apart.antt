@@ -1,5 +1,5 @@
 -- No two phones of an MME share an association's id (TS 36.413 clause 9.2.3.3).
-use Rattle.std.specs.Prelude.{ℕ, ◌≤◌, List, [], length}
+use Rattle.std.specs.Prelude.{◌≤◌, List, [], length}
 use Rattle.identity_slots.specs.declared.profile.Profile.{Profile}
 use Rattle.identity_slots.specs.declared.profile.Vector.{Vector}
 use Rattle.identity_slots.specs.Ids.{slots}

@@ -13,6 +13,7 @@ ghost use Rattle.mme_routing.specs.Destinations.{item_at, strangers_behind};
 ghost use Rattle.mme_routing.specs.Seen.{destination_of, seen_outcome};
 ghost use Rattle.mme_answering.specs.Settled.{IsFor, IsInTime, IsPassing, settled_strangers, settled_subscribers};
 ghost use Rattle.association_table.specs.Table.{association_id};
+ghost use Rattle.laws_apart.specs.Apart.{IdsApart};
 ghost use Rattle.laws_apart.specs.Associations.{associations};
 ghost use Rattle.mme_core.specs.Apart.{AreApart};
 ghost use Rattle.mme_core.specs.EndingRuns.{IsEndingRun};
@@ -38,7 +39,7 @@ use laws_admission::{
     keys_go_to_the_proved, protected_forms_are_marked, registered_by_proof, soundness_is_kept,
     unproved_leaves,
 };
-use laws_apart::associations_are_a_map;
+use laws_apart::{associations_are_a_map, no_two_share_an_id};
 use laws_ends::{clocks_are_kept, silent_phones_end, strangers_are_closed};
 use mme_answering::{Outs, Prepared, prepare, settle};
 use mme_routing::{Destination, Outcome, outcome_of};
@@ -482,6 +483,8 @@ impl Surroundings {
         requires clock { subscribers.old.clock ≤ self.old.sight.clock }
         requires in_time { IsInTime ready.prepared self.old.sight.clock ready.moves.clock }
         requires rising { Rising known_id (settled_strangers ready.prepared self.old.strangers) }
+        requires apart { IdsApart (settled_strangers ready.prepared self.old.strangers)
+            (settled_subscribers ready.prepared subscribers.old.subscribers) }
         ensures after { OnOk result
             (world_of self.new subscribers.new.subscribers ≡ ready_world ready (world_of self.old subscribers.old.subscribers)) }
         ensures clock { OnOk result (subscribers.new.clock ≤ self.new.sight.clock) }
@@ -492,6 +495,7 @@ impl Surroundings {
         ensures err_subscribers { OnErr result (subscribers.new.subscribers ≡ subscribers.old.subscribers) }
         ensures err_clock { OnErr result (subscribers.new.clock ≡ subscribers.old.clock) }
     {
+        no_two_share_an_id();
         let Ready {
             moves,
             prepared,

@@ -1,11 +1,15 @@
 -- Where the phones are after a new state, a tick and a newcomer, and whom an item of a station touches.
-use Rattle.std.proofs.Common.{◌≡◌, ℕ, zero, suc, ◌+◌, ◌<◌, List, [], ◌∷◌, length, refl, sym, ◌∙◌, ap, subst}
-use Rattle.std.specs.Prelude.{slice_set, Option, Some, None, Bool, true, false, cond, not, ◌&&◌, ◌||◌, ◌==◌, map}
+use Rattle.std.proofs.Common.{◌≡◌, ◌≢◌, ℕ, zero, suc, ◌+◌, ◌<◌, List, [], ◌∷◌, length, set, refl, sym, ◌∙◌, ap, subst, arith}
+use Rattle.std.specs.Prelude.{slice_get, slice_set, Option, Some, None, Bool, true, false, cond, not, ◌&&◌, ◌||◌, ◌==◌, map}
+use Rattle.std.proofs.lemmas.Bool.{eqb-true}
+use Rattle.std.proofs.lemmas.Bool.Decides.{nat_tests}
+use Rattle.std.proofs.lemmas.List.{get_or-set_same, get_or-set_other}
+use Rattle.std.proofs.lemmas.Option.{none-some, same_Some}
 use Rattle.mme_types.specs.declared.connection.Connection.{Connection}
 use Rattle.mme_types.specs.Events.{ConnectionsGone, StationGone}
 use Rattle.mme_types.specs.Listed.{ToReset, is_listed}
 use Rattle.connection_table.specs.declared.whereabouts.Whereabouts.{Whereabouts}
-use Rattle.connection_table.specs.Whereabouts.{is_concerned, is_meant, is_meant_at, is_there, slots_where}
+use Rattle.connection_table.specs.Whereabouts.{connection_at, is_concerned, is_meant, is_meant_at, is_there, nowhere, slots_where, AreApart, IsFree}
 use Rattle.emm_state.specs.declared.solo.Solo.{Solo}
 use Rattle.emm_machine.specs.Still.{is_elsewhere, is_unlisted, pages}
 use Rattle.emm_machine.specs.SubscriberView.{SubscriberView}
@@ -15,7 +19,7 @@ use Rattle.subscriber_table.specs.SteppedView.{SteppedView}
 use Rattle.subscriber_table.specs.Changed.{changed_at}
 use Rattle.subscriber_table.specs.Laws.{due_below, where_map, with_solo_is}
 use Rattle.subscriber_table.specs.Table.{due_slots, in_state, one_less, slots_stepped, tick_settled, with_solo, with_stepped}
-use Rattle.subscriber_table.specs.Touched.{all_whereabouts, touched_slots, whereabouts, with_whereabouts}
+use Rattle.subscriber_table.specs.Touched.{all_whereabouts, touched_slots, whereabouts, with_whereabouts, Has, IsFreeFor, KeepsConnection, KeepsPlace}
 
 -- ---- where the phones are
 
@@ -35,7 +39,7 @@ pub settled_there : (k : ℕ) (s : Solo) (ws : List SubscriberView)
 settled_there k s ws =
     ap all_whereabouts (with_solo_is k s ws) ∙ changed_there k s ws ∙ sym (set_is k (whereabouts s) (all_whereabouts ws))
 
-stepped_there : (xs : List SteppedView) (ws : List SubscriberView)
+pub stepped_there : (xs : List SteppedView) (ws : List SubscriberView)
     → all_whereabouts (with_stepped xs ws) ≡ with_whereabouts xs (all_whereabouts ws)
 stepped_there [] ws = refl
 stepped_there (x ∷ xs) ws =
@@ -58,6 +62,12 @@ there_length : (ws : List SubscriberView) → length (all_whereabouts ws) ≡ le
 there_length [] = refl
 there_length (w ∷ ws) = ap suc (there_length ws)
 
+pub slots_below : (xs : List SteppedView) (ws : List SubscriberView) (cs : List Whereabouts) → cs ≡ all_whereabouts ws
+    → Every (λ (x : SteppedView). x.slot < length ws) xs → Every (λ (x : SteppedView). x.slot < length cs) xs
+slots_below xs ws cs same each =
+    let many : length ws ≡ length cs = sym (ap length same ∙ there_length ws) in
+    subst (λ n. Every (λ (x : SteppedView). x.slot < n) xs) many each
+
 -- the phones of those who are due have a place
 pub places_below : (xs : List SteppedView) (ws : List SubscriberView) (cs : List Whereabouts) → cs ≡ all_whereabouts ws
     → slots_stepped xs ≡ due_slots ws → Every (λ (x : SteppedView). x.slot < length cs) xs
@@ -65,6 +75,59 @@ places_below xs ws cs same due =
     let many : length ws ≡ length cs = sym (ap length same ∙ there_length ws) in
     every_slot (λ k. k < length cs) xs
     (subst (λ n. Every (λ k. k < n) (slots_stepped xs)) many (subst (Every (λ k. k < length ws)) (sym due) (due_below ws)))
+
+-- ---- who is connected
+
+has_at : (ws : List SubscriberView) (i : ℕ) (k : Connection) → connection_at i (all_whereabouts ws) ≡ Some k → Has ws i k
+has_at [] i k is = absurd (none-some k is)
+has_at (w ∷ ws) zero k is = record { subscriber = w; there = refl; connected = is }
+has_at (w ∷ ws) (suc i) k is =
+    let h = has_at ws i k is in record { subscriber = h.subscriber; there = h.there; connected = h.connected }
+
+at_has : (ws : List SubscriberView) (i : ℕ) (k : Connection) (x : SubscriberView) → slice_get ws i ≡ Some x
+    → x.solo.connection ≡ Some k → connection_at i (all_whereabouts ws) ≡ Some k
+at_has [] i k x there is = absurd (none-some x there)
+at_has (w ∷ ws) zero k x there is = ap (λ (v : SubscriberView). v.solo.connection) (same_Some w x there) ∙ is
+at_has (w ∷ ws) (suc i) k x there is = at_has ws i k x there is
+
+pub free_there : (ws : List SubscriberView) (cs : List Whereabouts) (x : SteppedView) → cs ≡ all_whereabouts ws → IsFreeFor ws x
+    → IsFree x.slot x.solo.connection cs
+free_there ws cs x same free i k l is there id =
+    free i k l is (has_at ws i l (ap (connection_at i) (sym same) ∙ there)) id
+
+pub keeps_there : (xs : List SteppedView) (ws : List SubscriberView) (cs : List Whereabouts) → cs ≡ all_whereabouts ws
+    → Every (KeepsPlace ws) xs → Every (KeepsConnection cs) xs
+keeps_there [] ws cs same each = tt
+keeps_there (x ∷ xs) ws cs same each = (
+  λ k is. let h = each.0 k is in ap (connection_at x.slot) same ∙ at_has ws x.slot k h.subscriber h.there h.connected,
+  keeps_there xs ws cs same each.1,
+)
+
+-- ---- connections that stay or end
+
+-- each is one that was
+abbrev pub AreKept : List Whereabouts → List Whereabouts → Type 0
+AreKept old now = (i : ℕ) (k : Connection) → connection_at i now ≡ Some k → connection_at i old ≡ Some k
+
+pub free_kept : (old now : List Whereabouts) (slot : ℕ) (o : Option Connection) → AreApart old → AreKept old now
+    → ((k : Connection) → o ≡ Some k → connection_at slot old ≡ Some k) → IsFree slot o now
+free_kept old now slot o apart kept keeps i k l is there same = apart slot i k l (keeps k is) (kept i l there) same
+
+kept_by : (old now : List Whereabouts) (slot : ℕ) (w : Whereabouts) (i : ℕ) (k : Connection) (b : Bool) → (slot == i) ≡ b
+    → slot < length now → AreKept old now → ((l : Connection) → w.connection ≡ Some l → connection_at slot old ≡ Some l)
+    → connection_at i (set now slot w) ≡ Some k → connection_at i old ≡ Some k
+kept_by old now slot w i k true same lt kept keeps is =
+    let here : slot ≡ i = eqb-true slot i same in
+    subst (λ (n : ℕ). connection_at n old ≡ Some k) here
+    (keeps k (ap (λ (v : Whereabouts). v.connection) (sym (get_or-set_same now slot w nowhere lt))
+    ∙ subst (λ (n : ℕ). connection_at n (set now slot w) ≡ Some k) (sym here) is))
+kept_by old now slot w i k false same lt kept keeps is =
+    let other : i ≢ slot = λ q. grind (arith, nat_tests) in
+    kept i k (ap (λ (v : Whereabouts). v.connection) (sym (get_or-set_other now slot i w nowhere other)) ∙ is)
+
+pub kept_set : (old now : List Whereabouts) (slot : ℕ) (w : Whereabouts) → slot < length now → AreKept old now
+    → ((l : Connection) → w.connection ≡ Some l → connection_at slot old ≡ Some l) → AreKept old (set now slot w)
+kept_set old now slot w lt kept keeps i k is = kept_by old now slot w i k (slot == i) refl lt kept keeps is
 
 -- ---- whom an item of a station touches
 

@@ -10,7 +10,7 @@ ghost use Rattle.sorted_list.specs.Ordered.{Every};
 ghost use Rattle.subscriber_table.specs.Changed.{changed_at};
 ghost use Rattle.subscriber_table.specs.Running.{both_retimed};
 ghost use Rattle.subscriber_table.specs.Records.{all_retimed, renewed, with_records, IsSubscriberTable};
-ghost use Rattle.subscriber_table.specs.Table.{due_slots, slots_stepped, step_at, tick_settled, with_solo, AreCounting, IsCounting};
+ghost use Rattle.subscriber_table.specs.Table.{due_slots, slots_stepped, step_at, tick_settled, with_solo, with_stepped, AreCounting, IsCounting};
 
 use crate::due::slots_of;
 use crate::records::Record;
@@ -131,10 +131,11 @@ impl Sleepers {
     ) -> Result<(), AllocError>
         requires slots { length self.old.subscribers < slots }
         requires off { countdowns subscriber.solo ≡ (None, None) }
-        requires many { length connections.old ≡ length self.old.subscribers }
+        requires many { length connections.old.whereabouts ≡ length self.old.subscribers }
         ensures clock { self.new.clock ≡ self.old.clock }
         ensures ok { OnOk result (self.new.subscribers ≡ self.old.subscribers ++ subscriber ∷ []) }
-        ensures phone { OnOk result (connections.new ≡ connections.old ++ nowhere ∷ []) }
+        ensures phone { OnOk result (connections.new.whereabouts ≡ connections.old.whereabouts ++ nowhere ∷ []) }
+        ensures phone_room { connections.new.room ≡ connections.old.room }
         ensures room { self.new.room ≡ self.old.room }
         ensures err { OnErr result (self.new ≡ self.old) }
         ensures same { OnErr result (connections.new ≡ connections.old) }
@@ -225,6 +226,20 @@ impl Sleepers {
     {
         let spare = &mut self.spare;
         settle_one(&mut self.records, &mut self.timers, spare, stepped);
+    }
+
+    /// The states of slots are those that were prepared, one after the other, where there is room. Takes no memory.
+    pub fn settle_all(&mut self, stepped: Vec<Stepped>)
+        requires slots { Every (λ x. x.slot < length self.old.subscribers) stepped.items }
+        requires room { length stepped.items ≤ self.old.room }
+        requires counting { Every (λ x. IsCounting x.solo) stepped.items }
+        ensures clock { self.new.clock ≡ self.old.clock }
+        ensures subscribers { self.new.subscribers ≡ with_stepped stepped.items self.old.subscribers }
+        ensures room { self.old.room ≤ self.new.room + length stepped.items }
+    {
+        for one in stepped {
+            self.settle(one);
+        }
     }
 
     /// One tick: those who are due have the state that was prepared, all others have a tick less. Only those who are due are

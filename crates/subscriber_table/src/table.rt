@@ -7,8 +7,8 @@ ghost use Rattle.connection_table.specs.Whereabouts.{nowhere};
 ghost use Rattle.emm_machine.specs.Ticks.{countdowns};
 ghost use Rattle.emm_machine.specs.Words.{states_of};
 ghost use Rattle.sorted_list.specs.Ordered.{Every};
-ghost use Rattle.subscriber_table.specs.Table.{due_slots, slots_stepped, step_at, tick_settled, with_solo, AreCounting, IsCounting};
-ghost use Rattle.subscriber_table.specs.Touched.{touched_slots, whereabouts};
+ghost use Rattle.subscriber_table.specs.Table.{due_slots, slots_stepped, step_at, tick_settled, with_solo, with_stepped, AreCounting, IsCounting};
+ghost use Rattle.subscriber_table.specs.Touched.{touched_slots, whereabouts, IsFreeFor, KeepsPlace};
 
 use crate::sleeping::Sleepers;
 use crate::stepped::Stepped;
@@ -30,16 +30,20 @@ pub struct Subscribers {
 }
 
 impl Model for Subscribers {
-    ghost use Rattle.std.specs.Prelude.{◌≡◌};
+    ghost use Rattle.std.specs.Prelude.{◌≡◌, min};
     ghost use Rattle.subscriber_table.specs.Table.{SubscriberTable};
 
     ghost Value = { SubscriberTable };
 
     ghost use Rattle.subscriber_table.specs.Touched.{all_whereabouts};
 
-    ghost view = { λ t. t.sleepers };
+    ghost view = { λ t. record {
+      clock = t.sleepers.clock;
+      subscribers = t.sleepers.subscribers;
+      room = min t.sleepers.room t.connections.room;
+    } };
 
-    ghost invariant = { λ t. t.connections ≡ all_whereabouts t.sleepers.subscribers };
+    ghost invariant = { λ t. t.connections.whereabouts ≡ all_whereabouts t.sleepers.subscribers };
 }
 
 impl Subscribers {
@@ -141,12 +145,15 @@ impl Subscribers {
         ensures room { OnOk result (steps ≤ self.new.room) }
         ensures kept { self.old.room ≤ self.new.room }
     {
-        self.sleepers.reserve(steps)
+        self.sleepers.reserve(steps)?;
+        self.connections.reserve(steps)
     }
 
-    /// The state of a slot is the one that was prepared, where there is room. Takes no memory.
+    /// The state of a slot is the one that was prepared, where there is room, and no other slot has the id of its connection. Takes
+    /// no memory.
     pub fn settle(&mut self, stepped: Stepped)
         requires slot { stepped.slot < length self.old.subscribers }
+        requires free { IsFreeFor self.old.subscribers stepped }
         requires room { 0 < self.old.room }
         requires counting { IsCounting stepped.solo }
         ensures clock { self.new.clock ≡ self.old.clock }
@@ -157,11 +164,27 @@ impl Subscribers {
         self.sleepers.settle(stepped);
     }
 
-    /// One tick: those who are due have the state that was prepared, all others have a tick less. Only those who are due are
-    /// touched. Takes no memory.
+    /// The states of slots are those that were prepared, one after the other, where there is room, and each is connected as it was,
+    /// or no longer. Takes no memory.
+    pub fn settle_all(&mut self, stepped: Vec<Stepped>)
+        requires slots { Every (λ x. x.slot < length self.old.subscribers) stepped.items }
+        requires places { Every (KeepsPlace self.old.subscribers) stepped.items }
+        requires room { length stepped.items ≤ self.old.room }
+        requires counting { Every (λ x. IsCounting x.solo) stepped.items }
+        ensures clock { self.new.clock ≡ self.old.clock }
+        ensures subscribers { self.new.subscribers ≡ with_stepped stepped.items self.old.subscribers }
+        ensures room { self.old.room ≤ self.new.room + length stepped.items }
+    {
+        place_all(&mut self.connections, stepped.as_slice());
+        self.sleepers.settle_all(stepped);
+    }
+
+    /// One tick: those who are due have the state that was prepared, in which each is connected as it was, or no longer; all others
+    /// have a tick less. Only those who are due are touched. Takes no memory.
     pub fn tick(&mut self, stepped: Vec<Stepped>)
         requires clock { self.old.clock < 2 ^ 62 }
         requires due { slots_stepped stepped.items ≡ due_slots self.old.subscribers }
+        requires places { Every (KeepsPlace self.old.subscribers) stepped.items }
         requires room { length stepped.items ≤ self.old.room }
         requires counting { Every (λ x. IsCounting x.solo) stepped.items }
         ensures clock { self.new.clock ≡ self.old.clock + 1 }

@@ -18,9 +18,9 @@ const LAST_CLOCK: u64 = 0x4000_0000_0000_0000;
 #[derive(Clone, Copy, PartialEq, Eq, Debug)]
 pub enum TickFault {
     /// The clock is 2^62, and doesn't go on.
-    ClockSpent,
+    ClockSpent = 1,
     /// A growth was refused.
-    NoMemory,
+    NoMemory = 2,
 }
 
 /// When a timer ends. In the queue these stand by rising moment.

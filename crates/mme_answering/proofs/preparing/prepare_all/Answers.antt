@@ -1,11 +1,12 @@
 use Rattle.std.proofs.Common.{◌<◌, ◌++◌, List, length, sym, ◌∙◌, ap, subst}
-use Rattle.std.proofs.lemmas.Result.{on_ok_weaker}
+use Rattle.std.proofs.lemmas.Result.{IfOk-weaker, on_ok_weaker}
 use Rattle.sorted_list.specs.Ordered.{Every}
 use Rattle.subscriber_table.specs.Laws.{some_give, touched_below}
 use Rattle.subscriber_table.specs.Table.{IsStepped}
 use Rattle.mme_routing.specs.Destinations.{item_of_notice}
 use Rattle.mme_answering.specs.declared.out.Out.{Out}
 use Rattle.mme_answering.specs.Settled.{item_sent}
+use Rattle.mme_answering.proofs.Places.{keep_all}
 use Rattle.mme_answering.proofs.Stepping.{ok_both, touched_fit, touched_send, touches_all}
 use Rattle.mme_answering.proofs.preparing.prepare_all.Goals as goal
 
@@ -41,3 +42,10 @@ returns-clause-fits c =
     ok_both _ _ _ c.prepare_each.result
     (λ xs slots counting. touched_fit (item_of_notice c.args.notice.now) xs.items ws (slots ∙ due) counting)
     c.prepare_each.ensures.slots c.prepare_each.ensures.counting
+
+pub returns-clause-places : goal.returns-clause-places
+returns-clause-places c =
+    let ws = c.args.subscribers.now.subscribers in
+    IfOk-weaker c.prepare_each.result _ _
+    (λ xs stepped. keep_all c.connections_come_so.ensures c.args.notice.now ws xs.items (subst (λ i. Every (IsStepped i ws) xs.items) c.requires.event stepped))
+    c.prepare_each.ensures.stepped

@@ -8,6 +8,7 @@ use Rattle.subscriber_table.specs.Table.{IsStepped}
 use Rattle.mme_routing.specs.Destinations.{for_all}
 use Rattle.mme_answering.specs.Settled.{item_sent}
 use Rattle.mme_answering.specs.Sending.{each_known, each_sent}
+use Rattle.mme_answering.proofs.Places.{keep_all}
 use Rattle.mme_answering.proofs.Stepping.{due_send, ticks_all}
 use Rattle.mme_answering.proofs.preparing.prepare_tick.Goals as goal
 
@@ -34,3 +35,13 @@ returns-clause-subscribers c =
     let due = c.as_slice-called.ensures.value ∙ c.in_ok-due.ensures in
     ticks_all c.in_ok-stepped.stepped.items ws (c.in_ok-stepped.ensures.slots ∙ due)
     (subst (λ i. Every (IsStepped i ws) c.in_ok-stepped.stepped.items) c.requires.tick c.in_ok-stepped.ensures.stepped)
+
+pub returns-clause-fits : goal.returns-clause-fits
+returns-clause-fits c =
+    let ws = c.args.subscribers.now.subscribers in
+    let due = c.as_slice-called.ensures.value ∙ c.in_ok-due.ensures in (
+      c.in_ok-stepped.ensures.slots ∙ due,
+      c.in_ok-stepped.ensures.counting,
+      keep_all c.connections_come_so.ensures notices.Tick ws c.in_ok-stepped.stepped.items
+          (subst (λ i. Every (IsStepped i ws) c.in_ok-stepped.stepped.items) c.requires.tick c.in_ok-stepped.ensures.stepped),
+    )

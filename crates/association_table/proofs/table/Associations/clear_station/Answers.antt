@@ -1,18 +1,18 @@
 use Rattle.std.proofs.Common.{◌<◌, length, arith, sym, ◌∙◌, ap, subst}
 use Rattle.association_table.specs.Table.{elsewhere}
-use Rattle.association_table.specs.Kept.{station_bench}
+use Rattle.association_table.specs.Kept.{station_group}
 use Rattle.association_table.proofs.Stations.{first_found, elsewhere_closed, none_elsewhere, length_closed}
 use Rattle.association_table.proofs.table.Associations.clear_station.Goals as goal
 
 pub close_found-requires : goal.close_found-requires
 close_found-requires c =
-    first_found station_bench c.args.station 0 c.in-Some.association c.loop-association.self.entries c.first_at.ensures.order
+    first_found station_group c.args.station 0 c.in-Some.association c.loop-association.self.entries c.first_at.ensures.order
     (sym c.first_at.ensures.value ∙ c.in-Some.is)
 
 pub loop-association-smaller : goal.loop-association-smaller
 loop-association-smaller c =
     let there =
-    first_found station_bench c.args.station 0 c.in-Some.association c.loop-association.self.entries c.first_at.ensures.order
+    first_found station_group c.args.station 0 c.in-Some.association c.loop-association.self.entries c.first_at.ensures.order
     (sym c.first_at.ensures.value ∙ c.in-Some.is) in
     subst (λ es. length es < length c.loop-association.self.entries) (sym c.close_found.ensures.entries)
     (length_closed c.in-Some.association.id c.in-Some.association c.loop-association.self.entries there)

@@ -4,25 +4,25 @@ use Rattle.slab.specs.Slab.{get}
 use Rattle.sorted_list.specs.Ordered.{at, without}
 use Rattle.sorted_list.specs.Indexed.{every_at}
 use Rattle.association_table.specs.Table.{Table, found, closed}
-use Rattle.association_table.specs.Kept.{place_id, station_bench, number_bench, seat_of, seat_rank, entries_of}
-use Rattle.association_table.proofs.Entries.{on_some, taken_place, close_entries, close_kept, same_kept, seat_there, closed_gone}
+use Rattle.association_table.specs.Kept.{place_id, station_group, number_group, index_entry, index_rank, entries_of}
+use Rattle.association_table.proofs.Entries.{on_some, taken_place, close_entries, close_kept, same_kept, entry_there, closed_gone}
 use Rattle.association_table.proofs.table.Associations.close_found.Goals as goal
 
-pub take_seat-requires : goal.take_seat-requires
-take_seat-requires c =
+pub take_entry-requires : goal.take_entry-requires
+take_entry-requires c =
     let es = entries_of c.self.inside.slab c.self.inside.by_id.items in
     let f : found c.args.association.id es ≡ Some c.args.association =
     ap (λ (v : Table). found c.args.association.id v.entries) c.self.view_is ∙ c.requires in
-    subst (λ s. IsSome (at seat_rank (seat_rank s) c.self.inside.by_station.items)) (sym c.station_seat.ensures)
-    (subst IsSome (sym (ap (at seat_rank (seat_rank (seat_of station_bench c.args.association))) c.self.invariant.0.seats ∙ seat_there station_bench c.args.association.id c.args.association es c.self.invariant.0.ids f)) refl)
+    subst (λ s. IsSome (at index_rank (index_rank s) c.self.inside.by_station.items)) (sym c.station_entry.ensures)
+    (subst IsSome (sym (ap (at index_rank (index_rank (index_entry station_group c.args.association))) c.self.invariant.0.index ∙ entry_there station_group c.args.association.id c.args.association es c.self.invariant.0.ids f)) refl)
 
-pub take_seat-requires-2 : goal.take_seat-requires-2
-take_seat-requires-2 c =
+pub take_entry-requires-2 : goal.take_entry-requires-2
+take_entry-requires-2 c =
     let es = entries_of c.self.inside.slab c.self.inside.by_id.items in
     let f : found c.args.association.id es ≡ Some c.args.association =
     ap (λ (v : Table). found c.args.association.id v.entries) c.self.view_is ∙ c.requires in
-    subst (λ s. IsSome (at seat_rank (seat_rank s) c.self.inside.by_number.items)) (sym c.number_seat.ensures.seat)
-    (subst IsSome (sym (ap (at seat_rank (seat_rank (seat_of number_bench c.args.association))) c.self.invariant.0.numbers ∙ seat_there number_bench c.args.association.id c.args.association es c.self.invariant.0.ids f)) refl)
+    subst (λ s. IsSome (at index_rank (index_rank s) c.self.inside.by_number.items)) (sym c.number_entry.ensures.entry)
+    (subst IsSome (sym (ap (at index_rank (index_rank (index_entry number_group c.args.association))) c.self.invariant.0.numbers ∙ entry_there number_group c.args.association.id c.args.association es c.self.invariant.0.ids f)) refl)
 
 pub invariant_of-self : goal.invariant_of-self
 invariant_of-self c =
@@ -30,15 +30,15 @@ invariant_of-self c =
     let f : found a.id (entries_of c.self.inside.slab c.self.inside.by_id.items) ≡ Some a =
     ap (λ (v : Table). found a.id v.entries) c.self.view_is ∙ c.requires in
     let h = sym c.take_place.ensures.place ∙ c.unwrap-place.ensures in
-    let seats =
-    c.take_seat.ensures.items ∙ ap (λ s. without seat_rank (seat_rank s) c.self.inside.by_station.items) c.station_seat.ensures in
-    let numbers = c.take_seat-2.ensures.items ∙ ap (λ s. without seat_rank (seat_rank s) c.self.inside.by_number.items) c.number_seat.ensures.seat in (
+    let index =
+    c.take_entry.ensures.items ∙ ap (λ s. without index_rank (index_rank s) c.self.inside.by_station.items) c.station_entry.ensures in
+    let numbers = c.take_entry-2.ensures.items ∙ ap (λ s. without index_rank (index_rank s) c.self.inside.by_number.items) c.number_entry.ensures.entry in (
       same_kept c.try_remove.new.self c.try_remove.new.self _ _ _ _ _ _
           (close_kept c.self.inside.slab c.try_remove.new.self a.id a c.unwrap-place.result c.self.inside.by_id.items c.self.inside.by_station.items c.self.inside.by_number.items c.self.invariant.0 f h c.try_remove.ensures.updates)
-          refl c.take_place.ensures.items seats numbers,
+          refl c.take_place.ensures.items index numbers,
       c.take_place.ensures.steady ∙ c.self.invariant.1,
-      c.take_seat.ensures.steady ∙ c.self.invariant.2,
-      c.take_seat-2.ensures.steady ∙ c.self.invariant.3,
+      c.take_entry.ensures.steady ∙ c.self.invariant.2,
+      c.take_entry-2.ensures.steady ∙ c.self.invariant.3,
     )
 
 pub returns-clause-entries : goal.returns-clause-entries
@@ -73,8 +73,8 @@ returns-clause-room c =
     let len = on_some c.try_remove.result some c.try_remove.ensures.len in
     let room = on_some c.try_remove.result some c.try_remove.ensures.room in
     let place = c.take_place.ensures.room c.self.invariant.1 (ap is_some c.unwrap-place.ensures) in
-    let seat = c.take_seat.ensures.room c.self.invariant.2 in
-    let chair = c.take_seat-2.ensures.room c.self.invariant.3 in
+    let entry = c.take_entry.ensures.room c.self.invariant.2 in
+    let chair = c.take_entry-2.ensures.room c.self.invariant.3 in
     let capacity = c.try_remove.ensures.capacity in
     let was = ap (λ (v : Table). v.room) c.self.view_is in
-    omega (arith, was, place, seat, chair, len, room, capacity)
+    omega (arith, was, place, entry, chair, len, room, capacity)

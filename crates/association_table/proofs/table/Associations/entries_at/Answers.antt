@@ -1,5 +1,5 @@
 use Rattle.std.proofs.Common.{◌+◌, ◌++◌, ◌∷◌, [], arith, sym, ◌∙◌, ap, append_assoc, append-nil}
-use Rattle.association_table.specs.Kept.{station_bench}
+use Rattle.association_table.specs.Kept.{station_group}
 use Rattle.association_table.proofs.Stations.{station_from, from_zero, from_none, from_some, first_is}
 use Rattle.association_table.proofs.table.Associations.entries_at.Goals as goal
 
@@ -12,7 +12,7 @@ loop-association-init c = record {
 pub loop-association-smaller : goal.loop-association-smaller
 loop-association-smaller c =
     let there =
-    first_is station_bench c.args.station c.loop-association.least c.in-Some.association c.args.self.now.entries
+    first_is station_group c.args.station c.loop-association.least c.in-Some.association c.args.self.now.entries
     (sym c.first_at.ensures.value ∙ c.in-Some.is) in
     let small = c.association_id.type_inv in
     let is = c.association_id.ensures in
@@ -35,8 +35,8 @@ loop-association-preserved c =
       small = omega arith;
     }
 
-pub returns : goal.returns
-returns c =
+pub returns-clause-value : goal.returns-clause-value
+returns-clause-value c =
     let none =
     from_none c.args.station c.loop-association.least c.args.self.now.entries (sym c.first_at.ensures.value ∙ c.in_default.is) in
     sym (append-nil c.loop-association.entries.items) ∙ ap (λ xs. c.loop-association.entries.items ++ xs) (sym none)

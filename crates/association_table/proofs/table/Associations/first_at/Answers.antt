@@ -2,37 +2,37 @@ use Rattle.std.proofs.Common.{◌≡◌, sym, ◌∙◌, ap, subst}
 use Rattle.std.specs.Prelude.{option_map, Some, None}
 use Rattle.sorted_list.specs.Ordered.{Rising, Every}
 use Rattle.association_table.specs.Table.{Table, association_id}
-use Rattle.association_table.specs.Kept.{IsSeat, entries_of, station_bench, seat_rank, first_seat, first_from}
-use Rattle.association_table.proofs.Entries.{rising_entries, rising_seats}
-use Rattle.association_table.proofs.Stations.{seats_small, first_answer, first_by_id, mapped_none}
+use Rattle.association_table.specs.Kept.{IsIndexEntry, entries_of, station_group, index_rank, first_indexed, first_from}
+use Rattle.association_table.proofs.Entries.{rising_entries, rising_index}
+use Rattle.association_table.proofs.Stations.{index_small, first_answer, first_by_id, mapped_none}
 use Rattle.association_table.proofs.table.Associations.first_at.Goals as goal
 
-pub first_seat-requires-clause-rising : goal.first_seat-requires-clause-rising
-first_seat-requires-clause-rising c =
+pub first_indexed-requires-clause-rising : goal.first_indexed-requires-clause-rising
+first_indexed-requires-clause-rising c =
     let k = c.self.invariant.0 in
     let es = entries_of c.self.inside.slab c.self.inside.by_id.items in
-    subst (Rising seat_rank) (sym k.seats)
-    (rising_seats station_bench es (rising_entries c.self.inside.slab c.self.inside.by_id.items k.rising) k.ids)
+    subst (Rising index_rank) (sym k.index)
+    (rising_index station_group es (rising_entries c.self.inside.slab c.self.inside.by_id.items k.rising) k.ids)
 
-pub first_seat-requires-clause-small : goal.first_seat-requires-clause-small
-first_seat-requires-clause-small c =
-    subst (Every IsSeat) (sym c.self.invariant.0.seats)
-    (seats_small station_bench (entries_of c.self.inside.slab c.self.inside.by_id.items) c.self.invariant.0.ids)
+pub first_indexed-requires-clause-small : goal.first_indexed-requires-clause-small
+first_indexed-requires-clause-small c =
+    subst (Every IsIndexEntry) (sym c.self.invariant.0.index)
+    (index_small station_group (entries_of c.self.inside.slab c.self.inside.by_id.items) c.self.invariant.0.ids)
 
 pub returns-in-Some-clause-value : goal.returns-in-Some-clause-value
 returns-in-Some-clause-value c =
-    let here = sym (first_answer c.self.inside.slab c.self.inside.by_id.items c.self.inside.by_station.items c.self.inside.by_number.items c.self.invariant.0 c.args.station c.args.least) ∙ ap (λ b. first_seat b c.args.least c.self.inside.by_station.items) (sym c.from.ensures) ∙ sym c.first_seat.ensures ∙ c.in-Some.is in
-    let answer : option_map association_id (first_from station_bench c.args.station c.args.least c.args.self.now.entries) ≡ Some c.in-Some.id =
-    ap (λ (v : Table). option_map association_id (first_from station_bench c.args.station c.args.least v.entries)) (sym c.self.view_is) ∙ here in
+    let here = sym (first_answer c.self.inside.slab c.self.inside.by_id.items c.self.inside.by_station.items c.self.inside.by_number.items c.self.invariant.0 c.args.station c.args.least) ∙ ap (λ b. first_indexed b c.args.least c.self.inside.by_station.items) (sym c.from.ensures) ∙ sym c.first_indexed.ensures ∙ c.in-Some.is in
+    let answer : option_map association_id (first_from station_group c.args.station c.args.least c.args.self.now.entries) ≡ Some c.in-Some.id =
+    ap (λ (v : Table). option_map association_id (first_from station_group c.args.station c.args.least v.entries)) (sym c.self.view_is) ∙ here in
     c.find.ensures.value
-    ∙ first_by_id station_bench c.args.station c.args.least c.in-Some.id c.args.self.now.entries c.find.ensures.order answer
+    ∙ first_by_id station_group c.args.station c.args.least c.in-Some.id c.args.self.now.entries c.find.ensures.order answer
 
 pub returns-in-None-clause-value : goal.returns-in-None-clause-value
 returns-in-None-clause-value c =
-    let here = sym (first_answer c.self.inside.slab c.self.inside.by_id.items c.self.inside.by_station.items c.self.inside.by_number.items c.self.invariant.0 c.args.station c.args.least) ∙ ap (λ b. first_seat b c.args.least c.self.inside.by_station.items) (sym c.from.ensures) ∙ sym c.first_seat.ensures ∙ c.in-None.is in
-    let answer : option_map association_id (first_from station_bench c.args.station c.args.least c.args.self.now.entries) ≡ None =
-    ap (λ (v : Table). option_map association_id (first_from station_bench c.args.station c.args.least v.entries)) (sym c.self.view_is) ∙ here in
-    sym (mapped_none (first_from station_bench c.args.station c.args.least c.args.self.now.entries) answer)
+    let here = sym (first_answer c.self.inside.slab c.self.inside.by_id.items c.self.inside.by_station.items c.self.inside.by_number.items c.self.invariant.0 c.args.station c.args.least) ∙ ap (λ b. first_indexed b c.args.least c.self.inside.by_station.items) (sym c.from.ensures) ∙ sym c.first_indexed.ensures ∙ c.in-None.is in
+    let answer : option_map association_id (first_from station_group c.args.station c.args.least c.args.self.now.entries) ≡ None =
+    ap (λ (v : Table). option_map association_id (first_from station_group c.args.station c.args.least v.entries)) (sym c.self.view_is) ∙ here in
+    sym (mapped_none (first_from station_group c.args.station c.args.least c.args.self.now.entries) answer)
 
 pub returns-in-None-clause-order : goal.returns-in-None-clause-order
 returns-in-None-clause-order c =

@@ -2,8 +2,8 @@ use Rattle.std.proofs.Common.{◌<◌, ◌≡◌, arith, refl, ◌∙◌, ap}
 use Rattle.std.specs.Prelude.{None}
 use Rattle.sorted_list.specs.Ordered.{at, add}
 use Rattle.association_table.specs.Table.{Table, found, opened}
-use Rattle.association_table.specs.Kept.{place_id, station_bench, number_bench, seat_of, seat_rank, entries_of}
-use Rattle.association_table.proofs.Entries.{free_place, free_seat, rising_entries, open_entries, open_kept, same_kept}
+use Rattle.association_table.specs.Kept.{place_id, station_group, number_group, index_entry, index_rank, entries_of}
+use Rattle.association_table.proofs.Entries.{free_place, free_entry, rising_entries, open_entries, open_kept, same_kept}
 use Rattle.association_table.proofs.table.Associations.open_reserved.Goals as goal
 
 pub insert_reserved-requires-clause-free : goal.insert_reserved-requires-clause-free
@@ -20,10 +20,10 @@ insert_reserved-requires-2-clause-free c =
     ap (λ (v : Table). found c.args.association.id v.entries) c.self.view_is ∙ c.requires.free in
     let k = c.self.invariant.0 in
     let es = entries_of c.self.inside.slab c.self.inside.by_id.items in
-    ap (λ s. at seat_rank (seat_rank s) c.self.inside.by_station.items) c.station_seat-station_seat.ensures
-    ∙ ap (at seat_rank (seat_rank (seat_of station_bench c.args.association))) k.seats
-    ∙ free_seat station_bench c.args.association es (rising_entries c.self.inside.slab c.self.inside.by_id.items k.rising) k.ids
-    (id, c.number_seat-number_seat.ensures.small) f
+    ap (λ s. at index_rank (index_rank s) c.self.inside.by_station.items) c.station_entry-station_entry.ensures
+    ∙ ap (at index_rank (index_rank (index_entry station_group c.args.association))) k.index
+    ∙ free_entry station_group c.args.association es (rising_entries c.self.inside.slab c.self.inside.by_id.items k.rising) k.ids
+    (id, c.number_entry-number_entry.ensures.small) f
 
 pub insert_reserved-requires-3-clause-free : goal.insert_reserved-requires-3-clause-free
 insert_reserved-requires-3-clause-free c =
@@ -32,10 +32,10 @@ insert_reserved-requires-3-clause-free c =
     ap (λ (v : Table). found c.args.association.id v.entries) c.self.view_is ∙ c.requires.free in
     let k = c.self.invariant.0 in
     let es = entries_of c.self.inside.slab c.self.inside.by_id.items in
-    ap (λ s. at seat_rank (seat_rank s) c.self.inside.by_number.items) c.number_seat-number_seat.ensures.seat
-    ∙ ap (at seat_rank (seat_rank (seat_of number_bench c.args.association))) k.numbers
-    ∙ free_seat number_bench c.args.association es (rising_entries c.self.inside.slab c.self.inside.by_id.items k.rising) k.ids
-    (id, c.number_seat-number_seat.ensures.small) f
+    ap (λ s. at index_rank (index_rank s) c.self.inside.by_number.items) c.number_entry-number_entry.ensures.entry
+    ∙ ap (at index_rank (index_rank (index_entry number_group c.args.association))) k.numbers
+    ∙ free_entry number_group c.args.association es (rising_entries c.self.inside.slab c.self.inside.by_id.items k.rising) k.ids
+    (id, c.number_entry-number_entry.ensures.small) f
 
 pub invariant_of-self : goal.invariant_of-self
 invariant_of-self c =
@@ -44,11 +44,11 @@ invariant_of-self c =
     ap (λ (v : Table). found c.args.association.id v.entries) c.self.view_is ∙ c.requires.free in
     let a = c.args.association in
     let places = c.insert_reserved.ensures.items ∙ ap (λ i. add place_id (record { id = i; key = c.insert_reserved-key.result }) c.self.inside.by_id.items) c.association_id-id.ensures in
-    let seats = c.insert_reserved-2.ensures.items ∙ ap (λ s. add seat_rank s c.self.inside.by_station.items) c.station_seat-station_seat.ensures in
-    let numbers = c.insert_reserved-3.ensures.items ∙ ap (λ s. add seat_rank s c.self.inside.by_number.items) c.number_seat-number_seat.ensures.seat in (
+    let index = c.insert_reserved-2.ensures.items ∙ ap (λ s. add index_rank s c.self.inside.by_station.items) c.station_entry-station_entry.ensures in
+    let numbers = c.insert_reserved-3.ensures.items ∙ ap (λ s. add index_rank s c.self.inside.by_number.items) c.number_entry-number_entry.ensures.entry in (
       same_kept c.insert_reserved-key.new.self c.insert_reserved-key.new.self _ _ _ _ _ _
-          (open_kept c.self.inside.slab c.insert_reserved-key.new.self a c.insert_reserved-key.result c.self.inside.by_id.items c.self.inside.by_station.items c.self.inside.by_number.items c.self.invariant.0 (id, c.number_seat-number_seat.ensures.small) f c.insert_reserved-key.ensures.was_vacant c.insert_reserved-key.ensures.updates)
-          refl places seats numbers,
+          (open_kept c.self.inside.slab c.insert_reserved-key.new.self a c.insert_reserved-key.result c.self.inside.by_id.items c.self.inside.by_station.items c.self.inside.by_number.items c.self.invariant.0 (id, c.number_entry-number_entry.ensures.small) f c.insert_reserved-key.ensures.was_vacant c.insert_reserved-key.ensures.updates)
+          refl places index numbers,
       c.insert_reserved.ensures.steady ∙ c.self.invariant.1,
       c.insert_reserved-2.ensures.steady ∙ c.self.invariant.2,
       c.insert_reserved-3.ensures.steady ∙ c.self.invariant.3,

@@ -1,20 +1,30 @@
-use Rattle.std.proofs.Common.{◌≡◌, map, take, refl, ◌∙◌, subst}
-use Rattle.std.proofs.lemmas.List.{take_all}
+use Rattle.std.proofs.Common.{◌≡◌, map, ◌∙◌, ap, subst, List}
+use Rattle.std.specs.List.{list_any}
 use Rattle.std.proofs.lemmas.Result.{IfOk-weaker}
-use Rattle.mme_types.specs.Listed.{ToReset}
-use Rattle.connection_table.specs.Whereabouts.{is_meant, slots_where}
-use Rattle.connection_table.specs.Seats.{whereabouts_at}
-use Rattle.connection_table.specs.Gathering.{gathered_rank, Holds}
-use Rattle.connection_table.proofs.Meant.{held_slots}
+use Rattle.association_table.specs.declared.association.Association.{Association}
+use Rattle.association_table.specs.declared.association.Listed.{Listed}
+use Rattle.association_table.specs.Listing.{listed_at}
+use Rattle.connection_table.specs.declared.slots.OrderedSlot.{OrderedSlot}
+use Rattle.connection_table.specs.Items.{listed_item}
+use Rattle.connection_table.specs.Whereabouts.{ConnectionTable, is_meant, slots_where}
+use Rattle.connection_table.specs.Kept.{is_held, slot_rank, Gathers}
+use Rattle.connection_table.proofs.Meant.{listed_held}
 use Rattle.connection_table.proofs.table.Connections.listed.Goals as goal
 
 pub returns : goal.returns
 returns c =
     let e = c.args.station in
-    let all : take c.loop-place.place c.args.items.now ≡ c.args.items.now =
-    take_all c.loop-place.place c.args.items.now c.loop-place-test.false in
-    let held = subst (λ (items : ToReset). Holds (λ i. is_meant e items (whereabouts_at i c.args.self.now)) c.loop-place.gathered.items) all c.loop-place.invariant in
-    let slots = held_slots (is_meant e c.args.items.now) c.args.self.now c.loop-place.gathered.items refl held in
-    IfOk-weaker c.slots_of.result (λ s. s.items ≡ map gathered_rank c.loop-place.gathered.items)
-    (λ s. s.items ≡ slots_where (is_meant e c.args.items.now) 0 c.args.self.now)
-    (λ s is. is ∙ slots) c.slots_of.ensures
+    let items = c.args.items.now in
+    let es = c.self.inside.associations.entries in
+    let last = c.gather_owners.new.gathered.items in
+    let own = c.as_slice.ensures.value ∙ c.in_ok-items.ensures in
+    let there =
+    c.as_slice-2.ensures.value ∙ c.in_ok-meant.ensures.value ∙ ap (λ n. listed_at n c.as_slice.result.now es) c.get.ensures.value
+    ∙ ap (λ (xs : List Listed). listed_at e xs es) own in
+    let so =
+    subst (λ (ss : List OrderedSlot). Gathers (λ i. list_any (is_held i) (listed_at e (map listed_item items) es)) ss last) c.new-gathered.ensures.items
+    (subst (λ (xs : List Association). Gathers (λ i. list_any (is_held i) xs) c.new-gathered.result.items last) there c.in_ok-gather_owners.ensures) in
+    let held = listed_held e items c.self.inside.by_slot.items es c.self.inside.paged.items last c.self.invariant c.listed.ensures.order so in
+    IfOk-weaker c.slots_of.result (λ s. s.items ≡ map slot_rank last)
+    (λ s. s.items ≡ slots_where (is_meant e items) 0 c.args.self.now.whereabouts)
+    (λ s is. is ∙ held ∙ ap (λ (t : ConnectionTable). slots_where (is_meant e items) 0 t.whereabouts) c.self.view_is) c.slots_of.ensures

@@ -1,41 +1,33 @@
-use Rattle.std.proofs.Common.{◌<◌, List, length, map, set, refl, sym, subst}
+use Rattle.std.proofs.Common.{◌<◌, Option, length, set, sym, ap, subst}
+use Rattle.mme_types.specs.declared.connection.Connection.{Connection}
 use Rattle.connection_table.specs.declared.whereabouts.Whereabouts.{Whereabouts}
-use Rattle.connection_table.specs.Seats.{radio_of, ids_of, page_of, IsTable}
-use Rattle.connection_table.proofs.Tables.{seated, sits, moved}
+use Rattle.connection_table.specs.Whereabouts.{ConnectionTable, IsFree}
+use Rattle.connection_table.specs.Kept.{IsReopened, IsTable, IsVacant}
+use Rattle.connection_table.proofs.Changed.{is_vacant, moved, read_at}
 use Rattle.connection_table.proofs.table.Connections.set.Goals as goal
 
-pub move_seat-requires : goal.move_seat-requires
-move_seat-requires c =
+pub reopen-requires-clause-vacant : goal.reopen-requires-clause-vacant
+reopen-requires-clause-vacant c =
     let ws = c.self.inside.by_slot.items in
-    (map radio_of ws, sits radio_of ws c.args.self.now c.args.slot c.get-place.result c.index.result.now c.self.inside.by_radio c.radio_of.result refl c.requires c.self.view_is c.get-place.ensures.value c.index.ensures c.radio_of.ensures c.self.invariant.radio)
-
-pub move_seat-requires-2 : goal.move_seat-requires-2
-move_seat-requires-2 c =
-    let ws = c.self.inside.by_slot.items in
-    (map ids_of ws, sits ids_of ws c.args.self.now c.args.slot c.get-place.result c.index.result.now c.self.inside.by_ids c.ids_of.result refl c.requires c.self.view_is c.get-place.ensures.value c.index.ensures c.ids_of.ensures.bench c.self.invariant.ids)
-
-pub move_seat-requires-3 : goal.move_seat-requires-3
-move_seat-requires-3 c =
-    let ws = c.self.inside.by_slot.items in
-    (map page_of ws, sits page_of ws c.args.self.now c.args.slot c.get-place.result c.index.result.now c.self.inside.paged c.page_of.result refl c.requires c.self.view_is c.get-place.ensures.value c.index.ensures c.page_of.ensures c.self.invariant.pages)
+    let es = c.self.inside.associations.entries in
+    let lt = subst (λ (t : ConnectionTable). c.args.slot < length t.whereabouts) (sym c.self.view_is) c.requires.within in
+    let free = subst (λ (t : ConnectionTable). IsFree c.args.slot c.args.whereabouts.connection t.whereabouts) (sym c.self.view_is) c.requires.free in
+    let old = read_at ws c.args.slot c.get-place.result c.index.result.now lt c.get-place.ensures.value c.index.ensures in
+    subst (λ (o : Option Connection). IsVacant o c.args.whereabouts.connection es) (ap (λ (w : Whereabouts). w.connection) (sym old))
+    (is_vacant ws es c.self.inside.paged.items c.args.slot c.args.whereabouts.connection c.self.invariant free)
 
 pub invariant_of-self : goal.invariant_of-self
 invariant_of-self c =
     let ws = c.self.inside.by_slot.items in
-    let xs = c.args.self.now in
+    let es = c.self.inside.associations.entries in
+    let ss = c.self.inside.paged.items in
+    let fs = c.reopen.new.associations.entries in
+    let us = c.list_slot.new.slots.items in
     let w = c.args.whereabouts in
-    let v = c.index.result.now in
     let slot = c.args.slot in
-    let n = c.get-place.result in
-    let place = c.get-place.ensures.value in
-    let t = c.self.invariant in
-    let is = c.self.view_is in
-    let lt = subst (λ (ys : List Whereabouts). slot < length ys) (sym is) c.requires in
-    let radio = sits radio_of ws xs slot n v c.self.inside.by_radio c.radio_of.result refl c.requires is place c.index.ensures c.radio_of.ensures t.radio in
-    let ids = sits ids_of ws xs slot n v c.self.inside.by_ids c.ids_of.result refl c.requires is place c.index.ensures c.ids_of.ensures.bench t.ids in
-    let pages = sits page_of ws xs slot n v c.self.inside.paged c.page_of.result refl c.requires is place c.index.ensures c.page_of.ensures t.pages in
-    subst (λ m. IsTable (set ws m w) c.move_seat.new.seats c.move_seat-2.new.seats c.move_seat-3.new.seats) (sym place)
-    (moved ws slot w c.move_seat.new.seats c.move_seat-2.new.seats c.move_seat-3.new.seats lt t.known c.ids_of-2.ensures.ids
-    (seated radio_of ws slot w c.self.inside.by_radio c.move_seat.new.seats c.radio_of.result c.radio_of-2.result radio c.radio_of-2.ensures c.move_seat.ensures)
-    (seated ids_of ws slot w c.self.inside.by_ids c.move_seat-2.new.seats c.ids_of.result c.ids_of-2.result ids c.ids_of-2.ensures.bench c.move_seat-2.ensures)
-    (seated page_of ws slot w c.self.inside.paged c.move_seat-3.new.seats c.page_of.result c.page_of-2.result pages c.page_of-2.ensures c.move_seat-3.ensures))
+    let lt = subst (λ (t : ConnectionTable). slot < length t.whereabouts) (sym c.self.view_is) c.requires.within in
+    let free = subst (λ (t : ConnectionTable). IsFree slot w.connection t.whereabouts) (sym c.self.view_is) c.requires.free in
+    let old = read_at ws slot c.get-place.result c.index.result.now lt c.get-place.ensures.value c.index.ensures in
+    let each = subst (λ (o : Option Connection). IsReopened slot o w.connection es fs) (ap (λ (v : Whereabouts). v.connection) old) c.reopen.ensures.each in
+    subst (λ n. IsTable (set ws n w) fs us) (sym c.get-place.ensures.value)
+    (moved ws es fs ss slot w lt c.self.invariant free each us c.list_slot.ensures.items)

@@ -3,6 +3,9 @@ use Rattle.sorted_list.specs.Ordered.{Rising}
 use Rattle.stranger_machine.specs.Table.{known_id}
 use Rattle.mme_answering.specs.Settled.{settled_strangers}
 use Rattle.mme_core.specs.Sight.{Around}
+use Rattle.mme_answering.specs.Settled.{settled_subscribers}
+use Rattle.laws_apart.specs.Apart.{IdsApart}
+use Rattle.mme_core.proofs.Placing.{is_placed}
 use Rattle.mme_core.proofs.Stations.{placed_many}
 use Rattle.mme_core.proofs.Steps.{not_past, passes}
 use Rattle.mme_core.proofs.mme.Surroundings.take.Goals as goal
@@ -33,3 +36,11 @@ pub returns-clause-clock : goal.returns-clause-clock
 returns-clause-clock c =
     let past = not_past c.args.ready.prepared c.args.subscribers.now.clock c.args.self.now.sight.clock c.args.ready.moves.clock c.requires.clock c.requires.in_time in
     omega (arith, past, c.in_ok-settle.ensures.clock)
+
+pub settle-requires-clause-placed : goal.settle-requires-clause-placed
+settle-requires-clause-placed c =
+    let p = c.args.ready.prepared in
+    let ws = c.args.subscribers.now.subscribers in
+    let seen =
+    subst (λ (v : Around). IdsApart (settled_strangers p v.strangers) (settled_subscribers p ws)) (sym c.self.view_is) c.requires.apart in
+    is_placed p c.self.inside.strangers.strangers ws c.no_two_share_an_id.ensures.two seen c.requires.fits

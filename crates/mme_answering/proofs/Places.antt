@@ -1,0 +1,80 @@
+-- At a tick, and at what happens to a station, each stays connected as it was or is no longer.
+use Rattle.std.proofs.Common.{◌≡◌, ◌<◌, ℕ, inl, inr, List, [], ◌∷◌, Option, Some, ap, ◌∙◌, subst}
+use Rattle.std.specs.Prelude.{slice_get}
+use Rattle.mme_types.specs.declared.connection.Connection.{Connection}
+use Rattle.emm_state.specs.declared.setting.Setting.{Setting}
+use Rattle.emm_state.specs.declared.solo.Solo.{Solo}
+use Rattle.emm_machine.specs.SubscriberView.{SubscriberView}
+use Rattle.sorted_list.specs.Ordered.{Every}
+use Rattle.stranger_machine.specs.declared.turn.Notice.{Notice}
+use Rattle.stranger_machine.specs.declared.turn.Notice.TheVariants.{Gone, Listed, Tick}
+use Rattle.subscriber_table.specs.SteppedView.{SteppedView}
+use Rattle.stranger_machine.specs.declared.turn.After.{After}
+use Rattle.subscriber_table.specs.Table.{IsCounting, IsStepped}
+use Rattle.subscriber_table.specs.Touched.{IsFreeFor, KeepsPlace}
+use Rattle.mme_answering.specs.declared.prepared.Prepared.{Prepared}
+use Rattle.mme_answering.specs.declared.prepared.Prepared.TheVariants as prepared
+use Rattle.mme_answering.specs.Settled.{AreFit, IsFreeIf, IsPlaced}
+use Rattle.mme_routing.specs.Destinations.{item_of_notice}
+use Rattle.laws_connections.specs.Comes.{Begins, ComesSo, ConnectionsComeSo, IsClaimed, Moves}
+use Rattle.mme_answering.proofs.Stepping.{stepped_at}
+
+-- a notice begins, claims and moves nothing
+none_begins : (notice : Notice) (s : Setting) (solo : Solo) (k : Connection) → Begins s solo (item_of_notice notice) k → ⊥
+none_begins Tick s solo k h = h
+none_begins (Gone e) s solo k h = h
+none_begins (Listed e items) s solo k h = h
+
+none_claims : (notice : Notice) (k : Connection) → IsClaimed (item_of_notice notice) k → ⊥
+none_claims Tick k h = h
+none_claims (Gone e) k h = h
+none_claims (Listed e items) k h = h
+
+none_moves : (notice : Notice) (o : Option Connection) (k : Connection) → Moves o (item_of_notice notice) k → ⊥
+none_moves Tick o k h = h
+none_moves (Gone e) o k h = h
+none_moves (Listed e items) o k h = h
+
+was : (notice : Notice) (s : Setting) (solo : Solo) (k : Connection) → ComesSo s solo (item_of_notice notice) (Some k)
+    → solo.connection ≡ Some k
+was notice s solo k comes = elim comes [
+  | inl stays ↦ stays.0
+  | inr others ↦ elim others [
+    | inl begins ↦ absurd (none_begins notice s solo k begins)
+    | inr rest ↦ elim rest [
+      | inl claimed ↦ absurd (none_claims notice k claimed)
+      | inr moves ↦ absurd (none_moves notice solo.connection k moves)
+    ]
+  ]
+]
+
+keeps_one : ConnectionsComeSo → (notice : Notice) (ws : List SubscriberView) (x : SteppedView)
+    → IsStepped (item_of_notice notice) ws x → KeepsPlace ws x
+keeps_one come notice ws x h k is =
+    stepped_at (item_of_notice notice) x.solo (slice_get ws x.slot) h (λ w at same.
+    let comes : ComesSo w.setting w.solo (item_of_notice notice) (Some k) =
+    subst (ComesSo w.setting w.solo (item_of_notice notice)) (ap (λ (s : Solo). s.connection) same ∙ is) (come w.setting w.solo (item_of_notice notice)) in
+    record { subscriber = w; there = at; connected = was notice w.setting w.solo k comes })
+
+pub keep_all : ConnectionsComeSo → (notice : Notice) (ws : List SubscriberView) (xs : List SteppedView)
+    → Every (IsStepped (item_of_notice notice) ws) xs → Every (KeepsPlace ws) xs
+keep_all come notice ws [] h = tt
+keep_all come notice ws (x ∷ xs) h = (keeps_one come notice ws x h.0, keep_all come notice ws xs h.1)
+
+-- ---- of one alone
+
+pub free_called : (p : Prepared) (x : SteppedView) (ws : List SubscriberView) → p ≡ prepared.Subscriber x → IsPlaced p ws → IsFreeFor ws x
+free_called p x ws is h = subst (λ (q : Prepared). IsPlaced q ws) is h
+
+pub free_by_stranger : (p : Prepared) (id : ℕ) (after : After) (x : SteppedView) (o : Option SteppedView) (ws : List SubscriberView)
+    → p ≡ prepared.Stranger id after o → o ≡ Some x → IsPlaced p ws → IsFreeFor ws x
+free_by_stranger p id after x o ws is there h =
+    subst (IsFreeIf ws) there (subst (λ (q : Prepared). IsPlaced q ws) is h)
+
+pub slots_fit : (n : ℕ) (xs : List SteppedView) → AreFit n xs → Every (λ (x : SteppedView). x.slot < n) xs
+slots_fit n [] h = tt
+slots_fit n (x ∷ xs) h = (h.0.0, slots_fit n xs h.1)
+
+pub all_counting : (n : ℕ) (xs : List SteppedView) → AreFit n xs → Every (λ (x : SteppedView). IsCounting x.solo) xs
+all_counting n [] h = tt
+all_counting n (x ∷ xs) h = (h.0.1, all_counting n xs h.1)
