@@ -496,6 +496,52 @@ def set_up_again():
 
 
 @failure("""\
+IMSI 001010000000001
+  at the end: SecurityMode
+
+Station 0
+! line 9, 0 s: UPLINK NAS TRANSPORT is refused: the octets spell no S1AP message: cut short (TS 36.413 clause 10.2)
+""")
+def cut_completion():
+    """The station cuts the message that has SECURITY MODE COMPLETE."""
+    trace, phone, station = secured()
+    nas = phone.protected_up(lte.SECURITY_MODE_COMPLETE, header=4)
+    trace.hear(station, lte.uplink_nas(trace.network, station, phone.m, phone.b, nas)[:-3])
+    trace.owe("e0", station, lte.error_indication(lte.SYNTAX))
+    return trace
+
+
+def asks_service_aside(tmsi):
+    """SERVICE REQUEST with this S-TMSI, or none, of which the MME knows nobody."""
+    trace, phone, station = registered()
+    phone.is_released()
+    nas = lte.service_request(phone.key, phone.ksi, phone.up_count)
+    trace.hear(station, lte.initial_ue_message(trace.network, station, 2, nas, tmsi))
+    trace.owe("x0.2", station, lte.downlink_nas((1 << 31) + 2, 2, b"\x07\x4e\x09"))
+    trace.owe("x0.2", station, lte.release_command((1 << 31) + 2, 2, lte.NORMAL_RELEASE))
+    return trace
+
+
+@failure("""\
+A stranger, eNB UE S1AP ID 2 at station 0
+! line 14, 0 s: SERVICE REQUEST is refused: it has no S-TMSI, and nothing else in it names a phone (TS 24.301 clause 5.6.1.5)
+""")
+def service_without_s_tmsi():
+    """The station leaves the S-TMSI out."""
+    return asks_service_aside(None)
+
+
+@failure("""\
+A stranger, eNB UE S1AP ID 2 at station 0
+! line 14, 0 s: SERVICE REQUEST is refused: the S-TMSI, MME code 01 and M-TMSI 123456789, is of no subscriber of this MME \
+(TS 24.301 clause 5.6.1.5)
+""")
+def service_with_unknown_s_tmsi():
+    """The S-TMSI is of nobody here."""
+    return asks_service_aside(123456789)
+
+
+@failure("""\
 A stranger, eNB UE S1AP ID 1 at station 0
 ! line 7, 0 s: EMM message type c7 is answered by a release: the message names nobody who is provisioned here \
 (TS 24.301 clause 4.4.4.3)

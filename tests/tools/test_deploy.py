@@ -1,24 +1,33 @@
-"""deploy/: that systemd takes the unit and finds few rights in it, that the words in both files are the front's, and, where the
+"""deploy/: that systemd takes the unit and finds few rights in it, that the words in both files are the front's, what the service
+manager is told, that the container's files are all that a front needs and its health check tells whether it serves; and, where the
 program is built, that what the commands of deploy/README.md put into place serves by the unit's words."""
+import contextlib
 import json
+import os
 import pathlib
 import re
 import shlex
 import shutil
+import signal
+import socket
 import subprocess
 import sys
 import tempfile
+import time
 import unittest
+import unittest.mock
 
 import tools
+from fronted import HEAD, IMSI, STAND_IN, Running
 
 sys.path.insert(0, str(tools.TOP / "tools"))
-from fronting import command
-UNIT, CONTAINER = tools.TOP / "deploy" / "soizkadur@.service", tools.TOP / "deploy" / "Containerfile"
+import runs
+from fronting import command, faults, limits
+del sys.path[0]
+UNIT, CONTAINER, README = (tools.TOP / "deploy" / name for name in ("soizkadur@.service", "Containerfile", "README.md"))
 INSTALLED = "/opt/soizkadur/"
 BUILT = "crates/mme/out/mme"
-IMSI = "001010000000001"
-HEAD = "mme 001 01 8001 01 internet 1000000000 1000000000\nsub %s 0a000001 0a000064 00000001\n" % IMSI
+MIB = 1 << 20
 
 
 def analyzed(*words):
@@ -63,12 +72,72 @@ class Unit(unittest.TestCase):
         self.assertEqual((given.subscribers, given.log, given.control),
                          ("/run/credentials/subscribers", "/var/lib/soizkadur/01/trace", "/run/soizkadur/01/control"))
 
+    def test_limits(self):
+        """Memory, tasks, files and disk are limited, with room for all that the front takes at the most; the log's is as it says."""
+        text = UNIT.read_text()
+        lines = dict(re.findall(r"^(\w+)=(.*)$", text, re.MULTILINE))
+        self.assertLessEqual({"MemoryMax", "TasksMax", "LimitNOFILE", "LimitFSIZE"}, set(lines))
+        guests = limits.MOST_ASKING + limits.MOST_BROWSING
+        self.assertGreater(int(lines["LimitNOFILE"]), 2 * (runs.STATIONS + guests))
+        sizes = [int(lines[name][:-1]) << 30 for name in ("MemoryMax", "LimitFSIZE") if lines[name].endswith("G")]
+        self.assertGreater(sizes[0], runs.STATIONS * limits.MOST_WAITING + guests * limits.MOST_TOLD)
+        self.assertGreater(sizes[1], 2 * limits.SEGMENT_SIZE * MIB)
+        self.assertIn("at most %d segments of %d MiB of each of its two series" % (limits.SEGMENTS, limits.SEGMENT_SIZE), text)
+
+    def test_statuses(self):
+        """What the front ends with is started again where README.md says so: all but what stays wrong, and an end that was asked
+        for."""
+        text = UNIT.read_text()
+        lines = dict(re.findall(r"^(\w+)=(.*)$", text, re.MULTILINE))
+        statuses = {int(status): again == "yes" for status, again in re.findall(r"^\| (\d+) \| .* \| (yes|no) \|$", README.read_text(),
+                                                                              re.MULTILINE)}
+        passing = dict.fromkeys((faults.BABBLES, faults.LOG_FAILS, faults.NOT_YET, faults.SILENT), True)
+        self.assertEqual(statuses, {0: False, faults.WRONG: False, **passing})
+        self.assertEqual((lines["Restart"], lines["RestartPreventExitStatus"], lines["StartLimitIntervalSec"]),
+                         ("on-failure", str(faults.WRONG), "0"))
+
+    def test_told(self):
+        """The service manager hears that the front is ready, that it still turns, and that it ends (sd_notify(3)); of one that stands
+        still it hears nothing."""
+        text = UNIT.read_text()
+        self.assertRegex(text, r"\nType=notify\n")
+        self.assertRegex(text, r"\nWatchdogSec=\d+\n")
+        folder = self.enterContext(tempfile.TemporaryDirectory())
+        manager = self.enterContext(socket.socket(socket.AF_UNIX, socket.SOCK_DGRAM))
+        manager.bind(folder + "/notify")
+        manager.settimeout(20)
+        with unittest.mock.patch.dict(os.environ, NOTIFY_SOCKET=folder + "/notify", WATCHDOG_USEC="200000"):
+            running = Running(self)
+        self.assertEqual(manager.recv(100), b"READY=1")
+        self.assertEqual(manager.recv(100), b"WATCHDOG=1\nSTATUS=0 stations")
+        running.station()
+        while manager.recv(100) != b"WATCHDOG=1\nSTATUS=1 stations":
+            pass
+        running.process.send_signal(signal.SIGSTOP)
+        self.assertTrue(self.is_silent(manager))
+        running.process.send_signal(signal.SIGCONT)
+        manager.settimeout(20)
+        self.assertEqual(manager.recv(100), b"WATCHDOG=1\nSTATUS=1 stations")
+        self.assertEqual(running.stop()[0], 0)
+        while manager.recv(100) != b"STOPPING=1":
+            pass
+
+    @staticmethod
+    def is_silent(manager):
+        """Whether nothing comes in five times the time between two words, after what was under way."""
+        manager.settimeout(0.5)
+        with contextlib.suppress(TimeoutError):
+            for _ in range(10):
+                manager.recv(100)
+            return False
+        return True
+
     @unittest.skipUnless((tools.TOP / BUILT).exists(), "the program isn't built (./mme --prove)")
     def test_commands(self):
         """Twice, so that the second run goes on after the first."""
         folder = self.enterContext(tempfile.TemporaryDirectory())
         place, log = folder + "/soizkadur/01/", pathlib.Path(folder, "soizkadur/01/trace")
-        commands = re.findall("^    sudo (install .*/opt/.*)", (tools.TOP / "deploy" / "README.md").read_text(), re.MULTILINE)
+        commands = re.findall("^    sudo (install .*/opt/.*)", README.read_text(), re.MULTILINE)
         subprocess.run(["sh", "-eu", "-c", "\n".join(commands).replace("/opt", folder + "/opt")], cwd=tools.TOP, check=True)
         pathlib.Path(place).mkdir(parents=True)
         pathlib.Path(folder, "subscribers").write_text(HEAD)
@@ -89,26 +158,74 @@ class Container(unittest.TestCase):
     def lines(self, word):
         return re.findall("^%s (.*)$" % word, CONTAINER.read_text(), re.MULTILINE)
 
-    def test_copies(self):
-        """What it copies stands in the repository, or is the built program; and is all that the front needs."""
-        with tempfile.TemporaryDirectory() as folder:
-            for line in self.lines("COPY"):
-                *sources, target = line.split()
-                for source in sources:
-                    into = pathlib.Path(folder, target.lstrip("/") + (pathlib.Path(source).name if target.endswith("/") else ""))
-                    into.parent.mkdir(parents=True, exist_ok=True)
-                    if (tools.TOP / source).is_dir():
-                        shutil.copytree(tools.TOP / source, into, ignore=shutil.ignore_patterns("__pycache__"))
-                    elif source != BUILT:
-                        shutil.copy(tools.TOP / source, into)
-            [line] = self.lines("ENTRYPOINT")
-            [program] = json.loads(line)
-            done = subprocess.run([pathlib.Path(folder, program.lstrip("/")), "--help"], capture_output=True, timeout=60,
-                                  check=False)
-            self.assertEqual((done.returncode, done.stderr), (0, b""))
-        self.assertIn(BUILT + " /opt/soizkadur/mme", self.lines("COPY"))
+    def words(self, word):
+        """The words of a line that has them as a list."""
+        [line] = self.lines(word)
+        return json.loads(line[line.index("["):])
+
+    def laid(self):
+        """A folder with what the container has, and nothing else: the files that it copies and the folders that it makes."""
+        root = pathlib.Path(self.enterContext(tempfile.TemporaryDirectory()))
+        for line in self.lines("COPY"):
+            *sources, target = line.split()
+            for source in sources:
+                into = root / (target.lstrip("/") + (pathlib.Path(source).name if target.endswith("/") else ""))
+                into.parent.mkdir(parents=True, exist_ok=True)
+                if (tools.TOP / source).is_dir():
+                    shutil.copytree(tools.TOP / source, into, ignore=shutil.ignore_patterns("__pycache__"))
+                elif source != BUILT or (tools.TOP / source).exists():
+                    shutil.copy(tools.TOP / source, into)
+                else:
+                    into.write_text(STAND_IN)
+                    into.chmod(0o755)
+        [folders] = self.lines("RUN install -d")
+        for folder in re.findall(r" (/\S+)", folders):
+            (root / folder.lstrip("/")).mkdir(parents=True)
+        return root
+
+    @staticmethod
+    def within(root, words):
+        """Words of the container with its folders below a folder."""
+        return [str(root) + word if word.startswith("/") else word for word in words]
 
     def test_words(self):
-        [line] = self.lines("CMD")
-        given = command.parser("").parse_args(json.loads(line))
+        given = command.parser("").parse_args(self.words("CMD"))
         self.assertEqual((*map(str, given.listen), given.keep, given.log), ("0.0.0.0", 7, "/var/lib/soizkadur/trace"))
+
+    def test_health(self):
+        """The front runs by the container's words and from its files alone, twice; its health check passes where the front and its
+        MME answer, and where one of them doesn't it fails, or is ended after its time."""
+        root = self.laid()
+        (root / "etc/soizkadur").mkdir(parents=True)
+        (root / "etc/soizkadur/subscribers").write_text(HEAD)
+        words = self.within(root, self.words("ENTRYPOINT") + self.words("CMD")) + ["--tcp", "--port", "0"]
+        alone = {"env": {"PATH": os.environ["PATH"]}, "cwd": "/", "stderr": subprocess.DEVNULL}
+
+        def is_healthy(seconds=10):
+            with contextlib.suppress(subprocess.TimeoutExpired):
+                check = self.within(root, self.words("HEALTHCHECK"))
+                return subprocess.run(check, stdout=subprocess.DEVNULL, timeout=seconds, check=False, **alone).returncode == 0
+            return False
+
+        def is_healthy_without(process):
+            """Whether the check passes while a process stands still."""
+            os.kill(process, signal.SIGSTOP)
+            found = is_healthy(2)
+            os.kill(process, signal.SIGCONT)
+            return found
+
+        self.assertFalse(is_healthy())
+        for is_first in (True, False):
+            with subprocess.Popen(words, **alone) as running:
+                try:
+                    end = time.monotonic() + 20
+                    while not is_healthy():
+                        self.assertLess(time.monotonic(), end)
+                    children = pathlib.Path("/proc/%d/task/%d/children" % (running.pid, running.pid)).read_text().split()
+                    for process in (running.pid, *map(int, children)) if is_first else ():
+                        self.assertFalse(is_healthy_without(process))
+                    self.assertTrue(is_healthy())
+                finally:
+                    running.terminate()
+            self.assertEqual((running.returncode, is_healthy()), (0, False))
+        self.assertEqual({path.name for path in (root / "var/lib/soizkadur").iterdir()}, {"trace", "trace.counts"})

@@ -18,6 +18,7 @@ sys.path.insert(0, str(tools.TOP / "tools"))
 from fronting import limits
 from fronting.segments import older_segments
 sys.path.insert(0, str(tools.TOP / "bench"))
+LTE = tools.module("bench/lte.py")
 PHONES = tools.module("bench/phones.py")
 del sys.path[:2]
 
@@ -296,45 +297,94 @@ class Giving(unittest.TestCase):
                 self.assertEqual(answers.readline(), "fault give has the number of octets that follow, up to 4194304\n")
         self.assertEqual(running.stop()[0], 0)
 
-    @unittest.skipUnless(PROGRAM.exists(), "the program isn't built (./mme --prove)")
-    def test_vectors_of_a_phone(self):
-        """A SIM whose vectors are spent attaches after it was given more, and another phone stays as it is."""
-        trace = PHONES.Trace()
-        spent = PHONES.Phone(trace, 0, [PHONES.Vector.made("one"), PHONES.Vector.made("two")])
-        other = PHONES.Phone(trace, 1, [PHONES.Vector.made("other")])
-        trace.provision([spent, other])
-        lines = trace.text().splitlines()
-        withheld = [line for line in lines if line.startswith("vec " + spent.imsi)][1]
-        running = Running(self, head="\n".join(line for line in lines if line != withheld) + "\n", program=PROGRAM)
-        connection, station = running.station(), PHONES.Station(0)
-        told = len(trace.lines)
 
-        def play():
-            nonlocal told
-            for line in trace.lines[told:]:
-                if line.startswith("in "):
-                    connection.send(bytes.fromhex(line.split(" ")[2]))
-            told = len(trace.lines)
+class Talk:
+    """What a station hears goes to a front that runs, and what it is owed is looked for there."""
 
-        trace.set_up(station)
-        other.attaches(station, 2)
-        spent.attaches(station, 1)
-        spent.is_released()
-        play()
-        owed = [line.split(" ")[3] for line in trace.answers]
-        self.assertEqual([connection.receive().hex() for _ in owed], owed)
-        self.assertEqual(give(running, withheld + "\n"), "given 0 subscribers, 1 vectors\n")
-        trace.answers.clear()
-        spent.attaches(station, 9)
-        play()
-        owed = [line.split(" ")[3] for line in trace.answers]
-        self.assertEqual([connection.receive().hex() for _ in owed], owed)
-        for phone in (spent, other):
+    def __init__(self, test, trace, running):
+        self.test, self.trace, self.connection = test, trace, running.station()
+        self.told = len(trace.lines)
+
+    def settle(self):
+        """Sends what the station heard since, and receives what is owed."""
+        for line in self.trace.lines[self.told:]:
+            if line.startswith("in "):
+                self.connection.send(bytes.fromhex(line.split(" ")[2]))
+        self.told = len(self.trace.lines)
+        owed = [line.split(" ")[3] for line in self.trace.answers]
+        self.test.assertEqual([self.connection.receive().hex() for _ in owed], owed)
+        self.trace.answers.clear()
+
+
+@unittest.skipUnless(PROGRAM.exists(), "the program isn't built (./mme --prove)")
+class GivenToPhones(unittest.TestCase):
+    """What is given while the program itself runs, and phones that needed it."""
+
+    def setUp(self):
+        self.trace, self.station = PHONES.Trace(), PHONES.Station(0)
+        self.phones = [PHONES.Phone(self.trace, slot, [PHONES.Vector.made("%d.%d" % (slot, place)) for place in range(2)])
+                       for slot in range(2)]
+        self.trace.provision(self.phones)
+
+    def running(self, withheld):
+        """A front that is provisioned without these lines, a station that is set up there, and its talk."""
+        lines = self.trace.text().splitlines()
+        running = Running(self, head="".join(line + "\n" for line in lines if line not in withheld), program=PROGRAM)
+        talk = Talk(self, self.trace, running)
+        self.trace.set_up(self.station)
+        return running, talk
+
+    def lines_of(self, phone):
+        """What is provisioned of a phone."""
+        return [line for line in self.trace.text().splitlines() if line.split(" ")[1] == phone.imsi]
+
+    def check_end(self, running):
+        """Both phones are registered, and the log plays."""
+        for phone in self.phones:
             self.assertEqual(running.asks("show", phone.imsi), "state %s %s\n" % (phone.imsi, PHONES.CONNECTED))
         self.assertEqual(running.stop()[0], 0)
-        self.assertNotIn("cancel", running.log.read_text())
         played = subprocess.run([PROGRAM, "play", running.log], capture_output=True, timeout=60, check=False)
         self.assertEqual((played.returncode, played.stderr), (0, b""))
+
+    def test_vectors(self):
+        """A SIM whose vectors are spent attaches after it was given more, and another phone stays as it is."""
+        spent, other = self.phones
+        withheld = self.lines_of(spent)[-1:]
+        running, talk = self.running(withheld)
+        other.attaches(self.station, 2)
+        spent.attaches(self.station, 1)
+        spent.is_released()
+        talk.settle()
+        self.assertEqual(give(running, withheld[0] + "\n"), "given 0 subscribers, 1 vectors\n")
+        spent.attaches(self.station, 9)
+        talk.settle()
+        self.check_end(running)
+        self.assertNotIn("cancel", running.log.read_text())
+
+    def test_a_phone_that_was_refused(self):
+        """A phone that was refused as nobody's attaches after its subscriber was given, which `cancel` brought to a known state; one
+        that is registered notices nothing."""
+        other, late = self.phones
+        withheld = self.lines_of(late)
+        running, talk = self.running(withheld)
+        other.attaches(self.station, 1)
+        esm = LTE.pdn_connectivity_request(1, 1, False)
+        request = LTE.attach_request(1, LTE.imsi_identity(late.imsi), late.capability, esm)
+        self.trace.hear(self.station, LTE.initial_ue_message(self.trace.network, self.station, 2, request))
+        stranger = (1 << 31) + 2
+        self.trace.owe("x0.2", self.station, LTE.downlink_nas(stranger, 2, b"\x07\x44\x08"))
+        self.trace.owe("x0.2", self.station, LTE.release_command(stranger, 2, LTE.NORMAL_RELEASE))
+        talk.settle()
+        self.assertEqual(give(running, "\n".join(withheld) + "\n"), "given 1 subscribers, 2 vectors\n")
+        # (with the longer head the request was challenged, by the first vector)
+        self.trace.owe("s1", self.station, LTE.release_command(LTE.id_of_slot(1, 1), 2, LTE.DETACHED))
+        talk.settle()
+        late.place = late.associations = 1
+        late.attaches(self.station, 3)
+        talk.settle()
+        self.check_end(running)
+        cancelled = [line for line in running.log.read_text().splitlines() if line.startswith("cancel")]
+        self.assertEqual(cancelled, ["cancel " + late.imsi])
 
 
 class Hanging(unittest.TestCase):

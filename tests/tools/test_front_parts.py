@@ -165,6 +165,19 @@ class Paces(unittest.TestCase):
         pace.take(300, 1001.0)
         self.assertEqual(pace.allows(1002.9), 0)
 
+    def test_attaches(self):
+        """At the usual rate 500 phones may attach through one station within 2 s, by their messages and by their octets."""
+        trace, station = PHONES.Trace(), PHONES.Station(0)
+        PHONES.Phone(trace, 0, [PHONES.Vector.made("pace")]).attaches(station, 400, information=True)
+        sizes = [len(line.split(" ")[2]) // 2 for line in trace.lines]
+        for rate, whole in ((limits.RATE, 500 * len(sizes)), (limits.RATE * limits.OCTETS, 500 * sum(sizes))):
+            pace, passed, steps = Pace(rate), 0, 0
+            while passed < whole:
+                count = min(whole - passed, pace.allows(1000 + steps / 100))
+                pace.take(count, 1000 + steps / 100)
+                passed, steps = passed + count, steps + 1
+            self.assertLess(steps, 200)
+
 
 class Segments(unittest.TestCase):
     def setUp(self):

@@ -50,7 +50,8 @@ class Why(enum.Enum):
     NO_VECTOR = Reason("no vector is left: the phone was given {vectors}, and each challenge takes one", NAS + "5.4.2.2")
     FOREIGN_IDENTITY = Reason(
         "the old GUTI is of another MME or of nobody here, and a phone is asked for its IMSI only at an attach", NAS + "5.5.3.2.5")
-    NO_S_TMSI = Reason("its S-TMSI is missing, or is of no subscriber of this MME", NAS + "5.6.1.5")
+    NO_S_TMSI = Reason("it has no S-TMSI, and nothing else in it names a phone", NAS + "5.6.1.5")
+    UNKNOWN_S_TMSI = Reason("the S-TMSI, MME code {code} and M-TMSI {tmsi}, is of no subscriber of this MME", NAS + "5.6.1.5")
     NAMES_NOBODY = Reason("the message names nobody who is provisioned here", NAS + "4.4.4.3")
     NOT_REGISTERED = Reason("the phone isn't registered: it is in {phase}", NAS + "{clause}")
     WRONG_KEY_SET = Reason("key set {key_set} isn't the phone's, whose context has {wanted}", NAS + "5.6.1.5")

@@ -3,7 +3,7 @@ import dataclasses
 
 import s1ap
 from eps import nas, timers
-from eps.elements import CAUSE, TAI
+from eps.elements import CAUSE, S_TMSI, TAI
 from eps.nas_elements import emm, named
 from eps.provisioned import stranger_id
 from eps.reasons import Why
@@ -55,10 +55,17 @@ class Stranger:
         elif message.type == nas.TAU_REQUEST and not message.fault:
             self.reject(now, message, NOT_DERIVED, Why.FOREIGN_IDENTITY)
         elif message.is_service_request():
-            self.reject(now, message, NOT_DERIVED, Why.NO_S_TMSI)
+            self.on_service_request(now, message)
         else:
             self.tell(now, "is answered by a release", Why.NAMES_NOBODY)
             now.send_release(self.owner, self.place, UNSPECIFIED, "ends the association")
+
+    def on_service_request(self, now, message):
+        identity = now.message.get(S_TMSI)
+        if identity is None:
+            self.reject(now, message, NOT_DERIVED, Why.NO_S_TMSI)
+        else:
+            self.reject(now, message, NOT_DERIVED, Why.UNKNOWN_S_TMSI, code=identity["MME code"], tmsi=identity["M-TMSI"])
 
     def on_attach(self, now, message):
         identity = message.fields["EPS mobile identity"]

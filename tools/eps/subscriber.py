@@ -68,6 +68,10 @@ class Subscriber:
         return "%s%s" % (self.phase.value[0], " (%s)" % self.how if self.phase is Phase.DEREGISTERED else
                          (" connected" if self.place else " idle") if self.phase is Phase.REGISTERED else "")
 
+    def is_amid(self):
+        """Whether a procedure is under way that the phone or a station is to go on with."""
+        return self.phase not in (Phase.DEREGISTERED, Phase.REGISTERED)
+
     def states(self):
         return "%s %s %s" % (self.phase.value[1], "CONNECTED" if self.place else "IDLE", self.bearer)
 

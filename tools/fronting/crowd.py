@@ -1,7 +1,7 @@
 """The stations that are connected: their numbers, their turns, and what they are sent."""
 import collections
+import functools
 import ipaddress
-import itertools
 import re
 import select
 import time
@@ -14,7 +14,8 @@ from fronting.pace import Pace
 from fronting.stations import Station, heard
 
 EVENTS = select.EPOLLIN | select.EPOLLOUT | select.EPOLLRDHUP | select.EPOLLET
-GONE = select.EPOLLIN | select.EPOLLRDHUP | select.EPOLLHUP | select.EPOLLERR
+ENDING = select.EPOLLRDHUP | select.EPOLLHUP | select.EPOLLERR
+GONE = select.EPOLLIN | ENDING
 
 
 def host_of(text):
@@ -104,7 +105,7 @@ class Crowd:
         exchange.put("# station %d: %s" % (number, station))
         exchange.put("up %d" % number)
         self.eager[station] = True
-        self.loop.watch(station.link.connection.fileno(), EVENTS, lambda events: self.look(station, events))
+        self.loop.watch(station.link.connection.fileno(), EVENTS, functools.partial(self.look, station))
         self.voice.say("connects", "station %d: %s connects" % (number, station), station=number, address=str(station.address),
                        port=station.port)
 
@@ -112,6 +113,7 @@ class Crowd:
         """What epoll says of a connection."""
         if events & GONE:
             station.link.readable = True
+            station.link.is_ending = station.link.is_ending or bool(events & ENDING)
             self.eager[station] = True
         if events & select.EPOLLOUT and not station.link.writable and station.link.why is None:
             station.link.writable = True
@@ -126,50 +128,47 @@ class Crowd:
             return False
         now, due, paced = time.monotonic(), [], []
         for station in self.eager:
-            (due if station.allows(now) else paced).append(station)
+            allowed = station.allows(now)
+            due.append((station, allowed)) if allowed else paced.append(station)
         parts = len(due) or 1
         share, octets = max(1, limits.TURN_MESSAGES // parts), limits.TURN_OCTETS // parts
-        said = []
-        for station in due:
-            messages = station.take(share, octets, now)
-            if messages:
-                said.append(self.lines_of(station, messages))
-        self.put_in_turn(said)
-        for station in due:
-            self.settle(station)
+        self.put_in_turn([(station.number, self.lines_of(station, min(share, allowed), octets, now)) for station, allowed in due])
+        goes_on = [self.settle(station) for station, _ in due]
         self.wake_for(paced, now)
-        return any(station in self.eager and station.allows(now) for station in due)
+        return any(goes and station.allows(now) for goes, (station, _) in zip(goes_on, due))
 
-    def lines_of(self, station, messages):
-        """What the messages of a station are in the log, each with its number."""
-        number, found = station.number, []
-        for octets in messages:
-            self.meters.count_in(number, octets)
-            found.append((number, "\n".join(heard(number, octets))))
+    def lines_of(self, station, most, most_octets, now):
+        """What a station says in its turn, as lines of the log."""
+        number, count, found = station.number, self.meters.count_in, []
+        for octets in station.take(most, most_octets, now):
+            count(number, octets)
+            found.append(heard(number, octets))
         return found
 
     def put_in_turn(self, said):
-        """Puts a message of each station after one of each other."""
-        put = self.exchange.batch.add
-        for found in said:
-            heard_counts = self.exchange.batch.heard
-            number = found[0][0]
-            heard_counts[number] = heard_counts.get(number, 0) + len(found)
-        for round_of_all in itertools.zip_longest(*said):
-            for item in round_of_all:
-                if item is not None:
-                    put(item[1], item[0])
+        """Puts a line of each station after one of each other."""
+        batch = self.exchange.batch
+        while said := [(number, lines) for number, lines in said if lines]:
+            shortest = min([len(lines) for _, lines in said])
+            numbers = [number for number, _ in said]
+            for number in numbers:
+                batch.heard[number] = batch.heard.get(number, 0) + shortest
+            for round_of_all in zip(*[lines for _, lines in said]):
+                batch.lines += round_of_all
+                batch.owners += numbers
+            said = [(number, lines[shortest:]) for number, lines in said]
 
     def settle(self, station):
-        """What becomes of a station that had its turn."""
+        """What becomes of a station that had its turn; whether it goes on."""
         link = station.link
-        del self.eager[station]
-        if link.why is not None:
-            self.lose(station, link.why)
-        elif link.has_restarted:
-            self.begin_anew(station)
-        elif link.readable or link.has_more:
-            self.eager[station] = True
+        goes_on = link.why is None and not link.has_restarted and (link.readable or link.has_more)
+        if not goes_on:
+            del self.eager[station]
+            if link.why is not None:
+                self.lose(station, link.why)
+            elif link.has_restarted:
+                self.begin_anew(station)
+        return goes_on
 
     def wake_for(self, paced, now):
         """Comes back when the first of those that were too fast may go on."""

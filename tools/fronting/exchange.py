@@ -55,13 +55,6 @@ class Exchange:
         """A line for the MME, and the station that it is a message of."""
         self.batch.add(line, station)
 
-    def put_heard(self, station, lines):
-        """What a station sent."""
-        for number, line in lines:
-            self.batch.add(line, number)
-        heard = self.batch.heard
-        heard[station] = heard.get(station, 0) + len(lines)
-
     def part(self, after=None):
         """Ends the batch; `after` is called once all before it is answered."""
         if self.batch.lines:

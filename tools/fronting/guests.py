@@ -68,7 +68,7 @@ class Guest:
         if self.is_last and not self.waiting:
             self.close()
             return
-        if len(self.waiting) > limits.MOST_WAITING * 16:
+        if len(self.waiting) > limits.MOST_TOLD:
             self.close()
             return
         self.loop.change(self.connection.fileno(), select.EPOLLIN | (select.EPOLLOUT if self.waiting else 0))

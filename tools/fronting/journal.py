@@ -24,16 +24,17 @@ class Batch:
     """Lines that the MME is given together, and what is known of the answers. `heard` has how many messages came from each
     station, `errors` how many of them were answered by an ERROR INDICATION to the station alone."""
 
-    __slots__ = ("lines", "owners", "heard", "errors", "given", "after", "place", "time", "answers")
+    __slots__ = ("lines", "owners", "heard", "errors", "given", "after", "place", "time", "answers", "has_ticks")
 
     def __init__(self):
-        self.lines, self.owners, self.heard, self.errors = [], [], {}, {}
+        self.lines, self.owners, self.heard, self.errors, self.has_ticks = [], [], {}, {}, False
         self.given, self.after, self.place, self.time, self.answers = 0.0, [], None, None, 0
 
     def add(self, line, station=None):
         """A line, and the station that it is a message of."""
         self.lines.append(line)
         self.owners.append(station)
+        self.has_ticks = self.has_ticks or line.startswith("tick ")
 
     def counting(self):
         """The lines that count: all but those of stations whose every message was answered by an ERROR INDICATION."""
@@ -80,20 +81,29 @@ class Journal:
     def settle(self, batch):
         """What an answered batch has that counts waits to be written."""
         self.until = batch.place
-        lines, has_time = batch.counting(), False
+        lines = batch.counting()
+        if batch.has_ticks:
+            self.settle_with_ticks(lines, batch.time)
+        elif lines:
+            self.write_ticks()
+            self.keep(TIME % batch.time, *lines)
+
+    def settle_with_ticks(self, lines, time_of_day):
+        """Of lines with ticks among them: those in a row are counted, and the time of day stands before the first other line."""
+        has_time = False
         for line in lines:
             if line.startswith("tick "):
                 self.ticks += int(line[5:])
                 continue
             self.write_ticks()
             if not has_time:
-                self.keep(TIME % batch.time)
+                self.keep(TIME % time_of_day)
                 has_time = True
             self.keep(line)
 
-    def keep(self, line):
-        self.settled.append(line)
-        self.octets += len(line) + 1
+    def keep(self, *lines):
+        self.settled += lines
+        self.octets += sum(map(len, lines)) + len(lines)
 
     def write_ticks(self):
         """Seconds in which nothing else happened are one line."""

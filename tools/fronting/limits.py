@@ -35,6 +35,7 @@ MOST_ASKING = 16  # connections to the control socket at a time
 ASKING_SECONDS = 60  # for one of them to say a whole line, and to read its answer
 GIVING_SECONDS = 120  # for the second MME to play the log
 HOLD_SECONDS = 5  # that the stations wait while it plays the rest
+MOST_TOLD = 1 << 24  # octets that wait for one who asks, here or for the page, to read
 MOST_BROWSING, BROWSING_SECONDS, LONGEST_REQUEST = 32, 10, 8192  # connections for metrics and the page, each one's time and octets
 
 PAGE = os.sysconf("SC_PAGE_SIZE")

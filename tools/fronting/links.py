@@ -10,14 +10,14 @@ ENDED, CUT = "it ended the connection", "it ended within a message"
 
 
 class Link:
-    """A connection that doesn't block. `readable` and `writable` say whether it is worth a try; epoll sets them again. `why` says
-    why it has ended, once it has."""
+    """A connection that doesn't block. `readable` and `writable` say whether it is worth a try; epoll sets them again, and
+    `is_ending` once the other side sends no more. `why` says why it has ended, once it has."""
 
     def __init__(self, connection):
         self.connection, self.why = connection, None
         connection.setblocking(False)
         self.readable = self.writable = True
-        self.has_more = self.has_restarted = False  # whether more messages were read than were taken
+        self.has_more = self.has_restarted = self.is_ending = False  # whether more messages were read than were taken
         self.waiting, self.size = collections.deque(), 0  # messages to be sent, and their octets
         self.half_since = None  # when a message began that isn't whole
 
@@ -41,12 +41,12 @@ class TcpLink(Link):
 
     def __init__(self, connection):
         super().__init__(connection)
-        self.received, self.rest, self.last = b"", b"", None
+        self.received, self.last = b"", None
         connection.setsockopt(socket.IPPROTO_TCP, socket.TCP_NODELAY, 1)
         connection.setsockopt(socket.SOL_SOCKET, socket.SO_KEEPALIVE, 1)
 
     def read(self):
-        """Reads once."""
+        """Reads once. A piece that is shorter than it might be is all that there is, unless the end stands behind it (epoll(7))."""
         try:
             piece = self.connection.recv(limits.PIECE)
         except BlockingIOError:
@@ -55,21 +55,24 @@ class TcpLink(Link):
             self.last, self.readable = told(fault), False
         else:
             self.received += piece
+            self.readable = self.is_ending or len(piece) == limits.PIECE
             if not piece:
                 self.last, self.readable = ENDED, False
 
     def whole(self, most, most_octets):
         """Takes messages out of what was received: so many at the most, and none after so many octets."""
         received, at, messages, prefix = self.received, 0, [], limits.LENGTH_OCTETS
-        while len(messages) < most and at < most_octets and len(received) - at >= prefix:
-            end = at + prefix + (received[at] << 8 | received[at + 1])
-            if end - at - prefix > limits.LONGEST_MESSAGE:
-                self.end("a message of %d octets" % (end - at - prefix))
+        last = len(received) - prefix
+        while most and at < most_octets and at <= last:
+            length = received[at] << 8 | received[at + 1]
+            end = at + prefix + length
+            if length > limits.LONGEST_MESSAGE:
+                self.end("a message of %d octets" % length)
                 break
-            if end > len(received):
+            if at + length > last:
                 break
             messages.append(received[at + prefix:end])
-            at = end
+            at, most = end, most - 1
         if at:
             self.received, self.half_since = received[at:], None
         return messages
@@ -78,14 +81,15 @@ class TcpLink(Link):
         """The next messages: so many at the most, and none after so many octets."""
         messages, octets = [], 0
         while len(messages) < most and octets < most_octets:
-            found = self.whole(most - len(messages), most_octets - octets)
-            messages += found
-            octets += sum(map(len, found))
-            if not found and not self.readable:
+            found = self.whole(most - len(messages), most_octets - octets) if self.received else ()
+            if found:
+                messages += found
+                octets += sum(map(len, found))
+            elif self.readable:
+                self.read()
+            else:
                 self.come_to_an_end()
                 return messages
-            if not found:
-                self.read()
         self.has_more = True
         return messages
 
@@ -97,21 +101,25 @@ class TcpLink(Link):
         if self.received and self.half_since is None:
             self.half_since = time.monotonic()
 
+    def put(self, octets):
+        """Puts a message after those that wait, with its length before it."""
+        self.waiting.append(len(octets).to_bytes(limits.LENGTH_OCTETS, "big") + octets)
+        self.size += limits.LENGTH_OCTETS + len(octets)
+
     def flush(self):
         """Sends what waits, as far as it goes."""
-        while self.writable and (self.waiting or self.rest):
-            prefix = limits.LENGTH_OCTETS
-            whole = self.rest + b"".join([len(octets).to_bytes(prefix, "big") + octets for octets in self.waiting])
+        while self.writable and self.waiting:
+            whole, sent = b"".join(self.waiting), 0
             self.waiting.clear()
-            sent = 0
             try:
                 sent = self.connection.send(whole)
             except BlockingIOError:
                 self.writable = False
             except OSError as fault:
                 self.end(told(fault))
-            self.rest = whole[sent:]
-            self.size = len(self.rest)
+            self.size = len(whole) - sent
+            if self.size:
+                self.waiting.append(whole[sent:])
 
 
 class SctpLink(Link):

@@ -6,11 +6,16 @@ class Pace:
     """Lets so many pass in a second; after a second of rest, as many at once."""
 
     def __init__(self, rate):
-        self.apart, self.passed = 1 / rate, -math.inf
+        self.rate, self.apart, self.passed = rate, 1 / rate, -math.inf
 
     def allows(self, now):
         """How many may pass now."""
-        return max(0, int((now - max(self.passed, now - 1)) / self.apart + 1e-9))
+        rested = now - self.passed
+        return self.rate if rested >= 1 else max(0, int(rested / self.apart + 1e-9))
+
+    def is_open(self, now):
+        """Whether one may pass now."""
+        return (now - self.passed) / self.apart + 1e-9 >= 1
 
     def take(self, count, now):
         """Lets so many pass."""

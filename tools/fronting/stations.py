@@ -6,11 +6,13 @@ import runs
 
 
 def heard(number, octets):
-    """The lines of a message that a station sent: what is handed on for it, after a comment of what came where that differs."""
+    """The line of a message that a station sent: what is handed on for it, after a line of comment with what came where that
+    differs."""
     plain = hearing.plain(octets)
     if plain is None:
-        return ["in %d %s" % (number, octets.hex() or "-")]
-    return [("# came protected: in %d %s" % (number, octets.hex()))[:runs.LONGEST_LINE], "in %d %s" % (number, plain.hex())]
+        return "in %d %s" % (number, octets.hex() or "-")
+    came = "# came protected: in %d %s" % (number, octets.hex())
+    return "%s\nin %d %s" % (came[:runs.LONGEST_LINE], number, plain.hex())
 
 
 class Station:
@@ -28,7 +30,7 @@ class Station:
 
     def allows(self, now):
         """How many messages it may say now."""
-        return self.pace.allows(now) if self.octet_pace.allows(now) > 0 else 0
+        return self.pace.allows(now) if self.octet_pace.is_open(now) else 0
 
     def next(self):
         """When it may say one, where it may say none now."""
@@ -36,7 +38,7 @@ class Station:
 
     def take(self, most, most_octets, now):
         """What it says: so many messages at the most, and none after so many octets."""
-        messages = self.link.take(min(most, self.pace.allows(now)), most_octets)
+        messages = self.link.take(most, most_octets)
         if messages:
             self.pace.take(len(messages), now)
             self.octet_pace.take(sum(map(len, messages)), now)

@@ -67,7 +67,8 @@ IsIndexEntry s = s.id < 2 ^ 32
 -- the id of the first entry of a group whose id is at least the number
 abbrev pub first_indexed : ℕ → ℕ → List IndexEntry → Option ℕ
 first_indexed b n [] = None
-first_indexed b n (s ∷ ss) = if s.group == b then (if nat_le n s.id then Some s.id else first_indexed b n ss) else first_indexed b n ss
+first_indexed b n (s ∷ ss) =
+    if s.group == b then (if nat_le n s.id then Some s.id else first_indexed b n ss) else first_indexed b n ss
 
 -- the first entry of a group whose id is at least the number
 abbrev pub first_from : (Association → ℕ) → ℕ → ℕ → List Association → Option Association

@@ -235,8 +235,8 @@ impl Associations {
     {
         // (that the entries stand by rising id)
         let _ = &self.by_id;
-        let gathered = gathered(self.alloc, self, station, items)?;
-        gathered.items(self.alloc)
+        let meant = gathered(self.alloc, self, station, items)?;
+        meant.items(self.alloc)
     }
 
     /// Closes all associations of a station. Takes no memory.

@@ -1,8 +1,8 @@
 //! Where the phone of each slot is, and which slots an event of a station concerns (TS 36.413 clauses 8.7.1 and 8.7.3).
 //!
 //! The connections are associations by their ids, so that those of a station and those that a list means are found by look-ups,
-//! and none is looked at that isn't concerned; beside them is a list of the slots for which a paging is to be sent again. Room is made
-//! before a change: a phone that comes, moves or goes takes no memory.
+//! and none is looked at that isn't concerned; beside them is a list of the slots for which a paging is to be sent again. Room is
+//! made before a change: a phone that comes, moves or goes takes no memory.
 #![tactic(auto)]
 
 mod items;

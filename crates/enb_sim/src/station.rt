@@ -138,8 +138,8 @@ impl Station {
         Ok(octets)
     }
 
-    /// Does an act: the octets to send, or `None` where it can't be done, whatever memory there is, or its message would be too long.
-    /// Refused for want of memory alone, and the station is then as it was.
+    /// Does an act: the octets to send, or `None` where it can't be done, whatever memory there is, or its message would be too
+    /// long. Refused for want of memory alone, and the station is then as it was.
     #[tactic(auto, unfolding(crate::specs::View::act_octets, crate::specs::View::can_act))]
     pub fn act(&mut self, act: &StationAct<'_>) -> Sent
         ensures octets { IfOk result (λ o. option_map (λ v. v.items) o ≡ act_octets act.now self.old) }

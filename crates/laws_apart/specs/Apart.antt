@@ -56,8 +56,8 @@ StaysApart =
 -- no two slots have one id
 abbrev pub NoTwoShare : Type 0
 NoTwoShare =
-    (ks : List Known) (ws : List SubscriberView) (slot other : ℕ) (k l : Connection) → IdsApart ks ws → Has ws slot k → Has ws other l
-    → k.id ≡ l.id → slot ≡ other
+    (ks : List Known) (ws : List SubscriberView) (slot other : ℕ) (k l : Connection) → IdsApart ks ws → Has ws slot k
+    → Has ws other l → k.id ≡ l.id → slot ≡ other
 
 -- and none has that of a stranger that waits
 abbrev pub NoneHasWaiting : Type 0

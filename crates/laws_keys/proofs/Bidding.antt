@@ -1,6 +1,6 @@
 -- The capability that SECURITY MODE COMMAND replays is that of the last ATTACH REQUEST.
-use Rattle.std.proofs.Common.{◌≡◌, ◌⊎◌, ◌<◌, ℕ, ◌+◌, Bool, true, false, cond, inl, inr, List, [], ◌∷◌, ◌++◌, All, filter, flat_map, Option, Some, None, Ok, refl, sym, ◌∙◌, ap, subst, append-nil, true≢false, arith}
-use Rattle.std.specs.Prelude.{get_or, length, slice_get}
+use Rattle.std.proofs.Common.{◌≡◌, ◌⊎◌, ℕ, Bool, true, false, cond, inl, inr, List, [], ◌∷◌, ◌++◌, All, filter, Option, Some, None, Ok, refl, sym, ◌∙◌, ap, subst, append-nil, true≢false}
+use Rattle.std.specs.Prelude.{get_or}
 use Rattle.std.proofs.lemmas.List.{append_assoc}
 use Rattle.std.proofs.lemmas.List.Elements.{All-cons, All-nil, All-push}
 use Rattle.std.proofs.lemmas.Result.{IfOk-at_ok}
@@ -9,32 +9,30 @@ use Rattle.s1ap_pdus.specs.declared.pdu.Pdu.{Pdu}
 use Rattle.s1ap_pdus.specs.Pdus.{decoded, encoded}
 use Rattle.nas_messages.specs.declared.protection.SecurityHeader.{SecurityHeader}
 use Rattle.nas_messages.specs.declared.protection.SecurityHeader.TheVariants.{IntegrityProtected, IntegrityProtectedCiphered, NewContext, NewContextCiphered}
-use Rattle.nas_messages.specs.Protection.{protected_form}
 use Rattle.nas_security.specs.Protecting.{protected_by}
 use Rattle.mme_types.specs.declared.octets.Answer.{Answer}
 use Rattle.mme_types.specs.declared.octets.Mark.{Mark}
-use Rattle.mme_types.specs.Events.{Item, Nothing, Initial, Claim, Message, Displaced, StationGone, ConnectionsGone, Tick, Data, Cancel}
+use Rattle.mme_types.specs.Events.{Item, Message}
 use Rattle.mme_signalling.specs.Messages.{security_mode_command}
-use Rattle.emm_state.specs.declared.draft.Draft.{Draft}
 use Rattle.emm_state.specs.declared.draft.Sealed.{Sealed}
 use Rattle.emm_state.specs.declared.setting.Setting.{Setting}
 use Rattle.emm_state.specs.declared.solo.Context.{Context}
 use Rattle.emm_state.specs.declared.solo.Phase.{Phase}
-use Rattle.emm_state.specs.declared.solo.Phase.TheVariants.{Deregistered, Authenticating, SecurityMode, EsmInformation, Accepting, Updating, Registered, Detaching}
-use Rattle.emm_state.specs.declared.solo.Protection.TheVariants.{Plain, Under}
+use Rattle.emm_state.specs.declared.solo.Phase.TheVariants.{Deregistered, Authenticating, SecurityMode}
+use Rattle.emm_state.specs.declared.solo.Protection.TheVariants.{Under}
 use Rattle.emm_state.specs.declared.solo.Repeat.{Repeat}
 use Rattle.emm_state.specs.declared.solo.Repeat.TheVariants as repeats
 use Rattle.emm_state.specs.declared.solo.Solo.{Solo}
 use Rattle.emm_state.specs.Actions.{mac_of}
 use Rattle.emm_machine.specs.Connected.{struck}
-use Rattle.emm_machine.specs.Steps.{solo_after, solo_answers, solo_step}
+use Rattle.emm_machine.specs.Steps.{solo_after, solo_step}
 use Rattle.laws_admission.specs.Marked.{AreFormsUnder, IsMarked, SendsMarked, nas_within, protected_within}
 use Rattle.laws_admission.specs.Proof.{uplink_nas}
-use Rattle.laws_admission.specs.Sound.{IsSound, StaysSound, has_security_header}
+use Rattle.laws_admission.specs.Sound.{StaysSound, has_security_header}
 use Rattle.laws_admission.specs.Unproved.{begins_attach}
-use Rattle.laws_steps.specs.Attaches.{IsForgotten, attach_leaves}
-use Rattle.laws_steps.specs.Holds.{Any, IsHeld, IsSealed, KeepsState, Says, sent_holds, state_holds, step_holds}
-use Rattle.laws_steps.specs.Keeps.{AsksForSecurity, AsksToAttach, FailsToSynchronise, MayAwait, MayChallenge, MayProtect, is_under_way}
+use Rattle.laws_steps.specs.Attaches.{attach_leaves}
+use Rattle.laws_steps.specs.Holds.{Any, IsSealed, KeepsState, Says, sent_holds, state_holds, step_holds}
+use Rattle.laws_steps.specs.Keeps.{AsksToAttach, MayAwait, MayChallenge, MayProtect, is_under_way}
 use Rattle.laws_keys.specs.Bidding.{CommandsReplay, IsAskedWith, Replays, ReplaysIfCommand, has_new_context_header}
 use Rattle.laws_keys.proofs.Wire.{ciphered_is_not_new, in_downlink, in_setup_with, in_use_is_not_new, of_one, plain_is_not_new, protected_is_not_new}
 
@@ -155,7 +153,7 @@ module _ (written : (m : Pdu (List ℕ)) (os : List ℕ) → encoded m ≡ Some 
     turned = λ m from h octets is mark under. absurd (unmarked mark under);
     indication = λ station message from may octets is mark under. absurd (unmarked mark under);
     acknowledged = λ m c x from has h octets is mark under. absurd (unmarked mark under);
-    page = λ t es x may h k d lt octets is mark under. absurd (unmarked mark under);
+    page = λ t es x may given h k d lt octets is mark under. absurd (unmarked mark under);
   }
 
 -- ---- a step at an item that asks for no attach
@@ -183,11 +181,11 @@ module _ (s : Setting) (solo : Solo) (item : Item) (C : List ℕ → Type 0)
     wiped = λ x g. record { challenged = λ is. absurd (cc is); command = λ nas is. never nas is };
     ended = λ x g. record { challenged = g.challenged; command = λ nas is. never nas is };
     registers = λ reachable x g. record { challenged = λ is. absurd (cc is); command = λ nas is. never nas is };
-    updates = λ tai initial x g. record { challenged = λ is. absurd (cc is); command = λ nas is. never nas is };
+    updates = λ tai initial x from g. record { challenged = λ is. absurd (cc is); command = λ nas is. never nas is };
     moves_on = λ phase x under g. record { challenged = λ is. absurd (under_way phase under is); command = g.command };
-    tmsi = λ x g. record { challenged = g.challenged; command = g.command };
-    bears = λ bearer x g. record { challenged = g.challenged; command = g.command };
-    asks = λ combined capability tai x asks phase repeat g. record {
+    tmsi = λ x on g. record { challenged = g.challenged; command = g.command };
+    bears = λ bearer x may g. record { challenged = g.challenged; command = g.command };
+    asks = λ combined capability tai x asks from phase repeat g. record {
       challenged = λ is. asked capability asks;
       command = λ nas is. never nas (sym repeat ∙ is);
     };
@@ -235,18 +233,18 @@ more_asked items item x none h = record {
 -- ---- one step
 
 -- an item that asks for an attach begins anew
-forgotten_stands : (C : List ℕ → Type 0) (x : Solo) → IsForgotten x → Stands C x
+forgotten_stands : (C : List ℕ → Type 0) (x : Solo) → x.phase ≡ Deregistered → x.repeat ≡ None → Stands C x
 unfolding is_challenged
-forgotten_stands C x f = record {
-  challenged = λ is. absurd (let none : false ≡ true = ap is_challenged (sym f.phase) ∙ is in cc none);
-  command = λ nas is. absurd (let none : ◌≡◌ {A = Option Repeat} None (Some (repeats.Nas (Under NewContext) nas)) = sym f.repeat ∙ is in cc none);
+forgotten_stands C x phase repeat = record {
+  challenged = λ is. absurd (let none : false ≡ true = ap is_challenged (sym phase) ∙ is in cc none);
+  command = λ nas is. absurd (let none : ◌≡◌ {A = Option Repeat} None (Some (repeats.Nas (Under NewContext) nas)) = sym repeat ∙ is in cc none);
 }
 
 step_stands_by : (b : Bool) (s : Setting) (solo : Solo) (items : List Item) (item : Item) → begins_attach item ≡ b
     → Stands (IsAskedWith items) solo → Stands (IsAskedWith (items ++ item ∷ [])) (solo_step s solo item).solo
 unfolding is_challenged
 step_stands_by true s solo items item begins h = elim (attach_leaves s solo item begins) [
-  | inl forgotten ↦ forgotten_stands _ _ forgotten
+  | inl forgotten ↦ forgotten_stands _ _ forgotten.phase forgotten.repeat
   | inr taken ↦ record {
     challenged = λ is. subst (IsAskedWith (items ++ item ∷ [])) (sym taken.challenged.asked) (asked_now items item taken.capability taken.asks);
     command = λ nas is. absurd (let other = sym taken.challenged.repeat ∙ is in cc other);
@@ -336,7 +334,7 @@ module _ (written : (m : Pdu (List ℕ)) (os : List ℕ) → encoded m ≡ Some 
   pub commands_replay : StaysSound → SendsMarked → CommandsReplay
   unfolding is_challenged
   commands_replay sound marked s solo items item h phase repeat =
-      let start : Stands (IsAskedWith []) solo = forgotten_stands (IsAskedWith []) solo (record { phase = phase; repeat = repeat }) in
+      let start : Stands (IsAskedWith []) solo = forgotten_stands (IsAskedWith []) solo phase repeat in
       let now = solo_after s solo items in
       let said = step_replays_by (begins_attach item) s now items item refl (stands_along s [] solo items start) in
       let forms : All (IsMarked s.vectors) (solo_step s now item).sent =

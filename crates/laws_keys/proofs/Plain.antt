@@ -1,29 +1,26 @@
 -- Nothing plain is sent to a phone that is registered.
-use Rattle.std.proofs.Common.{◌≡◌, ◌⊎◌, ℕ, Bool, true, false, inl, inr, List, [], ◌∷◌, All, Option, Some, None, Ok, refl, sym, ◌∙◌, ap, subst, true≢false}
+use Rattle.std.proofs.Common.{◌≡◌, ◌⊎◌, ℕ, true, false, inl, inr, List, [], ◌∷◌, All, Option, Some, None, Ok, refl, sym, ◌∙◌, ap, true≢false}
 use Rattle.s1ap_pdus.specs.declared.pdu.Pdu.{Pdu}
 use Rattle.s1ap_pdus.specs.Pdus.{decoded, encoded}
 use Rattle.nas_messages.specs.declared.protection.SecurityHeader.{SecurityHeader}
-use Rattle.nas_security.specs.Protecting.{protected_by}
-use Rattle.mme_types.specs.declared.octets.Answer.{Answer}
-use Rattle.mme_types.specs.Events.{Item, Message}
+use Rattle.mme_types.specs.Events.{Item}
 use Rattle.emm_state.specs.declared.draft.Sealed.{Sealed}
 use Rattle.emm_state.specs.declared.setting.Setting.{Setting}
 use Rattle.emm_state.specs.declared.solo.Context.{Context}
 use Rattle.emm_state.specs.declared.solo.Phase.{Phase}
-use Rattle.emm_state.specs.declared.solo.Phase.TheVariants.{Deregistered, Authenticating, SecurityMode, EsmInformation, Accepting, Updating, Registered, Detaching}
+use Rattle.emm_state.specs.declared.solo.Phase.TheVariants.{Deregistered, Authenticating, Updating, Registered}
 use Rattle.emm_state.specs.declared.solo.Protection.TheVariants.{Plain}
 use Rattle.emm_state.specs.declared.solo.Repeat.{Repeat}
 use Rattle.emm_state.specs.declared.solo.Repeat.TheVariants as repeats
 use Rattle.emm_state.specs.declared.solo.Solo.{Solo}
 use Rattle.emm_state.specs.Actions.{is_registered, mac_of}
 use Rattle.emm_machine.specs.Connected.{struck}
-use Rattle.emm_machine.specs.Steps.{solo_after, solo_step}
-use Rattle.laws_admission.specs.Marked.{nas_within}
+use Rattle.emm_machine.specs.Steps.{solo_step}
 use Rattle.laws_admission.specs.Sound.{has_security_header}
 use Rattle.laws_admission.specs.Unproved.{begins_attach}
 use Rattle.laws_steps.specs.Holds.{Any, IsSealed, KeepsState, Says, sent_holds, state_holds}
 use Rattle.laws_steps.specs.Keeps.{MayChallenge, MaySend, is_open, is_under_way}
-use Rattle.laws_keys.specs.Plain.{IsProtectedOrRefusal, IsRefusal, NothingPlainIsSent, RepeatsNothingPlain, StaysWithoutPlain}
+use Rattle.laws_keys.specs.Plain.{IsProtectedOrRefusal, NothingPlainIsSent, RepeatsNothingPlain, StaysWithoutPlain}
 use Rattle.laws_keys.proofs.Wire.{form_has_header, in_acknowledge, in_downlink, in_indication, in_paging, in_release, in_setup, in_setup_with, of_none, of_one, same_message}
 
 -- ---- what is to be sent again
@@ -52,11 +49,11 @@ without s solo item = record {
   wiped = λ x h. record { none = λ is nas at. absurd (cc at) };
   ended = λ x h. record { none = λ is nas at. absurd (cc at) };
   registers = λ reachable x h. record { none = λ is nas at. absurd (cc at) };
-  updates = λ tai initial x h. record { none = λ is nas at. absurd (cc at) };
+  updates = λ tai initial x from h. record { none = λ is nas at. absurd (cc at) };
   moves_on = λ phase x under h. record { none = λ is nas at. under_way phase under is };
-  tmsi = λ x h. record { none = h.none };
-  bears = λ bearer x h. record { none = h.none };
-  asks = λ combined capability tai x asked phase repeat h. record { none = h.none };
+  tmsi = λ x on h. record { none = h.none };
+  bears = λ bearer x may h. record { none = h.none };
+  asks = λ combined capability tai x asked from phase repeat h. record { none = h.none };
   challenges = λ v procedure x there may h. record { none = λ is nas at. absurd (cc is) };
   secures = λ c phase h. record { none = λ is nas at. absurd (cc is) };
   awaits = λ header nas procedure c x may h. record { none = λ is other at. absurd (cc at) };
@@ -127,7 +124,7 @@ module _ (written : (m : Pdu (List ℕ)) (os : List ℕ) → encoded m ≡ Some 
         inl (of_none written IsProtected _ m octets is reads (in_indication message may));
     acknowledged = λ m c x from has h octets is message reads.
         inl (of_none written IsProtected _ message octets is reads (in_acknowledge _ _ _));
-    page = λ t es x may h i d lt octets is m reads. inl (of_none written IsProtected _ m octets is reads (in_paging s.network s.profile.imsi t x.tai));
+    page = λ t es x may given h i d lt octets is m reads. inl (of_none written IsProtected _ m octets is reads (in_paging s.network s.profile.imsi t x.tai));
   }
 
   sent_protected : All (IsProtectedOrRefusal s solo item) (solo_step s solo item).sent

@@ -1,6 +1,5 @@
 -- What is in the octets of what is sent: NAS messages, and the header of each.
-use Rattle.std.proofs.Common.{◌≡◌, ◌⊎◌, ℕ, ◌==◌, Bool, true, false, cond, inl, inr, List, [], ◌∷◌, All, filter, Option, Some, None, Result, Ok, refl, sym, ◌∙◌, ap, subst, true≢false, arith}
-use Rattle.std.specs.Prelude.{slice_index}
+use Rattle.std.proofs.Common.{◌≡◌, ℕ, ◌==◌, true, false, inl, inr, List, [], ◌∷◌, All, Some, None, Ok, refl, sym, ◌∙◌, ap, subst, true≢false, arith}
 use Rattle.std.proofs.lemmas.List.Elements.{All-cons, All-nil}
 use Rattle.std.proofs.lemmas.Bool.Decides.{nat_tests}
 use Rattle.std.proofs.lemmas.Result.{IfOk-at_ok}

@@ -1,5 +1,5 @@
 -- Nothing plain to a phone that is registered (TS 24.301 clause 4.4.4.2).
-use Rattle.std.specs.Prelude.{◌≡◌, ◌⊎◌, ℕ, true, false, List, [], All, Option, Some, None, Ok}
+use Rattle.std.specs.Prelude.{◌≡◌, ◌⊎◌, ℕ, true, false, List, [], All, Some, Ok}
 use Rattle.s1ap_pdus.specs.declared.pdu.Pdu.{Pdu}
 use Rattle.s1ap_pdus.specs.Pdus.{decoded}
 use Rattle.mme_types.specs.declared.octets.Answer.{Answer}

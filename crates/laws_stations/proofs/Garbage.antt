@@ -1,6 +1,5 @@
 -- Garbage: the MME stays, and one message at most is sent, to its station.
 use Rattle.std.proofs.Common.{◌≡◌, ◌≤◌, ℕ, ◌+◌, suc, List, [], ◌∷◌, ◌++◌, length, map, All, Option, Some, None, Result, Ok, Err, refl, sym, ◌∙◌, ap, subst, append-nil, arith}
-use Rattle.std.specs.Prelude.{unwrap_or}
 use Rattle.std.specs.Borrow.{Bor}
 use Rattle.std.proofs.lemmas.List.{set-get_or}
 use Rattle.std.proofs.lemmas.List.Elements.{All-push}
@@ -13,7 +12,7 @@ use Rattle.mme_types.specs.declared.octets.Answer.{Answer}
 use Rattle.mme_types.specs.declared.stations.StationState.{StationState}
 use Rattle.mme_types.specs.declared.stations.StationState.TheVariants.{Down}
 use Rattle.mme_types.specs.Answers.{answer_of}
-use Rattle.mme_types.specs.Events.{Item, Nothing}
+use Rattle.mme_types.specs.Events.{Nothing}
 use Rattle.mme_types.specs.Stations.{station_at}
 use Rattle.emm_state.specs.declared.draft.Draft.{Draft}
 use Rattle.emm_machine.specs.SubscriberView.{SubscriberView}
@@ -21,12 +20,10 @@ use Rattle.mme_routing.specs.Destinations.{item_at, strangers_behind}
 use Rattle.mme_routing.specs.Outcomes.{Outcome, answered, cause_of, indicated, indication, outcome_of}
 use Rattle.mme_answering.specs.Laws.{at_nothing, stays}
 use Rattle.mme_answering.specs.declared.out.Out.{Out}
-use Rattle.mme_answering.specs.declared.out.Owner.TheVariants.{Station}
-use Rattle.mme_core.specs.declared.event.Event.{Event}
 use Rattle.mme_core.specs.declared.event.Event.TheVariants.{In}
 use Rattle.mme_core.specs.declared.event.StepFault.{StepFault}
 use Rattle.mme_core.specs.World.{World, each_after, each_sent, event_fault, happens, outputs, placed, replies, reply, reply_of, slot_out, station_out, strangers_in, strangers_sent, unless, world_after, world_moved, world_run}
-use Rattle.laws_stations.specs.Garbage.{GarbageIsAsNothing, GarbageReachesNobody, IsAsWithout, IsForStation, IsGarbage, ReachesNobody}
+use Rattle.laws_stations.specs.Garbage.{GarbageIsAsNothing, GarbageReachesNobody, IsForStation, IsGarbage}
 
 -- ---- subscribers to whom nothing comes
 

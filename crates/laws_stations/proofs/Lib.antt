@@ -1,5 +1,1 @@
 mod Garbage
-mod Steps
-mod Turning
-mod Routing
-mod Worlds

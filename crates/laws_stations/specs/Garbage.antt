@@ -1,5 +1,5 @@
 -- Octets that are no S1AP message of the profile: they change nothing, and nobody but their station is sent anything for them.
-use Rattle.std.specs.Prelude.{◌≡◌, ◌≤◌, ℕ, List, length, [], ◌∷◌, ◌++◌, All, Result, Ok}
+use Rattle.std.specs.Prelude.{◌≡◌, ◌≤◌, ℕ, List, length, ◌∷◌, ◌++◌, All, Result, Ok}
 use Rattle.std.specs.Borrow.{Bor}
 use Rattle.s1ap_pdus.specs.declared.pdu.Pdu.{Pdu}
 use Rattle.s1ap_pdus.specs.Pdus.{SpellsMessage}

@@ -1,37 +1,21 @@
 -- Vectors: which step spends one, and how many a run spends.
-use Rattle.std.proofs.Common.{◌≡◌, ◌≢◌, ◌⊎◌, ◌≤◌, ◌<◌, ℕ, ◌+◌, Bool, true, false, inl, inr, List, [], ◌∷◌, length, Option, Some, None, refl, sym, ◌∙◌, ap, subst, cond, true≢false, zero, suc, arith, le_refl}
-use Rattle.std.specs.Prelude.{◌==◌, ◌&&◌, ◌||◌, slice_get, unwrap_or}
-use Rattle.std.proofs.lemmas.Bool.{eqb-true}
-use Rattle.std.proofs.lemmas.Bool.Decides.{nat_tests}
-use Rattle.nas_elements.specs.Capability.{has_eia2}
-use Rattle.esm_machine.specs.declared.request.Requested.{Requested}
-use Rattle.esm_machine.specs.declared.request.Requested.TheVariants.{Unreadable, Refused, Taken}
-use Rattle.esm_machine.specs.Requests.{requested}
+use Rattle.std.proofs.Common.{◌≡◌, ◌⊎◌, ◌≤◌, ℕ, ◌+◌, Bool, true, false, inl, inr, List, [], ◌∷◌, length, Option, Some, refl, sym, ◌∙◌, ap, subst, cond, true≢false, zero, suc, arith, le_refl}
+use Rattle.std.specs.Prelude.{◌&&◌, ◌||◌, slice_get}
 use Rattle.identity_slots.specs.declared.profile.Vector.{Vector}
-use Rattle.s1ap_elements.specs.declared.phone.Tai.{Tai}
-use Rattle.mme_types.specs.declared.connection.Connection.{Connection}
-use Rattle.mme_types.specs.Events as events
 use Rattle.mme_types.specs.Events.{Item}
-use Rattle.mme_signalling.specs.declared.cause.EmmCause.{EmmCause}
-use Rattle.mme_signalling.specs.declared.heard.Heard.{Heard}
-use Rattle.mme_signalling.specs.declared.heard.Heard.TheVariants as heards
-use Rattle.mme_signalling.specs.Hearing.{heard, initial_octets}
-use Rattle.emm_state.specs.declared.draft.Draft.{Draft}
+use Rattle.mme_signalling.specs.Hearing.{heard}
 use Rattle.emm_state.specs.declared.setting.Setting.{Setting}
 use Rattle.emm_state.specs.declared.solo.Phase.{Phase}
-use Rattle.emm_state.specs.declared.solo.Phase.TheVariants.{Deregistered, Authenticating}
+use Rattle.emm_state.specs.declared.solo.Phase.TheVariants.{Authenticating}
 use Rattle.emm_state.specs.declared.solo.Solo.{Solo}
-use Rattle.emm_state.specs.Actions.{connect, connect_on, emit, release, send, start, untouched, wipe}
 use Rattle.emm_machine.specs.Attaching as attaching
-use Rattle.emm_machine.specs.Serving as serving
-use Rattle.emm_machine.specs.Steps.{row, solo_after, solo_step}
+use Rattle.emm_machine.specs.Steps.{solo_step}
 use Rattle.laws_admission.specs.Proof.{uplink_nas}
 use Rattle.laws_admission.specs.Unproved.{begins_attach}
 use Rattle.laws_steps.specs.Attaches.{attach_leaves}
-use Rattle.laws_steps.specs.Challenges.{AttachSpendsOne, SpendsNoMore, SpendsOne, VectorsAreSpentSo, VectorsOverRuns, challenges_asked, fails_to_synchronise, may_challenge, tells_synch_failure}
+use Rattle.laws_steps.specs.Challenges.{AttachSpendsOne, VectorsAreSpentSo, VectorsOverRuns, fails_to_synchronise, may_challenge, tells_synch_failure}
 use Rattle.laws_steps.specs.Holds.{KeepsState, state_holds}
-use Rattle.laws_steps.specs.Keeps.{AsksToAttach, FailsToSynchronise, MayChallenge}
-use Rattle.laws_steps.specs.Walk.{at_some, either, either_by}
+use Rattle.laws_steps.specs.Keeps.{FailsToSynchronise, MayChallenge}
 
 -- ---- what a challenge is taken for
 
@@ -89,11 +73,11 @@ spends s solo item = record {
   wiped = λ x h. same_next s solo item x _ refl h;
   ended = λ x h. same_next s solo item x _ refl h;
   registers = λ reachable x h. same_next s solo item x _ refl h;
-  updates = λ tai initial x h. same_next s solo item x _ refl h;
+  updates = λ tai initial x from h. same_next s solo item x _ refl h;
   moves_on = λ phase x under h. same_next s solo item x _ refl h;
-  tmsi = λ x h. same_next s solo item x _ refl h;
-  bears = λ bearer x h. same_next s solo item x _ refl h;
-  asks = λ combined capability tai x asked phase repeat h. same_next s solo item x _ refl h;
+  tmsi = λ x on h. same_next s solo item x _ refl h;
+  bears = λ bearer x may h. same_next s solo item x _ refl h;
+  asks = λ combined capability tai x asked from phase repeat h. same_next s solo item x _ refl h;
   challenges = λ v procedure x there may h. inr (record {
     asked = asked_so solo item x may;
     vector = v;

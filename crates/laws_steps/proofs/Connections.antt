@@ -1,13 +1,12 @@
 -- A connection stays but for those who can end it: item by item.
-use Rattle.std.proofs.Common.{◌≡◌, ◌⊎◌, ℕ, Bool, true, false, cond, not, inl, inr, List, Option, Some, None, Result, Ok, Err, unwrap_or, refl, sym, ◌∙◌, ap, subst}
+use Rattle.std.proofs.Common.{◌≡◌, ◌⊎◌, ℕ, Bool, true, false, not, inl, inr, List, Option, Some, None, Result, Ok, Err, unwrap_or, refl, sym, ◌∙◌, ap, subst}
 use Rattle.std.specs.Prelude.{◌==◌, ◌&&◌, is_ok}
 use Rattle.std.specs.Option.{option_map_or}
 use Rattle.std.proofs.lemmas.Bool.{eqb-true}
 use Rattle.std.proofs.lemmas.Option.{none-some, same_Some}
-use Rattle.s1ap_causes.specs.declared.cause.Cause.{Cause}
 use Rattle.s1ap_pdus.specs.declared.pdu.Pdu.{Pdu}
 use Rattle.nas_security.specs.declared.fault.SecurityFault.{SecurityFault}
-use Rattle.nas_security.specs.Accepting.{Acceptance, short_accepted}
+use Rattle.nas_security.specs.Accepting.{Acceptance}
 use Rattle.mme_types.specs.declared.connection.Connection.{Connection}
 use Rattle.mme_types.specs.declared.event.Entry.{Entry}
 use Rattle.mme_types.specs.declared.event.UeBody.{UeBody}
@@ -26,12 +25,11 @@ use Rattle.emm_state.specs.declared.solo.Context.{Context}
 use Rattle.emm_state.specs.declared.solo.Phase.{Phase}
 use Rattle.emm_state.specs.declared.solo.Phase.TheVariants.{Deregistered, Authenticating, SecurityMode, EsmInformation, Accepting, Updating, Registered, Detaching}
 use Rattle.emm_state.specs.declared.solo.Solo.{Solo}
-use Rattle.emm_state.specs.Actions.{association_counted, emit, is_registered, mac_of, refuse, start, turn_away, untouched}
+use Rattle.emm_state.specs.Actions.{association_counted, emit, is_registered, refuse, start, turn_away, untouched}
 use Rattle.emm_state.specs.Phases.{is}
 use Rattle.emm_machine.specs.Connected as connected
 use Rattle.emm_machine.specs.Idle as idle
 use Rattle.emm_machine.specs.Serving as serving
-use Rattle.emm_machine.specs.Serving.{accepted_by_context}
 use Rattle.emm_machine.specs.Steps as steps
 use Rattle.laws_admission.specs.Sound.{HasConnection, IsSound}
 use Rattle.laws_admission.specs.Unproved.{is_attach_request, is_proved_entry, is_proved_message}

@@ -1,6 +1,6 @@
 -- How many messages each action, each row and each step sends at most.
-use Rattle.std.proofs.Common.{◌≡◌, ◌≤◌, ℕ, zero, suc, ◌+◌, ◌-◌, Bool, true, false, cond, List, [], ◌∷◌, ◌++◌, length, max, Option, Some, None, Result, Ok, Err, slice_get, unwrap_or, refl, sym, ap, subst, arith}
-use Rattle.std.specs.Prelude.{◌==◌, ◌&&◌, ◌^◌, nat_lt, not}
+use Rattle.std.proofs.Common.{◌≡◌, ◌≤◌, ℕ, suc, ◌+◌, ◌-◌, Bool, true, false, cond, List, [], ◌∷◌, ◌++◌, length, max, Option, Some, None, Result, Ok, Err, slice_get, unwrap_or, refl, ap, subst, arith}
+use Rattle.std.specs.Prelude.{◌==◌, not}
 use Rattle.std.specs.Option.{option_map_or}
 use Rattle.std.proofs.lemmas.List.{length-append}
 use Rattle.std.proofs.lemmas.Option.{same_Some}
@@ -9,7 +9,6 @@ use Rattle.esm_machine.specs.declared.reaction.Reaction.TheVariants as reactions
 use Rattle.esm_machine.specs.declared.request.Requested.{Requested}
 use Rattle.esm_machine.specs.declared.request.Requested.TheVariants.{Unreadable, Refused, Taken}
 use Rattle.esm_machine.specs.Requests.{accepted_by}
-use Rattle.identity_slots.specs.declared.profile.Vector.{Vector}
 use Rattle.identity_slots.specs.Ids.{is_of_slot}
 use Rattle.nas_messages.specs.declared.protection.SecurityHeader.{SecurityHeader}
 use Rattle.nas_security.specs.declared.fault.SecurityFault.{SecurityFault}
@@ -21,7 +20,6 @@ use Rattle.s1ap_causes.specs.declared.cause.ProtocolCause.TheVariants as protoco
 use Rattle.s1ap_elements.specs.declared.phone.Tai.{Tai}
 use Rattle.s1ap_pdus.specs.declared.pdu.Pdu.{Pdu}
 use Rattle.s1ap_pdus.specs.Pdus.{encoded}
-use Rattle.mme_types.specs.declared.connection.Connection.{Connection}
 use Rattle.mme_types.specs.declared.event.Entry.{Entry}
 use Rattle.mme_types.specs.declared.event.UeBody.{UeBody}
 use Rattle.mme_types.specs.declared.event.UeBody.TheVariants as bodies
@@ -29,8 +27,8 @@ use Rattle.mme_types.specs.declared.event.UeMessage.{UeMessage}
 use Rattle.mme_types.specs.declared.octets.Mark.{Mark}
 use Rattle.mme_types.specs.declared.stations.StationState.{StationState}
 use Rattle.mme_types.specs.Answers.{answer_of}
-use Rattle.mme_types.specs.Events.{Item, Nothing, Initial, Claim, Message, Displaced, StationGone, ConnectionsGone, Tick, Data, Cancel}
-use Rattle.mme_types.specs.Listed.{ToReset, is_listed}
+use Rattle.mme_types.specs.Events.{Nothing, Initial, Claim, Message, Displaced, StationGone, ConnectionsGone, Tick, Data, Cancel}
+use Rattle.mme_types.specs.Listed.{ToReset}
 use Rattle.mme_signalling.specs.declared.cause.EmmCause.{EmmCause}
 use Rattle.mme_signalling.specs.declared.heard.Heard.{Heard}
 use Rattle.mme_signalling.specs.declared.heard.Heard.TheVariants as heards
@@ -49,7 +47,7 @@ use Rattle.emm_state.specs.declared.solo.Protection.TheVariants.{Plain, Under}
 use Rattle.emm_state.specs.declared.solo.Repeat.{Repeat}
 use Rattle.emm_state.specs.declared.solo.Repeat.TheVariants as repeats
 use Rattle.emm_state.specs.declared.solo.Solo.{Solo}
-use Rattle.emm_state.specs.Actions.{association_counted, connect, connect_on, disconnected, emit, ended, fall, fallen, is_at, is_registered, leave_old, lost, next_id, protect, protect_and_await, refuse, release, resting, seal, sealed_under, send, set_up, set_up_with, start, turn_away, untouched, wipe}
+use Rattle.emm_state.specs.Actions.{association_counted, connect, connect_on, disconnected, emit, ended, fall, fallen, is_at, is_registered, leave_old, lost, protect, protect_and_await, refuse, release, resting, seal, sealed_under, send, set_up, set_up_with, start, turn_away, untouched, wipe}
 use Rattle.emm_state.specs.Does.{◌>>=◌}
 use Rattle.emm_machine.specs.Attaching as attaching
 use Rattle.emm_machine.specs.Connected as connected

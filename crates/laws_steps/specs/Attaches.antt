@@ -1,9 +1,9 @@
 -- What an ATTACH REQUEST leaves, whoever sends it: the phone is refused and forgotten, or challenged by the next vector.
-use Rattle.std.proofs.Common.{◌≡◌, ◌⊎◌, ℕ, ◌+◌, Bool, true, false, inl, inr, List, Option, Some, None, refl, sym, ◌∙◌, ap, subst}
+use Rattle.std.proofs.Common.{◌≡◌, ◌⊎◌, ℕ, ◌+◌, Bool, true, inl, inr, List, Option, Some, None, refl, ◌∙◌, ap, subst}
 use Rattle.std.specs.Prelude.{slice_get, unwrap_or}
-use Rattle.std.specs.Option.{option_map_or}
 use Rattle.esm_machine.specs.declared.request.Requested.{Requested}
 use Rattle.esm_machine.specs.declared.request.Requested.TheVariants.{Unreadable, Refused, Taken}
+use Rattle.esm_machine.specs.Requests.{inactive}
 use Rattle.identity_slots.specs.declared.profile.Vector.{Vector}
 use Rattle.nas_elements.specs.Capability.{has_eia2}
 use Rattle.s1ap_elements.specs.declared.phone.Tai.{Tai}
@@ -35,6 +35,8 @@ use Rattle.laws_steps.specs.Walk.{at_some, connect_next, connect_on_next, either
 pub record IsForgotten (x : Solo) : Type 0 where
   pub phase : x.phase ≡ Deregistered
   pub repeat : x.repeat ≡ None
+  pub tmsi : x.tmsi ≡ None
+  pub bearer : x.bearer ≡ inactive
 
 -- it is challenged by the vector at this place, and what it asked with is kept
 pub record IsChallenged (s : Setting) (capability : List ℕ) (place : ℕ) (x : Solo) : Type 0 where
@@ -63,7 +65,7 @@ module _ (s : Setting) (capability : List ℕ) (place : ℕ) where
 
   refused_ends : (cause : EmmCause) (esm : Option (List ℕ)) (d : Draft) → Ends (attaching.attach_refused cause esm d)
   unfolding Ends attaching.attach_refused wipe
-  refused_ends cause esm d = inl (record { phase = refl; repeat = refl })
+  refused_ends cause esm d = inl (record { phase = refl; repeat = refl; tmsi = refl; bearer = refl })
 
   challenged_ends : (v : Vector) (d : Draft) → slice_get s.vectors d.solo.next_vector ≡ Some v → d.solo.next_vector ≡ place
       → d.solo.asked.capability ≡ capability → has_eia2 capability ≡ true → Ends (attaching.challenged v d)

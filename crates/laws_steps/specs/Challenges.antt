@@ -1,5 +1,5 @@
 -- What a challenge costs: a vector, which an ATTACH REQUEST or a synch failure takes, and nothing else (TS 33.401 clause 6.1.1).
-use Rattle.std.specs.Prelude.{◌≡◌, ◌≢◌, ◌⊎◌, ◌≤◌, ℕ, ◌+◌, ◌==◌, ◌&&◌, ◌||◌, Bool, true, false, if◌then◌else◌, List, [], ◌∷◌, length, slice_get, Option, Some, None}
+use Rattle.std.specs.Prelude.{◌≡◌, ◌≢◌, ◌⊎◌, ◌≤◌, ℕ, ◌+◌, ◌==◌, ◌&&◌, ◌||◌, Bool, true, false, if◌then◌else◌, List, [], ◌∷◌, length, slice_get, Option, Some}
 use Rattle.identity_slots.specs.declared.profile.Vector.{Vector}
 use Rattle.mme_types.specs.Events.{Item}
 use Rattle.mme_signalling.specs.declared.cause.EmmCause.TheVariants.{SynchFailure}

@@ -1,5 +1,5 @@
 -- Who can end or move a phone's connection (TS 36.413 clauses 8.3.3, 8.4.4, 8.6.2.1, 8.7.1).
-use Rattle.std.specs.Prelude.{◌≡◌, ◌⊎◌, ℕ, true, List, Option, Some, None}
+use Rattle.std.specs.Prelude.{◌≡◌, ◌⊎◌, true, Option, Some, None}
 use Rattle.mme_types.specs.declared.connection.Connection.{Connection}
 use Rattle.mme_types.specs.declared.event.UeBody.TheVariants.{PathSwitch}
 use Rattle.mme_types.specs.Events.{Item, Message, Displaced, StationGone, ConnectionsGone}

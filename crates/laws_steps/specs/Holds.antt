@@ -24,7 +24,7 @@ use Rattle.mme_types.specs.declared.octets.Answer.{Answer}
 use Rattle.mme_types.specs.declared.octets.Mark.{Mark}
 use Rattle.mme_types.specs.declared.stations.StationState.{StationState}
 use Rattle.mme_types.specs.Answers.{answer_of}
-use Rattle.mme_types.specs.Events.{Item, Initial, Claim, Message, StationGone, Data}
+use Rattle.mme_types.specs.Events.{Item, Initial, Claim, Message, StationGone, Tick, Data}
 use Rattle.mme_signalling.specs.Messages.{authentication_request}
 use Rattle.mme_signalling.specs.Pdus.{context_setup, downlink, paging, path_switch_acknowledge, release_command}
 use Rattle.emm_state.specs.declared.draft.Draft.{Draft}
@@ -37,7 +37,6 @@ use Rattle.emm_state.specs.declared.solo.NasTimer.TheVariants.{T3413, T3460}
 use Rattle.emm_state.specs.declared.solo.Phase.{Phase}
 use Rattle.emm_state.specs.declared.solo.Phase.TheVariants.{Deregistered, Authenticating, SecurityMode, Updating, Registered}
 use Rattle.emm_state.specs.declared.solo.Protection.TheVariants.{Plain, Under}
-use Rattle.emm_state.specs.declared.solo.Repeat.{Repeat}
 use Rattle.emm_state.specs.declared.solo.Repeat.TheVariants as repeats
 use Rattle.emm_state.specs.declared.solo.Solo.{Solo}
 use Rattle.emm_state.specs.Actions.{association_counted, connect, connect_on, disconnected, emit, ended, is_at, leave_old, mac_of, next_id, protect, protect_and_await, refuse, release, resting, seal, sealed_under, send, set_up, set_up_with, start, turn_away, untouched, wipe}
@@ -49,7 +48,7 @@ use Rattle.emm_machine.specs.Connected.{connection_of, hop_behind, hopped, next_
 use Rattle.emm_machine.specs.Idle.{emit_each, listening, lowered, may_page, page, paged, restarted}
 use Rattle.emm_machine.specs.Serving.{active, registered, updating}
 use Rattle.emm_machine.specs.Steps.{solo_step}
-use Rattle.laws_steps.specs.Keeps.{AsksToAttach, IsIndication, Keeps, MayAwait, MayChallenge, MayProtect, MaySend, PagesAgain, Whenever, is_under_way, station_of}
+use Rattle.laws_steps.specs.Keeps.{AsksToAttach, IsIndication, IsServed, Keeps, MayAwait, MayBear, MayChallenge, MayProtect, MaySend, PagesAgain, Whenever, is_under_way, number_of, station_of, tai_of}
 use Rattle.laws_steps.specs.Walk.{at_some, either, some, step_keeps}
 
 -- ---- what is sent
@@ -79,12 +78,25 @@ abbrev pub MayPage : Solo → Solo → Item → List ℕ → Type 0
 MayPage before now item es =
     ((stations : List StationState) × (item ≡ Data stations) × (es ≡ listening before.tai 0 stations) × (now ≡ before)
     × (may_page (untouched before) ≡ true))
-    ⊎ PagesAgain before now es
+    ⊎ ((item ≡ Tick) × PagesAgain before now es)
 
--- none, or one at the station where the item comes from
-abbrev pub MayConnect : Item → Option Connection → Type 0
-MayConnect item None = Unit {0}
-MayConnect item (Some k) = station_of item ≡ Some k.station
+-- the id of a connection that an item makes: one of the slot's own, that of the stranger who is claimed, or that of a path switch
+abbrev pub IsIdBy : Setting → Item → ℕ → Type 0
+IsIdBy s (Initial m) id = (counter : ℕ) × (id ≡ id_of_slot s.slot (next_counter counter))
+IsIdBy s (Claim n m) id = id ≡ n
+IsIdBy s (Message m) id = id ≡ m.mme_ue_id
+IsIdBy s _ id = ⊥
+
+-- a connection that an item makes, with the station and the number that it comes from
+pub record IsConnectedBy (s : Setting) (item : Item) (k : Connection) : Type 0 where
+  pub station : station_of item ≡ Some k.station
+  pub number : number_of item ≡ Some k.enb_ue_id
+  pub id : IsIdBy s item k.id
+
+-- none, or one that the item makes
+abbrev pub MayConnect : Setting → Item → Option Connection → Type 0
+MayConnect s item None = Unit {0}
+MayConnect s item (Some k) = IsConnectedBy s item k
 
 -- ---- action by action
 
@@ -114,13 +126,13 @@ pub record Says (s : Setting) (solo : Solo) (item : Item) (Q : Solo → Type 0) 
   pub acknowledged : (m : UeMessage (List ℕ)) (c : Context) (x : Solo) → item ≡ Message m → x.context ≡ Some c → Q x
       → Sends S m.station (path_switch_acknowledge (connection_of m) (hop_behind c) (next_chaining_count c.radio.chaining_count)) None
   -- to where a phone is paged
-  pub page : (t : ℕ) (es : List ℕ) (x : Solo) → MayPage solo x item es → Q x
+  pub page : (t : ℕ) (es : List ℕ) (x : Solo) → MayPage solo x item es → x.tmsi ≡ Some t → Q x
       → All (λ e. Sends S e (paging s.network s.profile.imsi t x.tai) None) es
 
 -- what holds of the state
 pub record KeepsState (s : Setting) (solo : Solo) (item : Item) (Q : Solo → Type 0) : Type 0 where
   -- the connection, the counters, the context and the countdowns
-  pub connection : (c : Option Connection) (x : Solo) → MayConnect item c → Q x → Q (record x { connection = c })
+  pub connection : (c : Option Connection) (x : Solo) → MayConnect s item c → Q x → Q (record x { connection = c })
   pub counted : (n : ℕ) (x : Solo) → Q x → Q (record x { associations = n })
   pub context : (c : Option Context) (x : Solo) → Q x → Q (record x { context = c })
   pub counts : (procedure : Option Countdown) (reachable : Option ℕ) (x : Solo) → Q x
@@ -131,7 +143,7 @@ pub record KeepsState (s : Setting) (solo : Solo) (item : Item) (Q : Solo → Ty
   pub ended : (x : Solo) → Q x → Q (record x { repeat = None; procedure = None })
   pub registers : (reachable : Option ℕ) (x : Solo) → Q x
       → Q (record x { phase = Registered; repeat = None; procedure = None; reachable = reachable })
-  pub updates : (tai : Tai) (initial : Bool) (x : Solo) → Q x
+  pub updates : (tai : Tai) (initial : Bool) (x : Solo) → tai_of item ≡ Some tai → Q x
       → Q (record x {
         phase = Updating;
         repeat = None;
@@ -141,12 +153,12 @@ pub record KeepsState (s : Setting) (solo : Solo) (item : Item) (Q : Solo → Ty
         asked = record x.asked { initial_update = initial };
       })
   pub moves_on : (phase : Phase) (x : Solo) → is_under_way phase ≡ true → Q x → Q (record x { phase = phase })
-  pub tmsi : (x : Solo) → Q x
+  pub tmsi : (x : Solo) → IsServed solo x → Q x
       → Q (record x { tmsis = next_counter x.tmsis; tmsi = Some (id_of_slot s.slot (next_counter x.tmsis)) })
-  pub bears : (bearer : Session) (x : Solo) → Q x → Q (record x { bearer = bearer })
+  pub bears : (bearer : Session) (x : Solo) → MayBear item x → Q x → Q (record x { bearer = bearer })
   -- challenge and security mode
-  pub asks : (combined : Bool) (capability : List ℕ) (tai : Tai) (x : Solo) → AsksToAttach item capability → x.phase ≡ Deregistered
-      → x.repeat ≡ None → Q x
+  pub asks : (combined : Bool) (capability : List ℕ) (tai : Tai) (x : Solo) → AsksToAttach item capability → tai_of item ≡ Some tai
+      → x.phase ≡ Deregistered → x.repeat ≡ None → Q x
       → Q (record x { tai = tai; asked = record { capability = capability; combined_attach = combined; initial_update = false } })
   pub challenges : (v : Vector) (procedure : Option Countdown) (x : Solo) → slice_get s.vectors x.next_vector ≡ Some v
       → MayChallenge solo item x → Q x
@@ -377,7 +389,9 @@ module _ (s : Setting) (solo : Solo) (item : Item) {Q : Solo → Type 0} {S : An
   switches m x d is has h =
       emits m.station _ None _ (a.acknowledged m x d.solo is has h.state)
       (record {
-        state = q.context (Some (record x { radio = hopped x })) _ (q.connection (Some (connection_of m)) d.solo (ap station_of is) h.state);
+        state = q.context (Some (record x { radio = hopped x })) _ (q.connection (Some (connection_of m)) d.solo
+            (record { station = ap station_of is; number = ap number_of is; id = subst (λ (i : Item). IsIdBy s i m.mme_ue_id) (sym is) refl })
+            h.state);
         sent = h.sent;
       })
 
@@ -390,18 +404,32 @@ module _ (s : Setting) (solo : Solo) (item : Item) {Q : Solo → Type 0} {S : An
       (λ k is. either (IsHeld Q S) (is_at k station enb_ue_id) h
       (emits k.station _ None d (a.released (Nas NormalRelease) d.solo k h.state is) h)) (λ is. h)
 
-  connected_on : (id station enb_ue_id : ℕ) (d : Draft) → station_of item ≡ Some station → IsHeld Q S d
+  connected_on : (id station enb_ue_id : ℕ) (d : Draft)
+      → IsConnectedBy s item (record { id = id; station = station; enb_ue_id = enb_ue_id }) → IsHeld Q S d
       → IsHeld Q S (connect_on id station enb_ue_id d)
   unfolding connect_on
   connected_on id station enb_ue_id d from h =
       let left = leaves station enb_ue_id d h in
       record { state = q.connection (Some _) (leave_old station enb_ue_id d).solo from left.state; sent = left.sent }
 
-  connected : (station enb_ue_id : ℕ) (d : Draft) → station_of item ≡ Some station → IsHeld Q S d
-      → IsHeld Q S (connect s.slot station enb_ue_id d)
+  connected : (m : Entry (List ℕ)) (d : Draft) → item ≡ Initial m → IsHeld Q S d
+      → IsHeld Q S (connect s.slot m.station m.enb_ue_id d)
   unfolding connect
-  connected station enb_ue_id d from h =
-      connected_on (next_id s.slot d) station enb_ue_id (association_counted d) from (counted d h)
+  connected m d is h =
+      let id = next_id s.slot d in
+      connected_on id m.station m.enb_ue_id (association_counted d)
+      (record {
+        station = ap station_of is;
+        number = ap number_of is;
+        id = subst (λ (i : Item). IsIdBy s i id) (sym is) (d.solo.associations, refl);
+      })
+      (counted d h)
+
+  claimed : (id : ℕ) (m : Entry (List ℕ)) (d : Draft) → item ≡ Claim id m → IsHeld Q S d
+      → IsHeld Q S (connect_on id m.station m.enb_ue_id d)
+  claimed id m d is h =
+      connected_on id m.station m.enb_ue_id d
+      (record { station = ap station_of is; number = ap number_of is; id = subst (λ (i : Item). IsIdBy s i id) (sym is) refl }) h
 
   disconnects : (d : Draft) → IsHeld Q S d → IsHeld Q S (disconnected d)
   unfolding disconnected
@@ -429,21 +457,21 @@ module _ (s : Setting) (solo : Solo) (item : Item) {Q : Solo → Type 0} {S : An
   unfolding active ended
   serves d h = record { state = q.registers None d.solo h.state; sent = h.sent }
 
-  updates : (tai : Tai) (initial : Bool) (d : Draft) → IsHeld Q S d → IsHeld Q S (updating tai initial d)
+  updates : (tai : Tai) (initial : Bool) (d : Draft) → tai_of item ≡ Some tai → IsHeld Q S d → IsHeld Q S (updating tai initial d)
   unfolding updating active ended
-  updates tai initial d h = record { state = q.updates tai initial d.solo h.state; sent = h.sent }
+  updates tai initial d from h = record { state = q.updates tai initial d.solo from h.state; sent = h.sent }
 
-  gives_tmsi : (d : Draft) → IsHeld Q S d → IsHeld Q S (given_tmsi s d)
+  gives_tmsi : (d : Draft) → IsServed solo d.solo → IsHeld Q S d → IsHeld Q S (given_tmsi s d)
   unfolding given_tmsi
-  gives_tmsi d h = record { state = q.tmsi d.solo h.state; sent = h.sent }
+  gives_tmsi d on h = record { state = q.tmsi d.solo on h.state; sent = h.sent }
 
   -- ---- challenge and context
 
-  asks : (combined : Bool) (capability : List ℕ) (tai : Tai) (d : Draft) → AsksToAttach item capability
+  asks : (combined : Bool) (capability : List ℕ) (tai : Tai) (d : Draft) → AsksToAttach item capability → tai_of item ≡ Some tai
       → d.solo.phase ≡ Deregistered → d.solo.repeat ≡ None → IsHeld Q S d → IsHeld Q S (asking combined capability tai d)
   unfolding asking
-  asks combined capability tai d asked phase repeat h =
-      record { state = q.asks combined capability tai d.solo asked phase repeat h.state; sent = h.sent }
+  asks combined capability tai d asked from phase repeat h =
+      record { state = q.asks combined capability tai d.solo asked from phase repeat h.state; sent = h.sent }
 
   challenges : (v : Vector) (d : Draft) → slice_get s.vectors d.solo.next_vector ≡ Some v → MayChallenge solo item d.solo
       → IsHeld Q S d → IsHeld Q S (challenged v d)
@@ -479,7 +507,7 @@ module _ (s : Setting) (solo : Solo) (item : Item) {Q : Solo → Type 0} {S : An
   pages_to : (es : List ℕ) (d : Draft) → MayPage solo d.solo item es → IsHeld Q S d → IsHeld Q S (page s es d)
   unfolding page
   pages_to es d may h =
-      at_some (IsHeld Q S) d.solo.tmsi (λ t is. emits_each _ es d (a.page t es d.solo may h.state) h) (λ is. h)
+      at_some (IsHeld Q S) d.solo.tmsi (λ t is. emits_each _ es d (a.page t es d.solo may is h.state) h) (λ is. h)
 
   pages : (stations : List StationState) → item ≡ Data stations → may_page (untouched solo) ≡ true → IsHeld Q S (untouched solo)
       → IsHeld Q S (paged s (listening solo.tai 0 stations) (untouched solo))
@@ -521,8 +549,8 @@ module _ (s : Setting) (solo : Solo) (item : Item) {Q : Solo → Type 0} {S : An
     turns_away = turns_away;
     emits = λ station message d from is h. emits station message None d (a.indication station message from is) h;
     switches = switches;
-    connects = λ m d is h. connected m.station m.enb_ue_id d (ap station_of is) h;
-    connects_on = λ id m d is h. connected_on id m.station m.enb_ue_id d (ap station_of is) h;
+    connects = connected;
+    connects_on = claimed;
     disconnects = disconnects;
     wipes = wipes;
     ends = ends;
@@ -532,13 +560,13 @@ module _ (s : Setting) (solo : Solo) (item : Item) {Q : Solo → Type 0} {S : An
     updates = updates;
     moves_on = λ phase d under h. record { state = q.moves_on phase d.solo under h.state; sent = h.sent };
     gives_tmsi = gives_tmsi;
-    bears = λ bearer d h. record { state = q.bears bearer d.solo h.state; sent = h.sent };
+    bears = λ bearer d may h. record { state = q.bears bearer d.solo may h.state; sent = h.sent };
     asks = asks;
     challenges = challenges;
     makes_context = makes_context;
     takes = takes;
     pages = pages;
-    pages_again = λ es d again h. pages_to es d (inr again) h;
+    pages_again = λ es d ticks again h. pages_to es d (inr (ticks, again)) h;
     strikes = strikes;
     lowers = lowers;
     restarts = restarts;
@@ -569,7 +597,7 @@ says_anything s solo item Q = record {
   turned = λ m from h octets is. tt;
   indication = λ station message from may octets is. tt;
   acknowledged = λ m c x from has h octets is. tt;
-  page = λ t es x may h k d lt octets is. tt;
+  page = λ t es x may given h k d lt octets is. tt;
 }
 
 pub keeps_any : (s : Setting) (solo : Solo) (item : Item) → KeepsState s solo item Any
@@ -581,11 +609,11 @@ keeps_any s solo item = record {
   wiped = λ x h. tt;
   ended = λ x h. tt;
   registers = λ reachable x h. tt;
-  updates = λ tai initial x h. tt;
+  updates = λ tai initial x from h. tt;
   moves_on = λ phase x under h. tt;
-  tmsi = λ x h. tt;
-  bears = λ bearer x h. tt;
-  asks = λ combined capability tai x asked phase repeat h. tt;
+  tmsi = λ x on h. tt;
+  bears = λ bearer x may h. tt;
+  asks = λ combined capability tai x asked from phase repeat h. tt;
   challenges = λ v procedure x there may h. tt;
   secures = λ c phase h. tt;
   awaits = λ header nas procedure c x may h. tt;

@@ -1,6 +1,6 @@
 -- What the actions of a step keep: a predicate of steps under way, and that each action keeps it where a row takes that action. The
 -- premises say what is known there: which item it is, what is sent, what the state before the step was.
-use Rattle.std.specs.Prelude.{◌≡◌, ◌⊎◌, ℕ, Bool, true, false, List, [], slice_get, Option, Some, None}
+use Rattle.std.specs.Prelude.{◌≡◌, ◌⊎◌, ℕ, Bool, true, false, List, slice_get, Option, Some, None}
 use Rattle.s1ap_causes.specs.declared.cause.Cause.{Cause}
 use Rattle.s1ap_elements.specs.declared.phone.Tai.{Tai}
 use Rattle.s1ap_pdus.specs.declared.pdu.Pdu.{Pdu}
@@ -10,8 +10,9 @@ use Rattle.nas_messages.specs.declared.protection.SecurityHeader.TheVariants.{In
 use Rattle.esm_machine.specs.Sessions.{Session}
 use Rattle.identity_slots.specs.declared.profile.Vector.{Vector}
 use Rattle.mme_types.specs.declared.event.Entry.{Entry}
+use Rattle.mme_types.specs.declared.event.UeBody.{UeBody}
+use Rattle.mme_types.specs.declared.event.UeBody.TheVariants.{Uplink}
 use Rattle.mme_types.specs.declared.event.UeMessage.{UeMessage}
-use Rattle.mme_types.specs.declared.octets.Mark.{Mark}
 use Rattle.mme_types.specs.declared.stations.StationState.{StationState}
 use Rattle.mme_types.specs.Events.{Item, Initial, Claim, Message, StationGone, Tick, Data}
 use Rattle.mme_signalling.specs.declared.cause.EmmCause.TheVariants.{SynchFailure}
@@ -27,12 +28,12 @@ use Rattle.emm_state.specs.declared.solo.Context.{Context}
 use Rattle.emm_state.specs.declared.solo.Countdown.{Countdown}
 use Rattle.emm_state.specs.declared.solo.NasTimer.{NasTimer}
 use Rattle.emm_state.specs.declared.solo.Phase.{Phase}
-use Rattle.emm_state.specs.declared.solo.Phase.TheVariants.{Deregistered, Authenticating, SecurityMode, EsmInformation, Accepting, Updating, Registered, Detaching}
+use Rattle.emm_state.specs.declared.solo.Phase.TheVariants.{Deregistered, Authenticating, SecurityMode, EsmInformation, Accepting, Registered, Detaching}
 use Rattle.emm_state.specs.declared.solo.Protection.TheVariants.{Plain, Under}
-use Rattle.emm_state.specs.declared.solo.Repeat.{Repeat}
 use Rattle.emm_state.specs.declared.solo.Repeat.TheVariants as repeats
 use Rattle.emm_state.specs.declared.solo.Solo.{Solo}
 use Rattle.emm_state.specs.Actions.{connect, connect_on, disconnected, emit, ended, protect, protect_and_await, refuse, release, resting, send, set_up, set_up_with, start, turn_away, untouched, wipe}
+use Rattle.emm_state.specs.Phases.{is}
 use Rattle.emm_machine.specs.Attaching.{asking, challenged, given_tmsi, is_plain, new_context, took}
 use Rattle.emm_machine.specs.Connected.{strike, switched}
 use Rattle.emm_machine.specs.Idle.{listening, lowered, may_page, page, paged, restarted}
@@ -48,6 +49,24 @@ station_of (Initial m) = Some m.station
 station_of (Claim id m) = Some m.station
 station_of (Message m) = Some m.station
 station_of _ = None
+
+-- and the phone's number there
+abbrev pub number_of : Item → Option ℕ
+number_of (Initial m) = Some m.enb_ue_id
+number_of (Claim id m) = Some m.enb_ue_id
+number_of (Message m) = Some m.enb_ue_id
+number_of _ = None
+
+-- the tracking area that its station names
+abbrev pub tai_of_body : UeBody (List ℕ) → Option Tai
+tai_of_body (Uplink nas tai) = Some tai
+tai_of_body _ = None
+
+abbrev pub tai_of : Item → Option Tai
+tai_of (Initial m) = Some m.tai
+tai_of (Claim id m) = Some m.tai
+tai_of (Message m) = tai_of_body m.body
+tai_of _ = None
 
 -- the request by which a phone begins
 abbrev pub request_in : Item → Heard (List ℕ)
@@ -124,11 +143,21 @@ IsIndication message =
     (id : ℕ) × (enb_ue_id : ℕ) × (cause : Cause)
     × ((message ≡ error_indication id enb_ue_id cause) ⊎ (message ≡ path_switch_failure id enb_ue_id cause))
 
--- paging goes once more to where it went
+-- paging goes once more to where it went, for the same M-TMSI
 pub record PagesAgain (before now : Solo) (es : List ℕ) : Type 0 where
   pub was : before.repeat ≡ Some (repeats.Paging es)
   pub kept : now.repeat ≡ Some (repeats.Paging es)
   pub tai : now.tai ≡ before.tai
+  pub tmsi : now.tmsi ≡ before.tmsi
+
+-- a phone that is being served: it isn't deregistered, and at this step no M-TMSI was given yet
+pub record IsServed (before now : Solo) : Type 0 where
+  pub there : is Deregistered now.phase ≡ false
+  pub tmsis : now.tmsis ≡ before.tmsis
+
+-- a bearer changes for an ATTACH REQUEST, or of a phone that is being served
+abbrev pub MayBear : Item → Solo → Type 0
+MayBear item now = (begins_attach item ≡ true) ⊎ (is Deregistered now.phase ≡ false)
 
 -- ---- what each action keeps
 
@@ -169,14 +198,15 @@ pub record Keeps (s : Setting) (solo : Solo) (item : Item) (P : Draft → Type 0
   pub rests : (d : Draft) → P d → P (resting d)
   pub registers : (d : Draft) → P d → P (registered d)
   pub serves : (d : Draft) → P d → P (active Registered d)
-  pub updates : (tai : Tai) (initial : Bool) (d : Draft) → P d → P (updating tai initial d)
+  pub updates : (tai : Tai) (initial : Bool) (d : Draft) → tai_of item ≡ Some tai → P d → P (updating tai initial d)
   pub moves_on : (phase : Phase) (d : Draft) → is_under_way phase ≡ true → P d
       → P (record d { solo = record d.solo { phase = phase } })
-  pub gives_tmsi : (d : Draft) → P d → P (given_tmsi s d)
-  pub bears : (bearer : Session) (d : Draft) → P d → P (record d { solo = record d.solo { bearer = bearer } })
+  pub gives_tmsi : (d : Draft) → IsServed solo d.solo → P d → P (given_tmsi s d)
+  pub bears : (bearer : Session) (d : Draft) → MayBear item d.solo → P d
+      → P (record d { solo = record d.solo { bearer = bearer } })
   -- challenge and context
   pub asks : (combined : Bool) (capability : List ℕ) (tai : Tai) (d : Draft) → AsksToAttach item capability
-      → d.solo.phase ≡ Deregistered → d.solo.repeat ≡ None → P d → P (asking combined capability tai d)
+      → tai_of item ≡ Some tai → d.solo.phase ≡ Deregistered → d.solo.repeat ≡ None → P d → P (asking combined capability tai d)
   pub challenges : (v : Vector) (d : Draft) → slice_get s.vectors d.solo.next_vector ≡ Some v → MayChallenge solo item d.solo → P d
       → P (challenged v d)
   pub makes_context : (place : ℕ) (v : Vector) → solo.phase ≡ Authenticating → slice_get s.vectors place ≡ Some v
@@ -185,7 +215,7 @@ pub record Keeps (s : Setting) (solo : Solo) (item : Item) (P : Draft → Type 0
   -- paging and countdowns
   pub pages : (stations : List StationState) → item ≡ Data stations → may_page (untouched solo) ≡ true → P (untouched solo)
       → P (paged s (listening solo.tai 0 stations) (untouched solo))
-  pub pages_again : (es : List ℕ) (d : Draft) → PagesAgain solo d.solo es → P d → P (page s es d)
+  pub pages_again : (es : List ℕ) (d : Draft) → item ≡ Tick → PagesAgain solo d.solo es → P d → P (page s es d)
   pub strikes : (station : ℕ) (d : Draft) → item ≡ StationGone station → P d → P (strike station d)
   pub lowers : (d : Draft) → P d → P (lowered d)
   pub restarts : (c : Countdown) (d : Draft) → P d → P (restarted c d)

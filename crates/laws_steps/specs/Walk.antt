@@ -1,6 +1,6 @@
 -- Every step is made of actions: what each action keeps where it is taken, the whole step keeps.
-use Rattle.std.proofs.Common.{◌≡◌, ◌⊎◌, ℕ, ◌-◌, Bool, true, false, cond, inl, inr, List, [], ◌∷◌, Option, Some, None, Result, Ok, Err, unwrap_or, refl, sym, ◌∙◌, ap, subst}
-use Rattle.std.specs.Prelude.{◌==◌, ◌&&◌, slice_get, is_some, not}
+use Rattle.std.proofs.Common.{◌≡◌, ◌⊎◌, ℕ, ◌-◌, Bool, true, false, cond, inl, inr, List, Option, Some, None, Result, Ok, Err, unwrap_or, refl, sym, ◌∙◌, ap, subst}
+use Rattle.std.specs.Prelude.{◌==◌, slice_get, not}
 use Rattle.std.specs.Option.{option_map_or}
 use Rattle.std.proofs.lemmas.Bool.{eqb-true}
 use Rattle.std.proofs.lemmas.Option.{same_Some}
@@ -11,7 +11,6 @@ use Rattle.esm_machine.specs.declared.request.Requested.TheVariants.{Unreadable,
 use Rattle.identity_slots.specs.declared.profile.Vector.{Vector}
 use Rattle.identity_slots.specs.Ids.{is_of_slot}
 use Rattle.nas_elements.specs.Capability.{has_eia2}
-use Rattle.nas_messages.specs.declared.protection.SecurityHeader.TheVariants.{IntegrityProtectedCiphered}
 use Rattle.nas_security.specs.declared.fault.SecurityFault.{SecurityFault}
 use Rattle.nas_security.specs.Accepting.{Acceptance}
 use Rattle.s1ap_causes.specs.declared.cause.Cause.{Cause}
@@ -19,15 +18,13 @@ use Rattle.s1ap_causes.specs.declared.cause.Cause.TheVariants as causes
 use Rattle.s1ap_causes.specs.declared.cause.RadioNetworkCause.TheVariants as radio
 use Rattle.s1ap_causes.specs.declared.cause.ProtocolCause.TheVariants as protocol
 use Rattle.s1ap_elements.specs.declared.phone.Tai.{Tai}
-use Rattle.s1ap_pdus.specs.declared.pdu.Pdu.{Pdu}
-use Rattle.mme_types.specs.declared.connection.Connection.{Connection}
 use Rattle.mme_types.specs.declared.event.Entry.{Entry}
 use Rattle.mme_types.specs.declared.event.UeBody.{UeBody}
 use Rattle.mme_types.specs.declared.event.UeBody.TheVariants as bodies
 use Rattle.mme_types.specs.declared.event.UeMessage.{UeMessage}
 use Rattle.mme_types.specs.declared.stations.StationState.{StationState}
 use Rattle.mme_types.specs.Events.{Item, Nothing, Initial, Claim, Message, Displaced, StationGone, ConnectionsGone, Tick, Data, Cancel}
-use Rattle.mme_types.specs.Listed.{ToReset, is_listed}
+use Rattle.mme_types.specs.Listed.{ToReset}
 use Rattle.mme_signalling.specs.declared.cause.EmmCause.{EmmCause}
 use Rattle.mme_signalling.specs.declared.cause.EmmCause.TheVariants.{NetworkFailure, SynchFailure}
 use Rattle.mme_signalling.specs.declared.heard.Heard.{Heard}
@@ -58,7 +55,7 @@ use Rattle.emm_machine.specs.Serving as serving
 use Rattle.emm_machine.specs.Steps as steps
 use Rattle.laws_admission.specs.Proof.{nas_of_body, uplink_nas}
 use Rattle.laws_admission.specs.Unproved.{begins_attach, is_attach_request}
-use Rattle.laws_steps.specs.Keeps.{AsksToAttach, FailsToSynchronise, Keeps, MayChallenge, MaySend, Whenever, is_open, request_in, station_of}
+use Rattle.laws_steps.specs.Keeps.{AsksToAttach, FailsToSynchronise, IsServed, Keeps, MayChallenge, MaySend, Whenever, is_open, request_in, station_of, tai_of, tai_of_body}
 
 -- ---- choices
 
@@ -115,6 +112,28 @@ pub connect_next : (slot station enb_ue_id : ℕ) (d : Draft)
 unfolding connect association_counted
 connect_next slot station enb_ue_id d = connect_on_next (next_id slot d) station enb_ue_id (association_counted d)
 
+connect_on_served : (id station enb_ue_id : ℕ) (before : Solo) (d : Draft) → IsServed before d.solo
+    → IsServed before (connect_on id station enb_ue_id d).solo
+unfolding connect_on
+connect_on_served id station enb_ue_id before d on =
+    let left = left_solo station enb_ue_id d in
+    record {
+      there = ap (λ (x : Solo). is Deregistered x.phase) left ∙ on.there;
+      tmsis = ap (λ (x : Solo). x.tmsis) left ∙ on.tmsis;
+    }
+
+connect_served : (slot station enb_ue_id : ℕ) (before : Solo) (d : Draft) → IsServed before d.solo
+    → IsServed before (connect slot station enb_ue_id d).solo
+unfolding connect association_counted
+connect_served slot station enb_ue_id before d on =
+    connect_on_served (next_id slot d) station enb_ue_id before (association_counted d) (record { there = on.there; tmsis = on.tmsis })
+
+registered_is_there : (phase : Phase) → is_registered phase ≡ true → is Deregistered phase ≡ false
+registered_is_there Deregistered h = cc
+registered_is_there Updating h = refl
+registered_is_there Registered h = refl
+registered_is_there _ h = refl
+
 -- an ATTACH REQUEST of the item, or a phone that no context can protect
 abbrev IsOpenTo : Solo → Item → Type 0
 IsOpenTo solo item = (begins_attach item ≡ true) ⊎ (is_open solo.phase ≡ true)
@@ -157,23 +176,23 @@ module _ (s : Setting) (solo : Solo) (item : Item) {P : Draft → Type 0} (k : K
 
   module _ (combined : Bool) (capability esm : List ℕ) (begins : begins_attach item ≡ true)
       (request : request_in item ≡ heards.AttachRequest combined capability esm) where
-    attach_by : {d : Draft} (asked : Requested (List ℕ)) (tai : Tai) → d.solo.phase ≡ Deregistered → d.solo.repeat ≡ None
+    attach_by : {d : Draft} (asked : Requested (List ℕ)) (tai : Tai) → tai_of item ≡ Some tai → d.solo.phase ≡ Deregistered → d.solo.repeat ≡ None
         → d.solo.next_vector ≡ solo.next_vector → P d → P (attaching.attach_by asked s combined capability tai d)
     unfolding attaching.attach_by attaching.asking
-    attach_by Unreadable tai phase repeat next h = attach_refused _ _ (inl begins) h
-    attach_by (Refused answer) tai phase repeat next h = attach_refused _ _ (inl begins) h
-    attach_by {d} Taken tai phase repeat next h =
+    attach_by Unreadable tai from phase repeat next h = attach_refused _ _ (inl begins) h
+    attach_by (Refused answer) tai from phase repeat next h = attach_refused _ _ (inl begins) h
+    attach_by {d} Taken tai from phase repeat next h =
         either_by P (has_eia2 capability)
         (λ has.
         let asks : AsksToAttach item capability =
         record { begins = begins; combined = combined; esm = esm; request = request; protects = has } in
-        challenge (inl begins) (next, inl asks) (k.asks combined capability tai d asks phase repeat h))
+        challenge (inl begins) (next, inl asks) (k.asks combined capability tai d asks from phase repeat h))
         (λ lacks. attach_refused _ _ (inl begins) h)
 
-    attach : {d : Draft} (tai : Tai) → d.solo.next_vector ≡ solo.next_vector → P d
+    attach : {d : Draft} (tai : Tai) → tai_of item ≡ Some tai → d.solo.next_vector ≡ solo.next_vector → P d
         → P (attaching.attach s combined capability esm tai d)
     unfolding attaching.attach attaching.requesting wipe
-    attach {d} tai next h = attach_by _ tai refl refl next (k.bears _ (wipe d) (k.wipes d h))
+    attach {d} tai from next h = attach_by _ tai from refl refl next (k.bears _ (wipe d) (inl begins) (k.wipes d h))
 
   -- ---- a phone that is challenged
 
@@ -252,38 +271,44 @@ module _ (s : Setting) (solo : Solo) (item : Item) {P : Draft → Type 0} (k : K
 
   -- ---- acceptance and security mode
 
-  accept : {d : Draft} (key : List ℕ) → P d → Whenever P (attaching.accept s key d)
-  unfolding attaching.accept attaching.activating
-  accept {d} key h =
-      then _ (k.sets_up_with key _ _ (k.moves_on Accepting _ refl (k.bears _ _ (k.gives_tmsi d h))))
+  accept : {d : Draft} (key : List ℕ) → P d → IsServed solo d.solo → Whenever P (attaching.accept s key d)
+  unfolding attaching.accept attaching.activating attaching.given_tmsi
+  accept {d} key h on =
+      then _ (k.sets_up_with key _ _ (k.moves_on Accepting _ refl (k.bears _ (attaching.given_tmsi s d) (inr on.there) (k.gives_tmsi d on h))))
       (λ e f. k.starts T3450 _ e f)
 
   ask_information : {d : Draft} → P d → Whenever P (attaching.ask_information d)
   unfolding attaching.ask_information
   ask_information {d} h = k.awaits T3489 _ _ _ (inl refl) (k.moves_on EsmInformation d refl h)
 
-  secured : {d : Draft} (x : Context) (count : ℕ) → P d → Whenever P (attaching.secured s x count d)
-  unfolding attaching.secured attaching.keyed
-  secured {d} x count h = let taken = k.takes _ count d h in either (Whenever P) _ (ask_information taken) (accept _ taken)
+  secured : {d : Draft} (x : Context) (count : ℕ) → P d → IsServed solo d.solo → Whenever P (attaching.secured s x count d)
+  unfolding attaching.secured attaching.keyed attaching.took
+  secured {d} x count h on =
+      let taken = k.takes _ count d h in
+      either (Whenever P) _ (ask_information taken) (accept _ taken (record { there = on.there; tmsis = on.tmsis }))
 
   not_secured : {d : Draft} (nas : List ℕ) → P d → P (attaching.not_secured nas d)
   unfolding attaching.not_secured
   not_secured nas h = either P _ (falls _ h) h
 
-  secured_by : {d : Draft} (r : Acceptance) (x : Context) (nas : List ℕ) → P d → Whenever P (attaching.secured_by r s x nas d)
+  secured_by : {d : Draft} (r : Acceptance) (x : Context) (nas : List ℕ) → P d → IsServed solo d.solo
+      → Whenever P (attaching.secured_by r s x nas d)
   unfolding attaching.secured_by
-  secured_by {d} (Ok found) x nas h = either (Whenever P) _ (secured _ found.0 h) (some (k.takes _ found.0 d h))
-  secured_by (Err fault) x nas h = some (not_secured nas h)
+  secured_by {d} (Ok found) x nas h on = either (Whenever P) _ (secured _ found.0 h on) (some (k.takes _ found.0 d h))
+  secured_by (Err fault) x nas h on = some (not_secured nas h)
 
-  in_security_mode : {d : Draft} (nas : List ℕ) → P d → Whenever P (attaching.in_security_mode s nas d)
+  in_security_mode : {d : Draft} (nas : List ℕ) → P d → IsServed solo d.solo → Whenever P (attaching.in_security_mode s nas d)
   unfolding attaching.in_security_mode
-  in_security_mode {d} nas h = at_some (Whenever P) d.solo.context (λ x is. secured_by _ x nas h) (λ is. some (not_secured nas h))
+  in_security_mode {d} nas h on =
+      at_some (Whenever P) d.solo.context (λ x is. secured_by _ x nas h on) (λ is. some (not_secured nas h))
 
   -- ---- INITIAL UE MESSAGE
 
-  update : {d : Draft} (tai : Tai) (combined initial : Bool) → P d → Whenever P (serving.update s tai combined initial d)
+  update : {d : Draft} (tai : Tai) (combined initial : Bool) → tai_of item ≡ Some tai → P d → IsServed solo d.solo
+      → Whenever P (serving.update s tai combined initial d)
   unfolding serving.update
-  update {d} tai combined initial h = k.awaits T3450 _ _ _ (inl refl) (k.updates tai initial _ (k.gives_tmsi d h))
+  update {d} tai combined initial from h on =
+      k.awaits T3450 _ _ _ (inl refl) (k.updates tai initial _ from (k.gives_tmsi d on h))
 
   detach : {d : Draft} (switch_off : Bool) → P d → Whenever P (serving.detach switch_off d)
   unfolding serving.detach serving.detach_answered
@@ -305,18 +330,23 @@ module _ (s : Setting) (solo : Solo) (item : Item) {P : Draft → Type 0} (k : K
         either P _ (at_some P solo.context (λ x has. served_by _ x h) (λ none. k.refuses m _ is_initial h))
         (k.refuses m _ is_initial h)
 
-    updated_by : (r : Acceptance) (x : Context) (combined : Bool) → P (untouched solo)
+    updated_by : (r : Acceptance) (x : Context) (combined : Bool) → is_registered solo.phase ≡ true → P (untouched solo)
         → Whenever P (serving.updated_by r s x m combined (untouched solo))
-    unfolding serving.updated_by
-    updated_by (Ok found) x combined h = update m.tai combined true (k.takes _ found.0 _ (linked h))
-    updated_by (Err fault) x combined h = some (k.refuses m _ is_initial h)
+    unfolding serving.updated_by attaching.took
+    updated_by (Ok found) x combined registered h =
+        let there = registered_is_there solo.phase registered in
+        let on = connect_served s.slot m.station m.enb_ue_id solo (untouched solo) (record { there = there; tmsis = refl }) in
+        update m.tai combined true (ap tai_of is_initial) (k.takes _ found.0 _ (linked h))
+        (record { there = on.there; tmsis = on.tmsis })
+    updated_by (Err fault) x combined registered h = some (k.refuses m _ is_initial h)
 
     initial_update : (combined : Bool) → P (untouched solo) → Whenever P (serving.initial_update s m combined (untouched solo))
     unfolding serving.initial_update
     initial_update combined h =
-        either (Whenever P) _
-        (at_some (Whenever P) solo.context (λ x has. updated_by _ x combined h) (λ none. some (k.refuses m _ is_initial h)))
-        (some (k.refuses m _ is_initial h))
+        either_by (Whenever P) (is_registered solo.phase)
+        (λ registered. at_some (Whenever P) solo.context (λ x has. updated_by _ x combined registered h)
+        (λ none. some (k.refuses m _ is_initial h)))
+        (λ other. some (k.refuses m _ is_initial h))
 
     detached_by : (r : Acceptance) (x : Context) (switch_off : Bool) → P (untouched solo)
         → Whenever P (serving.detached_by r s x m switch_off (untouched solo))
@@ -336,7 +366,7 @@ module _ (s : Setting) (solo : Solo) (item : Item) {P : Draft → Type 0} (k : K
         → P (untouched solo) → Whenever P (serving.entered o s m (untouched solo))
     unfolding serving.entered
     entered (heards.AttachRequest combined capability esm) request begins h =
-        some (attach combined capability esm (begins refl) request m.tai (connect_next s.slot m.station m.enb_ue_id (untouched solo)) (linked h))
+        some (attach combined capability esm (begins refl) request m.tai (ap tai_of is_initial) (connect_next s.slot m.station m.enb_ue_id (untouched solo)) (linked h))
     entered (heards.ServiceRequest octets) request begins h = some (service octets h)
     entered (heards.TrackingAreaUpdateRequest combined) request begins h = initial_update combined h
     entered (heards.DetachRequest switch_off) request begins h = initial_detach switch_off h
@@ -347,7 +377,7 @@ module _ (s : Setting) (solo : Solo) (item : Item) {P : Draft → Type 0} (k : K
       → (is_attach_request o ≡ true → begins_attach item ≡ true) → P (untouched solo) → P (serving.claimed o s id m (untouched solo))
   unfolding serving.claimed
   claimed id m (heards.AttachRequest combined capability esm) is_claim request begins h =
-      attach combined capability esm (begins refl) request m.tai (connect_on_next id m.station m.enb_ue_id (untouched solo))
+      attach combined capability esm (begins refl) request m.tai (ap tai_of is_claim) (connect_on_next id m.station m.enb_ue_id (untouched solo))
       (k.connects_on id m (untouched solo) is_claim h)
   claimed id m _ is_claim request begins h = h
 
@@ -357,56 +387,66 @@ module _ (s : Setting) (solo : Solo) (item : Item) {P : Draft → Type 0} (k : K
   unfolding serving.status_protected
   status {d} cause h = at_some (Whenever P) cause (λ c is. k.protects _ _ d (inl refl) h) (λ is. some h)
 
-  attach_completed : {d : Draft} (esm : List ℕ) → P d → P (serving.attach_completed esm d)
+  attach_completed : {d : Draft} (esm : List ℕ) → P d → IsServed solo d.solo → P (serving.attach_completed esm d)
   unfolding serving.attach_completed
-  attach_completed {d} esm h = either P _ (k.registers _ (k.bears _ d h)) (falls _ h)
+  attach_completed {d} esm h on = either P _ (k.registers _ (k.bears _ d (inr on.there) h)) (falls _ h)
 
   update_completed : {d : Draft} → P d → P (serving.update_completed d)
   unfolding serving.update_completed
   update_completed {d} h = let r = k.registers d h in either P _ (falls _ r) r
 
-  inner_emm : {d : Draft} (m : Heard (List ℕ)) (tai : Tai) → P d → Whenever P (serving.inner_emm m s tai d)
+  inner_emm : {d : Draft} (m : Heard (List ℕ)) (tai : Tai) → tai_of item ≡ Some tai → P d → IsServed solo d.solo
+      → Whenever P (serving.inner_emm m s tai d)
   unfolding serving.inner_emm
-  inner_emm (heards.AttachComplete esm) tai h = either (Whenever P) _ (some (attach_completed esm h)) (status _ h)
-  inner_emm heards.TrackingAreaUpdateComplete tai h = either (Whenever P) _ (some (update_completed h)) (status _ h)
-  inner_emm (heards.TrackingAreaUpdateRequest combined) tai h = either (Whenever P) _ (update tai combined false h) (status _ h)
-  inner_emm (heards.DetachRequest switch_off) tai h = detach switch_off h
-  inner_emm heards.DetachAccept tai h = either (Whenever P) _ (some (forgotten _ h)) (status _ h)
-  inner_emm heards.Unasked tai h = some h
-  inner_emm (heards.Unreadable fault) tai h = status _ h
-  inner_emm _ tai h = status _ h
+  inner_emm (heards.AttachComplete esm) tai from h on = either (Whenever P) _ (some (attach_completed esm h on)) (status _ h)
+  inner_emm heards.TrackingAreaUpdateComplete tai from h on = either (Whenever P) _ (some (update_completed h)) (status _ h)
+  inner_emm (heards.TrackingAreaUpdateRequest combined) tai from h on =
+      either (Whenever P) _ (update tai combined false from h on) (status _ h)
+  inner_emm (heards.DetachRequest switch_off) tai from h on = detach switch_off h
+  inner_emm heards.DetachAccept tai from h on = either (Whenever P) _ (some (forgotten _ h)) (status _ h)
+  inner_emm heards.Unasked tai from h on = some h
+  inner_emm (heards.Unreadable fault) tai from h on = status _ h
+  inner_emm _ tai from h on = status _ h
 
-  reacted : {d : Draft} (r : Reaction (List ℕ)) → P d → Whenever P (serving.reacted r s d)
+  reacted : {d : Draft} (r : Reaction (List ℕ)) → P d → IsServed solo d.solo → Whenever P (serving.reacted r s d)
   unfolding serving.reacted serving.information_came
-  reacted reactions.Nothing h = some h
-  reacted {d} reactions.Informed h = at_some (Whenever P) d.solo.context (λ x is. accept _ h) (λ is. some h)
-  reacted {d} (reactions.Answer octets) h = k.protects _ octets d (inl refl) h
+  reacted reactions.Nothing h on = some h
+  reacted {d} reactions.Informed h on = at_some (Whenever P) d.solo.context (λ x is. accept _ h on) (λ is. some h)
+  reacted {d} (reactions.Answer octets) h on = k.protects _ octets d (inl refl) h
 
-  inner_message : {d : Draft} (octets : List ℕ) (tai : Tai) → P d → Whenever P (serving.inner_message octets s tai d)
+  inner_message : {d : Draft} (octets : List ℕ) (tai : Tai) → tai_of item ≡ Some tai → P d → IsServed solo d.solo
+      → Whenever P (serving.inner_message octets s tai d)
   unfolding serving.inner_message serving.inner_esm
-  inner_message octets tai h = either (Whenever P) _ (reacted _ h) (inner_emm (heard octets) tai h)
+  inner_message octets tai from h on = either (Whenever P) _ (reacted _ h on) (inner_emm (heard octets) tai from h on)
 
-  inner_message_by : {d : Draft} (r : Acceptance) (x : Context) (tai : Tai) → P d
+  inner_message_by : {d : Draft} (r : Acceptance) (x : Context) (tai : Tai) → tai_of item ≡ Some tai → P d → IsServed solo d.solo
       → Whenever P (serving.inner_message_by r s x tai d)
-  unfolding serving.inner_message_by
-  inner_message_by {d} (Ok found) x tai h = inner_message found.1 tai (k.takes _ found.0 d h)
-  inner_message_by (Err fault) x tai h = some h
+  unfolding serving.inner_message_by attaching.took
+  inner_message_by {d} (Ok found) x tai from h on =
+      inner_message found.1 tai from (k.takes _ found.0 d h) (record { there = on.there; tmsis = on.tmsis })
+  inner_message_by (Err fault) x tai from h on = some h
 
-  in_later : {d : Draft} (tai : Tai) (nas : List ℕ) → P d → Whenever P (serving.in_later s tai nas d)
+  in_later : {d : Draft} (tai : Tai) (nas : List ℕ) → tai_of item ≡ Some tai → P d → IsServed solo d.solo
+      → Whenever P (serving.in_later s tai nas d)
   unfolding serving.in_later
-  in_later {d} tai nas h = at_some (Whenever P) d.solo.context (λ x is. inner_message_by _ x tai h) (λ is. some h)
+  in_later {d} tai nas from h on =
+      at_some (Whenever P) d.solo.context (λ x is. inner_message_by _ x tai from h on) (λ is. some h)
 
-  uplink : (phase : Phase) (tai : Tai) (nas : List ℕ) → solo.phase ≡ phase → uplink_nas item ≡ Some nas → P (untouched solo)
+  served : {phase : Phase} → solo.phase ≡ phase → is Deregistered phase ≡ false → IsServed solo solo
+  served phase there = record { there = ap (is Deregistered) phase ∙ there; tmsis = refl }
+
+  uplink : (phase : Phase) (tai : Tai) (nas : List ℕ) → solo.phase ≡ phase → uplink_nas item ≡ Some nas → tai_of item ≡ Some tai
+      → P (untouched solo)
       → Whenever P (serving.uplink phase s tai nas (untouched solo))
   unfolding serving.uplink
-  uplink Deregistered tai nas phase carried h = some h
-  uplink Authenticating tai nas phase carried h = in_authenticating nas phase carried h
-  uplink SecurityMode tai nas phase carried h = in_security_mode nas h
-  uplink EsmInformation tai nas phase carried h = in_later tai nas h
-  uplink Accepting tai nas phase carried h = in_later tai nas h
-  uplink Updating tai nas phase carried h = in_later tai nas h
-  uplink Registered tai nas phase carried h = in_later tai nas h
-  uplink Detaching tai nas phase carried h = in_later tai nas h
+  uplink Deregistered tai nas phase carried from h = some h
+  uplink Authenticating tai nas phase carried from h = in_authenticating nas phase carried h
+  uplink SecurityMode tai nas phase carried from h = in_security_mode nas h (served phase refl)
+  uplink EsmInformation tai nas phase carried from h = in_later tai nas from h (served phase refl)
+  uplink Accepting tai nas phase carried from h = in_later tai nas from h (served phase refl)
+  uplink Updating tai nas phase carried from h = in_later tai nas from h (served phase refl)
+  uplink Registered tai nas phase carried from h = in_later tai nas from h (served phase refl)
+  uplink Detaching tai nas phase carried from h = in_later tai nas from h (served phase refl)
 
   -- ---- messages on an association
 
@@ -418,7 +458,7 @@ module _ (s : Setting) (solo : Solo) (item : Item) {P : Draft → Type 0} (k : K
         → Whenever P (connected.on_connection body s (untouched solo))
     unfolding connected.on_connection
     on_connection (bodies.Uplink nas tai) body h =
-        uplink solo.phase tai nas refl (ap uplink_nas is_message ∙ ap nas_of_body body) h
+        uplink solo.phase tai nas refl (ap uplink_nas is_message ∙ ap nas_of_body body) (ap tai_of is_message ∙ ap tai_of_body body) h
     on_connection (bodies.UeContextReleaseRequest cause) body h = some (falls _ h)
     on_connection bodies.InitialContextSetupFailure body h = some (falls _ h)
     on_connection _ body h = some h
@@ -482,20 +522,22 @@ module _ (s : Setting) (solo : Solo) (item : Item) {P : Draft → Type 0} (k : K
   given_up T3460 h = falls _ h
   given_up T3489 h = falls _ h
 
-  again : {d : Draft} (r : Repeat) → item ≡ Tick → solo.repeat ≡ Some r → d.solo.repeat ≡ Some r → d.solo.tai ≡ solo.tai → P d
+  again : {d : Draft} (r : Repeat) → item ≡ Tick → solo.repeat ≡ Some r → d.solo.repeat ≡ Some r → d.solo.tai ≡ solo.tai
+      → d.solo.tmsi ≡ solo.tmsi → P d
       → Whenever P (idle.again r s d)
   unfolding idle.again
-  again {d} (repeats.Nas Plain nas) ticks was kept tai h = some (k.sends nas d (inr (inr (ticks, was))) h)
-  again {d} (repeats.Nas (Under header) nas) ticks was kept tai h = k.protects header nas d (inr (ticks, was)) h
-  again {d} (repeats.Paging es) ticks was kept tai h =
-      some (k.pages_again es d (record { was = was; kept = kept; tai = tai }) h)
+  again {d} (repeats.Nas Plain nas) ticks was kept tai tmsi h = some (k.sends nas d (inr (inr (ticks, was))) h)
+  again {d} (repeats.Nas (Under header) nas) ticks was kept tai tmsi h = k.protects header nas d (inr (ticks, was)) h
+  again {d} (repeats.Paging es) ticks was kept tai tmsi h =
+      some (k.pages_again es d ticks (record { was = was; kept = kept; tai = tai; tmsi = tmsi }) h)
 
-  expired : {d : Draft} (c : Countdown) → item ≡ Tick → d.solo.repeat ≡ solo.repeat → d.solo.tai ≡ solo.tai → P d
+  expired : {d : Draft} (c : Countdown) → item ≡ Tick → d.solo.repeat ≡ solo.repeat → d.solo.tai ≡ solo.tai
+      → d.solo.tmsi ≡ solo.tmsi → P d
       → Whenever P (idle.expired c s d)
   unfolding idle.expired idle.restarted
-  expired {d} c ticks same tai h =
+  expired {d} c ticks same tai tmsi h =
       either (Whenever P) _ (some (given_up _ h))
-      (at_some (Whenever P) d.solo.repeat (λ r is. again r ticks (sym same ∙ is) is tai (k.restarts c d h)) (λ is. some h))
+      (at_some (Whenever P) d.solo.repeat (λ r is. again r ticks (sym same ∙ is) is tai tmsi (k.restarts c d h)) (λ is. some h))
 
   tick : item ≡ Tick → P (untouched solo) → Whenever P (idle.tick s (untouched solo))
   unfolding idle.tick idle.procedure_ticks idle.reachable_ticks_out idle.lowered
@@ -503,7 +545,7 @@ module _ (s : Setting) (solo : Solo) (item : Item) {P : Draft → Type 0} (k : K
       let l = k.lowers (untouched solo) h in
       then _
       (at_some (Whenever P) (idle.lowered (untouched solo)).solo.procedure
-      (λ c is. either (Whenever P) _ (expired c ticks refl refl l) (some l)) (λ is. some l))
+      (λ c is. either (Whenever P) _ (expired c ticks refl refl refl l) (some l)) (λ is. some l))
       (λ e f. at_some P e.solo.reachable (λ n is. either P _ (k.wipes e f) f) (λ is. f))
 
   detach_phone : {d : Draft} → P d → Whenever P (idle.detach_phone d)

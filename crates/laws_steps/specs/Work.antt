@@ -1,5 +1,5 @@
 -- How much a step sends.
-use Rattle.std.specs.Prelude.{◌≤◌, ℕ, max, List, length, Option, Some, None}
+use Rattle.std.specs.Prelude.{◌≤◌, ℕ, max, length, Option, Some}
 use Rattle.mme_types.specs.Events.{Item, Nothing, Initial, Claim, Message, Displaced, StationGone, ConnectionsGone, Tick, Data, Cancel}
 use Rattle.emm_state.specs.declared.setting.Setting.{Setting}
 use Rattle.emm_state.specs.declared.solo.Repeat.{Repeat}

@@ -175,7 +175,8 @@ impl Subscribers {
         ensures subscribers { self.new.subscribers ≡ with_stepped stepped.items self.old.subscribers }
         ensures room { self.old.room ≤ self.new.room + length stepped.items }
     {
-        place_all(&mut self.connections, stepped.as_slice());
+        let states = stepped.as_slice();
+        place_all(&mut self.connections, states);
         self.sleepers.settle_all(stepped);
     }
 

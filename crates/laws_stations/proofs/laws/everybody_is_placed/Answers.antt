@@ -1,4 +1,4 @@
-use Rattle.laws_stations.proofs.Worlds.{begins_placed, stays_placed}
+use Rattle.laws_stations.specs.Worlds.{begins_placed, stays_placed}
 use Rattle.laws_stations.proofs.laws.everybody_is_placed.Goals as goal
 
 pub returns-clause-begins : goal.returns-clause-begins

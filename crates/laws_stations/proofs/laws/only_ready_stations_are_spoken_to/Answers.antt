@@ -1,4 +1,4 @@
-use Rattle.laws_stations.proofs.Worlds.{speaks_to_the_ready}
+use Rattle.laws_stations.specs.Worlds.{speaks_to_the_ready}
 use Rattle.laws_stations.proofs.laws.only_ready_stations_are_spoken_to.Goals as goal
 
 pub returns : goal.returns

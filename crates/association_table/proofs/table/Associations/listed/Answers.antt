@@ -4,8 +4,8 @@ use Rattle.association_table.specs.Table.{Table, association_id}
 use Rattle.association_table.proofs.Entries.{rising_entries}
 use Rattle.association_table.proofs.table.Associations.listed.Goals as goal
 
-pub returns-in_err-gathered-clause-order : goal.returns-in_err-gathered-clause-order
-returns-in_err-gathered-clause-order c =
+pub returns-in_err-meant-clause-order : goal.returns-in_err-meant-clause-order
+returns-in_err-meant-clause-order c =
     subst (λ (v : Table). Rising association_id v.entries) c.self.view_is
     (rising_entries c.self.inside.slab c.self.inside.by_id.items c.self.invariant.0.rising)
 

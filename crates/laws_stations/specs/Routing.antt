@@ -26,7 +26,6 @@ use Rattle.mme_types.specs.declared.stations.StationState.TheVariants.{Down, Up,
 use Rattle.mme_types.specs.Answers.{answer_of}
 use Rattle.mme_types.specs.Events.{Cancel, Data, Item}
 use Rattle.mme_types.specs.Stations.{station_at}
-use Rattle.stranger_machine.specs.declared.turn.Notice.{Notice}
 use Rattle.stranger_machine.specs.declared.turn.Notice.TheVariants.{Gone}
 use Rattle.stranger_machine.specs.Machine.{unknown}
 use Rattle.stranger_machine.specs.Turns.{sent_to}
@@ -37,16 +36,15 @@ use Rattle.mme_routing.specs.Outcomes.{Outcome, answered, begins_anew, broadcast
 use Rattle.mme_routing.specs.Resets.{reset}
 use Rattle.mme_core.specs.declared.event.Event.{Event}
 use Rattle.mme_core.specs.declared.event.Event.TheVariants.{Up as UpEvent, Lost as LostEvent, In as InEvent, Tick as TickEvent, Data as DataEvent, Cancel as CancelEvent}
-use Rattle.mme_core.specs.declared.event.StepFault.{StepFault}
 use Rattle.mme_core.specs.declared.event.StepFault.TheVariants.{AlreadyUp, NotUp}
 use Rattle.mme_core.specs.Sight.{Sight}
 use Rattle.mme_core.specs.World.{event_fault, happens, if_down, placed, sight_moved, station_of, to_slot}
 use Rattle.laws_written.specs.SubscriberRanges.{EntryInRange}
 use Rattle.laws_written.specs.Received.{EntriesAreInRange}
 use Rattle.laws_stations.specs.Placed.{IsConnected, IsReady, is_connected, is_ready}
-use Rattle.laws_stations.specs.Spoken.{at_station, emptied, emptied_by, emptied_by_reset, is_whole}
-use Rattle.laws_stations.proofs.Steps.{ComesFromReady}
-use Rattle.laws_stations.proofs.Turning.{is_gone}
+use Rattle.laws_stations.specs.Spoken.{emptied, emptied_by, emptied_by_reset}
+use Rattle.laws_stations.specs.Steps.{ComesFromReady}
+use Rattle.laws_stations.specs.Turning.{is_gone}
 
 -- ---- where an event goes that leaves the stations
 

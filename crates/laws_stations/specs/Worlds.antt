@@ -1,6 +1,6 @@
--- The whole MME, event by event: everybody is placed, who is sent something is at a station that is set up, and a station that is lost,
--- set up or reset is left empty.
-use Rattle.std.proofs.Common.{◌≡◌, ◌≢◌, ℕ, ◌+◌, Bool, true, false, inl, inr, List, [], ◌∷◌, ◌++◌, map, All, Option, Some, None, Result, Ok, Err, refl, sym, ◌∙◌, ap, subst, arith}
+-- The whole MME, event by event: everybody is placed, who is sent something is at a station that is set up, and a station that is
+-- lost, set up or reset is left empty.
+use Rattle.std.proofs.Common.{◌≡◌, ◌≢◌, ℕ, ◌+◌, false, inl, inr, List, [], ◌∷◌, ◌++◌, map, All, Option, Some, None, Ok, refl, sym, ◌∙◌, ap, subst}
 use Rattle.std.specs.Prelude.{◌==◌, get_or}
 use Rattle.std.proofs.lemmas.List.Elements.{All-append, All-map, All-nil, All-weaker}
 use Rattle.std.proofs.lemmas.Option.{same_Some}
@@ -15,36 +15,30 @@ use Rattle.mme_types.specs.declared.network.Network.{Network}
 use Rattle.mme_types.specs.declared.octets.Answer.{Answer}
 use Rattle.mme_types.specs.declared.stations.StationState.{StationState}
 use Rattle.mme_types.specs.Events.{Item, StationGone}
-use Rattle.mme_types.specs.Events as items
 use Rattle.mme_types.specs.Stations.{station_at}
 use Rattle.emm_state.specs.declared.solo.Repeat.{Repeat}
 use Rattle.emm_state.specs.declared.solo.Repeat.TheVariants as repeats
 use Rattle.emm_machine.specs.Idle.{listens}
 use Rattle.emm_machine.specs.SubscriberView.{SubscriberView}
-use Rattle.stranger_machine.specs.declared.state.Stranger.{Stranger}
 use Rattle.stranger_machine.specs.declared.table.Known.{Known}
 use Rattle.stranger_machine.specs.declared.turn.Notice.{Notice}
 use Rattle.stranger_machine.specs.declared.turn.Notice.TheVariants.{Tick, Gone, Listed}
-use Rattle.stranger_machine.specs.Machine.{Begins, Input, Receives, notes, stranger_step}
+use Rattle.stranger_machine.specs.Machine.{Begins, Receives}
 use Rattle.stranger_machine.specs.Table.{noted, stranger_at}
-use Rattle.stranger_machine.specs.Turns.{Call, Turn}
+use Rattle.stranger_machine.specs.Turns.{Call}
 use Rattle.mme_routing.specs.Destinations.{Destination, for_one, if_called, item_at, item_of_notice, strangers_behind}
 use Rattle.mme_routing.specs.Destinations as to
 use Rattle.mme_answering.specs.declared.out.Out.{Out}
-use Rattle.mme_answering.specs.declared.out.Owner.{Owner}
-use Rattle.mme_answering.specs.declared.out.Owner.TheVariants.{Station, Stranger as StrangerOwner, Subscriber}
-use Rattle.mme_core.specs.declared.config.Config.{Config}
 use Rattle.mme_core.specs.declared.event.Event.{Event}
 use Rattle.mme_core.specs.declared.event.StepFault.{StepFault}
-use Rattle.mme_core.specs.World.{World, each_after, each_known, each_sent, event_fault, fresh_subscribers, fresh_world, happens, input_sent, items_of, outputs, reply, reply_of, sight_moved, slot_out, station_of, station_out, station_sent, stranger_out, strangers_in, strangers_sent, subscriber_after, subscriber_step, unless, world_after, world_moved, world_run}
+use Rattle.mme_core.specs.World.{World, each_after, each_known, each_sent, event_fault, fresh_subscribers, happens, items_of, outputs, reply_of, sight_moved, slot_out, station_of, station_out, station_sent, stranger_out, strangers_in, strangers_sent, subscriber_after, unless, world_after, world_moved}
 use Rattle.laws_written.specs.Received.{EntriesAreInRange}
-use Rattle.laws_steps.specs.Holds.{IsHeld}
 use Rattle.laws_steps.specs.Walk.{either}
-use Rattle.laws_stations.specs.Placed.{AllPlaced, AreListening, BeginsPlaced, IsAtReady, IsPagedThere, IsPlaced, IsReady, IsStrangerPlaced, IsViewPlaced, Listens, StaysPlaced, is_ready}
-use Rattle.laws_stations.specs.Spoken.{IsAway, IsEmpty, IsElsewhere, IsNotAt, IsSpokenTo, LeavesEmpty, PagesElsewhere, SpeaksToTheReady, emptied}
-use Rattle.laws_stations.proofs.Routing.{GoesFrom, HappensSo, IsOwnTo, MovesSo, Same, goes_to_all, happens_so}
-use Rattle.laws_stations.proofs.Steps.{ComesFromReady, IsGone, listens_ready, step_gone, step_placed}
-use Rattle.laws_stations.proofs.Turning.{CallsFrom, InputFrom, IsPlacedIf, IsTurnPlaced, ToReady, every_if, every_with, is_gone, left_by, noted_so, silent_gone, turned}
+use Rattle.laws_stations.specs.Placed.{AllPlaced, AreListening, BeginsPlaced, IsAtReady, IsPagedThere, IsReady, IsStrangerPlaced, IsViewPlaced, Listens, StaysPlaced, is_ready}
+use Rattle.laws_stations.specs.Spoken.{IsAway, IsEmpty, IsElsewhere, IsNotAt, IsSpokenTo, LeavesEmpty, PagesElsewhere, SpeaksToTheReady}
+use Rattle.laws_stations.specs.Routing.{GoesFrom, HappensSo, IsOwnTo, MovesSo, Same, goes_to_all, happens_so}
+use Rattle.laws_stations.specs.Steps.{ComesFromReady, listens_ready, step_gone, step_placed}
+use Rattle.laws_stations.specs.Turning.{CallsFrom, ToReady, every_if, every_with, is_gone, left_by, noted_so, silent_gone, turned}
 
 -- ---- where the stations that matter stay, who was placed is so
 
@@ -158,7 +152,7 @@ module _ (stations : List StationState) where
   notice_from (Gone e) other = absurd (cc other)
   notice_from (Listed e listed) other = tt
 
-  item_from : (ps : List Profile) (d : Destination) (ks : List Known) (slot : ℕ) → GoesFrom stations d
+  pub item_from : (ps : List Profile) (d : Destination) (ks : List Known) (slot : ℕ) → GoesFrom stations d
       → Every (IsStrangerPlaced stations) ks → ComesFromReady stations (item_at d ps (λ id. stranger_at id ks) slot)
   item_from ps to.Nobody ks slot from each = tt
   item_from ps (to.Subscriber n item) ks slot from each = one_from n item slot from

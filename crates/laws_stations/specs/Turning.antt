@@ -1,7 +1,7 @@
--- One stranger's turn: where it was placed it stays so, what it sends goes to stations that are set up, and from there comes whom it
--- calls.
-use Rattle.std.proofs.Common.{◌≡◌, ◌≢◌, ℕ, ◌-◌, Bool, true, false, cond, List, [], ◌∷◌, ◌++◌, All, Option, Some, None, refl, sym, ◌∙◌, ap, subst, arith}
-use Rattle.std.specs.Prelude.{◌==◌, ◌&&◌, nat_lt, option_map}
+-- One stranger's turn: where it was placed it stays so, what it sends goes to stations that are set up, and from there comes whom
+-- it calls.
+use Rattle.std.proofs.Common.{◌≡◌, ◌≢◌, ℕ, ◌-◌, Bool, true, false, List, [], ◌∷◌, All, Option, Some, None, refl, sym, subst}
+use Rattle.std.specs.Prelude.{◌==◌, nat_lt, option_map}
 use Rattle.std.proofs.lemmas.Bool.{eqb-true}
 use Rattle.std.proofs.lemmas.List.Elements.{All-append, All-cons, All-nil}
 use Rattle.s1ap_causes.specs.declared.cause.Cause.{Cause}
@@ -10,7 +10,7 @@ use Rattle.s1ap_pdus.specs.Pdus.{encoded}
 use Rattle.identity_slots.specs.declared.profile.Profile.{Profile}
 use Rattle.identity_slots.specs.Ids.{station_in}
 use Rattle.identity_slots.specs.Provisioned.{slot_of_imsi}
-use Rattle.sorted_list.specs.Ordered.{Every, at, put, without}
+use Rattle.sorted_list.specs.Ordered.{Every, put, without}
 use Rattle.mme_types.specs.declared.event.Entry.{Entry}
 use Rattle.mme_types.specs.declared.event.UeBody.{UeBody}
 use Rattle.mme_types.specs.declared.event.UeBody.TheVariants as bodies
@@ -28,10 +28,10 @@ use Rattle.stranger_machine.specs.declared.turn.Notice.TheVariants.{Tick, Gone, 
 use Rattle.stranger_machine.specs.Machine as machine
 use Rattle.stranger_machine.specs.Machine.{Input, Welcome, Ask, Refuse, TurnAway, stranger_step}
 use Rattle.stranger_machine.specs.Table.{known_id, known_if, noted, stranger_at, with_stranger}
-use Rattle.stranger_machine.specs.Turns.{Call, Turn, as_entry, as_kept, closing, identity_asked, place_of, refused, released, sent_to, stays}
+use Rattle.stranger_machine.specs.Turns.{Call, Turn, as_kept, closing, identity_asked, place_of, refused, released, sent_to, stays}
 use Rattle.laws_steps.specs.Walk.{either, either_by}
-use Rattle.laws_stations.specs.Placed.{IsAtOwn, IsReady, IsStrangerPlaced}
-use Rattle.laws_stations.proofs.Steps.{ComesFromReady, not_same}
+use Rattle.laws_stations.specs.Placed.{IsReady, IsStrangerPlaced}
+use Rattle.laws_stations.specs.Steps.{ComesFromReady, not_same}
 
 -- ---- what a turn leaves
 

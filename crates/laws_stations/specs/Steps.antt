@@ -1,18 +1,16 @@
 -- One subscriber's step: where it was placed it stays so, and what it sends goes to stations that are set up.
-use Rattle.std.proofs.Common.{◌≡◌, ◌≢◌, ℕ, ◌+◌, ◌<◌, zero, suc, Bool, true, false, cond, not, inl, inr, List, [], ◌∷◌, length, filter, All, AllPairs, Option, Some, None, refl, sym, ◌∙◌, ap, subst, true≢false, arith}
+use Rattle.std.proofs.Common.{◌≡◌, ◌≢◌, ℕ, ◌+◌, ◌<◌, suc, Bool, true, false, cond, not, inl, inr, List, [], ◌∷◌, length, filter, All, AllPairs, Option, Some, None, refl, sym, ◌∙◌, ap, subst, arith}
 use Rattle.std.specs.Prelude.{◌==◌, get_or}
-use Rattle.std.specs.List.{list_any}
-use Rattle.std.specs.Option.{option_map_or}
 use Rattle.std.proofs.lemmas.Bool.Decides.{nat_tests}
 use Rattle.std.proofs.lemmas.List.Elements.{All-cons, All-filter, All-nil, All-weaker}
 use Rattle.std.proofs.lemmas.List.Kept.{AllPairs-cons, AllPairs-filter}
-use Rattle.std.proofs.lemmas.Option.{none-some, same_Some}
+use Rattle.std.proofs.lemmas.Option.{same_Some}
 use Rattle.s1ap_elements.specs.declared.phone.Tai.{Tai}
 use Rattle.mme_types.specs.declared.connection.Connection.{Connection}
 use Rattle.mme_types.specs.declared.octets.Answer.{Answer}
 use Rattle.mme_types.specs.declared.stations.StationState.{StationState}
 use Rattle.mme_types.specs.declared.stations.StationState.TheVariants.{Down, Up, Ready}
-use Rattle.mme_types.specs.Events.{Item, Nothing, Initial, Claim, Message, Displaced, StationGone, ConnectionsGone, Tick, Data, Cancel}
+use Rattle.mme_types.specs.Events.{Item, Initial, Claim, Message, StationGone, Data}
 use Rattle.mme_types.specs.Stations.{station_at}
 use Rattle.mme_signalling.specs.Pdus.{paging}
 use Rattle.emm_state.specs.declared.draft.Draft.{Draft}
@@ -20,7 +18,7 @@ use Rattle.emm_state.specs.declared.setting.Setting.{Setting}
 use Rattle.emm_state.specs.declared.solo.Repeat.{Repeat}
 use Rattle.emm_state.specs.declared.solo.Repeat.TheVariants as repeats
 use Rattle.emm_state.specs.declared.solo.Solo.{Solo}
-use Rattle.emm_state.specs.Actions.{disconnected, ended, fallen, is_registered, lost, resting, untouched, wipe}
+use Rattle.emm_state.specs.Actions.{disconnected, ended, is_registered, lost, resting, untouched, wipe}
 use Rattle.emm_machine.specs.Connected.{station_gone, strike, struck}
 use Rattle.emm_machine.specs.Idle.{listening, listens}
 use Rattle.emm_machine.specs.Steps.{row, solo_step}
@@ -71,7 +69,7 @@ listening_from stations tai n (state ∷ states) is =
     one_more stations tai n (listening tai (n + 1) states) (listens tai state) (ap (listens tai) this)
     (listening_from stations tai (n + 1) states (rest_of stations n state states is))
 
-are_listening : (stations : List StationState) (tai : Tai) → AreListening stations tai (listening tai 0 stations)
+pub are_listening : (stations : List StationState) (tai : Tai) → AreListening stations tai (listening tai 0 stations)
 are_listening stations tai =
     let from = listening_from stations tai 0 stations (λ i lt. let same : 0 + i ≡ i = omega arith in ap (station_at stations) same) in
     record { all = from.all; once = from.once }
@@ -108,7 +106,7 @@ module _ (stations : List StationState) (s : Setting) (solo : Solo) (item : Item
   at_ready : (x : Solo) (k : Connection) → IsPlaced stations x → x.connection ≡ Some k → IsReady stations k.station
   at_ready x k h at = subst (IsAtReady stations) at h.connected
 
-  may_page : (x : Solo) (es : List ℕ) → MayPage solo x item es → IsPlaced stations x → AreListening stations x.tai es
+  pub may_page : (x : Solo) (es : List ℕ) → MayPage solo x item es → IsPlaced stations x → AreListening stations x.tai es
   may_page x es may h = elim may [
     | inl first ↦
         let now : AreListening stations x.tai (listening x.tai 0 stations) = are_listening stations x.tai in
@@ -116,12 +114,12 @@ module _ (stations : List StationState) (s : Setting) (solo : Solo) (item : Item
         first.2 ∙ ap (λ (y : Solo). listening y.tai 0 first.0) (sym first.3)
         ∙ ap (λ (ss : List StationState). listening x.tai 0 ss) (data_of stations first.0 item comes first.1) in
         subst (AreListening stations x.tai) (sym same) now
-    | inr again ↦ subst (IsPagedThere stations x.tai) again.kept h.paged
+    | inr again ↦ subst (IsPagedThere stations x.tai) again.1.kept h.paged
   ]
 
-  connects : (c : Option Connection) → (MayConnect item c) → IsAtReady stations c
+  connects : (c : Option Connection) → MayConnect s item c → IsAtReady stations c
   connects None may = tt
-  connects (Some k) may = from_ready stations item k.station comes may
+  connects (Some k) may = from_ready stations item k.station comes may.station
 
   says_to_ready : Says s solo item (IsPlaced stations) (λ (a : Answer). IsReady stations a.station)
   says_to_ready = record {
@@ -134,14 +132,14 @@ module _ (stations : List StationState) (s : Setting) (solo : Solo) (item : Item
     turned = λ m from h octets is. from_ready stations item m.station comes (ap station_of from);
     indication = λ station message from may octets is. from_ready stations item station comes from;
     acknowledged = λ m c x from has h octets is. from_ready stations item m.station comes (ap station_of from);
-    page = λ t es x may h.
+    page = λ t es x may given h.
         All-weaker (Listens stations x.tai)
         (λ e. Sends (λ (a : Answer). IsReady stations a.station) e (paging s.network s.profile.imsi t x.tai) None)
         (λ e listens_to octets is. listens_ready x.tai (station_at stations e) listens_to) es (may_page x es may h).all;
   }
 
-  stays_placed : KeepsState s solo item (IsPlaced stations)
-  stays_placed = record {
+  pub keeps_placed : KeepsState s solo item (IsPlaced stations)
+  keeps_placed = record {
     connection = λ c x may h. record { connected = connects c may; paged = h.paged };
     counted = λ n x h. record { connected = h.connected; paged = h.paged };
     context = λ c x h. record { connected = h.connected; paged = h.paged };
@@ -149,11 +147,11 @@ module _ (stations : List StationState) (s : Setting) (solo : Solo) (item : Item
     wiped = λ x h. record { connected = h.connected; paged = tt };
     ended = λ x h. record { connected = h.connected; paged = tt };
     registers = λ reachable x h. record { connected = h.connected; paged = tt };
-    updates = λ tai initial x h. record { connected = h.connected; paged = tt };
+    updates = λ tai initial x from h. record { connected = h.connected; paged = tt };
     moves_on = λ phase x under h. record { connected = h.connected; paged = h.paged };
-    tmsi = λ x h. record { connected = h.connected; paged = h.paged };
-    bears = λ bearer x h. record { connected = h.connected; paged = h.paged };
-    asks = λ combined capability tai x asked phase repeat h.
+    tmsi = λ x on h. record { connected = h.connected; paged = h.paged };
+    bears = λ bearer x may h. record { connected = h.connected; paged = h.paged };
+    asks = λ combined capability tai x asked from phase repeat h.
         record { connected = h.connected; paged = subst (IsPagedThere stations tai) (sym repeat) tt };
     challenges = λ v procedure x there may h. record { connected = h.connected; paged = tt };
     secures = λ c phase h. record { connected = h.connected; paged = h.paged };
@@ -167,7 +165,7 @@ module _ (stations : List StationState) (s : Setting) (solo : Solo) (item : Item
   }
 
   pub step_placed : IsPlaced stations solo → IsHeld (IsPlaced stations) (λ (a : Answer). IsReady stations a.station) (solo_step s solo item)
-  step_placed h = step_holds s solo item stays_placed says_to_ready h
+  step_placed h = step_holds s solo item keeps_placed says_to_ready h
 
 -- ---- a station is gone
 

@@ -1,0 +1,3 @@
+pub mod Tmsis
+pub mod Again
+pub mod Addresses

@@ -1,0 +1,4 @@
+mod Messages
+mod Once
+mod Paged
+mod Areas

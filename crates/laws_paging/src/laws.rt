@@ -1,0 +1,36 @@
+//! The laws: each is the contract of a function that does nothing.
+
+ghost use Rattle.laws_paging.specs.Areas.{AreasComeSo};
+ghost use Rattle.laws_paging.specs.Paged.{AllWhoListen, PagedWhereTheyAre};
+
+use laws_admission::unproved_leaves;
+use laws_stations::everybody_is_placed;
+use laws_steps::work_is_bounded;
+use laws_written::what_stations_tell_is_in_range;
+use s1ap_pdus::what_is_encoded;
+
+/// PAGING goes to stations that are set up and broadcast the tracking area that it names, which is the phone's, under the phone's
+/// M-TMSI: the first time and each time again, and to each station once. So it is at each event of every run of an MME, whatever
+/// octets stations send (TS 36.413 clause 8.5, TS 24.301 clause 5.6.2).
+pub fn phones_are_paged_where_they_are()
+    ensures { PagedWhereTheyAre }
+{
+    what_is_encoded();
+    everybody_is_placed();
+    work_is_bounded();
+    what_stations_tell_is_in_range();
+}
+
+/// The stations to which PAGING goes the first time, and which it goes to again, are all that are set up and broadcast the phone's
+/// tracking area.
+pub fn all_who_listen_are_asked()
+    ensures { AllWhoListen }
+{}
+
+/// The tracking area of a phone that is registered stays, but where an ATTACH REQUEST in its name or a message that carries its MAC
+/// comes: then it is the one that the station names there (TS 24.301 clauses 5.5.1.2.4, 5.5.3.2.4).
+pub fn tracking_areas_come_so()
+    ensures { AreasComeSo }
+{
+    unproved_leaves();
+}

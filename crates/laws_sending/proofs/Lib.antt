@@ -1,0 +1,5 @@
+mod Sending
+mod Outcomes
+mod Events
+mod Kept
+mod Associated

@@ -1,0 +1,4 @@
+pub mod Kinds
+pub mod Few
+pub mod Kept
+pub mod Associated
