@@ -2,6 +2,7 @@
 call again.
 """
 import collections
+from concurrent.futures import ThreadPoolExecutor
 
 NO_MEMORY = b"mme: out of memory\n"
 # So many runs in a row in which no call was refused mean that the last allocation is passed.
@@ -83,14 +84,15 @@ def called_again(program, given, wanted):
     """A run of the program of calls/ for each of its allocations: how many there were, the calls that were refused, and what
     went otherwise. It prints the answers, whatever is refused, and one call alone is told."""
     otherwise, calls, refused, silent = [], collections.Counter(), 0, 0
-    while silent < SILENT:
-        ran = program.ran(given, refused)
-        told = ran.text.decode().split("\n")[:-1]
-        if ran.output != wanted or ran.status or len(told) > bool(refused):
-            otherwise.append("allocation %d: status %d, told %s, %s" % (
-                refused, ran.status, told[:3], "the answers" if ran.output == wanted else repr(ran.output[-60:])))
-        silent = 0 if told else silent + bool(refused)
-        calls[told[0] if told else "nobody"] += bool(refused)
-        refused += 1
+    with ThreadPoolExecutor(program.lanes) as pool:
+        while silent < SILENT:
+            for ran in pool.map(lambda number: program.ran(given, number), range(refused, refused + SILENT)):
+                told = ran.text.decode().split("\n")[:-1]
+                if ran.output != wanted or ran.status or len(told) > bool(refused):
+                    otherwise.append("allocation %d: status %d, told %s, %s" % (
+                        refused, ran.status, told[:3], "the answers" if ran.output == wanted else repr(ran.output[-60:])))
+                silent = 0 if told else silent + bool(refused)
+                calls[told[0] if told else "nobody"] += bool(refused)
+                refused += 1
     calls["nobody"] -= silent
     return refused - 1 - silent, calls, otherwise

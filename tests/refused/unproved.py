@@ -5,10 +5,12 @@ that it is built once here, and the constant set for each run.
 """
 import os
 import pathlib
+import queue
 import re
 import struct
 import subprocess
 import sys
+import threading
 import time
 
 from shimmed import HERE, SECONDS, TOP, Ran
@@ -48,7 +50,7 @@ class Program:
     """The program, taken from where `rt try` runs it over many ticks."""
 
     def __init__(self, folder):
-        self.path, room = folder / "calls", folder / "room"
+        room = folder / "room"
         room.mkdir()
         (folder / "repository").mkdir()
         crate = with_crate(folder / "repository", NAME, sorted((HERE / "calls").iterdir()))
@@ -64,14 +66,23 @@ class Program:
         self.places = [at.start() for at in re.finditer(re.escape(compared(NONE)), octets)]
         if not self.places:
             raise NotBuilt((folder / "told").read_text(errors="replace")[-300:])
-        self.path.write_bytes(octets)
-        self.path.chmod(0o700)
+        self.lanes, self.free, self.starting = len(os.sched_getaffinity(0)), queue.SimpleQueue(), threading.Lock()
+        for lane in range(self.lanes):
+            copy = folder / ("calls.%d" % lane)
+            copy.write_bytes(octets)
+            copy.chmod(0o700)
+            self.free.put(copy)
 
     def ran(self, given, refused):
-        """A run in which this allocation is refused, or none at 0."""
-        with open(self.path, "r+b") as file:
-            for place in self.places:
-                file.seek(place)
-                file.write(compared(refused or NONE))
-        done = subprocess.run([self.path], input=given, capture_output=True, timeout=SECONDS, check=False)
-        return Ran(done.stdout, done.stderr, done.returncode)
+        """A run in which this allocation is refused, or none at 0; as many at once as there are lanes."""
+        copy = self.free.get()
+        # (a program that is started has the files that are open in any lane until it begins, and none that is written can be started)
+        with self.starting:
+            with open(copy, "r+b") as file:
+                for place in self.places:
+                    file.seek(place)
+                    file.write(compared(refused or NONE))
+            run = subprocess.Popen([copy], stdin=subprocess.PIPE, stdout=subprocess.PIPE, stderr=subprocess.PIPE)
+        output, text = run.communicate(given, SECONDS)
+        self.free.put(copy)
+        return Ran(output, text, run.returncode)
