@@ -22,13 +22,13 @@ MARK = "†"  # of a call that stands under "What isn't said"
 MEMORY = ("never", "alone", "last", "anywhere")
 
 # The forms of clauses that say what a refused call leaves: of an error, of every answer, or of `None`.
-STAYING = (r"(?:OnErr|IfErr) result.*\.new", r"\w+\.new[.\w]* ≡ .*\.old", r"\w+\.old[.\w]* ≤ \w+\.new[.\w]*$",
+STAYING = (r"(?:OnErr|IfErr) result.*\.new", r"\w+\.new[.\w]* ≡ .*\.old(?!.*\bresult$)", r"\w+\.old[.\w]* ≤ \w+\.new[.\w]*$",
            r"IfOk result \(λ \w+\. IsNone .*\.new ≡ \w+\.old")
 # The clauses that say it in no such form: by a relation, or by the answer.
 SAID_OTHERWISE = {
     "Station::act": ["err", "station"], "take_part": ["the one"], "play_script_line": ["the one"],
-    "Watched::read": ["bytes", "failed", "calls"], "Watched::write": ["bytes", "failed", "calls"],
-    "Watched::flush": ["bytes", "failed", "calls"], "play_mme": ["the one"], "play_sub": ["the one"], "play_vec": ["the one"],
+    "Watched::read": ["bytes", "failed", "ended", "calls"], "Watched::write": ["bytes", "failed", "ended", "calls"],
+    "Watched::flush": ["bytes", "failed", "ended", "calls"], "play_mme": ["the one"], "play_sub": ["the one"], "play_vec": ["the one"],
     "print_show": ["unknown"], "play_show": ["unknown"],
 }
 # Objects that aren't used further by intent, by the name of the call; readers and writers of bits are told by their type.

@@ -1,6 +1,7 @@
 //! A script simulated from a reader to a writer.
 
-ghost use Rattle.std.specs.Prelude.{◌≡◌, ◌⊎◌, ◌<◌, ◌≤◌, ◌+◌, ◌^◌, [], length, true, IsErrOf};
+ghost use Rattle.std.specs.Prelude.{◌≡◌, ◌⊎◌, ◌<◌, ◌≤◌, ◌+◌, ◌^◌, [], length, true, OnOk, IsErrOf};
+ghost use Rattle.std.specs.Io.KnownBytes.{IsAtEnd};
 ghost use Rattle.trace_player.specs.declared.progress.Progress.TheVariants.{Nothing};
 ghost use Rattle.trace_player.specs.Acts.{GrowsBy};
 ghost use Rattle.sim_run.specs.Simulated.{Simulates, IsWaiting, Feeds, Closes};
@@ -22,6 +23,7 @@ pub fn run_sim<R: Read, W: Write>(
 ) -> Result<(), PlayFault>
     ensures simulated { Simulates (R.remaining reader.old.inner) (R.remaining reader.new.inner)
         (W.contents writer.old.inner) (W.contents writer.new.inner) reader.new.ended result }
+    ensures end { OnOk result (IsAtEnd (R.remaining reader.new.inner)) }
     ensures read { reader.old.calls ≡ 0 → IsErrOf result PlayFault.Read
         → (reader.new.failed ≡ true) ⊎ (MOST_TURNS ≤ reader.new.calls) }
     ensures write { IsErrOf result PlayFault.Write → writer.new.failed ≡ true }
@@ -42,6 +44,7 @@ fn simulate_pieces<R: Read, W: Write>(
     requires pending { player.old.pending.items ≡ [] }
     ensures simulated { Simulates (R.remaining reader.old.inner) (R.remaining reader.new.inner)
         (W.contents writer.old.inner) (W.contents writer.new.inner) reader.new.ended result }
+    ensures end { OnOk result (IsAtEnd (R.remaining reader.new.inner)) }
     ensures read { reader.old.calls ≡ 0 → IsErrOf result PlayFault.Read
         → (reader.new.failed ≡ true) ⊎ (MOST_TURNS ≤ reader.new.calls) }
     ensures write { IsErrOf result PlayFault.Write → writer.new.failed ≡ true }

@@ -108,9 +108,9 @@ fn plays_octets(alloc: Global, held: &mut Vec<u8>) -> bool {
         good_flushes: ENOUGH,
     });
     run_play(alloc, &mut reader, &mut writer) == Ok(())
-        && reader.ended
-        && !reader.failed
-        && !writer.failed
+        && reader.ended()
+        && !reader.failed()
+        && !writer.failed()
 }
 
 #[test]
@@ -130,8 +130,8 @@ fn ends_at_read(alloc: Global, good_reads: usize, held: &mut Vec<u8>) -> bool {
     });
     let mut writer = Watched::new(held);
     run_play(alloc, &mut reader, &mut writer) == Err(PlayFault::Read)
-        && reader.failed
-        && !reader.ended
+        && reader.failed()
+        && !reader.ended()
 }
 
 /// Whether it has written the answer by then if the whole trace was read, and else nothing.
@@ -165,7 +165,7 @@ fn ends_at_write(
         good_writes,
         good_flushes,
     });
-    run_play(alloc, &mut reader, &mut writer) == Err(PlayFault::Write) && writer.failed
+    run_play(alloc, &mut reader, &mut writer) == Err(PlayFault::Write) && writer.failed()
 }
 
 /// Whether it has written this by then.
@@ -194,7 +194,7 @@ fn keeps_nothing_back(alloc: Global, buffered: BufWriter<&mut Vec<u8>>) -> bool 
     let mut reader = Watched::new(FAULTY);
     let mut writer = Watched::new(buffered);
     run_play(alloc, &mut reader, &mut writer) == Err(PlayFault::Trace(4, TraceFault::UnknownWord))
-        && writer.inner.get_ref().as_slice() == INDICATION
+        && writer.inner().get_ref().as_slice() == INDICATION
 }
 
 fn buffers_nothing(alloc: Global, held: &mut Vec<u8>) -> bool {

@@ -1,26 +1,44 @@
 //! A reader or a writer, with what became of the calls of it.
 
-ghost use Rattle.std.specs.Prelude.{◌≡◌, ◌⊎◌, ◌<◌, ◌≤◌, ◌+◌, ◌-◌, ◌^◌, min, length, take, MatchResult, IfOk, true, false, Ok};
+ghost use Rattle.std.specs.Prelude.{◌≡◌, ◌+◌, ◌-◌, ◌^◌, min, length, true, false};
 ghost use Rattle.std.specs.Io.{ReadsAtMost, WritesAtMost};
 ghost use Rattle.std.specs.Io.KnownBytes.{Keeps, ReadConsumes, WriteAppends};
+ghost use Rattle.trace_player.specs.Watching.{ended_after, failed_after, failed_after_write, moves_none};
 
 use std::io;
 use std::io::{Read, Write};
+use std::marker::Model;
 
 /// How many reads a run makes at most.
 pub const MOST_TURNS: u64 = 4_294_967_296;
 
-/// A reader or a writer, with what became of the calls of it.
+/// A reader or a writer, with what became of the calls of it; a contract sees it and that (`Watching`). Nothing else changes what
+/// became of them, so a run can't say that an end was met or a call failed where none was made.
 #[derive(Drop)]
 pub struct Watched<T> {
-    /// The reader or the writer itself.
-    pub inner: T,
-    /// Whether a call failed; a `write` with octets that took none counts.
-    pub failed: bool,
-    /// Whether a `read` with room gave nothing.
-    pub ended: bool,
-    /// How many calls there were, up to 2^64 - 1.
-    pub calls: u64,
+    // The reader or the writer itself.
+    inner: T,
+    // Whether a call failed; a `write` with octets that took none counts.
+    failed: bool,
+    // Whether a `read` with room gave nothing.
+    ended: bool,
+    // How many calls there were, up to 2^64 - 1.
+    calls: u64,
+}
+
+impl<T> Model for Watched<T> {
+    ghost use Rattle.trace_player.specs.Watching.{Watching};
+
+    ghost Value = { Watching T };
+
+    ghost view = { λ w. record { inner = w.inner; failed = w.failed; ended = w.ended; calls = w.calls } };
+}
+
+// Whether a call moved none of so many octets, though there were some to move.
+fn moves_none(octets: usize, moved: usize) -> bool
+    ensures { result ≡ moves_none octets moved }
+{
+    moved == 0 && octets != 0
 }
 
 impl<T> Watched<T> {
@@ -35,6 +53,27 @@ impl<T> Watched<T> {
             calls: 0,
         }
     }
+
+    /// The reader or the writer itself.
+    pub fn inner(&self) -> &T
+        ensures { result.now ≡ self.entry.now.inner }
+    {
+        &self.inner
+    }
+
+    /// Whether a call failed; a `write` with octets that took none counts.
+    pub fn failed(&self) -> bool
+        ensures { result ≡ self.now.failed }
+    {
+        self.failed
+    }
+
+    /// Whether a `read` with room gave nothing.
+    pub fn ended(&self) -> bool
+        ensures { result ≡ self.now.ended }
+    {
+        self.ended
+    }
 }
 
 impl<R: Read> Watched<R> {
@@ -42,15 +81,15 @@ impl<R: Read> Watched<R> {
     pub fn read(&mut self, buf: &mut [u8]) -> io::Result<usize>
         ensures bound { ReadsAtMost result buf.new }
         ensures bytes { ReadConsumes (R.remaining self.old.inner) (R.remaining self.new.inner) result buf.new }
-        ensures failed { MatchResult result (λ _. self.new.failed ≡ self.old.failed) (λ _. self.new.failed ≡ true) }
-        ensures ended { IfOk result (λ n. n ≡ 0 → 0 < length buf.old → self.new.ended ≡ true) }
-        ensures stays { self.old.ended ≡ true → self.new.ended ≡ true }
+        ensures failed { self.new.failed ≡ failed_after self.old.failed result }
+        ensures ended { self.new.ended ≡ ended_after self.old.ended (length buf.old) result }
         ensures calls { self.new.calls ≡ min (self.old.calls + 1) (2 ^ 64 - 1) }
     {
+        let room = buf.len();
         self.calls = self.calls.saturating_add(1);
         match self.inner.read(buf) {
             Ok(count) => {
-                if count == 0 && !buf.is_empty() {
+                if moves_none(room, count) {
                     self.ended = true;
                 }
                 Ok(count)
@@ -68,15 +107,14 @@ impl<W: Write> Watched<W> {
     pub fn write(&mut self, buf: &[u8]) -> io::Result<usize>
         ensures bound { WritesAtMost result buf.now }
         ensures bytes { WriteAppends (W.contents self.old.inner) (W.contents self.new.inner) result buf.now }
-        ensures failed { MatchResult result (λ n. n ≡ 0 → 0 < length buf.now → self.new.failed ≡ true)
-            (λ _. self.new.failed ≡ true) }
+        ensures failed { self.new.failed ≡ failed_after_write self.old.failed (length buf.now) result }
         ensures ended { self.new.ended ≡ self.old.ended }
         ensures calls { self.new.calls ≡ min (self.old.calls + 1) (2 ^ 64 - 1) }
     {
         self.calls = self.calls.saturating_add(1);
         match self.inner.write(buf) {
             Ok(taken) => {
-                if taken == 0 && !buf.is_empty() {
+                if moves_none(buf.len(), taken) {
                     self.failed = true;
                 }
                 Ok(taken)
@@ -91,7 +129,7 @@ impl<W: Write> Watched<W> {
     /// Hands on what the writer keeps back.
     pub fn flush(&mut self) -> io::Result<()>
         ensures bytes { Keeps (W.contents self.old.inner) (W.contents self.new.inner) }
-        ensures failed { MatchResult result (λ _. self.new.failed ≡ self.old.failed) (λ _. self.new.failed ≡ true) }
+        ensures failed { self.new.failed ≡ failed_after self.old.failed result }
         ensures ended { self.new.ended ≡ self.old.ended }
         ensures calls { self.new.calls ≡ min (self.old.calls + 1) (2 ^ 64 - 1) }
     {

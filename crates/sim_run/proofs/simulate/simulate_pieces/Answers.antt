@@ -1,6 +1,7 @@
-use Rattle.std.proofs.Common.{[], take, ap, arith, rules}
+use Rattle.std.proofs.Common.{[], take, ap, ◌∙◌, arith, rules}
 use Rattle.std.proofs.lemmas.List.{length-take}
 use Rattle.trace_player.specs.OctetLaws.{Consumes-same, Keeps-same}
+use Rattle.trace_player.specs.Watching.{OnOk-always, moves_none-some}
 use Rattle.trace_player.specs.TextLaws.{breaks-le}
 use Rattle.sim_run.proofs.Simulating.{Simulating-start, Simulating-turn, Simulating-idle, Simulates-fault, Simulates-last, Simulates-read}
 use Rattle.sim_run.proofs.simulate.simulate_pieces.Goals as goal
@@ -29,7 +30,11 @@ returns-then-count-eq0-clause-simulated g c =
     let turn = c.close_turn.ensures.closes in
     Simulates-last first last (held c.args.writer.now.inner) (held c.loop-turn.writer.inner)
     (held c.close_turn.new.writer.inner) c.loop-turn.player playing turn.0 turn.1
-    c.read.new.self.ended c.close_turn.result (c.in-Ok.ensures.ended c.if-count-eq0.true (search rules)) turn.2
+    c.read.new.self.ended c.close_turn.result (c.in-Ok.ensures.ended ∙ moves_none-some c.loop-turn.reader.ended _ c.in-Ok.count c.if-count-eq0.true (search rules)) turn.2
+
+pub returns-then-count-eq0-clause-end : goal.returns-then-count-eq0-clause-end
+returns-then-count-eq0-clause-end g c =
+    OnOk-always c.close_turn.result (c.in-Ok.ensures.bytes.1 c.if-count-eq0.true (search rules))
 
 pub returns-in-Err-clause-simulated : goal.returns-in-Err-clause-simulated
 returns-in-Err-clause-simulated g c =

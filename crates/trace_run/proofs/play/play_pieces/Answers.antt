@@ -1,6 +1,7 @@
-use Rattle.std.proofs.Common.{[], take, ap, arith, rules}
+use Rattle.std.proofs.Common.{[], take, ap, ◌∙◌, arith, rules}
 use Rattle.std.proofs.lemmas.List.{length-take}
 use Rattle.trace_player.specs.OctetLaws.{Consumes-same, Keeps-same}
+use Rattle.trace_player.specs.Watching.{OnOk-always, moves_none-some}
 use Rattle.trace_player.specs.TextLaws.{breaks-le}
 use Rattle.trace_run.proofs.Playing.{Playing-turn, Playing-idle, Plays-fault, Plays-last, Plays-read}
 use Rattle.trace_run.proofs.play.play_pieces.Goals as goal
@@ -29,7 +30,11 @@ returns-then-count-eq0-clause-played g c =
     let turn = c.last_turn.ensures.finishes in
     Plays-last first last (held c.args.writer.now.inner) (held c.loop-turn.writer.inner)
     (held c.last_turn.new.writer.inner) c.loop-turn.player playing turn.0 turn.1
-    c.read.new.self.ended c.last_turn.result (c.in-Ok.ensures.ended c.if-count-eq0.true (search rules)) turn.2
+    c.read.new.self.ended c.last_turn.result (c.in-Ok.ensures.ended ∙ moves_none-some c.loop-turn.reader.ended _ c.in-Ok.count c.if-count-eq0.true (search rules)) turn.2
+
+pub returns-then-count-eq0-clause-end : goal.returns-then-count-eq0-clause-end
+returns-then-count-eq0-clause-end g c =
+    OnOk-always c.last_turn.result (c.in-Ok.ensures.bytes.1 c.if-count-eq0.true (search rules))
 
 pub returns-in-Err-clause-played : goal.returns-in-Err-clause-played
 returns-in-Err-clause-played g c =
