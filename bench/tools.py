@@ -27,9 +27,10 @@ def made(folder, count, times):
     """The trace and the answers, as files."""
     paths = [folder / ("%d.%d.%s" % (count, times, end)) for end in ("trace", "answers")]
     if not all(path.exists() for path in paths):
-        trace = attaches.attached(count, release=True, information=True, times=times)[0]
-        for path, text in zip(paths, (trace.text(), trace.answer_text())):
-            path.write_text(text)
+        # (by a process of its own, since the memory of this one would count for what it starts)
+        words = [str(count), "--times", str(times), "--release", "--information", "--answers", paths[1]]
+        with open(paths[0], "wb") as file:
+            subprocess.run([sys.executable, "-B", attaches.__file__, *words], stdout=file, check=True)
     return paths
 
 

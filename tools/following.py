@@ -91,7 +91,7 @@ class Playing:
 
     def step(self, text):
         """The step of an event's line, with the answers; nothing for a line of the head."""
-        word, fields = runs.fields_of(text, runs.PROVISIONING | runs.EVENTS)
+        word, fields = runs.fields_of(text, runs.WORDS)
         if word in runs.PROVISIONING:
             self.imsis += [fields[0]] if word == "sub" else []
             self.give(text)

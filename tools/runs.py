@@ -5,6 +5,7 @@
 answers that were printed before, and finds for each the event that can have caused it, by the standards' procedures. Nothing here
 is part of a proof.
 """
+import binascii
 import bisect
 import collections
 import functools
@@ -30,6 +31,7 @@ SLOT_BITS = 16  # an id and an M-TMSI are a slot, and a counter of this many bit
 
 PROVISIONING = {"mme": 7, "sub": 4, "vec": 5}  # the words of a line, with how many fields follow
 EVENTS = {"up": 1, "lost": 1, "in": 2, "tick": 1, "data": 1, "cancel": 1, "show": 1}
+WORDS = PROVISIONING | EVENTS
 REFUSALS = {1: "the station isn't connected", 2: "the station is connected already", 3: "the clock is spent",
             5: "nobody has this IMSI"}
 NOT_UP, ALREADY_UP, UNKNOWN_IMSI = 1, 2, 5
@@ -46,6 +48,8 @@ class Fault(Exception):
 
 class Step:
     """An event, the second at which it happens, and the answers to it, each with its own second."""
+
+    __slots__ = ("event", "second", "answers")
 
     def __init__(self, event, second):
         self.event, self.second, self.answers = event, second, []
@@ -80,10 +84,10 @@ def octets_of(text):
     if text == "-":
         return b""
     try:
-        octets = bytes.fromhex(text)
+        octets = binascii.unhexlify(text)
     except ValueError:
         octets = b""
-    if not octets or 2 * len(octets) != len(text):  # (spaces may stand between octets elsewhere)
+    if not octets:
         raise Fault("%r aren't octets in hex" % text[:40])
     return octets
 
@@ -96,10 +100,10 @@ def imsi_of(text):
 
 def event_of(line, word, fields):
     """An event by its word and its fields."""
-    if word in ("up", "lost"):
-        return Event(line, word, station=number(fields[0], 0, STATIONS - 1))
     if word == "in":
-        return Event(line, word, station=number(fields[0], 0, STATIONS - 1), octets=octets_of(fields[1]))
+        return Event(line, word, number(fields[0], 0, STATIONS - 1), octets_of(fields[1]))
+    if word in ("up", "lost"):
+        return Event(line, word, number(fields[0], 0, STATIONS - 1))
     if word == "tick":
         return Event(line, word, ticks=number(fields[0], 1, LONGEST_TICK))
     return Event(line, word, imsi=imsi_of(fields[0]))
@@ -124,36 +128,38 @@ def fields_of(text, counts):
 
 def lines_of(octets, name, read, comments=False):
     """Reads each line that isn't empty, of those that are comments or of those that aren't; a fault gets the line's number."""
-    lines = octets.split(b"\n")
-    for line, text in enumerate(progress.over("reads line", lines, len(lines)), 1):
-        if text:
-            try:
+    lines, line = octets.split(b"\n"), 0
+    try:
+        for line, text in enumerate(progress.over("reads line", lines, len(lines)), 1):
+            if text:
                 if len(text) > LONGEST_LINE:
                     raise Fault("longer than %d octets" % LONGEST_LINE)
                 if text.startswith(b"#") == comments:
                     read(line, text)
-            except Fault as fault:
-                raise Fault("%s: line %d: %s" % (name, line, fault)) from None
+    except Fault as fault:
+        raise Fault("%s: line %d: %s" % (name, line, fault)) from None
 
 
 def read_trace(octets, name="trace"):
     """A trace: its lines before the first event as they are, the IMSIs by slot, and its events."""
-    words, imsis, events = [], [], []
+    imsis, known, events, is_begun = [], set(), [], False
 
     def read(line, text):
-        word, fields = fields_of(text, PROVISIONING | EVENTS)
-        if (word == "mme") != (not words):
+        nonlocal is_begun
+        word, fields = fields_of(text, WORDS)
+        if (word == "mme") == is_begun:
             raise Fault("the line mme stands first, and once")
-        words.append(word)
-        if word in PROVISIONING:
-            if events:
-                raise Fault("%s stands before all events" % word)
-            if word == "sub":
-                imsis.append(imsi_of(fields[0]))
-        else:
-            events.append(event_of(line, word, fields))
-            if word == "show" and events[-1].imsi not in imsis:
-                raise Fault("there is no subscriber %s to show" % events[-1].imsi)
+        is_begun = True
+        if word in EVENTS:
+            event = event_of(line, word, fields)
+            if word == "show" and event.imsi not in known:
+                raise Fault("there is no subscriber %s to show" % event.imsi)
+            events.append(event)
+        elif events:
+            raise Fault("%s stands before all events" % word)
+        elif word == "sub":
+            imsis.append(imsi_of(fields[0]))
+            known.add(imsis[-1])
 
     lines_of(octets, name, read)
     head = octets.split(b"\n")[:events[0].line - 1] if events else octets.split(b"\n")
@@ -214,7 +220,7 @@ def owner_text(owner, imsis):
 
 def certain_answers(trace):
     """For each event the one answer that it is known to get, as `refused` or `state`, or nothing."""
-    up, known = set(), []
+    up, known, imsis = set(), [], set(trace.imsis)
     for event in trace.events:
         answer = None
         if event.word == "up":
@@ -225,7 +231,7 @@ def certain_answers(trace):
             if event.word == "lost":
                 up.discard(event.station)
         elif event.word in ("data", "cancel"):
-            answer = Answer("refused", fault=UNKNOWN_IMSI) if event.imsi not in trace.imsis else None
+            answer = Answer("refused", fault=UNKNOWN_IMSI) if event.imsi not in imsis else None
         elif event.word == "show":
             answer = Answer("state", imsi=event.imsi)
         known.append(answer)
@@ -381,8 +387,10 @@ class Causes:
             return (heard.mme_id, heard.enb_id) == (said.mme_id, said.enb_id)
         if said.code == s1ap.PATH_SWITCH:
             return heard.outcome == (s1ap.PATH_SWITCH, s1ap.INITIATING) and heard.enb_id == said.enb_id
+        if not self.concerns(event, heard, answer, said):
+            return False
         before = [content(other.octets) for _, other in step.answers if other.owner == answer.owner]
-        if before and not may_follow(before[-1], said) or not self.concerns(event, heard, answer, said):
+        if before and not may_follow(before[-1], said):
             return False
         kind = heard.nas.type if heard.nas else None
         first = heard.code == s1ap.INITIAL_UE
@@ -439,14 +447,20 @@ class Causes:
             first = content(step.event.octets).code == s1ap.INITIAL_UE
             (self.from_idle.add if first else self.from_idle.discard)(answer.owner)
 
-    def give(self, steps, answers):
-        """Gives each answer to the first step, not before that of the answer before, which fits it; else to the one before."""
-        at = 0
+    def given(self, steps, answers):
+        """The steps, each once it has its answers. One goes to the first step, not before that of the answer before, which fits it;
+        else to the one before."""
+        able, at, done = [place for place, step in enumerate(steps) if step.event.word not in ("up", "lost")], 0, 0
         for answer in progress.over("finds the event of answer", answers, len(answers)):
-            said = content(answer.octets)
-            fitting = (place for place in range(at, len(steps)) if self.fits(steps[place], answer, said))
-            at = next(fitting, at)
-            self.take(steps[at], answer, said)
+            said, place = content(answer.octets), at
+            while place < len(able) and not self.fits(steps[able[place]], answer, said):
+                place += 1
+            at = place if place < len(able) else at
+            for step in steps[done:able[at]]:
+                yield step
+            done = max(done, able[at])
+            self.take(steps[able[at]], answer, said)
+        yield from steps[done:]
 
     def take(self, step, answer, said):
         """Gives the answer to this step; in a tick at the second of its timer, else at the end."""
@@ -459,16 +473,21 @@ class Causes:
 
 def matched(trace, answers):
     """The steps of a trace with answers that were printed before."""
-    steps, causes, waiting, at = started(trace), Causes(trace.imsis), [], 0
+    return list(matching(trace, answers))
 
-    def give_until(place):
-        sent = answers[at:place]
-        able = [step for step in waiting if step.event.word not in ("up", "lost")]
-        if sent and not able:
+
+def matching(trace, answers):
+    """The same, each once its answers are known."""
+    causes, waiting, at = Causes(trace.imsis), [], 0
+
+    def given_until(place):
+        if at < place and all(step.event.word in ("up", "lost") for step in waiting):
             raise Fault("the answers aren't those to this trace: message %d is owed to no event" % (at + 1))
-        causes.give(able, sent)
+        for step in causes.given(waiting, answers[at:place]):
+            step.answers.sort(key=second_of_answer)
+            yield step
 
-    for step, certain in zip(steps, certain_answers(trace)):
+    for step, certain in zip(started(trace), certain_answers(trace)):
         if certain is None:
             waiting.append(step)
             continue
@@ -476,15 +495,18 @@ def matched(trace, answers):
         if place is None or not is_certain(answers[place], certain):
             raise Fault("the answers aren't those to this trace: line %d of it, %s, isn't answered where it must be"
                         % (step.event.line, event_text(step.event)[:60]))
-        give_until(place)
+        yield from given_until(place)
         step.answers.append((step.second, answers[place]))
+        yield step
         waiting, at = [], place + 1
     if any(answer.word != "out" for answer in answers[at:]):
         raise Fault("the answers aren't those to this trace: it ends before they do")
-    give_until(len(answers))
-    for step in steps:
-        step.answers.sort(key=lambda pair: pair[0])
-    return steps
+    yield from given_until(len(answers))
+
+
+def second_of_answer(pair):
+    """The second of an answer of a step."""
+    return pair[0]
 
 
 # --- Answers that stand in the trace ---

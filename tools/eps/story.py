@@ -162,9 +162,10 @@ def story_of(trace, steps):
 
 
 class Run(typing.NamedTuple):
-    """A trace, its steps, and their story with the network as it is at the end, where they were told."""
+    """A trace, its steps, and their story with the network as it is at the end, where they were told. Steps that aren't told come
+    one by one, each once its answers are known, and once in all."""
     trace: runs.Trace
-    steps: list
+    steps: typing.Iterable
     told: list | None = None
     world: World | None = None
 
@@ -206,7 +207,7 @@ def run_of(trace_path, answers_path, program=None, most=None):
         return Run(trace, steps) if is_beyond(steps, most) else told_run(trace, steps)
     trace = runs.read_trace(runs.read_file(trace_path), trace_path)
     answers = runs.read_answers(runs.read_file(answers_path), answers_path)
-    return Run(trace, runs.matched(trace, answers)) if is_beyond(trace.events, most) else matched_run(trace, answers)
+    return Run(trace, runs.matching(trace, answers)) if is_beyond(trace.events, most) else matched_run(trace, answers)
 
 
 def is_beyond(events, most):
