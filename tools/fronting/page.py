@@ -23,7 +23,7 @@ h1 { font-size: 1.4rem; } h2 { font-size: 1.1rem; margin-top: 2rem; }
 table { border-collapse: collapse; width: 100%; }
 th, td { text-align: left; padding: .3rem .6rem; border-bottom: 1px solid var(--line); }
 th { color: var(--faint); font-weight: 600; } td.number, th.number { text-align: right; font-variant-numeric: tabular-nums; }
-p.none, .note { color: var(--faint); } .chart { overflow-x: auto; }
+p.none, .note { color: var(--faint); } .wide { overflow-x: auto; }
 svg text { fill: var(--ink); font: 12px sans-serif; } svg .lane, svg .label { text-anchor: middle; }
 svg .lane { font-weight: 600; } svg .time { fill: var(--faint); font-variant-numeric: tabular-nums; }
 svg .rail { stroke: var(--line); } svg .arrow { stroke: var(--mark); } svg .head { fill: var(--mark); }
@@ -31,13 +31,13 @@ svg .rail { stroke: var(--line); } svg .arrow { stroke: var(--mark); } svg .head
 
 
 def table(heads, rows):
-    """A table in HTML; a number stands at the right."""
+    """A table in HTML, which a narrow screen scrolls by itself; a number stands at the right."""
     def cell(tag, value, is_number):
         return '<%s%s>%s</%s>' % (tag, ' class="number"' if is_number else "", html.escape(str(value)), tag)
     numbers = [isinstance(value, (int, float)) for value in rows[0]]
     lines = ["<tr>" + "".join(cell("th", head, is_number) for head, is_number in zip(heads, numbers)) + "</tr>"]
     lines += ["<tr>" + "".join(cell("td", value, is_number) for value, is_number in zip(row, numbers)) + "</tr>" for row in rows]
-    return "<table>\n%s\n</table>" % "\n".join(lines)
+    return '<div class="wide"><table>\n%s\n</table></div>' % "\n".join(lines)
 
 
 def page_of(front, states):
@@ -59,7 +59,7 @@ def page_of(front, states):
         table(("IMSI", "EMM", "ECM", "ESM"), phones) if phones else '<p class="none">Nobody is provisioned.</p>',
         '<p class="note">%d more are provisioned.</p>' % left_out if left_out else "",
         "<h2>The last %d minutes</h2>" % MINUTES,
-        '<div class="chart">%s</div>' % chart if chart else '<p class="none">No message came or went.</p>',
+        '<div class="wide">%s</div>' % chart if chart else '<p class="none">No message came or went.</p>',
     ]
     return ('<!doctype html>\n<html lang="en"><head><meta charset="utf-8"><meta http-equiv="refresh" content="5">'
             '<meta name="viewport" content="width=device-width"><title>Soizkadur</title><style>%s</style></head>\n'
