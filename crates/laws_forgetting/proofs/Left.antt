@@ -63,7 +63,7 @@ module _ (s : Setting) (solo : Solo) (item : Item) (none : begins_attach item 鈮
     asks = 位 combined capability tai x asked from phase repeat h. never asked.begins;
     challenges = 位 v procedure x there may h. record { gone = 位 is. absurd (cc is) };
     secures = 位 c phase h. record { gone = 位 there. absurd (cc there) };
-    awaits = 位 header nas procedure c x may h. record { gone = h.gone };
+    awaits = 位 header nas procedure c x may told h. record { gone = h.gone };
     pages = 位 stations procedure is may h. record { gone = h.gone };
     strikes = 位 station x is h. record { gone = h.gone };
   }

@@ -81,7 +81,7 @@ comes s solo item = record {
   asks = λ combined capability tai x asked from phase repeat h. same_comes s solo x _ refl refl h;
   challenges = λ v procedure x there may h. same_comes s solo x _ refl refl h;
   secures = λ c phase h. same_comes s solo solo _ refl refl h;
-  awaits = λ header nas procedure c x may h. same_comes s solo x _ refl refl h;
+  awaits = λ header nas procedure c x may told h. same_comes s solo x _ refl refl h;
   pages = λ stations procedure is may h. same_comes s solo solo _ refl refl h;
   strikes = λ station x is h. same_comes s solo x _ refl refl h;
 }

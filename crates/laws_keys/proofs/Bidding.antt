@@ -139,17 +139,17 @@ module _ (written : (m : Pdu (List ℕ)) (os : List ℕ) → encoded m ≡ Some 
       → ((header : SecurityHeader) (nas : List ℕ) (x : Solo) → MayProtect solo item header nas ⊎ MayAwait solo x item header nas → Q x → MayBe header nas)
       → Says s solo item Q (IfMarked items)
   says_replayed s solo item Q may_be = record {
-    plain = λ nas x k may h at octets is mark under. absurd (unmarked mark under);
-    protected = λ header nas x k sealed may h by at octets is mark under m reads.
+    plain = λ nas x k may told h at octets is mark under. absurd (unmarked mark under);
+    protected = λ header nas x k sealed may told h by at octets is mark under m reads.
         of_one written (λ n. has_new_context_header n ≡ true → Replays items n) _ m octets sealed.form is reads (in_downlink k sealed.form)
         (form_so x.context header nas sealed (may_be header nas x may h) by);
     setup = λ key x k h at octets is mark under. absurd (unmarked mark under);
-    setup_with = λ key nas x k sealed h by at octets is mark under m reads.
+    setup_with = λ key nas x k sealed told h by at octets is mark under m reads.
         of_one written (λ n. has_new_context_header n ≡ true → Replays items n) _ m octets sealed.form is reads
         (in_setup_with s.network s.profile x.asked.capability k key sealed.form)
         (form_so x.context IntegrityProtectedCiphered nas sealed (λ is. absurd (cc is)) by);
     released = λ cause x k h at octets is mark under. absurd (unmarked mark under);
-    refusal = λ m nas from h octets is mark under. absurd (unmarked mark under);
+    refusal = λ m nas from told h octets is mark under. absurd (unmarked mark under);
     turned = λ m from h octets is mark under. absurd (unmarked mark under);
     indication = λ station message from may octets is mark under. absurd (unmarked mark under);
     acknowledged = λ m c x from has h octets is mark under. absurd (unmarked mark under);
@@ -191,7 +191,7 @@ module _ (s : Setting) (solo : Solo) (item : Item) (C : List ℕ → Type 0)
     };
     challenges = λ v procedure x there may g. record { challenged = λ is. challenged_so x may; command = λ nas is. absurd (cc is) };
     secures = λ c phase g. record { challenged = λ is. g.challenged (ap is_challenged phase); command = g.command };
-    awaits = λ header nas procedure c x may g. record {
+    awaits = λ header nas procedure c x may told g. record {
       challenged = g.challenged;
       command = λ other is. awaited header nas other x may g is;
     };

@@ -56,7 +56,7 @@ without s solo item = record {
   asks = λ combined capability tai x asked from phase repeat h. record { none = h.none };
   challenges = λ v procedure x there may h. record { none = λ is nas at. absurd (cc is) };
   secures = λ c phase h. record { none = λ is nas at. absurd (cc is) };
-  awaits = λ header nas procedure c x may h. record { none = λ is other at. absurd (cc at) };
+  awaits = λ header nas procedure c x may told h. record { none = λ is other at. absurd (cc at) };
   pages = λ stations procedure is may h. record { none = λ registered nas at. absurd (cc at) };
   strikes = λ station x is h. record { none = λ registered nas at. h.none registered nas (struck_same station x.repeat nas at) };
 }
@@ -103,16 +103,16 @@ module _ (written : (m : Pdu (List ℕ)) (os : List ℕ) → encoded m ≡ Some 
 
   says_protected : Says s solo item Any (IsProtectedOrRefusal s solo item)
   says_protected = record {
-    plain = λ nas x k may h at octets is m reads. absurd (never_plain nas x may);
-    protected = λ header nas x k sealed may h by at octets is m reads.
+    plain = λ nas x k may told h at octets is m reads. absurd (never_plain nas x may);
+    protected = λ header nas x k sealed may told h by at octets is m reads.
         inl (of_one written IsProtected _ m octets sealed.form is reads (in_downlink k sealed.form) (form_protected x.context header nas sealed by));
     setup = λ key x k h at octets is m reads.
         inl (of_none written IsProtected _ m octets is reads (in_setup s.network s.profile x.asked.capability k key));
-    setup_with = λ key nas x k sealed h by at octets is m reads.
+    setup_with = λ key nas x k sealed told h by at octets is m reads.
         inl (of_one written IsProtected _ m octets sealed.form is reads (in_setup_with s.network s.profile x.asked.capability k key sealed.form)
         (form_protected x.context _ nas sealed by));
     released = λ cause x k h at octets is m reads. inl (of_none written IsProtected _ m octets is reads (in_release k.id k.enb_ue_id cause));
-    refusal = λ m nas from h octets is message reads. inr (record {
+    refusal = λ m nas from told h octets is message reads. inr (record {
       request = m;
       came = from;
       to = refl;

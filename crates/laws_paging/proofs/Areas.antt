@@ -37,7 +37,7 @@ comes s solo item = record {
   asks = λ combined capability tai x asked from phase repeat h. inr from;
   challenges = λ v procedure x there may h. h;
   secures = λ c phase h. h;
-  awaits = λ header nas procedure c x may h. h;
+  awaits = λ header nas procedure c x may told h. h;
   pages = λ stations procedure is may h. h;
   strikes = λ station x is h. h;
 }

@@ -69,13 +69,13 @@ module _ (written : (m : Pdu (List ℕ)) (os : List ℕ) → encoded m ≡ Some 
 
     says_there : Says s solo item (IsPlaced stations) (PagesThere stations s solo)
     says_there = record {
-      plain = λ nas x k may h at octets is m reads. never_read written _ octets m is (no_downlink k nas) reads;
-      protected = λ header nas x k sealed may h by at octets is m reads.
+      plain = λ nas x k may told h at octets is m reads. never_read written _ octets m is (no_downlink k nas) reads;
+      protected = λ header nas x k sealed may told h by at octets is m reads.
           never_read written _ octets m is (no_downlink k sealed.form) reads;
       setup = λ key x k h at octets is m reads. never_read written _ octets m is (no_setup _ _ _ k key _) reads;
-      setup_with = λ key nas x k sealed h by at octets is m reads. never_read written _ octets m is (no_setup _ _ _ k key _) reads;
+      setup_with = λ key nas x k sealed told h by at octets is m reads. never_read written _ octets m is (no_setup _ _ _ k key _) reads;
       released = λ cause x k h at octets is m reads. never_read written _ octets m is (no_release k.id k.enb_ue_id cause) reads;
-      refusal = λ e nas from h octets is m reads. never_read written _ octets m is (no_downlink _ nas) reads;
+      refusal = λ e nas from told h octets is m reads. never_read written _ octets m is (no_downlink _ nas) reads;
       turned = λ e from h octets is m reads. never_read written _ octets m is (no_release _ e.enb_ue_id _) reads;
       indication = λ station message from may octets is m reads. never_read written message octets m is (no_indication message may) reads;
       acknowledged = λ e c x from has h octets is m reads. never_read written _ octets m is (no_acknowledge _ _ _) reads;
@@ -95,12 +95,12 @@ module _ (written : (m : Pdu (List ℕ)) (os : List ℕ) → encoded m ≡ Some 
       (no_tick : item ≡ events.Tick → ⊥) where
     says_none : Says s solo item Any (λ (a : Answer). has_page a ≡ false)
     says_none = record {
-      plain = λ nas x k may h at octets is. reads_none written _ octets is (no_downlink k nas);
-      protected = λ header nas x k sealed may h by at octets is. reads_none written _ octets is (no_downlink k sealed.form);
+      plain = λ nas x k may told h at octets is. reads_none written _ octets is (no_downlink k nas);
+      protected = λ header nas x k sealed may told h by at octets is. reads_none written _ octets is (no_downlink k sealed.form);
       setup = λ key x k h at octets is. reads_none written _ octets is (no_setup _ _ _ k key _);
-      setup_with = λ key nas x k sealed h by at octets is. reads_none written _ octets is (no_setup _ _ _ k key _);
+      setup_with = λ key nas x k sealed told h by at octets is. reads_none written _ octets is (no_setup _ _ _ k key _);
       released = λ cause x k h at octets is. reads_none written _ octets is (no_release k.id k.enb_ue_id cause);
-      refusal = λ e nas from h octets is. reads_none written _ octets is (no_downlink _ nas);
+      refusal = λ e nas from told h octets is. reads_none written _ octets is (no_downlink _ nas);
       turned = λ e from h octets is. reads_none written _ octets is (no_release _ e.enb_ue_id _);
       indication = λ station message from may octets is. reads_none written message octets is (no_indication message may);
       acknowledged = λ e c x from has h octets is. reads_none written _ octets is (no_acknowledge _ _ _);

@@ -82,7 +82,7 @@ module _ (s : Setting) (solo : Solo) (item : Item) where
     asks = λ combined capability tai x asked from phase repeat h. record { known = h.known };
     challenges = λ v procedure x there may h. record { known = h.known };
     secures = λ c phase h. record { known = h.known };
-    awaits = λ header nas procedure c x may h. record { known = h.known };
+    awaits = λ header nas procedure c x may told h. record { known = h.known };
     pages = λ stations procedure is may h. record { known = h.known };
     strikes = λ station x is h. record { known = h.known };
   }
@@ -118,15 +118,15 @@ module _ (s : Setting) (solo : Solo) (item : Item) where
     says_associated : Says s solo item Connects
         (λ (a : Answer). (m : Pdu (List ℕ)) → decoded a.octets ≡ Ok m → IsAssociated s solo item a m)
     says_associated = record {
-      plain = λ nas x k may h at octets is m reads. on_it x k _ m h at (goes_on k _ _ m is reads refl (downlink_ids k nas));
-      protected = λ header nas x k sealed may h by at octets is m reads.
+      plain = λ nas x k may told h at octets is m reads. on_it x k _ m h at (goes_on k _ _ m is reads refl (downlink_ids k nas));
+      protected = λ header nas x k sealed may told h by at octets is m reads.
           on_it x k _ m h at (goes_on k _ _ m is reads refl (downlink_ids k sealed.form));
       setup = λ key x k h at octets is m reads. on_it x k _ m h at (goes_on k _ _ m is reads refl (setup_ids _ _ _ k key _));
-      setup_with = λ key nas x k sealed h by at octets is m reads.
+      setup_with = λ key nas x k sealed told h by at octets is m reads.
           on_it x k _ m h at (goes_on k _ _ m is reads refl (setup_ids _ _ _ k key _));
       released = λ cause x k h at octets is m reads.
           on_it x k _ m h at (goes_on k _ _ m is reads refl (release_ids k.id k.enb_ue_id cause));
-      refusal = λ r nas from h octets is m reads. Refused r from (goes_on _ _ _ m is reads refl (downlink_ids _ nas));
+      refusal = λ r nas from told h octets is m reads. Refused r from (goes_on _ _ _ m is reads refl (downlink_ids _ nas));
       turned = λ r from h octets is m reads. Refused r from (goes_on _ _ _ m is reads refl (release_ids _ r.enb_ue_id _));
       indication = λ station message from may octets is m reads.
           Told from (subst IsIndication (same_message message m octets is reads) may);

@@ -3,3 +3,4 @@ mod Outcomes
 mod Events
 mod Kept
 mod Associated
+mod Said

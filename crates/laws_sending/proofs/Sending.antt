@@ -141,14 +141,14 @@ module _ (written : (m : Pdu (List ℕ)) (os : List ℕ) → encoded m ≡ Some 
 
   says_of_kind : (s : Setting) (solo : Solo) (item : Item) → Says s solo item Any (IsOfKind is_for_subscriber)
   says_of_kind s solo item = record {
-    plain = λ nas x k may h at octets is. record { message = _; reads = written _ octets is; is = to_phone_downlink k nas };
-    protected = λ header nas x k sealed may h by at octets is.
+    plain = λ nas x k may told h at octets is. record { message = _; reads = written _ octets is; is = to_phone_downlink k nas };
+    protected = λ header nas x k sealed may told h by at octets is.
         record { message = _; reads = written _ octets is; is = to_phone_downlink k sealed.form };
     setup = λ key x k h at octets is. record { message = _; reads = written _ octets is; is = to_phone_setup _ _ _ k key _ };
-    setup_with = λ key nas x k sealed h by at octets is.
+    setup_with = λ key nas x k sealed told h by at octets is.
         record { message = _; reads = written _ octets is; is = to_phone_setup _ _ _ k key _ };
     released = λ cause x k h at octets is. record { message = _; reads = written _ octets is; is = to_phone_release k.id k.enb_ue_id cause };
-    refusal = λ m nas from h octets is. record { message = _; reads = written _ octets is; is = to_phone_downlink _ nas };
+    refusal = λ m nas from told h octets is. record { message = _; reads = written _ octets is; is = to_phone_downlink _ nas };
     turned = λ m from h octets is. record { message = _; reads = written _ octets is; is = to_phone_release _ m.enb_ue_id _ };
     indication = λ station message from may octets is.
         record { message = message; reads = written _ octets is; is = to_phone_indication message may };

@@ -2,3 +2,4 @@ pub mod Kinds
 pub mod Few
 pub mod Kept
 pub mod Associated
+pub mod Said

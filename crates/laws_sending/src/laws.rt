@@ -4,6 +4,7 @@ ghost use Rattle.laws_sending.specs.Associated.{AllAreAssociated};
 ghost use Rattle.laws_sending.specs.Few.{EventsSendFew};
 ghost use Rattle.laws_sending.specs.Kept.{PhonesKeepLittle};
 ghost use Rattle.laws_sending.specs.Kinds.{EverythingIsOfAnMme};
+ghost use Rattle.laws_sending.specs.Said.{SaysOfNetwork};
 
 use laws_stations::everybody_is_placed;
 use laws_steps::work_is_bounded;
@@ -15,6 +16,14 @@ use s1ap_pdus::what_is_encoded;
 /// 8).
 pub fn everything_is_of_an_mme()
     ensures { EverythingIsOfAnMme }
+{
+    what_is_encoded();
+}
+
+/// Each NAS message that is sent for a subscriber is the written form of one that a network sends, plain or in its protected form,
+/// at every step of every run (TS 24.301 clauses 8.2, 8.3, 9.1).
+pub fn nas_is_of_a_network()
+    ensures { SaysOfNetwork }
 {
     what_is_encoded();
 }

@@ -5,5 +5,6 @@
 mod laws;
 
 pub use laws::{
-    a_phone_keeps_little, an_event_sends_few, each_goes_on_its_association, everything_is_of_an_mme,
+    a_phone_keeps_little, an_event_sends_few, each_goes_on_its_association,
+    everything_is_of_an_mme, nas_is_of_a_network,
 };

@@ -123,12 +123,12 @@ module _ (stations : List StationState) (s : Setting) (solo : Solo) (item : Item
 
   says_to_ready : Says s solo item (IsPlaced stations) (λ (a : Answer). IsReady stations a.station)
   says_to_ready = record {
-    plain = λ nas x k may h at octets is. at_ready x k h at;
-    protected = λ header nas x k sealed may h by at octets is. at_ready x k h at;
+    plain = λ nas x k may told h at octets is. at_ready x k h at;
+    protected = λ header nas x k sealed may told h by at octets is. at_ready x k h at;
     setup = λ key x k h at octets is. at_ready x k h at;
-    setup_with = λ key nas x k sealed h by at octets is. at_ready x k h at;
+    setup_with = λ key nas x k sealed told h by at octets is. at_ready x k h at;
     released = λ cause x k h at octets is. at_ready x k h at;
-    refusal = λ m nas from h octets is. from_ready stations item m.station comes (ap station_of from);
+    refusal = λ m nas from told h octets is. from_ready stations item m.station comes (ap station_of from);
     turned = λ m from h octets is. from_ready stations item m.station comes (ap station_of from);
     indication = λ station message from may octets is. from_ready stations item station comes from;
     acknowledged = λ m c x from has h octets is. from_ready stations item m.station comes (ap station_of from);
@@ -155,7 +155,7 @@ module _ (stations : List StationState) (s : Setting) (solo : Solo) (item : Item
         record { connected = h.connected; paged = subst (IsPagedThere stations tai) (sym repeat) tt };
     challenges = λ v procedure x there may h. record { connected = h.connected; paged = tt };
     secures = λ c phase h. record { connected = h.connected; paged = h.paged };
-    awaits = λ header nas procedure c x may h. record { connected = h.connected; paged = tt };
+    awaits = λ header nas procedure c x may told h. record { connected = h.connected; paged = tt };
     pages = λ now procedure is may h. record {
       connected = h.connected;
       paged = subst (λ (ss : List StationState). AreListening stations solo.tai (listening solo.tai 0 ss))

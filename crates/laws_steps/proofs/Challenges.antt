@@ -85,7 +85,7 @@ spends s solo item = record {
     next = ap (λ (n : ℕ). n + 1) may.0;
   });
   secures = λ c phase h. same_next s solo item solo _ refl h;
-  awaits = λ header nas procedure c x may h. same_next s solo item x _ refl h;
+  awaits = λ header nas procedure c x may told h. same_next s solo item x _ refl h;
   pages = λ stations procedure is may h. same_next s solo item solo _ refl h;
   strikes = λ station x is h. same_next s solo item x _ refl h;
 }

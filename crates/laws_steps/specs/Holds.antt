@@ -48,7 +48,8 @@ use Rattle.emm_machine.specs.Connected.{connection_of, hop_behind, hopped, next_
 use Rattle.emm_machine.specs.Idle.{emit_each, listening, lowered, may_page, page, paged, restarted}
 use Rattle.emm_machine.specs.Serving.{active, registered, updating}
 use Rattle.emm_machine.specs.Steps.{solo_step}
-use Rattle.laws_steps.specs.Keeps.{AsksToAttach, IsIndication, IsServed, Keeps, MayAwait, MayBear, MayChallenge, MayProtect, MaySend, PagesAgain, Whenever, is_under_way, number_of, station_of, tai_of}
+use Rattle.laws_steps.specs.Keeps.{AsksToAttach, IsIndication, IsServed, IsToldAs, Keeps, MayAwait, MayBear, MayChallenge, MayProtect, MaySend, PagesAgain, Whenever, is_under_way, number_of, station_of, tai_of}
+use Rattle.laws_steps.specs.Network.{IsOfNetwork, of_authentication_request}
 use Rattle.laws_steps.specs.Walk.{at_some, either, some, step_keeps}
 
 -- ---- what is sent
@@ -103,20 +104,21 @@ MayConnect s item (Some k) = IsConnectedBy s item k
 -- what holds of each message that is sent; `x` is the state under way, and `solo` that before the step
 pub record Says (s : Setting) (solo : Solo) (item : Item) (Q : Solo → Type 0) (S : Answer → Type 0) : Type 0 where
   -- to the phone's connection
-  pub plain : (nas : List ℕ) (x : Solo) (k : Connection) → MaySend solo item nas ⊎ MayChallenge solo item x → Q x
+  pub plain : (nas : List ℕ) (x : Solo) (k : Connection) → MaySend solo item nas ⊎ MayChallenge solo item x → IsToldAs solo nas → Q x
       → x.connection ≡ Some k → Sends S k.station (downlink k nas) None
   pub protected : (header : SecurityHeader) (nas : List ℕ) (x : Solo) (k : Connection) (sealed : Sealed)
-      → MayProtect solo item header nas ⊎ MayAwait solo x item header nas → Q x → IsSealed x.context header nas sealed → x.connection ≡ Some k
+      → MayProtect solo item header nas ⊎ MayAwait solo x item header nas → IsToldAs solo nas → Q x
+      → IsSealed x.context header nas sealed → x.connection ≡ Some k
       → Sends S k.station (downlink k sealed.form) sealed.under
   pub setup : (key : List ℕ) (x : Solo) (k : Connection) → Q x → x.connection ≡ Some k
       → Sends S k.station (context_setup s.network s.profile x.asked.capability k key None) None
-  pub setup_with : (key nas : List ℕ) (x : Solo) (k : Connection) (sealed : Sealed) → Q x
+  pub setup_with : (key nas : List ℕ) (x : Solo) (k : Connection) (sealed : Sealed) → IsOfNetwork nas → Q x
       → IsSealed x.context IntegrityProtectedCiphered nas sealed → x.connection ≡ Some k
       → Sends S k.station (context_setup s.network s.profile x.asked.capability k key (Some sealed.form)) sealed.under
   pub released : (cause : Cause) (x : Solo) (k : Connection) → Q x → x.connection ≡ Some k
       → Sends S k.station (release_command k.id k.enb_ue_id cause) None
   -- to where a request comes from
-  pub refusal : (m : Entry (List ℕ)) (nas : List ℕ) → item ≡ Initial m → Q solo
+  pub refusal : (m : Entry (List ℕ)) (nas : List ℕ) → item ≡ Initial m → IsOfNetwork nas → Q solo
       → Sends S m.station (downlink (next_connection s solo m) nas) None
   pub turned : (m : Entry (List ℕ)) → item ≡ Initial m → Q solo
       → Sends S m.station (release_command (next_connection s solo m).id m.enb_ue_id (Nas NormalRelease)) None
@@ -170,7 +172,7 @@ pub record KeepsState (s : Setting) (solo : Solo) (item : Item) (Q : Solo → Ty
       })
   pub secures : (c : Context) → solo.phase ≡ Authenticating → Q solo → Q (record solo { phase = SecurityMode; context = Some c })
   pub awaits : (header : SecurityHeader) (nas : List ℕ) (procedure : Option Countdown) (c : Option Context) (x : Solo)
-      → MayAwait solo x item header nas → Q x
+      → MayAwait solo x item header nas → IsOfNetwork nas → Q x
       → Q (record x { context = c; repeat = Some (repeats.Nas (Under header) nas); procedure = procedure })
   -- paging
   pub pages : (stations : List StationState) (procedure : Option Countdown) → item ≡ Data stations
@@ -266,11 +268,11 @@ module _ (s : Setting) (solo : Solo) (item : Item) {Q : Solo → Type 0} {S : An
   emits station message under d sends h =
       record { state = h.state; sent = answered station message under d.sent (encoded message) refl sends h.sent }
 
-  sends : (nas : List ℕ) (d : Draft) → MaySend solo item nas → IsHeld Q S d → IsHeld Q S (send nas d)
+  sends : (nas : List ℕ) (d : Draft) → MaySend solo item nas → IsToldAs solo nas → IsHeld Q S d → IsHeld Q S (send nas d)
   unfolding send
-  sends nas d may h =
+  sends nas d may told h =
       at_some (IsHeld Q S) d.solo.connection
-      (λ k is. emits k.station (downlink k nas) None d (a.plain nas d.solo k (inl may) h.state is) h) (λ is. h)
+      (λ k is. emits k.station (downlink k nas) None d (a.plain nas d.solo k (inl may) told h.state is) h) (λ is. h)
 
   releases : (cause : Cause) (d : Draft) → IsHeld Q S d → IsHeld Q S (release cause d)
   unfolding release disconnected emit
@@ -291,9 +293,9 @@ module _ (s : Setting) (solo : Solo) (item : Item) {Q : Solo → Type 0} {S : An
     sent : All S e.sent
 
   protected_so : (header : SecurityHeader) (nas : List ℕ) (d : Draft) → MayProtect solo item header nas ⊎ MayAwait solo d.solo item header nas
-      → IsHeld Q S d → Whenever (IsProtected d) (protect header nas d)
+      → IsToldAs solo nas → IsHeld Q S d → Whenever (IsProtected d) (protect header nas d)
   unfolding protect emit
-  protected_so header nas d may h =
+  protected_so header nas d may told h =
       after_sealing _ (seal header nas d)
       (λ y is.
       let by = sealed_so header nas d y is in
@@ -305,38 +307,39 @@ module _ (s : Setting) (solo : Solo) (item : Item) {Q : Solo → Type 0} {S : An
         context = by.context;
         solo_is = by.solo;
         sent = answered k.station (downlink k y.0.form) y.0.under y.1.sent _ refl
-            (a.protected header nas d.solo k y.0 may h.state by.form there) before;
+            (a.protected header nas d.solo k y.0 may told h.state by.form there) before;
       })
       (λ none. record { context = by.context; solo_is = by.solo; sent = before }))
 
-  protects : (header : SecurityHeader) (nas : List ℕ) (d : Draft) → MayProtect solo item header nas → IsHeld Q S d
+  protects : (header : SecurityHeader) (nas : List ℕ) (d : Draft) → MayProtect solo item header nas → IsToldAs solo nas → IsHeld Q S d
       → Whenever (IsHeld Q S) (protect header nas d)
-  protects header nas d may h = record {
+  protects header nas d may told h = record {
     at = λ e is.
-        let p = (protected_so header nas d (inl may) h).at e is in
+        let p = (protected_so header nas d (inl may) told h).at e is in
         record { state = subst Q (sym p.solo_is) (q.context p.context d.solo h.state); sent = p.sent };
   }
 
-  awaits : (timer : NasTimer) (header : SecurityHeader) (nas : List ℕ) (d : Draft) → MayAwait solo d.solo item header nas → IsHeld Q S d
+  awaits : (timer : NasTimer) (header : SecurityHeader) (nas : List ℕ) (d : Draft) → MayAwait solo d.solo item header nas → IsOfNetwork nas
+      → IsHeld Q S d
       → Whenever (IsHeld Q S) (protect_and_await timer header nas d)
   unfolding start
-  awaits timer header nas d may h =
-      then_to _ (protect header nas d) (protected_so header nas d (inr may) h)
+  awaits timer header nas d may told h =
+      then_to _ (protect header nas d) (protected_so header nas d (inr may) (inl told) h)
       (λ e p.
       let procedure : Option Countdown =
       Some (record { timer = timer; left = ticks_of timer; repeats = repeats_of timer }) in
       record {
         state = subst
             (λ (x : Solo). Q (record x { repeat = Some (repeats.Nas (Under header) nas); procedure = procedure }))
-            (sym p.solo_is) (q.awaits header nas procedure p.context d.solo may h.state);
+            (sym p.solo_is) (q.awaits header nas procedure p.context d.solo may told h.state);
         sent = p.sent;
       })
 
-  starts : (timer : NasTimer) (nas : List ℕ) (d : Draft) → IsHeld Q S d
+  starts : (timer : NasTimer) (nas : List ℕ) (d : Draft) → IsOfNetwork nas → IsHeld Q S d
       → IsHeld Q S (start timer (repeats.Nas (Under IntegrityProtectedCiphered) nas) d)
   unfolding start
-  starts timer nas d h =
-      record { state = q.awaits IntegrityProtectedCiphered nas _ d.solo.context d.solo (inl refl) h.state; sent = h.sent }
+  starts timer nas d told h =
+      record { state = q.awaits IntegrityProtectedCiphered nas _ d.solo.context d.solo (inl refl) told h.state; sent = h.sent }
 
   sets_up : (key : List ℕ) (d : Draft) → IsHeld Q S d → IsHeld Q S (set_up s key None None d)
   unfolding set_up
@@ -344,9 +347,9 @@ module _ (s : Setting) (solo : Solo) (item : Item) {Q : Solo → Type 0} {S : An
       at_some (IsHeld Q S) d.solo.connection
       (λ k is. emits k.station _ None d (a.setup key d.solo k h.state is) h) (λ is. h)
 
-  sets_up_with : (key nas : List ℕ) (d : Draft) → IsHeld Q S d → Whenever (IsHeld Q S) (set_up_with s key nas d)
+  sets_up_with : (key nas : List ℕ) (d : Draft) → IsOfNetwork nas → IsHeld Q S d → Whenever (IsHeld Q S) (set_up_with s key nas d)
   unfolding set_up_with set_up
-  sets_up_with key nas d h =
+  sets_up_with key nas d told h =
       after_sealing _ (seal IntegrityProtectedCiphered nas d)
       (λ y is.
       let by = sealed_so IntegrityProtectedCiphered nas d y is in
@@ -361,7 +364,7 @@ module _ (s : Setting) (solo : Solo) (item : Item) {Q : Solo → Type 0} {S : An
       (subst
       (λ (c : List ℕ). Sends S k.station (context_setup s.network s.profile c k key (Some y.0.form)) y.0.under)
       (sym (ap (λ (x : Solo). x.asked.capability) by.solo))
-      (a.setup_with key nas d.solo k y.0 h.state by.form there))
+      (a.setup_with key nas d.solo k y.0 told h.state by.form there))
       held)
       (λ none. held))
 
@@ -371,12 +374,12 @@ module _ (s : Setting) (solo : Solo) (item : Item) {Q : Solo → Type 0} {S : An
   unfolding association_counted
   counted d h = record { state = q.counted (next_counter d.solo.associations) d.solo h.state; sent = h.sent }
 
-  refuses : (m : Entry (List ℕ)) (nas : List ℕ) → item ≡ Initial m → IsHeld Q S (untouched solo)
+  refuses : (m : Entry (List ℕ)) (nas : List ℕ) → item ≡ Initial m → IsOfNetwork nas → IsHeld Q S (untouched solo)
       → IsHeld Q S (refuse s.slot m.station m.enb_ue_id nas (untouched solo))
   unfolding refuse
-  refuses m nas is h =
+  refuses m nas is told h =
       emits m.station _ None _ (a.turned m is h.state)
-      (emits m.station _ None (association_counted (untouched solo)) (a.refusal m nas is h.state) (counted (untouched solo) h))
+      (emits m.station _ None (association_counted (untouched solo)) (a.refusal m nas is told h.state) (counted (untouched solo) h))
 
   turns_away : (m : Entry (List ℕ)) → item ≡ Initial m → IsHeld Q S (untouched solo)
       → IsHeld Q S (turn_away s.slot m.station m.enb_ue_id (untouched solo))
@@ -482,7 +485,7 @@ module _ (s : Setting) (solo : Solo) (item : Item) {Q : Solo → Type 0} {S : An
       at_some (λ (e : Draft). IsHeld Q S (start T3460 (repeats.Nas Plain request) e)) d.solo.connection
       (λ k is. record {
         state = state;
-        sent = answered k.station (downlink k request) None d.sent _ refl (a.plain request d.solo k (inr may) h.state is) h.sent;
+        sent = answered k.station (downlink k request) None d.sent _ refl (a.plain request d.solo k (inr may) (inl (of_authentication_request _ v.rand v.autn)) h.state is) h.sent;
       })
       (λ is. record { state = state; sent = h.sent })
 
@@ -588,12 +591,12 @@ Anything a = Unit {0}
 
 pub says_anything : (s : Setting) (solo : Solo) (item : Item) (Q : Solo → Type 0) → Says s solo item Q Anything
 says_anything s solo item Q = record {
-  plain = λ nas x k may h at octets is. tt;
-  protected = λ header nas x k sealed may h by at octets is. tt;
+  plain = λ nas x k may told h at octets is. tt;
+  protected = λ header nas x k sealed may told h by at octets is. tt;
   setup = λ key x k h at octets is. tt;
-  setup_with = λ key nas x k sealed h by at octets is. tt;
+  setup_with = λ key nas x k sealed told h by at octets is. tt;
   released = λ cause x k h at octets is. tt;
-  refusal = λ m nas from h octets is. tt;
+  refusal = λ m nas from told h octets is. tt;
   turned = λ m from h octets is. tt;
   indication = λ station message from may octets is. tt;
   acknowledged = λ m c x from has h octets is. tt;
@@ -616,7 +619,7 @@ keeps_any s solo item = record {
   asks = λ combined capability tai x asked from phase repeat h. tt;
   challenges = λ v procedure x there may h. tt;
   secures = λ c phase h. tt;
-  awaits = λ header nas procedure c x may h. tt;
+  awaits = λ header nas procedure c x may told h. tt;
   pages = λ stations procedure is may h. tt;
   strikes = λ station x is h. tt;
 }

@@ -30,6 +30,7 @@ use Rattle.emm_state.specs.declared.solo.NasTimer.{NasTimer}
 use Rattle.emm_state.specs.declared.solo.Phase.{Phase}
 use Rattle.emm_state.specs.declared.solo.Phase.TheVariants.{Deregistered, Authenticating, SecurityMode, EsmInformation, Accepting, Registered, Detaching}
 use Rattle.emm_state.specs.declared.solo.Protection.TheVariants.{Plain, Under}
+use Rattle.emm_state.specs.declared.solo.Repeat.{Repeat}
 use Rattle.emm_state.specs.declared.solo.Repeat.TheVariants as repeats
 use Rattle.emm_state.specs.declared.solo.Solo.{Solo}
 use Rattle.emm_state.specs.Actions.{connect, connect_on, disconnected, emit, ended, protect, protect_and_await, refuse, release, resting, send, set_up, set_up_with, start, turn_away, untouched, wipe}
@@ -40,6 +41,7 @@ use Rattle.emm_machine.specs.Idle.{listening, lowered, may_page, page, paged, re
 use Rattle.emm_machine.specs.Serving.{active, registered, updating}
 use Rattle.laws_admission.specs.Proof.{uplink_nas}
 use Rattle.laws_admission.specs.Unproved.{begins_attach}
+use Rattle.laws_steps.specs.Network.{IsOfNetwork}
 
 -- ---- what an item says
 
@@ -159,6 +161,14 @@ pub record IsServed (before now : Solo) : Type 0 where
 abbrev pub MayBear : Item → Solo → Type 0
 MayBear item now = (begins_attach item ≡ true) ⊎ (is Deregistered now.phase ≡ false)
 
+-- what is said is a message that a network sends, or the one that was to be sent again
+abbrev pub IsAgain : Option Repeat → List ℕ → Type 0
+IsAgain (Some (repeats.Nas protection kept)) nas = nas ≡ kept
+IsAgain _ nas = ⊥
+
+abbrev pub IsToldAs : Solo → List ℕ → Type 0
+IsToldAs solo nas = IsOfNetwork nas ⊎ IsAgain solo.repeat nas
+
 -- ---- what each action keeps
 
 -- it holds where there is a step
@@ -167,18 +177,19 @@ pub record Whenever (P : Draft → Type 0) (o : Option Draft) : Type 0 where
 
 pub record Keeps (s : Setting) (solo : Solo) (item : Item) (P : Draft → Type 0) : Type 0 where
   -- messages to the phone
-  pub sends : (nas : List ℕ) (d : Draft) → MaySend solo item nas → P d → P (send nas d)
-  pub protects : (header : SecurityHeader) (nas : List ℕ) (d : Draft) → MayProtect solo item header nas → P d
+  pub sends : (nas : List ℕ) (d : Draft) → MaySend solo item nas → IsToldAs solo nas → P d → P (send nas d)
+  pub protects : (header : SecurityHeader) (nas : List ℕ) (d : Draft) → MayProtect solo item header nas → IsToldAs solo nas → P d
       → Whenever P (protect header nas d)
-  pub awaits : (timer : NasTimer) (header : SecurityHeader) (nas : List ℕ) (d : Draft) → MayAwait solo d.solo item header nas → P d
+  pub awaits : (timer : NasTimer) (header : SecurityHeader) (nas : List ℕ) (d : Draft) → MayAwait solo d.solo item header nas → IsOfNetwork nas
+      → P d
       → Whenever P (protect_and_await timer header nas d)
   pub sets_up : (key : List ℕ) (d : Draft) → P d → P (set_up s key None None d)
-  pub sets_up_with : (key nas : List ℕ) (d : Draft) → P d → Whenever P (set_up_with s key nas d)
-  pub starts : (timer : NasTimer) (nas : List ℕ) (d : Draft) → P d
+  pub sets_up_with : (key nas : List ℕ) (d : Draft) → IsOfNetwork nas → P d → Whenever P (set_up_with s key nas d)
+  pub starts : (timer : NasTimer) (nas : List ℕ) (d : Draft) → IsOfNetwork nas → P d
       → P (start timer (repeats.Nas (Under IntegrityProtectedCiphered) nas) d)
   pub releases : (cause : Cause) (d : Draft) → P d → P (release cause d)
   -- to where a request comes from
-  pub refuses : (m : Entry (List ℕ)) (nas : List ℕ) → item ≡ Initial m → P (untouched solo)
+  pub refuses : (m : Entry (List ℕ)) (nas : List ℕ) → item ≡ Initial m → IsOfNetwork nas → P (untouched solo)
       → P (refuse s.slot m.station m.enb_ue_id nas (untouched solo))
   pub turns_away : (m : Entry (List ℕ)) → item ≡ Initial m → P (untouched solo)
       → P (turn_away s.slot m.station m.enb_ue_id (untouched solo))

@@ -1,3 +1,4 @@
+pub mod Network
 pub mod Keeps
 pub mod Walk
 pub mod Holds

@@ -55,7 +55,8 @@ use Rattle.emm_machine.specs.Serving as serving
 use Rattle.emm_machine.specs.Steps as steps
 use Rattle.laws_admission.specs.Proof.{nas_of_body, uplink_nas}
 use Rattle.laws_admission.specs.Unproved.{begins_attach, is_attach_request}
-use Rattle.laws_steps.specs.Keeps.{AsksToAttach, FailsToSynchronise, IsServed, Keeps, MayChallenge, MaySend, Whenever, is_open, request_in, station_of, tai_of, tai_of_body}
+use Rattle.laws_steps.specs.Keeps.{AsksToAttach, FailsToSynchronise, IsAgain, IsServed, Keeps, MayChallenge, MaySend, Whenever, is_open, request_in, station_of, tai_of, tai_of_body}
+use Rattle.laws_steps.specs.Network.{AnswersOfNetwork, of_attach_accept, of_attach_reject, of_authentication_reject, of_detach_accept, of_emm_status, of_information_request, of_network_detach, of_reaction, of_security_mode_command, of_service_reject, of_update_accept, of_update_reject}
 
 -- ---- choices
 
@@ -166,7 +167,7 @@ module _ (s : Setting) (solo : Solo) (item : Item) {P : Draft → Type 0} (k : K
   attach_refused : {d : Draft} (cause : EmmCause) (esm : Option (List ℕ)) → IsOpenTo solo item → P d
       → P (attaching.attach_refused cause esm d)
   unfolding attaching.attach_refused
-  attach_refused {d} cause esm to h = forgotten _ (k.sends _ d (may_send solo item _ to) h)
+  attach_refused {d} cause esm to h = forgotten _ (k.sends _ d (may_send solo item _ to) (inl (of_attach_reject cause esm)) h)
 
   challenge : {d : Draft} → IsOpenTo solo item → MayChallenge solo item d.solo → P d → P (attaching.challenge s d)
   unfolding attaching.challenge
@@ -198,15 +199,15 @@ module _ (s : Setting) (solo : Solo) (item : Item) {P : Draft → Type 0} (k : K
 
   not_authenticated : {d : Draft} → is_open solo.phase ≡ true → P d → P (attaching.not_authenticated d)
   unfolding attaching.not_authenticated
-  not_authenticated {d} to h = forgotten _ (k.sends _ d (inr (inl to)) h)
+  not_authenticated {d} to h = forgotten _ (k.sends _ d (inr (inl to)) (inl of_authentication_reject) h)
 
   detach_plainly : {d : Draft} (switch_off : Bool) → is_open solo.phase ≡ true → P d → P (attaching.detach_plainly switch_off d)
   unfolding attaching.detach_plainly attaching.detach_answered_plainly
-  detach_plainly {d} switch_off to h = forgotten _ (either P switch_off h (k.sends _ d (inr (inl to)) h))
+  detach_plainly {d} switch_off to h = forgotten _ (either P switch_off h (k.sends _ d (inr (inl to)) (inl of_detach_accept) h))
 
   status_plainly : {d : Draft} (cause : Option EmmCause) → is_open solo.phase ≡ true → P d → P (attaching.status_plainly cause d)
   unfolding attaching.status_plainly
-  status_plainly {d} cause to h = at_some P cause (λ c is. k.sends _ d (inr (inl to)) h) (λ is. h)
+  status_plainly {d} cause to h = at_some P cause (λ c is. k.sends _ d (inr (inl to)) (inl (of_emm_status c)) h) (λ is. h)
 
   authenticated : (nas : List ℕ) (place : ℕ) (v : Vector) → solo.phase ≡ Authenticating → uplink_nas item ≡ Some nas
       → slice_get s.vectors place ≡ Some v → P (untouched solo) → Whenever P (attaching.authenticated place v (untouched solo))
@@ -222,6 +223,7 @@ module _ (s : Setting) (solo : Solo) (item : Item) {P : Draft → Type 0} (k : K
         ksi = ksi_of place;
         command = refl;
       }))
+      (of_security_mode_command _ _)
       (k.makes_context place v phase there h)
 
   response : (nas res : List ℕ) → solo.phase ≡ Authenticating → uplink_nas item ≡ Some nas → P (untouched solo)
@@ -274,12 +276,12 @@ module _ (s : Setting) (solo : Solo) (item : Item) {P : Draft → Type 0} (k : K
   accept : {d : Draft} (key : List ℕ) → P d → IsServed solo d.solo → Whenever P (attaching.accept s key d)
   unfolding attaching.accept attaching.activating attaching.given_tmsi
   accept {d} key h on =
-      then _ (k.sets_up_with key _ _ (k.moves_on Accepting _ refl (k.bears _ (attaching.given_tmsi s d) (inr on.there) (k.gives_tmsi d on h))))
-      (λ e f. k.starts T3450 _ e f)
+      then _ (k.sets_up_with key _ _ (of_attach_accept _ _ _) (k.moves_on Accepting _ refl (k.bears _ (attaching.given_tmsi s d) (inr on.there) (k.gives_tmsi d on h))))
+      (λ e f. k.starts T3450 _ e (of_attach_accept _ _ _) f)
 
   ask_information : {d : Draft} → P d → Whenever P (attaching.ask_information d)
   unfolding attaching.ask_information
-  ask_information {d} h = k.awaits T3489 _ _ _ (inl refl) (k.moves_on EsmInformation d refl h)
+  ask_information {d} h = k.awaits T3489 _ _ _ (inl refl) (of_information_request d.solo.bearer) (k.moves_on EsmInformation d refl h)
 
   secured : {d : Draft} (x : Context) (count : ℕ) → P d → IsServed solo d.solo → Whenever P (attaching.secured s x count d)
   unfolding attaching.secured attaching.keyed attaching.took
@@ -308,12 +310,12 @@ module _ (s : Setting) (solo : Solo) (item : Item) {P : Draft → Type 0} (k : K
       → Whenever P (serving.update s tai combined initial d)
   unfolding serving.update
   update {d} tai combined initial from h on =
-      k.awaits T3450 _ _ _ (inl refl) (k.updates tai initial _ from (k.gives_tmsi d on h))
+      k.awaits T3450 _ _ _ (inl refl) (of_update_accept _ _) (k.updates tai initial _ from (k.gives_tmsi d on h))
 
   detach : {d : Draft} (switch_off : Bool) → P d → Whenever P (serving.detach switch_off d)
   unfolding serving.detach serving.detach_answered
   detach {d} switch_off h =
-      then _ (either (Whenever P) switch_off (some h) (k.protects _ _ d (inl refl) h)) (λ e f. forgotten _ f)
+      then _ (either (Whenever P) switch_off (some h) (k.protects _ _ d (inl refl) (inl of_detach_accept) h)) (λ e f. forgotten _ f)
 
   module _ (m : Entry (List ℕ)) (is_initial : item ≡ Initial m) where
     linked : P (untouched solo) → P (connect s.slot m.station m.enb_ue_id (untouched solo))
@@ -322,13 +324,13 @@ module _ (s : Setting) (solo : Solo) (item : Item) {P : Draft → Type 0} (k : K
     served_by : (r : Result ℕ SecurityFault) (x : Context) → P (untouched solo) → P (serving.served_by r s x m (untouched solo))
     unfolding serving.served_by serving.served attaching.keyed
     served_by (Ok count) x h = k.sets_up _ _ (k.takes _ count _ (k.serves _ (linked h)))
-    served_by (Err fault) x h = k.refuses m _ is_initial h
+    served_by (Err fault) x h = k.refuses m _ is_initial (of_service_reject _) h
 
     service : (octets : List ℕ) → P (untouched solo) → P (serving.service s m octets (untouched solo))
     unfolding serving.service
     service octets h =
-        either P _ (at_some P solo.context (λ x has. served_by _ x h) (λ none. k.refuses m _ is_initial h))
-        (k.refuses m _ is_initial h)
+        either P _ (at_some P solo.context (λ x has. served_by _ x h) (λ none. k.refuses m _ is_initial (of_service_reject _) h))
+        (k.refuses m _ is_initial (of_service_reject _) h)
 
     updated_by : (r : Acceptance) (x : Context) (combined : Bool) → is_registered solo.phase ≡ true → P (untouched solo)
         → Whenever P (serving.updated_by r s x m combined (untouched solo))
@@ -338,15 +340,15 @@ module _ (s : Setting) (solo : Solo) (item : Item) {P : Draft → Type 0} (k : K
         let on = connect_served s.slot m.station m.enb_ue_id solo (untouched solo) (record { there = there; tmsis = refl }) in
         update m.tai combined true (ap tai_of is_initial) (k.takes _ found.0 _ (linked h))
         (record { there = on.there; tmsis = on.tmsis })
-    updated_by (Err fault) x combined registered h = some (k.refuses m _ is_initial h)
+    updated_by (Err fault) x combined registered h = some (k.refuses m _ is_initial (of_update_reject _) h)
 
     initial_update : (combined : Bool) → P (untouched solo) → Whenever P (serving.initial_update s m combined (untouched solo))
     unfolding serving.initial_update
     initial_update combined h =
         either_by (Whenever P) (is_registered solo.phase)
         (λ registered. at_some (Whenever P) solo.context (λ x has. updated_by _ x combined registered h)
-        (λ none. some (k.refuses m _ is_initial h)))
-        (λ other. some (k.refuses m _ is_initial h))
+        (λ none. some (k.refuses m _ is_initial (of_update_reject _) h)))
+        (λ other. some (k.refuses m _ is_initial (of_update_reject _) h))
 
     detached_by : (r : Acceptance) (x : Context) (switch_off : Bool) → P (untouched solo)
         → Whenever P (serving.detached_by r s x m switch_off (untouched solo))
@@ -385,7 +387,7 @@ module _ (s : Setting) (solo : Solo) (item : Item) {P : Draft → Type 0} (k : K
 
   status : {d : Draft} (cause : Option EmmCause) → P d → Whenever P (serving.status_protected cause d)
   unfolding serving.status_protected
-  status {d} cause h = at_some (Whenever P) cause (λ c is. k.protects _ _ d (inl refl) h) (λ is. some h)
+  status {d} cause h = at_some (Whenever P) cause (λ c is. k.protects _ _ d (inl refl) (inl (of_emm_status c)) h) (λ is. some h)
 
   attach_completed : {d : Draft} (esm : List ℕ) → P d → IsServed solo d.solo → P (serving.attach_completed esm d)
   unfolding serving.attach_completed
@@ -408,16 +410,16 @@ module _ (s : Setting) (solo : Solo) (item : Item) {P : Draft → Type 0} (k : K
   inner_emm (heards.Unreadable fault) tai from h on = status _ h
   inner_emm _ tai from h on = status _ h
 
-  reacted : {d : Draft} (r : Reaction (List ℕ)) → P d → IsServed solo d.solo → Whenever P (serving.reacted r s d)
+  reacted : {d : Draft} (r : Reaction (List ℕ)) → AnswersOfNetwork r → P d → IsServed solo d.solo → Whenever P (serving.reacted r s d)
   unfolding serving.reacted serving.information_came
-  reacted reactions.Nothing h on = some h
-  reacted {d} reactions.Informed h on = at_some (Whenever P) d.solo.context (λ x is. accept _ h on) (λ is. some h)
-  reacted {d} (reactions.Answer octets) h on = k.protects _ octets d (inl refl) h
+  reacted reactions.Nothing answers h on = some h
+  reacted {d} reactions.Informed answers h on = at_some (Whenever P) d.solo.context (λ x is. accept _ h on) (λ is. some h)
+  reacted {d} (reactions.Answer octets) answers h on = k.protects _ octets d (inl refl) (inl answers) h
 
   inner_message : {d : Draft} (octets : List ℕ) (tai : Tai) → tai_of item ≡ Some tai → P d → IsServed solo d.solo
       → Whenever P (serving.inner_message octets s tai d)
   unfolding serving.inner_message serving.inner_esm
-  inner_message octets tai from h on = either (Whenever P) _ (reacted _ h on) (inner_emm (heard octets) tai from h on)
+  inner_message octets tai from h on = either (Whenever P) _ (reacted _ (of_reaction _ _ octets) h on) (inner_emm (heard octets) tai from h on)
 
   inner_message_by : {d : Draft} (r : Acceptance) (x : Context) (tai : Tai) → tai_of item ≡ Some tai → P d → IsServed solo d.solo
       → Whenever P (serving.inner_message_by r s x tai d)
@@ -526,8 +528,8 @@ module _ (s : Setting) (solo : Solo) (item : Item) {P : Draft → Type 0} (k : K
       → d.solo.tmsi ≡ solo.tmsi → P d
       → Whenever P (idle.again r s d)
   unfolding idle.again
-  again {d} (repeats.Nas Plain nas) ticks was kept tai tmsi h = some (k.sends nas d (inr (inr (ticks, was))) h)
-  again {d} (repeats.Nas (Under header) nas) ticks was kept tai tmsi h = k.protects header nas d (inr (ticks, was)) h
+  again {d} (repeats.Nas Plain nas) ticks was kept tai tmsi h = some (k.sends nas d (inr (inr (ticks, was))) (inr (subst (λ (o : Option Repeat). IsAgain o nas) (sym was) refl)) h)
+  again {d} (repeats.Nas (Under header) nas) ticks was kept tai tmsi h = k.protects header nas d (inr (ticks, was)) (inr (subst (λ (o : Option Repeat). IsAgain o nas) (sym was) refl)) h
   again {d} (repeats.Paging es) ticks was kept tai tmsi h =
       some (k.pages_again es d ticks (record { was = was; kept = kept; tai = tai; tmsi = tmsi }) h)
 
@@ -550,7 +552,7 @@ module _ (s : Setting) (solo : Solo) (item : Item) {P : Draft → Type 0} (k : K
 
   detach_phone : {d : Draft} → P d → Whenever P (idle.detach_phone d)
   unfolding idle.detach_phone
-  detach_phone {d} h = k.awaits T3422 _ _ _ (inl refl) (k.moves_on Detaching d refl h)
+  detach_phone {d} h = k.awaits T3422 _ _ _ (inl refl) of_network_detach (k.moves_on Detaching d refl h)
 
   cancelled : {d : Draft} (phase : Phase) → P d → Whenever P (idle.cancelled phase d)
   unfolding idle.cancelled
