@@ -451,7 +451,7 @@ class Causes:
         """The steps, each once it has its answers. One goes to the first step, not before that of the answer before, which fits it;
         else to the one before."""
         able, at, done = [place for place, step in enumerate(steps) if step.event.word not in ("up", "lost")], 0, 0
-        for answer in progress.over("finds the event of answer", answers, len(answers)):
+        for answer in answers:
             said, place = content(answer.octets), at
             while place < len(able) and not self.fits(steps[able[place]], answer, said):
                 place += 1
@@ -473,7 +473,7 @@ class Causes:
 
 def matched(trace, answers):
     """The steps of a trace with answers that were printed before."""
-    return list(matching(trace, answers))
+    return list(progress.over("finds answers to event", matching(trace, answers), len(trace.events)))
 
 
 def matching(trace, answers):
