@@ -73,13 +73,13 @@ class Unit(unittest.TestCase):
                          ("/run/credentials/subscribers", "/var/lib/soizkadur/01/trace", "/run/soizkadur/01/control"))
 
     def test_limits(self):
-        """Memory, tasks, files and disk are limited, with room for all that the front takes at the most; the log's is as it says."""
+        """Memory, tasks, files and disk are limited, with room for all that the front takes at most; the log's is as it says."""
         text = UNIT.read_text()
         lines = dict(re.findall(r"^(\w+)=(.*)$", text, re.MULTILINE))
         self.assertLessEqual({"MemoryMax", "TasksMax", "LimitNOFILE", "LimitFSIZE"}, set(lines))
         guests = limits.MOST_ASKING + limits.MOST_BROWSING
         self.assertGreater(int(lines["LimitNOFILE"]), 2 * (runs.STATIONS + guests))
-        sizes = [int(lines[name][:-1]) << 30 for name in ("MemoryMax", "LimitFSIZE") if lines[name].endswith("G")]
+        sizes = [int(lines[name].removesuffix("G")) << 30 for name in ("MemoryMax", "LimitFSIZE")]
         self.assertGreater(sizes[0], runs.STATIONS * limits.MOST_WAITING + guests * limits.MOST_TOLD)
         self.assertGreater(sizes[1], 2 * limits.SEGMENT_SIZE * MIB)
         self.assertIn("at most %d segments of %d MiB of each of its two series" % (limits.SEGMENTS, limits.SEGMENT_SIZE), text)
@@ -89,16 +89,16 @@ class Unit(unittest.TestCase):
         for."""
         text = UNIT.read_text()
         lines = dict(re.findall(r"^(\w+)=(.*)$", text, re.MULTILINE))
-        statuses = {int(status): again == "yes" for status, again in re.findall(r"^\| (\d+) \| .* \| (yes|no) \|$", README.read_text(),
-                                                                              re.MULTILINE)}
+        rows = re.findall(r"^\| (\d+) \| .* \| (yes|no) \|$", README.read_text(), re.MULTILINE)
+        statuses = {int(status): again == "yes" for status, again in rows}
         passing = dict.fromkeys((faults.BABBLES, faults.LOG_FAILS, faults.NOT_YET, faults.SILENT), True)
         self.assertEqual(statuses, {0: False, faults.WRONG: False, **passing})
         self.assertEqual((lines["Restart"], lines["RestartPreventExitStatus"], lines["StartLimitIntervalSec"]),
                          ("on-failure", str(faults.WRONG), "0"))
 
     def test_told(self):
-        """The service manager hears that the front is ready, that it still turns, and that it ends (sd_notify(3)); of one that stands
-        still it hears nothing."""
+        """The service manager hears that the front is ready, that it still turns, and that it ends (sd_notify(3)); of one that
+        stands still it hears nothing."""
         text = UNIT.read_text()
         self.assertRegex(text, r"\nType=notify\n")
         self.assertRegex(text, r"\nWatchdogSec=\d+\n")

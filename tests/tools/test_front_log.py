@@ -362,8 +362,8 @@ class GivenToPhones(unittest.TestCase):
         self.assertNotIn("cancel", running.log.read_text())
 
     def test_a_phone_that_was_refused(self):
-        """A phone that was refused as nobody's attaches after its subscriber was given, which `cancel` brought to a known state; one
-        that is registered notices nothing."""
+        """A phone that was refused as nobody's attaches after its subscriber was given, which `cancel` brought to a known state;
+        one that is registered notices nothing."""
         other, late = self.phones
         withheld = self.lines_of(late)
         running, talk = self.running(withheld)
