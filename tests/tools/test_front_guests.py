@@ -133,6 +133,22 @@ class ControlSocket(Turned):
         self.assertEqual(told, ["fault no line begins with 'nothing'",
                                 "fault give has the number of octets that follow, up to %d" % limits.LONGEST_GIVEN])
 
+    def test_slow_answers(self):
+        """Who waits for an answer isn't sent away meanwhile, and has its time again after it."""
+        with unittest.mock.patch.multiple(limits, MOST_ASKING=GUESTS, ASKING_SECONDS=SECONDS):
+            front = types.SimpleNamespace(loop=self.loop, give=unittest.mock.Mock())
+            control = Control(front, self.listener)
+        self.addCleanup(control.close)
+        guest = self.guest(b"give 4\nsub ")
+        [(text, reply)] = [call.args for call in front.give.call_args_list]
+        self.turn(3 * SECONDS)
+        self.assertEqual((text, has_ended(guest)), (b"sub ", False))
+        reply("given")
+        self.turn()
+        self.assertEqual(guest.recv(100), b"given\n")
+        self.turn(1.5 * SECONDS)
+        self.assertTrue(has_ended(guest))
+
     def test_slow_guests(self):
         """Those who don't say all of it keep nobody waiting, neither a station nor another who asks."""
         running = Running(self)

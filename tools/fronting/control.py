@@ -45,6 +45,7 @@ class Control:
     def answer(self, guest, line, text):
         """Does what a line says, and answers it once that is done."""
         self.busy.add(guest)
+        guest.wait()
         now = True
 
         def reply(answer):

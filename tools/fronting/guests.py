@@ -23,6 +23,10 @@ class Guest:
             self.timer.cancel()
         self.timer = self.loop.after(self.seconds, self.close)
 
+    def wait(self):
+        """It waits for an answer, for as long as that takes: its time doesn't run meanwhile."""
+        self.timer.cancel()
+
     def look(self, events):
         if events & select.EPOLLOUT:
             self.write()
