@@ -2,7 +2,7 @@
 // WORD=N LD_PRELOAD=./shim.so PROGRAM. Calls are counted from 1, and 0 or no word leaves them as they are.
 //   REFUSE=N       the Nth allocation answers that there is no memory
 //   FAIL_READ=N    the Nth read fails with EIO; FAIL_WRITE=N the Nth write of standard output; with LASTING=1 those
-//                  behind it, too
+//                  after it, too
 //   NARROW_READ=1  a read gives at most one octet; NARROW_WRITE=1 a write of standard output takes one
 // At its end the program's allocations, reads and writes are counted in the file COUNTS, in one line.
 #define _GNU_SOURCE

@@ -178,7 +178,7 @@ class Floods(unittest.TestCase):
 
     def test_turns(self):
         """What three stations sent while the front stood still is given to the MME a message of each in turn; where one's octets
-        come a read later than the others', it is a turn behind."""
+        come a read later than the others', it is a turn late."""
         running = Running(self)
         stations = [running.station() for _ in range(3)]
         running.process.send_signal(signal.SIGSTOP)
@@ -384,7 +384,7 @@ class Words(unittest.TestCase):
 
 class Live(PHONES.Trace):
     """What stations and phones do goes to a front that runs, and what they are owed is waited for: at once, or where they all act
-    together, behind that."""
+    together, after that."""
 
     def __init__(self, test):
         super().__init__()

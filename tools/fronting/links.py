@@ -46,7 +46,7 @@ class TcpLink(Link):
         connection.setsockopt(socket.SOL_SOCKET, socket.SO_KEEPALIVE, 1)
 
     def read(self):
-        """Reads once. A piece that is shorter than it might be is all that there is, unless the end stands behind it (epoll(7))."""
+        """Reads once. A piece that is shorter than it might be is all that there is, unless the end stands after it (epoll(7))."""
         try:
             piece = self.connection.recv(limits.PIECE)
         except BlockingIOError:

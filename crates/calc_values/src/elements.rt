@@ -186,8 +186,8 @@ impl<'a> Field<'a> for DomainWord {
 
 /// Each of the elements that are asked for by their identifiers.
 fn optional_answer(call: Call) -> CallAnswer {
-    let (DomainWord(domain), behind) = call.first()?;
-    let (octets, asked): (Vec<u8>, Call) = behind.first()?;
+    let (DomainWord(domain), rest) = call.first()?;
+    let (octets, asked): (Vec<u8>, Call) = rest.first()?;
     match Optional::read(domain, &octets) {
         Ok(optional) => found_answer(asked, &optional),
         Err(fault) => fault_answer(call, fault),

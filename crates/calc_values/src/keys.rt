@@ -39,12 +39,12 @@ pub fn answer(call: Call) -> CallAnswer {
 
 /// A key that is derived of KASME.
 fn derived_answer(call: Call) -> CallAnswer {
-    let (kasme, behind): (_, Call) = call.first()?;
+    let (kasme, rest): (_, Call) = call.first()?;
     match call.word {
-        "kenb" => call.octets_answer(&kenb(&kasme, behind.one()?)),
-        "next_hop" => call.octets_answer(&next_hop(&kasme, &behind.one()?)),
+        "kenb" => call.octets_answer(&kenb(&kasme, rest.one()?)),
+        "next_hop" => call.octets_answer(&next_hop(&kasme, &rest.one()?)),
         _ => {
-            behind.none()?;
+            rest.none()?;
             call.octets_answer(&nas_integrity_key(&kasme))
         }
     }

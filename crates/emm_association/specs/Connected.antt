@@ -49,13 +49,13 @@ abbrev pub standing_hop : List ℕ → RadioKeys → List ℕ
 standing_hop kasme keys = unwrap_or keys.next_hop (next_hop kasme keys.kenb)
 
 -- the next hop after it, which a path switch takes
-abbrev pub hop_behind : Context → List ℕ
-hop_behind x = next_hop x.kasme (standing_hop x.kasme x.radio)
+abbrev pub hop_after : Context → List ℕ
+hop_after x = next_hop x.kasme (standing_hop x.kasme x.radio)
 
 -- the radio keys with that hop
 abbrev pub hopped : Context → RadioKeys
 hopped x =
-    record { kenb = x.radio.kenb; next_hop = Some (hop_behind x); chaining_count = next_chaining_count x.radio.chaining_count }
+    record { kenb = x.radio.kenb; next_hop = Some (hop_after x); chaining_count = next_chaining_count x.radio.chaining_count }
 
 -- the connection that a path switch leads to
 abbrev pub connection_of : UeMessage (List ℕ) → Connection
@@ -65,7 +65,7 @@ connection_of m = record { id = m.mme_ue_id; station = m.station; enb_ue_id = m.
 unfoldable pub switched : UeMessage (List ℕ) → Context → Draft → Draft
 switched m x d =
     let count = next_chaining_count x.radio.chaining_count in
-    emit m.station (path_switch_acknowledge (connection_of m) (hop_behind x) count) None (record d {
+    emit m.station (path_switch_acknowledge (connection_of m) (hop_after x) count) None (record d {
       solo = record d.solo { connection = Some (connection_of m); context = Some (record x { radio = hopped x }) };
     })
 

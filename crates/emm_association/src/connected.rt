@@ -2,7 +2,7 @@
 
 ghost use Rattle.std.specs.Prelude.{◌≡◌, OnOk, Some, None};
 ghost use Rattle.mme_signalling.specs.Pdus.{cause_of_request, is_extended};
-ghost use Rattle.emm_association.specs.Connected.{checked, connection_of, connections_gone, displaced, has_connection_id, has_pair, hop_behind, indicate, message_of, next_chaining_count, not_switched, on_connection, path_switch, standing_hop, station_gone, strike, struck, switched};
+ghost use Rattle.emm_association.specs.Connected.{checked, connection_of, connections_gone, displaced, has_connection_id, has_pair, hop_after, indicate, message_of, next_chaining_count, not_switched, on_connection, path_switch, standing_hop, station_gone, strike, struck, switched};
 ghost use Rattle.emm_state.specs.Does.{Does};
 ghost use Rattle.mme_types.specs.Events.{message_lists};
 
@@ -38,8 +38,8 @@ fn standing_hop(schedule: &mut KeySchedule, kasme: &[u8; 32], radio: &RadioKeys)
 }
 
 // The next hop after the one that stands.
-fn hop_behind(schedule: &mut KeySchedule, context: &Context) -> [u8; 32]
-    ensures { result ≡ hop_behind context.now }
+fn hop_after(schedule: &mut KeySchedule, context: &Context) -> [u8; 32]
+    ensures { result ≡ hop_after context.now }
 {
     let standing = standing_hop(schedule, &context.kasme, &context.radio);
     schedule.next_hop(&context.kasme, &standing)
@@ -116,7 +116,7 @@ fn switched(
 ) -> Result<(), AllocError>
     ensures { OnOk result (draft.new ≡ switched (message_lists message.now) context draft.old) }
 {
-    let hop = hop_behind(&mut draft.solo.schedule, &context);
+    let hop = hop_after(&mut draft.solo.schedule, &context);
     let count = next_chaining_count(context.radio.chaining_count);
     let answer = path_switch_acknowledge(connection_of(message), hop, count);
     context.radio.next_hop = Some(hop);

@@ -17,7 +17,7 @@ use Rattle.stranger_machine.specs.Machine.{Begins as BeginsInput, Receives, stra
 use Rattle.stranger_machine.specs.Table.{known_id, stranger_at}
 use Rattle.stranger_machine.specs.Laws as laws
 use Rattle.subscriber_table.specs.Table.{each_after, subscriber_after}
-use Rattle.mme_routing.specs.Destinations.{Destination, input_for, item_at, strangers_behind}
+use Rattle.mme_routing.specs.Destinations.{Destination, input_for, item_at, strangers_left}
 use Rattle.mme_routing.specs.Destinations as to
 use Rattle.laws_apart.specs.Alone.{IsMadeIf, IsOwn, WaitsMade}
 use Rattle.laws_apart.specs.Apart.{BeginsApart, Has, IdsApart, IsApart, NoTwoShare, NoneHasWaiting, StaysApart, by_id}
@@ -29,18 +29,18 @@ use Rattle.laws_apart.proofs.Turning.{claimed_held, stays_held, waits_stay_made}
 -- ---- each stranger goes as its own machine, and the ids rise
 
 turned : (ps : List Profile) (id : ℕ) (d : Destination) (ks : List Known) → Rising known_id ks
-    → stranger_at id (strangers_behind ps d ks) ≡ (stranger_step ps id (stranger_at id ks) (input_for d id)).stranger
+    → stranger_at id (strangers_left ps d ks) ≡ (stranger_step ps id (stranger_at id ks) (input_for d id)).stranger
 turned ps id (to.Beginner n m) ks h = laws.one_turned ps id n (BeginsInput m) ks h
 turned ps id (to.Stranger m) ks h = laws.one_turned ps id m.mme_ue_id (Receives m) ks h
 turned ps id (to.Everyone notice) ks h = laws.all_turned ps id notice ks h
 turned ps id _ ks h = sym (ap (λ t. t.stranger) (laws.at_nothing ps id (stranger_at id ks)))
 
-rising_behind : (ps : List Profile) (d : Destination) (ks : List Known) → Rising known_id ks
-    → Rising known_id (strangers_behind ps d ks)
-rising_behind ps (to.Beginner id m) ks h = laws.rising_input ps id (BeginsInput m) ks h
-rising_behind ps (to.Stranger m) ks h = laws.rising_input ps m.mme_ue_id (Receives m) ks h
-rising_behind ps (to.Everyone notice) ks h = laws.rising_noted notice ks h
-rising_behind ps _ ks h = h
+rising_next : (ps : List Profile) (d : Destination) (ks : List Known) → Rising known_id ks
+    → Rising known_id (strangers_left ps d ks)
+rising_next ps (to.Beginner id m) ks h = laws.rising_input ps id (BeginsInput m) ks h
+rising_next ps (to.Stranger m) ks h = laws.rising_input ps m.mme_ue_id (Receives m) ks h
+rising_next ps (to.Everyone notice) ks h = laws.rising_noted notice ks h
+rising_next ps _ ks h = h
 
 -- ---- each subscriber takes its own item
 
@@ -99,14 +99,14 @@ stays_apart come ps d ks ws goes h =
       numbered = λ slot y at.
           let x = each_at items 0 ws slot slot y (omega arith) at in
           ap (λ (v : SubscriberView). v.setting.slot) (sym x.2) ∙ h.numbered slot x.0 x.1;
-      rising = rising_behind ps d ks h.rising;
+      rising = rising_next ps d ks h.rising;
       waiting = λ id. subst (WaitsMade id) (sym (each id)) (waits_stay_made ps d id (stranger_at id ks) goes (h.waiting id));
       apart = λ slot y k at is.
           let x = each_at items 0 ws slot slot y (omega arith) at in
           let comes : ComesSo x.0.setting x.0.solo (items slot) (Some k) =
           subst (ComesSo x.0.setting x.0.solo (items slot)) (ap (λ (v : SubscriberView). v.solo.connection) x.2 ∙ is)
           (come x.0.setting x.0.solo (items slot)) in
-          comes_apart d ps (by_id ks) (by_id (strangers_behind ps d ks)) slot x.0.setting x.0.solo k each goes h.waiting
+          comes_apart d ps (by_id ks) (by_id (strangers_left ps d ks)) slot x.0.setting x.0.solo k each goes h.waiting
           (h.numbered slot x.0 x.1)
           (λ old before. h.apart slot x.0 old x.1 before) comes;
     }

@@ -13,7 +13,7 @@ use Rattle.stranger_machine.specs.declared.table.Known.{Known}
 use Rattle.stranger_machine.specs.Table.{known_id, stranger_at}
 use Rattle.subscriber_table.specs.Table.{each_after}
 pub use Rattle.subscriber_table.specs.Touched.{Has}
-use Rattle.mme_routing.specs.Destinations.{Destination, item_at, strangers_behind}
+use Rattle.mme_routing.specs.Destinations.{Destination, item_at, strangers_left}
 use Rattle.laws_apart.specs.Alone.{IsOfStranger, IsOwn, WaitsMade}
 use Rattle.laws_apart.specs.Goes.{GoesMade}
 
@@ -49,7 +49,7 @@ BeginsApart =
 abbrev pub StaysApart : Type 0
 StaysApart =
     (ps : List Profile) (d : Destination) (ks : List Known) (ws : List SubscriberView) → GoesMade d → IdsApart ks ws
-    → IdsApart (strangers_behind ps d ks) (each_after (item_at d ps (by_id ks)) 0 ws)
+    → IdsApart (strangers_left ps d ks) (each_after (item_at d ps (by_id ks)) 0 ws)
 
 -- ---- what follows
 

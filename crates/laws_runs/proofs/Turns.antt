@@ -11,7 +11,7 @@ use Rattle.stranger_machine.specs.Machine.{Input, Begins, Receives, stranger_ste
 use Rattle.stranger_machine.specs.Machine as inputs
 use Rattle.stranger_machine.specs.Table.{known_id, stranger_at}
 use Rattle.stranger_machine.specs.Laws as strangers
-use Rattle.mme_routing.specs.Destinations.{Destination, if_called, input_for, item_at, strangers_behind}
+use Rattle.mme_routing.specs.Destinations.{Destination, if_called, input_for, item_at, strangers_left}
 use Rattle.mme_routing.specs.Destinations as to
 use Rattle.mme_answering.specs.declared.out.Out.{Out}
 use Rattle.mme_answering.specs.declared.out.Owner.{Owner}
@@ -108,7 +108,7 @@ absent_after w e slot h =
 
 -- each stranger goes as its own machine
 turned : (ps : List Profile) (id : ℕ) (d : Destination) (ks : List Known) → Rising known_id ks
-    → stranger_at id (strangers_behind ps d ks) ≡ (stranger_step ps id (stranger_at id ks) (input_for d id)).stranger
+    → stranger_at id (strangers_left ps d ks) ≡ (stranger_step ps id (stranger_at id ks) (input_for d id)).stranger
 turned ps id to.Nobody ks h = sym (ap (λ t. t.stranger) (strangers.at_nothing ps id (stranger_at id ks)))
 turned ps id (to.Subscriber n item) ks h = sym (ap (λ t. t.stranger) (strangers.at_nothing ps id (stranger_at id ks)))
 turned ps id (to.Beginner n m) ks h = strangers.one_turned ps id n (Begins m) ks h
@@ -129,13 +129,13 @@ stranger_once w e id h =
     (turned w.sight.profiles id (happens w.sight e).destination w.strangers h)
 
 -- and the ids rise
-rising_behind : (ps : List Profile) (d : Destination) (ks : List Known) → Rising known_id ks
-    → Rising known_id (strangers_behind ps d ks)
-rising_behind ps to.Nobody ks h = h
-rising_behind ps (to.Subscriber n item) ks h = h
-rising_behind ps (to.Beginner id m) ks h = strangers.rising_input ps id (Begins m) ks h
-rising_behind ps (to.Stranger m) ks h = strangers.rising_input ps m.mme_ue_id (Receives m) ks h
-rising_behind ps (to.Everyone notice) ks h = strangers.rising_noted notice ks h
+rising_next : (ps : List Profile) (d : Destination) (ks : List Known) → Rising known_id ks
+    → Rising known_id (strangers_left ps d ks)
+rising_next ps to.Nobody ks h = h
+rising_next ps (to.Subscriber n item) ks h = h
+rising_next ps (to.Beginner id m) ks h = strangers.rising_input ps id (Begins m) ks h
+rising_next ps (to.Stranger m) ks h = strangers.rising_input ps m.mme_ue_id (Receives m) ks h
+rising_next ps (to.Everyone notice) ks h = strangers.rising_noted notice ks h
 
 rising_by : (o : Option StepFault) (w v : World) → Rising known_id w.strangers → Rising known_id v.strangers
     → Rising known_id (unless o w v).strangers
@@ -145,7 +145,7 @@ rising_by (Some fault) w v h k = h
 pub rising_once : (w : World) (e : Event) → Rising known_id w.strangers → Rising known_id (world_after w e).strangers
 rising_once w e h =
     rising_by (event_fault w.sight e) w (world_moved w e) h
-    (rising_behind w.sight.profiles (happens w.sight e).destination w.strangers h)
+    (rising_next w.sight.profiles (happens w.sight e).destination w.strangers h)
 
 -- ---- strangers that are the same one by one call alike
 

@@ -56,12 +56,12 @@ up_to os extended count es here r =
     let bit : length a.taken ≡ 1 = ap length a.spelled in
     let one : h.first.at ≡ 1 = let p = a.at in omega (arith, p, bit) in
     let two : r.second.at ≡ 1 + length b.taken = b.at ∙ ap (λ (n : ℕ). n + length b.taken) one in
-    let behind : h.first.rest ≡ b.taken ++ (c.taken ++ here.rest) = b.parts ∙ ap (λ (l : List Bool). b.taken ++ l) c.parts in
+    let following : h.first.rest ≡ b.taken ++ (c.taken ++ here.rest) = b.parts ∙ ap (λ (l : List Bool). b.taken ++ l) c.parts in
     let front : octet_bits os ≡ extended ∷ h.first.rest = a.parts ∙ ap (λ (l : List Bool). l ++ h.first.rest) a.spelled in
     record {
       number = b.taken;
       elements = c.taken;
-      whole = front ∙ ap (λ (l : List Bool). extended ∷ l) behind;
+      whole = front ∙ ap (λ (l : List Bool). extended ∷ l) following;
       at = c.at ∙ ap (λ (n : ℕ). n + length c.taken) two;
       counted = subst (λ (n : ℕ). SpellsNumber 0 65535 count n b.taken) one b.spelled;
       each = subst (λ (n : ℕ). SpellsEach (Spells raw) es n c.taken) two c.spelled.1;
@@ -73,11 +73,11 @@ placed a n l = Ok (a, record { at = n; rest = l })
 pub read_of : (os : List ℕ) (extended : Bool) (count : ℕ) (es : List Raw) (here : Place)
     → UpTo os extended count es here → ReadTo os extended count es here
 read_of os extended count es here u =
-    let behind : List Bool = u.elements ++ here.rest in
-    let first : Place = record { at = 1; rest = u.number ++ behind } in
-    let second : Place = record { at = 1 + length u.number; rest = behind } in
+    let following : List Bool = u.elements ++ here.rest in
+    let first : Place = record { at = 1; rest = u.number ++ following } in
+    let second : Place = record { at = 1 + length u.number; rest = following } in
     let bit : bit_at (start os) ≡ Ok (extended, first) = ap (λ (l : List Bool). first_bit 0 l) u.whole in
-    let number = (exact_number 0 65535).again count 1 u.number behind u.counted in
+    let number = (exact_number 0 65535).again count 1 u.number following u.counted in
     let each = (exact_elements (length es)).again es (1 + length u.number) u.elements here.rest (refl, u.each) in
     record {
       second = second;

@@ -11,7 +11,7 @@ use Rattle.s1ap_rows.specs.Rows.{Rows, Slots, no_slots, are_distinct}
 use Rattle.s1ap_rows.specs.Spelling.{Raw, AreElements, message}
 use Rattle.s1ap_rows.specs.Reading.{◌>>>◌, syntax_of, elements_at, fill_at, kept_of, message_at}
 use Rattle.s1ap_rows.specs.MessageLaws.{bind_some, syntax_some, elements_to, elements_from}
-use Rattle.laws_s1ap.specs.S1apFaults.{head_at, tail_at, Reached, FailsAtElement, FailsBehindElements, LacksElement, HasMessageFault}
+use Rattle.laws_s1ap.specs.S1apFaults.{head_at, tail_at, Reached, FailsAtElement, FailsAfterElements, LacksElement, HasMessageFault}
 use Rattle.laws_s1ap.proofs.Outcomes.{FailsOr, SyntaxOr, okay, bad, ok_same, never_both, bind_fails, syntax_fails}
 use Rattle.laws_s1ap.proofs.Taken.{taken_of, put_of}
 use Rattle.laws_s1ap.proofs.Looking.{seen, missing_to, missing_from}
@@ -56,7 +56,7 @@ element_fault rs os b n second x d h k =
 
 tail_fault : (rs : Rows) (os : List ℕ) (b : Bool) (n : ℕ) (second here : Place) (now : Slots rs) (d : PerFault)
     → HeadRead os b n second → elements_at rs n (no_slots rs) second ≡ Ok (now, here) → tail_at b here ≡ Err d
-    → FailsBehindElements rs os d
+    → FailsAfterElements rs os d
 tail_fault rs os b n second here now d h k t =
     let e = elements_to rs n (no_slots rs) second now here k in
     let read = read_to os b n n e.0 second here h e.1 in
@@ -232,7 +232,7 @@ element_fails rs os x d (p, fewer, fault) =
     let fails = after_fails rs p.count (length p.es) (no_slots rs) slots read.second p.here x fewer put step in
     filled_element rs os p.extended p.count read.second x read.head fails
 
-tail_fails : (rs : Rows) (os : List ℕ) (d : PerFault) → FailsBehindElements rs os d → fill_at rs (no_slots rs) os ≡ Err (Syntax d)
+tail_fails : (rs : Rows) (os : List ℕ) (d : PerFault) → FailsAfterElements rs os d → fill_at rs (no_slots rs) os ≡ Err (Syntax d)
 tail_fails rs os d (p, many, fault) =
     additions (either_fails (skipped_at p.extended additions_at p.here) (λ more. end_at more.1) d fault)
   where

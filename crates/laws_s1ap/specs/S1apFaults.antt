@@ -1,6 +1,6 @@
 -- When each fault of an S1AP message comes: at the first place from the left at which something can't be taken, and a missing
 -- element last (TS 36.413 clause 10.3). What stands to the left of the place was taken: its bits spell it. Of the part at the place
--- alone it is asked what reading gives. `Takes S here a behind` says that the bits from one place to the other spell a.
+-- alone it is asked what reading gives. `Takes S here a following` says that the bits from one place to the other spell a.
 use Rattle.std.specs.Prelude.{◌≡◌, ℕ, ◌+◌, ◌<◌, Bool, true, false, ◌||◌, cond, eqb, List, [], ◌∷◌, ◌++◌, length, Option, Some, None, Result, Ok, Err, ◌⊎◌}
 use Rattle.std.specs.List.{AllByRecursion}
 use Rattle.per_streams.specs.declared.fault.PerFault.{PerFault}
@@ -51,20 +51,20 @@ held_by id (ie i c p f rs) = cond (eqb id i) (Some f) (held_by id rs)
 -- the id of a row that one of them has
 abbrev pub IsRepeated : Rows → List Raw → Place → ℕ → Type 0
 IsRepeated rs es here id =
-    (behind : Place) × (f : Format)
-    × Takes (SpellsNumber 0 65535) here id behind × (held_by id rs ≡ Some f) × (has_element id es ≡ true)
+    (following : Place) × (f : Format)
+    × Takes (SpellsNumber 0 65535) here id following × (held_by id rs ≡ Some f) × (has_element id es ≡ true)
 
 -- the id of no row, and a criticality by which it may not be skipped
 abbrev pub IsRefused : Rows → Place → ℕ → Type 0
 IsRefused rs here id =
-    (criticality : ℕ) × (mid : Place) × (behind : Place)
-    × Takes (SpellsNumber 0 65535) here id mid × Takes (SpellsNumber 0 2) mid criticality behind
+    (criticality : ℕ) × (mid : Place) × (following : Place)
+    × Takes (SpellsNumber 0 65535) here id mid × Takes (SpellsNumber 0 2) mid criticality following
     × (held_by id rs ≡ None) × (may_skip id criticality ≡ false)
 
 -- the first element of a row, whose octets spell nothing that the row holds
 abbrev pub IsMisspelled : Rows → List Raw → Place → PerFault → Type 0
 IsMisspelled rs es here fault =
-    (e : Raw) × (behind : Place) × (f : Format) × Takes (Spells raw) here e behind
+    (e : Raw) × (following : Place) × (f : Format) × Takes (Spells raw) here e following
     × (held_by (id_of e) rs ≡ Some f) × (has_element (id_of e) es ≡ false) × (complete_at f (octets_of e) ≡ Err fault)
 
 -- no element is spelled, and what is spelled of one is neither repeated nor refused
@@ -108,8 +108,8 @@ abbrev pub FailsAtElement : Rows → List ℕ → S1apFault → Type 0
 FailsAtElement rs os fault = (r : Reached rs os) × (length r.es < r.count) × ElementFault rs r.es r.here fault
 
 -- all elements were taken, and what stands after them isn't spelled
-abbrev pub FailsBehindElements : Rows → List ℕ → PerFault → Type 0
-FailsBehindElements rs os fault = (r : Reached rs os) × (length r.es ≡ r.count) × (tail_at r.extended r.here ≡ Err fault)
+abbrev pub FailsAfterElements : Rows → List ℕ → PerFault → Type 0
+FailsAfterElements rs os fault = (r : Reached rs os) × (length r.es ≡ r.count) × (tail_at r.extended r.here ≡ Err fault)
 
 -- the ids of the rows that must have an element, in their order
 abbrev pub needed_ids : Rows → List ℕ
@@ -131,7 +131,7 @@ LacksElement rs os id = (es : List Raw) × SpellsWhole message (es, tt) os × Ar
 -- the fault of octets as a message of the rows
 abbrev pub HasMessageFault : Rows → List ℕ → S1apFault → Type 0
 HasMessageFault rs os (Syntax fault) =
-    (head_at (start os) ≡ Err fault) ⊎ (FailsAtElement rs os (Syntax fault) ⊎ FailsBehindElements rs os fault)
+    (head_at (start os) ≡ Err fault) ⊎ (FailsAtElement rs os (Syntax fault) ⊎ FailsAfterElements rs os fault)
 HasMessageFault rs os (RepeatedElement id) = FailsAtElement rs os (RepeatedElement id)
 HasMessageFault rs os (RefusedElement id) = FailsAtElement rs os (RefusedElement id)
 HasMessageFault rs os (MissingElement id) = LacksElement rs os id

@@ -16,7 +16,7 @@ use Rattle.mme_types.specs.Events.{Nothing}
 use Rattle.mme_types.specs.Stations.{station_at}
 use Rattle.emm_state.specs.declared.draft.Draft.{Draft}
 use Rattle.emm_machine.specs.SubscriberView.{SubscriberView}
-use Rattle.mme_routing.specs.Destinations.{item_at, strangers_behind}
+use Rattle.mme_routing.specs.Destinations.{item_at, strangers_left}
 use Rattle.mme_routing.specs.Outcomes.{Outcome, answered, cause_of, indicated, indication, outcome_of}
 use Rattle.mme_answering.specs.Laws.{at_nothing, stays}
 use Rattle.mme_answering.specs.declared.out.Out.{Out}
@@ -50,7 +50,7 @@ moved_by w e h = record {
     stations = placed (Some e) h.state w.sight.stations;
     profiles = w.sight.profiles;
   };
-  strangers = strangers_behind w.sight.profiles h.destination w.strangers;
+  strangers = strangers_left w.sight.profiles h.destination w.strangers;
   subscribers = each_after (item_at h.destination w.sight.profiles (strangers_in w)) 0 w.subscribers;
 }
 

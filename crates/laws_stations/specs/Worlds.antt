@@ -26,7 +26,7 @@ use Rattle.stranger_machine.specs.declared.turn.Notice.TheVariants.{Tick, Gone, 
 use Rattle.stranger_machine.specs.Machine.{Begins, Receives}
 use Rattle.stranger_machine.specs.Table.{noted, stranger_at}
 use Rattle.stranger_machine.specs.Turns.{Call}
-use Rattle.mme_routing.specs.Destinations.{Destination, for_one, if_called, item_at, item_of_notice, strangers_behind}
+use Rattle.mme_routing.specs.Destinations.{Destination, for_one, if_called, item_at, item_of_notice, strangers_left}
 use Rattle.mme_routing.specs.Destinations as to
 use Rattle.mme_answering.specs.declared.out.Out.{Out}
 use Rattle.mme_core.specs.declared.event.Event.{Event}
@@ -129,15 +129,15 @@ module _ (stations : List StationState) where
       every_if stations k.id _ (noted notice ks) (noted_so stations k.id k.stranger notice other each.0).stranger
       (every_noted notice other ks each.1)
 
-  behind_placed : (ps : List Profile) (d : Destination) (ks : List Known) → GoesFrom stations d → Every (IsStrangerPlaced stations) ks
-      → Every (IsStrangerPlaced stations) (strangers_behind ps d ks)
-  behind_placed ps to.Nobody ks from each = each
-  behind_placed ps (to.Subscriber n item) ks from each = each
-  behind_placed ps (to.Beginner id m) ks from each =
+  next_placed : (ps : List Profile) (d : Destination) (ks : List Known) → GoesFrom stations d → Every (IsStrangerPlaced stations) ks
+      → Every (IsStrangerPlaced stations) (strangers_left ps d ks)
+  next_placed ps to.Nobody ks from each = each
+  next_placed ps (to.Subscriber n item) ks from each = each
+  next_placed ps (to.Beginner id m) ks from each =
       every_with stations id _ ks (turned stations ps id (Begins m) ks from each).stranger each
-  behind_placed ps (to.Stranger m) ks from each =
+  next_placed ps (to.Stranger m) ks from each =
       every_with stations m.mme_ue_id _ ks (turned stations ps m.mme_ue_id (Receives m) ks from each).stranger each
-  behind_placed ps (to.Everyone notice) ks from each = every_noted notice from ks each
+  next_placed ps (to.Everyone notice) ks from each = every_noted notice from ks each
 
   -- what is for a subscriber comes from a station that is set up
   one_from : (n : ℕ) (item : Item) (slot : ℕ) → ComesFromReady stations item → ComesFromReady stations (for_one n item slot)
@@ -174,8 +174,8 @@ moved_by w event h so =
       | inl stay ↦ record {
         subscribers = each_placed before after stay.0 (items_of w.sight (strangers_in w) event)
             (λ slot. item_from before ps d w.strangers slot stay.1 h.strangers) 0 w.subscribers h.subscribers;
-        strangers = strangers_still before after stay.0 (strangers_behind ps d w.strangers)
-            (behind_placed before ps d w.strangers stay.1 h.strangers);
+        strangers = strangers_still before after stay.0 (strangers_left ps d w.strangers)
+            (next_placed before ps d w.strangers stay.1 h.strangers);
       }
       | inr gone ↦
           let left = left_by before gone.0 w.strangers in
@@ -183,7 +183,7 @@ moved_by w event h so =
             subscribers = subst
                 (λ (x : Destination). Every (IsViewPlaced after) (each_after (item_at x ps (strangers_in w)) 0 w.subscribers))
                 (sym gone.1) (each_but before after gone.0 gone.2 0 w.subscribers h.subscribers);
-            strangers = subst (λ (x : Destination). Every (IsStrangerPlaced after) (strangers_behind ps x w.strangers)) (sym gone.1)
+            strangers = subst (λ (x : Destination). Every (IsStrangerPlaced after) (strangers_left ps x w.strangers)) (sym gone.1)
                 (strangers_but before after gone.0 gone.2 (noted (Gone gone.0) w.strangers) left.0 (left.1 h.strangers));
           }
     ]
@@ -222,7 +222,7 @@ emptied_by w event e all = record {
   subscribers = subst
       (λ (x : Destination). Every (IsAway e) (each_after (item_at x w.sight.profiles (strangers_in w)) 0 w.subscribers)) (sym all)
       (each_away e 0 w.subscribers);
-  strangers = subst (λ (x : Destination). Every (IsElsewhere e) (strangers_behind w.sight.profiles x w.strangers)) (sym all)
+  strangers = subst (λ (x : Destination). Every (IsElsewhere e) (strangers_left w.sight.profiles x w.strangers)) (sym all)
       (left_by [] e w.strangers).0;
 }
 

@@ -44,7 +44,7 @@ use Rattle.emm_state.specs.Does.{◌>>=◌}
 use Rattle.emm_state.specs.KeySets.{ksi_of}
 use Rattle.emm_state.specs.Timers.{reachable_ticks, repeats_of, ticks_of}
 use Rattle.emm_machine.specs.Attaching.{asking, challenged, given_tmsi, new_context, took}
-use Rattle.emm_machine.specs.Connected.{connection_of, hop_behind, hopped, next_chaining_count, strike, struck, switched}
+use Rattle.emm_machine.specs.Connected.{connection_of, hop_after, hopped, next_chaining_count, strike, struck, switched}
 use Rattle.emm_machine.specs.Idle.{emit_each, listening, lowered, may_page, page, paged, restarted}
 use Rattle.emm_machine.specs.Serving.{active, registered, updating}
 use Rattle.emm_machine.specs.Steps.{solo_step}
@@ -126,7 +126,7 @@ pub record Says (s : Setting) (solo : Solo) (item : Item) (Q : Solo → Type 0) 
   pub indication : (station : ℕ) (message : Pdu (List ℕ)) → station_of item ≡ Some station → IsIndication message
       → Sends S station message None
   pub acknowledged : (m : UeMessage (List ℕ)) (c : Context) (x : Solo) → item ≡ Message m → x.context ≡ Some c → Q x
-      → Sends S m.station (path_switch_acknowledge (connection_of m) (hop_behind c) (next_chaining_count c.radio.chaining_count)) None
+      → Sends S m.station (path_switch_acknowledge (connection_of m) (hop_after c) (next_chaining_count c.radio.chaining_count)) None
   -- to where a phone is paged
   pub page : (t : ℕ) (es : List ℕ) (x : Solo) → MayPage solo x item es → x.tmsi ≡ Some t → Q x
       → All (λ e. Sends S e (paging s.network s.profile.imsi t x.tai) None) es

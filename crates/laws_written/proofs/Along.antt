@@ -19,7 +19,7 @@ use Rattle.stranger_machine.specs.Machine.{Begins, Receives, stranger_step}
 use Rattle.stranger_machine.specs.Table.{known_id, stranger_at}
 use Rattle.stranger_machine.specs.Turns.{Call}
 use Rattle.stranger_machine.specs.Laws as laws
-use Rattle.mme_routing.specs.Destinations.{Destination, for_one, if_called, input_for, item_at, item_of_notice, strangers_behind}
+use Rattle.mme_routing.specs.Destinations.{Destination, for_one, if_called, input_for, item_at, item_of_notice, strangers_left}
 use Rattle.mme_routing.specs.Destinations as to
 use Rattle.mme_core.specs.declared.event.Event.{Event}
 use Rattle.mme_core.specs.declared.event.StepFault.{StepFault}
@@ -78,18 +78,18 @@ as_many_stations s event many =
 -- ---- each stranger goes as its own machine, and the ids rise
 
 turned : (ps : List Profile) (id : ℕ) (d : Destination) (ks : List Known) → Rising known_id ks
-    → stranger_at id (strangers_behind ps d ks) ≡ (stranger_step ps id (stranger_at id ks) (input_for d id)).stranger
+    → stranger_at id (strangers_left ps d ks) ≡ (stranger_step ps id (stranger_at id ks) (input_for d id)).stranger
 turned ps id (to.Beginner n m) ks h = laws.one_turned ps id n (Begins m) ks h
 turned ps id (to.Stranger m) ks h = laws.one_turned ps id m.mme_ue_id (Receives m) ks h
 turned ps id (to.Everyone notice) ks h = laws.all_turned ps id notice ks h
 turned ps id _ ks h = sym (ap (λ t. t.stranger) (laws.at_nothing ps id (stranger_at id ks)))
 
-rising_behind : (ps : List Profile) (d : Destination) (ks : List Known) → Rising known_id ks
-    → Rising known_id (strangers_behind ps d ks)
-rising_behind ps (to.Beginner id m) ks h = laws.rising_input ps id (Begins m) ks h
-rising_behind ps (to.Stranger m) ks h = laws.rising_input ps m.mme_ue_id (Receives m) ks h
-rising_behind ps (to.Everyone notice) ks h = laws.rising_noted notice ks h
-rising_behind ps _ ks h = h
+rising_next : (ps : List Profile) (d : Destination) (ks : List Known) → Rising known_id ks
+    → Rising known_id (strangers_left ps d ks)
+rising_next ps (to.Beginner id m) ks h = laws.rising_input ps id (Begins m) ks h
+rising_next ps (to.Stranger m) ks h = laws.rising_input ps m.mme_ue_id (Receives m) ks h
+rising_next ps (to.Everyone notice) ks h = laws.rising_noted notice ks h
+rising_next ps _ ks h = h
 
 -- ---- subscribers
 
@@ -136,7 +136,7 @@ module _ (entries : EntriesAreInRange) (messages : MessagesAreInRange) where
       (record {
         network = h.network;
         stations = as_many_placed (station_of event) (happens w.sight event).state w.sight.stations ∙ h.stations;
-        rising = rising_behind w.sight.profiles d w.strangers h.rising;
+        rising = rising_next w.sight.profiles d w.strangers h.rising;
         strangers = λ id. subst (StrangerInRange id) (sym (turned w.sight.profiles id d w.strangers h.rising))
             (turn_in_range w.sight.profiles id (stranger_at id w.strangers) (input_for d id) (input_in_range d id goes) (h.strangers id)).stranger;
         subscribers = each_stays kept (items_of w.sight (strangers_in w) event) (λ slot. at_slot d w.sight.profiles (strangers_in w) slot goes h.strangers) 0 w.subscribers h.subscribers;

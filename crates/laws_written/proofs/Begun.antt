@@ -31,7 +31,7 @@ use Rattle.laws_written.specs.Whole.{EveryMessageIsSent, TheProvedWereChallenged
 use Rattle.laws_written.specs.Answered.{IdentityAskedIsSent, RefusedIsSent, ReleasedIsSent, UnknownIsAnswered}
 use Rattle.laws_written.specs.Received.{EntriesAreInRange, MessagesAreInRange}
 use Rattle.laws_written.specs.WorldRanges.{StrangerInRange, SubscriberInRange, WorldInRange}
-use Rattle.laws_written.specs.Runs.{AloneStepsAreInRange, BeginsInRange, ItemsAreInRange, StepInRange, StepsAreInRange, WorldStaysInRange, items_of_run, world_behind}
+use Rattle.laws_written.specs.Runs.{AloneStepsAreInRange, BeginsInRange, ItemsAreInRange, StepInRange, StepsAreInRange, WorldStaysInRange, items_of_run, world_seen}
 use Rattle.laws_written.specs.Told.{BeginnersAreTold, ChallengesAreSent, IsAnsweredWhole, IsToldWhole, SendersAreAnswered, WaitingAreTold}
 use Rattle.laws_written.proofs.Along.{item_in_range, items_in_range, world_stays}
 use Rattle.laws_written.proofs.Routed.{DestinationInRange, goes_in_range}
@@ -111,7 +111,7 @@ module _ (solo : SoloInRange fresh_solo) (kept : StaysInRange) (entries : Entrie
 
   pub steps_in_range : EveryMessageIsSent → StepsAreInRange
   steps_in_range sent config p seen next slot x given at =
-      let w = world_behind config p seen in
+      let w = world_seen config p seen in
       let h : WorldInRange w = stays_in_range (fresh_world config p) seen (begins_in_range solo config p given) in
       step_of kept sent x _ (subscriber_at w.subscribers slot x h.subscribers at)
       (item_in_range entries messages slot w.sight (strangers_in w) next h.stations h.strangers)
@@ -134,7 +134,7 @@ module _ (solo : SoloInRange fresh_solo) (kept : StaysInRange) (entries : Entrie
 
   pub beginners_told : TellsStrangers → BeginnersAreTold
   beginners_told tells config p seen next id m given goes =
-      let w = world_behind config p seen in
+      let w = world_seen config p seen in
       let h : WorldInRange w = stays_in_range (fresh_world config p) seen (begins_in_range solo config p given) in
       let fits : ItemInRange (Claim id m) =
       subst DestinationInRange goes (goes_in_range entries messages w.sight next h.stations) in
@@ -142,13 +142,13 @@ module _ (solo : SoloInRange fresh_solo) (kept : StaysInRange) (entries : Entrie
 
   pub senders_answered : TellsStrangers → SendersAreAnswered
   senders_answered tells config p seen next m given goes =
-      let w = world_behind config p seen in
+      let w = world_seen config p seen in
       let h : WorldInRange w = stays_in_range (fresh_world config p) seen (begins_in_range solo config p given) in
       answered_whole tells m (subst DestinationInRange goes (goes_in_range entries messages w.sight next h.stations))
 
   pub waiting_told : TellsStrangers → WaitingAreTold
   waiting_told tells config p seen id k left repeats given at =
-      let w = world_behind config p seen in
+      let w = world_seen config p seen in
       let h : WorldInRange w = stays_in_range (fresh_world config p) seen (begins_in_range solo config p given) in
       let fits : StrangerInRange id (Some (Waiting k left repeats)) = subst (StrangerInRange id) at (h.strangers id) in
       told_whole tells (place_of id k) (record { id = fits.0; enb_ue_id = fits.1.enb_ue_id })

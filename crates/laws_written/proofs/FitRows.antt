@@ -79,7 +79,7 @@ keys_in_range kasme count = record { kenb = kenb_bytes kasme count; next_hop = t
 no_keys_in_range : KeysInRange no_keys
 no_keys_in_range = record { kenb = refl; next_hop = tt; chaining_count = omega arith }
 
-pub hop_bytes : (x : Context) → AreBytes 32 (connected.hop_behind x)
+pub hop_bytes : (x : Context) → AreBytes 32 (connected.hop_after x)
 hop_bytes x = next_hop_bytes x.kasme (connected.standing_hop x.kasme x.radio)
 
 hopped_in_range : (x : Context) → ContextInRange x → KeysInRange (connected.hopped x)
@@ -421,7 +421,7 @@ module _ (written : AreWritten) (spelled : DecodedIsSpelled) (esm_spelled : Deco
       let moved : ContextInRange (record x { radio = connected.hopped x }) =
       record { integrity = known.integrity; radio = hopped_in_range x known } in
       let ids : ConnectionInRange (connected.connection_of m) = record { id = message.mme_ue_id; enb_ue_id = message.enb_ue_id } in
-      fit_emit m.station _ None (written.switched (connected.connection_of m) (connected.hop_behind x) (connected.next_chaining_count x.radio.chaining_count) ids (hop_bytes x) (omega arith))
+      fit_emit m.station _ None (written.switched (connected.connection_of m) (connected.hop_after x) (connected.next_chaining_count x.radio.chaining_count) ids (hop_bytes x) (omega arith))
       (record { solo = with_context (record d.solo { connection = Some (connected.connection_of m) }) _ moved (connected_in d.solo (Some (connected.connection_of m)) ids h.solo); sent = h.sent })
 
   fit_not_switched : {d : Draft} (cause : Cause) (m : UeMessage (List ℕ)) → is_extended cause ≡ false → MessageInRange m → IsFit d

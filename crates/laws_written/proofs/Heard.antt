@@ -137,13 +137,13 @@ attach_in_range m os e h =
     let second = first.4 in
     let third = second.4 in
     let fourth = third.4 in
-    let behind_halves : all_below 256 first.1 ≡ true = below_right first.0 first.1 (below_same row.front _ first.2 front) in
-    let behind_identity : all_below 256 second.1 ≡ true =
-    below_right second.0 second.1 (below_same first.1 _ second.2 behind_halves) in
-    let capability : all_below 256 third.0 ≡ true = below_left third.0 third.1 (below_same second.1 _ third.2 behind_identity) in
-    let behind_capability : all_below 256 third.1 ≡ true =
-    below_right third.0 third.1 (below_same second.1 _ third.2 behind_identity) in
-    let esm : all_below 256 fourth.0 ≡ true = below_left fourth.0 fourth.1 (below_same third.1 _ fourth.2 behind_capability) in
+    let past_halves : all_below 256 first.1 ≡ true = below_right first.0 first.1 (below_same row.front _ first.2 front) in
+    let past_identity : all_below 256 second.1 ≡ true =
+    below_right second.0 second.1 (below_same first.1 _ second.2 past_halves) in
+    let capability : all_below 256 third.0 ≡ true = below_left third.0 third.1 (below_same second.1 _ third.2 past_identity) in
+    let past_capability : all_below 256 third.1 ≡ true =
+    below_right third.0 third.1 (below_same second.1 _ third.2 past_identity) in
+    let esm : all_below 256 fourth.0 ≡ true = below_left fourth.0 fourth.1 (below_same third.1 _ fourth.2 past_capability) in
     let content = third.3 in
     let long = fourth.3 in
     let octets : all_below 256 content.0 ≡ true = tail_below (length content.0) content.0 (below_same third.0 _ content.1 capability) in (

@@ -26,11 +26,11 @@ send_solo : (nas : List ℕ) (d : Draft) → (send nas d).solo ≡ d.solo
 unfolding send emit
 send_solo nas d = solo_at d.solo.connection _ d (λ k. refl)
 
-connection_behind : (nas : List ℕ) (d : Draft) (k : Connection) → d.solo.connection ≡ Some k → (send nas d).solo.connection ≡ Some k
-connection_behind nas d k is = ap (λ (b : Solo). b.connection) (send_solo nas d) ∙ is
+connection_sent : (nas : List ℕ) (d : Draft) (k : Connection) → d.solo.connection ≡ Some k → (send nas d).solo.connection ≡ Some k
+connection_sent nas d k is = ap (λ (b : Solo). b.connection) (send_solo nas d) ∙ is
 
-range_behind : (nas : List ℕ) (d : Draft) → SoloInRange d.solo → SoloInRange (send nas d).solo
-range_behind nas d h = subst SoloInRange (sym (send_solo nas d)) h
+range_sent : (nas : List ℕ) (d : Draft) → SoloInRange d.solo → SoloInRange (send nas d).solo
+range_sent nas d h = subst SoloInRange (sym (send_solo nas d)) h
 
 module _ (written : AreWritten) where
   pub attach_refused_whole : AttachRefusedIsWhole
@@ -39,8 +39,8 @@ module _ (written : AreWritten) where
       let nas = attach_reject cause esm in (
         send nas d,
         send_whole written d k nas range is (brief_attach_reject cause esm brief),
-        release_whole written (send nas d) k (causes.Nas NormalRelease) (range_behind nas d range)
-            (connection_behind nas d k is) refl,
+        release_whole written (send nas d) k (causes.Nas NormalRelease) (range_sent nas d range)
+            (connection_sent nas d k is) refl,
       )
 
   pub not_authenticated_whole : NotAuthenticatedIsWhole
@@ -49,7 +49,7 @@ module _ (written : AreWritten) where
     send authentication_reject d,
     send_whole written d k authentication_reject range is brief_authentication_reject,
     release_whole written (send authentication_reject d) k (causes.Nas AuthenticationFailure)
-        (range_behind authentication_reject d range) (connection_behind authentication_reject d k is) refl,
+        (range_sent authentication_reject d range) (connection_sent authentication_reject d k is) refl,
   )
 
   pub challenged_whole : ChallengedIsWhole

@@ -21,7 +21,7 @@ use Rattle.emm_state.specs.declared.draft.Sealed.{Sealed}
 use Rattle.emm_state.specs.declared.solo.Context.{Context}
 use Rattle.emm_state.specs.Actions.{association_counted, disconnected, emit, is_at, leave_old, mac_of, next_id, protect, refuse, release, seal, sealed_under, send, set_up, turn_away}
 use Rattle.emm_state.specs.Does.{◌>>=◌}
-use Rattle.emm_machine.specs.Connected.{connection_of, hop_behind, hopped, indicate, next_chaining_count, not_switched, switched}
+use Rattle.emm_machine.specs.Connected.{connection_of, hop_after, hopped, indicate, next_chaining_count, not_switched, switched}
 use Rattle.emm_machine.specs.Idle.{emit_each, page}
 use Rattle.emm_machine.specs.Steps.{solo_after, solo_step}
 use Rattle.laws_written.specs.KeyLaws.{brief_mac}
@@ -121,8 +121,8 @@ module _ (written : AreWritten) where
   unfolding switched
   switched_whole d m x fits known =
       let count = next_chaining_count x.radio.chaining_count in
-      emit_whole (record d { solo = record d.solo { connection = Some (connection_of m); context = Some (record x { radio = hopped x }) } }) m.station (path_switch_acknowledge (connection_of m) (hop_behind x) count) None
-      (written.switched (connection_of m) (hop_behind x) count (record { id = fits.mme_ue_id; enb_ue_id = fits.enb_ue_id }) (hop_bytes x) (omega arith))
+      emit_whole (record d { solo = record d.solo { connection = Some (connection_of m); context = Some (record x { radio = hopped x }) } }) m.station (path_switch_acknowledge (connection_of m) (hop_after x) count) None
+      (written.switched (connection_of m) (hop_after x) count (record { id = fits.mme_ue_id; enb_ue_id = fits.enb_ue_id }) (hop_bytes x) (omega arith))
 
   -- to each station in turn
   each_whole : (message : Pdu (List ℕ)) (octets : List ℕ) → encoded message ≡ Some octets → (stations : List ℕ) (d : Draft)

@@ -37,15 +37,15 @@ pub record StepInRange (x : SubscriberView) (item : Item) : Type 0 where
   pub whole : (solo_step x.setting x.solo item).unwritten ≡ false
 
 -- the MME that is given these, after a list of events
-abbrev pub world_behind : Config → Provisioned → List Event → World
-world_behind config p seen = world_run (fresh_world config p) seen
+abbrev pub world_seen : Config → Provisioned → List Event → World
+world_seen config p seen = world_run (fresh_world config p) seen
 
 -- at each event of a run
 abbrev pub StepsAreInRange : Type 0
 StepsAreInRange =
     (config : Config) (p : Provisioned) (seen : List Event) (next : Event) (slot : ℕ) (x : SubscriberView)
-    → IsProvisionedInRange config p → slice_get (world_behind config p seen).subscribers slot ≡ Some x
-    → StepInRange x (item_for slot (world_behind config p seen).sight (strangers_in (world_behind config p seen)) next)
+    → IsProvisionedInRange config p → slice_get (world_seen config p seen).subscribers slot ≡ Some x
+    → StepInRange x (item_for slot (world_seen config p seen).sight (strangers_in (world_seen config p seen)) next)
 
 -- the items of a slot over a run
 abbrev pub items_of_run : Config → Provisioned → List Event → ℕ → List Item

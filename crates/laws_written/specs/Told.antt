@@ -24,7 +24,7 @@ use Rattle.laws_written.specs.Ranges.{IsBrief}
 use Rattle.laws_written.specs.Whole.{ChallengeIsSent}
 use Rattle.laws_written.specs.Answered.{AnswersWith, AnswersWithBoth, IsUnknownAnswered}
 use Rattle.laws_written.specs.WorldRanges.{IsProvisionedInRange}
-use Rattle.laws_written.specs.Runs.{items_of_run, world_behind}
+use Rattle.laws_written.specs.Runs.{items_of_run, world_seen}
 
 -- ---- a subscriber
 
@@ -57,18 +57,18 @@ pub record IsAnsweredWhole (m : UeMessage (List ℕ)) : Type 0 where
 abbrev pub BeginnersAreTold : Type 0
 BeginnersAreTold =
     (config : Config) (p : Provisioned) (seen : List Event) (next : Event) (id : ℕ) (m : Entry (List ℕ))
-    → IsProvisionedInRange config p → (happens (world_behind config p seen).sight next).destination ≡ Beginner id m
+    → IsProvisionedInRange config p → (happens (world_seen config p seen).sight next).destination ≡ Beginner id m
     → IsToldWhole (place_of id (as_kept m))
 
 -- whoever sends a message to a stranger at one
 abbrev pub SendersAreAnswered : Type 0
 SendersAreAnswered =
     (config : Config) (p : Provisioned) (seen : List Event) (next : Event) (m : UeMessage (List ℕ))
-    → IsProvisionedInRange config p → (happens (world_behind config p seen).sight next).destination ≡ Stranger m → IsAnsweredWhole m
+    → IsProvisionedInRange config p → (happens (world_seen config p seen).sight next).destination ≡ Stranger m → IsAnsweredWhole m
 
 -- and whoever waits after one
 abbrev pub WaitingAreTold : Type 0
 WaitingAreTold =
     (config : Config) (p : Provisioned) (seen : List Event) (id : ℕ) (k : KeptEntry) (left repeats : ℕ)
-    → IsProvisionedInRange config p → strangers_in (world_behind config p seen) id ≡ Some (Waiting k left repeats)
+    → IsProvisionedInRange config p → strangers_in (world_seen config p seen) id ≡ Some (Waiting k left repeats)
     → IsToldWhole (place_of id k)

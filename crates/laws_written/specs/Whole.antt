@@ -23,7 +23,7 @@ use Rattle.emm_state.specs.declared.solo.Context.{Context}
 use Rattle.emm_state.specs.declared.solo.Solo.{Solo}
 use Rattle.emm_state.specs.Actions.{is_at, leave_old, next_id, protect, refuse, release, seal, send, set_up, turn_away}
 use Rattle.emm_machine.specs.Attaching.{attach_refused, challenged, not_authenticated}
-use Rattle.emm_machine.specs.Connected.{connection_of, hop_behind, indicate, next_chaining_count, not_switched, switched}
+use Rattle.emm_machine.specs.Connected.{connection_of, hop_after, indicate, next_chaining_count, not_switched, switched}
 use Rattle.emm_machine.specs.Idle.{page}
 use Rattle.emm_machine.specs.Steps.{solo_after, solo_step}
 use Rattle.laws_admission.specs.Proof.{IsProved}
@@ -110,7 +110,7 @@ abbrev pub SwitchedIsWhole : Type 0
 SwitchedIsWhole =
     (d : Draft) (m : UeMessage (List ℕ)) (x : Context) → MessageInRange m → ContextInRange x
     → SendsWhole m.station None
-    (path_switch_acknowledge (connection_of m) (hop_behind x) (next_chaining_count x.radio.chaining_count)) d (switched m x d)
+    (path_switch_acknowledge (connection_of m) (hop_after x) (next_chaining_count x.radio.chaining_count)) d (switched m x d)
 
 -- ---- rows: what a refused attach, a challenge and a wrong response send
 

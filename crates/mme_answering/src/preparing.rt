@@ -16,7 +16,7 @@ ghost use Rattle.subscriber_table.specs.declared.stepped.Stepped.{Stepped};
 ghost use Rattle.subscriber_table.specs.Laws.{some_give};
 ghost use Rattle.subscriber_table.specs.Table.{IsCounting, IsStepped, each_after, slots_stepped};
 ghost use Rattle.subscriber_table.specs.Touched.{touched_slots, KeepsPlace};
-ghost use Rattle.mme_routing.specs.Destinations.{Destination as DestinationInSpecs, Everyone, for_all, for_one, if_called, item_at, item_of_notice, strangers_behind};
+ghost use Rattle.mme_routing.specs.Destinations.{Destination as DestinationInSpecs, Everyone, for_all, for_one, if_called, item_at, item_of_notice, strangers_left};
 ghost use Rattle.mme_routing.specs.Seen.{destination_of};
 ghost use Rattle.mme_answering.specs.InUse.{AreInUse};
 ghost use Rattle.mme_answering.specs.Settled.{AreFit, IsFitIf, IsFor, IsPassing, is_own, item_sent, sent_at, settled_strangers, settled_subscribers, solo_at, with_one, with_stepped};
@@ -344,7 +344,7 @@ fn prepare_own<'a>(
         (λ id. stranger_at id strangers.entry.now.strangers)) 0 subscribers.old.subscribers)) }
     ensures strangers { IfOk result
         (λ p. settled_strangers p strangers.entry.now.strangers
-        ≡ strangers_behind provision.now.profiles (destination_of stations.now destination.now) strangers.entry.now.strangers) }
+        ≡ strangers_left provision.now.profiles (destination_of stations.now destination.now) strangers.entry.now.strangers) }
     ensures subscribers { IfOk result (λ p. settled_subscribers p subscribers.old.subscribers
         ≡ each_after (item_at (destination_of stations.now destination.now) provision.now.profiles
         (λ id. stranger_at id strangers.entry.now.strangers)) 0 subscribers.old.subscribers) }
@@ -396,7 +396,7 @@ pub fn prepare<'a>(
         (λ id. stranger_at id strangers.entry.now.strangers)) 0 subscribers.old.subscribers)) }
     ensures strangers { IfOk result
         (λ p. settled_strangers p strangers.entry.now.strangers
-        ≡ strangers_behind provision.now.profiles (destination_of stations.now destination.entry) strangers.entry.now.strangers) }
+        ≡ strangers_left provision.now.profiles (destination_of stations.now destination.entry) strangers.entry.now.strangers) }
     ensures subscribers { IfOk result (λ p. settled_subscribers p subscribers.old.subscribers
         ≡ each_after (item_at (destination_of stations.now destination.entry) provision.now.profiles
         (λ id. stranger_at id strangers.entry.now.strangers)) 0 subscribers.old.subscribers) }

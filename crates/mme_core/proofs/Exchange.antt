@@ -27,7 +27,7 @@ use Rattle.mme_core.specs.declared.event.StepFault.TheVariants.{NotUp}
 use Rattle.mme_core.specs.Laws.{Exchanges, event_name, slot_named}
 use Rattle.mme_naming.specs.Naming.{named_slot}
 use Rattle.mme_core.specs.Sight.{Sight}
-use Rattle.mme_routing.specs.Destinations.{Subscriber, Stranger, for_one, item_at, strangers_behind}
+use Rattle.mme_routing.specs.Destinations.{Subscriber, Stranger, for_one, item_at, strangers_left}
 use Rattle.mme_routing.specs.Outcomes.{Outcome, broadcasts, begins_anew, enters, entry_routed, entry_of, goes_to, outcome_of, outcome_of_message, setup_failure, setup_response, phone_message, phone_message_if, message_of_slot, ue_message_in}
 use Rattle.mme_routing.specs.Resets.{reset}
 use Rattle.mme_core.specs.World.{World, each_after, each_sent, event_fault, happens, if_down, if_known, items_of, world_moved, to_slot, outputs, reply, reply_of, sight_moved, slot_out, station_of, station_sent, strangers_in, strangers_sent, unless, subscriber_after, subscriber_step, world_after}
@@ -202,8 +202,8 @@ named_after : (w : World) (event : Event) (slot : ℕ) (n : Names w.sight event 
 named_after w event slot n =
     let each = each_after (items_of w.sight (strangers_in w) event) 0 w.subscribers in
     ap (λ o. unless o w (world_moved w event)) n.accepted
-    ∙ ap (λ (s : Sight). record { sight = s; strangers = strangers_behind w.sight.profiles (happens w.sight event).destination w.strangers; subscribers = each }) n.same
-    ∙ ap (λ d. record { sight = w.sight; strangers = strangers_behind w.sight.profiles d w.strangers; subscribers = each }) n.goes
+    ∙ ap (λ (s : Sight). record { sight = s; strangers = strangers_left w.sight.profiles (happens w.sight event).destination w.strangers; subscribers = each }) n.same
+    ∙ ap (λ d. record { sight = w.sight; strangers = strangers_left w.sight.profiles d w.strangers; subscribers = each }) n.goes
     ∙ ap (λ items. record { sight = w.sight; strangers = w.strangers; subscribers = each_after items 0 w.subscribers }) (named_items w event slot n)
 
 nothing_said : (o : Option ℕ) → station_sent o [] ≡ []

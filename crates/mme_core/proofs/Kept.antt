@@ -18,7 +18,7 @@ use Rattle.stranger_machine.specs.declared.table.Known.{Known}
 use Rattle.stranger_machine.specs.declared.turn.Notice.{Notice}
 use Rattle.stranger_machine.specs.Machine.{Input, Begins, Notes, Receives, notes, stranger_step}
 use Rattle.stranger_machine.specs.Table.{known_id, known_if, noted, stranger_at, with_input, with_stranger}
-use Rattle.mme_routing.specs.Destinations.{Destination, strangers_behind}
+use Rattle.mme_routing.specs.Destinations.{Destination, strangers_left}
 use Rattle.mme_routing.specs.Destinations as to
 use Rattle.laws_admission.specs.Sound.{IsSound, StaysSound}
 use Rattle.laws_ends.specs.Clocked.{IsClocked, StaysClocked}
@@ -31,7 +31,7 @@ use Rattle.mme_core.specs.Ready.{ready_world}
 use Rattle.mme_core.specs.World.{World, each_after, event_fault, fresh_subscribers, happens, items_of, strangers_in, unless, world_after, world_moved}
 use Rattle.mme_core.proofs.InUse.{each_in_use, fresh_in_use}
 use Rattle.mme_core.proofs.Stations.{placed_many}
-use Rattle.mme_core.proofs.Turns.{rising_behind}
+use Rattle.mme_core.proofs.Turns.{rising_next}
 
 either : {A : Type 0} (Q : A → Type 0) {x y : A} (t : Bool) → Q x → Q y → Q (cond t x y)
 either Q true f g = f
@@ -92,12 +92,12 @@ module _ (stay : StaysTimed) where
       every_known_if IsKnownTimed k.id _ (noted notice ks) (if_timed k.id _ (timed_notice k.id (Some k.stranger) notice each.0))
       (timed_noted notice ks each.1)
 
-  timed_behind : (ps : List Profile) (d : Destination) (ks : List Known) → Every IsKnownTimed ks
-      → Every IsKnownTimed (strangers_behind ps d ks)
-  timed_behind ps (to.Beginner id m) ks each = timed_input ps id (Begins m) ks each
-  timed_behind ps (to.Stranger m) ks each = timed_input ps m.mme_ue_id (Receives m) ks each
-  timed_behind ps (to.Everyone notice) ks each = timed_noted notice ks each
-  timed_behind ps _ ks each = each
+  timed_next : (ps : List Profile) (d : Destination) (ks : List Known) → Every IsKnownTimed ks
+      → Every IsKnownTimed (strangers_left ps d ks)
+  timed_next ps (to.Beginner id m) ks each = timed_input ps id (Begins m) ks each
+  timed_next ps (to.Stranger m) ks each = timed_input ps m.mme_ue_id (Receives m) ks each
+  timed_next ps (to.Everyone notice) ks each = timed_noted notice ks each
+  timed_next ps _ ks each = each
 
 -- ---- the MME
 
@@ -126,8 +126,8 @@ module _ (used : StaysInUse) (sound : StaysSound) (clocked : StaysClocked) (stay
       let items = items_of w.sight (strangers_in w) event in
       let d = (happens w.sight event).destination in record {
         stations = placed_many _ _ w.sight.stations ∙ h.stations;
-        rising = rising_behind w.sight.profiles d w.strangers h.rising;
-        timed = timed_behind stay w.sight.profiles d w.strangers h.timed;
+        rising = rising_next w.sight.profiles d w.strangers h.rising;
+        timed = timed_next stay w.sight.profiles d w.strangers h.timed;
         in_use = each_in_use used sound clocked items 0 w.subscribers h.in_use;
         provisioned = as_many_after items 0 w.subscribers ∙ h.provisioned;
       }

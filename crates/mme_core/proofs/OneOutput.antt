@@ -9,7 +9,7 @@ use Rattle.mme_answering.specs.declared.out.Out.{Out}
 use Rattle.mme_answering.specs.declared.out.Owner.{Owner}
 use Rattle.mme_answering.specs.declared.out.Owner.TheVariants.{Station, Stranger, Subscriber}
 use Rattle.mme_core.specs.Laws.{IsOutput, OneOutput, RepliesSo, told_if}
-use Rattle.mme_core.specs.Projection.{AllFrom, AreInOrder, IsNotBehind, Told, is_slot, is_station, is_stranger, item_for, owned_by, told_in, told_of}
+use Rattle.mme_core.specs.Projection.{AllFrom, AreInOrder, IsInOrder, Told, is_slot, is_station, is_stranger, item_for, owned_by, told_in, told_of}
 use Rattle.mme_core.specs.World.{World, event_fault, outputs, reply, reply_of, strangers_in}
 use Rattle.mme_core.proofs.Order.{output_order}
 use Rattle.mme_core.proofs.Turns.{absent_told, slot_told, station_told_once, stranger_told_once}
@@ -70,12 +70,12 @@ owner_itself (Station a) = itself a
 owner_itself (Stranger a) = itself a
 owner_itself (Subscriber a) = itself a
 
-reaches_itself : (o : Owner) → IsNotBehind o o
+reaches_itself : (o : Owner) → IsInOrder o o
 reaches_itself (Station a) = omega arith
 reaches_itself (Stranger a) = omega arith
 reaches_itself (Subscriber a) = omega arith
 
-between : (p q : Owner) → IsNotBehind p q → IsNotBehind q p → p ≡ q
+between : (p q : Owner) → IsInOrder p q → IsInOrder q p → p ≡ q
 between (Station a) (Station b) h k = ap Station (omega arith)
 between (Station a) (Stranger b) h k = absurd k
 between (Station a) (Subscriber b) h k = absurd k
@@ -101,12 +101,12 @@ sent_first x xs =
 
 -- an owner that sends something is reached by the one that all are from
 from_if : (p o : Owner) (y : Out) (ys : List Out) (a : Told) (rest : List Told) (b : Bool) → is_owner o y.owner ≡ b
-    → IsNotBehind p y.owner → (sent_by o ys ≡ a ∷ rest → IsNotBehind p o)
-    → (if b then told_of y ∷ sent_by o ys else sent_by o ys) ≡ a ∷ rest → IsNotBehind p o
-from_if p o y ys a rest true e r next h = subst (IsNotBehind p) (owner_is o y.owner e) r
+    → IsInOrder p y.owner → (sent_by o ys ≡ a ∷ rest → IsInOrder p o)
+    → (if b then told_of y ∷ sent_by o ys else sent_by o ys) ≡ a ∷ rest → IsInOrder p o
+from_if p o y ys a rest true e r next h = subst (IsInOrder p) (owner_is o y.owner e) r
 from_if p o y ys a rest false e r next h = next h
 
-from_sent : (p o : Owner) (ys : List Out) (a : Told) (rest : List Told) → AllFrom p ys → sent_by o ys ≡ a ∷ rest → IsNotBehind p o
+from_sent : (p o : Owner) (ys : List Out) (a : Told) (rest : List Told) → AllFrom p ys → sent_by o ys ≡ a ∷ rest → IsInOrder p o
 from_sent p o [] a rest f h = absurd cc
 from_sent p o (y ∷ ys) a rest f h =
     from_if p o y ys a rest (is_owner o y.owner) refl f.0 (from_sent p o ys a rest f.1) (sym (sent_cons o y ys) ∙ h)
@@ -135,10 +135,10 @@ one [] [] h k same = refl
 one [] (y ∷ ys) h k same = absurd (nothing_more y ys (same y.owner))
 one (x ∷ xs) [] h k same = absurd (nothing_more x xs (sym (same x.owner)))
 one (x ∷ xs) (y ∷ ys) h k same =
-    let there : IsNotBehind y.owner x.owner =
+    let there : IsInOrder y.owner x.owner =
     from_sent y.owner x.owner (y ∷ ys) (told_of x) (sent_by x.owner xs) (reaches_itself y.owner, k.0)
     (sym (same x.owner) ∙ sent_first x xs) in
-    let back : IsNotBehind x.owner y.owner =
+    let back : IsInOrder x.owner y.owner =
     from_sent x.owner y.owner (x ∷ xs) (told_of y) (sent_by y.owner ys) (reaches_itself x.owner, h.0)
     (same y.owner ∙ sent_first y ys) in
     let owner : x.owner ≡ y.owner = between x.owner y.owner back there in

@@ -18,10 +18,10 @@ use Rattle.mme_core.specs.declared.event.StepFault.TheVariants.{NotUp, AlreadyUp
 use Rattle.mme_answering.specs.declared.out.Out.{Out}
 use Rattle.mme_answering.specs.declared.out.Owner.{Owner}
 use Rattle.mme_answering.specs.declared.out.Owner.TheVariants.{Station, Stranger, Subscriber}
-use Rattle.mme_core.specs.Projection.{AllFrom, AllInOrder, AreInOrder, IsNotBehind}
+use Rattle.mme_core.specs.Projection.{AllFrom, AllInOrder, AreInOrder, IsInOrder}
 use Rattle.mme_core.specs.World.{World, each_known, each_sent, event_fault, replies_given, happens, input_sent, items_of, outputs, owner_out, replies, reply_of, slot_out, station_of, station_sent, stranger_out, strangers_in, strangers_sent, subscriber_step, world_after}
 
-reaches_itself : (o : Owner) → IsNotBehind o o
+reaches_itself : (o : Owner) → IsInOrder o o
 reaches_itself (Station a) = omega arith
 reaches_itself (Stranger a) = omega arith
 reaches_itself (Subscriber a) = omega arith
@@ -45,7 +45,7 @@ before_append (x ∷ xs) ys zs h k = (h.0, before_append xs ys zs h.1 k)
 
 -- ---- of one owner
 
-from_own : (p o : Owner) (sent : List Answer) → IsNotBehind p o → AllFrom p (map (owner_out o) sent)
+from_own : (p o : Owner) (sent : List Answer) → IsInOrder p o → AllFrom p (map (owner_out o) sent)
 from_own p o [] r = tt
 from_own p o (a ∷ sent) r = (r, from_own p o sent r)
 
@@ -59,7 +59,7 @@ before_own o (a ∷ sent) ys f = (f, before_own o sent ys f)
 
 -- ---- subscribers by slot
 
-from_each : (p : Owner) (items : ℕ → Item) (n : ℕ) (ws : List SubscriberView) → ((m : ℕ) → n ≤ m → IsNotBehind p (Subscriber m))
+from_each : (p : Owner) (items : ℕ → Item) (n : ℕ) (ws : List SubscriberView) → ((m : ℕ) → n ≤ m → IsInOrder p (Subscriber m))
     → AllFrom p (each_sent items n ws)
 from_each p items n [] r = tt
 from_each p items n (w ∷ ws) r =
@@ -77,7 +77,7 @@ order_each items n (w ∷ ws) =
 -- ---- strangers by id
 
 from_known : (p : Owner) (notice : Notice) (ks : List Known) (n : ℕ) → AllOver known_id n ks
-    → ((m : ℕ) → n < m → IsNotBehind p (Stranger m)) → AllFrom p (each_known notice ks)
+    → ((m : ℕ) → n < m → IsInOrder p (Stranger m)) → AllFrom p (each_known notice ks)
 from_known p notice [] n h r = tt
 from_known p notice (k ∷ ks) n h r =
     let own = (notes k.id (Some k.stranger) notice).sent in
@@ -99,7 +99,7 @@ known_before notice (k ∷ ks) ys f =
     before_append (map (stranger_out k.id) own) (each_known notice ks) ys (before_own (Stranger k.id) own ys (f k.id))
     (known_before notice ks ys f)
 
-all_known : (p : Owner) (notice : Notice) (ks : List Known) → ((m : ℕ) → IsNotBehind p (Stranger m))
+all_known : (p : Owner) (notice : Notice) (ks : List Known) → ((m : ℕ) → IsInOrder p (Stranger m))
     → AllFrom p (each_known notice ks)
 all_known p notice [] r = tt
 all_known p notice (k ∷ ks) r =
@@ -114,7 +114,7 @@ input_before : (ps : List Profile) (id : ℕ) (input : Input) (ks : List Known) 
     → AllBefore (input_sent ps id input ks) ys
 input_before ps id input ks ys f = before_own (Stranger id) (stranger_step ps id (stranger_at id ks) input).sent ys f
 
-from_input : (p : Owner) (ps : List Profile) (id : ℕ) (input : Input) (ks : List Known) → IsNotBehind p (Stranger id)
+from_input : (p : Owner) (ps : List Profile) (id : ℕ) (input : Input) (ks : List Known) → IsInOrder p (Stranger id)
     → AllFrom p (input_sent ps id input ks)
 from_input p ps id input ks f = from_own p (Stranger id) (stranger_step ps id (stranger_at id ks) input).sent f
 
@@ -133,7 +133,7 @@ strangers_before ps (to.Beginner id m) ks ys f = input_before ps id (Begins m) k
 strangers_before ps (to.Stranger m) ks ys f = input_before ps m.mme_ue_id (Receives m) ks ys (f m.mme_ue_id)
 strangers_before ps (to.Everyone notice) ks ys f = known_before notice ks ys f
 
-from_strangers : (p : Owner) (ps : List Profile) (d : Destination) (ks : List Known) → ((m : ℕ) → IsNotBehind p (Stranger m))
+from_strangers : (p : Owner) (ps : List Profile) (d : Destination) (ks : List Known) → ((m : ℕ) → IsInOrder p (Stranger m))
     → AllFrom p (strangers_sent ps d ks)
 from_strangers p ps to.Nobody ks f = tt
 from_strangers p ps (to.Subscriber n item) ks f = tt

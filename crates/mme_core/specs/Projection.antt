@@ -122,20 +122,20 @@ silence (event ∷ events) = [] ∷ silence events
 -- ---- the owners of an output, in their order
 
 -- stations by number, then strangers by id, that is by station and eNB UE S1AP ID, then subscribers by slot
-abbrev pub IsNotBehind : Owner → Owner → Type 0
-IsNotBehind (Station a) (Station b) = a ≤ b
-IsNotBehind (Station a) (Stranger b) = Unit {0}
-IsNotBehind (Station a) (Subscriber b) = Unit {0}
-IsNotBehind (Stranger a) (Station b) = ⊥
-IsNotBehind (Stranger a) (Stranger b) = a ≤ b
-IsNotBehind (Stranger a) (Subscriber b) = Unit {0}
-IsNotBehind (Subscriber a) (Station b) = ⊥
-IsNotBehind (Subscriber a) (Stranger b) = ⊥
-IsNotBehind (Subscriber a) (Subscriber b) = a ≤ b
+abbrev pub IsInOrder : Owner → Owner → Type 0
+IsInOrder (Station a) (Station b) = a ≤ b
+IsInOrder (Station a) (Stranger b) = Unit {0}
+IsInOrder (Station a) (Subscriber b) = Unit {0}
+IsInOrder (Stranger a) (Station b) = ⊥
+IsInOrder (Stranger a) (Stranger b) = a ≤ b
+IsInOrder (Stranger a) (Subscriber b) = Unit {0}
+IsInOrder (Subscriber a) (Station b) = ⊥
+IsInOrder (Subscriber a) (Stranger b) = ⊥
+IsInOrder (Subscriber a) (Subscriber b) = a ≤ b
 
 abbrev pub AllFrom : Owner → List Out → Type 0
 AllFrom owner [] = Unit {0}
-AllFrom owner (o ∷ os) = IsNotBehind owner o.owner × AllFrom owner os
+AllFrom owner (o ∷ os) = IsInOrder owner o.owner × AllFrom owner os
 
 abbrev pub AreInOrder : List Out → Type 0
 AreInOrder [] = Unit {0}

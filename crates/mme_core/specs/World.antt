@@ -24,7 +24,7 @@ use Rattle.mme_core.specs.declared.event.StepFault.TheVariants.{NotUp, AlreadyUp
 use Rattle.mme_answering.specs.declared.out.Out.{Out}
 use Rattle.mme_answering.specs.declared.out.Owner.TheVariants.{Station}
 use Rattle.mme_core.specs.Sight.{Around, Sight}
-use Rattle.mme_routing.specs.Destinations.{Destination, item_at, strangers_behind}
+use Rattle.mme_routing.specs.Destinations.{Destination, item_at, strangers_left}
 use Rattle.mme_routing.specs.Destinations as to
 use Rattle.mme_routing.specs.Outcomes.{Outcome, begins_anew, goes_to, outcome_of}
 pub use Rattle.subscriber_table.specs.Table.{each_after, subscriber_after, subscriber_step}
@@ -154,7 +154,7 @@ items_of s g event = item_at (happens s event).destination s.profiles g
 abbrev pub world_moved : World → Event → World
 world_moved w event = record {
   sight = sight_moved w.sight event;
-  strangers = strangers_behind w.sight.profiles (happens w.sight event).destination w.strangers;
+  strangers = strangers_left w.sight.profiles (happens w.sight event).destination w.strangers;
   subscribers = each_after (items_of w.sight (strangers_in w) event) 0 w.subscribers;
 }
 

@@ -9,7 +9,7 @@ ghost use Rattle.stranger_machine.specs.Table.{known_id, stranger_at};
 ghost use Rattle.mme_core.specs.declared.event.StepFault.TheVariants.{NoMemory};
 ghost use Rattle.mme_core.specs.Projection.{AllInOrder, AreInOrder, alone_after, is_slot, is_station, is_stranger, projection, silence, station_run, station_told, states_along, states_at, states_run, stranger_run, stranger_told, subscriber_told, told};
 ghost use Rattle.mme_types.specs.declared.stations.StationState.{StationState};
-ghost use Rattle.mme_routing.specs.Destinations.{item_at, strangers_behind};
+ghost use Rattle.mme_routing.specs.Destinations.{item_at, strangers_left};
 ghost use Rattle.mme_routing.specs.Seen.{destination_of, seen_outcome};
 ghost use Rattle.mme_answering.specs.Settled.{IsFor, IsInTime, IsPassing, settled_strangers, settled_subscribers};
 ghost use Rattle.association_table.specs.Table.{association_id};
@@ -414,7 +414,7 @@ impl Surroundings {
             ++ each_sent (item_at (destination_of self.entry.now.sight.stations destination.entry) self.entry.now.sight.profiles
             (λ id. stranger_at id self.entry.now.strangers)) 0 subscribers.old.subscribers)) }
         ensures strangers { IfOk result (λ p. settled_strangers p self.entry.now.strangers
-            ≡ strangers_behind self.entry.now.sight.profiles
+            ≡ strangers_left self.entry.now.sight.profiles
             (destination_of self.entry.now.sight.stations destination.entry) self.entry.now.strangers) }
         ensures subscribers { IfOk result (λ p. settled_subscribers p subscribers.old.subscribers
             ≡ each_after (item_at (destination_of self.entry.now.sight.stations destination.entry) self.entry.now.sight.profiles

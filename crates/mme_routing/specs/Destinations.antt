@@ -33,12 +33,12 @@ input_for (Stranger m) id = if m.mme_ue_id == id then Receives m else Nothing
 input_for (Everyone notice) id = Notes notice
 
 -- the strangers after it
-abbrev pub strangers_behind : List Profile → Destination → List Known → List Known
-strangers_behind ps Nobody ks = ks
-strangers_behind ps (Subscriber n item) ks = ks
-strangers_behind ps (Beginner id m) ks = with_input ps id (Begins m) ks
-strangers_behind ps (Stranger m) ks = with_input ps m.mme_ue_id (Receives m) ks
-strangers_behind ps (Everyone notice) ks = noted notice ks
+abbrev pub strangers_left : List Profile → Destination → List Known → List Known
+strangers_left ps Nobody ks = ks
+strangers_left ps (Subscriber n item) ks = ks
+strangers_left ps (Beginner id m) ks = with_input ps id (Begins m) ks
+strangers_left ps (Stranger m) ks = with_input ps m.mme_ue_id (Receives m) ks
+strangers_left ps (Everyone notice) ks = noted notice ks
 
 -- ---- what of it is a subscriber's
 

@@ -4,19 +4,19 @@ use Rattle.std.proofs.lemmas.List.{take_all}
 use Rattle.nas_messages.specs.declared.protection.Protected.{Protected}
 use Rattle.nas_messages.specs.Protection.{protected_form, header_code}
 
-behind : (code sequence : ℕ) (mac message : List ℕ) → length mac ≡ 4
+rest_of_form : (code sequence : ℕ) (mac message : List ℕ) → length mac ≡ 4
     → drop 5 (code ∷ mac ++ sequence ∷ message) ≡ sequence ∷ message
-behind code s [] m e = absurd (omega (arith, e))
-behind code s (a ∷ []) m e = absurd (omega (arith, e))
-behind code s (a ∷ b ∷ []) m e = absurd (omega (arith, e))
-behind code s (a ∷ b ∷ c ∷ []) m e = absurd (omega (arith, e))
-behind code s (a ∷ b ∷ c ∷ d ∷ []) m e = refl
-behind code s (a ∷ b ∷ c ∷ d ∷ more ∷ rest) m e = absurd (omega (arith, e))
+rest_of_form code s [] m e = absurd (omega (arith, e))
+rest_of_form code s (a ∷ []) m e = absurd (omega (arith, e))
+rest_of_form code s (a ∷ b ∷ []) m e = absurd (omega (arith, e))
+rest_of_form code s (a ∷ b ∷ c ∷ []) m e = absurd (omega (arith, e))
+rest_of_form code s (a ∷ b ∷ c ∷ d ∷ []) m e = refl
+rest_of_form code s (a ∷ b ∷ c ∷ d ∷ more ∷ rest) m e = absurd (omega (arith, e))
 
 pub authenticated : (octets : List ℕ) (p : Protected (List ℕ)) → (octets ≡ protected_form p) × (length p.mac ≡ 4)
     → drop 5 octets ≡ p.sequence ∷ p.message
 unfolding protected_form
-authenticated octets p form = ap (drop 5) form.0 ∙ behind (header_code p.header * 16 + 7) p.sequence p.mac p.message form.1
+authenticated octets p form = ap (drop 5) form.0 ∙ rest_of_form (header_code p.header * 16 + 7) p.sequence p.mac p.message form.1
 
 pub long : (octets : List ℕ) (p : Protected (List ℕ)) → (octets ≡ protected_form p) × (length p.mac ≡ 4) → 6 ≤ length octets
 long octets p form =

@@ -13,7 +13,7 @@ use Rattle.per_streams.specs.OctetLaws.{bytes-octets_of}
 use Rattle.per_streams.specs.WholeOctets.{bytes-below}
 use Rattle.per_numbers.specs.Writing.{Wrote}
 use Rattle.per_bits.specs.Spelling.{length_octets}
-use Rattle.per_bits.specs.Writing.{count_behind, write_string, write_whole}
+use Rattle.per_bits.specs.Writing.{count_after, write_string, write_whole}
 use Rattle.per_bits.specs.WritingLaws.{padded-bits}
 use Rattle.per_bits.specs.Written.{string_fits, string_form}
 use Rattle.per_bits.proofs.PlaceLaws.{pad_same}
@@ -46,8 +46,8 @@ two_octets first second front rest place len =
 
 pub counted_in_two : (place n : ℕ) (old new : List Bool) → length old / 8 - place - 1 ≡ n → n < 16384 → 128 ≤ n
     → take (8 * place) old ++ (octet_bits ((128 + n / 256) ∷ (n % 256) ∷ []) ++ drop (8 * place + 8) old) ≡ new
-    → count_behind place old ≡ Ok new
-unfolding count_behind
+    → count_after place old ≡ Ok new
+unfolding count_after
 counted_in_two place n old new many lt le e = rw (many, lt-ltb n 16384 lt, le-ltb n 128 le) (ap (λ (l : List Bool). Ok l) e)
 
 -- ---- an open type
@@ -99,9 +99,9 @@ open_is w a p old fits =
     ∙ ap (λ (l : List Bool). cond (ltb (length os) 16384) (Ok l) (Err Range)) (string_parts os old)
 
 counted_is : (front : List Bool) (os : List ℕ) (place : ℕ) → length front ≡ 8 * place
-    → count_behind place ((front ++ bits 8 0) ++ octet_bits os)
+    → count_after place ((front ++ bits 8 0) ++ octet_bits os)
     ≡ cond (ltb (length os) 16384) (Ok (front ++ (octet_bits (length_octets (length os)) ++ octet_bits os))) (Err Range)
-unfolding count_behind
+unfolding count_after
 counted_is front os place len =
     let one : List Bool = front ++ bits 8 0 in
     let size : length one ≡ 8 * place + 8 = omega (arith, len, length-append front (bits 8 0), length-bits 8 0) in
@@ -110,11 +110,11 @@ counted_is front os place len =
     let before : take (8 * place) (one ++ octet_bits os) ≡ front =
     ap (take (8 * place)) (append_assoc front (bits 8 0) (octet_bits os))
     ∙ take_at front (bits 8 0 ++ octet_bits os) (8 * place) len in
-    let behind : drop (8 * place + 8) (one ++ octet_bits os) ≡ octet_bits os = drop_at one (octet_bits os) (8 * place + 8) size in
-    rw (many, before, behind) refl
+    let following : drop (8 * place + 8) (one ++ octet_bits os) ≡ octet_bits os = drop_at one (octet_bits os) (8 * place + 8) size in
+    rw (many, before, following) refl
 
 -- the value as it stands after an octet that was left for its length, and the bits up to the next octet
-pub record Behind (w : List Bool → Result (List Bool) PerFault) (old counted : List Bool) (place : ℕ) : Type 0 where
+pub record StandsAfter (w : List Bool → Result (List Bool) PerFault) (old counted : List Bool) (place : ℕ) : Type 0 where
   pub one : List Bool
   pub whole : List Bool
   pub front : List Bool
@@ -131,7 +131,7 @@ record Parts (w : List Bool → Result (List Bool) PerFault) (p : Placed w) (old
   all : counted ≡ ((old ++ pad (length old)) ++ bits 8 0) ++ octet_bits (padded (p.text 0))
 
 parts_of : (w : List Bool → Result (List Bool) PerFault) (p : Placed w) (old counted : List Bool) (place : ℕ)
-    → Behind w old counted place → Parts w p old counted place
+    → StandsAfter w old counted place → Parts w p old counted place
 parts_of w p old counted place b =
     let front : List Bool = old ++ pad (length old) in
     let one : List Bool = front ++ bits 8 0 in
@@ -141,11 +141,11 @@ parts_of w p old counted place b =
     let left : b.one ≡ one = b.left ∙ ap (λ (l : List Bool). l ++ bits 8 0) b.aligned in
     let size : length front ≡ 8 * place =
     omega (arith, at, length-append old (pad (length old)), length-replicate (padding (length old)) false) in
-    let behind : length one % 8 ≡ 0 = omega (arith, size, length-append front (bits 8 0), length-bits 8 0) in
+    let following : length one % 8 ≡ 0 = omega (arith, size, length-append front (bits 8 0), length-bits 8 0) in
     let k = was_put w p one whole (sym (ap w left) ∙ b.put) in
-    let same : whole ≡ one ++ text = sym k.1 ∙ ap (λ (l : List Bool). one ++ l) (p.same (length one) 0 behind) in
+    let same : whole ≡ one ++ text = sym k.1 ∙ ap (λ (l : List Bool). one ++ l) (p.same (length one) 0 following) in
     let gap : pad (length whole) ≡ pad (length text) =
-    pad_same (length whole) (length text) (let l = ap length same in omega (arith, l, behind, length-append one text)) in
+    pad_same (length whole) (length text) (let l = ap length same in omega (arith, l, following, length-append one text)) in
     let all : counted ≡ one ++ octet_bits (padded text) =
     b.ends ∙ ap (λ (l : List Bool). whole ++ l) gap ∙ ap (λ (l : List Bool). l ++ pad (length text)) same
     ∙ append_assoc one text (pad (length text)) ∙ ap (λ (l : List Bool). one ++ l) (sym (padded-bits text)) in
@@ -153,7 +153,7 @@ parts_of w p old counted place b =
 
 -- the octet that counts was written
 pub open_room : (w : List Bool → Result (List Bool) PerFault) (p : Placed w) (old counted : List Bool) (place : ℕ)
-    → Behind w old counted place → 8 * place + 8 ≤ length counted
+    → StandsAfter w old counted place → 8 * place + 8 ≤ length counted
 open_room w p old counted place b =
     let front : List Bool = old ++ pad (length old) in
     let one : List Bool = front ++ bits 8 0 in
@@ -163,13 +163,13 @@ open_room w p old counted place b =
 
 pub open_written : {A X : Type 0} (w : A → List Bool → Result (List Bool) PerFault) (a : A) (p : Placed (w a))
     (old counted new : List Bool) (place : ℕ) (r : Result X PerError)
-    → Behind (w a) old counted place
-    → Wrote r new (count_behind place counted) → Wrote r new (write_inside w a old)
+    → StandsAfter (w a) old counted place
+    → Wrote r new (count_after place counted) → Wrote r new (write_inside w a old)
 open_written w a p old counted new place r b h =
     let front : List Bool = old ++ pad (length old) in
     let k = parts_of (w a) p old counted place b in
-    let same : write_inside w a old ≡ count_behind place counted =
-    open_is w a p old k.fits ∙ sym (ap (count_behind place) k.all ∙ counted_is front (padded (p.text 0)) place k.size) in
+    let same : write_inside w a old ≡ count_after place counted =
+    open_is w a p old k.fits ∙ sym (ap (count_after place) k.all ∙ counted_is front (padded (p.text 0)) place k.size) in
     subst (λ (q : Result (List Bool) PerFault). Wrote r new q) (sym same) h
 
 open_refused : {A : Type 0} (w : A → List Bool → Result (List Bool) PerFault) (a : A) (p : Placed (w a)) (old one : List Bool)

@@ -8,7 +8,7 @@ use Rattle.per_bits.specs.Formats.{Format, Value}
 use Rattle.per_bits.specs.Writing.{write_at}
 use Rattle.per_bits.specs.Written.{writable, written}
 use Rattle.per_bits.proofs.PlaceLaws.{IsSame, two, after, written_same}
-use Rattle.per_bits.proofs.WrittenLaws.{put_if, behind, both, writes}
+use Rattle.per_bits.proofs.WrittenLaws.{put_if, put_after, both, writes}
 
 pub record Placed (w : List Bool → Result (List Bool) PerFault) : Type 0 where
   pub fits : Bool
@@ -38,7 +38,7 @@ pub placed_after : (w : List Bool → Result (List Bool) PerFault) (xs : List Bo
 placed_after w xs p = record {
   fits = p.fits;
   text = λ at. xs ++ p.text (at + length xs);
-  puts = λ out. p.puts (out ++ xs) ∙ behind p.fits p.text out xs;
+  puts = λ out. p.puts (out ++ xs) ∙ put_after p.fits p.text out xs;
   same = after xs p.text p.same;
 }
 

@@ -20,16 +20,16 @@ place : (ys : ℕ → List Bool) (out xs : List Bool)
     → (out ++ xs) ++ ys (length (out ++ xs)) ≡ out ++ (xs ++ ys (length out + length xs))
 place ys out xs = ap (λ n. (out ++ xs) ++ ys n) (length-append out xs) ∙ append_assoc out xs (ys (length out + length xs))
 
-pub behind : (b : Bool) (ys : ℕ → List Bool) (out xs : List Bool)
+pub put_after : (b : Bool) (ys : ℕ → List Bool) (out xs : List Bool)
     → put_if b (out ++ xs) (ys (length (out ++ xs))) ≡ put_if b out (xs ++ ys (length out + length xs))
-behind true ys out xs = ap (λ (l : List Bool). Ok l) (place ys out xs)
-behind false ys out xs = refl
+put_after true ys out xs = ap (λ (l : List Bool). Ok l) (place ys out xs)
+put_after false ys out xs = refl
 
 -- one part and then another
 in_turn : (a b : Bool) (out xs : List Bool) (ys : ℕ → List Bool) (k : List Bool → Result (List Bool) PerFault)
     → ((mid : List Bool) → k mid ≡ put_if b mid (ys (length mid)))
     → (put_if a out xs >>= k) ≡ put_if (a && b) out (xs ++ ys (length out + length xs))
-in_turn true b out xs ys k h = h (out ++ xs) ∙ behind b ys out xs
+in_turn true b out xs ys k h = h (out ++ xs) ∙ put_after b ys out xs
 in_turn false b out xs ys k h = refl
 
 pub both : (a b : Bool) (out xs : List Bool) (ys : ℕ → List Bool) (r : Result (List Bool) PerFault)
@@ -96,7 +96,7 @@ bits_between_written lo hi b out =
 name_written : (n : ℕ) (v : ℕ ⊎ ℕ) (out : List Bool)
     → write_enumerated n v out ≡ put_if (name_fits n v) out (name_form n v (length out))
 name_written n (inl k) out =
-    number_written 0 n k (out ++ false ∷ []) ∙ behind (number_fits 0 n k) (λ at. whole 0 n k at) out (false ∷ [])
+    number_written 0 n k (out ++ false ∷ []) ∙ put_after (number_fits 0 n k) (λ at. whole 0 n k at) out (false ∷ [])
 name_written n (inr k) out = refl
 
 each_written : {A : Type 0} (w : A → List Bool → Result (List Bool) PerFault) (p : A → Bool) (x : A → ℕ → List Bool)
@@ -146,7 +146,7 @@ mutual
   writes (bit_string n) b out = bits_written n b out
   writes (bits_between lo hi) b out = bits_between_written lo hi b out
   writes (enumerated n) v out = name_written n v out
-  writes (closed f) v out = writes f v (out ++ false ∷ []) ∙ behind (writable f v) (written f v) out (false ∷ [])
+  writes (closed f) v out = writes f v (out ++ false ∷ []) ∙ put_after (writable f v) (written f v) out (false ∷ [])
   writes (items lo hi f) vs out =
       both (number_fits lo hi (length vs)) (each_fits (writable f) vs) out (whole lo hi (length vs) (length out))
       (each_form (written f) vs) (write_number lo hi (length vs) out) (write_each (write_at f) vs)
@@ -154,15 +154,15 @@ mutual
       (each_written (write_at f) (writable f) (written f) (writes f) vs)
   writes (open_type f) v out = inside_written (write_at f) v (writable f v) (written f v 0) out (writes f v [])
   writes (plain fs) v out =
-      writes_fields fs v (out ++ presence fs v) ∙ behind (writable_fields fs v) (written_fields fs v) out (presence fs v)
+      writes_fields fs v (out ++ presence fs v) ∙ put_after (writable_fields fs v) (written_fields fs v) out (presence fs v)
   writes (sequence fs) v out =
       writes_fields fs v (out ++ false ∷ presence fs v)
-      ∙ behind (writable_fields fs v) (written_fields fs v) out (false ∷ presence fs v)
+      ∙ put_after (writable_fields fs v) (written_fields fs v) out (false ∷ presence fs v)
   writes (choice alts) v out =
       let n : ℕ = alternatives alts - 1 in
       let i : ℕ = index_of alts v in
       let index : write_number 0 n i (out ++ false ∷ []) ≡ put_if (number_fits 0 n i) out (false ∷ whole 0 n i (length out + 1)) =
-      number_written 0 n i (out ++ false ∷ []) ∙ behind (number_fits 0 n i) (λ at. whole 0 n i at) out (false ∷ []) in
+      number_written 0 n i (out ++ false ∷ []) ∙ put_after (number_fits 0 n i) (λ at. whole 0 n i at) out (false ∷ []) in
       both (number_fits 0 n i) (writable_chosen alts v) out (false ∷ whole 0 n i (length out + 1)) (written_chosen alts v)
       (write_number 0 n i (out ++ false ∷ [])) (write_chosen alts v) index (writes_chosen alts v)
 

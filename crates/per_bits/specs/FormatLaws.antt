@@ -610,16 +610,16 @@ exact_inside {A = A} S r h =
 
 -- ---- fields, and what may stand after them
 
-abbrev Behind : {A B : Type 0} (S : A → ℕ → List Bool → Type 0) (b : Bool) (Q : B → ℕ → List Bool → Type 0) → A → ℕ → List Bool
+abbrev AfterSkipped : {A B : Type 0} (S : A → ℕ → List Bool → Type 0) (b : Bool) (Q : B → ℕ → List Bool → Type 0) → A → ℕ → List Bool
     → Type 0
-Behind S b Q v at bs = (ys : List Bool) × (zs : List Bool) × (bs ≡ ys ++ zs) × S v at ys × SpellsSkipped b Q (at + length ys) zs
+AfterSkipped S b Q v at bs = (ys : List Bool) × (zs : List Bool) × (bs ≡ ys ++ zs) × S v at ys × SpellsSkipped b Q (at + length ys) zs
 
-exact_behind : {A B : Type 0} (S : A → ℕ → List Bool → Type 0) (b : Bool) (Q : B → ℕ → List Bool → Type 0)
+exact_after_skipped : {A B : Type 0} (S : A → ℕ → List Bool → Type 0) (b : Bool) (Q : B → ℕ → List Bool → Type 0)
     (r : Place → Result (A × Place) PerFault) (q : Place → Result (B × Place) PerFault)
     → Exact S r → Exact Q q
-    → Exact (Behind S b Q) (λ s. r s >>= λ v. skipped_at b q v.1 >>= λ more. Ok (v.0, more.1))
-exact_behind {A = A} {B = B} S b Q r q h k =
-    exact_same (Bind S (λ v. Mapped (Unkept b Q) (λ u. v))) (Behind S b Q)
+    → Exact (AfterSkipped S b Q) (λ s. r s >>= λ v. skipped_at b q v.1 >>= λ more. Ok (v.0, more.1))
+exact_after_skipped {A = A} {B = B} S b Q r q h k =
+    exact_same (Bind S (λ v. Mapped (Unkept b Q) (λ u. v))) (AfterSkipped S b Q)
     (λ s. r s >>= λ v. skipped_at b q v.1 >>= λ more. Ok (v.0, more.1))
     (λ s. r s >>= λ v. skipped_at b q v.1 >>= λ more. Ok (v.0, more.1))
     (λ v at bs m. let j =
@@ -640,7 +640,7 @@ plain_to fs v at bs m = (
 )
 
 abbrev Extensible : (fs : Fields) → List Bool → Values fs → ℕ → List Bool → Type 0
-Extensible fs flags = Behind (SpellsFields fs (flags_after flags)) (flag_of flags) SpellsAdditions
+Extensible fs flags = AfterSkipped (SpellsFields fs (flags_after flags)) (flag_of flags) SpellsAdditions
 
 sequence_to : (fs : Fields) (v : Values fs) (at : ℕ) (bs : List Bool) → Bind (IsBits (suc (optionals fs))) (Extensible fs) v at bs
     → Spells (sequence fs) v at bs
@@ -708,7 +708,7 @@ mutual
       (λ flags s. fields_at fs (flags_after flags) s >>= λ v. skipped_at (flag_of flags) additions_at v.1
       >>= λ more. Ok (v.0, more.1))
       (exact_flags (suc (optionals fs)))
-      (λ flags. exact_behind (SpellsFields fs (flags_after flags)) (flag_of flags) SpellsAdditions
+      (λ flags. exact_after_skipped (SpellsFields fs (flags_after flags)) (flag_of flags) SpellsAdditions
       (fields_at fs (flags_after flags)) additions_at (exact_fields fs (flags_after flags)) exact_additions))
   exact (choice alts) =
       exact_bind (SpellsClosed (SpellsNumber 0 (alternatives alts - 1))) (SpellsChosen alts)

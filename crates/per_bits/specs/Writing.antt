@@ -23,8 +23,8 @@ unfoldable pub write_length : ℕ → List Bool → Result (List Bool) PerFault
 write_length n out = if nat_lt n 16384 then Ok (out ++ (pad (length out) ++ octet_bits (length_octets n))) else Err Range
 
 -- the octet at a place becomes the length of the whole octets after it (X.691 clause 11.9)
-unfoldable pub count_behind : ℕ → List Bool → Result (List Bool) PerFault
-count_behind place out =
+unfoldable pub count_after : ℕ → List Bool → Result (List Bool) PerFault
+count_after place out =
     let n = length out / 8 - place - 1 in
     if nat_lt n 16384 then Ok (take (8 * place) out ++ (octet_bits (length_octets n) ++ drop (8 * place + 8) out)) else Err Range
 

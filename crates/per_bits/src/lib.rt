@@ -27,7 +27,7 @@ pub use laws::{one_value, read_exactly, what_is_written, what_is_written_is_read
 pub use name::Enumerated;
 pub use octets::Octets;
 pub use open::{
-    count_behind, put_length, read_complete, read_open, take_length, take_open, take_small_number,
+    count_after, put_length, read_complete, read_open, take_length, take_open, take_small_number,
     write_complete, write_open,
 };
 pub use per_numbers::{Whole, offset_of, put_number};

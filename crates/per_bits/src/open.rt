@@ -5,7 +5,7 @@ ghost use Rattle.per_streams.specs.Bits.{Answers, Gives, length_at, open_at, num
 ghost use Rattle.per_bits.specs.Formats.{open_type};
 ghost use Rattle.per_bits.specs.Reading.{read_at, whole_at, small_number_at, complete_at, GivesWhole, inside_at};
 ghost use Rattle.per_bits.specs.Spelling.{length_octets};
-ghost use Rattle.per_bits.specs.Writing.{count_behind, write_at, write_length, write_string, complete_write};
+ghost use Rattle.per_bits.specs.Writing.{count_after, write_at, write_length, write_string, complete_write};
 ghost use Rattle.per_numbers.specs.Writing.{Wrote};
 
 use crate::element::Element;
@@ -128,16 +128,16 @@ pub fn write_open<'a, T: Element<'a>>(
     writer.put_octet(0)?;
     value.write(alloc, writer)?;
     writer.align()?;
-    count_behind(place, writer)
+    count_after(place, writer)
 }
 
 /// The octet at a place becomes the length of those after it, up to 16383, which is one octet or two (X.691 clause 11.9);
 /// more is Range.
-#[tactic(auto, unfolding(crate::specs::Writing::count_behind))]
+#[tactic(auto, unfolding(crate::specs::Writing::count_after))]
 #[inline(always)]
-pub fn count_behind(place: usize, writer: &mut BitWriter) -> Result<(), PerError>
+pub fn count_after(place: usize, writer: &mut BitWriter) -> Result<(), PerError>
     requires { 8 * place + 8 ≤ length writer.old }
-    ensures { Wrote result writer.new (count_behind place writer.old) }
+    ensures { Wrote result writer.new (count_after place writer.old) }
 {
     let length = writer.octets() - place - 1;
     if LONG_END <= length {

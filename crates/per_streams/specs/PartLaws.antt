@@ -71,11 +71,11 @@ unfolding value
 number-none s = let z : s.at + 0 ≡ s.at = omega arith in rw (taken 0 s (omega arith), z) refl
 
 -- a number, and N bits after it
-abbrev pub behind : ℕ → ℕ → Result (ℕ × Place) PerFault → Result (ℕ × Place) PerFault
-behind number width read = read >>= λ x. Ok (number * 2 ^ width + x.0, x.1)
+abbrev pub continued : ℕ → ℕ → Result (ℕ × Place) PerFault → Result (ℕ × Place) PerFault
+continued number width read = read >>= λ x. Ok (number * 2 ^ width + x.0, x.1)
 
 pub number-parts : (a b : ℕ) (s : Place)
-    → number_bits_at (a + b) s ≡ (number_bits_at a s >>= λ x. behind x.0 b (number_bits_at b x.1))
+    → number_bits_at (a + b) s ≡ (number_bits_at a s >>= λ x. continued x.0 b (number_bits_at b x.1))
 number-parts a b s =
     elim (cases_lt (length s.rest) a) [
       | inl few ↦ rw (short a s few, short (a + b) s (omega (arith, few))) refl
@@ -100,28 +100,28 @@ number-parts a b s =
       ]
     ]
 
-behind-behind : (n m a b : ℕ) (read : Result (ℕ × Place) PerFault)
-    → behind n (a + b) (behind m b read) ≡ behind (n * 2 ^ a + m) b read
-behind-behind n m a b (Ok x) =
+continued-continued : (n m a b : ℕ) (read : Result (ℕ × Place) PerFault)
+    → continued n (a + b) (continued m b read) ≡ continued (n * 2 ^ a + m) b read
+continued-continued n m a b (Ok x) =
     let e : n * 2 ^ (a + b) + (m * 2 ^ b + x.0) ≡ (n * 2 ^ a + m) * 2 ^ b + x.0 =
     rw (pow-add 2 a b, add-mul (n * 2 ^ a) m (2 ^ b)) (omega arith) in
     ap (λ k. Ok (k, x.1)) e
-behind-behind n m a b (Err f) = refl
+continued-continued n m a b (Err f) = refl
 
-pub none_behind : (w : ℕ) (read : Result (ℕ × Place) PerFault) → behind 0 w read ≡ read
-none_behind w (Ok x) = let e : 0 * 2 ^ w + x.0 ≡ x.0 = omega arith in ap (λ k. Ok (k, x.1)) e
-none_behind w (Err f) = refl
+pub continued_none : (w : ℕ) (read : Result (ℕ × Place) PerFault) → continued 0 w read ≡ read
+continued_none w (Ok x) = let e : 0 * 2 ^ w + x.0 ≡ x.0 = omega arith in ap (λ k. Ok (k, x.1)) e
+continued_none w (Err f) = refl
 
 pub part_read : (n p some wanted : ℕ) (s t : Place) (total : Result (ℕ × Place) PerFault) → some ≤ wanted
     → number_bits_at some s ≡ Ok (p, t)
-    → behind n wanted (number_bits_at wanted s) ≡ total
-    → behind (n * 2 ^ some + p) (wanted - some) (number_bits_at (wanted - some) t) ≡ total
+    → continued n wanted (number_bits_at wanted s) ≡ total
+    → continued (n * 2 ^ some + p) (wanted - some) (number_bits_at (wanted - some) t) ≡ total
 part_read n p some wanted s t total le e so_far =
     let sum : some + (wanted - some) ≡ wanted = omega arith in
-    let parts : number_bits_at wanted s ≡ behind p (wanted - some) (number_bits_at (wanted - some) t) =
+    let parts : number_bits_at wanted s ≡ continued p (wanted - some) (number_bits_at (wanted - some) t) =
     ap (λ k. number_bits_at k s) (sym sum) ∙ number-parts some (wanted - some) s ∙ rw e refl in
-    sym (behind-behind n p some (wanted - some) (number_bits_at (wanted - some) t))
-    ∙ ap (λ k. behind n k (behind p (wanted - some) (number_bits_at (wanted - some) t))) sum ∙ ap (behind n wanted) (sym parts)
+    sym (continued-continued n p some (wanted - some) (number_bits_at (wanted - some) t))
+    ∙ ap (λ k. continued n k (continued p (wanted - some) (number_bits_at (wanted - some) t))) sum ∙ ap (continued n wanted) (sym parts)
     ∙ so_far
 
 pub part_fits : (n p some count wanted : ℕ) → some ≤ wanted → wanted ≤ count → n < 2 ^ (count - wanted) → p < 2 ^ some
@@ -134,10 +134,10 @@ part_fits n p some count wanted le room lt below =
     subst (λ m. n * 2 ^ some + p < m) both k
 
 pub all_read : (n wanted : ℕ) (s : Place) (total : Result (ℕ × Place) PerFault) → wanted ≡ 0
-    → behind n wanted (number_bits_at wanted s) ≡ total → total ≡ Ok (n, s)
+    → continued n wanted (number_bits_at wanted s) ≡ total → total ≡ Ok (n, s)
 all_read n wanted s total e so_far =
     let back : n * 2 ^ 0 + 0 ≡ n = omega arith in
-    sym so_far ∙ ap (λ k. behind n k (number_bits_at k s)) e ∙ ap (behind n 0) (number-none s) ∙ ap (λ k. Ok (k, s)) back
+    sym so_far ∙ ap (λ k. continued n k (number_bits_at k s)) e ∙ ap (continued n 0) (number-none s) ∙ ap (λ k. Ok (k, s)) back
 
 -- ---- the bits of one octet
 

@@ -229,14 +229,14 @@ string_read q r n s t u os e k =
     let o = octets_taken q a.0.1 t os a.2 in
     (rw (a.1, take-parts (8 * q) r a.0.1, o.0, field_ok r t n u k) refl, o.1)
 
-behind_align : (q r : ℕ) (f : PerFault) (a : Result (Unit {0} × Place) PerFault) → (a >>= λ x. whole_octets_at q x.1) ≡ Err f
+fails_after_align : (q r : ℕ) (f : PerFault) (a : Result (Unit {0} × Place) PerFault) → (a >>= λ x. whole_octets_at q x.1) ≡ Err f
     → (a >>= λ x. take_at (8 * q + r) x.1) ≡ Err f
-behind_align q r f (Ok x) e = rw (take-parts (8 * q) r x.1, octets_failed q x.1 f e) refl
-behind_align q r f (Err g) e = let k : g ≡ f = cc in ap (λ y. Err y) k
+fails_after_align q r f (Ok x) e = rw (take-parts (8 * q) r x.1, octets_failed q x.1 f e) refl
+fails_after_align q r f (Err g) e = let k : g ≡ f = cc in ap (λ y. Err y) k
 
 pub string_no_octets : (q r : ℕ) (s : Place) (f : PerFault) → aligned_octets_at q s ≡ Err f → aligned_bits_at (8 * q + r) s ≡ Err f
 unfolding aligned_bits_at aligned_octets_at
-string_no_octets q r s f e = behind_align q r f (align_at s) e
+string_no_octets q r s f e = fails_after_align q r f (align_at s) e
 
 pub string_no_bits : (q r : ℕ) (s t : Place) (os : List ℕ) (f : PerFault) → aligned_octets_at q s ≡ Ok (os, t)
     → number_bits_at r t ≡ Err f → aligned_bits_at (8 * q + r) s ≡ Err f

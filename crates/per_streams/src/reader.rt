@@ -211,8 +211,8 @@ fn split_bit(current: u8, left: u8) -> (bool, u8)
     ensures parts { bits left current ≡ result.0 ∷ bits (left - 1) result.1 }
     ensures fits { result.1 < 2 ^ (left - 1) }
 {
-    let (part, behind) = split(current, left, 1);
-    (part == 1, behind)
+    let (part, lower) = split(current, left, 1);
+    (part == 1, lower)
 }
 
 /// The first bits of a number of `left` bits, and the others, each as a number.
@@ -225,8 +225,8 @@ fn split(current: u8, left: u8, some: u8) -> (u8, u8)
     ensures part { result.0 < 2 ^ some }
     ensures rest { result.1 < 2 ^ (left - some) }
 {
-    let behind = left - some;
-    (current >> behind, current % (1u8 << behind))
+    let lower = left - some;
+    (current >> lower, current % (1u8 << lower))
 }
 
 /// A number with `some` bits more at its end.

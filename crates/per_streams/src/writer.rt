@@ -99,9 +99,9 @@ impl BitWriter {
         let mut rest = number;
         let mut wanted = count;
         while wanted > 0 {
-            let (left, behind) = self.put_part(wanted, rest)?;
+            let (left, lower) = self.put_part(wanted, rest)?;
             wanted = left;
-            rest = behind;
+            rest = lower;
         }
         Ok(())
     }
@@ -261,6 +261,6 @@ fn split_number(number: u64, left: u8, some: u8) -> (u8, u64)
     ensures part { result.0 < 2 ^ some }
     ensures rest { result.1 < 2 ^ (left - some) }
 {
-    let behind = left - some;
-    ((number >> behind) as u8, number % (1u64 << behind))
+    let lower = left - some;
+    ((number >> lower) as u8, number % (1u64 << lower))
 }

@@ -35,14 +35,14 @@ ends_well : (r : Out) → (r >>= λ a. Ok a) ≡ r
 ends_well (Ok a) = refl
 ends_well (Err e) = refl
 
-range_behind : (b : Bool) (out xs : Bits) (k : Bits → Out) → ((mid : Bits) → k mid ≡ range) → (put_if b out xs >>= k) ≡ range
-range_behind true out xs k h = h (out ++ xs)
-range_behind false out xs k h = refl
+range_follows : (b : Bool) (out xs : Bits) (k : Bits → Out) → ((mid : Bits) → k mid ≡ range) → (put_if b out xs >>= k) ≡ range
+range_follows true out xs k h = h (out ++ xs)
+range_follows false out xs k h = refl
 
 -- writing goes on, or is out of range as what stands after it
 at_then : (f : Format) (v : Value f) (out : Bits) (k : Bits → Out) → ((mid : Bits) → k mid ≡ range)
     → (write_at f v out >>= k) ≡ range
-at_then f v out k h = ap (λ (r : Out). r >>= k) (writes f v out) ∙ range_behind (writable f v) out (written f v (length out)) k h
+at_then f v out k h = ap (λ (r : Out). r >>= k) (writes f v out) ∙ range_follows (writable f v) out (written f v (length out)) k h
 
 -- ---- an element
 

@@ -13,7 +13,7 @@ use crate::criticality::Criticality;
 use crate::engine::{MOST_ELEMENTS, fill_message};
 use crate::fault::S1apFault;
 use crate::frame::{LONGEST_HEAD, put_head};
-use per_bits::{BitReader, BitWriter, PerError, count_behind, put_number};
+use per_bits::{BitReader, BitWriter, PerError, count_after, put_number};
 use std::alloc::Global;
 
 // The octets for which a message has room at once; most are shorter, and a longer one grows.
@@ -108,7 +108,7 @@ fn put_content<'a, W: Written<'a>>(
     writer.put_octet(0)?;
     put_message::<W>(alloc, elements, writer)?;
     writer.align()?;
-    count_behind(place, writer)
+    count_after(place, writer)
 }
 
 /// The octets of a message in its frame (TS 36.413 clause 9.3): kind, code and criticality, then as an open type how many

@@ -251,8 +251,8 @@ module _ {X : Type 0} (key : X → ℕ) where
   add_lower z xs [] h lt = absurd (omega arith)
   add_lower z xs (y ∷ ys) h lt = add_front z xs (y ∷ ys) (lt, over_first (key z) y ys lt (rising_right xs (y ∷ ys) h).0)
 
-  pub add_behind : (j : ℕ) (z : X) (xs : List X) → AllUnder key (j + 1) xs → j < key z → xs ++ add key z [] ≡ add key z xs
-  add_behind j z xs h lt = sym (add_back z xs [] (under_more (j + 1) (key z) xs (omega arith) h)) ∙ ap (add key z) (append-nil xs)
+  pub add_last : (j : ℕ) (z : X) (xs : List X) → AllUnder key (j + 1) xs → j < key z → xs ++ add key z [] ≡ add key z xs
+  add_last j z xs h lt = sym (add_back z xs [] (under_more (j + 1) (key z) xs (omega arith) h)) ∙ ap (add key z) (append-nil xs)
 
   pub add_upper : (z : X) (xs ys : List X) → Rising key (xs ++ ys) → 0 < length ys → head_key key ys ≤ key z
       → add key z (xs ++ ys) ≡ xs ++ add key z ys

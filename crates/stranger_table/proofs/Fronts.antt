@@ -116,17 +116,17 @@ front_later next e (y ∷ ys) lt p h =
     later_by next e y ys (nat_lt (alarm y) (alarm e)) refl lt p h.0 (front_later next e ys lt p h.1)
 
 -- one that is stands before the others that are
-abbrev IsBehind : ℕ → ℕ → Deadline → Type 0
-IsBehind next id z = (next ≤ z.deadline) × (id < z.id)
+abbrev IsLater : ℕ → ℕ → Deadline → Type 0
+IsLater next id z = (next ≤ z.deadline) × (id < z.id)
 
-before : (next : ℕ) (e y : Deadline) → e.deadline ≡ next → e.id < 2 ^ 32 → IsBehind next e.id y → nat_lt (alarm y) (alarm e) ≡ false
+before : (next : ℕ) (e y : Deadline) → e.deadline ≡ next → e.id < 2 ^ 32 → IsLater next e.id y → nat_lt (alarm y) (alarm e) ≡ false
 before next e y d p h =
     let le = h.0 in
     let lt = h.1 in
     let over : e.deadline * 2 ^ 32 + e.id ≤ y.deadline * 2 ^ 32 + y.id = omega arith in
     grind (arith, nat_tests)
 
-front_first : (next : ℕ) (e : Deadline) (es : List Deadline) → e.deadline ≡ next → e.id < 2 ^ 32 → Every (IsBehind next e.id) es
+front_first : (next : ℕ) (e : Deadline) (es : List Deadline) → e.deadline ≡ next → e.id < 2 ^ 32 → Every (IsLater next e.id) es
     → front_ids next (add alarm e es) ≡ e.id ∷ front_ids next es
 front_first next e [] d p h = front_now next e [] (omega arith)
 front_first next e (y ∷ ys) d p h = rw (before next e y d p h.0) (front_now next e (y ∷ ys) (omega arith))
@@ -141,46 +141,46 @@ small_queued (r ∷ rs) h =
     every_with (λ (z : Deadline). z.id < 2 ^ 32) (deadline_of r.id r.sleeper) (queued rs)
     (small_entry r.id r.sleeper.touched r.sleeper.stranger h.0) (small_queued rs h.1)
 
-behind_entry : (next id i t : ℕ) (s : Stranger) → id < i → t ≤ next → IsAsleep (next - 1 - t) s
-    → IfEntry (IsBehind next id) (deadline_in i t s)
-behind_entry next id i t (Held slot) lt le a = tt
-behind_entry next id i t (Waiting k l r) lt le a =
+later_entry : (next id i t : ℕ) (s : Stranger) → id < i → t ≤ next → IsAsleep (next - 1 - t) s
+    → IfEntry (IsLater next id) (deadline_in i t s)
+later_entry next id i t (Held slot) lt le a = tt
+later_entry next id i t (Waiting k l r) lt le a =
     let less : next - 1 - t < l - 1 + 1 = a in
     let most : next ≤ t + (l - 1 + 1) = omega arith in
     (most, lt)
 
-behind_queued : (next id : ℕ) (rs : List Row) → AllOver row_id id rs → AreAround next rs → Every (IsBehind next id) (queued rs)
-behind_queued next id [] o a = tt
-behind_queued next id (r ∷ rs) o a =
-    every_with (IsBehind next id) (deadline_of r.id r.sleeper) (queued rs)
-    (behind_entry next id r.id r.sleeper.touched r.sleeper.stranger o.0 a.0.past a.0.asleep) (behind_queued next id rs o.1 a.1)
+later_queued : (next id : ℕ) (rs : List Row) → AllOver row_id id rs → AreAround next rs → Every (IsLater next id) (queued rs)
+later_queued next id [] o a = tt
+later_queued next id (r ∷ rs) o a =
+    every_with (IsLater next id) (deadline_of r.id r.sleeper) (queued rs)
+    (later_entry next id r.id r.sleeper.touched r.sleeper.stranger o.0 a.0.past a.0.asleep) (later_queued next id rs o.1 a.1)
 
 front_by : (next d i : ℕ) (es : List Deadline) (ids : List ℕ) (b : Bool) → nat_le d next ≡ b → next ≤ d → i < 2 ^ 32
-    → Every (λ (z : Deadline). z.id < 2 ^ 32) es → Every (IsBehind next i) es
+    → Every (λ (z : Deadline). z.id < 2 ^ 32) es → Every (IsLater next i) es
     → front_ids next es ≡ ids → front_ids next (add alarm (record { deadline = d; id = i }) es) ≡ cond b (i ∷ ids) ids
-front_by next d i es ids true t le p small behind ih =
+front_by next d i es ids true t le p small later ih =
     let same : d ≡ next = grind (arith, nat_tests) in
-    front_first next (record { deadline = d; id = i }) es same p behind ∙ ap (λ xs. i ∷ xs) ih
-front_by next d i es ids false t le p small behind ih =
+    front_first next (record { deadline = d; id = i }) es same p later ∙ ap (λ xs. i ∷ xs) ih
+front_by next d i es ids false t le p small later ih =
     let lt : next < d = grind (arith, nat_tests) in
     front_later next (record { deadline = d; id = i }) es lt p small ∙ ih
 
 front_in : (next i t : ℕ) (s : Stranger) (es : List Deadline) (ids : List ℕ) → i < 2 ^ 32 → t ≤ next → IsAsleep (next - 1 - t) s
     → Every (λ (z : Deadline). z.id < 2 ^ 32) es
-    → Every (IsBehind next i) es → front_ids next es ≡ ids
+    → Every (IsLater next i) es → front_ids next es ≡ ids
     → front_ids next (with_entry (deadline_in i t s) es) ≡ cond (is_met next (deadline_in i t s)) (i ∷ ids) ids
-front_in next i t (Held slot) es ids p le a small behind ih = ih
-front_in next i t (Waiting k l r) es ids p le a small behind ih =
+front_in next i t (Held slot) es ids p le a small later ih = ih
+front_in next i t (Waiting k l r) es ids p le a small later ih =
     let less : next - 1 - t < l - 1 + 1 = a in
     let most : next ≤ t + (l - 1 + 1) = omega arith in
-    front_by next (t + ends_in l) i es ids (nat_le (t + ends_in l) next) refl most p small behind ih
+    front_by next (t + ends_in l) i es ids (nat_le (t + ends_in l) next) refl most p small later ih
 
 fronts : (next : ℕ) (rs : List Row) → Rising row_id rs → Every (λ (r : Row). r.id < 2 ^ 32) rs → AreAround next rs
     → front_ids next (queued rs) ≡ met_ids next rs
 fronts next [] r small a = refl
 fronts next (y ∷ ys) r small a =
     front_in next y.id y.sleeper.touched y.sleeper.stranger (queued ys) (met_ids next ys) small.0 a.0.past a.0.asleep
-    (small_queued ys small.1) (behind_queued next y.id ys r.0 a.1) (fronts next ys r.1 small.1 a.1)
+    (small_queued ys small.1) (later_queued next y.id ys r.0 a.1) (fronts next ys r.1 small.1 a.1)
 
 pub front_is_met : (next : ℕ) (rs : List Row) → AreRows rs → AreAround next rs → front_ids next (queued rs) ≡ met_ids next rs
 front_is_met next rs h a = fronts next rs h.rising h.small a

@@ -37,9 +37,9 @@ in_written e octets h bytes short =
     let station = station_written e h in
     let shown = octets_of-shown octets bytes in
     let read : read_in (decimal e ∷ octets_text octets ∷ []) ≡ Ok (In e octets) = rw (station, shown) refl in
-    let behind = length-append (codes "in" ␣ decimal e) (32 ∷ octets_text octets) in
+    let others = length-append (codes "in" ␣ decimal e) (32 ∷ octets_text octets) in
     let before = length-append (codes "in") (32 ∷ decimal e) in
-    rewritten (In e octets) (3 + spaced (decimal e ∷ octets_text octets ∷ [])) (omega (arith, behind, before, short))
+    rewritten (In e octets) (3 + spaced (decimal e ∷ octets_text octets ∷ [])) (omega (arith, others, before, short))
     (in_reread (decimal e ∷ octets_text octets ∷ []) (In e octets) read)
 
 pub in_unbroken : (e : ℕ) (octets : List ℕ) → e < 128 → is_unbroken (line_text (In e octets)) ≡ true

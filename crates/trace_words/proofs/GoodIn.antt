@@ -45,5 +45,5 @@ pub good_in : (line fields octets : List ℕ) (at e : ℕ) → line ≡ codes "i
 good_in line fields octets at e is first station sent =
     let last = drop (at + 1) fields in
     let said : read_words (codes "in" ∷ take at fields ∷ last ∷ []) ≡ Ok (In e octets) = rw (station, sent) refl in
-    let behind = first_word fields at first ∙ ap (λ ws. take at fields ∷ ws) (split_word last (octets_word last octets sent)) in
-    ap read_words (ap (slice_split (λ c. c == 32)) is ∙ ap (λ ws. codes "in" ∷ ws) behind) ∙ said
+    let others = first_word fields at first ∙ ap (λ ws. take at fields ∷ ws) (split_word last (octets_word last octets sent)) in
+    ap read_words (ap (slice_split (λ c. c == 32)) is ∙ ap (λ ws. codes "in" ∷ ws) others) ∙ said

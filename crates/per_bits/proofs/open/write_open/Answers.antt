@@ -1,6 +1,6 @@
 use Rattle.std.proofs.lemmas.Result.{err_from_is_err_and}
 use Rattle.per_bits.specs.Writing.{write_at}
-use Rattle.per_bits.proofs.OpenLaws.{Behind, open_fails, open_room, open_written}
+use Rattle.per_bits.proofs.OpenLaws.{StandsAfter, open_fails, open_room, open_written}
 use Rattle.per_bits.proofs.Placed.{placed_at}
 use Rattle.per_bits.proofs.open.write_open.Goals as goal
 
@@ -13,11 +13,11 @@ returns-in_err-write g c =
     (open_fails (write_at f) v
     (placed_at f v) c.args.writer.now c.put_octet.new.self c.in_err-write.field-0.0 c.in_err-write.ensures)
 
-pub count_behind-requires : goal.count_behind-requires
-count_behind-requires g c =
+pub count_after-requires : goal.count_after-requires
+count_after-requires g c =
     let f = g.T.Element.format in
     let v = g.T.Element.view c.args.value.now in
-    let b : Behind (write_at f v) c.args.writer.now c.align-2.new.self c.octets-place.result =
+    let b : StandsAfter (write_at f v) c.args.writer.now c.align-2.new.self c.octets-place.result =
     record {
       front = c.align.new.self;
       one = c.put_octet.new.self;
@@ -34,7 +34,7 @@ pub returns : goal.returns
 returns g c =
     let f = g.T.Element.format in
     let v = g.T.Element.view c.args.value.now in
-    let b : Behind (write_at f v) c.args.writer.now c.align-2.new.self c.octets-place.result =
+    let b : StandsAfter (write_at f v) c.args.writer.now c.align-2.new.self c.octets-place.result =
     record {
       front = c.align.new.self;
       one = c.put_octet.new.self;
@@ -46,5 +46,5 @@ returns g c =
       ends = c.in_ok-align-2.ensures.ok;
     } in
     open_written (write_at f) v
-    (placed_at f v) c.args.writer.now c.align-2.new.self c.count_behind.new.writer c.octets-place.result c.count_behind.result b
-    c.count_behind.ensures
+    (placed_at f v) c.args.writer.now c.align-2.new.self c.count_after.new.writer c.octets-place.result c.count_after.result b
+    c.count_after.ensures

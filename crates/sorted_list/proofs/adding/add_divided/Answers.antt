@@ -1,7 +1,7 @@
 use Rattle.std.proofs.Common.{◌<◌, ◌≤◌, ◌++◌, length, arith, sym, ◌∙◌, ap, subst}
 use Rattle.sorted_list.specs.Ordered.{Rising, add}
 use Rattle.sorted_list.specs.Chunks.{head_key}
-use Rattle.sorted_list.proofs.Flat.{rising_left, rising_right, add_behind, add_lower, add_upper, length-add}
+use Rattle.sorted_list.proofs.Flat.{rising_left, rising_right, add_last, add_lower, add_upper, length-add}
 use Rattle.sorted_list.proofs.adding.add_divided.Goals as goal
 
 pub add-requires-then-key-head_key-clause-rising : goal.add-requires-then-key-head_key-clause-rising
@@ -40,7 +40,7 @@ pub returns-then-last_key-key-clause-both : goal.returns-then-last_key-key-claus
 returns-then-last_key-key-clause-both g c =
     let lt : c.last_key.result < g.T.Keyed.rank c.args.item = omega (arith, c.key.ensures) in
     ap (λ xs. c.args.lower.now ++ xs) (c.add.ensures ∙ ap (add g.T.Keyed.rank c.args.item) c.requires.empty)
-    ∙ add_behind g.T.Keyed.rank c.last_key.result c.args.item c.args.lower.now c.last_key.ensures lt
+    ∙ add_last g.T.Keyed.rank c.last_key.result c.args.item c.args.lower.now c.last_key.ensures lt
 
 pub returns-else-key-head_key-clause-half : goal.returns-else-key-head_key-clause-half
 returns-else-key-head_key-clause-half g c =

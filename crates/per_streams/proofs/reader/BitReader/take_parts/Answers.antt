@@ -2,13 +2,13 @@ use Rattle.std.proofs.Common.{◌≡◌, ◌-◌, ◌^◌, ◌<◌, Err, refl, a
 use Rattle.std.proofs.lemmas.Result.{err_from_is_err_and}
 use Rattle.std.proofs.Math.Pow.{pow_mono}
 use Rattle.per_streams.specs.Bits.{number_bits_at}
-use Rattle.per_streams.specs.PartLaws.{part_read, part_fits, all_read, nothing_left, none_behind}
+use Rattle.per_streams.specs.PartLaws.{part_read, part_fits, all_read, nothing_left, continued_none}
 use Rattle.per_streams.specs.WholeOctets.{bits_below}
 use Rattle.per_streams.proofs.reader.BitReader.take_parts.Goals as goal
 
 pub loop-wanted-init : goal.loop-wanted-init
 loop-wanted-init c = record {
-  so_far = none_behind c.args.count (number_bits_at c.args.count c.args.self.now);
+  so_far = continued_none c.args.count (number_bits_at c.args.count c.args.self.now);
   fits = (let e : c.args.count - c.args.count ≡ 0 = omega arith in subst (λ k. 0 < 2 ^ k) (sym e) (omega arith));
   most = omega arith;
 }

@@ -1,6 +1,6 @@
 use Rattle.std.proofs.Common.{[], ◌++◌, length, take, Ok, Err, refl, sym, ap, ◌∙◌, append_assoc, append-nil, arith, length-append}
 use Rattle.std.specs.Prelude.{slice_range}
-use Rattle.trace_lines.specs.PartLaws.{rest_behind}
+use Rattle.trace_lines.specs.PartLaws.{rest_follows}
 use Rattle.trace_player.specs.OctetLaws.{Appends-nil, Appends-then}
 use Rattle.trace_player.specs.TextLaws.{breaks-le, nil-from_length}
 use Rattle.trace_run.proofs.Taken.{Takes-none, Takes-then, Takes-piece}
@@ -36,7 +36,7 @@ loop-rest-preserved g c =
     let added = c.in-Ok.ensures.takes in (
       before.0 ++ take count rest,
       append_assoc before.0 (take count rest) (slice_range rest count (length rest))
-          ∙ ap (λ v. before.0 ++ v) (rest_behind count rest) ∙ before.1,
+          ∙ ap (λ v. before.0 ++ v) (rest_follows count rest) ∙ before.1,
       (
         before.2.0 ++ added.0,
         Appends-then (held c.args.writer.now.inner) (held c.loop-rest.writer.inner)

@@ -4,7 +4,7 @@ use Rattle.std.proofs.lemmas.Result.{on_ok_weaker}
 use Rattle.per_streams.specs.Bits.{bits}
 use Rattle.per_bits.proofs.OpenLaws.{counted_in_two, two_octets}
 use Rattle.per_bits.proofs.Passing.{wrote_if}
-use Rattle.per_bits.proofs.open.count_behind.Goals as goal
+use Rattle.per_bits.proofs.open.count_after.Goals as goal
 
 pub returns : goal.returns
 returns c =
