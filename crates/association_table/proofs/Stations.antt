@@ -13,11 +13,12 @@ use Rattle.association_table.specs.declared.places.Held.{Held}
 use Rattle.association_table.specs.declared.places.SlabPlace.{SlabPlace}
 use Rattle.association_table.proofs.Entries.{rising_entries}
 use Rattle.association_table.specs.Gathering.{is_numbered, first_numbered}
+use Rattle.sorted_list.specs.Paired.{paired}
 use Rattle.association_table.specs.Kept.{IsTable, entries_of, station_group, number_group, group_at, index_entry, index_rank, indexing, index_of, IsId, IsIndexEntry, first_indexed, first_from}
 
 -- ---- the search among the index
 
-entry_over : (e n j : ℕ) (ss : List IndexEntry) → e * 2 ^ 32 + 2 ^ 32 ≤ j → AllOver index_rank j ss → Every IsIndexEntry ss
+entry_over : (e n j : ℕ) (ss : List IndexEntry) → paired e (2 ^ 32) ≤ j → AllOver index_rank j ss → Every IsIndexEntry ss
     → first_indexed e n ss ≡ None
 entry_over e n j [] le h s = refl
 entry_over e n j (y ∷ ys) le h s =
@@ -27,24 +28,24 @@ entry_over e n j (y ∷ ys) le h s =
     let other : y.group ≡ e → ⊥ = λ q. absurd (omega arith) in
     grind (arith, nat_tests)
 
-passed : (e n : ℕ) (y : IndexEntry) → index_rank y < e * 2 ^ 32 + n → y.group ≡ e → y.id < n
+passed : (e n : ℕ) (y : IndexEntry) → index_rank y < paired e n → y.group ≡ e → y.id < n
 passed e n y lt q = omega arith
 
-pub entry_end : (e n : ℕ) (ss : List IndexEntry) → lowest_from index_rank (e * 2 ^ 32 + n) ss ≡ None → first_indexed e n ss ≡ None
+pub entry_end : (e n : ℕ) (ss : List IndexEntry) → lowest_from index_rank (paired e n) ss ≡ None → first_indexed e n ss ≡ None
 entry_end e n [] p = refl
 entry_end e n (y ∷ ys) p =
     let ih = entry_end e n ys in
     let past = passed e n y in
     grind (arith, nat_tests)
 
-next_station : (e n : ℕ) (y : IndexEntry) → e * 2 ^ 32 + n ≤ index_rank y → y.id < 2 ^ 32 → (y.group ≡ e → ⊥)
-    → e * 2 ^ 32 + 2 ^ 32 ≤ index_rank y
+next_station : (e n : ℕ) (y : IndexEntry) → paired e n ≤ index_rank y → y.id < 2 ^ 32 → (y.group ≡ e → ⊥)
+    → paired e (2 ^ 32) ≤ index_rank y
 next_station e n y le small other = omega arith
 
-entry_absent_by : (e n : ℕ) (s y : IndexEntry) (ys : List IndexEntry) (b : Bool) → nat_lt (index_rank y) (e * 2 ^ 32 + n) ≡ b
+entry_absent_by : (e n : ℕ) (s y : IndexEntry) (ys : List IndexEntry) (b : Bool) → nat_lt (index_rank y) (paired e n) ≡ b
     → Rising index_rank (y ∷ ys) → Every IsIndexEntry (y ∷ ys)
-    → cond b (lowest_from index_rank (e * 2 ^ 32 + n) ys) (Some y) ≡ Some s → (s.group ≡ e → ⊥)
-    → (lowest_from index_rank (e * 2 ^ 32 + n) ys ≡ Some s → first_indexed e n ys ≡ None)
+    → cond b (lowest_from index_rank (paired e n) ys) (Some y) ≡ Some s → (s.group ≡ e → ⊥)
+    → (lowest_from index_rank (paired e n) ys ≡ Some s → first_indexed e n ys ≡ None)
     → first_indexed e n (y ∷ ys) ≡ None
 entry_absent_by e n s y ys true t h small q other ih =
     let rest = ih q in
@@ -53,21 +54,21 @@ entry_absent_by e n s y ys true t h small q other ih =
 entry_absent_by e n s y ys false t h small q other ih =
     let same : y ≡ s = cc in
     let apart : y.group ≡ e → ⊥ = subst (λ (z : IndexEntry). z.group ≡ e → ⊥) (sym same) other in
-    let le : e * 2 ^ 32 + n ≤ index_rank y = grind (arith, nat_tests) in
+    let le : paired e n ≤ index_rank y = grind (arith, nat_tests) in
     let rest = entry_over e n (index_rank y) ys (next_station e n y le small.0 apart) h.0 small.1 in
     grind (arith, nat_tests)
 
 pub entry_absent : (e n : ℕ) (s : IndexEntry) (ss : List IndexEntry) → Rising index_rank ss → Every IsIndexEntry ss
-    → lowest_from index_rank (e * 2 ^ 32 + n) ss ≡ Some s → (s.group ≡ e → ⊥)
+    → lowest_from index_rank (paired e n) ss ≡ Some s → (s.group ≡ e → ⊥)
     → first_indexed e n ss ≡ None
 entry_absent e n s [] h small q other = refl
 entry_absent e n s (y ∷ ys) h small q other =
-    entry_absent_by e n s y ys (nat_lt (index_rank y) (e * 2 ^ 32 + n)) refl h small q other
+    entry_absent_by e n s y ys (nat_lt (index_rank y) (paired e n)) refl h small q other
     (λ r. entry_absent e n s ys h.1 small.1 r other)
 
-entry_found_by : (e n : ℕ) (s y : IndexEntry) (ys : List IndexEntry) (b : Bool) → nat_lt (index_rank y) (e * 2 ^ 32 + n) ≡ b
-    → cond b (lowest_from index_rank (e * 2 ^ 32 + n) ys) (Some y) ≡ Some s → s.group ≡ e
-    → (lowest_from index_rank (e * 2 ^ 32 + n) ys ≡ Some s → first_indexed e n ys ≡ Some s.id)
+entry_found_by : (e n : ℕ) (s y : IndexEntry) (ys : List IndexEntry) (b : Bool) → nat_lt (index_rank y) (paired e n) ≡ b
+    → cond b (lowest_from index_rank (paired e n) ys) (Some y) ≡ Some s → s.group ≡ e
+    → (lowest_from index_rank (paired e n) ys ≡ Some s → first_indexed e n ys ≡ Some s.id)
     → first_indexed e n (y ∷ ys) ≡ Some s.id
 entry_found_by e n s y ys true t q there ih =
     let rest = ih q in
@@ -76,16 +77,16 @@ entry_found_by e n s y ys true t q there ih =
 entry_found_by e n s y ys false t q there ih =
     let same : y ≡ s = cc in
     let here : y.group ≡ e = subst (λ (z : IndexEntry). z.group ≡ e) (sym same) there in
-    let le : e * 2 ^ 32 + n ≤ index_rank y = grind (arith, nat_tests) in
+    let le : paired e n ≤ index_rank y = grind (arith, nat_tests) in
     let high : n ≤ y.id = omega arith in
     let id : s.id ≡ y.id = ap (λ (z : IndexEntry). z.id) (sym same) in
     grind (arith, nat_tests)
 
-pub entry_found : (e n : ℕ) (s : IndexEntry) (ss : List IndexEntry) → lowest_from index_rank (e * 2 ^ 32 + n) ss ≡ Some s → s.group ≡ e
+pub entry_found : (e n : ℕ) (s : IndexEntry) (ss : List IndexEntry) → lowest_from index_rank (paired e n) ss ≡ Some s → s.group ≡ e
     → first_indexed e n ss ≡ Some s.id
 entry_found e n s [] q there = absurd (cc)
 entry_found e n s (y ∷ ys) q there =
-    entry_found_by e n s y ys (nat_lt (index_rank y) (e * 2 ^ 32 + n)) refl q there (λ r. entry_found e n s ys r there)
+    entry_found_by e n s y ys (nat_lt (index_rank y) (paired e n)) refl q there (λ r. entry_found e n s ys r there)
 
 -- ---- the index are those of the entries
 

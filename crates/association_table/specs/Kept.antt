@@ -1,5 +1,5 @@
 -- The slab and its three lists.
-use Rattle.std.specs.Prelude.{◌≡◌, ℕ, ◌+◌, ◌*◌, ◌^◌, ◌<◌, List, [], ◌∷◌, map, Option, Some, None, IsSome, ◌==◌, nat_le, if◌then◌else◌}
+use Rattle.std.specs.Prelude.{◌≡◌, ℕ, ◌^◌, ◌<◌, List, [], ◌∷◌, map, Option, Some, None, IsSome, ◌==◌, nat_le, if◌then◌else◌}
 use Rattle.slab.specs.Slab.{Slab, get}
 use Rattle.association_table.specs.declared.association.AssociationOwner.TheVariants.{Stranger}
 use Rattle.association_table.specs.declared.association.Association.{Association}
@@ -7,6 +7,7 @@ use Rattle.association_table.specs.declared.places.Held.{Held}
 use Rattle.association_table.specs.declared.places.SlabPlace.{SlabPlace}
 use Rattle.association_table.specs.declared.places.IndexEntry.{IndexEntry}
 use Rattle.sorted_list.specs.Ordered.{ordered, Rising, Every, Distinct}
+use Rattle.sorted_list.specs.Paired.{paired, paired_short}
 
 abbrev pub place_id : SlabPlace → ℕ
 place_id p = p.id
@@ -33,7 +34,7 @@ abbrev pub station_group : Association → ℕ
 station_group a = a.station
 
 abbrev pub group_at : ℕ → ℕ → ℕ
-group_at e n = e * 2 ^ 32 + n
+group_at e n = paired_short e n
 
 abbrev pub number_group : Association → ℕ
 number_group a = group_at a.station a.enb_ue_id
@@ -42,7 +43,7 @@ abbrev pub index_entry : (Association → ℕ) → Association → IndexEntry
 index_entry group a = record { group = group a; id = a.id }
 
 abbrev pub index_rank : IndexEntry → ℕ
-index_rank s = s.group * 2 ^ 32 + s.id
+index_rank s = paired s.group s.id
 
 abbrev pub indexing : (Association → ℕ) → Association → ℕ
 indexing group a = index_rank (index_entry group a)

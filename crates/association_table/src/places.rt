@@ -5,7 +5,7 @@ ghost use Rattle.sorted_list.specs.Ordered.{at, add, without, Rising, Every};
 ghost use Rattle.association_table.specs.Kept.{place_id, index_entry, index_rank, station_group, number_group, group_at, IsIndexEntry, first_indexed};
 
 use crate::association::{Association, AssociationOwner};
-use sorted_list::{Keyed, SortedList};
+use sorted_list::{Keyed, SortedList, paired, paired_short};
 
 /// What the slab holds of an association.
 #[derive(Clone, Copy)]
@@ -37,12 +37,12 @@ pub(crate) struct IndexEntry {
     pub(crate) id: u32,
 }
 
-/// The group of an eNB UE id of a station: the station above the 32 bits of the id.
+/// The group of an eNB UE id of a station: by station, and of one station by that id.
 pub(crate) fn group_at(station: u8, enb_ue_id: u32) -> u64
     ensures group { result ≡ group_at station enb_ue_id }
     ensures small { enb_ue_id < 2 ^ 32 }
 {
-    u64::from(station) * 0x1_0000_0000 + u64::from(enb_ue_id)
+    paired_short(u32::from(station), enb_ue_id)
 }
 
 /// The entry of an association among those of its station.
@@ -66,11 +66,11 @@ pub(crate) fn number_entry(association: Association) -> IndexEntry
     }
 }
 
-/// The number by which the entries of an index are in order: the group above the 32 bits of the id.
+/// The key by which the entries of an index are in order: by group, and of one group by id.
 fn index_rank(entry: IndexEntry) -> u128
     ensures { result ≡ index_rank entry }
 {
-    u128::from(entry.group) * 0x1_0000_0000 + u128::from(entry.id)
+    paired(entry.group, u64::from(entry.id))
 }
 
 impl Keyed for IndexEntry {
@@ -115,7 +115,7 @@ pub(crate) fn first_indexed(index: &SortedList<IndexEntry>, group: u64, least: u
     requires least { least ≤ 2 ^ 32 }
     ensures { result ≡ first_indexed group least index.now.items }
 {
-    let entry = index.first_from(u128::from(group) * 0x1_0000_0000 + u128::from(least))?;
+    let entry = index.first_from(paired(group, least))?;
     if entry.group != group {
         return None;
     }

@@ -432,15 +432,11 @@ pub fn in_security_mode(
     match &mut draft.solo.context {
         None => Ok(not_secured(draft, alloc, nas)?),
         Some(context) => {
-            let place = context.place;
-            match context
-                .security
-                .accept(nas, &[SecurityHeader::NewContextCiphered])
-            {
-                Ok((count, message)) => {
-                    draft.accepted = Some(Mark { place, count });
+            match context.accept(nas, &[SecurityHeader::NewContextCiphered]) {
+                Ok((mark, message)) => {
+                    draft.accepted = Some(mark);
                     if is_complete(message) {
-                        secured(draft, alloc, setting, count)
+                        secured(draft, alloc, setting, mark.count)
                     } else {
                         Ok(())
                     }

@@ -63,13 +63,9 @@ fn emm_of(phase: Phase) -> EmmState
     }
 }
 
-#[tactic(auto, unfolding(nas_elements::specs::Capability::capability_of))]
 fn fresh_solo(alloc: Global) -> Solo
     ensures { result ≡ fresh_solo }
 {
-    let Ok(capability) = UeCapability::read(&[0, 0]) else {
-        unreachable!()
-    };
     Solo {
         phase: Phase::Deregistered,
         connection: None,
@@ -84,7 +80,7 @@ fn fresh_solo(alloc: Global) -> Solo
             tac: Octets::new([0; 2]),
         },
         asked: Asked {
-            capability,
+            capability: UeCapability::new(&[0, 0]),
             combined_attach: false,
             initial_update: false,
         },

@@ -1,6 +1,6 @@
 -- The actions of the one-subscriber machine, each from a step under way to the step with the action done. A release without
 -- a connection sends nothing, and a message without a written form isn't sent.
-use Rattle.std.specs.Prelude.{ℕ, ◌+◌, ◌^◌, ◌==◌, ◌&&◌, ◌||◌, Bool, true, false, is_none, nat_lt, if◌then◌else◌, List, [], ◌++◌, Option, Some, None}
+use Rattle.std.specs.Prelude.{ℕ, ◌+◌, ◌^◌, ◌==◌, ◌&&◌, ◌||◌, Bool, true, false, is_none, nat_lt, if◌then◌else◌, List, [], ◌++◌, Option, Some, None, Result, Ok, Err}
 use Rattle.std.specs.Option.{option_map_or}
 use Rattle.s1ap_causes.specs.declared.cause.Cause.{Cause}
 use Rattle.s1ap_causes.specs.declared.cause.Cause.TheVariants.{Nas}
@@ -10,6 +10,9 @@ use Rattle.s1ap_pdus.specs.Pdus.{encoded}
 use Rattle.nas_messages.specs.declared.protection.SecurityHeader.{SecurityHeader}
 use Rattle.nas_messages.specs.declared.protection.SecurityHeader.TheVariants.{IntegrityProtectedCiphered}
 use Rattle.eps_keys.specs.Eia2.{eia2}
+use Rattle.std.specs.Borrow.{Bor}
+use Rattle.nas_security.specs.Accepting.{Acceptance}
+use Rattle.nas_security.specs.declared.fault.SecurityFault.{SecurityFault}
 use Rattle.nas_security.specs.Context.{Mac}
 use Rattle.nas_security.specs.Protecting.{protected_by}
 use Rattle.esm_machine.specs.Requests.{inactive}
@@ -158,6 +161,11 @@ start timer repeat d = record d {
 
 abbrev pub mac_of : Context → Mac
 mac_of x = eia2 x.security.integrity
+
+-- what a context accepts, without where the message lies in memory
+abbrev pub seen_accepted : Result (Mark × Bor (List ℕ)) SecurityFault → Acceptance
+seen_accepted (Ok found) = Ok (found.0.count, found.1.now)
+seen_accepted (Err fault) = Err fault
 
 -- a step with this context
 abbrev pub with_context : Context → Draft → Draft

@@ -4,7 +4,8 @@ ghost use Rattle.std.specs.Prelude.{◌≡◌, ◌<◌, ◌^◌, IfOk, OnOk, Som
 ghost use Rattle.s1ap_pdus.specs.Pdus.{encoded, lists};
 ghost use Rattle.s1ap_causes.specs.declared.cause.Cause.TheVariants as causes;
 ghost use Rattle.s1ap_causes.specs.declared.cause.NasCause.TheVariants as nas_causes;
-ghost use Rattle.emm_state.specs.Actions.{connect, connect_on, association_counted, disconnected, emit, ended, fall, is_registered, leave_old, lost, next_id, protect, protect_and_await, refuse, release, resting, seal, sealed_under, send, set_up, set_up_with, start, turn_away, wipe, with_context};
+ghost use Rattle.nas_security.specs.Accepting.{accepted, last_after};
+ghost use Rattle.emm_state.specs.Actions.{connect, connect_on, association_counted, disconnected, emit, ended, fall, is_registered, leave_old, lost, mac_of, next_id, protect, protect_and_await, refuse, release, resting, seal, sealed_under, seen_accepted, send, set_up, set_up_with, start, turn_away, wipe, with_context};
 ghost use Rattle.emm_state.specs.Does.{Does, Makes};
 ghost use Rattle.emm_state.specs.declared.draft.Draft.{Draft};
 
@@ -44,6 +45,25 @@ pub fn is_registered(phase: Phase) -> bool
 }
 
 impl Context {
+    /// What NAS octets in the protected form bring, where the context accepts them under one of the headers allowed (TS 24.301
+    /// clause 4.4.4.3): the mark of its vector and their uplink NAS COUNT, under which it accepts nothing again, and the message.
+    /// Where it doesn't, nothing changes. Takes no memory.
+    #[inline(always)]
+    pub fn accept<'a>(
+        &mut self,
+        nas: &'a [u8],
+        allowed: &[SecurityHeader],
+    ) -> Result<(Mark, &'a [u8]), SecurityFault>
+        ensures answer { seen_accepted result ≡ accepted (mac_of self.old) self.old.security.up_last allowed.now nas.entry.now }
+        ensures place { IfOk result (λ found. found.0.place ≡ self.old.place) }
+        ensures state { self.new
+            ≡ record self.old { security = record self.old.security { up_last = last_after self.old.security.up_last (seen_accepted result) } } }
+    {
+        let place = self.place;
+        let (count, message) = self.security.accept(nas, allowed)?;
+        Ok((Mark { place, count }, message))
+    }
+
     // The protected form of a NAS message under the next downlink count, which is counted where the context stands.
     fn seal(
         &mut self,

@@ -20,7 +20,7 @@ use mme_signalling::{
     EmmCause, Grant, Heard, cause_of_fault, detach_accept, emm_status, hear, initial_octets,
     is_esm, service_reject, update_accept, update_reject,
 };
-use mme_types::{Entry, Mark};
+use mme_types::Entry;
 use nas_messages::SecurityHeader;
 use s1ap_elements::{Cause, NasCause, Tai};
 use std::alloc::{AllocError, Global};
@@ -172,10 +172,9 @@ fn initial_update(
     match &mut draft.solo.context {
         None => Ok(refuse_update(draft, alloc, setting, entry, refusal)?),
         Some(context) => {
-            let place = context.place;
-            match context.security.accept(entry.nas, &IN_USE) {
-                Ok((count, _)) => {
-                    draft.accepted = Some(Mark { place, count });
+            match context.accept(entry.nas, &IN_USE) {
+                Ok((mark, _)) => {
+                    draft.accepted = Some(mark);
                     draft.connect(alloc, setting.slot, entry.station, entry.enb_ue_id)?;
                     update(draft, alloc, setting, entry.tai, combined, true)
                 }
@@ -230,10 +229,9 @@ fn initial_detach(
     match &mut draft.solo.context {
         None => Ok(draft.turn_away(alloc, slot, station, enb_ue_id)?),
         Some(context) => {
-            let place = context.place;
-            match context.security.accept(entry.nas, &IN_USE) {
-                Ok((count, _)) => {
-                    draft.accepted = Some(Mark { place, count });
+            match context.accept(entry.nas, &IN_USE) {
+                Ok((mark, _)) => {
+                    draft.accepted = Some(mark);
                     draft.connect(alloc, slot, station, enb_ue_id)?;
                     detach(draft, alloc, switch_off)
                 }
@@ -523,10 +521,9 @@ fn in_later(
     match &mut draft.solo.context {
         None => Ok(()),
         Some(context) => {
-            let place = context.place;
-            match context.security.accept(nas, &IN_USE) {
-                Ok((count, message)) => {
-                    draft.accepted = Some(Mark { place, count });
+            match context.accept(nas, &IN_USE) {
+                Ok((mark, message)) => {
+                    draft.accepted = Some(mark);
                     inner_message(draft, alloc, setting, tai, message)
                 }
                 Err(_) => Ok(()),

@@ -150,9 +150,7 @@ fn switch_request<'a>(
     requires { address.now ≡ address_of profile.now }
     ensures { IfOk result (λ m. lists m ≡ switch_pdu profile.now pair) }
 {
-    let Some(address) = Address::try_new(address) else {
-        unreachable!()
-    };
+    let address = Address::new(address);
     let value = ErabTunnel {
         id: default_bearer(),
         address,
@@ -203,9 +201,7 @@ fn context_setup_response<'a>(
     ensures { IfOk result (λ m. lists m ≡ context_pdu profile.now pair id) }
 {
     let _ = profile;
-    let Some(address) = Address::try_new(address) else {
-        unreachable!()
-    };
+    let address = Address::new(address);
     let value = ErabTunnel {
         id,
         address,

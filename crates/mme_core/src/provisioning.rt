@@ -15,10 +15,7 @@ pub(crate) fn slot_of(place: usize) -> Slot
     requires { place < slots }
     ensures { result ≡ place }
 {
-    match Slot::try_new(place as u32) {
-        Some(slot) => slot,
-        None => unreachable!(),
-    }
+    Slot::new(place as u32)
 }
 
 /// The subscribers of a provisioning, who were never seen; their vectors are taken out of it.

@@ -52,17 +52,13 @@ pub enum Heard<B> {
 }
 
 // What an ATTACH REQUEST that was decoded asks for.
-#[tactic(auto, unfolding(nas_elements::specs::Capability::capability_of))]
 fn attach_of<'a>(request: &AttachRequest<&'a [u8]>) -> Heard<&'a [u8]>
     requires { AttachFits request.now.capability.now }
     ensures { heard_lists result ≡ attach_of (request_lists request.now) }
 {
-    let Ok(capability) = UeCapability::read(request.capability) else {
-        unreachable!()
-    };
     Heard::AttachRequest {
         combined: request.attach_type == codes::COMBINED_ATTACH,
-        capability,
+        capability: UeCapability::new(request.capability),
         esm: request.esm,
     }
 }

@@ -185,9 +185,7 @@ pub fn context_setup<'a>(
         (λ m. lists m ≡ context_setup network.now profile.entry.now capability.now connection kenb
         (option_map (λ o. o.now) nas.entry)) }
 {
-    let Some(address) = Address::try_new(&profile.gateway) else {
-        unreachable!()
-    };
+    let address = Address::new(&profile.gateway);
     let id: ErabId = Whole::new(u64::from(codes::DEFAULT_BEARER));
     let erab = ErabToBeSetup {
         id,

@@ -1,6 +1,6 @@
 //! The UE security capability (TS 24.301 clause 9.9.3.34).
 
-ghost use Rattle.std.specs.Prelude.{◌≡◌, ◌++◌, slice_index, IfErr, OnErr, OnOk, ok_or};
+ghost use Rattle.std.specs.Prelude.{◌≡◌, ◌≤◌, ◌++◌, length, slice_index, IfErr, OnErr, OnOk, ok_or};
 ghost use Rattle.nas_elements.specs.Capability.{capability_of, has_eia2, replayed};
 
 use crate::fault::NasFault;
@@ -35,6 +35,18 @@ impl Model for UeCapability {
 }
 
 impl UeCapability {
+    /// The capability that these octets are, from 2 to 13 of them.
+    pub fn new(octets: &[u8]) -> UeCapability
+        requires low { 2 ≤ length octets.now }
+        requires high { length octets.now ≤ 13 }
+        ensures { result ≡ octets.now }
+    {
+        let count = octets.len();
+        let mut all = [0; 13];
+        all[..count].copy_from_slice(octets);
+        UeCapability { octets: all, count }
+    }
+
     /// The capability that these octets are; the fault Mandatory below 2 and above 13 octets.
     #[tactic(auto, unfolding(crate::specs::Capability::capability_of))]
     pub fn read(octets: &[u8]) -> Result<UeCapability, NasFault>
@@ -47,9 +59,7 @@ impl UeCapability {
         if count > 13 {
             return Err(NasFault::Mandatory);
         }
-        let mut all = [0; 13];
-        all[..count].copy_from_slice(octets);
-        Ok(UeCapability { octets: all, count })
+        Ok(UeCapability::new(octets))
     }
 
     /// Its octets.

@@ -33,6 +33,20 @@ impl<'a, const MIN: u64, const MAX: u64> Model for BitString<'a, MIN, MAX> {
 }
 
 impl<'a, const MIN: u64, const MAX: u64> BitString<'a, MIN, MAX> {
+    /// The bits of these octets, of which there are from `MIN` to `MAX`; takes no memory.
+    #[tactic(auto, unfolding(per_streams::specs::Bits::bits))]
+    pub fn new(octets: &'a [u8]) -> Self
+        requires low { MIN ≤ 8 * length octets.entry.now }
+        requires high { 8 * length octets.entry.now ≤ MAX }
+        ensures { result ≡ octet_bits octets.entry.now }
+    {
+        BitString {
+            octets,
+            last: 0,
+            more: 0,
+        }
+    }
+
     /// The bits of these octets, where they are from `MIN` to `MAX` bits.
     #[tactic(auto, unfolding(per_streams::specs::Bits::bits))]
     pub fn try_new(octets: &'a [u8]) -> Option<Self>
@@ -43,11 +57,7 @@ impl<'a, const MIN: u64, const MAX: u64> BitString<'a, MIN, MAX> {
         if count > MAX / 8 || 8 * count < MIN {
             return None;
         }
-        Some(BitString {
-            octets,
-            last: 0,
-            more: 0,
-        })
+        Some(BitString::new(octets))
     }
 
     /// The octets, where the bits are whole octets.

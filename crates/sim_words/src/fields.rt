@@ -39,10 +39,8 @@ fn five_digits(a: u8, b: u8, c: u8, d: u8, e: u8) -> Result<MacroId, TraceFault>
     let second = 4096 * hex_digit(b)?;
     let third = 256 * hex_digit(c)?;
     let fourth = 16 * hex_digit(d)?;
-    match MacroId::try_new(first + second + third + fourth + hex_digit(e)?) {
-        Some(id) => Ok(id),
-        None => unreachable!(),
-    }
+    let fifth = hex_digit(e)?;
+    Ok(MacroId::new(first + second + third + fourth + fifth))
 }
 
 /// An eNB UE S1AP ID, in 24 bits (TS 36.413 clause 9.2.3.4).

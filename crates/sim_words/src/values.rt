@@ -1,6 +1,6 @@
 //! Numbers in the fields of a script's lines.
 
-ghost use Rattle.std.specs.Prelude.{◌≡◌, ◌<◌, ◌^◌, ◌↔◌, IsSome, IfSome};
+ghost use Rattle.std.specs.Prelude.{◌≡◌, ◌<◌, ◌^◌};
 
 use std::marker::Model;
 
@@ -23,15 +23,12 @@ impl Model for MacroId {
 }
 
 impl MacroId {
-    /// The id of that number, where it is below 2^20.
-    pub fn try_new(id: u32) -> Option<MacroId>
-        ensures some { IsSome result ↔ (id < 2 ^ 20) }
-        ensures value { IfSome result (λ m. m ≡ id) }
+    /// The id of a number below 2^20.
+    pub fn new(id: u32) -> MacroId
+        requires { id < 2 ^ 20 }
+        ensures { result ≡ id }
     {
-        if id >= 0x10_0000 {
-            return None;
-        }
-        Some(MacroId { id })
+        MacroId { id }
     }
 
     /// The number.

@@ -1,3 +1,4 @@
 pub mod Flat
 pub mod Weight
 pub mod Pairs
+pub mod Parts

@@ -1,18 +1,19 @@
 -- The queue of deadlines and its index.
-use Rattle.std.specs.Prelude.{◌≡◌, ℕ, ◌+◌, ◌-◌, ◌*◌, ◌^◌, ◌<◌, List, [], ◌∷◌, map, nat_le, if◌then◌else◌}
+use Rattle.std.specs.Prelude.{◌≡◌, ℕ, ◌-◌, ◌<◌, List, [], ◌∷◌, map, nat_le, if◌then◌else◌}
 use Rattle.timer_queue.specs.declared.timer.Timer.{Timer}
 use Rattle.timer_queue.specs.Countdowns.{Countdown}
 use Rattle.timer_queue.specs.declared.queue.Deadline.{Deadline}
 use Rattle.timer_queue.specs.declared.queue.RunningTimer.{RunningTimer}
 use Rattle.timer_queue.specs.Rank.{rank}
 use Rattle.sorted_list.specs.Ordered.{ordered, Rising, Every, Distinct}
+use Rattle.sorted_list.specs.Paired.{paired}
 
 abbrev pub name : Deadline → ℕ
 name e = rank e.timer
 
 -- the order of the queue: by deadline, then by timer
 abbrev pub moment : Deadline → ℕ
-moment e = e.deadline * 2 ^ 64 + rank e.timer
+moment e = paired e.deadline (rank e.timer)
 
 -- a deadline as a countdown
 abbrev pub as_left : ℕ → Deadline → Countdown

@@ -7,7 +7,7 @@ ghost use Rattle.timer_queue.specs.Countdowns.{Countdowns, countdown_rank, ticks
 ghost use Rattle.timer_queue.specs.Queued.{moment, index_rank, leading, later_than, IsQueue, IsDeadlineIndex};
 
 use crate::timer::{Expiry, Kind, Timer, TimerOwner, rank};
-use sorted_list::{Keyed, SortedList};
+use sorted_list::{Keyed, SortedList, paired};
 use std::alloc::{AllocError, Global};
 use std::marker::Model;
 
@@ -30,11 +30,11 @@ struct Deadline {
     timer: Timer,
 }
 
-/// The number by which the queue is kept in order: the deadline in the upper 64 bits, the timer's own number in the lower.
+/// The key by which the queue is kept in order: by deadline, and of one deadline by timer.
 fn moment(entry: &Deadline) -> u128
     ensures { result ≡ moment entry.now }
 {
-    u128::from(entry.deadline) * 0x1_0000_0000_0000_0000 + u128::from(rank(entry.timer))
+    paired(entry.deadline, rank(entry.timer))
 }
 
 impl Keyed for Deadline {

@@ -9,6 +9,6 @@ unfolding initial_update updated_by took
 returns-in_ok-connect-in-Ok c =
     let same =
     connect_beside c.args.setting.now.slot c.args.entry.now.station c.args.entry.now.enb_ue_id
-    (Some (record { place = c.in-Some.context.place; count = c.in-Ok.count }))
-    (Some (counted_up c.in-Some.context c.in-Ok.count)) c.args.draft.now in
+    (Some c.in-Ok.mark)
+    (Some (counted_up c.in-Some.context c.in-Ok.mark.count)) c.args.draft.now in
     search rules

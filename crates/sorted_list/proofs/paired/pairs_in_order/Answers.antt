@@ -1,0 +1,8 @@
+use Rattle.sorted_list.proofs.Parts as parts
+use Rattle.sorted_list.proofs.paired.pairs_in_order.Goals as goal
+
+pub returns-clause-long : goal.returns-clause-long
+returns-clause-long c = parts.long
+
+pub returns-clause-short : goal.returns-clause-short
+returns-clause-short c = parts.short
