@@ -18,7 +18,7 @@ MOST, MOST_TIMES = lte.SLOTS, 64
 
 
 def provisioned(count, vectors=1):
-    """A trace with so many subscribers and a station that is set up: the trace, the station and the phones."""
+    """A trace with `count` subscribers and a station that is set up: the trace, the station and the phones."""
     trace = phones.Trace(phones.Network())
     made = []
     for slot in range(count):
@@ -31,7 +31,7 @@ def provisioned(count, vectors=1):
 
 
 def attached(count, release=False, information=False, show=True, times=1):
-    """The trace of so many attaches, one after another; the station's ids of phones count from 1."""
+    """The trace of `count` attaches, one after another; the station's ids of phones count from 1."""
     trace, station, made = provisioned(count, times)
     for phone in made * times:
         phone.attaches(station, phone.slot + 1, information=information)

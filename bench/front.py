@@ -89,7 +89,7 @@ class Station:
         self.due, self.rest, self.unsent = collections.deque(), 0, b""
 
     def send(self, count, now):
-        """Sends so many messages."""
+        """Sends `count` messages."""
         self.due.extend([now] * count)
         self.unsent += FRAMED * count
         with contextlib.suppress(BlockingIOError):

@@ -95,12 +95,12 @@ class Bench:
 
 @functools.lru_cache(None)
 def attached(count, release):
-    """The trace of so many attaches, made once: 32,768 take minutes."""
+    """The trace of `count` attaches, made once: 32,768 take minutes."""
     return attaches.attached(count, release, show=False)
 
 
 def before_and_whole(count, more, release=True):
-    """The text of a trace in which so many phones are attached, and a trace with the lines that `more` adds."""
+    """The text of a trace in which `count` phones are attached, and a trace with the lines that `more` adds."""
     trace, station, made = attached(count, release)
     lines, answers, states = trace.lines, trace.answers, [dict(vars(phone)) for phone in made]
     trace.lines, trace.answers = list(lines), list(answers)
@@ -123,7 +123,7 @@ def attaches_per_second(bench):
 
 
 def growth(bench):
-    """Time of one attach with so many subscribers, each attached once."""
+    """Time of one attach with N subscribers, each attached once."""
     each = {}
     for count in COUNTS:
         base, (trace, _, _) = attaches.provisioned(count)[0].text(), attached(count, False)
@@ -170,7 +170,7 @@ KINDS = (("uplink NAS with nothing owed", False, statuses), ("uplink NAS with a 
 
 
 def events(bench):
-    """Time of one event of one subscriber among so many that are attached."""
+    """Time of one event of one subscriber among N that are attached."""
     for what, release, add in KINDS:
         each = {}
         for count in COUNTS:
@@ -185,7 +185,7 @@ def events(bench):
 
 
 def paged(bench):
-    """A data notice for each of so many idle phones, each owed PAGING."""
+    """A data notice for each of N idle phones, each owed PAGING."""
     for count in COUNTS:
         before, trace = before_and_whole(count, lambda t, s, made: [phone.has_data_waiting([s]) for phone in made])
         bench.checked("a page for each of %d" % count, trace)
@@ -195,14 +195,14 @@ def paged(bench):
 
 
 def told(bench, what, count, each):
-    """Keeps and prints how many instructions something takes with so many subscribers."""
+    """Keeps and prints how many instructions something takes with `count` subscribers."""
     bench.figure("%s, instructions" % what, count, "{:,.0f}".format(each))
     print("%s among %d: %.0f instructions" % (what, count, each))
     sys.stdout.flush()
 
 
 def stations(bench):
-    """Instructions of what concerns none of so many subscribers: a station's set-up, its loss and its return, and a tick."""
+    """Instructions of what concerns none of N subscribers: a station's set-up, its loss and its return, and a tick."""
     for count in (0, *COUNTS):
         trace, station, _ = attaches.provisioned(count)
         before = trace.text()
@@ -215,7 +215,7 @@ def stations(bench):
 
 
 def waiting(bench):
-    """Instructions of a tick and of one more first message, with so many unknown phones that were asked for their identity."""
+    """Instructions of a tick and of one more first message, with N unknown phones that were asked for their identity."""
     nas = lte.attach_request(1, scripts.FOREIGN_GUTI, b"\xe0\x60", lte.pdn_connectivity_request(1, 1, False))
     for count in (0, *COUNTS):
         trace, station, _ = attaches.provisioned(FEW)
@@ -233,7 +233,7 @@ def waiting(bench):
 
 
 def challenged(count, alone):
-    """The text of a trace in which so many phones are challenged and don't answer, up to a second in which none is due, after which
+    """The text of a trace in which `count` phones are challenged and don't answer, up to a second in which none is due, after which
     the first challenge is sent again: that of the phone in the middle, a second before the others', or of all at once."""
     trace, station, made = attaches.provisioned(count)
     early = made[count // 2:count // 2 + 1] if alone else []
@@ -249,7 +249,7 @@ def challenged(count, alone):
 
 
 def due(bench):
-    """Instructions of a challenge that is sent again because its countdown ends, with so many countdowns that run: of one phone alone,
+    """Instructions of a challenge that is sent again because its countdown ends, with N countdowns that run: of one phone alone,
     and for each phone where all end at once."""
     for what, alone in (("of one phone alone", True), ("where all are due at once, for each", False)):
         for count in COUNTS:
@@ -259,7 +259,7 @@ def due(bench):
 
 
 def instructions(bench):
-    """Instructions of an attach, of an event of one subscriber and of a tick, with so many subscribers."""
+    """Instructions of an attach, of an event of one subscriber and of a tick, with N subscribers."""
     for count in COUNTS:
         base = bench.instructions(attaches.provisioned(count)[0].text())
         told(bench, "an attach", count, (bench.instructions(attached(count, False)[0].text()) - base) / count)
@@ -273,7 +273,7 @@ def instructions(bench):
 
 
 def ticks(bench, most):
-    """Time of so many ticks with idle subscribers, and with ones who were never seen; fewer ticks where there are most."""
+    """Time of N ticks with idle subscribers, and with ones who were never seen; fewer ticks where there are most."""
     for subscribers, longest in ((MANY, most), (MOST, min(most, 1000))):
         for what, trace in (("idle", attached(subscribers, True)[0]), ("never seen", attaches.provisioned(subscribers)[0])):
             before = trace.text()
@@ -286,7 +286,7 @@ def ticks(bench, most):
 
 
 def set_ups(bench):
-    """Lines of a second where each is an S1 SETUP REQUEST, with so many subscribers."""
+    """Lines of a second where each is an S1 SETUP REQUEST, with N subscribers."""
     for count, lines in ((0, 100000), (2, 100000), (MANY, 2000), (MOST, 2000)):
         trace, station, _ = attaches.provisioned(count)
         before = trace.text()
@@ -298,7 +298,7 @@ def set_ups(bench):
 
 
 def provided(count):
-    """The lines of a script that provide so many phones, each with one vector, and a station that is set up."""
+    """The lines of a script that provide `count` phones, each with one vector, and a station that is set up."""
     trace, station, made = attaches.provisioned(count)
     lines = [line for line in trace.lines if line.split(" ")[0] in ("mme", "sub", "vec")]
     return lines + ["station %d %05x %04x" % (station.number, station.identity, station.tac), "up %d" % station.number], made

@@ -14,7 +14,7 @@
 static const unsigned char KEY[16] = {0x2b, 0x7e, 0x15, 0x16, 0x28, 0xae, 0xd2, 0xa6,
                                       0xab, 0xf7, 0x15, 0x88, 0x09, 0xcf, 0x4f, 0x3c};
 
-/* Each call is timed in so many short rounds, of which the best counts. */
+/* Each call is timed in N short rounds, of which the best counts. */
 #ifndef ROUNDS
 #define ROUNDS 200
 #endif

@@ -134,9 +134,9 @@ class Phone:
     def sends(self, nas):
         self.trace.hear(self.station, lte.uplink_nas(self.network, self.station, self.m, self.b, nas))
 
-    def sends_first(self, station, b, nas):
+    def sends_first(self, station, b, nas, tmsi=None):
         """An INITIAL UE MESSAGE, which the MME takes a new association for; owed the release of an old one elsewhere."""
-        self.trace.hear(station, lte.initial_ue_message(self.network, station, b, nas))
+        self.trace.hear(station, lte.initial_ue_message(self.network, station, b, nas, tmsi))
         if self.station is not None and (self.station, self.b) != (station, b):
             self.owed(lte.release_command(self.m, self.b, lte.NORMAL_RELEASE))
         self.station, self.b = station, b
@@ -278,3 +278,34 @@ class Phone:
         self.next_hop = lte.next_hop(self.vector.kasme, self.next_hop)
         self.chaining = (self.chaining + 1) % 8
         self.owed(lte.path_switch_acknowledge(self.m, b, self.chaining, self.next_hop))
+
+    def asks_for_service(self, station, b):
+        """SERVICE REQUEST from idle (TS 24.301 clause 5.6.1); owed the context with the radio key of its count."""
+        count = self.up_count
+        self.up_count += 1
+        self.sends_first(station, b, lte.service_request(self.key, self.ksi, count), self.tmsi)
+        self.radio_key = lte.kenb(self.vector.kasme, count)
+        self.next_hop, self.chaining = lte.next_hop(self.vector.kasme, self.radio_key), 1
+        self.owed(lte.context_setup_request(self.network, self.m, self.b, self, self.radio_key))
+
+    # How a phone leaves.
+
+    def asks_to_detach(self):
+        """DETACH REQUEST by its GUTI."""
+        return lte.detach_request(lte.guti(self.network, self.tmsi), self.ksi, False)
+
+    def is_detached(self):
+        """Owed DETACH ACCEPT, and the release for detach (TS 24.301 clause 5.5.2.2)."""
+        self.owed_nas(self.protected_down(lte.DETACH_ACCEPT))
+        self.owed(lte.release_command(self.m, self.b, lte.DETACHED))
+        self.goes()
+
+    def detaches(self):
+        """DETACH REQUEST on the connection that is there."""
+        self.sends(self.protected_up(self.asks_to_detach()))
+        self.is_detached()
+
+    def detaches_from_idle(self, station, b):
+        """DETACH REQUEST as the first message."""
+        self.sends_first(station, b, self.protected_up(self.asks_to_detach(), header=1))
+        self.is_detached()

@@ -28,40 +28,13 @@ STATIONS, FLOODING, FLOOD_RATE = 4, 3, 300
 FIRST_VECTORS, MORE_VECTORS, MOST_VECTORS = 8, 4, 64
 
 
-class Phone(phones.Phone):
-    """A phone that asks for service and detaches, too."""
-
-    def asks_for_service(self, station, b):
-        """SERVICE REQUEST from idle (TS 24.301 clause 5.6.1); owed the context with the radio key of its count."""
-        count = self.up_count
-        nas = lte.service_request(self.key, self.ksi, count)
-        self.up_count += 1
-        identity = lte.Bits().put(0, 2).put(self.network.code[0], 8).octets(self.tmsi.to_bytes(4, "big")).done()
-        self.trace.hear(station, lte.s1ap(
-            lte.INITIATING, 12, lte.IGNORE, (lte.REJECT, lte.enb_id(b)), (lte.REJECT, lte.nas_pdu(nas)),
-            (lte.REJECT, lte.tai(self.network, station.tac)), (lte.IGNORE, lte.cell(self.network, station.cell)),
-            (lte.IGNORE, lte.rrc_cause(3)), (lte.REJECT, (96, identity))))
-        self.station, self.b = station, b
-        self.associations += 1
-        self.radio_key = lte.kenb(self.vector.kasme, count)
-        self.next_hop, self.chaining = lte.next_hop(self.vector.kasme, self.radio_key), 1
-        self.owed(lte.context_setup_request(self.network, self.m, self.b, self, self.radio_key))
-
-    def detaches(self):
-        """DETACH REQUEST by its GUTI; owed DETACH ACCEPT, and the release for detach (TS 24.301 clause 5.5.2.2)."""
-        self.sends(self.protected_up(bytes([0x07, 0x45, self.ksi << 4 | 1]) + lte.sized(lte.guti(self.network, self.tmsi))))
-        self.owed_nas(self.protected_down(b"\x07\x46"))
-        self.owed(lte.release_command(self.m, self.b, (lte.NAS, 2)))
-        self.goes()
-
-
 class Soak(phones.Trace):
     """What stations and phones do goes to the front, and what they are owed is waited for."""
 
     def __init__(self, program, count, second):
         super().__init__()
         self.chance, self.radio_ids = random.Random(7), iter(range(1, 1 << 24))
-        self.phones = [Phone(self, slot, self.vectors(slot, 0, FIRST_VECTORS)) for slot in range(count)]
+        self.phones = [phones.Phone(self, slot, self.vectors(slot, 0, FIRST_VECTORS)) for slot in range(count)]
         self.provision(self.phones)
         self.front = through.Front(program, self.text(), "--segments", "1000", "--second", str(second))
         self.control = self.front.folder.name + "/log.control"
@@ -245,7 +218,7 @@ def usage(pid):
 
 
 def flood(port):
-    """A process with stations that send set-ups, so many a second together, until it is ended. They broadcast an area of their own,
+    """A process with stations that send `FLOOD_RATE` set-ups a second together, until it is ended. They broadcast an area of their own,
     so that no phone is paged there."""
     child = os.fork()
     if child == 0:

@@ -10,7 +10,7 @@ LEAST = 20000  # things of a part: fewer aren't worth a process
 
 
 def bounds_of(count, multiple):
-    """Where parts of so many things begin and end, each a multiple: one for each processor, or fewer of a short text."""
+    """Where parts of `count` things begin and end, each a multiple: one for each processor, or fewer of a short text."""
     parts = max(1, min(len(os.sched_getaffinity(0)), count // LEAST))
     size = max(1, -(-count // (parts * multiple))) * multiple
     return [(low, min(count, low + size)) for low in range(0, count, size)]

@@ -76,7 +76,7 @@ class Text(unittest.TestCase):
 
     @staticmethod
     def at_terminal(given, columns, *words, stream="stdout"):
-        """What stands at a terminal of so many columns that one of the chart's streams is."""
+        """What stands at a terminal of `columns` columns that one of the chart's streams is."""
         ours, its = pty.openpty()
         subprocess.run(["stty", "cols", str(columns)], stdin=its, check=True)
         streams = {"stdout": subprocess.DEVNULL, stream: its}

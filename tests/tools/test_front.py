@@ -23,7 +23,6 @@ sys.path.insert(0, str(tools.TOP / "tools"))
 import runs as RUNS
 from fronting import limits
 sys.path.insert(0, str(tools.TOP / "bench"))
-LTE = tools.module("bench/lte.py")
 PHONES = tools.module("bench/phones.py")
 del sys.path[:2]
 
@@ -427,44 +426,6 @@ class Live(PHONES.Trace):
         self.owing = []
 
 
-class Phone(PHONES.Phone):
-    """A phone that asks for service and detaches, too."""
-
-    def asks_for_service(self, station, b):
-        """SERVICE REQUEST from idle (TS 24.301 clauses 5.6.1 and 8.2.25); owed the context with the radio key of its count."""
-        start, count = bytes([0xC7, self.ksi << 5 | self.up_count & 0x1F]), self.up_count
-        nas = start + LTE.eia2(self.key, count, LTE.UP, start)[2:]
-        self.up_count += 1
-        identity = LTE.Bits().put(0, 2).put(self.network.code[0], 8).octets(self.tmsi.to_bytes(4, "big")).done()
-        self.trace.hear(station, LTE.s1ap(
-            LTE.INITIATING, 12, LTE.IGNORE, (LTE.REJECT, LTE.enb_id(b)), (LTE.REJECT, LTE.nas_pdu(nas)),
-            (LTE.REJECT, LTE.tai(self.network, station.tac)), (LTE.IGNORE, LTE.cell(self.network, station.cell)),
-            (LTE.IGNORE, LTE.rrc_cause(3)), (LTE.REJECT, (96, identity))))
-        self.station, self.b = station, b
-        self.associations += 1
-        self.radio_key = LTE.kenb(self.vector.kasme, count)
-        self.next_hop, self.chaining = LTE.next_hop(self.vector.kasme, self.radio_key), 1
-        self.owed(LTE.context_setup_request(self.network, self.m, self.b, self, self.radio_key))
-
-    def asks_to_detach(self):
-        """DETACH REQUEST by its GUTI (TS 24.301 clause 8.2.11)."""
-        return bytes([0x07, 0x45, self.ksi << 4 | 1]) + LTE.sized(LTE.guti(self.network, self.tmsi))
-
-    def is_detached(self):
-        """DETACH ACCEPT, and the release for detach (TS 24.301 clause 5.5.2.2)."""
-        self.owed_nas(self.protected_down(b"\x07\x46"))
-        self.owed(LTE.release_command(self.m, self.b, (LTE.NAS, 2)))
-        self.goes()
-
-    def detaches(self):
-        self.sends(self.protected_up(self.asks_to_detach()))
-        self.is_detached()
-
-    def detaches_from_idle(self, station, b):
-        self.sends_first(station, b, self.protected_up(self.asks_to_detach(), header=1))
-        self.is_detached()
-
-
 def life(phone, stations):
     """A phone's steps: it attaches, sleeps, is paged, comes back, moves to the other station, and detaches; one moves while it is
     connected and one while it is idle."""
@@ -508,7 +469,7 @@ class Round(unittest.TestCase):
     def round(self):
         """The phones' lives, a step of any at a time, beside the flood; then all attach at once."""
         chance, trace = random.Random(1), Live(self)
-        phones = [Phone(trace, slot, [PHONES.Vector.made("%d.%d" % (slot, place)) for place in range(2)]) for slot in range(10)]
+        phones = [PHONES.Phone(trace, slot, [PHONES.Vector.made("%d.%d" % (slot, place)) for place in range(2)]) for slot in range(10)]
         trace.provision(phones)
         stations = [PHONES.Station(0), PHONES.Station(1, identity=2, tac=2, cell=0x201)]
         for station in stations:

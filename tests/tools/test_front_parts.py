@@ -68,7 +68,7 @@ class Tcp(unittest.TestCase):
         self.assertEqual(self.received([]), ([], links.ENDED))
 
     def test_turns(self):
-        """No more messages than are asked for, and none after so many octets."""
+        """No more messages than are asked for, and none after as many octets as are asked for."""
         with pair() as (far, near):
             link = links.TcpLink(near)
             far.sendall(b"\0\3abc" * 10)
@@ -155,7 +155,7 @@ class Streams(unittest.TestCase):
 
 class Paces(unittest.TestCase):
     def test_pace(self):
-        """A second's worth at once, and then so many a second."""
+        """A second's worth at once, and then as many a second."""
         pace = Pace(100)
         self.assertEqual(pace.allows(1000.0), 100)
         pace.take(100, 1000.0)

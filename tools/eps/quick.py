@@ -117,7 +117,7 @@ def template(message, line):
 
 # --- What a line doesn't depend on ---
 
-# Bits of elements with so many octets: the first one and how many. They are of areas, cells, identities and keys (TS 36.413
+# Bits of elements with a number of octets: the first one and how many. They are of areas, cells, identities and keys (TS 36.413
 # clauses 9.2.1 and 9.2.3).
 BITS = {
     (elements.TAI, 6): [(8, 40)], (elements.TAI_LIST, 11): [(48, 40)], (elements.CELL, 8): [(8, 24), (32, 28)],

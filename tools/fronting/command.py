@@ -51,7 +51,7 @@ def run(given):
 
 
 def connected(path, wait):
-    """A connection to a control socket, that may only come within so many seconds."""
+    """A connection to a control socket, which may come within `wait` seconds."""
     until = time.monotonic() + wait
     while True:
         asking = socket.socket(socket.AF_UNIX)

@@ -232,7 +232,7 @@ class Front:
         return program.status or 0
 
     def turn_until(self, holds, seconds):
-        """Turns until something holds, or so many seconds have passed."""
+        """Turns until something holds, or `seconds` have passed."""
         end = time.monotonic() + seconds
         while not holds() and time.monotonic() < end:
             timer = self.loop.after(min(0.05, max(0.0, end - time.monotonic())), lambda: None)

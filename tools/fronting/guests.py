@@ -87,7 +87,7 @@ class Guest:
 
 
 class Door:
-    """A listening socket for guests, of whom there are so many at the most; a further one is closed at once."""
+    """A listening socket for guests, of whom there are `most_guests` at the most; a further one is closed at once."""
 
     def __init__(self, loop, listener, most_guests, most_octets, seconds, take):
         self.loop, self.listener, self.take = loop, listener, take

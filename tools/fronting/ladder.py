@@ -36,7 +36,7 @@ def arrow(start, end, height, label):
 
 
 def drawn(recent, since):
-    """The chart of the messages since then, of so many at the most; nothing where there is none."""
+    """The chart of the messages since then, of `MOST_ROWS` at the most; nothing where there is none."""
     rows = [row for row in recent if row[0] >= since][-MOST_ROWS:]
     lanes = lanes_of(rows)
     rows = [row for row in rows if row[1] in lanes]

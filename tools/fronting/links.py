@@ -60,7 +60,7 @@ class TcpLink(Link):
                 self.last, self.readable = ENDED, False
 
     def whole(self, most, most_octets):
-        """Takes messages out of what was received: so many at the most, and none after so many octets."""
+        """Takes messages out of what was received: `most` at the most, and none after `most_octets` octets."""
         received, at, messages, prefix = self.received, 0, [], limits.LENGTH_OCTETS
         last = len(received) - prefix
         while most and at < most_octets and at <= last:
@@ -78,7 +78,7 @@ class TcpLink(Link):
         return messages
 
     def take(self, most, most_octets):
-        """The next messages: so many at the most, and none after so many octets."""
+        """The next messages: `most` at the most, and none after `most_octets` octets."""
         messages, octets = [], 0
         while len(messages) < most and octets < most_octets:
             found = self.whole(most - len(messages), most_octets - octets) if self.received else ()
@@ -171,7 +171,7 @@ class SctpLink(Link):
         return None
 
     def take(self, most, most_octets):
-        """The next messages: so many at the most, none after so many octets, and none beyond a restart of the other side."""
+        """The next messages: `most` at the most, none after `most_octets` octets, and none beyond a restart of the other side."""
         messages, octets = [], 0
         while len(messages) < most and octets < most_octets and self.readable and not self.has_restarted:
             message = self.read()

@@ -40,7 +40,7 @@ class Loop:
             self.poll.unregister(file)
 
     def after(self, seconds, act):
-        """Has `act` be called after so many seconds."""
+        """Has `act` be called after `seconds`."""
         timer = Timer(act)
         heapq.heappush(self.timers, (time.monotonic() + seconds, next(self.order), timer))
         return timer

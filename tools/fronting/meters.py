@@ -53,20 +53,19 @@ class Meters:
         self.steps = {kind: [(bytes([s1ap.EMM, number]), number) for number in steps] for kind, steps in ATTACH_STEPS.items()}
 
     def count_in(self, station, octets):
-        kind = octets[:2]
-        self.recent.append((self.now, station, True, octets[:SHOWN]))
-        self.inward[kind if kind in KNOWN else OTHER] += 1
-        if kind in WITH_CAUSE:
-            self.inward_causes[kind, cause_of(octets)] += 1
-        elif kind in self.steps:
-            self.count_steps(kind, octets)
+        """What a station sent."""
+        self.count(station, True, octets, self.inward, self.inward_causes)
 
     def count_out(self, station, octets):
+        """What a station was sent."""
+        self.count(station, False, octets, self.outward, self.outward_causes)
+
+    def count(self, station, is_inward, octets, messages, causes):
         kind = octets[:2]
-        self.recent.append((self.now, station, False, octets[:SHOWN]))
-        self.outward[kind if kind in KNOWN else OTHER] += 1
+        self.recent.append((self.now, station, is_inward, octets[:SHOWN]))
+        messages[kind if kind in KNOWN else OTHER] += 1
         if kind in WITH_CAUSE:
-            self.outward_causes[kind, cause_of(octets)] += 1
+            causes[kind, cause_of(octets)] += 1
         elif kind in self.steps:
             self.count_steps(kind, octets)
 
@@ -78,7 +77,7 @@ class Meters:
                     self.attaches[ATTACH_STEPS[kind][number]] += 1
 
     def count_answers(self, seconds, count):
-        """So many answers came so long after their messages."""
+        """`count` answers came `seconds` after their messages."""
         self.answered += count
         self.seconds += seconds * count
         self.buckets[bisect.bisect_left(BOUNDS, seconds)] += count

@@ -3,7 +3,7 @@ import math
 
 
 class Pace:
-    """Lets so many pass in a second; after a second of rest, as many at once."""
+    """Lets `rate` pass in a second; after a second of rest, as many at once."""
 
     def __init__(self, rate):
         self.rate, self.apart, self.passed = rate, 1 / rate, -math.inf
@@ -18,7 +18,7 @@ class Pace:
         return (now - self.passed) / self.apart + 1e-9 >= 1
 
     def take(self, count, now):
-        """Lets so many pass."""
+        """Lets `count` pass."""
         self.passed = max(self.passed, now - 1) + count * self.apart
 
     def next(self):

@@ -37,7 +37,7 @@ class Station:
         return max(self.pace.next(), self.octet_pace.next())
 
     def take(self, most, most_octets, now):
-        """What it says: so many messages at the most, and none after so many octets."""
+        """What it says: `most` messages at the most, and none after `most_octets` octets."""
         messages = self.link.take(most, most_octets)
         if messages:
             self.pace.take(len(messages), now)

@@ -33,7 +33,7 @@ def between(low, high):
 
 
 def octets(name, count):
-    """A field of so many octets."""
+    """A field of `count` octets."""
     return Field(name, "%d hex digits" % (2 * count), NOT_HEX, pattern(rb"[0-9a-fA-F]{%d}" % (2 * count)))
 
 

@@ -13,7 +13,7 @@ use Rattle.laws_ends.specs.Strangers.{IsTimed, is_waiting, stranger_due}
 use Rattle.laws_steps.specs.Walk.{either_by}
 use Rattle.laws_lasting.specs.Lasting.{WaitsUntilDue}
 
--- it waits, is timed, and so many ticks are due and have passed
+-- it waits, is timed, and m ticks are due, of which n have passed
 record IsWaitingOn (m n : ℕ) (s : Option Stranger) : Type 0 where
   timed : IsTimed s
   waits : is_waiting s ≡ true

@@ -34,7 +34,7 @@ impl<T> Model for Watched<T> {
     ghost view = { λ w. record { inner = w.inner; failed = w.failed; ended = w.ended; calls = w.calls } };
 }
 
-// Whether a call moved none of so many octets, though there were some to move.
+// Whether a call moved none of the octets, though there were some to move.
 fn moves_none(octets: usize, moved: usize) -> bool
     ensures { result ≡ moves_none octets moved }
 {
