@@ -264,14 +264,18 @@ impl Subscriber {
 
     /// The ticks left of a procedure, and until a phone that is idle is taken to be gone.
     #[tactic(auto, unfolding(crate::specs::Ticks::countdowns))]
-    pub fn countdowns(&self) -> (Option<u32>, Option<u32>)
+    pub fn countdowns(&self) -> (Option<u64>, Option<u64>)
         ensures { result ≡ countdowns self.now.solo }
     {
         let procedure = match self.state.solo.procedure {
-            Some(countdown) => Some(countdown.left),
+            Some(countdown) => Some(u64::from(countdown.left)),
             None => None,
         };
-        (procedure, self.state.solo.reachable)
+        let reachable = match self.state.solo.reachable {
+            Some(left) => Some(u64::from(left)),
+            None => None,
+        };
+        (procedure, reachable)
     }
 
     /// The states.

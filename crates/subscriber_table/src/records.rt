@@ -39,7 +39,7 @@ impl Record {
         &mut self,
         clock: u64,
         draft: Box<Draft>,
-    ) -> ((Option<u32>, Option<u32>), Box<Draft>)
+    ) -> ((Option<u64>, Option<u64>), Box<Draft>)
         requires { IsFresh clock self.old }
         ensures state { self.new ≡ renewed clock draft.value.solo self.old }
         ensures before { result.0 ≡ countdowns (view_at clock self.old).solo }

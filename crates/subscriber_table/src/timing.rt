@@ -7,20 +7,10 @@ ghost use Rattle.subscriber_table.specs.Running.{both_retimed, retimed, AreInRan
 
 use timer_queue::{Kind, TimerOwner, Timers};
 
-// So many ticks, if it runs.
-fn ticks(left: Option<u32>) -> Option<u64>
-    ensures { result ≡ left }
-{
-    match left {
-        Some(left) => Some(u64::from(left)),
-        None => None,
-    }
-}
-
 // A slot's countdown is as it is to be, where it is known what it was; takes no memory. One that is so already stays in its place,
 // and nothing is searched.
 #[inline(always)]
-fn retime_one(timers: &mut Timers, slot: u32, kind: Kind, before: Option<u64>, left: Option<u32>)
+fn retime_one(timers: &mut Timers, slot: u32, kind: Kind, before: Option<u64>, left: Option<u64>)
     requires range { IsInRange left }
     requires known { ticks_left (Subscriber slot) kind timers.old.running ≡ before }
     requires room { 1 ≤ timers.old.room }
@@ -29,7 +19,6 @@ fn retime_one(timers: &mut Timers, slot: u32, kind: Kind, before: Option<u64>, l
     ensures room { timers.old.room ≤ timers.new.room + 1 }
 {
     let owner = TimerOwner::Subscriber(slot);
-    let left = ticks(left);
     if before == left {
         return;
     }
@@ -44,8 +33,8 @@ fn retime_one(timers: &mut Timers, slot: u32, kind: Kind, before: Option<u64>, l
 pub(crate) fn retime(
     timers: &mut Timers,
     slot: u32,
-    before: (Option<u32>, Option<u32>),
-    left: (Option<u32>, Option<u32>),
+    before: (Option<u64>, Option<u64>),
+    left: (Option<u64>, Option<u64>),
 )
     requires range { AreInRange left }
     requires known { AreQueued slot before timers.old.running }
@@ -57,12 +46,12 @@ pub(crate) fn retime(
     // (that they stand in order)
     let _ = timers.clock();
     let (procedure, reachable) = left;
-    retime_one(timers, slot, Kind::Procedure, ticks(before.0), procedure);
-    retime_one(timers, slot, Kind::Reachable, ticks(before.1), reachable);
+    retime_one(timers, slot, Kind::Procedure, before.0, procedure);
+    retime_one(timers, slot, Kind::Reachable, before.1, reachable);
 }
 
 /// A slot's countdowns are as they are to be, where those that it has are looked up; takes no memory.
-pub(crate) fn retime_found(timers: &mut Timers, slot: u32, left: (Option<u32>, Option<u32>))
+pub(crate) fn retime_found(timers: &mut Timers, slot: u32, left: (Option<u64>, Option<u64>))
     requires range { AreInRange left }
     requires room { 2 ≤ timers.old.room }
     ensures clock { timers.new.clock ≡ timers.old.clock }

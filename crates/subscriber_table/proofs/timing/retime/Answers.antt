@@ -1,4 +1,4 @@
-use Rattle.std.proofs.Common.{sym, ◌∙◌, ap}
+use Rattle.std.proofs.Common.{◌∙◌, ap}
 use Rattle.timer_queue.specs.declared.timer.Kind.TheVariants.{Reachable}
 use Rattle.timer_queue.specs.declared.timer.TimerOwner.TheVariants.{Subscriber}
 use Rattle.timer_queue.specs.Countdowns.{ticks_left}
@@ -9,4 +9,4 @@ pub retime_one-requires-2-clause-known : goal.retime_one-requires-2-clause-known
 retime_one-requires-2-clause-known c =
     ap (ticks_left (Subscriber c.args.slot) Reachable) c.retime_one.ensures.running
     ∙ retimed_beside c.args.slot c.args.left.0 c.args.timers.now.running c.ranges.slot.fits c.clock.ensures.order
-    ∙ c.requires.known.1 ∙ sym c.ticks-2.ensures
+    ∙ c.requires.known.1

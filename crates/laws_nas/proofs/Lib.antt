@@ -1,0 +1,4 @@
+pub mod Rows
+pub mod EmmFaults
+pub mod EsmFaults
+pub mod Outcomes
