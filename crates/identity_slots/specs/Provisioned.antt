@@ -30,6 +30,7 @@ abbrev pub place_from : (Profile → ℕ) → ℕ → ℕ → List Profile → O
 place_from key k n [] = None
 place_from key k n (p ∷ ps) = if key p == k then Some n else place_from key k (n + 1) ps
 
+-- by the number that the eight octets of an IMSI make, which no other IMSI has
 unfoldable pub slot_of_imsi : List ℕ → List Profile → Option ℕ
 slot_of_imsi imsi ps = place_from imsi_key (imsi_number imsi) 0 ps
 

@@ -121,7 +121,7 @@ shown progress imsi = running progress >>= (λ world. states_shown imsi world (s
 
 -- ---- lines
 
--- a station sends these octets
+-- a station sends these octets; a slice's value has besides the place that it is lent from, which no definition looks at
 abbrev pub in_event : ℕ → List ℕ → Event
 in_event e octets = event.In e (record { ref_ptr = (0, 0); now = octets })
 
