@@ -18,10 +18,10 @@ mod copying;
 mod finding;
 mod keyed;
 mod list;
-mod paired;
 mod search;
 mod taking;
+mod two_parts;
 
 pub use keyed::Keyed;
 pub use list::SortedList;
-pub use paired::{paired, paired_short, pairs_in_order};
+pub use two_parts::{paired, paired_short, pairs_in_order};

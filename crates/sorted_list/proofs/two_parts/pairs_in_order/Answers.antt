@@ -1,5 +1,5 @@
 use Rattle.sorted_list.proofs.Parts as parts
-use Rattle.sorted_list.proofs.paired.pairs_in_order.Goals as goal
+use Rattle.sorted_list.proofs.two_parts.pairs_in_order.Goals as goal
 
 pub returns-clause-long : goal.returns-clause-long
 returns-clause-long c = parts.long
