@@ -1,180 +1,114 @@
--- A simulation, one turn after another.
-use Rattle.std.proofs.Common.{◌≡◌, ℕ, ◌+◌, ◌-◌, ◌≤◌, Bool, true, List, [], ◌++◌, length, take, Option, None, Result, Ok, Err, sym, ap, subst, ◌∙◌, append_assoc, append-nil, arith}
-use Rattle.std.specs.Io.KnownBytes.{Appends, Consumes, Keeps}
-use Rattle.std.proofs.lemmas.List.{take_all}
+-- The lines of a script, played one after another.
+use Rattle.std.proofs.Common.{◌≡◌, ℕ, ◌+◌, ◌-◌, List, [], ◌∷◌, ◌++◌, length, take, None, Result, Ok, Err, inl, inr, refl, sym, ap, subst, ◌∙◌, append-nil, arith}
+use Rattle.std.proofs.lemmas.List.{take_all, take-append-le}
+use Rattle.trace_words.specs.declared.line.Line.{Line}
+use Rattle.trace_words.specs.declared.fault.TraceFault.{TraceFault}
 use Rattle.sim_words.specs.Kept.{kept_in}
 use Rattle.trace_player.specs.declared.fault.PlayFault.{PlayFault}
 use Rattle.trace_player.specs.declared.fault.PlayFault.TheVariants.{Trace, Read, Write, NoMemory}
 use Rattle.trace_player.specs.declared.progress.Progress.{Progress}
 use Rattle.trace_player.specs.declared.progress.Progress.TheVariants.{Nothing}
 use Rattle.trace_player.specs.Text.{prepended, play, played_text, lines_of, played_of, breaks}
-use Rattle.trace_player.specs.OctetLaws.{Appends-nil, Appends-then, Consumes-nil, Consumes-then, Consumes-keeps, Consumes-same}
-use Rattle.sim_printing.specs.Printed.{answers_in, Speaks}
-use Rattle.trace_player.specs.TextLaws.{breaks-append, lines_of-nil, play-nil, prepended-ends}
-use Rattle.sim_printing.specs.PrintLaws.{kept_assoc, Speaks-nil, Speaks-then}
+use Rattle.trace_player.specs.TextLaws.{lines_of-nil, play-nil, prepended-ends}
+use Rattle.trace_lines.specs.OneLine.{IsOfLine}
+use Rattle.trace_lines.specs.Lines.{PlaysAll, StopsAt, PlaysEach}
+use Rattle.sim_printing.specs.Printed.{answers_in, Speaks, Prints, PrintsScriptLine}
+use Rattle.sim_printing.specs.PrintLaws.{kept_in-append, Speaks-nil, Speaks-then}
 use Rattle.sim_run.specs.declared.player.ScriptPlayer.{ScriptPlayer}
-use Rattle.sim_run.specs.Simulated.{IsWaiting, kept_before, GoesOn, Feeds, Closes, SimTells, OnlyAtEnd, Simulates}
-use Rattle.sim_run.proofs.Feeding.{kept_none, kept_both, GoesOn-then}
+use Rattle.sim_run.specs.Simulated.{WritesLine, SimTells}
 
--- after some turns: what was read and written, and what the player makes of the rest
-pub record Simulating (left_old left_new held_old held_new : Option (List ℕ)) (player : ScriptPlayer) : Type 0 where
-  pub read : List ℕ
-  pub written : List ℕ
-  pub consumed : Consumes left_old left_new read
-  pub appended : Appends held_old held_new written
-  pub speaks : Speaks Nothing written player.script.progress
-  pub passed : (last : ℕ) (more : List ℕ) → player.line ≤ last
-      → kept_in (take (last - 1) (lines_of (read ++ more))) ≡ kept_in (lines_of written) ++ kept_before last player more
-  pub ready : IsWaiting player
-  pub counted : player.line ≡ 1 + breaks read
+-- what the script's player makes of a line
+abbrev pub writes : ScriptPlayer → ℕ → List ℕ → Result (Unit {0}) PlayFault → ScriptPlayer → List ℕ → Type 0
+writes old number text result new written = WritesLine (kept_in (text ∷ [])) old.script.progress result new.script.progress written
 
-pub Simulating-start : (left held : Option (List ℕ)) (player : ScriptPlayer) → player.script.progress ≡ Nothing → player.line ≡ 1
-    → player.pending.items ≡ []
-    → Simulating left left held held player
-Simulating-start left held player s l p = record {
-  read = [];
-  written = [];
-  consumed = Consumes-nil left;
-  appended = Appends-nil held;
-  speaks = subst (λ (w : Progress). Speaks Nothing [] w) (sym s) (Speaks-nil Nothing);
-  passed = λ last more le.
-      ap (λ n. kept_in (take (last - n) (lines_of more))) (sym l)
-      ∙ ap (λ v. kept_in (take (last - player.line) (lines_of (v ++ more)))) (sym p)
-      ∙ sym (ap (λ v. v ++ kept_before last player more) kept_none);
-  ready = (ap breaks p, omega (arith, ap length p));
-  counted = l;
-}
+kept_none : kept_in (lines_of []) ≡ []
+kept_none = ap kept_in lines_of-nil
+
+-- ---- a line
+
+-- what was printed onto nothing
+pub WritesLine-printed : (kept : List (Result Line TraceFault)) (old new : Progress) (before after : List ℕ) → before ≡ []
+    → Prints old before new after kept → WritesLine kept old (Ok tt) new after
+WritesLine-printed kept old new before after e prints =
+    let onto_nothing : Prints old [] new after kept = subst (λ (v : List ℕ). Prints old v new after kept) e prints in
+    let got = onto_nothing old (Speaks-nil old) in
+    (got.0, got.1 ∙ ap (λ v. v ++ kept) kept_none)
+
+-- a fault, at which nothing is written
+pub WritesLine-fault : (number : ℕ) (kept : List (Result Line TraceFault)) (old new : Progress) (before after : List ℕ) (fault : PlayFault)
+    → PrintsScriptLine number kept old before (Err fault) new after → WritesLine kept old (Err fault) new []
+WritesLine-fault number kept old new before after (Trace line fault) h = refl
+WritesLine-fault number kept old new before after NoMemory h = tt
+WritesLine-fault number kept old new before after Write h = absurd h
+WritesLine-fault number kept old new before after Read h = absurd h
+
+pub PrintsScriptLine-place : (number : ℕ) (kept : List (Result Line TraceFault)) (old new : Progress) (before after : List ℕ)
+    (fault : PlayFault) → PrintsScriptLine number kept old before (Err fault) new after → IsOfLine number (Err fault)
+PrintsScriptLine-place number kept old new before after (Trace line fault) h = h.0
+PrintsScriptLine-place number kept old new before after NoMemory h = tt
+PrintsScriptLine-place number kept old new before after Write h = tt
+PrintsScriptLine-place number kept old new before after Read h = h
+
+-- ---- lines
+
+-- all lines of a script: the trace has gone on, with their kept lines
+told_all : (texts : List (List ℕ)) (old new : ScriptPlayer) (number : ℕ) (written : List ℕ)
+    → PlaysAll writes old number texts new written
+    → Speaks old.script.progress written new.script.progress × (kept_in (lines_of written) ≡ kept_in texts)
+told_all [] old new number written h =
+    let first = old.script.progress in (
+      subst (λ (v : List ℕ). Speaks first v new.script.progress) (sym h.1)
+          (subst (λ (v : ScriptPlayer). Speaks first [] v.script.progress) (sym h.0) (Speaks-nil first)),
+      ap (λ v. kept_in (lines_of v)) h.1 ∙ kept_none,
+    )
+told_all (text ∷ texts) old new number written h =
+    let first = old.script.progress in
+    let mid = h.0.script.progress in
+    let rest = told_all texts h.0 new (number + 1) h.2 h.4 in (
+      subst (λ (v : List ℕ). Speaks first v new.script.progress) (sym h.5)
+          (Speaks-then first mid new.script.progress h.1 h.2 h.3.0 rest.0),
+      ap (λ v. kept_in (lines_of v)) h.5 ∙ ap kept_in (h.3.0.whole h.2) ∙ kept_in-append (lines_of h.1) (lines_of h.2)
+          ∙ ap (λ v. v ++ kept_in (lines_of h.2)) h.3.1 ∙ ap (λ v. kept_in (text ∷ []) ++ v) rest.1
+          ∙ sym (kept_in-append (text ∷ []) texts),
+    )
 
 -- whole lines that lead a trace on from its start, as a trace
-told_by : (text : List ℕ) → GoesOn Nothing text → played_of text ≡ played_text (answers_in (lines_of text)) None
-told_by text goes =
+told_by : (text : List ℕ) (first new : Progress) → first ≡ Nothing → Speaks first text new
+    → played_of text ≡ played_text (answers_in (lines_of text)) None
+told_by text first new start speaks =
     let said = answers_in (lines_of text) in
-    ap played_of (sym (append-nil text)) ∙ goes.1.plays 1 []
-    ∙ ap (λ ls. prepended said (play goes.0 (1 + breaks text) ls)) lines_of-nil
-    ∙ ap (prepended said) (play-nil goes.0 (1 + breaks text)) ∙ prepended-ends said None
+    ap played_of (sym (append-nil text)) ∙ ap (λ w. play w 1 (lines_of (text ++ []))) (sym start) ∙ speaks.plays 1 []
+    ∙ ap (λ ls. prepended said (play new (1 + breaks text) ls)) lines_of-nil
+    ∙ ap (prepended said) (play-nil new (1 + breaks text)) ∙ prepended-ends said None
 
-module _ (left_old left_mid left_new held_old held_mid held_new : Option (List ℕ)) (player : ScriptPlayer) (playing : Simulating left_old left_mid held_old held_mid player)
-    (piece added : List ℕ) (consumed : Consumes left_mid left_new piece) (appended : Appends held_mid held_new added) where
-  -- the kept lines of the script, by those of what was written and of what is still to be played
-  turn_passed : (last : ℕ) (more : List ℕ) → player.line ≤ last
-      → kept_in (take (last - 1) (lines_of ((playing.read ++ piece) ++ more)))
-      ≡ kept_in (lines_of playing.written) ++ kept_before last player (piece ++ more)
-  turn_passed last more le =
-      ap (λ v. kept_in (take (last - 1) (lines_of v))) (append_assoc playing.read piece more)
-      ∙ playing.passed last (piece ++ more) le
+-- nothing is written of a line that has a fault or is too long
+stopped : (old : ScriptPlayer) (number : ℕ) (lines : List (List ℕ)) (line : ℕ) (fault : TraceFault) (written : List ℕ)
+    → StopsAt writes old number lines (Trace line fault) written → written ≡ []
+stopped old number lines line fault written h = elim h.1 [ inl own ↦ own.4 | inr long ↦ long.2 ]
 
-  turn_both : kept_in (lines_of (playing.written ++ added)) ≡ kept_in (lines_of playing.written) ++ kept_in (lines_of added)
-  turn_both = kept_both Nothing player.script.progress playing.written added playing.speaks
+lines_before : (texts rest lines : List (List ℕ)) (line : ℕ) → lines ≡ texts ++ rest → line ≡ 1 + length texts
+    → take (line - 1) lines ≡ texts
+lines_before texts rest lines line e n =
+    let count : line - 1 ≡ length texts = omega (arith, n) in
+    ap (λ m. take m lines) count ∙ ap (take (length texts)) e ∙ take-append-le (length texts) texts rest (omega arith)
+    ∙ take_all (length texts) texts (omega arith)
 
-  pub Simulating-turn : (new : ScriptPlayer) → Feeds player piece (Ok tt) new added
-      → Simulating left_old left_new held_old held_new new
-  Simulating-turn new fed = record {
-    read = playing.read ++ piece;
-    written = playing.written ++ added;
-    consumed = Consumes-then left_old left_mid left_new playing.read piece playing.consumed consumed;
-    appended = Appends-then held_old held_mid held_new playing.written added playing.appended appended;
-    speaks = Speaks-then Nothing player.script.progress new.script.progress playing.written added playing.speaks fed.0;
-    passed = λ last more le.
-        let ours = kept_in (lines_of playing.written) in
-        let rest = kept_before last new more in
-        turn_passed last more (omega (arith, le, fed.3)) ∙ ap (λ v. ours ++ v) (fed.1 last more le)
-        ∙ sym (kept_assoc ours (kept_in (lines_of added)) rest) ∙ ap (λ v. v ++ rest) (sym turn_both);
-    ready = fed.2;
-    counted = omega (arith, playing.counted, fed.3, breaks-append playing.read piece);
-  }
+-- ---- a whole script
 
-  turn_simulates : (ended : Bool) (fault : PlayFault) → SimTells (playing.read ++ piece) (playing.written ++ added) (Err fault)
-      → Simulates left_old left_new held_old held_new ended (Err fault)
-  turn_simulates ended fault told = (
-    playing.read ++ piece,
-    playing.written ++ added,
-    Consumes-then left_old left_mid left_new playing.read piece playing.consumed consumed,
-    Appends-then held_old held_mid held_new playing.written added playing.appended appended,
-    told,
-    tt,
-  )
-
-  pub Simulates-fault : (new : ScriptPlayer) (ended : Bool) (fault : PlayFault) → Feeds player piece (Err fault) new added
-      → Simulates left_old left_new held_old held_new ended (Err fault)
-  Simulates-fault new ended (Trace line fault) fed = turn_simulates ended (Trace line fault) (
-    told_by (playing.written ++ added) (GoesOn-then Nothing player.script.progress playing.written added playing.speaks fed.0),
-    turn_both ∙ ap (λ v. kept_in (lines_of playing.written) ++ v) (sym (fed.1 []))
-        ∙ sym (turn_passed line [] fed.2)
-        ∙ ap (λ v. kept_in (take (line - 1) (lines_of v))) (append-nil (playing.read ++ piece)),
-  )
-  Simulates-fault new ended NoMemory fed = turn_simulates ended NoMemory tt
-  Simulates-fault new ended Write fed = turn_simulates ended Write tt
-  Simulates-fault new ended Read fed = absurd fed
-
--- a read that gave nothing
-pub Simulating-idle : (left_old left_mid left_new held_old held_new : Option (List ℕ)) (player : ScriptPlayer)
-    → Simulating left_old left_mid held_old held_new player
-    → Consumes left_mid left_new [] → Simulating left_old left_new held_old held_new player
-Simulating-idle left_old left_mid left_new held_old held_new player playing none = record {
-  read = playing.read;
-  written = playing.written;
-  consumed = Consumes-same left_old left_new _ _ (append-nil playing.read) (Consumes-then left_old left_mid left_new playing.read [] playing.consumed none);
-  appended = playing.appended;
-  speaks = playing.speaks;
-  passed = playing.passed;
-  ready = playing.ready;
-  counted = playing.counted;
-}
-
-module _ (left_old left_new held_old held_mid held_new : Option (List ℕ)) (player : ScriptPlayer) (playing : Simulating left_old left_new held_old held_mid player)
-    (added : List ℕ) (appended : Appends held_mid held_new added) where
-  last_both : kept_in (lines_of (playing.written ++ added)) ≡ kept_in (lines_of playing.written) ++ kept_in (lines_of added)
-  last_both = kept_both Nothing player.script.progress playing.written added playing.speaks
-
-  last_told : GoesOn player.script.progress added
-      → played_of (playing.written ++ added) ≡ played_text (answers_in (lines_of (playing.written ++ added))) None
-  last_told goes =
-      told_by (playing.written ++ added) (GoesOn-then Nothing player.script.progress playing.written added playing.speaks goes)
-
-  last_simulates : (ended : Bool) (result : Result (Unit {0}) PlayFault) → SimTells playing.read (playing.written ++ added) result
-      → OnlyAtEnd ended result
-      → Simulates left_old left_new held_old held_new ended result
-  last_simulates ended result told only = (
-    playing.read,
-    playing.written ++ added,
-    playing.consumed,
-    Appends-then held_old held_mid held_new playing.written added playing.appended appended,
-    told,
-    only,
-  )
-
-  pub Simulates-last : (ended : Bool) (result : Result (Unit {0}) PlayFault) → ended ≡ true → Closes player result added
-      → Simulates left_old left_new held_old held_new ended result
-  Simulates-last ended (Ok _) end closes =
-      let all = lines_of (playing.read ++ []) in
-      let past = 1 + player.line + length all in
-      last_simulates ended (Ok tt) (
-        last_told closes.0,
-        last_both ∙ ap (λ v. kept_in (lines_of playing.written) ++ v) (sym (closes.1 past (omega arith)))
-            ∙ sym (playing.passed past [] (omega arith))
-            ∙ ap kept_in (take_all (past - 1) all (omega arith))
-            ∙ ap (λ v. kept_in (lines_of v)) (append-nil playing.read),
-      ) end
-  Simulates-last ended (Err (Trace line fault)) end closes = last_simulates ended (Err (Trace line fault)) (
-    last_told closes.0,
-    last_both ∙ ap (λ v. kept_in (lines_of playing.written) ++ v) (sym closes.1)
-        ∙ sym (playing.passed line [] closes.2)
-        ∙ ap (λ v. kept_in (take (line - 1) (lines_of v))) (append-nil playing.read),
-  ) tt
-  Simulates-last ended (Err NoMemory) end closes = last_simulates ended (Err NoMemory) tt tt
-  Simulates-last ended (Err Write) end closes = last_simulates ended (Err Write) tt tt
-  Simulates-last ended (Err Read) end closes = absurd closes
-
--- a read that failed
-pub Simulates-read : (left_old left_mid left_new held_old held_new : Option (List ℕ)) (player : ScriptPlayer) (ended : Bool)
-    → Simulating left_old left_mid held_old held_new player
-    → Keeps left_mid left_new → Simulates left_old left_new held_old held_new ended (Err Read)
-Simulates-read left_old left_mid left_new held_old held_new player ended playing kept = (
-  playing.read,
-  playing.written,
-  Consumes-same left_old left_new _ _ (append-nil playing.read)
-      (Consumes-then left_old left_mid left_new playing.read [] playing.consumed (Consumes-keeps left_mid left_new kept)),
-  playing.appended,
-  tt,
-  tt,
-)
+pub SimTells-each : (first : ScriptPlayer) (read written : List ℕ) → first.script.progress ≡ Nothing
+    → (result : Result (Unit {0}) PlayFault) → PlaysEach writes first 1 (lines_of read) result written → SimTells read written result
+SimTells-each first read written start (Ok _) h =
+    let told = told_all (lines_of read) first h.0 1 written h.1 in
+    (told_by written first.script.progress h.0.script.progress start told.0, told.1)
+SimTells-each first read written start (Err (Trace line fault)) h =
+    let told = told_all h.texts first h.mid 1 h.before h.played in
+    let none = stopped h.mid (1 + length h.texts) h.rest line fault h.after h.stops in
+    let same : written ≡ h.before = h.joined ∙ ap (λ v. h.before ++ v) none ∙ append-nil h.before in
+    let kept = lines_before h.texts h.rest (lines_of read) line h.parted h.stops.0 in (
+      ap played_of same ∙ told_by h.before first.script.progress h.mid.script.progress start told.0
+          ∙ ap (λ v. played_text (answers_in (lines_of v)) None) (sym same),
+      ap (λ v. kept_in (lines_of v)) same ∙ told.1 ∙ ap kept_in (sym kept),
+    )
+SimTells-each first read written start (Err NoMemory) h = tt
+SimTells-each first read written start (Err Write) h = tt
+SimTells-each first read written start (Err Read) h = tt

@@ -1,6 +1,3 @@
-ghost use Rattle.std.specs.Prelude.{◌≡◌};
-ghost use Rattle.trace_run.specs.Play.{IsReady};
-
 mod run;
 
 use identity_slots::Provision;
@@ -12,6 +9,7 @@ use std::alloc::Global;
 use std::io;
 use std::io::{BufWriter, Read, Write};
 use std::process::Abort;
+use trace_lines::play_lines;
 use trace_player::{PlayFault, Progress, Watched};
 use trace_run::Player;
 use trace_words::TraceFault;
@@ -224,22 +222,17 @@ fn config(clock: u64) -> Option<Config> {
     Some(Config { network, clock })
 }
 
-fn feeds(alloc: Global, player: &mut Player, held: &mut Vec<u8>) -> bool
-    requires ready { IsReady player.old }
-    requires line { player.old.line ≡ 1 }
-{
+/// Whether these events are played to the end.
+fn plays_events(alloc: Global, player: &mut Player, held: &mut Vec<u8>) -> bool {
+    let mut reader = Watched::new(b"up 7\ntick 2\nup 7\nlost 7\ntick 1\n".as_slice());
     let mut writer = Watched::new(held);
-    let lines = b"up 7\ntick 2\nup 7\nlost 7\ntick 1\n".as_slice();
-    player.feed(alloc, lines, &mut writer) == Ok(())
+    play_lines(alloc, player, &mut reader, &mut writer) == Ok(())
 }
 
 /// Whether the clock's last tick is taken and the next is refused, and what comes between them is answered.
-fn ends_clock(alloc: Global, player: &mut Player) -> bool
-    requires ready { IsReady player.old }
-    requires line { player.old.line ≡ 1 }
-{
+fn ends_clock(alloc: Global, player: &mut Player) -> bool {
     let mut held = Vec::new(alloc);
-    feeds(alloc, player, &mut held)
+    plays_events(alloc, player, &mut held)
         && held.as_slice() == b"refused 3\nrefused 2\nrefused 3\n".as_slice()
 }
 
@@ -249,8 +242,6 @@ fn plays_to_end_of_clock(alloc: Global, config: Config) -> bool {
         Ok(mme) => {
             let mut player = Player {
                 progress: Progress::Running(mme),
-                line: 1,
-                pending: Vec::new(alloc),
                 room: Vec::new(alloc),
             };
             ends_clock(alloc, &mut player)

@@ -1,1 +1,3 @@
 pub mod Unbroken
+pub mod Feeding
+pub mod Running

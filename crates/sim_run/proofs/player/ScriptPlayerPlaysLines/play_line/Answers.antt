@@ -1,0 +1,28 @@
+use Rattle.std.proofs.Common.{[], ◌∷◌}
+use Rattle.sim_words.specs.Kept.{kept_in}
+use Rattle.trace_player.specs.OctetLaws.{Appends-nil, Appends-same}
+use Rattle.sim_run.proofs.Simulating.{WritesLine-printed, WritesLine-fault, PrintsScriptLine-place}
+use Rattle.sim_run.proofs.player.ScriptPlayerPlaysLines.play_line.Goals as goal
+
+pub returns-in-Err-clause-played : goal.returns-in-Err-clause-played
+returns-in-Err-clause-played g c =
+    let kept = kept_in (c.args.text.now ∷ []) in (
+      [],
+      Appends-nil _,
+      WritesLine-fault c.args.number kept c.args.self.now.script.progress c.play_script_line.new.script.progress c.new-out.result.items
+          c.play_script_line.new.out.items c.in-Err.fault c.in-Err.ensures,
+    )
+
+pub returns-in-Err-clause-fault : goal.returns-in-Err-clause-fault
+returns-in-Err-clause-fault g c =
+    PrintsScriptLine-place c.args.number (kept_in (c.args.text.now ∷ [])) c.args.self.now.script.progress
+    c.play_script_line.new.script.progress c.new-out.result.items c.play_script_line.new.out.items c.in-Err.fault c.in-Err.ensures
+
+pub returns-clause-played : goal.returns-clause-played
+returns-clause-played g c =
+    let kept = kept_in (c.args.text.now ∷ []) in
+    let out = c.play_script_line.new.out.items in
+    let printed =
+    WritesLine-printed kept c.args.self.now.script.progress c.play_script_line.new.script.progress c.new-out.result.items out
+    c.new-out.ensures.items c.in-Ok.ensures in
+    (out, Appends-same _ _ _ _ c.as_slice.ensures.value (c.write_whole.ensures.all c.if-not-write_whole.false), printed)

@@ -1,0 +1,15 @@
+use Rattle.std.proofs.Common.{Err, sym, subst}
+use Rattle.trace_player.specs.declared.fault.PlayFault.{PlayFault}
+use Rattle.trace_player.specs.Effects.{effect_of}
+use Rattle.trace_lines.specs.OneLine.{IsOfLine}
+use Rattle.trace_run.proofs.Played.{in_line-place, Acts-place}
+use Rattle.trace_run.proofs.player.PlayerPlaysLines.play_line.Goals as goal
+
+pub returns-in-Ok-clause-fault : goal.returns-in-Ok-clause-fault
+returns-in-Ok-clause-fault g c =
+    let acts = c.act_on_line.ensures.acts in
+    Acts-place c.args.number (effect_of c.args.self.now.progress c.in-Ok.line) c.act_on_line.result c.act_on_line.new.progress acts.0 acts.2
+
+pub returns-in-Err-clause-fault : goal.returns-in-Err-clause-fault
+returns-in-Err-clause-fault g c =
+    subst (λ (v : PlayFault). IsOfLine c.args.number (Err v)) (sym c.fault_in_line.ensures) (in_line-place c.args.number c.in-Err.fault)
