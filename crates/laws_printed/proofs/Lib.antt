@@ -1,0 +1,10 @@
+pub mod Lines
+pub mod Names
+pub mod Messages
+pub mod Played
+pub mod Owners
+pub mod Begun
+pub mod Slots
+pub mod Stations
+pub mod Strangers
+pub mod Two

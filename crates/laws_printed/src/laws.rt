@@ -1,0 +1,63 @@
+//! The laws: each is the contract of a function that does nothing.
+
+ghost use Rattle.laws_printed.specs.Laws.{NobodyIsPrinted, NobodyIsPrintedFrom, NothingIsPrinted, SameSlotIsPrinted, SameStationIsPrinted, SameStrangerIsPrinted, SlotIsPrinted, SlotIsPrintedFrom, StationIsPrinted, StationIsPrintedFrom, StrangerIsPrinted, StrangerIsPrintedFrom};
+
+use laws_runs::{
+    same_to_station, same_to_stranger, slots_run_alone, stations_run_alone, strangers_run_alone,
+};
+use laws_stations::everybody_is_placed;
+use laws_written::what_stations_tell_is_in_range;
+use mme_core::{ids_are_apart, same_to_slot, worlds_are_kept};
+
+/// A trace of which no line comes to an MME prints nothing.
+pub fn no_run_prints_nothing()
+    ensures { NothingIsPrinted }
+{}
+
+/// In what a trace prints, the lines of `sN` are those of slot N's machine over its projection of the trace; a slot that isn't
+/// provisioned has none. So of lines that any MME is given.
+pub fn slots_are_printed()
+    ensures trace { SlotIsPrinted }
+    ensures absent { NobodyIsPrinted }
+    ensures mme { SlotIsPrintedFrom }
+    ensures mme_absent { NobodyIsPrintedFrom }
+{
+    slots_run_alone();
+    ids_are_apart();
+}
+
+/// The lines of `xE.B` are those of the machine of the stranger with the number B at station E, over what the trace has for it.
+pub fn strangers_are_printed()
+    ensures trace { StrangerIsPrinted }
+    ensures mme { StrangerIsPrintedFrom }
+{
+    strangers_run_alone();
+    worlds_are_kept();
+    ids_are_apart();
+    everybody_is_placed();
+    what_stations_tell_is_in_range();
+}
+
+/// The lines of `eE` are those that station E's own events lead to.
+pub fn stations_are_printed()
+    ensures trace { StationIsPrinted }
+    ensures mme { StationIsPrintedFrom }
+{
+    stations_run_alone();
+    ids_are_apart();
+}
+
+/// Two traces that have the same items for a slot, where those that have nothing for it are left out, print the same lines for it;
+/// and so for a stranger, by what reaches it, and for a station, by its events.
+pub fn same_is_printed_alike()
+    ensures slot { SameSlotIsPrinted }
+    ensures stranger { SameStrangerIsPrinted }
+    ensures station { SameStationIsPrinted }
+{
+    slots_are_printed();
+    same_to_slot();
+    strangers_are_printed();
+    same_to_stranger();
+    stations_are_printed();
+    same_to_station();
+}
