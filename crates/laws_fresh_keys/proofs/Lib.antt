@@ -1,0 +1,6 @@
+mod Order
+mod Holding
+mod Actions
+mod Rows
+mod Runs
+mod OfMme
