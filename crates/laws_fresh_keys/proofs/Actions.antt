@@ -461,17 +461,17 @@ module _ {s : Setting} {f : RadioKey} where
           vector = h.vector;
           held = registered_holds s.vectors (after k) d.solo.phase d.solo.next_vector (Some (record x { radio = hopped x }))
               registered (
-            has.0,
-            of,
-            (
-              count,
-              suc moves,
-              holds.2,
-              holds.3,
-              ap (λ (keys : RadioKeys). hopped (record x { radio = keys })) holds.4 ∙ hopped_is moves x count,
-              hop_up x.place count (suc (suc moves) + 1) (suc (suc (suc moves))) (omega arith),
-            ),
-          );
+                has.0,
+                of,
+                (
+                  count,
+                  suc moves,
+                  holds.2,
+                  holds.3,
+                  ap (λ (keys : RadioKeys). hopped (record x { radio = keys })) holds.4 ∙ hopped_is moves x count,
+                  hop_up x.place count (suc (suc moves) + 1) (suc (suc (suc moves))) (omega arith),
+                ),
+              );
         };
         earlier = d.sent;
         keyless = h.keyless;
