@@ -36,8 +36,8 @@ impl<'a, const MIN: u64, const MAX: u64> BitString<'a, MIN, MAX> {
     /// The bits of these octets, of which there are from `MIN` to `MAX`; takes no memory.
     #[tactic(auto, unfolding(per_streams::specs::Bits::bits))]
     pub fn new(octets: &'a [u8]) -> Self
-        requires low { MIN ≤ 8 * length octets.entry.now }
-        requires high { 8 * length octets.entry.now ≤ MAX }
+        requires low { MIN ≤ 8 * length octets.now }
+        requires high { 8 * length octets.now ≤ MAX }
         ensures { result ≡ octet_bits octets.entry.now }
     {
         BitString {
