@@ -61,4 +61,4 @@ settled_many prepared.Nobody ws = refl
 settled_many (prepared.Subscriber x) ws = solo_many x.slot x.solo ws
 settled_many (prepared.Stranger id after x) ws = one_many x ws
 settled_many (prepared.Everyone notice xs) ws = stepped_many xs.items ws
-settled_many (prepared.Tick xs) ws = ticked_many xs.items ws
+settled_many (prepared.Tick ids xs) ws = ticked_many xs.items ws

@@ -12,9 +12,11 @@ use Rattle.stranger_machine.specs.declared.turn.Notice.TheVariants as notices
 use Rattle.stranger_machine.specs.Machine.{is_of_station, notes}
 use Rattle.stranger_machine.specs.Table.{noted, stranger_at, with_stranger}
 use Rattle.stranger_machine.specs.Turns.{after_of}
+use Rattle.mme_timers.specs.Waiting.{due_ids}
 use Rattle.subscriber_table.specs.SteppedView.{SteppedView}
 use Rattle.subscriber_table.specs.Touched.{IsFreeFor, KeepsPlace}
 use Rattle.subscriber_table.specs.Table.{IsCounting, due_slots, slots_stepped, step_at, subscriber_step, tick_settled}
+use Rattle.mme_owners.specs.Owners.{IsWaitAfter}
 use Rattle.mme_answering.specs.declared.out.Out.{Out}
 use Rattle.mme_answering.specs.declared.prepared.Prepared.{Prepared}
 use Rattle.mme_answering.specs.declared.prepared.Prepared.TheVariants as prepared
@@ -34,7 +36,7 @@ settled_subscribers prepared.Nobody ws = ws
 settled_subscribers (prepared.Subscriber x) ws = with_solo x.slot x.solo ws
 settled_subscribers (prepared.Stranger id after x) ws = with_one x ws
 settled_subscribers (prepared.Everyone notice xs) ws = with_stepped xs.items ws
-settled_subscribers (prepared.Tick xs) ws = tick_settled xs.items ws
+settled_subscribers (prepared.Tick ids xs) ws = tick_settled xs.items ws
 
 -- and the strangers
 abbrev pub settled_strangers : Prepared → List Known → List Known
@@ -42,11 +44,11 @@ settled_strangers prepared.Nobody ks = ks
 settled_strangers (prepared.Subscriber x) ks = ks
 settled_strangers (prepared.Stranger id after x) ks = with_stranger id (after_of after (stranger_at id ks)) ks
 settled_strangers (prepared.Everyone notice xs) ks = noted notice ks
-settled_strangers (prepared.Tick xs) ks = noted notices.Tick ks
+settled_strangers (prepared.Tick ids xs) ks = noted notices.Tick ks
 
--- and the clock of the tables of both
+-- and their clock
 abbrev pub settled_clock : Prepared → ℕ → ℕ
-settled_clock (prepared.Tick xs) clock = clock + 1
+settled_clock (prepared.Tick ids xs) clock = clock + 1
 settled_clock _ clock = clock
 
 -- it has one of the first n slots, and each of its countdowns that runs is in time
@@ -60,16 +62,17 @@ abbrev pub IsFitIf : ℕ → Option SteppedView → Type 0
 IsFitIf n None = Unit {0}
 IsFitIf n (Some x) = IsFit n x
 
--- each is that of a subscriber, at a tick they are those who are due, and any other notice is that of a station; at both each is
--- connected as it was, or no longer
-abbrev pub IsFor : Prepared → List SubscriberView → Type 0
-IsFor prepared.Nobody ws = Unit {0}
-IsFor (prepared.Subscriber x) ws = IsFit (length ws) x
-IsFor (prepared.Stranger id after x) ws = IsFitIf (length ws) x
-IsFor (prepared.Everyone notice xs) ws =
+-- each is that of a subscriber, at a tick they are those who are due, as the strangers are, and any other notice is that of a station;
+-- at both each is connected as it was, or no longer
+abbrev pub IsFor : Prepared → List Known → List SubscriberView → Type 0
+IsFor prepared.Nobody ks ws = Unit {0}
+IsFor (prepared.Subscriber x) ks ws = IsFit (length ws) x
+IsFor (prepared.Stranger id after x) ks ws = IsFitIf (length ws) x
+IsFor (prepared.Everyone notice xs) ks ws =
     AreFit (length ws) xs.items × (length xs.items ≤ length ws) × (is_of_station notice ≡ true) × Every (KeepsPlace ws) xs.items
-IsFor (prepared.Tick xs) ws =
+IsFor (prepared.Tick ids xs) ks ws =
     (slots_stepped xs.items ≡ due_slots ws) × Every (λ (x : SteppedView). IsCounting x.solo) xs.items × Every (KeepsPlace ws) xs.items
+    × (ids.items ≡ due_ids ks)
 
 -- and of one alone no other has the id of the connection that was prepared
 abbrev pub IsFreeIf : List SubscriberView → Option SteppedView → Type 0
@@ -81,19 +84,30 @@ IsPlaced (prepared.Subscriber x) ws = IsFreeFor ws x
 IsPlaced (prepared.Stranger id after x) ws = IsFreeIf ws x
 IsPlaced _ ws = Unit {0}
 
+-- a stranger that waits from now on has an id of one, and T3470 in time
+abbrev pub IsWaiting : Prepared → Type 0
+IsWaiting (prepared.Stranger id after x) = IsWaitAfter id after
+IsWaiting _ = Unit {0}
+
+-- for T3470 of how many strangers room is made
+abbrev pub starts_of : Prepared → ℕ
+starts_of (prepared.Stranger id after x) = 1
+starts_of (prepared.Tick ids xs) = length ids.items
+starts_of _ = 0
+
 -- for how many steps room is made
 abbrev pub steps_of : Prepared → ℕ
 steps_of prepared.Nobody = 0
 steps_of (prepared.Subscriber x) = 1
 steps_of (prepared.Stranger id after x) = 1
 steps_of (prepared.Everyone notice xs) = length xs.items
-steps_of (prepared.Tick xs) = length xs.items
+steps_of (prepared.Tick ids xs) = length xs.items
 
 -- ---- a tick
 
 -- a tick alone moves a clock, and only one below 2^62
 abbrev pub MayPass : Prepared → ℕ → Type 0
-MayPass (prepared.Tick xs) clock = clock < 2 ^ 62
+MayPass (prepared.Tick ids xs) clock = clock < 2 ^ 62
 MayPass _ clock = Unit {0}
 
 -- and it moves no further than another
@@ -107,7 +121,7 @@ is_own _ = true
 
 -- a tick was prepared only where everyone was told of one
 abbrev pub IsPassing : Destination → Prepared → Type 0
-IsPassing d (prepared.Tick xs) = d ≡ Everyone notices.Tick
+IsPassing d (prepared.Tick ids xs) = d ≡ Everyone notices.Tick
 IsPassing d _ = Unit {0}
 
 -- ---- what an item makes of those whom it is for

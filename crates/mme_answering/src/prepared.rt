@@ -13,6 +13,6 @@ pub enum Prepared {
     Stranger(AssociationId, After, Option<Stepped>),
     /// All strangers, and each subscriber whom the notice doesn't leave as it is.
     Everyone(Notice, Vec<Stepped>),
-    /// A tick for all strangers and all subscribers, of whom those who are due were prepared.
-    Tick(Vec<Stepped>),
+    /// A tick for all strangers, of whom it ends T3470 of these, and all subscribers, of whom those who are due were prepared.
+    Tick(Vec<AssociationId>, Vec<Stepped>),
 }

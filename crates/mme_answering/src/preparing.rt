@@ -14,7 +14,8 @@ ghost use Rattle.stranger_machine.specs.Table.{noted, stranger_at, with_stranger
 ghost use Rattle.stranger_machine.specs.Turns.{after_of, call_of};
 ghost use Rattle.subscriber_table.specs.declared.stepped.Stepped.{Stepped};
 ghost use Rattle.subscriber_table.specs.Laws.{some_give};
-ghost use Rattle.subscriber_table.specs.Table.{IsCounting, IsStepped, each_after, slots_stepped};
+ghost use Rattle.mme_timers.specs.Waiting.{due_ids};
+ghost use Rattle.subscriber_table.specs.Table.{IsCounting, IsStepped, due_slots, each_after, slots_stepped};
 ghost use Rattle.subscriber_table.specs.Touched.{touched_slots, KeepsPlace};
 ghost use Rattle.mme_routing.specs.Destinations.{Destination as DestinationInSpecs, Everyone, for_all, for_one, if_called, item_at, item_of_notice, strangers_left};
 ghost use Rattle.mme_routing.specs.Seen.{destination_of};
@@ -28,6 +29,7 @@ use crate::sending::{send_all, send_due};
 use identity_slots::{AssociationId, Provision, Slot};
 use laws_connections::connections_come_so;
 use laws_ends::clocks_are_kept;
+use mme_owners::{Due, Owners};
 use mme_routing::Destination;
 use mme_types::{EnbWorld, Entry, SoloEvent, UeMessage};
 use std::alloc::{AllocError, Global};
@@ -158,7 +160,7 @@ fn prepare_turn(
     ensures subscribers { IfOk result
         (λ p. settled_subscribers p subscribers.old.subscribers
         ≡ each_after (if_called (call_of stations.now turn.entry.call)) 0 subscribers.old.subscribers) }
-    ensures fits { IfOk result (λ p. IsFor p subscribers.old.subscribers) }
+    ensures fits { IfOk result (λ p. (ks : List Known) → IsFor p ks subscribers.old.subscribers) }
     ensures passing { IfOk result (λ p. (d : DestinationInSpecs) → IsPassing d p) }
     ensures same { subscribers.new ≡ subscribers.old }
 {
@@ -178,11 +180,14 @@ fn prepare_tick(
     alloc: Global,
     strangers: &Strangers,
     subscribers: &mut Subscribers,
+    due: Due,
     stations: &EnbWorld,
     event: &SoloEvent,
     outs: &mut Outs,
 ) -> Result<Prepared, AllocError>
     requires tick { item_of event.now stations.now ≡ items.Tick }
+    requires due_strangers { due.strangers.items ≡ due_ids strangers.now.strangers }
+    requires due_slots { due.slots.items ≡ due_slots subscribers.old.subscribers }
     requires in_use { AreInUse subscribers.old.subscribers }
     ensures sends { OnOk result
         (outs.new ≡ outs.old
@@ -191,16 +196,19 @@ fn prepare_tick(
         (λ p. settled_strangers p strangers.now.strangers ≡ noted notices.Tick strangers.now.strangers) }
     ensures subscribers { IfOk result
         (λ p. settled_subscribers p subscribers.old.subscribers ≡ each_after (for_all items.Tick) 0 subscribers.old.subscribers) }
-    ensures fits { IfOk result (λ p. IsFor p subscribers.old.subscribers) }
+    ensures fits { IfOk result (λ p. IsFor p strangers.now.strangers subscribers.old.subscribers) }
     ensures passing { IfOk result (λ p. IsPassing (Everyone notices.Tick) p) }
     ensures same { subscribers.new ≡ subscribers.old }
 {
     connections_come_so();
-    send_due(alloc, strangers, outs)?;
-    let due = subscribers.due()?;
-    let called = due.as_slice();
+    let Due {
+        strangers: ended,
+        slots,
+    } = due;
+    send_due(alloc, strangers, ended.as_slice(), outs)?;
+    let called = slots.as_slice();
     let stepped = prepare_each(alloc, subscribers, called, event, stations, outs)?;
-    Ok(Prepared::Tick(stepped))
+    Ok(Prepared::Tick(ended, stepped))
 }
 
 // What a notice of a station is to a subscriber.
@@ -280,7 +288,7 @@ fn prepare_beginner(
     ensures subscribers { IfOk result (λ p. settled_subscribers p subscribers.old.subscribers
         ≡ each_after (if_called
         (begins id (stranger_at id strangers.now.strangers) (entry_lists entry.now)).call) 0 subscribers.old.subscribers) }
-    ensures fits { IfOk result (λ p. IsFor p subscribers.old.subscribers) }
+    ensures fits { IfOk result (λ p. (ks : List Known) → IsFor p ks subscribers.old.subscribers) }
     ensures passing { IfOk result (λ p. (d : DestinationInSpecs) → IsPassing d p) }
     ensures same { subscribers.new ≡ subscribers.old }
 {
@@ -316,7 +324,7 @@ fn prepare_stranger(
         ≡ each_after (if_called
         (receives provision.now.profiles (stranger_at message.now.mme_ue_id strangers.now.strangers)
         (message_lists message.now)).call) 0 subscribers.old.subscribers) }
-    ensures fits { IfOk result (λ p. IsFor p subscribers.old.subscribers) }
+    ensures fits { IfOk result (λ p. (ks : List Known) → IsFor p ks subscribers.old.subscribers) }
     ensures passing { IfOk result (λ p. (d : DestinationInSpecs) → IsPassing d p) }
     ensures same { subscribers.new ≡ subscribers.old }
 {
@@ -348,7 +356,7 @@ fn prepare_own<'a>(
     ensures subscribers { IfOk result (λ p. settled_subscribers p subscribers.old.subscribers
         ≡ each_after (item_at (destination_of stations.now destination.now) provision.now.profiles
         (λ id. stranger_at id strangers.entry.now.strangers)) 0 subscribers.old.subscribers) }
-    ensures fits { IfOk result (λ p. IsFor p subscribers.old.subscribers) }
+    ensures fits { IfOk result (λ p. IsFor p strangers.entry.now.strangers subscribers.old.subscribers) }
     ensures passing { IfOk result (λ p. IsPassing (destination_of stations.now destination.now) p) }
     ensures same { subscribers.new ≡ subscribers.old }
 {
@@ -382,43 +390,46 @@ fn prepare_own<'a>(
 pub fn prepare<'a>(
     alloc: Global,
     provision: &Provision,
-    strangers: &'a Strangers,
-    subscribers: &mut Subscribers,
+    owners: &mut Owners,
     stations: &EnbWorld,
     destination: Destination<'a>,
     outs: &mut Outs,
 ) -> Result<Prepared, AllocError>
-    requires in_use { AreInUse subscribers.old.subscribers }
+    requires in_use { AreInUse owners.old.subscribers }
     ensures sends { OnOk result
         (outs.new ≡ outs.old
-        ++ (strangers_sent provision.now.profiles (destination_of stations.now destination.entry) strangers.entry.now.strangers
+        ++ (strangers_sent provision.now.profiles (destination_of stations.now destination.entry) owners.old.strangers
         ++ each_sent (item_at (destination_of stations.now destination.entry) provision.now.profiles
-        (λ id. stranger_at id strangers.entry.now.strangers)) 0 subscribers.old.subscribers)) }
+        (λ id. stranger_at id owners.old.strangers)) 0 owners.old.subscribers)) }
     ensures strangers { IfOk result
-        (λ p. settled_strangers p strangers.entry.now.strangers
-        ≡ strangers_left provision.now.profiles (destination_of stations.now destination.entry) strangers.entry.now.strangers) }
-    ensures subscribers { IfOk result (λ p. settled_subscribers p subscribers.old.subscribers
+        (λ p. settled_strangers p owners.old.strangers
+        ≡ strangers_left provision.now.profiles (destination_of stations.now destination.entry) owners.old.strangers) }
+    ensures subscribers { IfOk result (λ p. settled_subscribers p owners.old.subscribers
         ≡ each_after (item_at (destination_of stations.now destination.entry) provision.now.profiles
-        (λ id. stranger_at id strangers.entry.now.strangers)) 0 subscribers.old.subscribers) }
-    ensures fits { IfOk result (λ p. IsFor p subscribers.old.subscribers) }
+        (λ id. stranger_at id owners.old.strangers)) 0 owners.old.subscribers) }
+    ensures fits { IfOk result (λ p. IsFor p owners.old.strangers owners.old.subscribers) }
     ensures passing { IfOk result (λ p. IsPassing (destination_of stations.now destination.entry) p) }
-    ensures same { subscribers.new ≡ subscribers.old }
+    ensures same { owners.new ≡ owners.old }
 {
     match destination {
         Destination::Everyone(Notice::Tick) => {
+            let due = owners.due()?;
             let event = &SoloEvent::Tick;
-            prepare_tick(alloc, strangers, subscribers, stations, event, outs)
+            let strangers = &owners.strangers;
+            let subscribers = &mut owners.subscribers;
+            prepare_tick(alloc, strangers, subscribers, due, stations, event, outs)
         }
         Destination::Everyone(notice) => {
             let event = &event_of(&notice);
+            let subscribers = &mut owners.subscribers;
             let stepped = prepare_all(alloc, subscribers, stations, &notice, event, outs)?;
             Ok(Prepared::Everyone(notice, stepped))
         }
         own => prepare_own(
             alloc,
             provision,
-            strangers,
-            subscribers,
+            &owners.strangers,
+            &mut owners.subscribers,
             stations,
             &own,
             outs,

@@ -5,6 +5,7 @@ ghost use Rattle.std.specs.Option.{option_map_or};
 ghost use Rattle.sorted_list.specs.Ordered.{at};
 ghost use Rattle.stranger_machine.specs.Table.{known_id};
 ghost use Rattle.stranger_machine.specs.declared.turn.Notice.TheVariants.{Tick};
+ghost use Rattle.mme_timers.specs.Waiting.{due_ids};
 ghost use Rattle.stranger_table.specs.Laws.{some_known_give};
 ghost use Rattle.mme_answering.specs.Settled.{known_sent};
 ghost use Rattle.mme_answering.specs.Sending.{each_known, owner_out};
@@ -74,16 +75,18 @@ fn send_some(
     Ok(())
 }
 
-/// What those strangers send at a tick whose T3470 it ends, by id, after what is sent so far; the others send nothing.
+/// What the strangers send at a tick whose T3470 it ends, by id, where those are their ids, after what is sent so far; the others send
+/// nothing.
 pub(crate) fn send_due(
     alloc: Global,
     strangers: &Strangers,
+    due: &[AssociationId],
     outs: &mut Outs,
 ) -> Result<(), AllocError>
+    requires { due.now ≡ due_ids strangers.now.strangers }
     ensures { OnOk result (outs.new ≡ outs.old ++ each_known Tick strangers.now.strangers) }
 {
-    let due = strangers.due()?;
     // (that their ids rise)
     let _ = strangers.clock();
-    send_some(alloc, strangers, due.as_slice(), outs)
+    send_some(alloc, strangers, due, outs)
 }

@@ -1,12 +1,23 @@
 //! What was prepared is so.
 
-ghost use Rattle.std.specs.Prelude.{◌≡◌, OnOk, OnErr};
-ghost use Rattle.mme_answering.specs.Settled.{IsFor, IsPlaced, MayPass, settled_clock, settled_strangers, settled_subscribers, steps_of};
+ghost use Rattle.std.specs.Prelude.{◌≡◌, ◌<◌, ◌^◌, OnOk, OnErr};
+ghost use Rattle.mme_answering.specs.Settled.{IsFor, IsPlaced, IsWaiting, MayPass, settled_clock, settled_strangers, settled_subscribers, starts_of, steps_of};
 
 use crate::prepared::Prepared;
+use mme_owners::Owners;
 use std::alloc::AllocError;
-use stranger_table::Strangers;
-use subscriber_table::Subscribers;
+
+// For T3470 of how many strangers room is made.
+fn starts_of(prepared: &Prepared) -> usize
+    ensures value { result ≡ starts_of prepared.now }
+    ensures small { result < 2 ^ 63 }
+{
+    match prepared {
+        Prepared::Nobody | Prepared::Subscriber(_) | Prepared::Everyone(_, _) => 0,
+        Prepared::Stranger(_, _, _) => 1,
+        Prepared::Tick(due, _) => due.len(),
+    }
+}
 
 // For how many steps room is made.
 fn steps_of(prepared: &Prepared) -> usize
@@ -15,48 +26,41 @@ fn steps_of(prepared: &Prepared) -> usize
     match prepared {
         Prepared::Nobody => 0,
         Prepared::Subscriber(_) | Prepared::Stranger(_, _, _) => 1,
-        Prepared::Everyone(_, stepped) | Prepared::Tick(stepped) => stepped.len(),
+        Prepared::Everyone(_, stepped) | Prepared::Tick(_, stepped) => stepped.len(),
     }
 }
 
-/// Strangers and subscribers are what was prepared. Room for steps and for a stranger comes first; refused, all are as they were.
-pub fn settle(
-    strangers: &mut Strangers,
-    subscribers: &mut Subscribers,
-    prepared: Prepared,
-) -> Result<(), AllocError>
-    requires fits { IsFor prepared subscribers.old.subscribers }
-    requires placed { IsPlaced prepared subscribers.old.subscribers }
-    requires clock { MayPass prepared subscribers.old.clock }
-    requires strangers_clock { MayPass prepared strangers.old.clock }
-    ensures strangers { OnOk result (strangers.new.strangers ≡ settled_strangers prepared strangers.old.strangers) }
-    ensures strangers_clock { OnOk result (strangers.new.clock ≡ settled_clock prepared strangers.old.clock) }
-    ensures subscribers { OnOk result (subscribers.new.subscribers ≡ settled_subscribers prepared subscribers.old.subscribers) }
-    ensures clock { OnOk result (subscribers.new.clock ≡ settled_clock prepared subscribers.old.clock) }
-    ensures same_strangers { OnErr result (strangers.new ≡ strangers.old) }
-    ensures same_subscribers { OnErr result (subscribers.new.subscribers ≡ subscribers.old.subscribers) }
-    ensures same_clock { OnErr result (subscribers.new.clock ≡ subscribers.old.clock) }
+/// Strangers and subscribers are what was prepared. Room for countdowns, for steps and for a stranger comes first; refused, all are as
+/// they were.
+pub fn settle(owners: &mut Owners, prepared: Prepared) -> Result<(), AllocError>
+    requires fits { IsFor prepared owners.old.strangers owners.old.subscribers }
+    requires placed { IsPlaced prepared owners.old.subscribers }
+    requires waiting { IsWaiting prepared }
+    requires clock { MayPass prepared owners.old.clock }
+    ensures strangers { OnOk result (owners.new.strangers ≡ settled_strangers prepared owners.old.strangers) }
+    ensures subscribers { OnOk result (owners.new.subscribers ≡ settled_subscribers prepared owners.old.subscribers) }
+    ensures clock { OnOk result (owners.new.clock ≡ settled_clock prepared owners.old.clock) }
+    ensures same_strangers { OnErr result (owners.new.strangers ≡ owners.old.strangers) }
+    ensures same_subscribers { OnErr result (owners.new.subscribers ≡ owners.old.subscribers) }
+    ensures same_clock { OnErr result (owners.new.clock ≡ owners.old.clock) }
 {
     // (that there are no more of them than slots)
-    let _ = subscribers.len();
-    subscribers.reserve(steps_of(&prepared))?;
+    let _ = owners.len();
+    owners.reserve(starts_of(&prepared), steps_of(&prepared))?;
     match prepared {
         Prepared::Nobody => {}
-        Prepared::Subscriber(called) => subscribers.settle(called),
+        Prepared::Subscriber(called) => owners.settle(called),
         Prepared::Stranger(id, after, called) => {
-            strangers.settle(id, after)?;
+            owners.settle_stranger(id, after)?;
             if let Some(called) = called {
-                subscribers.settle(called);
+                owners.settle(called);
             }
         }
         Prepared::Everyone(notice, stepped) => {
-            strangers.note(&notice);
-            subscribers.settle_all(stepped);
+            owners.note(&notice);
+            owners.settle_all(stepped);
         }
-        Prepared::Tick(stepped) => {
-            strangers.tick();
-            subscribers.tick(stepped);
-        }
+        Prepared::Tick(due, stepped) => owners.tick(due, stepped),
     }
     Ok(())
 }

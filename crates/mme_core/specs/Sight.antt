@@ -2,7 +2,6 @@
 use Rattle.std.specs.Prelude.{ℕ, List}
 use Rattle.identity_slots.specs.declared.profile.Profile.{Profile}
 use Rattle.mme_types.specs.declared.stations.StationState.{StationState}
-use Rattle.stranger_machine.specs.declared.table.Known.{Known}
 use Rattle.mme_core.specs.declared.config.Config.{Config}
 
 pub record Sight : Type 0 where
@@ -10,8 +9,3 @@ pub record Sight : Type 0 where
   pub clock : ℕ
   pub stations : List StationState
   pub profiles : List Profile
-
--- and the strangers: all that an MME is but for its subscribers
-pub record Around : Type 0 where
-  pub sight : Sight
-  pub strangers : List Known

@@ -23,7 +23,8 @@ use Rattle.mme_core.specs.declared.event.StepFault.{StepFault}
 use Rattle.mme_core.specs.declared.event.StepFault.TheVariants.{NotUp, AlreadyUp, ClockSpent, NoMemory, UnknownImsi}
 use Rattle.mme_answering.specs.declared.out.Out.{Out}
 use Rattle.mme_answering.specs.declared.out.Owner.TheVariants.{Station}
-use Rattle.mme_core.specs.Sight.{Around, Sight}
+use Rattle.mme_core.specs.Sight.{Sight}
+use Rattle.mme_owners.specs.Owners.{OwnersView}
 use Rattle.mme_routing.specs.Destinations.{Destination, item_at, strangers_left}
 use Rattle.mme_routing.specs.Destinations as to
 use Rattle.mme_routing.specs.Outcomes.{Outcome, begins_anew, goes_to, outcome_of}
@@ -132,9 +133,9 @@ pub record World : Type 0 where
   pub strangers : List Known
   pub subscribers : List SubscriberView
 
--- an MME with these subscribers
-abbrev pub world_of : Around → List SubscriberView → World
-world_of a ws = record { sight = a.sight; strangers = a.strangers; subscribers = ws }
+-- an MME with these owners
+abbrev pub world_of : Sight → OwnersView → World
+world_of s o = record { sight = s; strangers = o.strangers; subscribers = o.subscribers }
 
 abbrev pub fresh_world : Config → Provisioned → World
 fresh_world config p = record {

@@ -28,7 +28,7 @@ ghost use Rattle.mme_core.specs.World.{clock_after, each_after, each_sent, event
 use crate::config::Config;
 use crate::event::{Event, StepFault};
 use crate::laws::{ids_are_apart, worlds_are_kept};
-use crate::provisioning::fresh_subscribers;
+use crate::provisioning::fresh_owners;
 use crate::station::{settle_station, station_outs};
 use emm_machine::{
     States, accepted_counts_are_fresh, in_use_is_kept, sent_counts_are_fresh,
@@ -42,43 +42,36 @@ use laws_admission::{
 use laws_apart::{associations_are_a_map, no_two_share_an_id};
 use laws_ends::{clocks_are_kept, silent_phones_end, strangers_are_closed};
 use mme_answering::{Outs, Prepared, prepare, settle};
+use mme_owners::Owners;
 use mme_routing::{Destination, Outcome, outcome_of};
 use mme_types::{Answers, EnbWorld, SharedNetwork, SoloEvent, StationNumber, StationState};
 use nas_elements::Imsi;
 use std::alloc::{AllocError, Global};
 use std::marker::Model;
 use stranger_machine::Notice;
-use stranger_table::Strangers;
-use subscriber_table::Subscribers;
 
 /// The last tick of the clock.
 const LAST_TICK: u64 = 1 << 62;
 
-/// What an MME is but for its subscribers; a contract sees what every owner may see, and the strangers that aren't closed.
+/// What an MME is but for its strangers and subscribers; a contract sees what every owner may see.
 #[derive(Drop)]
 pub(crate) struct Surroundings {
     config: Config,
     clock: u64,
     stations: EnbWorld,
     provision: Provision,
-    strangers: Strangers,
     alloc: Global,
 }
 
 impl Model for Surroundings {
-    ghost use Rattle.std.specs.Prelude.{◌≡◌, ◌≤◌, length};
-    ghost use Rattle.sorted_list.specs.Ordered.{Rising};
-    ghost use Rattle.stranger_machine.specs.Table.{known_id};
-    ghost use Rattle.mme_core.specs.Sight.{Around};
+    ghost use Rattle.std.specs.Prelude.{◌≡◌, length};
+    ghost use Rattle.mme_core.specs.Sight.{Sight};
 
-    ghost Value = { Around };
+    ghost Value = { Sight };
 
-    ghost view = { λ s. record {
-      sight = record { config = s.config; clock = s.clock; stations = s.stations; profiles = s.provision.profiles };
-      strangers = s.strangers.strangers;
-    } };
+    ghost view = { λ s. record { config = s.config; clock = s.clock; stations = s.stations; profiles = s.provision.profiles } };
 
-    ghost invariant = { λ s. (length s.stations ≡ 128) × Rising known_id s.strangers.strangers × (s.strangers.clock ≤ s.clock) };
+    ghost invariant = { λ s. length s.stations ≡ 128 };
 }
 
 /// An MME with its stations, strangers and subscribers; a contract sees what every owner may see, the strangers that aren't
@@ -86,7 +79,7 @@ impl Model for Surroundings {
 #[derive(Drop)]
 pub struct Mme {
     surroundings: Surroundings,
-    subscribers: Subscribers,
+    owners: Owners,
 }
 
 impl Model for Mme {
@@ -97,11 +90,11 @@ impl Model for Mme {
 
     ghost Value = { World };
 
-    ghost view = { λ m. world_of m.surroundings m.subscribers.subscribers };
+    ghost view = { λ m. world_of m.surroundings m.owners };
 
-    ghost invariant = { λ m. (m.subscribers.clock ≤ m.surroundings.sight.clock)
-        × IsKept (world_of m.surroundings m.subscribers.subscribers)
-        × AreApart (world_of m.surroundings m.subscribers.subscribers) };
+    ghost invariant = { λ m. (m.owners.clock ≤ m.surroundings.clock)
+        × IsKept (world_of m.surroundings m.owners)
+        × AreApart (world_of m.surroundings m.owners) };
 }
 
 /// What an event makes of the station that it is of, if it is of one, and of the clock.
@@ -132,7 +125,7 @@ impl Mme {
         ids_are_apart();
         let mut provision = provision;
         let network = SharedNetwork::new(alloc, config.network.clone()?)?;
-        let subscribers = fresh_subscribers(alloc, &network, &mut provision)?;
+        let owners = fresh_owners(alloc, &network, &mut provision)?;
         let stations = EnbWorld::new(alloc)?;
         let clock = config.clock;
         let surroundings = Surroundings {
@@ -140,12 +133,11 @@ impl Mme {
             clock,
             stations,
             provision,
-            strangers: Strangers::new(alloc, 0),
             alloc,
         };
         Ok(Mme {
             surroundings,
-            subscribers,
+            owners,
         })
     }
 
@@ -161,7 +153,7 @@ impl Mme {
         ensures value { result ≡ states_at slot self.now }
         ensures none { IsNone result ↔ (length self.now.sight.profiles ≤ slot) }
     {
-        self.subscribers.states(slot)
+        self.owners.states(slot)
     }
 
     /// What always holds: the strangers' ids rise and those that wait have ticks of T3470 left, there are 128 stations and as many
@@ -260,7 +252,7 @@ impl Mme {
     fn ready(&mut self, event: &Event<'_>) -> Result<Ready, StepFault>
         ensures reply { IfOk result (λ r. reply self.old event.now ≡ Ok r.outs) }
         ensures after { IfOk result (λ r. ready_world r self.old ≡ world_after self.old event.now) }
-        ensures fits { IfOk result (λ r. IsFor r.prepared self.old.subscribers) }
+        ensures fits { IfOk result (λ r. IsFor r.prepared self.old.strangers self.old.subscribers) }
         ensures in_time { IfOk result (λ r. IsInTime r.prepared self.old.sight.clock r.moves.clock) }
         ensures order { IfOk result (λ r. AreInOrder r.outs) }
         ensures accepted { OnOk result (event_fault self.old.sight event.now ≡ None) }
@@ -272,12 +264,12 @@ impl Mme {
     {
         worlds_are_kept();
         ids_are_apart();
-        self.surroundings.ready(&mut self.subscribers, event)
+        self.surroundings.ready(&mut self.owners, event)
     }
 
     // What was prepared is so. Room for steps and for a stranger comes first; refused, all is as it was.
     fn take(&mut self, ready: Ready) -> Result<Outs, StepFault>
-        requires fits { IsFor ready.prepared self.old.subscribers }
+        requires fits { IsFor ready.prepared self.old.strangers self.old.subscribers }
         requires in_time { IsInTime ready.prepared self.old.sight.clock ready.moves.clock }
         requires kept { IsKept (ready_world ready self.old) }
         requires apart { AreApart (ready_world ready self.old) }
@@ -287,21 +279,21 @@ impl Mme {
         ensures memory { IfErr result (λ fault. fault ≡ NoMemory) }
         ensures err { OnErr result (self.new ≡ self.old) }
     {
-        self.surroundings.take(&mut self.subscribers, ready)
+        self.surroundings.take(&mut self.owners, ready)
     }
 }
 
 impl Surroundings {
     // The slot of an IMSI, if it is provisioned.
     fn slot_of_imsi(&self, imsi: Imsi) -> Option<Slot>
-        ensures { result ≡ slot_of_imsi imsi self.now.sight.profiles }
+        ensures { result ≡ slot_of_imsi imsi self.now.profiles }
     {
         self.provision.slot_of_imsi(imsi)
     }
 
     // The slot of the IMSI that an event names, if it names one that is provisioned. It is looked up once for each event.
     fn slot_named(&self, event: &Event<'_>) -> Option<Slot>
-        ensures { result ≡ slot_named self.now.sight event.now }
+        ensures { result ≡ slot_named self.now event.now }
     {
         match event {
             Event::Data(imsi) | Event::Cancel(imsi) => self.slot_of_imsi(*imsi),
@@ -311,8 +303,8 @@ impl Surroundings {
 
     // Why an event is refused, want of memory apart, where that is the slot that it names.
     fn fault_of(&self, event: &Event<'_>, named: &Option<Slot>) -> Option<StepFault>
-        requires { named.now ≡ slot_named self.now.sight event.now }
-        ensures { result ≡ event_fault self.now.sight event.now }
+        requires { named.now ≡ slot_named self.now event.now }
+        ensures { result ≡ event_fault self.now event.now }
     {
         match event {
             Event::Up(station) => match self.stations.get(*station) {
@@ -338,8 +330,8 @@ impl Surroundings {
         event: &'a Event<'_>,
         named: &Option<Slot>,
     ) -> Result<Outcome<'a>, AllocError>
-        requires { named.now ≡ slot_named self.now.sight event.now }
-        ensures { IfOk result (λ h. seen_outcome self.entry.now.sight.stations h ≡ happens self.entry.now.sight event.entry.now) }
+        requires { named.now ≡ slot_named self.now event.now }
+        ensures { IfOk result (λ h. seen_outcome self.entry.now.stations h ≡ happens self.entry.now event.entry.now) }
     {
         match event {
             Event::Up(_) => Ok(Outcome {
@@ -389,9 +381,9 @@ impl Surroundings {
 
     // The clock after an event that isn't refused.
     fn clock_after(&self, event: &Event<'_>) -> u64
-        requires { event_fault self.now.sight event.now ≡ None }
-        ensures value { result ≡ clock_after self.now.sight.clock event.now }
-        ensures least { self.now.sight.clock ≤ result }
+        requires { event_fault self.now event.now ≡ None }
+        ensures value { result ≡ clock_after self.now.clock event.now }
+        ensures least { self.now.clock ≤ result }
     {
         match event {
             Event::Tick => self.clock + 1,
@@ -402,32 +394,31 @@ impl Surroundings {
     // What is to become of those whom an event goes to, on copies; what they send stands after what is sent so far.
     fn prepared<'a>(
         &'a self,
-        subscribers: &mut Subscribers,
+        owners: &mut Owners,
         destination: Destination<'a>,
         outs: &mut Outs,
     ) -> Result<Prepared, AllocError>
-        requires { AreInUse subscribers.old.subscribers }
+        requires { AreInUse owners.old.subscribers }
         ensures sends { OnOk result
             (outs.new ≡ outs.old
-            ++ (strangers_sent self.entry.now.sight.profiles
-            (destination_of self.entry.now.sight.stations destination.entry) self.entry.now.strangers
-            ++ each_sent (item_at (destination_of self.entry.now.sight.stations destination.entry) self.entry.now.sight.profiles
-            (λ id. stranger_at id self.entry.now.strangers)) 0 subscribers.old.subscribers)) }
-        ensures strangers { IfOk result (λ p. settled_strangers p self.entry.now.strangers
-            ≡ strangers_left self.entry.now.sight.profiles
-            (destination_of self.entry.now.sight.stations destination.entry) self.entry.now.strangers) }
-        ensures subscribers { IfOk result (λ p. settled_subscribers p subscribers.old.subscribers
-            ≡ each_after (item_at (destination_of self.entry.now.sight.stations destination.entry) self.entry.now.sight.profiles
-            (λ id. stranger_at id self.entry.now.strangers)) 0 subscribers.old.subscribers) }
-        ensures fits { IfOk result (λ p. IsFor p subscribers.old.subscribers) }
-        ensures passing { IfOk result (λ p. IsPassing (destination_of self.entry.now.sight.stations destination.entry) p) }
-        ensures same { subscribers.new ≡ subscribers.old }
+            ++ (strangers_sent self.entry.now.profiles
+            (destination_of self.entry.now.stations destination.entry) owners.old.strangers
+            ++ each_sent (item_at (destination_of self.entry.now.stations destination.entry) self.entry.now.profiles
+            (λ id. stranger_at id owners.old.strangers)) 0 owners.old.subscribers)) }
+        ensures strangers { IfOk result (λ p. settled_strangers p owners.old.strangers
+            ≡ strangers_left self.entry.now.profiles
+            (destination_of self.entry.now.stations destination.entry) owners.old.strangers) }
+        ensures subscribers { IfOk result (λ p. settled_subscribers p owners.old.subscribers
+            ≡ each_after (item_at (destination_of self.entry.now.stations destination.entry) self.entry.now.profiles
+            (λ id. stranger_at id owners.old.strangers)) 0 owners.old.subscribers) }
+        ensures fits { IfOk result (λ p. IsFor p owners.old.strangers owners.old.subscribers) }
+        ensures passing { IfOk result (λ p. IsPassing (destination_of self.entry.now.stations destination.entry) p) }
+        ensures same { owners.new ≡ owners.old }
     {
         prepare(
             self.alloc,
             &self.provision,
-            &self.strangers,
-            subscribers,
+            owners,
             &self.stations,
             destination,
             outs,
@@ -437,21 +428,22 @@ impl Surroundings {
     // What an event leads to, on copies.
     fn ready<'a>(
         &'a self,
-        subscribers: &mut Subscribers,
+        owners: &mut Owners,
         event: &'a Event<'_>,
     ) -> Result<Ready, StepFault>
-        requires { AreInUse subscribers.old.subscribers }
-        ensures reply { IfOk result (λ r. reply (world_of self.entry.now subscribers.old.subscribers) event.entry.now ≡ Ok r.outs) }
+        requires rising { Rising known_id owners.old.strangers }
+        requires in_use { AreInUse owners.old.subscribers }
+        ensures reply { IfOk result (λ r. reply (world_of self.entry.now owners.old) event.entry.now ≡ Ok r.outs) }
         ensures after { IfOk result
-            (λ r. ready_world r (world_of self.entry.now subscribers.old.subscribers)
-            ≡ world_after (world_of self.entry.now subscribers.old.subscribers) event.entry.now) }
-        ensures fits { IfOk result (λ r. IsFor r.prepared subscribers.old.subscribers) }
-        ensures in_time { IfOk result (λ r. IsInTime r.prepared self.entry.now.sight.clock r.moves.clock) }
+            (λ r. ready_world r (world_of self.entry.now owners.old)
+            ≡ world_after (world_of self.entry.now owners.old) event.entry.now) }
+        ensures fits { IfOk result (λ r. IsFor r.prepared owners.old.strangers owners.old.subscribers) }
+        ensures in_time { IfOk result (λ r. IsInTime r.prepared self.entry.now.clock r.moves.clock) }
         ensures order { IfOk result (λ r. AreInOrder r.outs) }
-        ensures accepted { OnOk result (event_fault self.entry.now.sight event.entry.now ≡ None) }
-        ensures refused { IfErr result (λ fault. (event_fault self.entry.now.sight event.entry.now ≡ Some fault)
-            ⊎ ((fault ≡ NoMemory) × (event_fault self.entry.now.sight event.entry.now ≡ None))) }
-        ensures same { subscribers.new ≡ subscribers.old }
+        ensures accepted { OnOk result (event_fault self.entry.now event.entry.now ≡ None) }
+        ensures refused { IfErr result (λ fault. (event_fault self.entry.now event.entry.now ≡ Some fault)
+            ⊎ ((fault ≡ NoMemory) × (event_fault self.entry.now event.entry.now ≡ None))) }
+        ensures same { owners.new ≡ owners.old }
     {
         let named = self.slot_named(event);
         if let Some(fault) = self.fault_of(event, &named) {
@@ -469,7 +461,7 @@ impl Surroundings {
             clock,
         };
         let mut outs = station_outs(self.alloc, moves.station, sent)?;
-        let prepared = self.prepared(subscribers, destination, &mut outs)?;
+        let prepared = self.prepared(owners, destination, &mut outs)?;
         Ok(Ready {
             moves,
             prepared,
@@ -478,22 +470,22 @@ impl Surroundings {
     }
 
     // What was prepared is so.
-    fn take(&mut self, subscribers: &mut Subscribers, ready: Ready) -> Result<Outs, StepFault>
-        requires fits { IsFor ready.prepared subscribers.old.subscribers }
-        requires clock { subscribers.old.clock ≤ self.old.sight.clock }
-        requires in_time { IsInTime ready.prepared self.old.sight.clock ready.moves.clock }
-        requires rising { Rising known_id (settled_strangers ready.prepared self.old.strangers) }
-        requires apart { IdsApart (settled_strangers ready.prepared self.old.strangers)
-            (settled_subscribers ready.prepared subscribers.old.subscribers) }
-        ensures after { OnOk result
-            (world_of self.new subscribers.new.subscribers ≡ ready_world ready (world_of self.old subscribers.old.subscribers)) }
-        ensures clock { OnOk result (subscribers.new.clock ≤ self.new.sight.clock) }
+    fn take(&mut self, owners: &mut Owners, ready: Ready) -> Result<Outs, StepFault>
+        requires fits { IsFor ready.prepared owners.old.strangers owners.old.subscribers }
+        requires clock { owners.old.clock ≤ self.old.clock }
+        requires in_time { IsInTime ready.prepared self.old.clock ready.moves.clock }
+        requires timed { Every IsKnownTimed (settled_strangers ready.prepared owners.old.strangers) }
+        requires apart { IdsApart (settled_strangers ready.prepared owners.old.strangers)
+            (settled_subscribers ready.prepared owners.old.subscribers) }
+        ensures after { OnOk result (world_of self.new owners.new ≡ ready_world ready (world_of self.old owners.old)) }
+        ensures clock { OnOk result (owners.new.clock ≤ self.new.clock) }
         ensures outs { IfOk result (λ outs. outs ≡ ready.outs) }
         ensures short { IfOk result (λ outs. AreShort outs) }
         ensures memory { IfErr result (λ fault. fault ≡ NoMemory) }
         ensures err { OnErr result (self.new ≡ self.old) }
-        ensures err_subscribers { OnErr result (subscribers.new.subscribers ≡ subscribers.old.subscribers) }
-        ensures err_clock { OnErr result (subscribers.new.clock ≡ subscribers.old.clock) }
+        ensures err_strangers { OnErr result (owners.new.strangers ≡ owners.old.strangers) }
+        ensures err_subscribers { OnErr result (owners.new.subscribers ≡ owners.old.subscribers) }
+        ensures err_clock { OnErr result (owners.new.clock ≡ owners.old.clock) }
     {
         no_two_share_an_id();
         let Ready {
@@ -501,7 +493,7 @@ impl Surroundings {
             prepared,
             outs,
         } = ready;
-        settle(&mut self.strangers, subscribers, prepared)?;
+        settle(owners, prepared)?;
         settle_station(&mut self.stations, moves.station, moves.state);
         self.clock = moves.clock;
         // The caller is told this of all messages.

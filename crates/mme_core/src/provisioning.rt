@@ -1,14 +1,14 @@
-//! The subscribers of a provisioning.
+//! The subscribers of a provisioning, and no strangers.
 
-ghost use Rattle.std.specs.Prelude.{◌≡◌, ◌<◌, ◌≤◌, length, IfOk, OnOk};
+ghost use Rattle.std.specs.Prelude.{◌≡◌, ◌<◌, ◌≤◌, [], length, IfOk, OnOk};
 ghost use Rattle.identity_slots.specs.Ids.{slots};
 ghost use Rattle.mme_core.specs.World.{fresh_subscribers};
 
 use emm_machine::Subscriber;
 use identity_slots::{Provision, Slot};
+use mme_owners::Owners;
 use mme_types::SharedNetwork;
 use std::alloc::{AllocError, Global};
-use subscriber_table::Subscribers;
 
 /// The slot of a place.
 pub(crate) fn slot_of(place: usize) -> Slot
@@ -18,14 +18,15 @@ pub(crate) fn slot_of(place: usize) -> Slot
     Slot::new(place as u32)
 }
 
-/// The subscribers of a provisioning, who were never seen; their vectors are taken out of it.
+/// No strangers, and the subscribers of a provisioning, who were never seen; their vectors are taken out of it.
 #[tactic(auto, unfolding(emm_machine::specs::Ticks::countdowns))]
-pub(crate) fn fresh_subscribers(
+pub(crate) fn fresh_owners(
     alloc: Global,
     network: &SharedNetwork,
     provision: &mut Provision,
-) -> Result<Subscribers, AllocError>
+) -> Result<Owners, AllocError>
     ensures clock { IfOk result (λ t. t.clock ≡ 0) }
+    ensures strangers { IfOk result (λ t. t.strangers ≡ []) }
     ensures value { IfOk result
         (λ t. t.subscribers ≡ fresh_subscribers network.now 0 provision.old.profiles provision.old.vectors) }
     ensures count { IfOk result (λ t. length t.subscribers ≡ length provision.old.profiles) }
@@ -33,12 +34,12 @@ pub(crate) fn fresh_subscribers(
     ensures profiles { OnOk result (provision.new.profiles ≡ provision.old.profiles) }
 {
     let count = provision.len();
-    let mut subscribers = Subscribers::new(alloc, 0);
+    let mut owners = Owners::new(alloc, 0);
     for place in 0..count {
         let slot = slot_of(place);
         let vectors = provision.take_vectors(slot);
         let profile = provision.profile(slot);
-        subscribers.push(Subscriber::new(alloc, network, slot, profile, vectors)?)?;
+        owners.push(Subscriber::new(alloc, network, slot, profile, vectors)?)?;
     }
-    Ok(subscribers)
+    Ok(owners)
 }

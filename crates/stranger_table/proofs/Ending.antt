@@ -15,10 +15,9 @@ use Rattle.stranger_machine.specs.TickLaws.{aged_again, quiet_notice}
 use Rattle.stranger_machine.specs.Ticks.{IsAsleep, is_ending, stranger_aged}
 use Rattle.stranger_machine.specs.Turns.{Turn}
 use Rattle.stranger_table.specs.declared.sleeper.Sleeper.{Sleeper}
-use Rattle.stranger_table.specs.Ended.{AreAround, IsAround, IsEnding, all_ended, is_met, met_ids, row_if, sleeper_ended, sleeper_ticked, stays_ticked, touched_at}
-use Rattle.stranger_table.specs.Queued.{deadline_in, deadline_of}
+use Rattle.mme_timers.specs.Waiting.{due_ids}
+use Rattle.stranger_table.specs.Ended.{AreAround, IsAround, IsEnding, all_ended, deadline_in, deadline_of, is_met, met_ids, row_if, sleeper_ended, sleeper_ticked, stays_ticked, touched_at}
 use Rattle.stranger_table.specs.Rows.{AreSleeping, IsSleeping, Row, all_now, row_id, sleeper_now, with_row}
-use Rattle.stranger_table.specs.Table.{due_ids}
 use Rattle.stranger_table.proofs.Now.{every_put, touched_now}
 
 -- ---- whom the next tick meets
@@ -27,15 +26,15 @@ met_by : (c t l : ℕ) (b : Bool) → nat_lt 1 (l - (c - t)) ≡ b → t ≤ c �
 met_by c t l true e le a = grind (arith, nat_tests)
 met_by c t l false e le a = grind (arith, nat_tests)
 
-met_in : (c i t : ℕ) (s : Stranger) → t ≤ c → IsAsleep (c - t) s
-    → is_met (c + 1) (deadline_in i t s) ≡ is_ending (stranger_aged (c - t) s)
-met_in c i t (Held slot) le a = refl
-met_in c i t (Waiting k l r) le a = met_by c t l (nat_lt 1 (l - (c - t))) refl le a
+met_in : (c t : ℕ) (s : Stranger) → t ≤ c → IsAsleep (c - t) s
+    → is_met (c + 1) (deadline_in t s) ≡ is_ending (stranger_aged (c - t) s)
+met_in c t (Held slot) le a = refl
+met_in c t (Waiting k l r) le a = met_by c t l (nat_lt 1 (l - (c - t))) refl le a
 
 -- they are those whose T3470 it ends
 pub met_is_ending : (clock : ℕ) (r : Row) → IsSleeping clock r.sleeper
-    → is_met (clock + 1) (deadline_of r.id r.sleeper) ≡ is_ending (sleeper_now clock r.sleeper)
-met_is_ending clock r h = met_in clock r.id r.sleeper.touched r.sleeper.stranger h.past h.asleep
+    → is_met (clock + 1) (deadline_of r.sleeper) ≡ is_ending (sleeper_now clock r.sleeper)
+met_is_ending clock r h = met_in clock r.sleeper.touched r.sleeper.stranger h.past h.asleep
 
 pub met_is_due : (clock : ℕ) (rs : List Row) → AreSleeping clock rs → met_ids (clock + 1) rs ≡ due_ids (all_now clock rs)
 met_is_due clock [] h = refl
@@ -82,9 +81,9 @@ all_ended_now clock (r ∷ rs) h =
 -- ---- one of them
 
 -- one that the tick touched isn't met by it
-fresh_in : (id next : ℕ) (x : Stranger) → is_met next (deadline_in id next x) ≡ false
-fresh_in id next (Held slot) = refl
-fresh_in id next (Waiting k l r) = let over : next < next + (l - 1 + 1) = omega arith in grind (arith, nat_tests)
+fresh_in : (next : ℕ) (x : Stranger) → is_met next (deadline_in next x) ≡ false
+fresh_in next (Held slot) = refl
+fresh_in next (Waiting k l r) = let over : next < next + (l - 1 + 1) = omega arith in grind (arith, nat_tests)
 
 over_at : (n id : ℕ) (r : Row) (rs : List Row) → AllOver row_id n rs → at row_id id rs ≡ Some r → n < id
 over_at n id r [] o h = absurd cc
@@ -104,17 +103,17 @@ here next id None y ys e =
 here next id (Some x) y ys e =
     let new : Row = record { id = id; sleeper = record { stranger = x; touched = next } } in
     let there : put row_id new (y ∷ ys) ≡ new ∷ ys = grind (arith, nat_tests) in
-    ap (all_ended next) there ∙ rw (fresh_in id next x) refl
+    ap (all_ended next) there ∙ rw (fresh_in next x) refl
 
 step_by : (next id : ℕ) (r y : Row) (ys : List Row) (b : Bool) → (y.id == id) ≡ b → Rising row_id (y ∷ ys)
-    → cond b (Some y) (at row_id id ys) ≡ Some r → is_met next (deadline_of id r.sleeper) ≡ true
+    → cond b (Some y) (at row_id id ys) ≡ Some r → is_met next (deadline_of r.sleeper) ≡ true
     → (at row_id id ys ≡ Some r → all_ended next (with_row id (sleeper_ended id next r.sleeper) ys) ≡ all_ended next ys)
     → all_ended next (with_row id (sleeper_ended id next r.sleeper) (y ∷ ys)) ≡ all_ended next (y ∷ ys)
 step_by next id r y ys true e h q met ih =
     let same : y ≡ r = cc in
     let own : y.id ≡ id = eqb-true _ _ e in
-    let its : is_met next (deadline_of y.id y.sleeper) ≡ true =
-    ap (λ i. is_met next (deadline_of i y.sleeper)) own ∙ ap (λ (z : Row). is_met next (deadline_of id z.sleeper)) same ∙ met in
+    let its : is_met next (deadline_of y.sleeper) ≡ true =
+    ap (λ (z : Row). is_met next (deadline_of z.sleeper)) same ∙ met in
     here next id (notes id (Some (sleeper_now (next - 1) r.sleeper)) Tick).stranger y ys own
     ∙ ap (λ (z : Row). row_if id (sleeper_ended id next z.sleeper) (all_ended next ys)) (sym same)
     ∙ ap (λ i. row_if i (sleeper_ended i next y.sleeper) (all_ended next ys)) (sym own)
@@ -122,14 +121,64 @@ step_by next id r y ys true e h q met ih =
 step_by next id r y ys false e h q met ih =
     let lt : y.id < id = over_at y.id id r ys h.0 q in
     ap (all_ended next) (past id (sleeper_ended id next r.sleeper) y ys lt)
-    ∙ ap (λ zs. cond (is_met next (deadline_of y.id y.sleeper)) (row_if y.id (sleeper_ended y.id next y.sleeper) zs) (y ∷ zs))
+    ∙ ap (λ zs. cond (is_met next (deadline_of y.sleeper)) (row_if y.id (sleeper_ended y.id next y.sleeper) zs) (y ∷ zs))
     (ih q)
 
 pub ended_step : (next id : ℕ) (r : Row) (rs : List Row) → Rising row_id rs → at row_id id rs ≡ Some r
-    → is_met next (deadline_of id r.sleeper) ≡ true
+    → is_met next (deadline_of r.sleeper) ≡ true
     → all_ended next (with_row id (sleeper_ended id next r.sleeper) rs) ≡ all_ended next rs
 ended_step next id r [] h q met = absurd cc
 ended_step next id r (y ∷ ys) h q met = step_by next id r y ys (y.id == id) refl h q met (λ p. ended_step next id r ys h.1 p met)
+
+-- the first of them, by id, and those who are left once it has taken it
+pub record IsFirst (next id : ℕ) (ids : List ℕ) (rs : List Row) : Type 0 where
+  pub row : Row
+  pub there : at row_id id rs ≡ Some row
+  pub met : is_met next (deadline_of row.sleeper) ≡ true
+  pub rest : met_ids next (with_row id (sleeper_ended id next row.sleeper) rs) ≡ ids
+
+here_met : (next id : ℕ) (o : Option Stranger) (y : Row) (ys : List Row) → y.id ≡ id
+    → met_ids next (with_row id (option_map (touched_at next) o) (y ∷ ys)) ≡ met_ids next ys
+here_met next id None y ys e =
+    let goes : without row_id id (y ∷ ys) ≡ ys = grind (arith, nat_tests) in
+    ap (met_ids next) goes
+here_met next id (Some x) y ys e =
+    let new : Row = record { id = id; sleeper = record { stranger = x; touched = next } } in
+    let there : put row_id new (y ∷ ys) ≡ new ∷ ys = grind (arith, nat_tests) in
+    ap (met_ids next) there ∙ rw (fresh_in next x) refl
+
+first_by : (next id : ℕ) (ids : List ℕ) (y : Row) (ys : List Row) (b : Bool) → is_met next (deadline_of y.sleeper) ≡ b
+    → Rising row_id (y ∷ ys) → cond b (y.id ∷ met_ids next ys) (met_ids next ys) ≡ id ∷ ids
+    → (met_ids next ys ≡ id ∷ ids → IsFirst next id ids ys) → IsFirst next id ids (y ∷ ys)
+first_by next id ids y ys true e h q ih =
+    let own : y.id ≡ id = cc in
+    let left : met_ids next ys ≡ ids = cc in
+    let same : (y.id == id) ≡ true = grind (arith, nat_tests) in
+    record {
+      row = y;
+      there = rw same refl;
+      met = e;
+      rest = here_met next id (notes id (Some (sleeper_now (next - 1) y.sleeper)) Tick).stranger y ys own ∙ left;
+    }
+first_by next id ids y ys false e h q ih =
+    let f = ih q in
+    let lt : y.id < id = over_at y.id id f.row ys h.0 f.there in
+    let other : (y.id == id) ≡ false = grind (arith, nat_tests) in
+    record {
+      row = f.row;
+      there = rw other f.there;
+      met = f.met;
+      rest =
+          ap (met_ids next) (past id (sleeper_ended id next f.row.sleeper) y ys lt)
+          ∙ ap (λ b. cond b (y.id ∷ met_ids next (with_row id (sleeper_ended id next f.row.sleeper) ys)) (met_ids next (with_row id (sleeper_ended id next f.row.sleeper) ys))) e
+          ∙ f.rest;
+    }
+
+pub first_met : (next id : ℕ) (ids : List ℕ) (rs : List Row) → Rising row_id rs → met_ids next rs ≡ id ∷ ids
+    → IsFirst next id ids rs
+first_met next id ids [] h q = absurd (cc)
+first_met next id ids (y ∷ ys) h q =
+    first_by next id ids y ys (is_met next (deadline_of y.sleeper)) refl h q (first_met next id ids ys h.1)
 
 -- ---- the tick is under way
 
@@ -159,17 +208,17 @@ sleeping_around clock (r ∷ rs) h =
     (record { past = omega arith; asleep = subst (λ n. IsAsleep (n - r.sleeper.touched) r.sleeper.stranger) (sym (back clock)) h.0.asleep }, sleeping_around clock rs h.1)
 
 -- one whom it ends hasn't taken it
-past_in : (next id t : ℕ) (s : Stranger) → is_met next (deadline_in id t s) ≡ true → t < next
-past_in next id t (Held slot) m = cc
-past_in next id t (Waiting k l r) m = let le : t + (l - 1 + 1) ≤ next = grind (arith, nat_tests) in omega arith
+past_in : (next t : ℕ) (s : Stranger) → is_met next (deadline_in t s) ≡ true → t < next
+past_in next t (Held slot) m = cc
+past_in next t (Waiting k l r) m = let le : t + (l - 1 + 1) ≤ next = grind (arith, nat_tests) in omega arith
 
-pub met_ending : (next id : ℕ) (s : Sleeper) → is_met next (deadline_of id s) ≡ true → IsAround next s → IsEnding next s
-met_ending next id s m a = record { past = past_in next id s.touched s.stranger m; asleep = a.asleep }
+pub met_ending : (next : ℕ) (s : Sleeper) → is_met next (deadline_of s) ≡ true → IsAround next s → IsEnding next s
+met_ending next s m a = record { past = past_in next s.touched s.stranger m; asleep = a.asleep }
 
 -- and ends where it ends nobody
-sleeps_in : (next id t : ℕ) (s : Stranger) → is_met next (deadline_in id t s) ≡ false → t ≤ next → IsAsleep (next - t) s
-sleeps_in next id t (Held slot) m le = tt
-sleeps_in next id t (Waiting k l r) m le =
+sleeps_in : (next t : ℕ) (s : Stranger) → is_met next (deadline_in t s) ≡ false → t ≤ next → IsAsleep (next - t) s
+sleeps_in next t (Held slot) m le = tt
+sleeps_in next t (Waiting k l r) m le =
     let lt : next < t + (l - 1 + 1) = grind (arith, nat_tests) in
     let less : next - t < l - 1 + 1 = omega arith in
     less
@@ -178,18 +227,18 @@ pub record IsOver (next : ℕ) (rs : List Row) : Type 0 where
   pub same : all_ended next rs ≡ rs
   pub sleeping : AreSleeping next rs
 
-over_by : (next : ℕ) (r : Row) (rs : List Row) (b : Bool) → is_met next (deadline_of r.id r.sleeper) ≡ b → IsAround next r.sleeper
+over_by : (next : ℕ) (r : Row) (rs : List Row) (b : Bool) → is_met next (deadline_of r.sleeper) ≡ b → IsAround next r.sleeper
     → cond b (r.id ∷ met_ids next rs) (met_ids next rs) ≡ []
     → (met_ids next rs ≡ [] → IsOver next rs) → IsOver next (r ∷ rs)
 over_by next r rs true e a h ih = absurd cc
 over_by next r rs false e a h ih = record {
   same = rw e (ap (λ zs. r ∷ zs) (ih h).same);
-  sleeping = (record { past = a.past; asleep = sleeps_in next r.id r.sleeper.touched r.sleeper.stranger e a.past }, (ih h).sleeping);
+  sleeping = (record { past = a.past; asleep = sleeps_in next r.sleeper.touched r.sleeper.stranger e a.past }, (ih h).sleeping);
 }
 
 pub is_over : (next : ℕ) (rs : List Row) → AreAround next rs → met_ids next rs ≡ [] → IsOver next rs
 is_over next [] a h = record { same = refl; sleeping = tt }
-is_over next (r ∷ rs) a h = over_by next r rs (is_met next (deadline_of r.id r.sleeper)) refl a.0 h (λ q. is_over next rs a.1 q)
+is_over next (r ∷ rs) a h = over_by next r rs (is_met next (deadline_of r.sleeper)) refl a.0 h (λ q. is_over next rs a.1 q)
 
 -- ---- what it leaves of one
 

@@ -1,9 +1,5 @@
 pub mod Kept
-pub mod Unchanged
-pub mod Queueing
-pub mod Fronts
 pub mod Now
 pub mod Ending
-pub mod Noting
 pub mod Stepping
 pub mod Passing

@@ -1,6 +1,6 @@
 -- What a change of what is kept makes of the strangers as they are now.
 use Rattle.std.proofs.Common.{◌≡◌, ℕ, ◌+◌, ◌-◌, ◌<◌, ◌≤◌, ◌^◌, List, [], ◌∷◌, Option, Some, None, refl, sym, ◌∙◌, ap, subst, arith}
-use Rattle.std.specs.Prelude.{nat_lt, Bool, true, false, cond, option_map}
+use Rattle.std.specs.Prelude.{nat_lt, not, Bool, true, false, cond, option_map, IsSome}
 use Rattle.sorted_list.specs.Ordered.{add, at, put, without, Rising, Every}
 use Rattle.sorted_list.specs.Indexed.{every-add, every-without, every_at, at-map, map-add, map-without, put_is_add, rising-map}
 use Rattle.sorted_list.specs.Sorted.{lowest_from}
@@ -69,11 +69,6 @@ awake_by n (Waiting k left repeats) e = let lt : n < left - 1 + 1 = omega arith 
 pub just_awake : (clock : ℕ) (x : Stranger) → IsSleeping clock (record { stranger = x; touched = clock })
 just_awake clock x = record { past = omega arith; asleep = awake_by (clock - clock) x (omega arith) }
 
-pub touched_small : (clock : ℕ) (rs : List Row) → clock ≤ 2 ^ 62 → AreSleeping clock rs
-    → Every (λ (r : Row). r.sleeper.touched ≤ 2 ^ 62) rs
-touched_small clock [] le h = tt
-touched_small clock (r ∷ rs) le h = let past = h.0.past in (omega arith, touched_small clock rs le h.1)
-
 sleeping_by : (clock id : ℕ) (s : Sleeper) (rs : List Row) (o : Option Row) → at row_id id rs ≡ o
     → option_map (λ (r : Row). r.sleeper) o ≡ Some s → AreSleeping clock rs → IsSleeping clock s
 sleeping_by clock id s rs None h q all = absurd cc
@@ -85,13 +80,10 @@ pub sleeping_at : (clock id : ℕ) (s : Sleeper) (rs : List Row) → sleeper_at 
     → IsSleeping clock s
 sleeping_at clock id s rs q all = sleeping_by clock id s rs (at row_id id rs) refl q all
 
-small_by : (id : ℕ) (s : Sleeper) (rs : List Row) (o : Option Row) → at row_id id rs ≡ o
-    → option_map (λ (r : Row). r.sleeper) o ≡ Some s → Every (λ (r : Row). r.sleeper.touched ≤ 2 ^ 62) rs → s.touched ≤ 2 ^ 62
-small_by id s rs None h q all = absurd cc
-small_by id s rs (Some r) h q all =
-    let same : r.sleeper ≡ s = cc in
-    subst (λ (x : Sleeper). x.touched ≤ 2 ^ 62) same (every_at (λ (x : Row). x.sleeper.touched ≤ 2 ^ 62) row_id id r rs h all)
+pub not_not : (a b : Bool) → a ≡ not b → not a ≡ b
+not_not a true h = ap not h
+not_not a false h = ap not h
 
-pub small_at : (id : ℕ) (s : Sleeper) (rs : List Row) → sleeper_at id rs ≡ Some s
-    → Every (λ (r : Row). r.sleeper.touched ≤ 2 ^ 62) rs → s.touched ≤ 2 ^ 62
-small_at id s rs q all = small_by id s rs (at row_id id rs) refl q all
+pub none_there : (o : Option Stranger) → o ≡ None → IsSome o → ⊥
+none_there None e h = cc
+none_there (Some s) e h = cc

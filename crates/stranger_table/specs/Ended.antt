@@ -1,25 +1,32 @@
 -- What a tick makes of those whose T3470 it ends, and what always holds of a table.
-use Rattle.std.specs.Prelude.{◌≡◌, ℕ, ◌-◌, ◌<◌, ◌≤◌, ◌^◌, nat_le, if◌then◌else◌, Bool, false, List, [], ◌∷◌, Option, Some, None, option_map}
+use Rattle.std.specs.Prelude.{ℕ, ◌+◌, ◌-◌, ◌<◌, ◌≤◌, nat_le, if◌then◌else◌, Bool, false, List, [], ◌∷◌, Option, Some, None, option_map}
 use Rattle.sorted_list.specs.Ordered.{Every}
 use Rattle.stranger_machine.specs.declared.state.Stranger.{Stranger}
+use Rattle.stranger_machine.specs.declared.state.Stranger.TheVariants.{Waiting, Held}
 use Rattle.stranger_machine.specs.declared.turn.Notice.TheVariants.{Tick}
 use Rattle.stranger_machine.specs.Machine.{notes}
 use Rattle.stranger_machine.specs.Table.{passed, stays_open}
-use Rattle.stranger_machine.specs.Ticks.{IsAsleep}
-use Rattle.stranger_table.specs.declared.queue.Deadline.{Deadline}
+use Rattle.stranger_machine.specs.Ticks.{IsAsleep, ends_in}
 use Rattle.stranger_table.specs.declared.sleeper.Sleeper.{Sleeper}
-use Rattle.stranger_table.specs.Queued.{deadline_of, queued}
 use Rattle.stranger_table.specs.Rows.{AreRows, AreSleeping, Row, sleeper_at, sleeper_now, with_row}
 
+-- the clock at which its T3470 ends, if it waits
+abbrev pub deadline_in : ℕ → Stranger → Option ℕ
+deadline_in touched (Waiting k left repeats) = Some (touched + ends_in left)
+deadline_in touched (Held slot) = None
+
+abbrev pub deadline_of : Sleeper → Option ℕ
+deadline_of s = deadline_in s.touched s.stranger
+
 -- the tick at the clock `next` ends it
-abbrev pub is_met : ℕ → Option Deadline → Bool
+abbrev pub is_met : ℕ → Option ℕ → Bool
 is_met next None = false
-is_met next (Some e) = nat_le e.deadline next
+is_met next (Some deadline) = nat_le deadline next
 
 -- the ids of those whom it ends
 abbrev pub met_ids : ℕ → List Row → List ℕ
 met_ids next [] = []
-met_ids next (r ∷ rs) = if is_met next (deadline_of r.id r.sleeper) then r.id ∷ met_ids next rs else met_ids next rs
+met_ids next (r ∷ rs) = if is_met next (deadline_of r.sleeper) then r.id ∷ met_ids next rs else met_ids next rs
 
 -- touched by it
 abbrev pub touched_at : ℕ → Stranger → Sleeper
@@ -45,7 +52,7 @@ row_if id (Some s) rs = record { id = id; sleeper = s } ∷ rs
 abbrev pub all_ended : ℕ → List Row → List Row
 all_ended next [] = []
 all_ended next (r ∷ rs) =
-    if is_met next (deadline_of r.id r.sleeper) then row_if r.id (sleeper_ended r.id next r.sleeper) (all_ended next rs) else r
+    if is_met next (deadline_of r.sleeper) then row_if r.id (sleeper_ended r.id next r.sleeper) (all_ended next rs) else r
     ∷ all_ended next rs
 
 -- and so the one with the id, if there is one
@@ -73,9 +80,7 @@ pub record IsAround (next : ℕ) (s : Sleeper) : Type 0 where
 abbrev pub AreAround : ℕ → List Row → Type 0
 AreAround next rs = Every (λ r. IsAround next r.sleeper) rs
 
--- what always holds of a table: the queue has the deadlines of the strangers, none of which has passed
-pub record AreStrangers (clock : ℕ) (queue : List Deadline) (rs : List Row) : Type 0 where
-  pub small : clock ≤ 2 ^ 62
+-- what always holds of a table: no tick has ended the T3470 of a stranger since it was touched
+pub record AreStrangers (clock : ℕ) (rs : List Row) : Type 0 where
   pub rows : AreRows rs
   pub sleeping : AreSleeping clock rs
-  pub queued : queue ≡ queued rs

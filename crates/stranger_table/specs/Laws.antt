@@ -7,7 +7,7 @@ use Rattle.sorted_list.specs.Ordered.{AllOver, Every, Rising, at}
 use Rattle.stranger_machine.specs.declared.table.Known.{Known}
 use Rattle.stranger_machine.specs.Table.{known_id}
 use Rattle.stranger_machine.specs.Ticks.{is_ending}
-use Rattle.stranger_table.specs.Table.{due_ids}
+use Rattle.mme_timers.specs.Waiting.{due_ids}
 
 -- what each gives
 abbrev pub all_known_give : {X : Type 0} → (Known → List X) → List Known → List X

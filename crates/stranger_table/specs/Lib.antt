@@ -1,5 +1,4 @@
 pub mod Rows
-pub mod Queued
 pub mod Table
 pub mod Ended
 pub mod Kept

@@ -1,11 +1,10 @@
 //! A stranger as it was when it was last touched.
 
-ghost use Rattle.std.specs.Prelude.{◌≡◌, ◌≤◌, ◌^◌};
+ghost use Rattle.std.specs.Prelude.{◌≡◌, ◌≤◌};
+ghost use Rattle.mme_timers.specs.Waiting.{wait_of};
 ghost use Rattle.stranger_table.specs.Ended.{sleeper_ticked, stays_ticked, IsEnding};
-ghost use Rattle.stranger_table.specs.Queued.{deadline_of};
-ghost use Rattle.stranger_table.specs.Rows.{awakened, IsSleeping};
+ghost use Rattle.stranger_table.specs.Rows.{awakened, sleeper_now, IsSleeping};
 
-use crate::queue::Deadline;
 use identity_slots::AssociationId;
 use stranger_machine::{Notice, Stranger};
 
@@ -26,10 +25,10 @@ impl Sleeper {
         self.touched = clock;
     }
 
-    /// The tick that ends its T3470, if it waits.
-    pub(crate) fn deadline(&self, id: AssociationId) -> Option<Deadline>
-        requires { self.now.touched ≤ 2 ^ 62 }
-        ensures { result ≡ deadline_of id self.now }
+    /// The ticks that its T3470 has left now, if it waits.
+    pub(crate) fn left(&self, clock: u64) -> Option<u32>
+        requires { self.now.touched ≤ clock }
+        ensures { result ≡ wait_of (sleeper_now clock self.now) }
     {
         match &self.stranger {
             Stranger::Waiting {
@@ -37,8 +36,8 @@ impl Sleeper {
                 left,
                 repeats: _,
             } => {
-                let deadline = self.touched + u64::from(left.saturating_sub(1)) + 1;
-                Some(Deadline { deadline, id })
+                let slept = clock - self.touched;
+                Some(u64::from(*left).saturating_sub(slept) as u32)
             }
             Stranger::Held(_) => None,
         }

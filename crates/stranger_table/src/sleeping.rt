@@ -1,16 +1,14 @@
 //! The strangers that aren't closed, as they were when they were last touched, by their ids.
 
-ghost use Rattle.std.specs.Prelude.{◌≡◌, ◌+◌, ◌≤◌, ◌^◌, [], OnOk, OnErr, Some, None, option_map};
-ghost use Rattle.sorted_list.specs.Ordered.{Every, at, put, without};
+ghost use Rattle.std.specs.Prelude.{◌≡◌, ◌+◌, [], OnOk, OnErr, Some, None, option_map};
+ghost use Rattle.sorted_list.specs.Ordered.{at, put, without};
 ghost use Rattle.slab.specs.Slab.{ContainsKey, Updates, slab_len};
 ghost use Rattle.sorted_list.specs.Sorted.{lowest_from};
 ghost use Rattle.stranger_table.specs.Ended.{ended_at, sleeper_ended, sleeper_ticked, stays_ticked, IsEnding, IsEndingIf};
 ghost use Rattle.stranger_table.specs.Kept.{place_id, row_at, rows_of, IsTable};
-ghost use Rattle.stranger_table.specs.Queued.{deadline_at};
 ghost use Rattle.stranger_table.specs.Rows.{row_id, sleeper_at, with_row, AreRows};
 
 use crate::places::{StrangerPlace, find_place, first_place, id_is_small, take_place};
-use crate::queue::Deadline;
 use crate::sleeper::Sleeper;
 use identity_slots::AssociationId;
 use slab::Slab;
@@ -114,17 +112,6 @@ impl Sleepers {
     {
         let place = find_place(&self.places, id)?;
         self.slab.get(place.key)
-    }
-
-    /// The tick that ends the T3470 of the stranger with an id, if it waits.
-    pub(crate) fn deadline(&self, id: AssociationId) -> Option<Deadline>
-        requires { Every (λ r. r.sleeper.touched ≤ 2 ^ 62) self.now }
-        ensures { result ≡ deadline_at id self.now }
-    {
-        match self.find(id) {
-            Some(sleeper) => sleeper.deadline(id),
-            None => None,
-        }
     }
 
     /// The lowest id of at least `least`.

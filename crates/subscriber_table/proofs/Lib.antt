@@ -1,3 +1,2 @@
-mod Queueing
 mod Touching
 mod Waking

@@ -20,7 +20,7 @@ use Rattle.connection_table.specs.Whereabouts.{slots_where}
 use Rattle.subscriber_table.specs.SteppedView.{SteppedView}
 use Rattle.subscriber_table.specs.Changed.{changed_at, cleared}
 use Rattle.subscriber_table.specs.Matching.{AreOff, Match, changed_by_none, cleared_all, match_changed}
-use Rattle.subscriber_table.specs.Running.{AreInRange, IsInRange, is_due, is_last}
+use Rattle.mme_timers.specs.Running.{AreInRange, IsInRange, is_due, is_last}
 use Rattle.subscriber_table.specs.Table.{IsStepped, all_countdowns, due_slots, each_after, in_state, one_less, slots_stepped, subscriber_after, subscriber_step, tick_settled, with_solo, with_stepped}
 use Rattle.subscriber_table.specs.Touched.{touched_slots}
 

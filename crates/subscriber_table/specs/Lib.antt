@@ -2,7 +2,6 @@ pub mod Changed
 pub mod Laws
 pub mod Matching
 pub mod Records
-pub mod Running
 pub mod SteppedView
 pub mod Table
 pub mod Touched

@@ -1,16 +1,14 @@
 -- Subscribers as they were when they were last touched, and as they are now.
-use Rattle.std.specs.Prelude.{◌≡◌, ℕ, ◌-◌, ◌≤◌, List, [], ◌∷◌, length, map}
+use Rattle.std.specs.Prelude.{ℕ, ◌-◌, ◌≤◌, List, [], ◌∷◌, length, map}
 use Rattle.identity_slots.specs.Ids.{slots}
 use Rattle.emm_state.specs.declared.solo.Solo.{Solo}
 use Rattle.emm_machine.specs.SubscriberView.{SubscriberView}
 use Rattle.emm_machine.specs.Ticks.{AreAbove, countdowns, ticks_after}
 use Rattle.sorted_list.specs.Ordered.{Every}
-use Rattle.timer_queue.specs.Countdowns.{Countdown}
 use Rattle.subscriber_table.specs.declared.records.Record.{Record}
 use Rattle.subscriber_table.specs.SteppedView.{SteppedView}
 use Rattle.subscriber_table.specs.Changed.{changed_at}
-use Rattle.subscriber_table.specs.Running.{both_retimed, running_from}
-use Rattle.subscriber_table.specs.Table.{AreCounting, all_countdowns, in_state}
+use Rattle.subscriber_table.specs.Table.{AreCounting, in_state}
 
 -- the subscriber as it is now: what it was, and the ticks since then
 abbrev pub view_at : ℕ → Record → SubscriberView
@@ -40,14 +38,8 @@ abbrev pub with_records : ℕ → List SteppedView → List Record → List Reco
 with_records clock [] rs = rs
 with_records clock (x ∷ xs) rs = with_records clock xs (changed_at x.slot (renewed clock x.solo) rs)
 
--- the countdowns that run, where those of each slot are what was prepared
-abbrev pub all_retimed : List SteppedView → List Countdown → List Countdown
-all_retimed [] cs = cs
-all_retimed (x ∷ xs) cs = all_retimed xs (both_retimed x.slot (countdowns x.solo) cs)
-
--- what always holds of a table: the queue has the countdowns of the subscribers as they are now
-pub record IsSubscriberTable (clock : ℕ) (running : List Countdown) (rs : List Record) : Type 0 where
+-- what always holds of a table
+pub record IsSubscriberTable (clock : ℕ) (rs : List Record) : Type 0 where
   pub few : length rs ≤ slots
   pub fresh : AreFresh clock rs
   pub counting : AreCounting (views clock rs)
-  pub timed : running ≡ running_from 0 (all_countdowns (views clock rs))

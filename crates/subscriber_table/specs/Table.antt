@@ -9,12 +9,17 @@ use Rattle.emm_machine.specs.SubscriberView.{SubscriberView}
 use Rattle.emm_machine.specs.Ticks.{countdowns, solo_aged}
 use Rattle.sorted_list.specs.Ordered.{Every}
 use Rattle.subscriber_table.specs.SteppedView.{SteppedView}
-use Rattle.subscriber_table.specs.Running.{AreInRange, due_from}
+use Rattle.mme_timers.specs.Running.{AreInRange, due_from}
 
 pub record SubscriberTable : Type 0 where
   pub clock : ℕ
   pub subscribers : List SubscriberView
   pub room : ℕ  -- how many more steps can be settled with no allocation
+
+-- what the records say, which take no room
+pub record SleeperTable : Type 0 where
+  pub clock : ℕ
+  pub subscribers : List SubscriberView
 
 -- ---- steps
 
@@ -50,6 +55,10 @@ with_stepped (x ∷ xs) ws = with_stepped xs (with_solo x.slot x.solo ws)
 
 abbrev pub all_countdowns : List SubscriberView → List (Option ℕ × Option ℕ)
 all_countdowns ws = map (λ w. countdowns w.solo) ws
+
+-- those of a slot, if somebody has it
+abbrev pub countdowns_at : ℕ → List SubscriberView → Option (Option ℕ × Option ℕ)
+countdowns_at slot ws = option_map (λ w. countdowns w.solo) (slice_get ws slot)
 
 -- the slots of those who have a countdown that the next tick meets
 abbrev pub due_slots : List SubscriberView → List ℕ

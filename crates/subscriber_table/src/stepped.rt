@@ -1,6 +1,7 @@
 //! A state that was prepared.
 
 ghost use Rattle.std.specs.Prelude.{◌≡◌};
+ghost use Rattle.emm_machine.specs.Ticks.{countdowns};
 
 use emm_state::{Draft, Solo};
 use identity_slots::Slot;
@@ -30,10 +31,26 @@ impl Stepped {
     }
 
     /// The slot.
-    pub(crate) fn slot(&self) -> Slot
+    pub fn slot(&self) -> Slot
         ensures { result ≡ self.now.slot }
     {
         self.slot
+    }
+
+    /// The ticks left of a procedure, and until a phone that is idle is taken to be gone.
+    #[tactic(auto, unfolding(emm_machine::specs::Ticks::countdowns))]
+    pub fn countdowns(&self) -> (Option<u64>, Option<u64>)
+        ensures { result ≡ countdowns self.now.solo }
+    {
+        let procedure = match self.draft.solo.procedure {
+            Some(countdown) => Some(u64::from(countdown.left)),
+            None => None,
+        };
+        let reachable = match self.draft.solo.reachable {
+            Some(left) => Some(u64::from(left)),
+            None => None,
+        };
+        (procedure, reachable)
     }
 
     /// The state.

@@ -1,13 +1,13 @@
 //! Subscribers by slot, and where their phones are.
 
-ghost use Rattle.std.specs.Prelude.{◌≡◌, ◌+◌, ◌<◌, ◌≤◌, ◌^◌, ◌++◌, ◌∷◌, [], length, slice_get, IfOk, OnErr, OnOk, None, option_map};
+ghost use Rattle.std.specs.Prelude.{◌≡◌, ◌+◌, ◌<◌, ◌≤◌, ◌^◌, ◌++◌, ◌∷◌, [], length, slice_get, IfOk, OnErr, OnOk, Some, None, option_map};
 ghost use Rattle.identity_slots.specs.Ids.{slots};
 ghost use Rattle.mme_types.specs.Events.{item_of, ConnectionsGone, StationGone};
 ghost use Rattle.connection_table.specs.Whereabouts.{nowhere};
 ghost use Rattle.emm_machine.specs.Ticks.{countdowns};
 ghost use Rattle.emm_machine.specs.Words.{states_of};
 ghost use Rattle.sorted_list.specs.Ordered.{Every};
-ghost use Rattle.subscriber_table.specs.Table.{due_slots, slots_stepped, step_at, tick_settled, with_solo, with_stepped, AreCounting, IsCounting};
+ghost use Rattle.subscriber_table.specs.Table.{countdowns_at, due_slots, slots_stepped, step_at, tick_settled, with_solo, with_stepped, AreCounting, IsCounting};
 ghost use Rattle.subscriber_table.specs.Touched.{touched_slots, whereabouts, IsFreeFor, KeepsPlace};
 
 use crate::sleeping::Sleepers;
@@ -22,7 +22,8 @@ use s1ap_elements::AssociationToReset;
 use std::alloc::{AllocError, Global};
 use std::marker::Model;
 
-/// Subscribers by slot; a contract sees the clock, each subscriber as it is now, and for how many steps there is room.
+/// Subscribers by slot; a contract sees the clock, by which the caller tells what its own are now, each subscriber as it is now, and
+/// for how many steps there is room.
 #[derive(Drop)]
 pub struct Subscribers {
     sleepers: Sleepers,
@@ -30,7 +31,7 @@ pub struct Subscribers {
 }
 
 impl Model for Subscribers {
-    ghost use Rattle.std.specs.Prelude.{◌≡◌, min};
+    ghost use Rattle.std.specs.Prelude.{◌≡◌};
     ghost use Rattle.subscriber_table.specs.Table.{SubscriberTable};
 
     ghost Value = { SubscriberTable };
@@ -40,16 +41,15 @@ impl Model for Subscribers {
     ghost view = { λ t. record {
       clock = t.sleepers.clock;
       subscribers = t.sleepers.subscribers;
-      room = min t.sleepers.room t.connections.room;
+      room = t.connections.room;
     } };
 
     ghost invariant = { λ t. t.connections.whereabouts ≡ all_whereabouts t.sleepers.subscribers };
 }
 
 impl Subscribers {
-    /// Nobody, at this clock of at most 2^62.
+    /// Nobody, at this clock.
     pub fn new(alloc: Global, clock: u64) -> Subscribers
-        requires { clock ≤ 2 ^ 62 }
         ensures clock { result.clock ≡ clock }
         ensures subscribers { result.subscribers ≡ [] }
     {
@@ -81,14 +81,6 @@ impl Subscribers {
         self.sleepers.len()
     }
 
-    /// The ticks passed, from the clock at the start on.
-    pub fn clock(&self) -> u64
-        ensures value { result ≡ self.now.clock }
-        ensures small { self.now.clock ≤ 2 ^ 62 }
-    {
-        self.sleepers.clock()
-    }
-
     /// The states of a slot, if it is somebody's; takes no memory.
     pub fn states(&self, slot: Slot) -> Option<States>
         ensures { result ≡ option_map (λ w. states_of w.solo) (slice_get self.now.subscribers slot) }
@@ -108,13 +100,6 @@ impl Subscribers {
         ensures same { self.new ≡ self.old }
     {
         self.sleepers.prepare(slot, event, world)
-    }
-
-    /// The slots of those who have a countdown that the next tick ends, by rising slot. Only the front of the queue is looked at.
-    pub fn due(&self) -> Result<Vec<Slot>, AllocError>
-        ensures { IfOk result (λ due. due.items ≡ due_slots self.now.subscribers) }
-    {
-        self.sleepers.due()
     }
 
     /// The slots of those whom the loss of a station may touch, by rising slot: who is connected there, or is paged. It leaves all
@@ -137,31 +122,30 @@ impl Subscribers {
         self.connections.listed(station, items)
     }
 
-    /// Room for `more` further steps, of which there are no more than slots. Refused, all but the room is as it was.
+    /// Room for `steps` further steps. Refused, all but the room is as it was.
     pub fn reserve(&mut self, steps: usize) -> Result<(), AllocError>
-        requires { steps ≤ slots }
         ensures clock { self.new.clock ≡ self.old.clock }
         ensures subscribers { self.new.subscribers ≡ self.old.subscribers }
         ensures room { OnOk result (steps ≤ self.new.room) }
         ensures kept { self.old.room ≤ self.new.room }
     {
-        self.sleepers.reserve(steps)?;
         self.connections.reserve(steps)
     }
 
-    /// The state of a slot is the one that was prepared, where there is room, and no other slot has the id of its connection. Takes
-    /// no memory.
-    pub fn settle(&mut self, stepped: Stepped)
+    /// The state of a slot is the one that was prepared, where there is room, and no other slot has the id of its connection; answers
+    /// the countdowns that it had until now. Takes no memory.
+    pub fn settle(&mut self, stepped: Stepped) -> (Option<u64>, Option<u64>)
         requires slot { stepped.slot < length self.old.subscribers }
         requires free { IsFreeFor self.old.subscribers stepped }
         requires room { 0 < self.old.room }
         requires counting { IsCounting stepped.solo }
         ensures clock { self.new.clock ≡ self.old.clock }
         ensures subscribers { self.new.subscribers ≡ with_solo stepped.slot stepped.solo self.old.subscribers }
+        ensures before { countdowns_at stepped.slot self.old.subscribers ≡ Some result }
         ensures room { self.old.room ≤ self.new.room + 1 }
     {
         place(&mut self.connections, stepped.slot(), stepped.solo());
-        self.sleepers.settle(stepped);
+        self.sleepers.settle(stepped)
     }
 
     /// The states of slots are those that were prepared, one after the other, where there is room, and each is connected as it was,

@@ -1,6 +1,7 @@
 use Rattle.std.proofs.Common.{rules, ◌≡◌, ◌++◌, List, true, sym, ◌∙◌, ap}
 use Rattle.stranger_machine.specs.Machine.{is_of_station}
 use Rattle.mme_routing.specs.Destinations.{for_all, item_of_notice}
+use Rattle.mme_owners.specs.Owners.{OwnersView}
 use Rattle.mme_answering.specs.declared.out.Out.{Out}
 use Rattle.mme_answering.specs.Sending.{each_sent}
 use Rattle.mme_answering.proofs.Known.{none_known}
@@ -10,5 +11,5 @@ pub returns-in_ok-stepped-in-Everyone-clause-sends : goal.returns-in_ok-stepped-
 returns-in_ok-stepped-in-Everyone-clause-sends c =
     let notice = c.in-Everyone.notice in
     let station : is_of_station notice ≡ true = search rules in
-    let own = each_sent (for_all (item_of_notice notice)) 0 c.args.subscribers.now.subscribers in
-    rw c.in-Everyone.is (c.in_ok-stepped-in-Everyone.ensures.sends ∙ ap (λ (os : List Out). c.args.outs.now ++ (os ++ own)) (sym (none_known notice c.args.strangers.now.strangers station)))
+    let own = each_sent (for_all (item_of_notice notice)) 0 c.args.owners.now.subscribers in
+    rw c.in-Everyone.is (c.in_ok-stepped-in-Everyone.ensures.sends ∙ ap (λ (v : OwnersView). c.args.outs.now ++ each_sent (for_all (item_of_notice notice)) 0 v.subscribers) c.owners.view_is ∙ ap (λ (os : List Out). c.args.outs.now ++ (os ++ own)) (sym (none_known notice c.args.owners.now.strangers station)))

@@ -15,14 +15,14 @@ use Rattle.mme_answering.proofs.preparing.prepare_tick.Goals as goal
 pub prepare_each-requires-clause-called : goal.prepare_each-requires-clause-called
 prepare_each-requires-clause-called c =
     let ws = c.args.subscribers.now.subscribers in
-    subst (Every (λ k. k < length ws)) (sym (c.as_slice-called.ensures.value ∙ c.in_ok-due.ensures)) (due_below ws)
+    subst (Every (λ k. k < length ws)) (sym (c.as_slice-called.ensures.value ∙ c.requires.due_slots)) (due_below ws)
 
 pub returns-clause-sends : goal.returns-clause-sends
 returns-clause-sends c =
     let ws = c.args.subscribers.now.subscribers in
     let outs = c.args.outs.now in
     let others = each_known notices.Tick c.args.strangers.now.strangers in
-    let due = c.as_slice-called.ensures.value ∙ c.in_ok-due.ensures in
+    let due = c.as_slice-called.ensures.value ∙ c.requires.due_slots in
     c.in_ok-stepped.ensures.sends
     ∙ ap (λ i. c.send_due.new.outs ++ some_give (item_sent i) c.as_slice-called.result.now ws) c.requires.tick
     ∙ ap (λ ks. c.send_due.new.outs ++ some_give (item_sent Tick) ks ws) due ∙ ap (λ os. c.send_due.new.outs ++ os) (due_send ws)
@@ -32,16 +32,20 @@ returns-clause-sends c =
 pub returns-clause-subscribers : goal.returns-clause-subscribers
 returns-clause-subscribers c =
     let ws = c.args.subscribers.now.subscribers in
-    let due = c.as_slice-called.ensures.value ∙ c.in_ok-due.ensures in
+    let due = c.as_slice-called.ensures.value ∙ c.requires.due_slots in
     ticks_all c.in_ok-stepped.stepped.items ws (c.in_ok-stepped.ensures.slots ∙ due)
     (subst (λ i. Every (IsStepped i ws) c.in_ok-stepped.stepped.items) c.requires.tick c.in_ok-stepped.ensures.stepped)
 
 pub returns-clause-fits : goal.returns-clause-fits
 returns-clause-fits c =
     let ws = c.args.subscribers.now.subscribers in
-    let due = c.as_slice-called.ensures.value ∙ c.in_ok-due.ensures in (
+    let due = c.as_slice-called.ensures.value ∙ c.requires.due_slots in (
       c.in_ok-stepped.ensures.slots ∙ due,
       c.in_ok-stepped.ensures.counting,
       keep_all c.connections_come_so.ensures notices.Tick ws c.in_ok-stepped.stepped.items
           (subst (λ i. Every (IsStepped i ws) c.in_ok-stepped.stepped.items) c.requires.tick c.in_ok-stepped.ensures.stepped),
+      c.requires.due_strangers,
     )
+
+pub send_due-requires : goal.send_due-requires
+send_due-requires c = c.as_slice.ensures.value ∙ c.requires.due_strangers

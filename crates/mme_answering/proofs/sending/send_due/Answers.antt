@@ -10,6 +10,5 @@ use Rattle.mme_answering.proofs.sending.send_due.Goals as goal
 pub returns : goal.returns
 returns c =
     let ks = c.args.strangers.now.strangers in
-    let due = c.as_slice.ensures.value ∙ c.in_ok-due.ensures in
-    on_ok_weaker c.send_some.result (λ h. h ∙ ap (λ ids. c.args.outs.now ++ some_known_give (known_sent Tick) ids ks) due
+    on_ok_weaker c.send_some.result (λ h. h ∙ ap (λ ids. c.args.outs.now ++ some_known_give (known_sent Tick) ids ks) c.requires
     ∙ ap (λ (os : List Out). c.args.outs.now ++ os) (due_known ks c.clock.ensures.order)) c.send_some.ensures

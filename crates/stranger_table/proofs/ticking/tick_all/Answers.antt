@@ -1,21 +1,38 @@
-use Rattle.std.proofs.Common.{◌<◌, arith, sym, ◌∙◌}
-use Rattle.stranger_table.proofs.Stepping.{over_late, over_none}
+use Rattle.std.proofs.Common.{◌≡◌, ◌+◌, ◌∷◌, [], drop, arith, sym, ◌∙◌, ap}
+use Rattle.std.proofs.lemmas.List.{drop_all, drop_more}
+use Rattle.stranger_table.specs.Ended.{met_ids}
+use Rattle.stranger_table.proofs.Ending.{is_over}
+use Rattle.stranger_table.proofs.Stepping.{first_ending, first_step}
 use Rattle.stranger_table.proofs.ticking.tick_all.Goals as goal
 
-pub returns-then-first-next-clause-ended : goal.returns-then-first-next-clause-ended
-returns-then-first-next-clause-ended c =
-    let lt : c.args.next < c.in-Some.first.deadline = omega (arith, c.if-first-next.true) in
-    sym (over_late c.args.next c.in-Some.first c.loop-first.queue.items c.loop-first.sleepers c.loop-first.invariant.rows c.loop-first.invariant.around c.loop-first.invariant.queued (sym c.first.ensures ∙ c.in-Some.is) lt).same ∙ c.loop-first.invariant.ended
+pub end-requires : goal.end-requires
+end-requires c =
+    let xs = c.args.due.now in
+    let n = c.loop-id.id-index in
+    let cut : drop n xs ≡ c.id-item.result ∷ drop (n + 1) xs =
+    drop_more xs n c.id-item.result c.loop-id-test.true ∙ ap (λ x. x ∷ drop (n + 1) xs) (sym c.id-item.is) in
+    first_ending c.args.next c.id-item.result (drop (n + 1) xs) c.loop-id.sleepers c.loop-id.invariant.rows c.loop-id.invariant.around (c.loop-id.invariant.met ∙ cut)
 
-pub returns-then-first-next-clause-sleeping : goal.returns-then-first-next-clause-sleeping
-returns-then-first-next-clause-sleeping c =
-    let lt : c.args.next < c.in-Some.first.deadline = omega (arith, c.if-first-next.true) in
-    (over_late c.args.next c.in-Some.first c.loop-first.queue.items c.loop-first.sleepers c.loop-first.invariant.rows c.loop-first.invariant.around c.loop-first.invariant.queued (sym c.first.ensures ∙ c.in-Some.is) lt).sleeping
+pub loop-id-preserved : goal.loop-id-preserved
+loop-id-preserved c =
+    let xs = c.args.due.now in
+    let n = c.loop-id.id-index in
+    let inv = c.loop-id.invariant in
+    let cut : drop n xs ≡ c.id-item.result ∷ drop (n + 1) xs =
+    drop_more xs n c.id-item.result c.loop-id-test.true ∙ ap (λ x. x ∷ drop (n + 1) xs) (sym c.id-item.is) in
+    let step = first_step c.args.next c.id-item.result (drop (n + 1) xs) c.loop-id.sleepers c.end.new.self inv.rows inv.around (inv.met ∙ cut) c.end.ensures in
+    record { ended = step.ended ∙ inv.ended; rows = c.are_rows.ensures; around = step.around; met = step.met }
 
-pub returns-in_default-clause-ended : goal.returns-in_default-clause-ended
-returns-in_default-clause-ended c =
-    sym (over_none c.args.next c.loop-first.queue.items c.loop-first.sleepers c.loop-first.invariant.rows c.loop-first.invariant.around c.loop-first.invariant.queued (sym c.first.ensures ∙ c.in_default.is)).same ∙ c.loop-first.invariant.ended
+pub returns-clause-ended : goal.returns-clause-ended
+returns-clause-ended c =
+    let inv = c.loop-id.invariant in
+    let none : met_ids c.args.next c.loop-id.sleepers ≡ [] =
+    inv.met ∙ drop_all c.loop-id.id-index c.args.due.now (let t = c.loop-id-test.false in omega (arith, t)) in
+    sym (is_over c.args.next c.loop-id.sleepers inv.around none).same ∙ inv.ended
 
-pub returns-in_default-clause-sleeping : goal.returns-in_default-clause-sleeping
-returns-in_default-clause-sleeping c =
-    (over_none c.args.next c.loop-first.queue.items c.loop-first.sleepers c.loop-first.invariant.rows c.loop-first.invariant.around c.loop-first.invariant.queued (sym c.first.ensures ∙ c.in_default.is)).sleeping
+pub returns-clause-sleeping : goal.returns-clause-sleeping
+returns-clause-sleeping c =
+    let inv = c.loop-id.invariant in
+    let none : met_ids c.args.next c.loop-id.sleepers ≡ [] =
+    inv.met ∙ drop_all c.loop-id.id-index c.args.due.now (let t = c.loop-id-test.false in omega (arith, t)) in
+    (is_over c.args.next c.loop-id.sleepers inv.around none).sleeping

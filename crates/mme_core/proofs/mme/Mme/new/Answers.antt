@@ -15,8 +15,8 @@ use Rattle.mme_core.proofs.mme.Mme.new.Goals as goal
 pub invariant_of-result : goal.invariant_of-result
 unfolding no_stations
 invariant_of-result c =
-    let made = c.in_ok-subscribers.ensures in
-    let none = sym c.new-3.ensures.strangers in
+    let made = c.in_ok-owners.ensures in
+    let none = sym made.strangers in
     let used = fresh_in_use c.in_use_is_kept.ensures.fresh c.soundness_is_kept.ensures.fresh c.clocks_are_kept.ensures.fresh _ 0 _ _ in
     let apart = c.ids_are_apart.ensures.begins _ _ _ made.few in (
       omega (arith, made.clock),
@@ -27,6 +27,6 @@ invariant_of-result c =
         in_use = subst AreInUse (sym made.value) used;
         provisioned = made.count ∙ ap length (sym made.profiles);
       },
-      subst (λ (ks : List Known). IdsApart ks c.in_ok-subscribers.subscribers.subscribers) none
+      subst (λ (ks : List Known). IdsApart ks c.in_ok-owners.owners.subscribers) none
           (subst (λ (ws : List SubscriberView). IdsApart [] ws) (sym made.value) apart),
     )

@@ -10,7 +10,6 @@ pub invariant_of-self : goal.invariant_of-self
 invariant_of-self c =
     let r = c.args.ready in
     let done = c.take.ensures in
-    kept c.take.result r c.self.inside.subscribers.clock c.take.new.subscribers.clock c.self.inside.surroundings c.take.new.self c.self.inside.subscribers.subscribers c.take.new.subscribers.subscribers
-    done.after done.clock done.err done.err_subscribers done.err_clock c.self.invariant
+    kept c.take.result r c.self.inside.surroundings c.take.new.self c.self.inside.owners c.take.new.owners done.after done.clock done.err done.err_strangers done.err_subscribers done.err_clock c.self.invariant
     (subst (λ (v : World). IsKept (ready_world r v)) (sym c.self.view_is) c.requires.kept)
     (subst (λ (v : World). AreApart (ready_world r v)) (sym c.self.view_is) c.requires.apart)

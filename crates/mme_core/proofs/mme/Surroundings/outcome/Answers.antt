@@ -12,7 +12,7 @@ use Rattle.mme_routing.specs.Outcomes.{Outcome, answered, begins_anew, goes_to, 
 use Rattle.mme_routing.specs.declared.outcome.Outcome.{Outcome as OutcomeInCode}
 use Rattle.mme_routing.specs.Seen.{seen_outcome}
 use Rattle.mme_core.specs.declared.event.Event.TheVariants as events
-use Rattle.mme_core.specs.Sight.{Around}
+use Rattle.mme_core.specs.Sight.{Sight}
 use Rattle.mme_core.specs.World.{happens, to_slot}
 use Rattle.mme_core.specs.contracts.mme.Surroundings.{the_view}
 use Rattle.mme_core.proofs.mme.Surroundings.outcome.Goals as goal
@@ -34,17 +34,17 @@ pub returns-in-Lost : goal.returns-in-Lost
 unfolding happens
 returns-in-Lost c =
     rw c.in-Lost.is
-    (c.begins_anew.ensures c.args.self.now.sight.stations ∙ ap (begins_anew c.in-Lost.station (Some Down)) c.new-in-Lost.ensures)
+    (c.begins_anew.ensures c.args.self.now.stations ∙ ap (begins_anew c.in-Lost.station (Some Down)) c.new-in-Lost.ensures)
 
 pub returns-in-In : goal.returns-in-In
 unfolding happens
 returns-in-In c =
     let e = c.in-In.station in
     let v = the_view c.self.inside in
-    let made : (x : OutcomeInCode) → ((stations : List StationState) → seen_outcome stations x ≡ outcome_of v.sight.config.network v.sight.profiles e c.get-state.result.now (decoded c.in-In.octets.now))
-    → seen_outcome c.args.self.now.sight.stations x ≡ happens c.args.self.now.sight (events.In e c.in-In.octets) =
-    λ x h. subst (λ (w : Around). seen_outcome w.sight.stations x ≡ happens w.sight (events.In e c.in-In.octets)) c.self.view_is
-    (h v.sight.stations ∙ ap (λ s. outcome_of v.sight.config.network v.sight.profiles e s (decoded c.in-In.octets.now)) c.get-state.ensures)
+    let made : (x : OutcomeInCode) → ((stations : List StationState) → seen_outcome stations x ≡ outcome_of v.config.network v.profiles e c.get-state.result.now (decoded c.in-In.octets.now))
+    → seen_outcome c.args.self.now.stations x ≡ happens c.args.self.now (events.In e c.in-In.octets) =
+    λ x h. subst (λ (w : Sight). seen_outcome w.stations x ≡ happens w (events.In e c.in-In.octets)) c.self.view_is
+    (h v.stations ∙ ap (λ s. outcome_of v.config.network v.profiles e s (decoded c.in-In.octets.now)) c.get-state.ensures)
     in
     rw c.in-In.is (if_ok c.outcome_of.result made c.outcome_of.ensures)
 
@@ -55,14 +55,14 @@ returns-in-Tick c = rw c.in-Tick.is (ap (with_sent (to.Everyone notices.Tick)) c
 pub returns-in-Some : goal.returns-in-Some
 unfolding happens
 returns-in-Some c =
-    let s = c.args.self.now.sight in
+    let s = c.args.self.now in
     rw c.in-Data.is (ap (with_sent (to.Subscriber c.in-Some.slot (items.Data s.stations))) c.new-in-Some.ensures
     ∙ ap (λ (o : Option ℕ). goes_to (to_slot o (items.Data s.stations))) (sym c.in-Some.is ∙ rw c.in-Data.is at c.requires))
 
 pub returns-in-None : goal.returns-in-None
 unfolding happens
 returns-in-None c =
-    let s = c.args.self.now.sight in
+    let s = c.args.self.now in
     rw c.in-Data.is (c.answered.ensures s.stations ∙ ap answered c.new-in-None.ensures
     ∙ ap (λ (o : Option ℕ). goes_to (to_slot o (items.Data s.stations))) (sym c.in-None.is ∙ rw c.in-Data.is at c.requires))
 
@@ -75,6 +75,6 @@ returns-in-Some-named c =
 pub returns-in-None-named : goal.returns-in-None-named
 unfolding happens
 returns-in-None-named c =
-    let s = c.args.self.now.sight in
+    let s = c.args.self.now in
     rw c.in-Cancel.is (c.answered-in-None-named.ensures s.stations ∙ ap answered c.new-in-None-named.ensures
     ∙ ap (λ (o : Option ℕ). goes_to (to_slot o items.Cancel)) (sym c.in-None-named.is ∙ rw c.in-Cancel.is at c.requires))

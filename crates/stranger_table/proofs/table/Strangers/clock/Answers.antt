@@ -8,4 +8,4 @@ use Rattle.stranger_table.proofs.table.Strangers.clock.Goals as goal
 pub returns-clause-order : goal.returns-clause-order
 returns-clause-order c =
     subst (λ (v : StrangerTable). Rising known_id v.strangers) c.self.view_is
-    (rising_now c.self.inside.clock c.self.inside.sleepers c.self.invariant.0.rows.rising)
+    (rising_now c.self.inside.clock c.self.inside.sleepers c.self.invariant.rows.rising)

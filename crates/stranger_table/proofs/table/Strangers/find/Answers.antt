@@ -10,7 +10,7 @@ use Rattle.stranger_table.proofs.table.Strangers.find.Goals as goal
 pub overflow_sub-slept : goal.overflow_sub-slept
 overflow_sub-slept c =
     let found = sym c.find.ensures ∙ ap (option_map (λ s. s.now)) c.in_ok-sleeper.was in
-    let past = (sleeping_at c.self.inside.clock c.args.id c.in_ok-sleeper.sleeper.now c.self.inside.sleepers found c.self.invariant.0.sleeping).past in
+    let past = (sleeping_at c.self.inside.clock c.args.id c.in_ok-sleeper.sleeper.now c.self.inside.sleepers found c.self.invariant.sleeping).past in
     omega arith
 
 pub returns-in_err-sleeper : goal.returns-in_err-sleeper

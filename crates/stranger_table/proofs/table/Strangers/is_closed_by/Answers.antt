@@ -4,7 +4,7 @@ use Rattle.stranger_machine.specs.StationLaws.{station_open}
 use Rattle.stranger_machine.specs.Table.{stranger_at}
 use Rattle.stranger_table.specs.Rows.{sleeper_now}
 use Rattle.stranger_table.specs.Table.{StrangerTable}
-use Rattle.stranger_table.proofs.Noting.{none_there, not_not}
+use Rattle.stranger_table.proofs.Now.{none_there, not_not}
 use Rattle.stranger_table.proofs.Now.{stranger_now}
 use Rattle.stranger_table.proofs.table.Strangers.is_closed_by.Goals as goal
 

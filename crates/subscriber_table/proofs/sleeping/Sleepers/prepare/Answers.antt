@@ -4,32 +4,32 @@ use Rattle.mme_types.specs.Events.{item_of}
 use Rattle.subscriber_table.specs.declared.records.Record.{Record}
 use Rattle.subscriber_table.specs.Changed.{changed_at}
 use Rattle.subscriber_table.specs.Records.{views, woken}
-use Rattle.subscriber_table.specs.Table.{SubscriberTable, step_at, subscriber_step}
+use Rattle.subscriber_table.specs.Table.{SleeperTable, step_at, subscriber_step}
 use Rattle.subscriber_table.proofs.Waking.{IsSubscriberTableOf, awake, boxed_some, set_changed, step_seen, views_length}
 use Rattle.subscriber_table.proofs.sleeping.Sleepers.prepare.Goals as goal
 
 within : (c : goal.After-prepare) → c.args.slot < length c.self.inside.records.items
 within c =
-    let many = ap (λ (v : SubscriberTable). length v.subscribers) c.self.view_is in
-    let same = views_length c.self.inside.timers.clock c.self.inside.records.items in
+    let many = ap (λ (v : SleeperTable). length v.subscribers) c.self.view_is in
+    let same = views_length c.self.inside.clock c.self.inside.records.items in
     let lt = c.requires in
     omega arith
 
 read : (c : goal.After-prepare) → c.index_mut.result.now ≡ get_or c.self.inside.records.items c.args.slot c.index_mut.result.now
 read c = c.index_mut.ensures.value ∙ ap (λ n. get_or c.self.inside.records.items n c.index_mut.result.now) c.get-place.ensures.value
 
-written : (c : goal.After-prepare) → c.wake.new.self ≡ woken c.self.inside.timers.clock c.index_mut.result.now
-written c = c.wake.ensures ∙ ap (λ n. woken n c.index_mut.result.now) c.clock-clock.ensures.clock
+written : (c : goal.After-prepare) → c.wake.new.self ≡ woken c.self.inside.clock c.index_mut.result.now
+written c = c.wake.ensures
 
-records : (c : goal.After-prepare) → set c.self.inside.records.items c.get-place.result c.wake.new.self ≡ changed_at c.args.slot (woken c.self.inside.timers.clock) c.self.inside.records.items
+records : (c : goal.After-prepare) → set c.self.inside.records.items c.get-place.result c.wake.new.self ≡ changed_at c.args.slot (woken c.self.inside.clock) c.self.inside.records.items
 records c =
     ap (λ n. set c.self.inside.records.items n c.wake.new.self) c.get-place.ensures.value
-    ∙ set_changed (woken c.self.inside.timers.clock) c.self.inside.records.items c.args.slot c.index_mut.result.now c.wake.new.self
+    ∙ set_changed (woken c.self.inside.clock) c.self.inside.records.items c.args.slot c.index_mut.result.now c.wake.new.self
     (within c) (read c) (written c)
 
-table : (c : goal.After-prepare) → IsSubscriberTableOf c.self.inside.timers.clock c.self.inside.timers.running (set c.self.inside.records.items c.get-place.result c.wake.new.self) (views c.self.inside.timers.clock c.self.inside.records.items)
+table : (c : goal.After-prepare) → IsSubscriberTableOf c.self.inside.clock (set c.self.inside.records.items c.get-place.result c.wake.new.self) (views c.self.inside.clock c.self.inside.records.items)
 table c =
-    awake c.self.inside.timers.clock c.args.slot c.self.inside.timers.running c.self.inside.records.items
+    awake c.self.inside.clock c.args.slot c.self.inside.records.items
     (set c.self.inside.records.items c.get-place.result c.wake.new.self) c.self.invariant (records c)
 
 pub invariant_of-self : goal.invariant_of-self
@@ -38,9 +38,9 @@ invariant_of-self c = (table c).table
 pub returns-clause-step : goal.returns-clause-step
 returns-clause-step c =
     let rs = c.self.inside.records.items in
-    let clock = c.self.inside.timers.clock in
+    let clock = c.self.inside.clock in
     let item = item_of c.args.event.now c.args.world.now in
-    let seen = ap (λ (v : SubscriberTable). v.subscribers) c.self.view_is in
+    let seen = ap (λ (v : SleeperTable). v.subscribers) c.self.view_is in
     let place = c.get-place.ensures.value in
     let lt = within c in
     let own : c.index.result.now ≡ woken clock c.index_mut.result.now =
@@ -52,4 +52,4 @@ returns-clause-step c =
 
 pub returns-clause-same : goal.returns-clause-same
 returns-clause-same c =
-    ap (λ ws. record { clock = c.self.inside.timers.clock; subscribers = ws; room = (c.self.inside.timers.room) / 2 }) (table c).seen ∙ c.self.view_is
+    ap (λ ws. record { clock = c.self.inside.clock; subscribers = ws }) (table c).seen ∙ c.self.view_is

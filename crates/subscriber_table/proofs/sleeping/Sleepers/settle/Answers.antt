@@ -1,25 +1,29 @@
-use Rattle.std.proofs.Common.{◌∙◌, ap, arith, length}
+use Rattle.std.proofs.Common.{◌<◌, sym, ◌∙◌, ap, arith, length}
 use Rattle.subscriber_table.specs.Records.{views}
-use Rattle.subscriber_table.specs.Table.{SubscriberTable, with_solo}
-use Rattle.subscriber_table.proofs.Waking.{IsSubscriberTableOf, at_clock, settled, views_length}
+use Rattle.subscriber_table.specs.Table.{SleeperTable, countdowns_at, with_solo}
+use Rattle.subscriber_table.proofs.Waking.{IsSubscriberTableOf, settled, views_length}
 use Rattle.subscriber_table.proofs.sleeping.Sleepers.settle.Goals as goal
 
-table : (c : goal.After-settle_one)
-    → IsSubscriberTableOf c.settle_one.new.timers.clock c.settle_one.new.timers.running c.settle_one.new.records.items
-    (with_solo c.args.stepped.slot c.args.stepped.solo (views c.self.inside.timers.clock c.self.inside.records.items))
-table c =
-    let rs = c.self.inside.records.items in
-    let clock = c.self.inside.timers.clock in
-    let many = ap (λ (v : SubscriberTable). length v.subscribers) c.self.view_is in
-    let same = views_length clock rs in
+pub settle_one-requires-clause-slot : goal.settle_one-requires-clause-slot
+settle_one-requires-clause-slot c =
+    let many = ap (λ (v : SleeperTable). length v.subscribers) c.self.view_is in
+    let same = views_length c.self.inside.clock c.self.inside.records.items in
     let lt = c.requires.slot in
-    at_clock clock c.settle_one.new.timers.clock _ _ _ c.settle_one.ensures.clock
-    (settled clock c.args.stepped.slot c.args.stepped.solo c.self.inside.timers.running c.settle_one.new.timers.running rs c.settle_one.new.records.items c.self.invariant (omega arith) c.requires.counting
-    c.settle_one.ensures.records c.settle_one.ensures.running)
+    omega arith
+
+table : (c : goal.After-settle_one)
+    → IsSubscriberTableOf c.self.inside.clock c.settle_one.new.records.items
+    (with_solo c.args.stepped.slot c.args.stepped.solo (views c.self.inside.clock c.self.inside.records.items))
+table c =
+    settled c.self.inside.clock c.args.stepped.slot c.args.stepped.solo c.self.inside.records.items c.settle_one.new.records.items c.self.invariant c.requires.counting c.settle_one.ensures.records
 
 pub invariant_of-self : goal.invariant_of-self
 invariant_of-self c = (table c).table
 
 pub returns-clause-subscribers : goal.returns-clause-subscribers
 returns-clause-subscribers c =
-    (table c).seen ∙ ap (λ (v : SubscriberTable). with_solo c.args.stepped.slot c.args.stepped.solo v.subscribers) c.self.view_is
+    (table c).seen ∙ ap (λ (v : SleeperTable). with_solo c.args.stepped.slot c.args.stepped.solo v.subscribers) c.self.view_is
+
+pub returns-clause-before : goal.returns-clause-before
+returns-clause-before c =
+    ap (λ (v : SleeperTable). countdowns_at c.args.stepped.slot v.subscribers) (sym c.self.view_is) ∙ c.settle_one.ensures.before

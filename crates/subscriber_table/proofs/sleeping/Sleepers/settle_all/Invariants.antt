@@ -1,4 +1,4 @@
-use Rattle.std.proofs.Common.{◌≡◌, ◌+◌, ◌<◌, ◌≤◌, length}
+use Rattle.std.proofs.Common.{◌≡◌, ◌<◌, length}
 use Rattle.std.specs.Vec.Iter.{into_iter_items, into_iter_len}
 use Rattle.sorted_list.specs.Ordered.{Every}
 use Rattle.subscriber_table.specs.SteppedView.{SteppedView}
@@ -13,8 +13,6 @@ invariant-loop-one l =
       count : into_iter_len l.one-iterator ≡ length rest;
       slots : Every (λ (x : SteppedView). x.slot < length l.self.subscribers) rest;
       counting : Every (λ (x : SteppedView). IsCounting x.solo) rest;
-      room : length rest ≤ l.self.room;
-      spent : l.fn.self.room + length rest ≤ l.self.room + length l.fn.stepped.items;
       clock : l.self.clock ≡ l.fn.self.clock;
       settled : with_stepped rest l.self.subscribers ≡ with_stepped l.fn.stepped.items l.fn.self.subscribers;
     }

@@ -1,0 +1,4 @@
+mod Noting
+mod Owned
+mod Ticked
+mod Unchanged

@@ -1,0 +1,48 @@
+-- What a caller sees of the owners, and what always holds of them.
+use Rattle.std.specs.Prelude.{◌≡◌, ℕ, ◌^◌, ◌≤◌, List, [], ◌∷◌, ◌++◌, Option, Some, None}
+use Rattle.emm_machine.specs.SubscriberView.{SubscriberView}
+use Rattle.emm_machine.specs.Ticks.{countdowns}
+use Rattle.stranger_machine.specs.declared.state.Stranger.{Stranger}
+use Rattle.stranger_machine.specs.declared.table.Known.{Known}
+use Rattle.stranger_machine.specs.declared.turn.After.{After}
+use Rattle.stranger_machine.specs.declared.turn.After.TheVariants as after
+use Rattle.timer_queue.specs.Countdowns.{Countdown, Countdowns}
+use Rattle.mme_timers.specs.Running.{both_retimed, running_from}
+use Rattle.mme_timers.specs.Waiting.{AreWaits, wait_of, waits_of}
+use Rattle.stranger_table.specs.Table.{StrangerTable}
+use Rattle.subscriber_table.specs.SteppedView.{SteppedView}
+use Rattle.subscriber_table.specs.Table.{SubscriberTable, all_countdowns}
+
+pub record OwnersView : Type 0 where
+  pub clock : ℕ
+  pub strangers : List Known  -- those that aren't closed, by rising id, each as it is now
+  pub subscribers : List SubscriberView  -- by slot, each as it is now
+  pub room : ℕ  -- how many more countdowns can be started with no allocation
+  pub places : ℕ  -- how many more connections can be changed with no allocation
+
+-- the countdowns that run: T3470 of each stranger that waits, by id, and then those of each subscriber, by slot
+abbrev pub countdowns_of : List Known → List SubscriberView → List Countdown
+countdowns_of ks ws = waits_of ks ++ running_from 0 (all_countdowns ws)
+
+-- what always holds: the clocks are one, and the queue has the countdowns that run
+pub record IsOwners (timers : Countdowns) (strangers : StrangerTable) (subscribers : SubscriberTable) : Type 0 where
+  pub strangers_clock : strangers.clock ≡ timers.clock
+  pub subscribers_clock : subscribers.clock ≡ timers.clock
+  pub waits : AreWaits strangers.strangers
+  pub timed : timers.running ≡ countdowns_of strangers.strangers subscribers.subscribers
+
+-- the countdowns that run, where those of each slot are what was prepared
+abbrev pub all_retimed : List SteppedView → List Countdown → List Countdown
+all_retimed [] cs = cs
+all_retimed (x ∷ xs) cs = all_retimed xs (both_retimed x.slot (countdowns x.solo) cs)
+
+-- T3470 may run of a stranger with an id from 2^31 on, from 1 to 3480 ticks
+abbrev pub IsStart : ℕ → Option ℕ → Type 0
+IsStart id None = Unit {0}
+IsStart id (Some left) = (2 ^ 31 ≤ id) × (1 ≤ left) × (left ≤ 3480)
+
+-- of a stranger that waits from now on T3470 may run
+abbrev pub IsWaitAfter : ℕ → After → Type 0
+IsWaitAfter id after.Stays = Unit {0}
+IsWaitAfter id after.Closed = Unit {0}
+IsWaitAfter id (after.Is s) = IsStart id (wait_of s)

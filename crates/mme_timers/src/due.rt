@@ -1,0 +1,100 @@
+//! Who is due at the next tick: strangers by their ids, subscribers by their slots.
+
+ghost use Rattle.std.specs.Prelude.{◌≡◌, None, IfOk};
+ghost use Rattle.timer_queue.specs.Countdowns.{due_of};
+ghost use Rattle.mme_timers.specs.Due.{id_of, ids_of, is_past, owner_slot, slots_once, AreOfOwners, IsOfOwner};
+
+use identity_slots::{AssociationId, Slot};
+use std::alloc::{AllocError, Global};
+use timer_queue::{Expiry, TimerOwner, Timers};
+
+/// Who has a countdown that the next tick ends.
+#[derive(Drop)]
+pub struct Due {
+    /// The strangers, by rising id.
+    pub strangers: Vec<AssociationId>,
+    /// The subscribers, by rising slot.
+    pub slots: Vec<Slot>,
+}
+
+// The stranger whose timer it is, if it is one's.
+fn id_of(owner: TimerOwner) -> Option<AssociationId>
+    requires { IsOfOwner owner }
+    ensures { result ≡ id_of owner }
+{
+    match owner {
+        TimerOwner::Stranger { station, enb_ue_id } => {
+            Some(AssociationId::of_stranger(station, enb_ue_id))
+        }
+        TimerOwner::Subscriber(_) => None,
+    }
+}
+
+// The slot whose timer it is.
+fn owner_slot(owner: TimerOwner) -> Slot
+    requires { IsOfOwner owner }
+    ensures { result ≡ owner_slot owner }
+{
+    match owner {
+        TimerOwner::Subscriber(number) => Slot::new(number),
+        TimerOwner::Stranger { .. } => Slot::new(0),
+    }
+}
+
+// Whether it is a stranger's timer, or the slot was the last.
+fn is_past(owner: TimerOwner, last: Option<u32>) -> bool
+    ensures { result ≡ is_past owner last }
+{
+    match owner {
+        TimerOwner::Subscriber(slot) => match last {
+            Some(last) => last == slot,
+            None => false,
+        },
+        TimerOwner::Stranger { .. } => true,
+    }
+}
+
+// The strangers of timers that stand in order.
+fn ids_of(alloc: Global, timers: &[Expiry]) -> Result<Vec<AssociationId>, AllocError>
+    requires { AreOfOwners timers.now }
+    ensures { IfOk result (λ due. due.items ≡ ids_of timers.now) }
+{
+    let mut due = Vec::new(alloc);
+    for timer in timers {
+        if let Some(id) = id_of(timer.owner) {
+            due.push(id)?;
+        }
+    }
+    Ok(due)
+}
+
+// The slots of timers that stand in order, each once.
+fn slots_of(alloc: Global, timers: &[Expiry]) -> Result<Vec<Slot>, AllocError>
+    requires { AreOfOwners timers.now }
+    ensures { IfOk result (λ due. due.items ≡ slots_once None timers.now) }
+{
+    let mut due = Vec::new(alloc);
+    let mut last: Option<u32> = None;
+    for timer in timers {
+        if !is_past(timer.owner, last) {
+            let slot = owner_slot(timer.owner);
+            due.push(slot)?;
+            last = Some(slot.get());
+        }
+    }
+    Ok(due)
+}
+
+/// Who has a countdown that the next tick ends. Only the front of the queue is looked at.
+pub fn find_due(alloc: Global, timers: &Timers) -> Result<Due, AllocError>
+    requires { AreOfOwners (due_of timers.now.running) }
+    ensures strangers { IfOk result (λ due. due.strangers.items ≡ ids_of (due_of timers.now.running)) }
+    ensures slots { IfOk result (λ due. due.slots.items ≡ slots_once None (due_of timers.now.running)) }
+{
+    let expiries = timers.due()?;
+    let ended = expiries.as_slice();
+    Ok(Due {
+        strangers: ids_of(alloc, ended)?,
+        slots: slots_of(alloc, ended)?,
+    })
+}
