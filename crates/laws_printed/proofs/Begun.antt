@@ -20,6 +20,7 @@ use Rattle.trace_player.specs.declared.progress.Progress.TheVariants.{Nothing, P
 use Rattle.trace_player.specs.Effects.{Effect, config_of, effect_of, nobody, running, with_subscriber, with_vector_at}
 use Rattle.trace_player.specs.Text.{Played, lines_of, play, played_of, then_play}
 use Rattle.trace_player.specs.TextLaws.{play-cons, play-nil}
+use Rattle.laws_printed.specs.Laws.{RunBeginsFresh}
 use Rattle.laws_printed.specs.Runs.{Run, begins_at, begun, events_in, once_provisioned, run_from, run_of}
 
 -- a run that a text is printed of: its MME was made of what is provisioned, of which there is not too much
@@ -146,6 +147,9 @@ run_is progress n (text ∷ texts) few =
 -- of a whole trace
 pub run_printed : (octets : List ℕ) (run : Run) → run_of octets ≡ Some run → IsRunOf run (played_of octets)
 run_printed octets run is = subst (λ (o : Option Run). RunIs o (played_of octets)) is (run_is Nothing 1 (lines_of octets) tt)
+
+pub begins_fresh : RunBeginsFresh
+begins_fresh octets run is = let r = run_printed octets run is in (r.config, r.provisioned, r.fresh, r.few)
 
 pub nothing_printed : (octets : List ℕ) → run_of octets ≡ None → (played_of octets).text ≡ []
 nothing_printed octets is = subst (λ (o : Option Run). RunIs o (played_of octets)) is (run_is Nothing 1 (lines_of octets) tt)

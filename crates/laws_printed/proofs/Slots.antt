@@ -28,16 +28,15 @@ no_order (e ∷ es) = no_order es
 -- ---- from any MME
 
 pub slot_is_printed_from : SlotIsTold → SlotIsPrintedFrom
-slot_is_printed_from told w line texts slot x apart there =
-    let few = apart.few in
+slot_is_printed_from told w line texts slot x rising few there =
     let low = there_is w.subscribers slot x there in
     lines_printed (Subscriber slot) w line texts (slot_agrees slot (omega (arith, few, low)) w (events_in w texts) few)
-    ∙ ap (told_lines (Subscriber slot)) (told w (events_in w texts) slot x apart.rising there)
+    ∙ ap (told_lines (Subscriber slot)) (told w (events_in w texts) slot x rising there)
 
 pub nobody_is_printed_from : NobodyIsTold → NobodyIsPrintedFrom
-nobody_is_printed_from told w line texts slot apart gone low =
-    lines_printed (Subscriber slot) w line texts (slot_agrees slot (omega (arith, low)) w (events_in w texts) apart.few)
-    ∙ ap (told_lines (Subscriber slot)) (told w (events_in w texts) slot apart.rising gone)
+nobody_is_printed_from told w line texts slot rising few gone low =
+    lines_printed (Subscriber slot) w line texts (slot_agrees slot (omega (arith, low)) w (events_in w texts) few)
+    ∙ ap (told_lines (Subscriber slot)) (told w (events_in w texts) slot rising gone)
     ∙ ap (map (told_line (Subscriber slot))) (no_order (events_in w texts))
 
 -- ---- of a trace
@@ -49,12 +48,14 @@ begins_apart begins octets run r =
 pub slot_is_printed : IdsBeginApart → SlotIsTold → SlotIsPrinted
 slot_is_printed begins told octets run slot x is there =
     let r = run_printed octets run is in
+    let apart = begins_apart begins octets run r in
     ap (lines_for (Subscriber slot)) r.printed
-    ∙ slot_is_printed_from told run.mme r.number r.texts slot x (begins_apart begins octets run r) there
+    ∙ slot_is_printed_from told run.mme r.number r.texts slot x apart.rising apart.few there
     ∙ ap (λ events. told_lines (Subscriber slot) (subscriber_told x (own_items slot run.mme events))) (sym r.events)
 
 pub nobody_is_printed : IdsBeginApart → NobodyIsTold → NobodyIsPrinted
 nobody_is_printed begins told octets run slot is gone low =
     let r = run_printed octets run is in
+    let apart = begins_apart begins octets run r in
     ap (lines_for (Subscriber slot)) r.printed
-    ∙ nobody_is_printed_from told run.mme r.number r.texts slot (begins_apart begins octets run r) gone low
+    ∙ nobody_is_printed_from told run.mme r.number r.texts slot apart.rising apart.few gone low

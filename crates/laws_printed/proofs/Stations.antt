@@ -213,13 +213,13 @@ station_agrees e small w (x ∷ es) low = (
 )
 
 pub station_is_printed_from : StationIsTold → StationIsPrintedFrom
-station_is_printed_from told w line texts e apart small =
+station_is_printed_from told w line texts e rising small =
     lines_printed (Station e) w line texts (station_agrees e small w (events_in w texts) (events_low w texts))
-    ∙ ap (told_lines (Station e)) (told w (events_in w texts) e apart.rising)
+    ∙ ap (told_lines (Station e)) (told w (events_in w texts) e rising)
 
 pub station_is_printed : IdsBeginApart → StationIsTold → StationIsPrinted
 station_is_printed begins told octets run e is small =
     let r = run_printed octets run is in
     ap (lines_for (Station e)) r.printed
-    ∙ station_is_printed_from told run.mme r.number r.texts e (begins_apart begins octets run r) small
+    ∙ station_is_printed_from told run.mme r.number r.texts e (begins_apart begins octets run r).rising small
     ∙ ap (λ events. told_lines (Station e) (station_told run.mme.sight e events)) (sym r.events)

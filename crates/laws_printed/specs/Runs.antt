@@ -14,7 +14,7 @@ use Rattle.trace_player.specs.Text.{lines_of}
 
 -- ---- events
 
--- n ticks; after one that is refused all are, and each leaves the MME as it was
+-- n ticks; after one that is refused all are refused, and none of these changes the MME
 abbrev pub seconds : ℕ → List Event
 seconds zero = []
 seconds (suc n) = event.Tick ∷ seconds n
@@ -39,7 +39,7 @@ abbrev pub text_events : World → Result Line TraceFault → Option (List Event
 text_events w (Ok line) = line_events w line
 text_events w (Err fault) = None
 
--- and those of the lines after it, to the MME that its own leave
+-- the events of a line, and of those after it, which find the MME as its own leave it; one with a fault is the last
 abbrev pub then_events : World → Option (List Event) → (World → List Event) → List Event
 then_events w None others = []
 then_events w (Some events) others = events ++ others (world_run w events)
@@ -64,12 +64,12 @@ is_provisioning (Sub profile) = true
 is_provisioning (Vec imsi vector) = true
 is_provisioning _ = false
 
--- by the MME that is made of what is provisioned, if there is one
+-- the run that begins with these lines, by the MME that is made of what is provisioned
 abbrev pub begun : Result World TraceFault → List (List ℕ) → Option Run
 begun (Ok w) texts = Some (record { mme = w; events = events_in w texts })
 begun (Err fault) texts = None
 
--- goes on after a line of provisioning that has no fault
+-- goes on after a line of provisioning, unless that has a fault
 abbrev pub once_provisioned : Effect → (Progress → Option Run) → Option Run
 once_provisioned (Ok done) others = others done.0
 once_provisioned (Err fault) others = None

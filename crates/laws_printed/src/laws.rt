@@ -1,6 +1,6 @@
 //! The laws: each is the contract of a function that does nothing.
 
-ghost use Rattle.laws_printed.specs.Laws.{NobodyIsPrinted, NobodyIsPrintedFrom, NothingIsPrinted, SameSlotIsPrinted, SameStationIsPrinted, SameStrangerIsPrinted, SlotIsPrinted, SlotIsPrintedFrom, StationIsPrinted, StationIsPrintedFrom, StrangerIsPrinted, StrangerIsPrintedFrom};
+ghost use Rattle.laws_printed.specs.Laws.{NobodyIsPrinted, NobodyIsPrintedFrom, NothingIsPrinted, RunBeginsFresh, SameSlotIsPrinted, SameStationIsPrinted, SameStrangerIsPrinted, SlotIsPrinted, SlotIsPrintedFrom, StationIsPrinted, StationIsPrintedFrom, StrangerIsPrinted, StrangerIsPrintedFrom};
 
 use laws_runs::{
     same_to_station, same_to_stranger, slots_run_alone, stations_run_alone, strangers_run_alone,
@@ -8,6 +8,11 @@ use laws_runs::{
 use laws_stations::everybody_is_placed;
 use laws_written::what_stations_tell_is_in_range;
 use mme_core::{ids_are_apart, same_to_slot, worlds_are_kept};
+
+/// What happens in a trace happens to an MME that nobody has spoken to before, with a slot for each who is provisioned.
+pub fn runs_begin_fresh()
+    ensures { RunBeginsFresh }
+{}
 
 /// A trace of which no line comes to an MME prints nothing.
 pub fn no_run_prints_nothing()
