@@ -1,5 +1,5 @@
 -- Each action keeps what is known of the radio keys, and hands out one key at most.
-use Rattle.std.proofs.Common.{◌≡◌, ℕ, suc, ◌+◌, ◌-◌, ◌^◌, ◌<◌, ◌≤◌, Bool, true, false, cond, List, [], ◌++◌, All, Option, Some, None, slice_get, refl, sym, ◌∙◌, ap, subst, append-nil, arith}
+use Rattle.std.proofs.Common.{◌≡◌, ◌⊎◌, inl, inr, ℕ, suc, ◌+◌, ◌-◌, ◌^◌, ◌<◌, ◌≤◌, Bool, true, false, cond, List, [], ◌++◌, All, Option, Some, None, slice_get, refl, sym, ◌∙◌, ap, subst, append-nil, arith}
 use Rattle.std.specs.Option.{option_map_or}
 use Rattle.std.proofs.lemmas.List.Elements.{All-push}
 use Rattle.std.proofs.lemmas.Option.{same_Some}
@@ -37,8 +37,9 @@ use Rattle.laws_admission.specs.Sound.{hop_at, is_past_proof}
 use Rattle.laws_steps.specs.Keeps.{Whenever}
 use Rattle.laws_steps.specs.Walk.{at_some, either, either_by, some}
 use Rattle.laws_fresh_keys.specs.Handed.{HasKey, RadioKey}
+use Rattle.laws_fresh_keys.specs.OfMessage.{IsKept, IsOfAccepted, kenb_in}
 use Rattle.laws_fresh_keys.proofs.Order.{IsUpTo, after, hop_up, key, up_to_trans}
-use Rattle.laws_fresh_keys.proofs.Holding.{Due, Given, HeldIn, Holds, IsHeld, IsOfVector, counted, floor_le, floor_of, hop_is, hopped_is, keyed_by, part_of, past_keyed, registered_holds, registered_past, round_is, settled, unkeyed, yet}
+use Rattle.laws_fresh_keys.proofs.Holding.{Due, Given, HeldIn, Holds, IsHeld, IsOfVector, counted, floor_le, floor_of, hop_is, hopped_is, kenb_floor, part_of, past_keyed, registered_holds, registered_past, round_is, settled, unkeyed, yet}
 
 -- ---- what is sent
 
@@ -63,25 +64,31 @@ pub record IsQuiet (s : Setting) (f : RadioKey) (d : Draft) : Type 0 where
   pub held : HeldIn s.vectors f (part_of d.solo.phase) (next_place d.solo.phase d.solo.next_vector) d.solo.context
   pub keyless : All IsKeyless d.sent
 
--- nothing, and the context's KeNB, which is this key, is due
-pub record IsDue (s : Setting) (f : RadioKey) (kenb : List ℕ) (d : Draft) : Type 0 where
+-- a context whose KeNB, which is this key, is due: of the count that was accepted, or kept since before the step
+pub record IsDueAt (vectors : List Vector) (f : RadioKey) (b : Solo) (kenb : List ℕ) (next : ℕ) (accepted : Option Mark)
+    (x : Context) : Type 0 where
+  pub below : x.place < next
+  pub vector : IsOfVector vectors x.place x.kasme
+  pub due : Holds Due f x.place x.kasme x.radio x.security.up_last
+  pub key : kenb ≡ x.radio.kenb
+  pub source : (accepted ≡ Some (record { place = x.place; count = due.0 })) ⊎ IsKept b kenb
+
+-- nothing, and the context is such a one
+pub record IsDue (s : Setting) (f : RadioKey) (b : Solo) (kenb : List ℕ) (d : Draft) : Type 0 where
   pub context : Context
   pub stands : d.solo.context ≡ Some context
-  pub below : context.place < d.solo.next_vector
-  pub vector : IsOfVector s.vectors context.place context.kasme
-  pub due : Holds Due f context.place context.kasme context.radio context.security.up_last
-  pub key : kenb ≡ context.radio.kenb
+  pub facts : IsDueAt s.vectors f b kenb d.solo.next_vector d.accepted context
   pub keyless : All IsKeyless d.sent
 
 -- and the phase is one in which it may be handed out
-pub record IsReady (s : Setting) (f : RadioKey) (kenb : List ℕ) (d : Draft) : Type 0 where
-  pub due : IsDue s f kenb d
+pub record IsReady (s : Setting) (f : RadioKey) (b : Solo) (kenb : List ℕ) (d : Draft) : Type 0 where
+  pub due : IsDue s f b kenb d
   pub vector : HasVector d.solo.phase d.solo.next_vector
   pub part : part_of d.solo.phase ≡ Given
   pub next : next_place d.solo.phase d.solo.next_vector ≡ d.solo.next_vector
 
 -- one key was handed out, last of all
-pub record IsGiven (s : Setting) (k : RadioKey) (d : Draft) : Type 0 where
+pub record IsGiven (s : Setting) (b : Solo) (k : RadioKey) (d : Draft) : Type 0 where
   pub state : IsHeld s (after k) d.solo
   pub earlier : List Answer
   pub keyless : All IsKeyless earlier
@@ -96,10 +103,12 @@ pub record IsGiven (s : Setting) (k : RadioKey) (d : Draft) : Type 0 where
   pub there : slice_get s.vectors k.place ≡ Some vector
   pub fits : k.count < 2 ^ 24
   pub key : HasKey vector.kasme k message
+  pub source : (kenb : List ℕ) → kenb_in message ≡ Some kenb → IsOfAccepted s.vectors d.accepted kenb ⊎ IsKept b kenb
 
-pub data IsDone (s : Setting) (f : RadioKey) (d : Draft) : Type 0 where
-  Silent : IsQuiet s f d → IsDone s f d
-  Gives : (k : RadioKey) → IsUpTo f k → IsGiven s k d → IsDone s f d
+-- of a step from a state
+pub data IsDone (s : Setting) (f : RadioKey) (b : Solo) (d : Draft) : Type 0 where
+  Silent : IsQuiet s f d → IsDone s f b d
+  Gives : (k : RadioKey) → IsUpTo f k → IsGiven s b k d → IsDone s f b d
 
 -- ---- what the keys depend on
 
@@ -173,7 +182,7 @@ module _ {s : Setting} {f : RadioKey} where
     keyless = subst (λ (k : Kept). All IsKeyless k.sent) (sym same) h.keyless;
   }
 
-  pub done_if : {o : Option Draft} → Whenever (IsQuiet s f) o → Whenever (IsDone s f) o
+  pub done_if : {b : Solo} {o : Option Draft} → Whenever (IsQuiet s f) o → Whenever (IsDone s f b) o
   done_if h = record { at = λ d is. Silent (h.at d is) }
 
   -- of the context as it is known
@@ -327,37 +336,45 @@ module _ {s : Setting} {f : RadioKey} where
         keyless = h.keyless;
       }
 
-  pub due_keyed : {d : Draft} (x : Context) (count : ℕ) → d.solo.context ≡ Some x → first_after x.security.up_last ≤ count
-      → count < 2 ^ 24 → IsQuiet s f d → IsDue s f (kenb x.kasme count) (keyed (counted_up x count) count d)
+  pub due_keyed : {b : Solo} {d : Draft} (x : Context) (count : ℕ) → d.solo.context ≡ Some x
+      → first_after x.security.up_last ≤ count → count < 2 ^ 24 → IsQuiet s f d → IsDue s f b (kenb x.kasme count) (keyed (counted_up x count) count d)
   unfolding keyed took
-  due_keyed {d} x count is high fits h =
+  due_keyed {d = d} x count is high fits h =
       let k = at_context x is h in
       let below : x.place < next_place d.solo.phase d.solo.next_vector = k.0 in
       let low : next_place d.solo.phase d.solo.next_vector ≤ d.solo.next_vector = floor_le d.solo.phase d.solo.next_vector in
       record {
         context = record (counted_up x count) { radio = keys_of x.kasme count };
         stands = refl;
-        below = omega arith;
-        vector = k.1;
-        due = keyed_by f x.place x.kasme x.security.up_last count high fits
-            (yet (part_of d.solo.phase) f x.place x.kasme x.radio x.security.up_last k.2);
-        key = refl;
+        facts = record {
+          below = omega arith;
+          vector = k.1;
+          due = (
+            count,
+            fits,
+            omega arith,
+            refl,
+            kenb_floor f x.place x.security.up_last count high
+                (yet (part_of d.solo.phase) f x.place x.kasme x.radio x.security.up_last k.2),
+          );
+          key = refl;
+          source = inl refl;
+        };
         keyless = h.keyless;
       }
 
   -- ---- what hands out a key
 
-  spends_ready : (kenb : List ℕ) → Spends (IsReady s f kenb)
-  spends_ready kenb d x is h =
-      let same = same_Some h.due.context x (sym h.due.stands ∙ is) in
+  spends_ready : {b : Solo} (kenb : List ℕ) → Spends (IsReady s f b kenb)
+  spends_ready {b} kenb d x is h =
+      let has : IsDueAt s.vectors f b kenb d.solo.next_vector d.accepted x =
+      subst (IsDueAt s.vectors f b kenb d.solo.next_vector d.accepted) (same_Some h.due.context x (sym h.due.stands ∙ is))
+      h.due.facts in
       record {
         due = record {
           context = spent x;
           stands = refl;
-          below = subst (λ (y : Context). y.place < d.solo.next_vector) same h.due.below;
-          vector = subst (λ (y : Context). IsOfVector s.vectors y.place y.kasme) same h.due.vector;
-          due = subst (λ (y : Context). Holds Due f y.place y.kasme y.radio y.security.up_last) same h.due.due;
-          key = subst (λ (y : Context). kenb ≡ y.radio.kenb) same h.due.key;
+          facts = record { below = has.below; vector = has.vector; due = has.due; key = has.key; source = has.source };
           keyless = h.due.keyless;
         };
         vector = h.vector;
@@ -365,30 +382,43 @@ module _ {s : Setting} {f : RadioKey} where
         next = h.next;
       }
 
-  pub seals_ready : (header : SecurityHeader) (nas kenb : List ℕ) (d : Draft) → IsReady s f kenb d
-      → IsSealed (IsReady s f kenb) (seal header nas d)
-  seals_ready header nas kenb d h = seals {P = IsReady s f kenb} header nas d (spends_ready kenb) h
+  pub seals_ready : {b : Solo} (header : SecurityHeader) (nas kenb : List ℕ) (d : Draft) → IsReady s f b kenb d
+      → IsSealed (IsReady s f b kenb) (seal header nas d)
+  seals_ready {b} header nas kenb d h = seals {P = IsReady s f b kenb} header nas d (spends_ready kenb) h
 
   -- what is held of a context that stands in such a phase
-  ready_holds : {kenb : List ℕ} {d : Draft} (g : RadioKey) (h : IsReady s f kenb d)
+  ready_holds : {b : Solo} {kenb : List ℕ} {d : Draft} (g : RadioKey) (h : IsReady s f b kenb d)
       → Holds Given g h.due.context.place h.due.context.kasme h.due.context.radio h.due.context.security.up_last
       → HeldIn s.vectors g (part_of d.solo.phase) (next_place d.solo.phase d.solo.next_vector) d.solo.context
   ready_holds {d = d} g h given =
       let stands : HeldIn s.vectors g Given d.solo.next_vector d.solo.context =
-      subst (HeldIn s.vectors g Given d.solo.next_vector) (sym h.due.stands) (h.due.below, h.due.vector, given) in
+      subst (HeldIn s.vectors g Given d.solo.next_vector) (sym h.due.stands) (h.due.facts.below, h.due.facts.vector, given) in
       let placed : HeldIn s.vectors g Given (next_place d.solo.phase d.solo.next_vector) d.solo.context =
       subst (λ (n : ℕ). HeldIn s.vectors g Given n d.solo.context) (sym h.next) stands in
       subst (λ p. HeldIn s.vectors g p (next_place d.solo.phase d.solo.next_vector) d.solo.context) (sym h.part) placed
 
   -- KeNB, to where the phone is connected
-  pub done_set_up : {d : Draft} (kenb_given : List ℕ) (nas : Option (List ℕ)) (under : Option Mark) → IsReady s f kenb_given d
-      → IsDone s f (set_up s kenb_given nas under d)
+  pub done_set_up : {b : Solo} {d : Draft} (kenb_given : List ℕ) (nas : Option (List ℕ)) (under : Option Mark)
+      → IsReady s f b kenb_given d → IsDone s f b (set_up s kenb_given nas under d)
   unfolding set_up emit context_setup
-  done_set_up {d} kenb_given nas under h =
+  done_set_up {b} {d} kenb_given nas under h =
       let x = h.due.context in
-      let due = h.due.due in
+      let facts = h.due.facts in
+      let due = facts.due in
       let k : RadioKey = key x.place due.0 0 in
-      at_some (IsDone s f) d.solo.connection
+      let is_kenb : kenb_given ≡ kenb facts.vector.0.kasme due.0 =
+      facts.key ∙ ap (λ (keys : RadioKeys). keys.kenb) due.3 ∙ ap (λ (kasme : List ℕ). kenb kasme due.0) facts.vector.2 in
+      let source : IsOfAccepted s.vectors d.accepted kenb_given ⊎ IsKept b kenb_given = elim facts.source [
+        | inl accepted ↦ inl (record {
+          mark = record { place = x.place; count = due.0 };
+          is_accepted = accepted;
+          vector = facts.vector.0;
+          there = facts.vector.1;
+          is_kenb = is_kenb;
+        })
+        | inr kept_so ↦ inr kept_so
+      ] in
+      at_some (IsDone s f b) d.solo.connection
       (λ c is. Gives k due.4 (record {
         state = record {
           vector = h.vector;
@@ -403,13 +433,12 @@ module _ {s : Setting} {f : RadioKey} where
         sent = refl;
         ids = (refl, refl);
         radio = refl;
-        vector = h.due.vector.0;
-        there = h.due.vector.1;
+        vector = facts.vector.0;
+        there = facts.vector.1;
         fits = due.1;
-        key = (
-          refl,
-          h.due.key ∙ ap (λ (keys : RadioKeys). keys.kenb) due.3 ∙ ap (λ (kasme : List ℕ). kenb kasme due.0) h.due.vector.2,
-        );
+        key = (refl, is_kenb);
+        source = λ other same.
+            subst (λ (n : List ℕ). IsOfAccepted s.vectors d.accepted n ⊎ IsKept b n) (same_Some kenb_given other same) source;
       }))
       (λ is. Silent (record {
         vector = h.vector;
@@ -424,7 +453,8 @@ module _ {s : Setting} {f : RadioKey} where
         keyless = h.due.keyless;
       }))
 
-  pub done_start : {d : Draft} (timer : NasTimer) (repeat : Repeat) → IsDone s f d → IsDone s f (start timer repeat d)
+  pub done_start : {b : Solo} {d : Draft} (timer : NasTimer) (repeat : Repeat) → IsDone s f b d
+      → IsDone s f b (start timer repeat d)
   unfolding start
   done_start timer repeat (Silent q) = Silent (quiet q refl)
   done_start timer repeat (Gives k up g) = Gives k up (record {
@@ -442,13 +472,14 @@ module _ {s : Setting} {f : RadioKey} where
     there = g.there;
     fits = g.fits;
     key = g.key;
+    source = g.source;
   })
 
   -- the next hop, to where the connection now is
-  pub done_switched : {d : Draft} (m : UeMessage (List ℕ)) (x : Context) → d.solo.context ≡ Some x
-      → is_registered d.solo.phase ≡ true → IsQuiet s f d → IsDone s f (switched m x d)
+  pub done_switched : {b : Solo} {d : Draft} (m : UeMessage (List ℕ)) (x : Context) → d.solo.context ≡ Some x
+      → is_registered d.solo.phase ≡ true → IsQuiet s f d → IsDone s f b (switched m x d)
   unfolding switched emit path_switch_acknowledge
-  done_switched {d} m x is registered h =
+  done_switched {d = d} m x is registered h =
       let has : HeldIn s.vectors f Given d.solo.next_vector (Some x) =
       subst (HeldIn s.vectors f Given d.solo.next_vector) is (past_held (registered_past d.solo.phase registered) h) in
       let of = has.1 in
@@ -491,4 +522,5 @@ module _ {s : Setting} {f : RadioKey} where
               ∙ ap (λ (kasme : List ℕ). hop_at (suc (suc moves)) kasme (kenb kasme count)) of.2,
           ap (λ (keys : RadioKeys). next_chaining_count keys.chaining_count) holds.4 ∙ round_is moves,
         );
+        source = λ other same. absurd (cc same);
       })

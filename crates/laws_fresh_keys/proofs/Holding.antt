@@ -132,12 +132,11 @@ counted Due f place kasme radio up count high h =
 counted Given f place kasme radio up count high h =
     let low : h.0 < first_after up = h.3 in (h.0, h.1, h.2, omega arith, h.4, h.5)
 
--- and gives KeNB
-pub keyed_by : (f : RadioKey) (place : ℕ) (kasme : List ℕ) (up : Option ℕ) (count : ℕ) → first_after up ≤ count → count < 2 ^ 24
-    → IsUpTo f (key place (first_after up) 0) → Holds Due f place kasme (keys_after 0 kasme count) (Some count)
-keyed_by f place kasme up count high fits h =
-    let least = up_to_trans f (key place (first_after up) 0) (key place count 0) h (count_up place (first_after up) count high) in
-    (count, fits, omega arith, refl, least)
+-- and its KeNB may come
+pub kenb_floor : (f : RadioKey) (place : ℕ) (up : Option ℕ) (count : ℕ) → first_after up ≤ count
+    → IsUpTo f (key place (first_after up) 0) → IsUpTo f (key place count 0)
+kenb_floor f place up count high h =
+    up_to_trans f (key place (first_after up) 0) (key place count 0) h (count_up place (first_after up) count high)
 
 -- a phone that is registered holds what is given
 pub registered_holds : (vectors : List Vector) (f : RadioKey) (phase : Phase) (next : ℕ) (o : Option Context)

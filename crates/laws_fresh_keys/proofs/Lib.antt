@@ -4,3 +4,4 @@ mod Actions
 mod Rows
 mod Runs
 mod OfMme
+mod OfMessage

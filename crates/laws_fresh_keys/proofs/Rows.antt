@@ -1,5 +1,5 @@
 -- Each row keeps what is known of the radio keys, and hands out one key at most; and so does the step.
-use Rattle.std.proofs.Common.{◌≡◌, ℕ, ◌-◌, ◌^◌, ◌<◌, ◌≤◌, Bool, true, false, not, List, [], ◌∷◌, Option, Some, None, Result, Ok, Err, unwrap_or, slice_get, refl, sym, ◌∙◌, ap, subst, arith}
+use Rattle.std.proofs.Common.{◌≡◌, ℕ, ◌-◌, ◌^◌, ◌<◌, ◌≤◌, Bool, true, false, not, List, [], ◌∷◌, Option, Some, None, Result, Ok, Err, unwrap_or, slice_get, refl, sym, ◌∙◌, ap, subst, arith, inr}
 use Rattle.std.specs.Prelude.{nat_lt, length}
 use Rattle.std.proofs.lemmas.List.Elements.{All-nil}
 use Rattle.esm_machine.specs.declared.reaction.Reaction.{Reaction}
@@ -63,6 +63,8 @@ use Rattle.emm_machine.specs.Steps as steps
 use Rattle.laws_admission.specs.Sound.{is_past_proof}
 use Rattle.laws_steps.specs.Keeps.{Whenever}
 use Rattle.laws_steps.specs.Walk.{at_some, either, either_by, some, then}
+use Rattle.std.proofs.lemmas.Option.{same_Some}
+use Rattle.mme_types.specs.declared.connection.RadioKeys.{RadioKeys}
 use Rattle.laws_fresh_keys.specs.Handed.{RadioKey}
 use Rattle.laws_fresh_keys.proofs.Order.{IsUpTo, first_of}
 use Rattle.laws_fresh_keys.proofs.Holding.{Due, HeldIn, IsHeld, floor_of, part_of, registered_past}
@@ -130,7 +132,16 @@ in_information : (phase : Phase) → is EsmInformation phase ≡ true → phase 
 in_information EsmInformation h = refl
 in_information _ h = absurd (cc h)
 
-module _ (whole : WholeIsFresh) (short : ShortIsFresh) {s : Setting} {f : RadioKey} where
+-- a step under way has the phase that it began in, and the radio keys of the context that it began with
+record IsFrom (b : Solo) (d : Draft) : Type 0 where
+  phase : d.solo.phase ≡ b.phase
+  before : Context
+  was : b.context ≡ Some before
+  now : Context
+  is_now : d.solo.context ≡ Some now
+  radio : now.radio ≡ before.radio
+
+module _ (whole : WholeIsFresh) (short : ShortIsFresh) {s : Setting} {f : RadioKey} (b : Solo) where
   -- ---- attaching
 
   quiet_attach_refused : {d : Draft} (cause : EmmCause) (esm : Option (List ℕ)) → IsQuiet s f d
@@ -163,7 +174,8 @@ module _ (whole : WholeIsFresh) (short : ShortIsFresh) {s : Setting} {f : RadioK
 
   -- the vector that was taken last becomes a context
   quiet_authenticated : {d : Draft} (v : Vector) → slice_get s.vectors (d.solo.next_vector - 1) ≡ Some v
-      → d.solo.phase ≡ Authenticating → IsQuiet s f d → Whenever (IsQuiet s f) (attaching.authenticated (d.solo.next_vector - 1) v d)
+      → d.solo.phase ≡ Authenticating → IsQuiet s f d
+      → Whenever (IsQuiet s f) (attaching.authenticated (d.solo.next_vector - 1) v d)
   unfolding attaching.authenticated attaching.new_context
   quiet_authenticated {d} v there phase h =
       let taken : 0 < d.solo.next_vector = subst (λ (p : Phase). HasVector p d.solo.next_vector) phase h.vector in
@@ -208,17 +220,20 @@ module _ (whole : WholeIsFresh) (short : ShortIsFresh) {s : Setting} {f : RadioK
   quiet_authenticating _ phase h = some (quiet_status_plainly _ h)
 
   -- ATTACH ACCEPT goes with the KeNB that is due
-  done_accept : {d : Draft} (key : List ℕ) → IsDue s f key d → Whenever (IsDone s f) (attaching.accept s key d)
+  done_accept : {d : Draft} (key : List ℕ) → IsDue s f b key d → Whenever (IsDone s f b) (attaching.accept s key d)
   unfolding attaching.accept attaching.activating attaching.given_tmsi set_up_with
   done_accept {d} key h =
-      let ready : IsReady s f key (attaching.activating (attaching.given_tmsi s d)) = record {
+      let ready : IsReady s f b key (attaching.activating (attaching.given_tmsi s d)) = record {
         due = record {
           context = h.context;
           stands = h.stands;
-          below = h.below;
-          vector = h.vector;
-          due = h.due;
-          key = h.key;
+          facts = record {
+            below = h.facts.below;
+            vector = h.facts.vector;
+            due = h.facts.due;
+            key = h.facts.key;
+            source = h.facts.source;
+          };
           keyless = h.keyless;
         };
         vector = tt;
@@ -229,12 +244,12 @@ module _ (whole : WholeIsFresh) (short : ShortIsFresh) {s : Setting} {f : RadioK
       (sealed_then _ (seals_ready IntegrityProtectedCiphered _ key _ ready) (λ y r. done_set_up key (Some y.0.form) y.0.under r))
       (λ e g. done_start _ _ g)
 
-  quiet_ask_information : {d : Draft} {key : List ℕ} → IsDue s f key d → Whenever (IsQuiet s f) (attaching.ask_information d)
+  quiet_ask_information : {d : Draft} {key : List ℕ} → IsDue s f b key d → Whenever (IsQuiet s f) (attaching.ask_information d)
   unfolding attaching.ask_information
   quiet_ask_information {d} h =
       then _ (quiet_protect _ _ (record {
         vector = tt;
-        held = subst (HeldIn s.vectors f Due d.solo.next_vector) (sym h.stands) (h.below, h.vector, h.due);
+        held = subst (HeldIn s.vectors f Due d.solo.next_vector) (sym h.stands) (h.facts.below, h.facts.vector, h.facts.due);
         keyless = h.keyless;
       }))
       (λ e g. quiet_start _ _ g)
@@ -244,24 +259,24 @@ module _ (whole : WholeIsFresh) (short : ShortIsFresh) {s : Setting} {f : RadioK
   quiet_not_secured nas h = either (IsQuiet s f) _ (quiet_fall _ h) h
 
   done_secured : {d : Draft} (x : Context) (count : ℕ) → d.solo.context ≡ Some x → IsNext x count → IsQuiet s f d
-      → Whenever (IsDone s f) (attaching.secured s (counted_up x count) count d)
+      → Whenever (IsDone s f b) (attaching.secured s (counted_up x count) count d)
   unfolding attaching.secured
   done_secured x count is high h =
       let due = due_keyed x count is high.0 high.1 h in
-      either (Whenever (IsDone s f)) _ (done_if (quiet_ask_information due)) (done_accept (kenb x.kasme count) due)
+      either (Whenever (IsDone s f b)) _ (done_if (quiet_ask_information due)) (done_accept (kenb x.kasme count) due)
 
   done_secured_by : {d : Draft} (r : Acceptance) (x : Context) (nas : List ℕ) → d.solo.context ≡ Some x → IsHigh x r → IsQuiet s f d
-      → Whenever (IsDone s f) (attaching.secured_by r s x nas d)
+      → Whenever (IsDone s f b) (attaching.secured_by r s x nas d)
   unfolding attaching.secured_by
   done_secured_by (Ok found) x nas is high h =
-      either (Whenever (IsDone s f)) _ (done_secured x found.0 is (high found refl) h)
+      either (Whenever (IsDone s f b)) _ (done_secured x found.0 is (high found refl) h)
       (some (Silent (quiet_took x found.0 is (high found refl).0 h)))
   done_secured_by (Err fault) x nas is high h = some (Silent (quiet_not_secured nas h))
 
-  done_in_security_mode : {d : Draft} (nas : List ℕ) → IsQuiet s f d → Whenever (IsDone s f) (attaching.in_security_mode s nas d)
+  done_in_security_mode : {d : Draft} (nas : List ℕ) → IsQuiet s f d → Whenever (IsDone s f b) (attaching.in_security_mode s nas d)
   unfolding attaching.in_security_mode
   done_in_security_mode {d} nas h =
-      at_some (Whenever (IsDone s f)) d.solo.context
+      at_some (Whenever (IsDone s f b)) d.solo.context
       (λ x is. done_secured_by _ x nas is (λ found e. whole _ _ _ _ found.0 found.1 e) h)
       (λ is. some (Silent (quiet_not_secured nas h)))
 
@@ -269,7 +284,7 @@ module _ (whole : WholeIsFresh) (short : ShortIsFresh) {s : Setting} {f : RadioK
 
   done_served_by : {d : Draft} (r : Result ℕ SecurityFault) (x : Context) (m : Entry (List ℕ)) → d.solo.context ≡ Some x
       → ((count : ℕ) → r ≡ Ok count → IsNext x count) → is_registered d.solo.phase ≡ true → IsQuiet s f d
-      → IsDone s f (serving.served_by r s x m d)
+      → IsDone s f b (serving.served_by r s x m d)
   unfolding serving.served_by serving.served serving.active ended attaching.keyed attaching.took
   done_served_by {d} (Ok count) x m is high registered h =
       let past = ap is_past_proof (connect_phase s.slot m.station m.enb_ue_id d) ∙ registered_past d.solo.phase registered in
@@ -283,11 +298,11 @@ module _ (whole : WholeIsFresh) (short : ShortIsFresh) {s : Setting} {f : RadioK
       })
   done_served_by (Err fault) x m is high registered h = Silent (quiet_refuse s.slot m.station m.enb_ue_id _ h)
 
-  done_service : {d : Draft} (m : Entry (List ℕ)) (octets : List ℕ) → IsQuiet s f d → IsDone s f (serving.service s m octets d)
+  done_service : {d : Draft} (m : Entry (List ℕ)) (octets : List ℕ) → IsQuiet s f d → IsDone s f b (serving.service s m octets d)
   unfolding serving.service
   done_service {d} m octets h =
-      either_by (IsDone s f) (is_registered d.solo.phase)
-      (λ r. at_some (IsDone s f) d.solo.context
+      either_by (IsDone s f b) (is_registered d.solo.phase)
+      (λ r. at_some (IsDone s f b) d.solo.context
       (λ x is. done_served_by _ x m is (λ count e. short _ _ _ _ count e) r h)
       (λ is. Silent (quiet_refuse s.slot m.station m.enb_ue_id _ h)))
       (λ r. Silent (quiet_refuse s.slot m.station m.enb_ue_id _ h))
@@ -344,7 +359,7 @@ module _ (whole : WholeIsFresh) (short : ShortIsFresh) {s : Setting} {f : RadioK
       (λ is. some (quiet_turn_away s.slot m.station m.enb_ue_id h)))
 
   done_entered : {d : Draft} (m : Heard (List ℕ)) (e : Entry (List ℕ)) → IsQuiet s f d
-      → Whenever (IsDone s f) (serving.entered m s e d)
+      → Whenever (IsDone s f b) (serving.entered m s e d)
   unfolding serving.entered
   done_entered (heards.AttachRequest combined capability esm) e h =
       some (Silent (quiet_attach combined capability esm e.tai (quiet_connect s.slot e.station e.enb_ue_id h)))
@@ -397,61 +412,72 @@ module _ (whole : WholeIsFresh) (short : ShortIsFresh) {s : Setting} {f : RadioK
   quiet_inner_emm _ tai past h = quiet_status _ h
 
   -- ESM information comes where KeNB is due
-  done_information_came : {d : Draft} → d.solo.phase ≡ EsmInformation → IsQuiet s f d
-      → Whenever (IsDone s f) (serving.information_came s d)
+  done_information_came : {d : Draft} → d.solo.phase ≡ EsmInformation → IsFrom b d → IsQuiet s f d
+      → Whenever (IsDone s f b) (serving.information_came s d)
   unfolding serving.information_came
-  done_information_came {d} phase h =
-      at_some (Whenever (IsDone s f)) d.solo.context
+  done_information_came {d} phase from h =
+      at_some (Whenever (IsDone s f b)) d.solo.context
       (λ x is.
       let has : HeldIn s.vectors f Due d.solo.next_vector (Some x) =
       subst (λ (p : Phase). HeldIn s.vectors f (part_of p) (next_place p d.solo.next_vector) (Some x)) phase (at_context x is h) in
+      let same : x ≡ from.now = same_Some x from.now (sym is ∙ from.is_now) in
       done_accept x.radio.kenb (record {
         context = x;
         stands = is;
-        below = has.0;
-        vector = has.1;
-        due = has.2;
-        key = refl;
+        facts = record {
+          below = has.0;
+          vector = has.1;
+          due = has.2;
+          key = refl;
+          source = inr (record {
+            asked = sym from.phase ∙ phase;
+            context = from.before;
+            stands = from.was;
+            is_kenb = ap (λ (y : Context). y.radio.kenb) same ∙ ap (λ (keys : RadioKeys). keys.kenb) from.radio;
+          });
+        };
         keyless = h.keyless;
       }))
       (λ is. some (Silent h))
 
-  done_reacted : {d : Draft} (r : Reaction (List ℕ)) → (r ≡ reactions.Informed → d.solo.phase ≡ EsmInformation) → IsQuiet s f d
-      → Whenever (IsDone s f) (serving.reacted r s d)
+  done_reacted : {d : Draft} (r : Reaction (List ℕ)) → (r ≡ reactions.Informed → d.solo.phase ≡ EsmInformation) → IsFrom b d
+      → IsQuiet s f d → Whenever (IsDone s f b) (serving.reacted r s d)
   unfolding serving.reacted
-  done_reacted reactions.Nothing asked h = some (Silent h)
-  done_reacted reactions.Informed asked h = done_information_came (asked refl) h
-  done_reacted (reactions.Answer octets) asked h = done_if (quiet_protect _ octets h)
+  done_reacted reactions.Nothing asked from h = some (Silent h)
+  done_reacted reactions.Informed asked from h = done_information_came (asked refl) from h
+  done_reacted (reactions.Answer octets) asked from h = done_if (quiet_protect _ octets h)
 
-  done_inner_message : {d : Draft} (octets : List ℕ) (tai : Tai) → is_past_proof d.solo.phase ≡ true → IsQuiet s f d
-      → Whenever (IsDone s f) (serving.inner_message octets s tai d)
+  done_inner_message : {d : Draft} (octets : List ℕ) (tai : Tai) → is_past_proof d.solo.phase ≡ true → IsFrom b d → IsQuiet s f d
+      → Whenever (IsDone s f b) (serving.inner_message octets s tai d)
   unfolding serving.inner_message serving.inner_esm
-  done_inner_message {d} octets tai past h =
-      either (Whenever (IsDone s f)) _
+  done_inner_message {d} octets tai past from h =
+      either (Whenever (IsDone s f b)) _
       (done_reacted _
-      (λ told. in_information d.solo.phase (informs_asked d.solo.bearer (is EsmInformation d.solo.phase) octets told)) h)
+      (λ told. in_information d.solo.phase (informs_asked d.solo.bearer (is EsmInformation d.solo.phase) octets told)) from h)
       (done_if (quiet_inner_emm (heard octets) tai past h))
 
-  done_inner_message_by : {d : Draft} (r : Acceptance) (x : Context) (tai : Tai) → d.solo.context ≡ Some x → IsHigh x r
-      → is_past_proof d.solo.phase ≡ true → IsQuiet s f d → Whenever (IsDone s f) (serving.inner_message_by r s x tai d)
+  done_inner_message_by : (r : Acceptance) (x : Context) (tai : Tai) → b.context ≡ Some x → IsHigh x r
+      → is_past_proof b.phase ≡ true → IsQuiet s f (untouched b) → Whenever (IsDone s f b) (serving.inner_message_by r s x tai (untouched b))
   unfolding serving.inner_message_by attaching.took
   done_inner_message_by (Ok found) x tai is high past h =
-      done_inner_message found.1 tai past (quiet_took x found.0 is (high found refl).0 h)
+      done_inner_message found.1 tai past
+      (record { phase = refl; before = x; was = is; now = counted_up x found.0; is_now = refl; radio = refl })
+      (quiet_took x found.0 is (high found refl).0 h)
   done_inner_message_by (Err fault) x tai is high past h = some (Silent h)
 
-  done_in_later : {d : Draft} (tai : Tai) (nas : List ℕ) → is_past_proof d.solo.phase ≡ true → IsQuiet s f d
-      → Whenever (IsDone s f) (serving.in_later s tai nas d)
+  done_in_later : (tai : Tai) (nas : List ℕ) → is_past_proof b.phase ≡ true → IsQuiet s f (untouched b)
+      → Whenever (IsDone s f b) (serving.in_later s tai nas (untouched b))
   unfolding serving.in_later
-  done_in_later {d} tai nas past h =
-      at_some (Whenever (IsDone s f)) d.solo.context
+  done_in_later tai nas past h =
+      at_some (Whenever (IsDone s f b)) b.context
       (λ x is. done_inner_message_by _ x tai is (λ found e. whole _ _ _ _ found.0 found.1 e) past h) (λ is. some (Silent h))
 
-  done_uplink : {d : Draft} (phase : Phase) (tai : Tai) (nas : List ℕ) → d.solo.phase ≡ phase → IsQuiet s f d
-      → Whenever (IsDone s f) (serving.uplink phase s tai nas d)
+  done_uplink : (phase : Phase) (tai : Tai) (nas : List ℕ) → b.phase ≡ phase → IsQuiet s f (untouched b)
+      → Whenever (IsDone s f b) (serving.uplink phase s tai nas (untouched b))
   unfolding serving.uplink attaching.in_authenticating
   done_uplink Deregistered tai nas is_in h = some (Silent h)
   done_uplink Authenticating tai nas is_in h =
-      either (Whenever (IsDone s f)) _ (done_if (quiet_authenticating (heard nas) is_in h)) (some (Silent h))
+      either (Whenever (IsDone s f b)) _ (done_if (quiet_authenticating (heard nas) is_in h)) (some (Silent h))
   done_uplink SecurityMode tai nas is_in h = done_in_security_mode nas h
   done_uplink EsmInformation tai nas is_in h = done_in_later tai nas (ap is_past_proof is_in) h
   done_uplink Accepting tai nas is_in h = done_in_later tai nas (ap is_past_proof is_in) h
@@ -461,10 +487,10 @@ module _ (whole : WholeIsFresh) (short : ShortIsFresh) {s : Setting} {f : RadioK
 
   -- ---- messages on an association
 
-  done_on_connection : {d : Draft} (body : UeBody (List ℕ)) → IsQuiet s f d
-      → Whenever (IsDone s f) (connected.on_connection body s d)
+  done_on_connection : (body : UeBody (List ℕ)) → IsQuiet s f (untouched b)
+      → Whenever (IsDone s f b) (connected.on_connection body s (untouched b))
   unfolding connected.on_connection
-  done_on_connection {d} (bodies.Uplink nas tai) h = done_uplink d.solo.phase tai nas refl h
+  done_on_connection (bodies.Uplink nas tai) h = done_uplink b.phase tai nas refl h
   done_on_connection (bodies.UeContextReleaseRequest cause) h = some (Silent (quiet_fall _ h))
   done_on_connection bodies.InitialContextSetupFailure h = some (Silent (quiet_fall _ h))
   done_on_connection _ h = some (Silent h)
@@ -473,28 +499,29 @@ module _ (whole : WholeIsFresh) (short : ShortIsFresh) {s : Setting} {f : RadioK
   unfolding connected.indicate error_indication
   quiet_indicate cause m h = quiet_emit m.station _ None refl h
 
-  done_checked : {d : Draft} (m : UeMessage (List ℕ)) → IsQuiet s f d → Whenever (IsDone s f) (connected.checked s m d)
+  done_checked : (m : UeMessage (List ℕ)) → IsQuiet s f (untouched b)
+      → Whenever (IsDone s f b) (connected.checked s m (untouched b))
   unfolding connected.checked
   done_checked m h =
-      either (Whenever (IsDone s f)) _ (some (Silent (quiet_indicate _ m h)))
-      (either (Whenever (IsDone s f)) _ (done_on_connection m.body h) (some (Silent (quiet_indicate _ m h))))
+      either (Whenever (IsDone s f b)) _ (some (Silent (quiet_indicate _ m h)))
+      (either (Whenever (IsDone s f b)) _ (done_on_connection m.body h) (some (Silent (quiet_indicate _ m h))))
 
   quiet_not_switched : {d : Draft} (cause : Cause) (m : UeMessage (List ℕ)) → IsQuiet s f d
       → IsQuiet s f (connected.not_switched cause m d)
   unfolding connected.not_switched path_switch_failure
   quiet_not_switched cause m h = quiet_emit m.station _ None refl h
 
-  done_path_switch : {d : Draft} (m : UeMessage (List ℕ)) → IsQuiet s f d → IsDone s f (connected.path_switch m d)
+  done_path_switch : {d : Draft} (m : UeMessage (List ℕ)) → IsQuiet s f d → IsDone s f b (connected.path_switch m d)
   unfolding connected.path_switch
   done_path_switch {d} m h =
-      either (IsDone s f) (not (connected.has_connection_id m d)) (Silent (quiet_not_switched _ m h))
-      (either (IsDone s f) (not (is_of_slot m.mme_ue_id)) (Silent (quiet_not_switched _ m h))
-      (either_by (IsDone s f) (is_registered d.solo.phase)
-      (λ r. at_some (IsDone s f) d.solo.context (λ x is. done_switched m x is r h) (λ is. Silent h))
+      either (IsDone s f b) (not (connected.has_connection_id m d)) (Silent (quiet_not_switched _ m h))
+      (either (IsDone s f b) (not (is_of_slot m.mme_ue_id)) (Silent (quiet_not_switched _ m h))
+      (either_by (IsDone s f b) (is_registered d.solo.phase)
+      (λ r. at_some (IsDone s f b) d.solo.context (λ x is. done_switched m x is r h) (λ is. Silent h))
       (λ r. Silent (quiet_not_switched _ m h))))
 
-  done_message_of : {d : Draft} (body : UeBody (List ℕ)) (m : UeMessage (List ℕ)) → IsQuiet s f d
-      → Whenever (IsDone s f) (connected.message_of body s m d)
+  done_message_of : (body : UeBody (List ℕ)) (m : UeMessage (List ℕ)) → IsQuiet s f (untouched b)
+      → Whenever (IsDone s f b) (connected.message_of body s m (untouched b))
   unfolding connected.message_of
   done_message_of bodies.UeContextReleaseComplete m h = some (Silent h)
   done_message_of bodies.PathSwitch m h = some (done_path_switch m h)
@@ -586,7 +613,7 @@ module _ (whole : WholeIsFresh) (short : ShortIsFresh) {s : Setting} {f : RadioK
 
   -- ---- the step
 
-  done_row : {d : Draft} (item : events.Item) → IsQuiet s f d → Whenever (IsDone s f) (steps.row s item d)
+  done_row : (item : events.Item) → IsQuiet s f (untouched b) → Whenever (IsDone s f b) (steps.row s item (untouched b))
   unfolding steps.row serving.initial serving.claim
   done_row events.Nothing h = some (Silent h)
   done_row (events.Initial m) h = done_entered _ m h
@@ -597,15 +624,15 @@ module _ (whole : WholeIsFresh) (short : ShortIsFresh) {s : Setting} {f : RadioK
   done_row (events.ConnectionsGone station items) h = some (Silent (quiet_connections_gone station items h))
   done_row events.Tick h = done_if (quiet_tick h)
   done_row (events.Data stations) h = some (Silent (quiet_data_waits stations h))
-  done_row {d} events.Cancel h = done_if (quiet_cancelled d.solo.phase refl h)
+  done_row events.Cancel h = done_if (quiet_cancelled b.phase refl h)
 
-  unless : {d : Draft} (o : Option Draft) → Whenever (IsDone s f) o → IsDone s f d → IsDone s f (unwrap_or o d)
+  unless : {d : Draft} (o : Option Draft) → Whenever (IsDone s f b) o → IsDone s f b d → IsDone s f b (unwrap_or o d)
   unless None w h = h
   unless (Some e) w h = w.at e refl
 
   -- each step from such a state is done
-  pub done_step : (b : Solo) (item : events.Item) → IsHeld s f b → IsDone s f (steps.solo_step s b item)
+  pub done_step : (item : events.Item) → IsHeld s f b → IsDone s f b (steps.solo_step s b item)
   unfolding steps.solo_step
-  done_step b item h =
+  done_step item h =
       let u : IsQuiet s f (untouched b) = record { vector = h.vector; held = h.held; keyless = All-nil _ } in
       unless _ (done_row item u) (Silent (quiet_wipe (quiet_fall _ u)))

@@ -50,7 +50,7 @@ module _ (what : WhatIsEncoded) where
       ap (λ (zs : List Handing). zs ++ handed_of c rest) nothing ∙ none_of c rest (All-tail IsKeyless a rest h)
 
   -- of what is sent the last alone
-  last_of : {s : Setting} {k : RadioKey} (d : Draft) (g : IsGiven s k d) (o : Option (List ℕ)) → encoded g.message ≡ o
+  last_of : {s : Setting} {b : Solo} {k : RadioKey} (d : Draft) (g : IsGiven s b k d) (o : Option (List ℕ)) → encoded g.message ≡ o
       → handed_by d ≡ handed_of d.solo.connection (answer_of g.connection.station g.under o)
   last_of d g o is =
       let c = d.solo.connection in
@@ -60,15 +60,15 @@ module _ (what : WhatIsEncoded) where
       ∙ ap (λ (zs : List Handing). zs ++ handed_of c last) (none_of c g.earlier g.keyless)
 
   -- a key that was handed out goes before those that follow
-  given_row : {s : Setting} {f k : RadioKey} (d : Draft) (zs : List Handing) (g : IsGiven s k d) (o : Option (List ℕ))
+  given_row : {s : Setting} {b : Solo} {f k : RadioKey} (d : Draft) (zs : List Handing) (g : IsGiven s b k d) (o : Option (List ℕ))
       → encoded g.message ≡ o → IsUpTo f k → AreInRow s (after k) zs → AreInRow s f (handed_by d ++ zs)
-  given_row {s} {f} {k} d zs g None is up rest =
+  given_row {s = s} {f = f} {k = k} d zs g None is up rest =
       subst (AreInRow s f) (sym (ap (λ (hs : List Handing). hs ++ zs) (last_of d g None is))) (record {
         keys = rest.keys;
         each = rest.each;
         row = row_lower f (after k) rest.keys (up_to_trans f k (after k) up (later k)) rest.row;
       })
-  given_row {s} {f} {k} d zs g (Some octets) is up rest =
+  given_row {s = s} {f = f} {k = k} d zs g (Some octets) is up rest =
       let h : Handing = record { station = g.connection.station; message = g.message; connection = d.solo.connection } in
       let one : handed_in d.solo.connection g.connection.station (decoded octets) ≡ h ∷ [] =
       ap (handed_in d.solo.connection g.connection.station) (what g.message octets is)
@@ -92,8 +92,9 @@ module _ (what : WhatIsEncoded) where
         row = (up, rest.row);
       })
 
-  onward : {s : Setting} {f : RadioKey} (d : Draft) (zs : List Handing) → ((g : RadioKey) → IsHeld s g d.solo → AreInRow s g zs)
-      → IsDone s f d → AreInRow s f (handed_by d ++ zs)
+  onward : {s : Setting} {f : RadioKey} {b : Solo} (d : Draft) (zs : List Handing)
+      → ((g : RadioKey) → IsHeld s g d.solo → AreInRow s g zs)
+      → IsDone s f b d → AreInRow s f (handed_by d ++ zs)
   onward {s} {f} d zs rest (Silent q) =
       subst (AreInRow s f) (sym (ap (λ (hs : List Handing). hs ++ zs) (none_of d.solo.connection d.sent q.keyless)))
       (rest f (record { vector = q.vector; held = q.held }))

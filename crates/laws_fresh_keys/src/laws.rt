@@ -1,6 +1,7 @@
 //! The laws: each is the contract of a function that does nothing.
 
 ghost use Rattle.laws_fresh_keys.specs.Handed.{KeysAreFresh};
+ghost use Rattle.laws_fresh_keys.specs.OfMessage.{KenbsAreOfTheirMessages};
 ghost use Rattle.laws_fresh_keys.specs.OfMme.{MmeKeysAreFresh};
 
 use laws_runs::slots_run_alone;
@@ -19,7 +20,17 @@ pub fn keys_are_fresh()
     what_is_encoded();
 }
 
-/// And so of what an MME sends for each subscriber over every list of events, whatever octets stations send.
+/// At every step of every run, KeNB in what is sent is of the vector and of the count that the step accepted a message under; but
+/// where the phone was asked for ESM information it is the one that its context had before the step (TS 33.401 clauses 7.2.9.2,
+/// A.3).
+pub fn kenb_is_of_its_message()
+    ensures { KenbsAreOfTheirMessages }
+{
+    accepted_is_fresh();
+    what_is_encoded();
+}
+
+/// What an MME sends for each subscriber over every list of events has fresh keys too, whatever octets stations send.
 pub fn an_mme_hands_out_fresh_keys()
     ensures { MmeKeysAreFresh }
 {

@@ -4,4 +4,4 @@
 
 mod laws;
 
-pub use laws::{an_mme_hands_out_fresh_keys, keys_are_fresh};
+pub use laws::{an_mme_hands_out_fresh_keys, kenb_is_of_its_message, keys_are_fresh};
