@@ -62,8 +62,8 @@ abbrev pub IsFitIf : ℕ → Option SteppedView → Type 0
 IsFitIf n None = Unit {0}
 IsFitIf n (Some x) = IsFit n x
 
--- each is that of a subscriber, at a tick they are those who are due, as the strangers are, and any other notice is that of a station;
--- at both each is connected as it was, or no longer
+-- each is that of a subscriber, at a tick they are those who are due, as the strangers are, and any other notice is that of a
+-- station; at both each is connected as it was, or no longer
 abbrev pub IsFor : Prepared → List Known → List SubscriberView → Type 0
 IsFor prepared.Nobody ks ws = Unit {0}
 IsFor (prepared.Subscriber x) ks ws = IsFit (length ws) x

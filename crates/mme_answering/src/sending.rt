@@ -75,8 +75,8 @@ fn send_some(
     Ok(())
 }
 
-/// What the strangers send at a tick whose T3470 it ends, by id, where those are their ids, after what is sent so far; the others send
-/// nothing.
+/// What the strangers send at a tick whose T3470 it ends, by id, where those are their ids, after what is sent so far; the others
+/// send nothing.
 pub(crate) fn send_due(
     alloc: Global,
     strangers: &Strangers,

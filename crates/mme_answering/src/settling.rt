@@ -30,8 +30,8 @@ fn steps_of(prepared: &Prepared) -> usize
     }
 }
 
-/// Strangers and subscribers are what was prepared. Room for countdowns, for steps and for a stranger comes first; refused, all are as
-/// they were.
+/// Strangers and subscribers are what was prepared. Room for countdowns, for steps and for a stranger comes first; refused, all are
+/// as they were.
 pub fn settle(owners: &mut Owners, prepared: Prepared) -> Result<(), AllocError>
     requires fits { IsFor prepared owners.old.strangers owners.old.subscribers }
     requires placed { IsPlaced prepared owners.old.subscribers }

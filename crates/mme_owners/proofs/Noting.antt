@@ -1,11 +1,10 @@
 -- A notice of a station to the strangers of that station, one after the other.
 use Rattle.std.proofs.Common.{◌≡◌, ℕ, ◌+◌, ◌<◌, ◌≤◌, List, [], ◌∷◌, Bool, true, false, Option, Some, None, refl, sym, ◌∙◌, ap, subst, arith}
-use Rattle.std.specs.Prelude.{◌==◌, nat_lt, if◌then◌else◌, cond, not, option_map, IsSome}
+use Rattle.std.specs.Prelude.{◌==◌, nat_lt, if◌then◌else◌, cond, option_map, IsSome}
 use Rattle.std.proofs.lemmas.Bool.Decides.{nat_tests}
 use Rattle.sorted_list.specs.Ordered.{AllOver, Rising, at, without}
 use Rattle.sorted_list.specs.Sorted.{lowest_from}
 use Rattle.identity_slots.specs.Ids.{station_in}
-use Rattle.stranger_machine.specs.declared.state.Stranger.{Stranger}
 use Rattle.stranger_machine.specs.declared.table.Known.{Known}
 use Rattle.stranger_machine.specs.declared.turn.Notice.{Notice}
 use Rattle.stranger_machine.specs.Machine.{closes, is_of_station, noted_station, notes}

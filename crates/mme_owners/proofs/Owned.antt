@@ -1,6 +1,6 @@
 -- The countdowns of all after a change of one stranger, or of some subscribers.
-use Rattle.std.proofs.Common.{◌≡◌, ℕ, zero, suc, ◌+◌, ◌-◌, ◌*◌, ◌^◌, ◌<◌, ◌≤◌, List, [], ◌∷◌, ◌++◌, length, refl, sym, ◌∙◌, ap, subst, arith}
-use Rattle.std.specs.Prelude.{slice_get, slice_set, map, option_map, Option, Some, None, OnErr, OnOk, Result, Ok, Err}
+use Rattle.std.proofs.Common.{◌≡◌, ℕ, zero, suc, ◌+◌, ◌-◌, ◌^◌, ◌<◌, ◌≤◌, List, [], ◌∷◌, ◌++◌, length, refl, sym, ◌∙◌, ap, subst, arith}
+use Rattle.std.specs.Prelude.{slice_get, Option, Some, None, OnErr, OnOk, Result, Ok, Err}
 use Rattle.std.proofs.lemmas.List.{map-append}
 use Rattle.std.proofs.lemmas.Option.{slice_get-map}
 use Rattle.identity_slots.specs.Ids.{slots}
@@ -18,7 +18,7 @@ use Rattle.mme_timers.specs.Due.{ids_of, slots_once, AreOfOwners}
 use Rattle.mme_timers.specs.Joined.{due_joined}
 use Rattle.mme_timers.specs.Running.{AreQueued, IsInRange, both_retimed, running_from, with_countdown}
 use Rattle.mme_timers.specs.SlotLaws.{AreBefore, both_retimed_is, both_retimed_joined, changed_length, once_is, over_from, queued_at, queued_joined, slots_are_owners, slots_have_no_id}
-use Rattle.mme_timers.specs.WaitLaws.{are_waits_put, are_waits_without, changed_joined, due_ids_joined, due_owners, due_slots_joined, is_wait_at, stopped_joined, waits_before, waits_put, waits_without}
+use Rattle.mme_timers.specs.WaitLaws.{changed_joined, due_ids_joined, due_owners, due_slots_joined, is_wait_at, stopped_joined, waits_before, waits_put, waits_without}
 use Rattle.mme_timers.specs.Waiting.{AreWaits, IsWait, due_ids, wait_at, wait_changed, wait_of, wait_stopped, waits_of}
 use Rattle.stranger_table.specs.Table.{StrangerTable}
 use Rattle.subscriber_table.specs.SteppedView.{SteppedView}

@@ -27,9 +27,10 @@ use stranger_table::Strangers;
 use subscriber_table::{Stepped, Subscribers};
 use timer_queue::Timers;
 
-/// Strangers and subscribers, and the queue of their countdowns; a contract sees the clock, each stranger and each subscriber as it is
-/// now, and for how many countdowns and changes of connections there is room. The tables are lent apart, so that a step of a subscriber
-/// can be worked out while the stranger that calls it is lent; whoever changes one owes that the queue still has its countdowns.
+/// Strangers and subscribers, and the queue of their countdowns; a contract sees the clock, each stranger and each subscriber as it
+/// is now, and for how many countdowns and changes of connections there is room. The tables are lent apart, so that a step of a
+/// subscriber can be worked out while the stranger that calls it is lent; whoever changes one owes that the queue still has its
+/// countdowns.
 #[derive(Drop)]
 pub struct Owners {
     /// The strangers that aren't closed.
@@ -133,8 +134,8 @@ impl Owners {
         self.subscribers.states(slot)
     }
 
-    /// Who has a countdown that the next tick ends: strangers by rising id, subscribers by rising slot. Only the front of the queue is
-    /// looked at.
+    /// Who has a countdown that the next tick ends: strangers by rising id, subscribers by rising slot. Only the front of the queue
+    /// is looked at.
     pub fn due(&self) -> Result<Due, AllocError>
         ensures strangers { IfOk result (λ due. due.strangers.items ≡ due_ids self.now.strangers) }
         ensures slots { IfOk result (λ due. due.slots.items ≡ due_slots self.now.subscribers) }
@@ -158,8 +159,8 @@ impl Owners {
         self.subscribers.reserve(steps)
     }
 
-    /// The state of a slot is the one that was prepared, where there is room, and no other slot has the id of its connection. Takes no
-    /// memory.
+    /// The state of a slot is the one that was prepared, where there is room, and no other slot has the id of its connection. Takes
+    /// no memory.
     pub fn settle(&mut self, stepped: Stepped)
         requires slot { stepped.slot < length self.old.subscribers }
         requires free { IsFreeFor self.old.subscribers stepped }
@@ -311,9 +312,9 @@ impl Owners {
         }
     }
 
-    /// One tick, where those are the strangers whose T3470 it ends, and each subscriber that has a countdown which it ends has the state
-    /// that was prepared, in which it is connected as it was, or no longer; all others have a tick less. Only those who are due are
-    /// touched. Takes no memory.
+    /// One tick, where those are the strangers whose T3470 it ends, and each subscriber that has a countdown which it ends has the
+    /// state that was prepared, in which it is connected as it was, or no longer; all others have a tick less. Only those who are
+    /// due are touched. Takes no memory.
     pub fn tick(&mut self, due: Vec<AssociationId>, stepped: Vec<Stepped>)
         requires clock { self.old.clock < 2 ^ 62 }
         requires strangers { due.items ≡ due_ids self.old.strangers }

@@ -4,7 +4,6 @@ use Rattle.std.specs.Prelude.{◌==◌, nat_lt, nat_le, cond, Some}
 use Rattle.std.proofs.lemmas.Bool.Decides.{nat_tests}
 use Rattle.sorted_list.specs.Ordered.{put, without, at, AllOver, Every}
 use Rattle.sorted_list.specs.Laws.{without_over}
-use Rattle.timer_queue.specs.declared.timer.Timer.{Timer}
 use Rattle.timer_queue.specs.Countdowns.{Countdown, aged, due_of}
 
 module _ {X : Type 0} (key : X → ℕ) where

@@ -4,7 +4,6 @@ use Rattle.std.proofs.Common.{◌≡◌, ℕ, ◌+◌, ◌-◌, ◌*◌, ◌^◌
 use Rattle.std.specs.Prelude.{◌==◌, nat_lt, nat_le, cond, option_map}
 use Rattle.std.proofs.lemmas.Bool.{eqb-true}
 use Rattle.std.proofs.lemmas.Bool.Decides.{nat_tests}
-use Rattle.std.proofs.lemmas.List.{append-nil}
 use Rattle.identity_slots.specs.Ids.{number_in, station_in, stranger_id}
 use Rattle.sorted_list.specs.Ordered.{at, put, without, AllOver, Every, Rising}
 use Rattle.sorted_list.specs.Laws.{at_over, over_more}
@@ -14,7 +13,7 @@ use Rattle.stranger_machine.specs.declared.state.Stranger.TheVariants.{Waiting, 
 use Rattle.stranger_machine.specs.declared.table.Known.{Known}
 use Rattle.stranger_machine.specs.declared.turn.Notice.TheVariants.{Tick}
 use Rattle.stranger_machine.specs.Machine.{identity_ticks, notes, ticks, waits}
-use Rattle.stranger_machine.specs.Table.{known_id, known_if, noted, stranger_at, with_stranger}
+use Rattle.stranger_machine.specs.Table.{known_id, known_if, noted}
 use Rattle.stranger_machine.specs.TickLaws.{quiet_notice}
 use Rattle.stranger_machine.specs.Ticks.{is_ending, stranger_aged}
 use Rattle.stranger_machine.specs.Turns.{Turn, closing, stays}

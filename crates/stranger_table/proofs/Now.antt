@@ -1,5 +1,5 @@
 -- What a change of what is kept makes of the strangers as they are now.
-use Rattle.std.proofs.Common.{◌≡◌, ℕ, ◌+◌, ◌-◌, ◌<◌, ◌≤◌, ◌^◌, List, [], ◌∷◌, Option, Some, None, refl, sym, ◌∙◌, ap, subst, arith}
+use Rattle.std.proofs.Common.{◌≡◌, ℕ, ◌+◌, ◌-◌, ◌<◌, List, [], ◌∷◌, Option, Some, None, refl, sym, ◌∙◌, ap, subst, arith}
 use Rattle.std.specs.Prelude.{nat_lt, not, Bool, true, false, cond, option_map, IsSome}
 use Rattle.sorted_list.specs.Ordered.{add, at, put, without, Rising, Every}
 use Rattle.sorted_list.specs.Indexed.{every-add, every-without, every_at, at-map, map-add, map-without, put_is_add, rising-map}

@@ -18,8 +18,8 @@ use std::alloc::{AllocError, Global};
 use std::marker::Model;
 use stranger_machine::{LentStranger, Notice, Stranger};
 
-/// The strangers that aren't closed. Contracts see the clock, by which the caller tells what its own are now, and each stranger as it
-/// is now, by rising id; one that isn't there is closed.
+/// The strangers that aren't closed. Contracts see the clock, by which the table tells what its own are now, and each stranger as
+/// it is now, by rising id; one that isn't there is closed.
 #[derive(Drop)]
 pub struct Strangers {
     sleepers: Sleepers,

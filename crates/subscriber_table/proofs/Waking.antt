@@ -1,7 +1,6 @@
 -- Records and what is seen of them: a record that is woken, one that has a new state, and a tick that touches the due ones alone.
-use Rattle.std.proofs.Common.{◌≡◌, ℕ, zero, suc, ◌+◌, ◌-◌, ◌^◌, ◌<◌, ◌≤◌, List, [], ◌∷◌, ◌++◌, length, refl, sym, ◌∙◌, ap, subst, arith, Box, Global}
-use Rattle.std.specs.Prelude.{nat_le, slice_get, Option, Some, None, Bool, true, false, map, option_map}
-use Rattle.std.proofs.lemmas.Bool.Decides.{nat_tests}
+use Rattle.std.proofs.Common.{◌≡◌, ℕ, zero, suc, ◌+◌, ◌-◌, ◌<◌, ◌≤◌, List, [], ◌∷◌, ◌++◌, length, refl, sym, ◌∙◌, ap, subst, arith, Box, Global}
+use Rattle.std.specs.Prelude.{slice_get, Option, Some, None, Bool, true, false, map, option_map}
 use Rattle.std.proofs.lemmas.List.{length_push, map-append}
 use Rattle.std.proofs.lemmas.Option.{slice_get-map, slice_get_past, slice_get_read}
 use Rattle.std.specs.Prelude.{IfOk, Result, Ok, Err, get_or, set}

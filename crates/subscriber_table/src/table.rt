@@ -22,8 +22,8 @@ use s1ap_elements::AssociationToReset;
 use std::alloc::{AllocError, Global};
 use std::marker::Model;
 
-/// Subscribers by slot; a contract sees the clock, by which the caller tells what its own are now, each subscriber as it is now, and
-/// for how many steps there is room.
+/// Subscribers by slot; a contract sees the clock, by which the table tells what its own are now, each subscriber as it is now,
+/// and for how many steps there is room.
 #[derive(Drop)]
 pub struct Subscribers {
     sleepers: Sleepers,
@@ -132,8 +132,8 @@ impl Subscribers {
         self.connections.reserve(steps)
     }
 
-    /// The state of a slot is the one that was prepared, where there is room, and no other slot has the id of its connection; answers
-    /// the countdowns that it had until now. Takes no memory.
+    /// The state of a slot is the one that was prepared, where there is room, and no other slot has the id of its connection;
+    /// answers the countdowns that it had until now. Takes no memory.
     pub fn settle(&mut self, stepped: Stepped) -> (Option<u64>, Option<u64>)
         requires slot { stepped.slot < length self.old.subscribers }
         requires free { IsFreeFor self.old.subscribers stepped }

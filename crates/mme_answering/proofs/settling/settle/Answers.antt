@@ -1,12 +1,9 @@
-use Rattle.std.proofs.Common.{◌≤◌, ◌<◌, List, length, arith, sym, subst}
+use Rattle.std.proofs.Common.{◌≤◌, List, arith, sym, subst}
 use Rattle.emm_machine.specs.SubscriberView.{SubscriberView}
 use Rattle.identity_slots.specs.Ids.{slots}
-use Rattle.sorted_list.specs.Ordered.{Every}
-use Rattle.subscriber_table.specs.SteppedView.{SteppedView}
 use Rattle.subscriber_table.specs.Touched.{IsFreeFor}
-use Rattle.mme_answering.specs.declared.prepared.Prepared.{Prepared}
-use Rattle.mme_answering.specs.Settled.{IsFor, IsWaiting, steps_of}
-use Rattle.mme_answering.proofs.Places.{all_counting, free_by_stranger, free_called, slots_fit}
+use Rattle.mme_answering.specs.Settled.{IsWaiting, steps_of}
+use Rattle.mme_answering.proofs.Places.{free_by_stranger, free_called}
 use Rattle.mme_answering.proofs.Room.{steps_few}
 use Rattle.mme_answering.proofs.settling.settle.Goals as goal
 

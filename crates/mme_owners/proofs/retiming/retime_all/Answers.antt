@@ -1,6 +1,5 @@
-use Rattle.std.proofs.Common.{◌≡◌, ◌+◌, ◌*◌, ◌≤◌, ◌∷◌, drop, length, sym, ◌∙◌, ap, subst, arith}
+use Rattle.std.proofs.Common.{◌≡◌, ◌+◌, ◌∷◌, drop, length, sym, ◌∙◌, ap, subst, arith}
 use Rattle.std.proofs.lemmas.List.{drop_more}
-use Rattle.emm_machine.specs.Ticks.{countdowns}
 use Rattle.sorted_list.specs.Ordered.{Every}
 use Rattle.mme_timers.specs.Running.{AreInRange, both_retimed}
 use Rattle.subscriber_table.specs.SteppedView.{SteppedView}

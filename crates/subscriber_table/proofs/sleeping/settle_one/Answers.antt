@@ -1,8 +1,8 @@
 use Rattle.std.proofs.Common.{sym, ◌∙◌, ap, get_or, set}
-use Rattle.std.specs.Prelude.{Option, Some, option_map}
+use Rattle.std.specs.Prelude.{Some, option_map}
 use Rattle.emm_machine.specs.SubscriberView.{SubscriberView}
 use Rattle.emm_machine.specs.Ticks.{countdowns}
-use Rattle.subscriber_table.specs.Records.{renewed, views}
+use Rattle.subscriber_table.specs.Records.{renewed}
 use Rattle.subscriber_table.proofs.Waking.{fresh_read, set_changed, view_slot}
 use Rattle.subscriber_table.proofs.sleeping.settle_one.Goals as goal
 

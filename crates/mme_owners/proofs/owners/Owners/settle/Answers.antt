@@ -1,4 +1,4 @@
-use Rattle.std.proofs.Common.{◌<◌, length, sym, ◌∙◌, ap, subst, arith}
+use Rattle.std.proofs.Common.{◌<◌, length, sym, ◌∙◌, ap, subst}
 use Rattle.mme_timers.specs.Running.{AreInRange, AreQueued, both_retimed}
 use Rattle.subscriber_table.specs.Touched.{IsFreeFor}
 use Rattle.mme_owners.specs.Owners.{OwnersView, countdowns_of}

@@ -1,12 +1,10 @@
-use Rattle.std.proofs.Common.{◌≡◌, ◌+◌, ◌^◌, ◌<◌, ◌≤◌, length, sym, ◌∙◌, ap, subst, arith}
+use Rattle.std.proofs.Common.{◌+◌, sym, ◌∙◌, ap, subst}
 use Rattle.sorted_list.specs.Ordered.{Every}
-use Rattle.stranger_machine.specs.declared.turn.Notice.TheVariants.{Tick}
-use Rattle.stranger_machine.specs.Table.{noted}
 use Rattle.timer_queue.specs.Countdowns.{aged}
 use Rattle.mme_timers.specs.WaitLaws.{are_waits_ticked}
 use Rattle.mme_timers.specs.Waiting.{AreWaits, due_ids, restarted}
 use Rattle.subscriber_table.specs.SteppedView.{SteppedView}
-use Rattle.subscriber_table.specs.Table.{IsCounting, due_slots, slots_stepped, tick_settled}
+use Rattle.subscriber_table.specs.Table.{IsCounting, due_slots, tick_settled}
 use Rattle.subscriber_table.specs.Touched.{KeepsPlace}
 use Rattle.mme_owners.specs.Owners.{OwnersView, all_retimed, countdowns_of}
 use Rattle.mme_owners.proofs.Ticked.{ticked}

@@ -1,4 +1,4 @@
-use Rattle.std.proofs.Common.{◌∙◌, refl, ap}
+use Rattle.std.proofs.Common.{◌∙◌, ap}
 use Rattle.std.proofs.lemmas.Result.{on_ok_weaker}
 use Rattle.sorted_list.specs.Ordered.{put}
 use Rattle.stranger_machine.specs.declared.table.Known.{Known}

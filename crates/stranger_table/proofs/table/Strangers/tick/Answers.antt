@@ -1,4 +1,4 @@
-use Rattle.std.proofs.Common.{◌≡◌, ◌+◌, sym, ◌∙◌, ap}
+use Rattle.std.proofs.Common.{◌+◌, sym, ◌∙◌, ap}
 use Rattle.mme_timers.specs.Waiting.{due_ids}
 use Rattle.stranger_machine.specs.declared.turn.Notice.TheVariants.{Tick}
 use Rattle.stranger_machine.specs.Table.{noted}

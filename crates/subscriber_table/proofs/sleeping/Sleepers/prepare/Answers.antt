@@ -1,4 +1,4 @@
-use Rattle.std.proofs.Common.{◌≡◌, ◌<◌, ◌/◌, ◌∙◌, sym, ap, arith, length, get_or, set, Some}
+use Rattle.std.proofs.Common.{◌≡◌, ◌<◌, ◌∙◌, sym, ap, arith, length, get_or, set, Some}
 use Rattle.std.proofs.lemmas.List.{get_or-set_same}
 use Rattle.mme_types.specs.Events.{item_of}
 use Rattle.subscriber_table.specs.declared.records.Record.{Record}

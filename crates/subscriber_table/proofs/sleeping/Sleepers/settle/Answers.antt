@@ -1,4 +1,4 @@
-use Rattle.std.proofs.Common.{◌<◌, sym, ◌∙◌, ap, arith, length}
+use Rattle.std.proofs.Common.{sym, ◌∙◌, ap, arith, length}
 use Rattle.subscriber_table.specs.Records.{views}
 use Rattle.subscriber_table.specs.Table.{SleeperTable, countdowns_at, with_solo}
 use Rattle.subscriber_table.proofs.Waking.{IsSubscriberTableOf, settled, views_length}
