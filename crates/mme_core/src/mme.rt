@@ -426,11 +426,7 @@ impl Surroundings {
     }
 
     // What an event leads to, on copies.
-    fn ready<'a>(
-        &'a self,
-        owners: &mut Owners,
-        event: &'a Event<'_>,
-    ) -> Result<Ready, StepFault>
+    fn ready<'a>(&'a self, owners: &mut Owners, event: &'a Event<'_>) -> Result<Ready, StepFault>
         requires rising { Rising known_id owners.old.strangers }
         requires in_use { AreInUse owners.old.subscribers }
         ensures reply { IfOk result (λ r. reply (world_of self.entry.now owners.old) event.entry.now ≡ Ok r.outs) }
