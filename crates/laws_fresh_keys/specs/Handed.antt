@@ -1,5 +1,5 @@
 -- Which radio keys stations are handed for a phone: KeNB in INITIAL CONTEXT SETUP REQUEST, and the next hop in PATH SWITCH REQUEST
--- ACKNOWLEDGE (TS 33.401 clauses 7.2.8.4.2, 7.2.9.2, A.3, A.4; TS 36.413 clauses 9.1.4.1, 9.1.5.9).
+-- ACKNOWLEDGE (TS 33.401 clauses 7.2.8.1, 7.2.8.4.2, A.3, A.4; TS 36.413 clauses 9.1.4.1, 9.1.5.9).
 use Rattle.std.specs.Prelude.{◌≡◌, ◌⊎◌, ◌<◌, ◌≤◌, ℕ, ◌%◌, ◌^◌, List, [], ◌∷◌, ◌++◌, AllPairs, flat_map, slice_get, Option, Some, Result, Ok, Err, if◌then◌else◌}
 use Rattle.std.specs.List.{AllZip}
 use Rattle.s1ap_pdus.specs.declared.pdu.Pdu.{Pdu}

@@ -12,7 +12,7 @@ use s1ap_pdus::what_is_encoded;
 /// Over every run of a subscriber who was never seen, each INITIAL CONTEXT SETUP REQUEST has a KeNB of one of the slot's vectors
 /// by an uplink NAS COUNT, and each PATH SWITCH REQUEST ACKNOWLEDGE a next hop after such a KeNB, with the hop's number modulo 8;
 /// each goes to the station of the phone's connection, with its ids. The vectors' places, the counts of one vector and the hops
-/// of one count rise, so no KeNB and no next hop is handed out twice (TS 33.401 clauses 7.2.8.4.2, 7.2.9.2, A.3, A.4).
+/// of one count rise, so no KeNB and no next hop is handed out twice (TS 33.401 clauses 7.2.8.1, 7.2.8.4.2, A.3, A.4).
 pub fn keys_are_fresh()
     ensures { KeysAreFresh }
 {
