@@ -1,4 +1,4 @@
--- Of which count KeNB is: of the message that is answered (TS 33.401 clauses 7.2.9.2, A.3).
+-- Of which count KeNB is: of the message that is answered (TS 33.401 clause A.3).
 use Rattle.std.specs.Prelude.{◌≡◌, ◌⊎◌, ℕ, List, All, slice_get, Option, Some, None, Ok}
 use Rattle.s1ap_pdus.specs.declared.pdu.Pdu.{Pdu}
 use Rattle.s1ap_pdus.specs.declared.pdu.Pdu.TheVariants as pdu

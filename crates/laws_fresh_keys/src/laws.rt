@@ -21,7 +21,7 @@ pub fn keys_are_fresh()
 }
 
 /// At every step of every run, KeNB in what is sent is of the vector and of the count that the step accepted a message under; but
-/// where the phone was asked for ESM information it is the one that its context had before the step (TS 33.401 clauses 7.2.9.2,
+/// where the phone was asked for ESM information it is the one that its context had before the step (TS 33.401 clauses 7.2.8.1,
 /// A.3).
 pub fn kenb_is_of_its_message()
     ensures { KenbsAreOfTheirMessages }
