@@ -19,7 +19,7 @@ _mme() {
     if [ "$COMP_CWORD" -lt "$at" ] || [ "$COMP_CWORD" -gt $((at + 1)) ]; then
         return
     elif [ "$COMP_CWORD" = 1 ]; then
-        _mme_words "play sim --explain --prove --version --help" "$current"
+        _mme_words "play sim --explain --prove --library --version --help" "$current"
     elif [ "$COMP_CWORD" = "$at" ]; then
         _mme_words "play sim" "$current"
     elif [ "${COMP_WORDS[at]}" = --prove ]; then

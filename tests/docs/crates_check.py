@@ -18,9 +18,9 @@ FUNCTION = re.compile(r"^\s*(?:pub(?:\(\w+\))? )?(?:const )?(?:unsafe )?fn \w+",
 
 
 def listed():
-    """What crates.txt lists for each crate, in its order."""
+    """What crates.txt lists for each crate, in its order; a word after a crate's name says that it is a static library."""
     lines = [line.split("#")[0].strip() for line in tables.text("crates.txt").split("\n")]
-    return {head.strip(): rest.split() for head, _, rest in (line.partition(":") for line in lines if line)}
+    return {head.split()[0]: rest.split() for head, _, rest in (line.partition(":") for line in lines if line)}
 
 
 def below(uses):

@@ -1,6 +1,6 @@
 """Writes the tables of docs/REFUSALS.md from the code, and compares them.
 
-- Numbers: the error of each public call, its variants in their order, with the code's numbers where it has them.
+- Numbers: the error of each public call, its variants in their order, with the code's numbers where it has them; those rise.
 - Calls: each public function that answers a `Result`, and each that answers an `Option`, but for those among the answers that are
   no refusals. "When" are its clauses that speak of the answer, "What stays" those that say what a refused call leaves.
 - What people wrote stays: which refusals and in which order, of each call, and whether want of memory comes last or anywhere, where
@@ -30,6 +30,8 @@ SAID_OTHERWISE = {
     "Watched::read": ["bytes", "failed", "ended", "calls"], "Watched::write": ["bytes", "failed", "ended", "calls"],
     "Watched::flush": ["bytes", "failed", "ended", "calls"], "play_mme": ["the one"], "play_sub": ["the one"], "play_vec": ["the one"],
     "print_show": ["unknown"], "play_show": ["unknown"],
+    **{"Session::" + call: ["the one"]
+       for call in ("play", "begin", "add", "give", "start", "up", "down", "hear", "data_waits", "cancel", "tick")},
 }
 # Objects that aren't used further by intent, by the name of the call; readers and writers of bits are told by their type.
 UNUSED = re.compile(r"put_\w+|run_play|run_sim|write_whole")
@@ -288,8 +290,8 @@ def numbers_table(code, document):
         if error in errors:
             there = code.variants[error]
             held_in = {name: [kind for kind in re.findall(r"\w+", held) if kind in code.variants] for name, held, _ in there}
-            variants = ["%d `%s`%s" % (at, name, " with a `%s`" % held_in[name][0] if held_in[name] else "")
-                        for at, (name, _, _) in enumerate(there, 1)]
+            variants = ["%s `%s`%s" % (number or at, name, " with a `%s`" % held_in[name][0] if held_in[name] else "")
+                        for at, (name, _, number) in enumerate(there, 1)]
             lines.append("| `%s` | `%s` | %s | %s |" % (error, crate, ", ".join(variants), "yes" if there[0][2] else "no"))
     return "\n".join(lines)
 
@@ -333,11 +335,14 @@ def row_faults(code, row):
 
 
 def number_faults(code):
-    """Errors whose variants have other numbers than their places."""
+    """Errors of which some variants have a number and some have none, or whose numbers don't rise from one variant to the next."""
     for error, there in code.variants.items():
-        numbers = [number for _, _, number in there]
-        if error.endswith(("Fault", "Error", "Stop")) and any(numbers) and numbers != [str(at) for at in range(1, len(there) + 1)]:
-            yield "%s has other numbers" % error
+        numbers = [int(number) for _, _, number in there if number]
+        if error.endswith(("Fault", "Error", "Stop", "Refusal")) and numbers:
+            if len(numbers) < len(there):
+                yield "%s has variants without a number" % error
+            if any(after <= before for before, after in zip([0] + numbers, numbers)):
+                yield "%s has numbers that don't rise" % error
 
 
 def people_faults(code, document):

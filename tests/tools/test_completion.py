@@ -23,7 +23,7 @@ def offered(function, *words):
 class Completion(unittest.TestCase):
     def test_script(self):
         """Every word of the script's help, and files where it takes one."""
-        self.assertEqual(offered("_mme", "mme", ""), sorted(["play", "sim", "--explain", "--prove", "--version", "--help"]))
+        self.assertEqual(offered("_mme", "mme", ""), sorted(["play", "sim", "--explain", "--prove", "--library", "--version", "--help"]))
         self.assertEqual(offered("_mme", "mme", "--p"), ["--prove"])
         self.assertEqual(offered("_mme", "mme", "--prove", "x86-64-"), ["x86-64-v2", "x86-64-v3"])
         self.assertEqual(offered("_mme", "mme", "--explain", ""), ["play", "sim"])

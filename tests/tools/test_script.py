@@ -63,7 +63,7 @@ class Script(unittest.TestCase):
         for word in ("--help", "-h"):
             status, printed, told = self.ran(word)
             self.assertEqual((status, told), (0, []))
-            for name in ("play", "sim", "--explain", "--prove", "--version", "--help", "MME_EXPLAIN", "x86-64-v3"):
+            for name in ("play", "sim", "--explain", "--prove", "--library", "--version", "--help", "MME_EXPLAIN", "x86-64-v3"):
                 self.assertIn(name, printed)
             for number in (0, 1, 2, 3, 4, 70, 127, 130):
                 self.assertRegex(printed, r"(?m)^(Status:)? +%d " % number)

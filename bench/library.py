@@ -1,0 +1,75 @@
+#!/usr/bin/env python3
+"""Times a phone's day through the library for C, beside `mme play` of the same events.
+
+    library.py FOLDER [--program MME] [--count N ..] [--rounds N]
+
+FOLDER has libsoizkadur.a and soizkadur.h, as `./mme --library` leaves them in crates/mme_c/out/library. A day is attach, release,
+service request, release, a tracking area update from idle, detach (measure.py, `days`). Through the library an event is a call with
+its octets and a copy of each message that it sends (library.c); through `mme play` it is lines of text, and what the program takes to
+start and to be provisioned is taken off. Times are of one processor, the best of the rounds. Ends with 1 where an answer is wrong.
+"""
+import argparse
+import pathlib
+import re
+import subprocess
+import sys
+import tempfile
+
+sys.dont_write_bytecode = True
+
+import measure
+import scripts
+
+HERE = pathlib.Path(__file__).resolve().parent
+ACTS = ("attach %s 0 %d", "idle %s", "service %s 0 %d", "idle %s", "tau %s 0 %d", "detach %s")
+LINE = re.compile(r"(\d+) events, (\d+) messages, (\d+) octets in (\d+) ns\n")
+
+
+def built(folder, room):
+    """The program of library.c over the archive in a folder."""
+    program = pathlib.Path(room, "library_speed")
+    subprocess.run(["cc", "-std=c11", "-O2", "-I", HERE.parent / "tests" / "library", "-I", folder, HERE / "library.c",
+                    pathlib.Path(folder, "libsoizkadur.a"), "-o", program], check=True)
+    return program
+
+
+def days_of(count):
+    """The traces of phones that are provisioned, and of their days."""
+    lines, made = measure.provided(count)
+    acts = [act % (phone.imsi, phone.slot) if "%d" in act else act % phone.imsi for phone in made for act in ACTS]
+    return [measure.played(scripts.owed("\n".join(part) + "\n")) for part in (lines, lines + acts)]
+
+
+def through_library(program, bench, trace, rounds):
+    """The seconds that the events of a trace take, and whether as many messages with as many octets were sent as are owed."""
+    path = bench.kept("library", trace.text())
+    found = LINE.fullmatch(subprocess.run([program, path, str(rounds)], check=True, capture_output=True, text=True).stdout)
+    _, messages, octets, took = map(int, found.groups())
+    owed = [bytes.fromhex(line.split(" ")[3]) for line in trace.answers if line.startswith("out ")]
+    return took / 1e9, (messages, octets) == (len(owed), sum(map(len, owed)))
+
+
+def main():
+    parser = argparse.ArgumentParser(description=__doc__, formatter_class=argparse.RawDescriptionHelpFormatter)
+    parser.add_argument("folder", metavar="FOLDER")
+    parser.add_argument("--program", metavar="MME", default=measure.PROGRAM)
+    parser.add_argument("--count", type=int, nargs="+", default=[measure.FEW, measure.MANY])
+    parser.add_argument("--rounds", type=int, default=10)
+    given = parser.parse_args()
+    bench, wrong = measure.Bench(given.program, given.rounds), 0
+    with tempfile.TemporaryDirectory() as room:
+        program = built(given.folder, room)
+        for count in given.count:
+            base, trace = days_of(count)
+            bench.checked("%d days" % count, trace)
+            least, most = bench.best([base.text(), trace.text()], max(given.rounds, 2000 // count))
+            through, right = through_library(program, bench, trace, max(given.rounds, 2000 // count))
+            wrong += not right
+            for what, seconds in (("the library", through), ("mme play", most - least)):
+                print("%d phones, a day by %s: %.1f us, %.0f a second" % (count, what, seconds / count * 1e6, count / seconds))
+            print("the library's messages: %s" % ("as owed" if right else "WRONG"), flush=True)
+    return 1 if wrong or bench.wrong else 0
+
+
+if __name__ == "__main__":
+    sys.exit(main())

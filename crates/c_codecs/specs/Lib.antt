@@ -1,0 +1,4 @@
+pub mod Faults
+pub mod Keys
+pub mod Nas
+pub mod S1ap

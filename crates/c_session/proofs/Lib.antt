@@ -1,0 +1,4 @@
+pub mod Heard
+pub mod Labels
+pub mod Left
+pub mod Parting

@@ -1,0 +1,99 @@
+//! The replies to an event.
+
+ghost use Rattle.std.specs.Prelude.{◌≡◌, [], ◌∷◌, length, option_map, slice_get, Ok};
+ghost use Rattle.c_session.specs.Kept.{lent};
+
+use mme_core::{Out, Outs, StepFault};
+use std::alloc::Global;
+use std::marker::Model;
+
+/// Where the replies to an event lie. The only reply of most events needs no memory of its own.
+#[derive(Drop)]
+enum Room {
+    /// The one reply, to an event that was taken.
+    One(Outs),
+    /// The replies to several events, in order.
+    Each(Vec<Result<Outs, StepFault>>),
+}
+
+/// The replies to an event, or to several ticks, in order; a contract sees their list.
+#[derive(Drop)]
+pub struct Replies {
+    room: Room,
+}
+
+impl Model for Replies {
+    ghost use Rattle.std.specs.Prelude.{List};
+    ghost use Rattle.c_session.specs.Kept.{Reply, replies_in};
+
+    ghost Value = { List Reply };
+
+    ghost view = { λ r. replies_in r.room };
+}
+
+impl Replies {
+    /// No reply; takes no memory.
+    pub(crate) fn none(alloc: Global) -> Replies
+        ensures { result ≡ [] }
+    {
+        Replies {
+            room: Room::Each(Vec::new(alloc)),
+        }
+    }
+
+    /// The reply to an event that was taken; takes no memory.
+    pub(crate) fn one(outs: Outs) -> Replies
+        ensures { result ≡ Ok outs ∷ [] }
+    {
+        Replies {
+            room: Room::One(outs),
+        }
+    }
+
+    /// These replies.
+    pub(crate) fn each(replies: Vec<Result<Outs, StepFault>>) -> Replies
+        ensures { result ≡ replies.items }
+    {
+        Replies {
+            room: Room::Each(replies),
+        }
+    }
+
+    /// How many there are.
+    pub fn len(&self) -> usize
+        ensures { result ≡ length self.now }
+    {
+        match &self.room {
+            Room::One(_) => 1,
+            Room::Each(replies) => replies.len(),
+        }
+    }
+
+    /// The reply at a place, from 0, if there is one.
+    pub fn get(&self, place: usize) -> Option<Result<&[Out], StepFault>>
+        ensures { option_map lent result ≡ slice_get self.entry.now place }
+    {
+        match &self.room {
+            Room::One(outs) => {
+                if place == 0 {
+                    Some(Ok(outs.as_slice()))
+                } else {
+                    None
+                }
+            }
+            Room::Each(replies) => match replies.as_slice().get(place) {
+                Some(reply) => Some(lent_reply(reply)),
+                None => None,
+            },
+        }
+    }
+}
+
+fn lent_reply(reply: &Result<Outs, StepFault>) -> Result<&[Out], StepFault>
+    ensures { lent result ≡ reply.entry.now }
+{
+    match reply {
+        Ok(outs) => Ok(outs.as_slice()),
+        Err(fault) => Err(*fault),
+    }
+}

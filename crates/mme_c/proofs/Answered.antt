@@ -1,0 +1,76 @@
+-- What calls make of a session, by their answers.
+use Rattle.std.proofs.Common.{◌≡◌, ◌⊎◌, inl, inr, ℕ, List, Option, Some, None, Result, Ok, Err, refl, sym, subst, ap, ◌∙◌}
+use Rattle.mme_core.specs.World.{World}
+use Rattle.c_session.specs.declared.refusal.Refusal.{Refusal}
+use Rattle.c_session.specs.declared.session.Session.{Session}
+use Rattle.c_session.specs.Refusals.{number_of}
+use Rattle.c_session.specs.declared.lines.LinesFault.{LinesFault}
+use Rattle.c_session.specs.Lines.{IsOfMemory, made_of}
+use Rattle.c_session.specs.Sessions.{Leaves, Plays, Runs, Starts, nothing}
+use Rattle.mme_c.specs.declared.provisioning.LineFault.{LineFault}
+use Rattle.mme_c.specs.Calls.{IsAnswered, IsFirst, IsKept, IsLine, IsMade, IsNew, IsStarted, IsTicked, answer_number, line_fault}
+
+pub is_answered : (wanted : Result Session Refusal) (s after : Session) (result : Result (Unit {0}) Refusal)
+    → Leaves wanted s result after → IsAnswered wanted s (answer_number result) after
+is_answered (Ok w) s after (Ok _) h = inl (refl, h)
+is_answered (Ok w) s after (Err refusal) h = inr (ap number_of h.0, h.1)
+is_answered (Err fault) s after (Ok _) h = absurd h
+is_answered (Err fault) s after (Err refusal) h = (ap number_of h.0, h.1)
+
+pub is_started : (wanted : Result Session Refusal) (s after : Session) (result : Result (Unit {0}) Refusal)
+    → Starts wanted s result after → IsStarted wanted s (answer_number result) after
+is_started (Ok w) s after (Ok _) h = inl (refl, h)
+is_started (Ok w) s after (Err refusal) h = inr (ap number_of h.0, h.1)
+is_started (Err fault) s after (Ok _) h = absurd h
+is_started (Err fault) s after (Err refusal) h = (ap number_of h.0, h.1)
+
+pub is_ticked : (wanted : Result World Refusal) (count : ℕ) (s after : Session) (result : Result (Unit {0}) Refusal)
+    → Runs wanted count s result after → IsTicked wanted count s (answer_number result) after
+is_ticked (Ok w) count s after (Ok _) h = inl (refl, h)
+is_ticked (Ok w) count s after (Err refusal) h = inr (ap number_of h.0, h.1)
+is_ticked (Err fault) count s after (Ok _) h = absurd h
+is_ticked (Err fault) count s after (Err refusal) h = (ap number_of h.0, h.1)
+
+-- the first call on an empty handle
+pub is_first_kept : (wanted : Result Session Refusal) (s : Session) (answer : ℕ) (after : Option Session)
+    → Leaves wanted nothing (Ok tt) s → IsKept s None answer after → IsFirst wanted answer after
+is_first_kept (Ok w) s answer after h (inl k) = inl (k.0, k.1 ∙ ap Some h)
+is_first_kept (Ok w) s answer after h (inr k) = inr k
+is_first_kept (Err fault) s answer after h k = absurd h
+
+pub is_first_refused : (wanted : Result Session Refusal) (s : Session) (refusal : Refusal)
+    → Leaves wanted nothing (Err refusal) s → IsFirst wanted (number_of refusal) None
+is_first_refused (Ok w) s refusal h = inr (ap number_of h.0, refl)
+is_first_refused (Err fault) s refusal h = (ap number_of h.0, refl)
+
+-- ---- lines
+
+pub first_line_kept : (text : List ℕ) (s : Session) (answer : ℕ) (after : Option Session) → Plays text nothing (Ok tt) s
+    → IsKept s None answer after → IsLine None text answer after
+first_line_kept text s answer after p k = (Ok tt, s, p, k)
+
+pub first_line_refused : (text : List ℕ) (s : Session) (refusal : Refusal) → Plays text nothing (Err refusal) s
+    → IsLine None text (number_of refusal) None
+first_line_refused text s refusal p = (Err refusal, s, p, (refl, refl))
+
+pub line_played : (text : List ℕ) (s after : Session) (result : Result (Unit {0}) Refusal) → Plays text s result after
+    → IsLine (Some s) text (answer_number result) (Some after)
+line_played text s after result p = (result, p, refl)
+
+-- ---- a new MME
+
+pub new_kept : (text : List ℕ) (s : Session) (fault : LineFault) (answer : ℕ) (after : Option Session) → made_of text ≡ Ok s
+    → IsKept s None answer after → IsNew None text fault answer after fault
+new_kept text s fault answer after m (inl k) =
+    let P : Result Session LinesFault → Type 0 = λ made. IsMade made answer after fault fault in
+    inl (subst P (sym m) (k.0, k.1, refl))
+new_kept text s fault answer after m (inr k) = inr (inr (k.0, k.1, refl))
+
+pub new_refused : (text : List ℕ) (refused : LinesFault) (fault : LineFault)
+    → IsOfMemory refused.refusal ⊎ (made_of text ≡ Err refused)
+    → IsNew None text fault (number_of refused.refusal) None (line_fault refused)
+new_refused text refused fault (inl m) = inr (inl (refused, m, refl, refl, refl))
+new_refused text refused fault (inr m) =
+    let P : Result Session LinesFault → Type 0 =
+    λ made. IsMade made (number_of refused.refusal) None fault (line_fault refused) in
+    inl (subst P (sym m) (refl, refl, refl))

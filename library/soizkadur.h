@@ -1,0 +1,340 @@
+/* Soizkadur, the MME (mobility management entity) of LTE, as a library for C and C++.
+ *
+ * An MME lies behind a handle, which the caller owns:
+ *
+ *     soizkadur_mme mme = SOIZKADUR_EMPTY;
+ *     soizkadur_fault fault;
+ *     if (soizkadur_new(&mme, lines, length, &fault) == SOIZKADUR_OK) {
+ *         soizkadur_up(&mme, 0);
+ *         soizkadur_in(&mme, 0, octets, octets_length);
+ *         ... soizkadur_count, soizkadur_out ...
+ *     }
+ *     soizkadur_free(&mme);
+ *
+ * Each call does what is written over it: this is proved, for every handle and all arguments that are as below, at every outcome of
+ * every allocation (crates/mme_c/src has the contracts). Proved too: no call reads or writes outside what it is given or owns, none
+ * overflows, and each returns. No call takes a lock, blocks, reads a file or a clock, or keeps a pointer that it is given.
+ *
+ * A call that is refused answers why, a number of `enum soizkadur_refusal`; then what the handle holds, and all that the call would
+ * write, is as it was. Where a call departs from this, it is said there. Of several causes the first counts: an empty handle
+ * (or, of soizkadur_new, one that isn't), then the arguments from the left, then the others.
+ *
+ * WHAT THE CALLER HAS TO UPHOLD. Nothing checks it.
+ *
+ * - A handle begins as SOIZKADUR_EMPTY (all zero). Its word is the library's: the caller doesn't read, write or compare it.
+ * - A handle isn't copied. One that is moved (memcpy, realloc, return by value) is used at its new place alone; a copy would be
+ *   freed twice.
+ * - A handle stays on the thread that first used it. Different handles may be used by different threads at once, and the calls
+ *   without a handle by any.
+ * - No pointer to a handle or to what a call writes is NULL. A pointer to octets or to a buffer may be NULL where its length is 0.
+ * - Each pointer is to as many octets, or to one whole value, as the call says, readable and where the call writes also writable,
+ *   for the whole call, and aligned for its type. Nothing that a call writes overlaps another argument. No length is 2^63 or more.
+ * - Each handle is freed by soizkadur_free once it isn't needed. A second call does no harm; a handle that is lost is a leak.
+ * - malloc, realloc and free are of one allocator, which aligns as the C library's does.
+ * - No call is made from a signal handler, or in the forked child of a process with threads.
+ *
+ * Octets are passed as a pointer and their number. An IMSI is 14 or 15 ASCII digits, without a NUL: a pointer and their number.
+ * A station (eNodeB) is a number from 0 to 127, which the caller gives to a connection.
+ */
+#ifndef SOIZKADUR_H
+#define SOIZKADUR_H
+
+#include <stddef.h>
+#include <stdint.h>
+
+#ifdef __cplusplus
+extern "C" {
+#endif
+
+/* NULL, or the pointer to what this handle alone owns. */
+typedef struct soizkadur_mme {
+    void *at;
+} soizkadur_mme;
+
+#ifdef __cplusplus
+#define SOIZKADUR_EMPTY {nullptr}
+#else
+#define SOIZKADUR_EMPTY {NULL}
+#endif
+
+/* What a call answers: 0, or why it was refused. */
+enum soizkadur_refusal {
+    SOIZKADUR_OK = 0,
+
+    /* of an event; the numbers are those of the program's answer `refused N` */
+    SOIZKADUR_NOT_UP = 1,       /* the station is down */
+    SOIZKADUR_ALREADY_UP = 2,   /* the station is not down */
+    SOIZKADUR_CLOCK_SPENT = 3,  /* the clock is at its last tick, 2^62 */
+    SOIZKADUR_NO_MEMORY = 4,    /* malloc or realloc failed: nothing changed, and the call may be made again */
+    SOIZKADUR_UNKNOWN_IMSI = 5, /* nobody is provisioned with the IMSI */
+
+    /* of a line or an argument; less 10, the numbers are those of the program's message `line N: fault M` */
+    SOIZKADUR_UNKNOWN_WORD = 11, /* no line begins with this word */
+    SOIZKADUR_FIELD_COUNT = 12,  /* too few or too many fields for the word */
+    SOIZKADUR_BAD_NUMBER = 13,   /* not a number in its range, not an IMSI, or not a name as it should be */
+    SOIZKADUR_BAD_OCTETS = 14,   /* not octets in hex, or not as many octets as it should be */
+    SOIZKADUR_TOO_LONG = 15,     /* the line has more than 40000 octets */
+    SOIZKADUR_ORDER = 16,        /* may not stand here: what came before doesn't allow it */
+    SOIZKADUR_PROVISION = 17,    /* the subscriber or the vector can't be taken, or nobody has the IMSI */
+
+    /* of a handle */
+    SOIZKADUR_NO_MME = 21,    /* the handle is empty, or its MME isn't started */
+    SOIZKADUR_IN_USE = 22,    /* the handle isn't empty; it keeps what it holds */
+    SOIZKADUR_NO_OUTPUT = 23, /* no reply or no message has this place */
+    SOIZKADUR_NO_ROOM = 24,   /* the buffer is too small for the message */
+    SOIZKADUR_LOST = 25,      /* memory ran out while the MME was made of what was provisioned, of which nothing is left */
+
+    /* of octets that are no S1AP message (TS 36.413); less 30, the numbers of the first fault from the left */
+    SOIZKADUR_S1AP_SYNTAX = 31,            /* they spell nothing at some place (X.691) */
+    SOIZKADUR_S1AP_UNKNOWN_PROCEDURE = 32, /* a procedure that isn't known */
+    SOIZKADUR_S1AP_MISSING_ELEMENT = 33,   /* an element that must stand does not */
+    SOIZKADUR_S1AP_REPEATED_ELEMENT = 34,  /* an element stands twice */
+    SOIZKADUR_S1AP_REFUSED_ELEMENT = 35,   /* an unknown element is marked reject */
+
+    /* of octets that are no NAS message (TS 24.301) */
+    SOIZKADUR_NAS_TOO_SHORT = 41,     /* too few octets for a type */
+    SOIZKADUR_NAS_MANDATORY = 42,     /* the mandatory part isn't of its form */
+    SOIZKADUR_NAS_UNKNOWN_TYPE = 43,  /* no message has this header or this type */
+    SOIZKADUR_NAS_OPTIONAL_PART = 44, /* an element of the optional part ends past the octets */
+    SOIZKADUR_NAS_NOT_PROTECTED = 45  /* not in the protected form */
+};
+
+/* ---- the library */
+
+typedef struct soizkadur_release {
+    uint32_t major;
+    uint32_t minor;
+    uint32_t patch;
+} soizkadur_release;
+
+/* The version of the library. */
+void soizkadur_version(soizkadur_release *release);
+
+/* ---- an MME, from the lines of a trace (README.md, "A trace") */
+
+/* Why the lines of soizkadur_new were refused: the line's number, counted from 1, and the refusal. */
+typedef struct soizkadur_fault {
+    uint64_t line;
+    uint32_t refusal;
+} soizkadur_fault;
+
+/* Makes an MME of the provisioning lines of a trace (`mme`, `sub`, `vec`, comments and empty lines, parted by LF) and starts it: no
+ * station is up, no subscriber was ever seen, and the clock is 0.
+ * Refused: IN_USE; UNKNOWN_WORD to PROVISION, the fault of the first line that isn't taken (ORDER also for the line of an event or
+ * a question, and for the last line, the empty one after the last LF, where no line is `mme`); NO_MEMORY or LOST where memory ran
+ * out. An empty handle stays empty. `fault` is written where the call is refused for a line or for want of memory at a line, which
+ * it names; else it is as it was, also where there is no memory for what the handle itself keeps. */
+uint32_t soizkadur_new(soizkadur_mme *mme, const uint8_t *lines, size_t length, soizkadur_fault *fault);
+
+/* Plays one line of a trace, given without its LF: provisioning, an event, or a question. So all lines of a log, one after another
+ * from an empty handle, do what the program does with the log. A comment or an empty line does nothing.
+ * The first line of an event or a question starts the MME, also where it is then refused. The replies to the line of an event are
+ * had as those of the event's call; `tick N` is as soizkadur_tick. `show` answers whether somebody is provisioned with the IMSI;
+ * the states are had by soizkadur_states.
+ * An empty handle holds after a line that was taken what the line made; after one that was refused it is empty.
+ * Refused: NOT_UP to PROVISION; LOST, and then nothing is provisioned any more. NO_MEMORY may stand in place of another refusal. */
+uint32_t soizkadur_line(soizkadur_mme *mme, const uint8_t *line, size_t length);
+
+/* ---- an MME, made call by call */
+
+/* Begins the provisioning, as the line `mme`. `plmn` is the network in 3 octets, packed as S1AP has it (TS 36.413 clause 9.2.3.8);
+ * `group` and `code` are the MME group ID and the MME code; `apn` is one label, 1 to 63 ASCII letters, digits and hyphens; `down`
+ * and `up` are the most bits a second of all bearers of a phone, 1 to 10^10.
+ * Refused: BAD_OCTETS (plmn), BAD_NUMBER (apn, down, up), ORDER where something is provisioned or the MME runs, NO_MEMORY. */
+uint32_t soizkadur_provision_new(soizkadur_mme *mme, const uint8_t *plmn, size_t plmn_length, uint16_t group, uint8_t code,
+                                 const uint8_t *apn, size_t apn_length, uint64_t down, uint64_t up);
+
+/* Provisions a subscriber, as the line `sub`; its slot is the next one, from 0. `address` is its IPv4 address, `gateway` that of
+ * its S-GW, and `teid` the S-GW's tunnel end: numbers, as 0x0a000001 for 10.0.0.1.
+ * Refused: NO_MME for an empty handle, BAD_NUMBER (imsi), ORDER before soizkadur_provision_new and once the MME runs, PROVISION
+ * where another has the IMSI or the address or 32768 are provisioned, NO_MEMORY. */
+uint32_t soizkadur_add(soizkadur_mme *mme, const uint8_t *imsi, size_t imsi_length, uint32_t address, uint32_t gateway,
+                       uint32_t teid);
+
+/* Gives a subscriber one more authentication vector (TS 33.401 clause 6.1.2), as the line `vec`: RAND of 16 octets, AUTN of 16,
+ * XRES of 4 to 16, KASME of 32. They are used in the order in which they are given.
+ * Refused: NO_MME for an empty handle, BAD_NUMBER (imsi), BAD_OCTETS (the others), ORDER before soizkadur_provision_new and once
+ * the MME runs, PROVISION where nobody has the IMSI or the subscriber has 64 vectors, NO_MEMORY. */
+uint32_t soizkadur_give(soizkadur_mme *mme, const uint8_t *imsi, size_t imsi_length, const uint8_t *rand, size_t rand_length,
+                        const uint8_t *autn, size_t autn_length, const uint8_t *xres, size_t xres_length, const uint8_t *kasme,
+                        size_t kasme_length);
+
+/* Starts the MME of what is provisioned. Where it runs already, nothing changes and the answer is 0.
+ * Refused: NO_MME for an empty handle, ORDER where nothing is provisioned; LOST, and then nothing is provisioned any more. */
+uint32_t soizkadur_start(soizkadur_mme *mme);
+
+/* ---- events. Each answers 0, and then its reply is what the MME sends at it; or it is refused: NO_MME, NO_MEMORY, or as is said.
+ *      A refused event leaves the MME, and the replies of the last event that was taken, as they were.
+ *      NO_MEMORY is the answer to no event that would be refused for another cause. */
+
+/* A station connects. Refused: BAD_NUMBER for a station above 127, ALREADY_UP. */
+uint32_t soizkadur_up(soizkadur_mme *mme, uint8_t station);
+
+/* A station's connection is lost. Refused: BAD_NUMBER for a station above 127, NOT_UP. */
+uint32_t soizkadur_lost(soizkadur_mme *mme, uint8_t station);
+
+/* A station sends one whole S1AP message. Octets that are none are no fault of the call: the MME answers them as TS 36.413
+ * clause 10 has it. Refused: BAD_NUMBER for a station above 127, NOT_UP. */
+uint32_t soizkadur_in(soizkadur_mme *mme, uint8_t station, const uint8_t *octets, size_t length);
+
+/* `count` seconds pass, 1 to 1000000, one tick after another. There is a reply for each tick, in order, and each is taken or
+ * refused by itself: CLOCK_SPENT or NO_MEMORY, as soizkadur_count answers for it; a tick that is refused changes nothing.
+ * The call is refused, and no tick is taken: BAD_NUMBER (count), NO_MEMORY where there is no room for the replies. */
+uint32_t soizkadur_tick(soizkadur_mme *mme, uint32_t count);
+
+/* Downlink data waits for a subscriber. Refused: BAD_NUMBER (imsi), UNKNOWN_IMSI. */
+uint32_t soizkadur_data(soizkadur_mme *mme, const uint8_t *imsi, size_t imsi_length);
+
+/* A subscription is withdrawn. Refused: BAD_NUMBER (imsi), UNKNOWN_IMSI. */
+uint32_t soizkadur_cancel(soizkadur_mme *mme, const uint8_t *imsi, size_t imsi_length);
+
+/* ---- the replies of the last event that was taken. These calls change nothing of what the handle holds. */
+
+/* For whom a message is sent. */
+enum soizkadur_owner {
+    SOIZKADUR_STATION = 1,   /* the station itself; the owner's number is the station's */
+    SOIZKADUR_STRANGER = 2,  /* a phone that no subscriber is known for; 2^31 + its station * 2^24 + its eNB UE S1AP ID */
+    SOIZKADUR_SUBSCRIBER = 3 /* a subscriber; its slot */
+};
+
+/* A message that is sent to a station. */
+typedef struct soizkadur_output {
+    uint32_t owner;   /* of `enum soizkadur_owner` */
+    uint32_t number;  /* the owner's number */
+    uint32_t station; /* the station that it is sent to, 0 to 127 */
+    size_t length;    /* its octets, at most 16388 */
+} soizkadur_output;
+
+/* How many replies there are: 1, or after soizkadur_tick or a line `tick` as many as there were ticks; 0 before the first event and
+ * for an empty handle. */
+size_t soizkadur_replies(soizkadur_mme *mme);
+
+/* How many messages the reply at a place has, from 0: 0 for the only one.
+ * Refused: NO_MME for an empty handle; NO_OUTPUT where no reply has this place; CLOCK_SPENT or NO_MEMORY where that tick was
+ * refused. */
+uint32_t soizkadur_count(soizkadur_mme *mme, size_t reply, size_t *count);
+
+/* The message at a place, from 0, of the reply at a place: `output` says for whom, where to and how long it is, and its octets are
+ * copied to the start of the buffer, the rest of which stays. Messages are to be sent in this order.
+ * Refused: NO_MME for an empty handle; NO_OUTPUT where there is no such message; NO_ROOM where `room` is less than its length, and
+ * then `output` is written all the same, and nothing else. */
+uint32_t soizkadur_out(soizkadur_mme *mme, size_t reply, size_t index, soizkadur_output *output, uint8_t *buffer, size_t room);
+
+/* ---- questions, and the end */
+
+enum soizkadur_emm_state { /* TS 24.301 clause 5.1.3 */
+    SOIZKADUR_DEREGISTERED = 0,
+    SOIZKADUR_COMMON_PROCEDURE_INITIATED = 1,
+    SOIZKADUR_REGISTERED = 2,
+    SOIZKADUR_DEREGISTERED_INITIATED = 3
+};
+
+enum soizkadur_ecm_state { /* TS 23.401 clause 4.6.3 */
+    SOIZKADUR_IDLE = 0,
+    SOIZKADUR_CONNECTED = 1
+};
+
+enum soizkadur_esm_state { /* of the default bearer, TS 24.301 clause 6.1.3 */
+    SOIZKADUR_INACTIVE = 0,
+    SOIZKADUR_ACTIVE_PENDING = 1,
+    SOIZKADUR_ACTIVE = 2
+};
+
+typedef struct soizkadur_subscriber_states {
+    uint32_t emm; /* of `enum soizkadur_emm_state` */
+    uint32_t ecm; /* of `enum soizkadur_ecm_state` */
+    uint32_t esm; /* of `enum soizkadur_esm_state` */
+} soizkadur_subscriber_states;
+
+/* The states of the subscriber of an IMSI. Refused: NO_MME, BAD_NUMBER (imsi), UNKNOWN_IMSI. */
+uint32_t soizkadur_states(soizkadur_mme *mme, const uint8_t *imsi, size_t imsi_length, soizkadur_subscriber_states *states);
+
+/* The slot of the subscriber of an IMSI: its number in the order of provisioning, from 0. Refused: NO_MME, BAD_NUMBER (imsi),
+ * UNKNOWN_IMSI. */
+uint32_t soizkadur_slot_of_imsi(soizkadur_mme *mme, const uint8_t *imsi, size_t imsi_length, uint32_t *slot);
+
+/* Frees what the handle holds, if it holds something, and leaves it empty: it may be used again. On an empty one it does
+ * nothing. */
+void soizkadur_free(soizkadur_mme *mme);
+
+/* ---- messages and keys, for harnesses: calls without a handle, whose answers follow from their arguments alone */
+
+enum soizkadur_s1ap_kind {
+    SOIZKADUR_S1_SETUP_REQUEST = 1,
+    SOIZKADUR_S1_SETUP_RESPONSE = 2,
+    SOIZKADUR_S1_SETUP_FAILURE = 3,
+    SOIZKADUR_INITIAL_UE_MESSAGE = 4,
+    SOIZKADUR_DOWNLINK_NAS_TRANSPORT = 5,
+    SOIZKADUR_UPLINK_NAS_TRANSPORT = 6,
+    SOIZKADUR_NAS_NON_DELIVERY_INDICATION = 7,
+    SOIZKADUR_UE_CAPABILITY_INFO_INDICATION = 8,
+    SOIZKADUR_INITIAL_CONTEXT_SETUP_REQUEST = 9,
+    SOIZKADUR_INITIAL_CONTEXT_SETUP_RESPONSE = 10,
+    SOIZKADUR_INITIAL_CONTEXT_SETUP_FAILURE = 11,
+    SOIZKADUR_UE_CONTEXT_RELEASE_REQUEST = 12,
+    SOIZKADUR_UE_CONTEXT_RELEASE_COMMAND = 13,
+    SOIZKADUR_UE_CONTEXT_RELEASE_COMPLETE = 14,
+    SOIZKADUR_PAGING = 15,
+    SOIZKADUR_PATH_SWITCH_REQUEST = 16,
+    SOIZKADUR_PATH_SWITCH_REQUEST_ACKNOWLEDGE = 17,
+    SOIZKADUR_PATH_SWITCH_REQUEST_FAILURE = 18,
+    SOIZKADUR_RESET = 19,
+    SOIZKADUR_RESET_ACKNOWLEDGE = 20,
+    SOIZKADUR_ERROR_INDICATION = 21
+};
+
+typedef struct soizkadur_s1ap_message {
+    uint32_t kind;          /* of `enum soizkadur_s1ap_kind` */
+    uint32_t has_mme_ue_id; /* 1 where the message names one association by its MME UE S1AP ID, else 0 */
+    uint32_t mme_ue_id;     /* that ID; 0 where there is none */
+    uint32_t has_enb_ue_id; /* 1 where the message names one association by its eNB UE S1AP ID, else 0 */
+    uint32_t enb_ue_id;     /* that ID; 0 where there is none */
+} soizkadur_s1ap_message;
+
+/* The S1AP message that these octets spell (TS 36.413 clause 9), by its kind and its ids. Refused: S1AP_SYNTAX to
+ * S1AP_REFUSED_ELEMENT, the first fault from the left and a missing element last; NO_MEMORY. */
+uint32_t soizkadur_s1ap(const uint8_t *octets, size_t length, soizkadur_s1ap_message *message);
+
+/* The direction of a NAS message. */
+enum soizkadur_direction {
+    SOIZKADUR_UPLINK = 0,
+    SOIZKADUR_DOWNLINK = 1
+};
+
+/* The plain EMM message that these octets are, if `direction` sends them, by its message type (TS 24.301 clause 9.8; 0xc7 for
+ * SERVICE REQUEST, which has none). Refused: BAD_NUMBER (direction), NAS_TOO_SHORT to NAS_OPTIONAL_PART. */
+uint32_t soizkadur_nas(const uint8_t *octets, size_t length, uint32_t direction, uint32_t *kind);
+
+/* A NAS message in the protected form (TS 24.301 clause 9.1); the plain message is its octets from the seventh on. */
+typedef struct soizkadur_nas_parts {
+    uint32_t header;   /* the security header type, 1 to 4 (TS 24.301 clause 9.3.1) */
+    uint32_t mac;      /* the message authentication code, its first octet the highest */
+    uint32_t sequence; /* the sequence number, 0 to 255 */
+} soizkadur_nas_parts;
+
+/* The parts of a NAS message in the protected form; the MAC isn't checked. It is right where soizkadur_eia2 of the octets from the
+ * sixth on is the same. Refused: NAS_NOT_PROTECTED. */
+uint32_t soizkadur_nas_protected(const uint8_t *octets, size_t length, soizkadur_nas_parts *parts);
+
+/* The MAC of 128-EIA2 of octets under a key of 16 octets (TS 33.401 clause B.2.3), its first octet the highest; the bearer is 0.
+ * Refused: BAD_OCTETS (key), BAD_NUMBER (direction). */
+uint32_t soizkadur_eia2(const uint8_t *key, size_t key_length, uint32_t count, uint32_t direction, const uint8_t *octets,
+                        size_t length, uint32_t *mac);
+
+/* The key KeNB, 32 octets, of KASME, 32 octets, and an uplink NAS COUNT (TS 33.401 clause A.3).
+ * Refused: BAD_OCTETS where one of them hasn't its length. */
+uint32_t soizkadur_kenb(const uint8_t *kasme, size_t kasme_length, uint32_t count, uint8_t *key, size_t key_length);
+
+/* The next hop key NH, 32 octets, of KASME and the key before it, 32 octets each (TS 33.401 clause A.4).
+ * Refused: BAD_OCTETS where one of them hasn't its length. */
+uint32_t soizkadur_next_hop(const uint8_t *kasme, size_t kasme_length, const uint8_t *previous, size_t previous_length,
+                            uint8_t *key, size_t key_length);
+
+/* The key of NAS integrity by 128-EIA2, 16 octets, of KASME, 32 octets (TS 33.401 clause A.7).
+ * Refused: BAD_OCTETS where one of them hasn't its length. */
+uint32_t soizkadur_nas_integrity_key(const uint8_t *kasme, size_t kasme_length, uint8_t *key, size_t key_length);
+
+#ifdef __cplusplus
+}
+#endif
+#endif

@@ -1,0 +1,279 @@
+"""An MME: what it is provisioned with, its events, and what it sends."""
+import ctypes
+import enum
+import threading
+from collections.abc import Iterable, Iterator
+from typing import NamedTuple, NoReturn, Self
+
+from . import library
+from .refusals import Refusal, Refused, check, within
+
+MOST_OCTETS = 16388  # of a message that the MME sends
+EVENTS = ("up", "lost", "in", "tick", "data", "cancel")
+
+
+class Owner(enum.IntEnum):
+    """For whom a message is sent."""
+
+    STATION = 1
+    STRANGER = 2
+    SUBSCRIBER = 3
+
+
+class Out(NamedTuple):
+    """A message that the MME sends to a station."""
+
+    owner: Owner
+    number: int  # the owner's: a station, a slot, or of a stranger 2^31 + its station * 2^24 + its eNB UE S1AP ID
+    station: int  # that it is sent to
+    octets: bytes
+
+    def __str__(self) -> str:
+        """The line that `mme play` prints for it."""
+        if self.owner is Owner.STRANGER:
+            owner = "x%d.%d" % (self.number >> 24 & 0x7F, self.number & 0xFFFFFF)
+        else:
+            owner = "%s%d" % ("e" if self.owner is Owner.STATION else "s", self.number)
+        return "out %s %d %s" % (owner, self.station, self.octets.hex())
+
+
+class EmmState(enum.IntEnum):
+    """TS 24.301 clause 5.1.3."""
+
+    DEREGISTERED = 0
+    COMMON_PROCEDURE_INITIATED = 1
+    REGISTERED = 2
+    DEREGISTERED_INITIATED = 3
+
+
+class EcmState(enum.IntEnum):
+    """TS 23.401 clause 4.6.3."""
+
+    IDLE = 0
+    CONNECTED = 1
+
+
+class EsmState(enum.IntEnum):
+    """Of the default bearer, TS 24.301 clause 6.1.3."""
+
+    INACTIVE = 0
+    ACTIVE_PENDING = 1
+    ACTIVE = 2
+
+
+class States(NamedTuple):
+    """A subscriber's states."""
+
+    emm: EmmState
+    ecm: EcmState
+    esm: EsmState
+
+    def __str__(self) -> str:
+        """The words that `mme play` prints for them."""
+        return " ".join(state.name.replace("_", "-") for state in self)
+
+
+Reply = list[Out] | Refusal  # what came of one tick
+
+
+def _octets(text: str | bytes) -> bytes:
+    return text if isinstance(text, bytes) else text.encode(errors="surrogateescape")
+
+
+class Mme:
+    """One MME. It begins with nothing: `from_lines` makes one of provisioning lines, or lines, or `provision`, `add`, `give` and
+    `start` make it one by one.
+
+    As a context manager it is closed at its end, which frees its memory; `close` does so earlier. It stays on the thread that first
+    used it, which is checked here, and can't be copied or pickled.
+    """
+
+    def __init__(self) -> None:
+        self._calls = library.calls()
+        self._handle = library.Handle()
+        self._buffer = ctypes.create_string_buffer(MOST_OCTETS)
+        self._thread: int | None = None
+
+    @classmethod
+    def from_lines(cls, lines: str | bytes | Iterable[str | bytes]) -> Self:
+        """An MME of the provisioning lines of a trace (README.md, "A trace"), started.
+
+        Refused: UNKNOWN_WORD to PROVISION, with the line's number; NO_MEMORY or LOST."""
+        if not isinstance(lines, (str, bytes)):
+            lines = b"\n".join(map(_octets, lines))
+        mme, given, fault = cls(), _octets(lines), library.Fault()
+        answer = mme._call("new", given, len(given), fault)
+        if answer:
+            raise Refused(answer, fault.line)
+        return mme
+
+    # --- The handle ---
+
+    def _call(self, name: str, *given) -> int:
+        here = threading.get_ident()
+        if self._thread is None:
+            self._thread = here
+        if self._thread != here:
+            raise RuntimeError("an Mme stays on the thread that first used it")
+        return self._calls[name](self._handle, *given)
+
+    def _take(self, name: str, *given) -> None:
+        check(self._call(name, *given))
+
+    def close(self) -> None:
+        """Frees what the MME has; it is then as one that was just made. Once more does no harm."""
+        self._call("free")
+
+    def __enter__(self) -> Self:
+        return self
+
+    def __exit__(self, *_) -> None:
+        self.close()
+
+    def __del__(self) -> None:
+        if getattr(self, "_thread", None) == threading.get_ident():
+            self._calls["free"](self._handle)
+
+    def __copy__(self) -> NoReturn:
+        raise TypeError("an Mme can't be copied")
+
+    def __deepcopy__(self, memo: object) -> NoReturn:
+        self.__copy__()
+
+    def __reduce__(self) -> NoReturn:
+        raise TypeError("an Mme can't be pickled")
+
+    # --- Provisioning ---
+
+    def provision(self, plmn: bytes, group: int, code: int, apn: str, down: int, up: int) -> None:
+        """Begins the provisioning. `plmn` is the network in 3 octets (TS 36.413 clause 9.2.3.8); `down` and `up` are bits a second.
+
+        Refused: BAD_OCTETS, BAD_NUMBER, ORDER, NO_MEMORY."""
+        name = _octets(apn)
+        self._take("provision_new", plmn, len(plmn), within(group, 16), within(code, 8), name, len(name), within(down, 64),
+                   within(up, 64))
+
+    def add(self, imsi: str, address: int, gateway: int, teid: int) -> None:
+        """Provisions a subscriber, whose slot is the next one: its IPv4 address, its S-GW's, and the S-GW's tunnel end.
+
+        Refused: NO_MME, BAD_NUMBER, ORDER, PROVISION, NO_MEMORY."""
+        digits = _octets(imsi)
+        self._take("add", digits, len(digits), within(address, 32), within(gateway, 32), within(teid, 32))
+
+    def give(self, imsi: str, rand: bytes, autn: bytes, xres: bytes, kasme: bytes) -> None:
+        """Gives a subscriber one more authentication vector (TS 33.401 clause 6.1.2).
+
+        Refused: NO_MME, BAD_NUMBER, BAD_OCTETS, ORDER, PROVISION, NO_MEMORY."""
+        given: list[bytes | int] = []
+        for part in (_octets(imsi), rand, autn, xres, kasme):
+            given += [part, len(part)]
+        self._take("give", *given)
+
+    def start(self) -> None:
+        """Starts the MME of what is provisioned; one that runs goes on. Refused: NO_MME, ORDER, LOST."""
+        self._take("start")
+
+    # --- Events ---
+
+    def up(self, station: int) -> list[Out]:
+        """A station connects. Refused: NO_MME, BAD_NUMBER, ALREADY_UP, NO_MEMORY."""
+        self._take("up", within(station, 8))
+        return self._messages(0)
+
+    def lost(self, station: int) -> list[Out]:
+        """A station's connection is lost. Refused: NO_MME, BAD_NUMBER, NOT_UP, NO_MEMORY."""
+        self._take("lost", within(station, 8))
+        return self._messages(0)
+
+    def receive(self, station: int, octets: bytes) -> list[Out]:
+        """A station sends one whole S1AP message. Refused: NO_MME, BAD_NUMBER, NOT_UP, NO_MEMORY."""
+        self._take("in", within(station, 8), octets, len(octets))
+        return self._messages(0)
+
+    in_ = receive
+
+    def tick(self, seconds: int = 1) -> list[Reply]:
+        """Seconds pass, 1 to 1000000. There is a reply for each: what is sent at it, or why it was refused (CLOCK_SPENT,
+        NO_MEMORY), and then it changed nothing. Refused whole: NO_MME, BAD_NUMBER, NO_MEMORY."""
+        self._take("tick", within(seconds, 32))
+        return self.replies()
+
+    def data(self, imsi: str) -> list[Out]:
+        """Downlink data waits for a subscriber. Refused: NO_MME, BAD_NUMBER, UNKNOWN_IMSI, NO_MEMORY."""
+        digits = _octets(imsi)
+        self._take("data", digits, len(digits))
+        return self._messages(0)
+
+    def cancel(self, imsi: str) -> list[Out]:
+        """A subscription is withdrawn. Refused: NO_MME, BAD_NUMBER, UNKNOWN_IMSI, NO_MEMORY."""
+        digits = _octets(imsi)
+        self._take("cancel", digits, len(digits))
+        return self._messages(0)
+
+    # --- Lines ---
+
+    def line(self, text: str | bytes) -> list[Out]:
+        """Plays one line of a trace, without its LF. What is sent at it, if it is an event's; of `tick N` that of all ticks.
+
+        Refused: NOT_UP to PROVISION, LOST."""
+        given = _octets(text)
+        self._take("line", given, len(given))
+        if given.split(b" ", 1)[0].decode(errors="replace") not in EVENTS:
+            return []
+        return [out for reply in self.replies() if not isinstance(reply, Refusal) for out in reply]
+
+    def answers(self, text: str | bytes) -> list[str]:
+        """Plays one line of a trace, and says what `mme play` prints for it.
+
+        Refused: UNKNOWN_WORD to PROVISION, NO_MEMORY, LOST."""
+        given = _octets(text)
+        answer = self._call("line", given, len(given))
+        if answer in (Refusal.NOT_UP, Refusal.ALREADY_UP, Refusal.CLOCK_SPENT, Refusal.UNKNOWN_IMSI):
+            return ["refused %d" % answer]
+        check(answer)
+        word, _, rest = given.decode(errors="replace").partition(" ")
+        if word == "show":
+            return ["state %s %s" % (rest, self.states(rest))]
+        told: list[str] = []
+        for reply in self.replies() if word in EVENTS else []:
+            told += ["refused %d" % reply] if isinstance(reply, Refusal) else map(str, reply)
+        return told
+
+    def play(self, lines: Iterable[str | bytes]) -> Iterator[str]:
+        """Plays lines of a trace one after another, and yields what `mme play` prints for them."""
+        for line in lines:
+            yield from self.answers(line)
+
+    # --- What it sends, and its states ---
+
+    def replies(self) -> list[Reply]:
+        """The replies to the last event that was taken: one, or after ticks one for each."""
+        return [self._reply(place) for place in range(self._call("replies"))]
+
+    def _reply(self, place: int) -> Reply:
+        try:
+            return self._messages(place)
+        except Refused as refused:
+            return refused.refusal
+
+    def _messages(self, reply: int) -> list[Out]:
+        count = ctypes.c_size_t()
+        self._take("count", reply, count)
+        return [self._message(reply, place) for place in range(count.value)]
+
+    def _message(self, reply: int, place: int) -> Out:
+        output = library.Output()
+        self._take("out", reply, place, output, self._buffer, MOST_OCTETS)
+        return Out(Owner(output.owner), output.number, output.station, ctypes.string_at(self._buffer, output.length))
+
+    def states(self, imsi: str) -> States:
+        """The states of the subscriber of an IMSI. Refused: NO_MME, BAD_NUMBER, UNKNOWN_IMSI."""
+        digits, read = _octets(imsi), library.SubscriberStates()
+        self._take("states", digits, len(digits), read)
+        return States(EmmState(read.emm), EcmState(read.ecm), EsmState(read.esm))
+
+    def slot(self, imsi: str) -> int:
+        """The slot of the subscriber of an IMSI. Refused: NO_MME, BAD_NUMBER, UNKNOWN_IMSI."""
+        digits, slot = _octets(imsi), ctypes.c_uint32()
+        self._take("slot_of_imsi", digits, len(digits), slot)
+        return slot.value

@@ -1,0 +1,38 @@
+"""Stations and phones that know the standards and not the MME: what they send, and what the MME owes for it.
+
+`lte` has the octets (AES, CMAC, the keys, aligned packed encoding, S1AP and NAS), `phones` the network, stations and phones as
+lines of a trace with the answers that are owed; a clone has both in bench/, and its benchmarks and tests use them there. Here stand
+
+- `Live`: a trace that an MME plays while it is written, which compares each answer with what is owed;
+- `FailingPhone`: a phone that also does what phones shouldn't;
+- `Sim`: a test SIM by Milenage.
+"""
+import importlib
+import pathlib
+import sys
+
+_HERE = pathlib.Path(__file__).resolve().parent
+_CLONE = _HERE.parents[2]
+
+
+def _beside(name: str, *folders: pathlib.Path):
+    """A module by its file's name in the first of these folders that has it; it may name others there without a package."""
+    folder = next((folder for folder in folders if (folder / (name + ".py")).exists()), None)
+    if folder is None:
+        raise ImportError("no %s.py in %s" % (name, " or ".join(map(str, folders))))
+    sys.path.insert(0, str(folder))
+    try:
+        return importlib.import_module(name)
+    finally:
+        sys.path.remove(str(folder))
+
+
+lte = _beside("lte", _HERE, _CLONE / "bench")
+phones = _beside("phones", _HERE, _CLONE / "bench")
+Network, Station, Vector = phones.Network, phones.Station, phones.Vector
+
+from .failing import FailingPhone
+from .live import Live, Unexpected
+from .sim import Sim
+
+__all__ = ["FailingPhone", "Live", "Network", "Sim", "Station", "Unexpected", "Vector", "lte", "phones"]

@@ -1,0 +1,364 @@
+/* Each call is refused in each way that doesn't take failing memory (tests/library/failing.c) or 2^62 ticks: the number is that of
+ * soizkadur.h, and what the handle holds and all that the call would write is as it was. Of several causes the first counts.
+ */
+#include "answers.h"
+
+#define MOST_LINE 40000 /* octets of a line */
+
+static const char IMSI[] = "001010000000001", OTHER[] = "001010000000002", NOBODY[] = "001010000000009";
+static const char HEAD[] = "mme 001 01 8001 01 internet 1000000000 1000000000\n"
+                           "sub 001010000000001 0a000001 0a000064 00000001\n"
+                           "vec 001010000000001 000102030405060708090a0b0c0d0e0f 101112131415161718191a1b1c1d1e1f 20212223"
+                           " 303132333435363738393a3b3c3d3e3f404142434445464748494a4b4c4d4e4f";
+static const char SETUP[] = "in 0 0011001f000003003b00080000f11000000010004000070000004000f1100089400140";
+static const uint8_t PLMN[3] = {0x00, 0xf1, 0x10}, OCTETS[70] = {0};
+static char longest[MOST_LINE + 2];
+static unsigned tried;
+
+#define TEXT(text) (const uint8_t *)(text), strlen(text)
+#define NOTHING NULL, 0
+
+/* All that can be asked of a handle: the replies with their messages, the states of three IMSIs, and their slots. */
+static void look(struct text *seen, soizkadur_mme *mme)
+{
+    const char *const imsis[] = {IMSI, OTHER, NOBODY};
+    seen->length = 0;
+    print(seen, "%u replies\n", (unsigned)soizkadur_replies(mme));
+    put_replies(seen, mme);
+    for (size_t at = 0; at < 3; at++) {
+        struct span imsi = {imsis[at], strlen(imsis[at])};
+        uint32_t slot = 77;
+        put_states(seen, mme, imsi);
+        print(seen, "%u ", (unsigned)soizkadur_slot_of_imsi(mme, (const uint8_t *)imsi.at, imsi.length, &slot));
+        print(seen, "%u\n", (unsigned)slot);
+    }
+}
+
+static struct text before, after;
+
+static void refused_so(soizkadur_mme *mme, uint32_t got, uint32_t wanted, const char *call, int place)
+{
+    tried++;
+    if (mme != NULL)
+        look(&after, mme);
+    if (got == wanted && (mme == NULL || is_same(&before, &after)))
+        return;
+    fprintf(stderr, "refusals.c:%d: %s\n", place, call);
+    if (got != wanted)
+        fprintf(stderr, "  is refused by %u, and not %u\n", (unsigned)got, (unsigned)wanted);
+    else
+        fprintf(stderr, "  changed what the handle holds, from\n%s  to\n%s", before.at, after.at);
+    exit(1);
+}
+
+/* A call with a handle `mme` in reach: its refusal, and that the handle is as it was. */
+#define REFUSED(wanted, call) (look(&before, mme), refused_so(mme, call, SOIZKADUR_##wanted, #call, __LINE__))
+/* A call without a handle. */
+#define ANSWERED(wanted, call) refused_so(NULL, call, SOIZKADUR_##wanted, #call, __LINE__)
+#define TAKEN(call) must((call) == SOIZKADUR_OK, #call)
+#define AS_IT_WAS(value) must(value, #value)
+
+static uint32_t line(soizkadur_mme *mme, const char *text)
+{
+    return soizkadur_line(mme, TEXT(text));
+}
+
+/* A head with a line after it, which is the fourth. */
+static uint32_t made_of(soizkadur_mme *mme, const char *more, soizkadur_fault *fault)
+{
+    static char lines[sizeof HEAD + sizeof longest + 2];
+    strcpy(lines, HEAD);
+    strcat(lines, "\n");
+    strcat(lines, more);
+    *fault = (soizkadur_fault){77, 77};
+    return soizkadur_new(mme, TEXT(lines), fault);
+}
+
+static void of_an_empty_handle(void)
+{
+    soizkadur_mme empty = SOIZKADUR_EMPTY, *mme = &empty;
+    soizkadur_subscriber_states states = {7, 7, 7};
+    soizkadur_output output = {7, 7, 7, 7};
+    uint8_t buffer[4] = {7, 7, 7, 7};
+    size_t count = 7;
+    uint32_t slot = 7;
+    AS_IT_WAS(soizkadur_replies(mme) == 0);
+    REFUSED(NO_MME, soizkadur_add(mme, NOTHING, 1, 2, 3));
+    REFUSED(NO_MME, soizkadur_give(mme, NOTHING, NOTHING, NOTHING, NOTHING, NOTHING));
+    REFUSED(NO_MME, soizkadur_start(mme));
+    REFUSED(NO_MME, soizkadur_up(mme, 128));
+    REFUSED(NO_MME, soizkadur_lost(mme, 128));
+    REFUSED(NO_MME, soizkadur_in(mme, 128, NOTHING));
+    REFUSED(NO_MME, soizkadur_tick(mme, 0));
+    REFUSED(NO_MME, soizkadur_data(mme, NOTHING));
+    REFUSED(NO_MME, soizkadur_cancel(mme, NOTHING));
+    REFUSED(NO_MME, soizkadur_count(mme, 0, &count));
+    REFUSED(NO_MME, soizkadur_out(mme, 0, 0, &output, buffer, sizeof buffer));
+    REFUSED(NO_MME, soizkadur_states(mme, NOTHING, &states));
+    REFUSED(NO_MME, soizkadur_slot_of_imsi(mme, NOTHING, &slot));
+    AS_IT_WAS(count == 7 && slot == 7 && buffer[0] == 7 && output.length == 7 && states.emm == 7);
+    soizkadur_free(mme);
+    REFUSED(NO_MME, soizkadur_up(mme, 0));
+}
+
+static void of_lines(void)
+{
+    soizkadur_mme empty = SOIZKADUR_EMPTY, *mme = &empty;
+    REFUSED(UNKNOWN_WORD, line(mme, "station 0"));
+    REFUSED(ORDER, line(mme, "sub 001010000000001 0a000001 0a000064 00000001"));
+    REFUSED(ORDER, line(mme, "up 0"));
+    REFUSED(FIELD_COUNT, line(mme, "mme 001"));
+    REFUSED(BAD_NUMBER, line(mme, "mme 001 01 8001 01 internet 0 1000000000"));
+    REFUSED(TOO_LONG, line(mme, longest));
+    REFUSED(NO_MME, soizkadur_start(mme));
+    TAKEN(line(mme, "mme 001 01 8001 01 internet 1000000000 1000000000"));
+    REFUSED(ORDER, line(mme, "mme 001 01 8001 01 internet 1000000000 1000000000"));
+    TAKEN(line(mme, "sub 001010000000001 0a000001 0a000064 00000001"));
+    REFUSED(PROVISION, line(mme, "sub 001010000000001 0a000002 0a000064 00000001"));
+    REFUSED(PROVISION, line(mme, "vec 001010000000009 000102030405060708090a0b0c0d0e0f 101112131415161718191a1b1c1d1e1f 20212223"
+                                 " 303132333435363738393a3b3c3d3e3f404142434445464748494a4b4c4d4e4f"));
+    REFUSED(BAD_OCTETS, line(mme, "vec 001010000000001 0001 101112131415161718191a1b1c1d1e1f 20212223 30"));
+    TAKEN(line(mme, "# a comment"));
+    TAKEN(soizkadur_line(mme, NOTHING));
+    TAKEN(line(mme, "up 0"));
+    TAKEN(line(mme, SETUP));
+    REFUSED(ALREADY_UP, line(mme, "up 0"));
+    REFUSED(NOT_UP, line(mme, "lost 1"));
+    REFUSED(NOT_UP, line(mme, "in 1 -"));
+    REFUSED(UNKNOWN_IMSI, line(mme, "data 001010000000009"));
+    REFUSED(UNKNOWN_IMSI, line(mme, "cancel 001010000000009"));
+    REFUSED(PROVISION, line(mme, "show 001010000000009"));
+    REFUSED(BAD_NUMBER, line(mme, "up 128"));
+    REFUSED(BAD_NUMBER, line(mme, "tick 0"));
+    REFUSED(BAD_OCTETS, line(mme, "in 0 0"));
+    REFUSED(FIELD_COUNT, line(mme, "in 0"));
+    REFUSED(UNKNOWN_WORD, line(mme, " up 1"));
+    REFUSED(TOO_LONG, line(mme, longest));
+    REFUSED(ORDER, line(mme, "sub 001010000000002 0a000002 0a000064 00000001"));
+    soizkadur_free(mme);
+}
+
+static void of_a_whole_trace(void)
+{
+    soizkadur_mme empty = SOIZKADUR_EMPTY, *mme = &empty;
+    soizkadur_fault fault = {77, 77};
+    const struct {
+        const char *line;
+        uint32_t refusal;
+    } faults[] = {
+        {"station 0", SOIZKADUR_UNKNOWN_WORD},
+        {"sub 001010000000002", SOIZKADUR_FIELD_COUNT},
+        {"sub 0010100000002 0a000002 0a000064 00000001", SOIZKADUR_BAD_NUMBER},
+        {"sub 001010000000002 0a00 0a000064 00000001", SOIZKADUR_BAD_OCTETS},
+        {longest, SOIZKADUR_TOO_LONG},
+        {"up 0", SOIZKADUR_ORDER},
+        {"show 001010000000001", SOIZKADUR_ORDER},
+        {"sub 001010000000002 0a000001 0a000064 00000001", SOIZKADUR_PROVISION},
+    };
+    for (size_t at = 0; at < sizeof faults / sizeof faults[0]; at++) {
+        look(&before, mme);
+        refused_so(mme, made_of(mme, faults[at].line, &fault), faults[at].refusal, faults[at].line, __LINE__);
+        AS_IT_WAS(fault.line == 4 && fault.refusal == faults[at].refusal);
+    }
+    REFUSED(ORDER, soizkadur_new(mme, TEXT("# nothing\n\n"), &fault));
+    AS_IT_WAS(fault.line == 3 && fault.refusal == SOIZKADUR_ORDER);
+    REFUSED(ORDER, soizkadur_new(mme, NOTHING, &fault));
+    AS_IT_WAS(fault.line == 1 && fault.refusal == SOIZKADUR_ORDER);
+    TAKEN(made_of(mme, "", &fault));
+    AS_IT_WAS(fault.line == 77 && fault.refusal == 77);
+    TAKEN(line(mme, "up 0"));
+    TAKEN(line(mme, SETUP));
+    REFUSED(IN_USE, made_of(mme, "", &fault));
+    AS_IT_WAS(fault.line == 77 && fault.refusal == 77);
+    soizkadur_free(mme);
+}
+
+#define OCTETS_OF(count) OCTETS, count
+
+static uint32_t new_of(soizkadur_mme *mme, size_t plmn, const char *apn, uint64_t down, uint64_t up)
+{
+    return soizkadur_provision_new(mme, PLMN, plmn, 0x8001, 1, TEXT(apn), down, up);
+}
+
+static uint32_t gives(soizkadur_mme *mme, const char *imsi, size_t rand, size_t autn, size_t xres, size_t kasme)
+{
+    return soizkadur_give(mme, TEXT(imsi), OCTETS, rand, OCTETS, autn, OCTETS, xres, OCTETS, kasme);
+}
+
+static void of_provisioning(void)
+{
+    soizkadur_mme empty = SOIZKADUR_EMPTY, *mme = &empty;
+    char label[65];
+    memset(label, 'a', 64);
+    label[64] = 0;
+    REFUSED(BAD_OCTETS, new_of(mme, 2, "", 0, 0));
+    REFUSED(BAD_NUMBER, new_of(mme, 3, "", 1, 1));
+    REFUSED(BAD_NUMBER, new_of(mme, 3, label, 1, 1));
+    REFUSED(BAD_NUMBER, new_of(mme, 3, "two.labels", 1, 1));
+    REFUSED(BAD_NUMBER, new_of(mme, 3, "internet", 0, 1));
+    REFUSED(BAD_NUMBER, new_of(mme, 3, "internet", 1, 0));
+    REFUSED(BAD_NUMBER, new_of(mme, 3, "internet", 10000000001u, 1));
+    REFUSED(BAD_NUMBER, new_of(mme, 3, "internet", 1, 10000000001u));
+    REFUSED(NO_MME, soizkadur_start(mme));
+    TAKEN(line(mme, "# a handle that holds something, of which nothing is provisioned"));
+    REFUSED(ORDER, soizkadur_add(mme, TEXT(IMSI), 1, 2, 3));
+    REFUSED(ORDER, gives(mme, IMSI, 16, 16, 8, 32));
+    REFUSED(ORDER, soizkadur_start(mme));
+    REFUSED(NO_MME, soizkadur_up(mme, 0));
+    REFUSED(BAD_NUMBER, soizkadur_up(mme, 128));
+    TAKEN(new_of(mme, 3, label + 1, 1, 10000000000u));
+    REFUSED(ORDER, new_of(mme, 3, "internet", 1, 1));
+    REFUSED(NO_MME, soizkadur_up(mme, 0)); /* it isn't started */
+    REFUSED(BAD_NUMBER, soizkadur_add(mme, TEXT("0010100000001"), 1, 2, 3));
+    REFUSED(BAD_NUMBER, soizkadur_add(mme, TEXT("0010100000000001"), 1, 2, 3));
+    REFUSED(BAD_NUMBER, soizkadur_add(mme, TEXT("00101000000000a"), 1, 2, 3));
+    REFUSED(BAD_NUMBER, soizkadur_add(mme, NOTHING, 1, 2, 3));
+    REFUSED(PROVISION, gives(mme, IMSI, 16, 16, 8, 32));
+    TAKEN(soizkadur_add(mme, TEXT(IMSI), 0x0a000001, 0x0a000064, 1));
+    REFUSED(PROVISION, soizkadur_add(mme, TEXT(IMSI), 0x0a000002, 0x0a000064, 2));
+    REFUSED(PROVISION, soizkadur_add(mme, TEXT(OTHER), 0x0a000001, 0x0a000064, 2));
+    REFUSED(BAD_NUMBER, gives(mme, "1", 15, 15, 3, 31));
+    REFUSED(BAD_OCTETS, gives(mme, IMSI, 15, 16, 8, 32));
+    REFUSED(BAD_OCTETS, gives(mme, IMSI, 16, 17, 8, 32));
+    REFUSED(BAD_OCTETS, gives(mme, IMSI, 16, 16, 3, 32));
+    REFUSED(BAD_OCTETS, gives(mme, IMSI, 16, 16, 17, 32));
+    REFUSED(BAD_OCTETS, gives(mme, IMSI, 16, 16, 8, 31));
+    REFUSED(PROVISION, gives(mme, NOBODY, 16, 16, 8, 32));
+    for (int count = 0; count < 64; count++)
+        TAKEN(gives(mme, IMSI, 16, 16, 4 + (size_t)count % 13, 32));
+    REFUSED(PROVISION, gives(mme, IMSI, 16, 16, 8, 32));
+    TAKEN(soizkadur_start(mme));
+    REFUSED(ORDER, new_of(mme, 3, "internet", 1, 1));
+    REFUSED(ORDER, soizkadur_add(mme, TEXT(OTHER), 0x0a000002, 0x0a000064, 2));
+    REFUSED(ORDER, gives(mme, IMSI, 16, 16, 8, 32));
+    soizkadur_free(mme);
+}
+
+static void of_events(void)
+{
+    soizkadur_mme empty = SOIZKADUR_EMPTY, *mme = &empty;
+    soizkadur_fault fault;
+    TAKEN(made_of(mme, "", &fault));
+    TAKEN(line(mme, "up 0"));
+    TAKEN(line(mme, SETUP));
+    REFUSED(BAD_NUMBER, soizkadur_up(mme, 128));
+    REFUSED(ALREADY_UP, soizkadur_up(mme, 0));
+    REFUSED(BAD_NUMBER, soizkadur_lost(mme, 255));
+    REFUSED(NOT_UP, soizkadur_lost(mme, 127));
+    REFUSED(BAD_NUMBER, soizkadur_in(mme, 128, NOTHING));
+    REFUSED(NOT_UP, soizkadur_in(mme, 1, NOTHING));
+    REFUSED(BAD_NUMBER, soizkadur_tick(mme, 0));
+    REFUSED(BAD_NUMBER, soizkadur_tick(mme, 1000001));
+    REFUSED(BAD_NUMBER, soizkadur_data(mme, TEXT("0010100000001")));
+    REFUSED(UNKNOWN_IMSI, soizkadur_data(mme, TEXT(NOBODY)));
+    REFUSED(BAD_NUMBER, soizkadur_cancel(mme, TEXT("001010000000001 ")));
+    REFUSED(UNKNOWN_IMSI, soizkadur_cancel(mme, TEXT(NOBODY)));
+    soizkadur_free(mme);
+}
+
+static void of_replies_and_questions(void)
+{
+    soizkadur_mme empty = SOIZKADUR_EMPTY, *mme = &empty;
+    soizkadur_subscriber_states states = {7, 7, 7};
+    soizkadur_output output = {7, 7, 7, 7};
+    uint8_t buffer[40];
+    size_t count = 7;
+    uint32_t slot = 7;
+    soizkadur_fault fault;
+    memset(buffer, 7, sizeof buffer);
+    TAKEN(made_of(mme, "", &fault));
+    REFUSED(NO_OUTPUT, soizkadur_count(mme, 0, &count));
+    TAKEN(line(mme, "up 0"));
+    TAKEN(line(mme, SETUP)); /* is answered by S1 SETUP RESPONSE, of 27 octets */
+    REFUSED(NO_OUTPUT, soizkadur_count(mme, 1, &count));
+    REFUSED(NO_OUTPUT, soizkadur_count(mme, SIZE_MAX, &count));
+    REFUSED(NO_OUTPUT, soizkadur_out(mme, 1, 0, &output, buffer, sizeof buffer));
+    REFUSED(NO_OUTPUT, soizkadur_out(mme, 0, 1, &output, buffer, sizeof buffer));
+    REFUSED(NO_OUTPUT, soizkadur_out(mme, 0, SIZE_MAX, &output, buffer, sizeof buffer));
+    AS_IT_WAS(count == 7 && output.length == 7 && output.owner == 7 && output.number == 7 && output.station == 7);
+    REFUSED(NO_ROOM, soizkadur_out(mme, 0, 0, &output, buffer, 26));
+    AS_IT_WAS(output.length == 27 && output.owner == SOIZKADUR_STATION && output.number == 0 && output.station == 0);
+    REFUSED(NO_ROOM, soizkadur_out(mme, 0, 0, &output, NOTHING));
+    for (size_t at = 0; at < sizeof buffer; at++)
+        AS_IT_WAS(buffer[at] == 7);
+    TAKEN(soizkadur_out(mme, 0, 0, &output, buffer, 28));
+    AS_IT_WAS(buffer[0] == 0x20 && buffer[26] == 0xff && buffer[27] == 7);
+    REFUSED(BAD_NUMBER, soizkadur_states(mme, NOTHING, &states));
+    REFUSED(UNKNOWN_IMSI, soizkadur_states(mme, TEXT(NOBODY), &states));
+    REFUSED(BAD_NUMBER, soizkadur_slot_of_imsi(mme, TEXT("1"), &slot));
+    REFUSED(UNKNOWN_IMSI, soizkadur_slot_of_imsi(mme, TEXT(NOBODY), &slot));
+    AS_IT_WAS(states.emm == 7 && states.ecm == 7 && states.esm == 7 && slot == 7);
+    TAKEN(soizkadur_slot_of_imsi(mme, TEXT(IMSI), &slot));
+    AS_IT_WAS(slot == 0);
+    soizkadur_free(mme);
+}
+
+#define SPELLED(text) (const uint8_t *)(text), sizeof(text) - 1
+
+/* Octets that spell no message; which fault they have is from tests/parts. */
+static void of_codecs(void)
+{
+    soizkadur_s1ap_message message = {7, 7, 7, 7, 7};
+    soizkadur_nas_parts parts = {7, 7, 7};
+    uint32_t kind = 7;
+    ANSWERED(S1AP_SYNTAX, soizkadur_s1ap(NOTHING, &message));
+    ANSWERED(S1AP_SYNTAX, soizkadur_s1ap(SPELLED("\x00\x11"), &message));
+    ANSWERED(S1AP_UNKNOWN_PROCEDURE, soizkadur_s1ap(SPELLED("\x00\x05\x40\x01\x00"), &message));
+    ANSWERED(S1AP_MISSING_ELEMENT,
+             soizkadur_s1ap(SPELLED("\x00\x11\x00\x0f\x00\x00\x01\x00\x3b\x00\x08\x00\x00\xf1\x10\x00\x00\x00\x10"), &message));
+    ANSWERED(S1AP_REPEATED_ELEMENT,
+             soizkadur_s1ap(SPELLED("\x00\x11\x00\x13\x00\x00\x02\x00\x3b\x00\x08\x00\x00\xf1\x10\x00\x00\x00\x10"
+                                    "\x00\x3b\x00\x7f"), &message));
+    ANSWERED(S1AP_REFUSED_ELEMENT,
+             soizkadur_s1ap(SPELLED("\x00\x11\x00\x13\x00\x00\x02\x00\x3b\x00\x08\x00\x00\xf1\x10\x00\x00\x00\x10"
+                                    "\x12\x34\x00\x7f"), &message));
+    ANSWERED(BAD_NUMBER, soizkadur_nas(NOTHING, 2, &kind));
+    ANSWERED(NAS_TOO_SHORT, soizkadur_nas(NOTHING, SOIZKADUR_UPLINK, &kind));
+    ANSWERED(NAS_TOO_SHORT, soizkadur_nas(SPELLED("\x07"), SOIZKADUR_UPLINK, &kind));
+    ANSWERED(NAS_MANDATORY, soizkadur_nas(SPELLED("\x07\x41"), SOIZKADUR_UPLINK, &kind));
+    ANSWERED(NAS_UNKNOWN_TYPE, soizkadur_nas(SPELLED("\x17\x41"), SOIZKADUR_UPLINK, &kind));
+    ANSWERED(NAS_OPTIONAL_PART, soizkadur_nas(SPELLED("\x07\x5e\x23"), SOIZKADUR_UPLINK, &kind));
+    ANSWERED(NAS_NOT_PROTECTED, soizkadur_nas_protected(NOTHING, &parts));
+    ANSWERED(NAS_NOT_PROTECTED, soizkadur_nas_protected(SPELLED("\x07\x01\x02\x03\x04\x05\x06"), &parts));
+    AS_IT_WAS(message.kind == 7 && message.enb_ue_id == 7 && parts.mac == 7 && parts.sequence == 7 && kind == 7);
+}
+
+static void of_keys(void)
+{
+    uint32_t mac = 7;
+    uint8_t key[33];
+    memset(key, 7, sizeof key);
+    ANSWERED(BAD_OCTETS, soizkadur_eia2(OCTETS_OF(15), 0, 2, NOTHING, &mac));
+    ANSWERED(BAD_NUMBER, soizkadur_eia2(OCTETS_OF(16), 0, 2, NOTHING, &mac));
+    ANSWERED(BAD_OCTETS, soizkadur_kenb(OCTETS_OF(31), 0, key, 32));
+    ANSWERED(BAD_OCTETS, soizkadur_kenb(OCTETS_OF(32), 0, key, 33));
+    ANSWERED(BAD_OCTETS, soizkadur_next_hop(OCTETS_OF(32), OCTETS_OF(31), key, 32));
+    ANSWERED(BAD_OCTETS, soizkadur_next_hop(OCTETS_OF(33), OCTETS_OF(32), key, 32));
+    ANSWERED(BAD_OCTETS, soizkadur_next_hop(OCTETS_OF(32), OCTETS_OF(32), key, 31));
+    ANSWERED(BAD_OCTETS, soizkadur_nas_integrity_key(OCTETS_OF(0), key, 16));
+    ANSWERED(BAD_OCTETS, soizkadur_nas_integrity_key(OCTETS_OF(32), key, 32));
+    for (size_t at = 0; at < sizeof key; at++)
+        AS_IT_WAS(key[at] == 7);
+    AS_IT_WAS(mac == 7);
+}
+
+int main(void)
+{
+    soizkadur_release release = {777777, 777777, 777777};
+    soizkadur_version(&release);
+    AS_IT_WAS(release.major != 777777 && release.minor != 777777 && release.patch != 777777);
+    printf("version %u.%u.%u\n", (unsigned)release.major, (unsigned)release.minor, (unsigned)release.patch);
+    memset(longest, '#', MOST_LINE + 1);
+    of_an_empty_handle();
+    of_lines();
+    of_a_whole_trace();
+    of_provisioning();
+    of_events();
+    of_replies_and_questions();
+    of_codecs();
+    of_keys();
+    forget(&before);
+    forget(&after);
+    printf("%u calls refused\n", tried);
+    return 0;
+}

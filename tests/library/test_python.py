@@ -1,0 +1,513 @@
+#!/usr/bin/env python3
+"""Tests the package python/soizkadur over the shared object that SOIZKADUR_LIBRARY names. Closes with 'N passed, M failed'.
+
+Rows, calls and messages are those of tests/rows and tests/parts, keys also what Python's hmac derives, and what the MME owes to
+phones that fail is docs/TABLE.md: none of it is the library's own output.
+"""
+import contextlib
+import copy
+import pathlib
+import pickle
+import random
+import re
+import runpy
+import sys
+import threading
+import traceback
+
+sys.dont_write_bytecode = True
+
+TOP = pathlib.Path(__file__).resolve().parent.parent.parent
+ROWS, PARTS = TOP / "tests" / "rows", TOP / "tests" / "parts"
+sys.path[:0] = [str(TOP / "python"), str(PARTS)]
+import soizkadur
+from soizkadur import Direction, EcmState, EmmState, EsmState, Mme, Owner, Refusal, Refused, S1apKind, States
+from soizkadur.standards import FailingPhone, Sim, lte, phones
+from soizkadur.testing import Laboratory, Unexpected, laboratory
+
+rows_of = runpy.run_path(str(PARTS / "run"))["rows_of"]
+
+TESTS = []
+IMSI = "001010000000001"
+# The message types of EMM messages (TS 24.301 clause 9.8), and SERVICE REQUEST by its first octet.
+TYPES = {"ATTACH REQUEST": 0x41, "ATTACH ACCEPT": 0x42, "ATTACH COMPLETE": 0x43, "ATTACH REJECT": 0x44, "DETACH REQUEST": 0x45,
+         "DETACH ACCEPT": 0x46, "TRACKING AREA UPDATE REQUEST": 0x48, "TRACKING AREA UPDATE ACCEPT": 0x49,
+         "TRACKING AREA UPDATE COMPLETE": 0x4A, "TRACKING AREA UPDATE REJECT": 0x4B, "SERVICE REJECT": 0x4E,
+         "AUTHENTICATION REQUEST": 0x52, "AUTHENTICATION RESPONSE": 0x53, "AUTHENTICATION REJECT": 0x54, "IDENTITY REQUEST": 0x55,
+         "IDENTITY RESPONSE": 0x56, "AUTHENTICATION FAILURE": 0x5C, "SECURITY MODE COMMAND": 0x5D, "SECURITY MODE COMPLETE": 0x5E,
+         "SECURITY MODE REJECT": 0x5F, "EMM STATUS": 0x60, "SERVICE REQUEST": 0xC7}
+S1AP_FAULTS = {"Syntax": Refusal.S1AP_SYNTAX, "UnknownProcedure": Refusal.S1AP_UNKNOWN_PROCEDURE,
+               "MissingElement": Refusal.S1AP_MISSING_ELEMENT, "RepeatedElement": Refusal.S1AP_REPEATED_ELEMENT,
+               "RefusedElement": Refusal.S1AP_REFUSED_ELEMENT}
+NAS_FAULTS = {"TooShort": Refusal.NAS_TOO_SHORT, "Mandatory": Refusal.NAS_MANDATORY, "UnknownType": Refusal.NAS_UNKNOWN_TYPE,
+              "OptionalPart": Refusal.NAS_OPTIONAL_PART}
+DIRECTIONS = {"up": Direction.UPLINK, "down": Direction.DOWNLINK}
+
+
+def test(function):
+    TESTS.append((function.__name__, function))
+    return function
+
+
+def test_of_each(cases):
+    """A test for each case, a name and what the function is told."""
+    def keep(function):
+        TESTS.extend(("%s %s" % (function.__name__, name), lambda told=told: function(told)) for name, told in cases)
+        return function
+    return keep
+
+
+def octets(text):
+    return b"" if text == "-" else bytes.fromhex(text)
+
+
+def answer(call, *given):
+    """What a call answers, or why it is refused."""
+    try:
+        return call(*given)
+    except Refused as refused:
+        return refused.refusal
+
+
+def must_be(got, wanted):
+    assert got == wanted, "%r, and should be %r" % (got, wanted)
+
+
+@contextlib.contextmanager
+def fails(kind):
+    """What is in it raises this."""
+    try:
+        yield
+    except kind:
+        return
+    raise AssertionError("no %s" % kind.__name__)
+
+
+# --- Rows ---
+
+
+@test_of_each([(path.stem, path) for path in sorted(ROWS.glob("*.trace"))])
+def row(path):
+    """A row's answers, and where a line of it is wrong its fault."""
+    lines, told, fault = path.read_bytes().split(b"\n"), [], ""
+    with Mme() as mme:
+        for number, line in enumerate(lines[:-1] if lines[-1] == b"" else lines, 1):
+            try:
+                told += mme.answers(line)
+            except Refused as refused:
+                fault = "mme: line %d: fault %d\n" % (number, refused.refusal - 10)
+                break
+    errors = path.with_suffix(".errors")
+    must_be(fault, errors.read_text() if errors.exists() else "")
+    must_be("".join(line + "\n" for line in told), path.with_suffix(".answers").read_text())
+
+
+HEAD = [line for line in (ROWS / "attach_whole.trace").read_text().splitlines() if line.split(" ")[0] in ("mme", "sub", "vec")]
+EVENTS = [line.split(" ") for line in (ROWS / "attach_whole.trace").read_text().splitlines() if line.startswith(("up ", "in "))]
+ANSWERS = (ROWS / "attach_whole.answers").read_text().splitlines()
+OWED = [line for line in ANSWERS if line.startswith("out ")]
+
+
+@test_of_each([("text", "\n".join(HEAD)), ("octets", "\n".join(HEAD).encode()), ("lines", HEAD), ("one by one", None)])
+def events_by_calls(head):
+    """The row of a whole attach, by the calls of an Mme, of provisioning in each of its forms."""
+    with provisioned() if head is None else Mme.from_lines(head) as mme:
+        told = []
+        for word, station, *more in EVENTS:
+            told += mme.up(int(station)) if word == "up" else mme.receive(int(station), octets(more[0]))
+        must_be(list(map(str, told)), OWED)
+        must_be([(out.owner, out.number, out.station) for out in told[:2]], [(Owner.STATION, 0, 0), (Owner.SUBSCRIBER, 0, 0)])
+        must_be(mme.states(IMSI), States(EmmState.REGISTERED, EcmState.IDLE, EsmState.ACTIVE))
+        must_be(str(mme.states(IMSI)), ANSWERS[-1].split(" ", 2)[2])
+        must_be(mme.slot(IMSI), 0)
+
+
+def provisioned():
+    """The row's head by calls."""
+    mme = Mme()
+    mme.provision(bytes.fromhex("00f110"), 0x8001, 0x01, "internet", 10**9, 10**9)
+    mme.add(IMSI, 0x0A000001, 0x0A000064, 1)
+    mme.give(IMSI, *map(octets, HEAD[2].split(" ")[2:]))
+    mme.start()
+    mme.start()
+    return mme
+
+
+@test
+def ticks_have_a_reply_each():
+    """A challenge comes again at the sixth tick."""
+    with Mme.from_lines(HEAD) as mme:
+        mme.up(0)
+        for event in EVENTS[1:3]:
+            mme.receive(0, octets(event[2]))
+        replies = mme.tick(6)
+        must_be([[str(out) for out in reply] for reply in replies], [[]] * 5 + [OWED[1:2]])
+        must_be(mme.replies(), replies)
+        must_be([str(out) for out in mme.line("tick 6")], OWED[1:2])
+
+
+# --- Refusals ---
+
+
+@test_of_each([(word + str(given), (word, given, wanted)) for word, given, wanted in (
+    ("up", (0,), Refusal.ALREADY_UP), ("up", (128,), Refusal.BAD_NUMBER), ("up", (256,), Refusal.BAD_NUMBER),
+    ("up", (-1,), Refusal.BAD_NUMBER), ("lost", (1,), Refusal.NOT_UP), ("receive", (1, b""), Refusal.NOT_UP),
+    ("in_", (300, b""), Refusal.BAD_NUMBER), ("tick", (0,), Refusal.BAD_NUMBER), ("tick", (2**32,), Refusal.BAD_NUMBER),
+    ("data", ("001010000000009",), Refusal.UNKNOWN_IMSI), ("cancel", ("00101000000000x",), Refusal.BAD_NUMBER),
+    ("cancel", ("٠٠١٠١٠٠٠٠٠٠٠٠٠١",), Refusal.BAD_NUMBER), ("states", ("001010000000009",), Refusal.UNKNOWN_IMSI),
+    ("slot", ("1",), Refusal.BAD_NUMBER), ("line", ("show 001010000000009",), Refusal.PROVISION),
+    ("line", ("in 0 0",), Refusal.BAD_OCTETS), ("add", (IMSI, 1, 2, 3), Refusal.ORDER),
+    ("add", (IMSI, 2**32, 2, 3), Refusal.BAD_NUMBER),
+    ("give", (IMSI, b"", b"", b"", b""), Refusal.BAD_OCTETS),
+    ("provision", (b"", 1, 1, "a", 1, 1), Refusal.BAD_OCTETS), ("provision", (bytes(3), 2**16, 1, "a", 1, 1), Refusal.BAD_NUMBER))])
+def refused(told):
+    """A call that is refused says why, and the MME and its last replies are as they were."""
+    word, given, wanted = told
+    with Mme.from_lines(HEAD) as mme:
+        mme.up(0)
+        mme.receive(0, octets(EVENTS[1][2]))
+        before = mme.replies(), mme.states(IMSI)
+        must_be(answer(getattr(mme, word), *given), wanted)
+        must_be((mme.replies(), mme.states(IMSI)), before)
+
+
+@test
+def a_line_that_is_refused_is_named():
+    with fails(Refused):
+        Mme.from_lines(HEAD + ["sub 1"])
+    try:
+        Mme.from_lines(HEAD + ["sub 1"])
+    except Refused as refused:
+        must_be((refused.refusal, refused.line), (Refusal.FIELD_COUNT, 4))
+        assert str(refused).startswith("line 4: "), str(refused)
+
+
+@test
+def each_refusal_has_words_and_its_number():
+    """The numbers and names are those of soizkadur.h."""
+    header = (TOP / "library" / "soizkadur.h").read_text()
+    found = re.compile(r"^    SOIZKADUR_(\w+) = (\d+)", re.M)
+    listed = {name: int(number) for name, number in found.findall(header)}
+    for kind in (Refusal, S1apKind, Owner, EmmState, EcmState, EsmState, Direction):
+        for each in kind:
+            must_be(listed[each.name], each.value)
+    refusals = header[header.index("enum soizkadur_refusal {"):header.index("};")]
+    must_be({name for name, _ in found.findall(refusals)}, {"OK", *Refusal.__members__})
+    assert all(each.words for each in Refusal)
+
+
+@test
+def a_closed_mme_is_as_a_new_one():
+    mme = Mme.from_lines(HEAD)
+    mme.close()
+    mme.close()
+    must_be(answer(mme.up, 0), Refusal.NO_MME)
+    must_be(mme.replies(), [])
+    must_be(mme.answers(HEAD[0]), [])
+    mme.close()
+
+
+@test
+def an_mme_is_not_copied():
+    with Mme.from_lines(HEAD) as mme:
+        for way in (copy.copy, copy.deepcopy, pickle.dumps):
+            with fails(TypeError):
+                way(mme)
+
+
+@test
+def an_mme_stays_on_its_thread():
+    caught = []
+
+    def use(mme):
+        try:
+            mme.up(0)
+        except RuntimeError as fault:
+            caught.append(str(fault))
+
+    with Mme.from_lines(HEAD) as mme:
+        thread = threading.Thread(target=use, args=(mme,))
+        thread.start()
+        thread.join()
+        must_be(len(caught), 1)
+        must_be(mme.up(0), [])
+
+
+# --- Messages and keys ---
+
+
+def parts(file, *words):
+    """The rows of a file of tests/parts whose calls begin with one of these words: the call's fields, and the answer."""
+    for place, call, _, wanted in rows_of(PARTS / (file + ".rows")):
+        fields = call.split(" ")
+        if fields[0] in words:
+            yield "%s:%d" % (file, place), (fields, wanted)
+
+
+def s1ap_wanted(wanted):
+    """The fault, or the kind and the ids, that a row's answer has."""
+    fault = re.match(r"fault (\w+)", wanted)
+    if fault:
+        return S1AP_FAULTS[fault[1]]
+    name, m, b = re.match(r"(\w+)(?: mme (\d+))?(?: enb (\d+))?", wanted).groups()
+    kind = next(kind for kind in S1apKind if kind.name.replace("_", "").lower() == name.lower())
+    return kind, m and int(m), b and int(b)
+
+
+@test_of_each([(name, told) for file in ("s1ap", "s1ap_noisy", "s1ap_resets", "s1ap_traces")
+               for name, told in parts(file, "s1ap", "s1ap_again")
+               if told[0][0] == "s1ap" or told[1].startswith("fault ")])
+def s1ap(told):
+    fields, wanted = told
+    got = answer(soizkadur.s1ap, octets(fields[1]))
+    must_be(got if isinstance(got, Refusal) else tuple(got), s1ap_wanted(wanted))
+
+
+# The messages that the MME sends, by the first two octets: the outcome and the procedure (TS 36.413 clause 9.3).
+SENT = {b"\x20\x11": S1apKind.S1_SETUP_RESPONSE, b"\x40\x11": S1apKind.S1_SETUP_FAILURE,
+        b"\x00\x0b": S1apKind.DOWNLINK_NAS_TRANSPORT, b"\x00\x09": S1apKind.INITIAL_CONTEXT_SETUP_REQUEST,
+        b"\x00\x17": S1apKind.UE_CONTEXT_RELEASE_COMMAND, b"\x00\x0a": S1apKind.PAGING,
+        b"\x20\x03": S1apKind.PATH_SWITCH_REQUEST_ACKNOWLEDGE,
+        b"\x40\x03": S1apKind.PATH_SWITCH_REQUEST_FAILURE, b"\x20\x0e": S1apKind.RESET_ACKNOWLEDGE,
+        b"\x00\x0f": S1apKind.ERROR_INDICATION}
+
+
+@test
+def messages_of_rows_are_of_their_kinds():
+    """Each message that a row is answered with is read, and is of its kind."""
+    found = set()
+    for path in sorted(ROWS.glob("*.answers")):
+        for line in path.read_text().splitlines():
+            if line.startswith("out "):
+                sent = octets(line.split(" ")[3])
+                must_be(soizkadur.s1ap(sent).kind, SENT[sent[:2]])
+                found.add(sent[:2])
+    must_be(found, set(SENT))
+
+
+@test_of_each(parts("nas_messages", "emm"))
+def nas(told):
+    (_, direction, text), wanted = told
+    fault = re.match(r"fault \d (\w+)", wanted)
+    name = max((name for name in TYPES if wanted.startswith(name)), key=len, default=None)
+    must_be(answer(soizkadur.nas, octets(text), DIRECTIONS[direction]), NAS_FAULTS[fault[1]] if fault else TYPES[name])
+
+
+@test_of_each(parts("nas_messages", "protected"))
+def nas_protected(told):
+    (_, text), wanted = told
+    found = re.match(r"header (\d) MAC (\w+) sequence (\d+) message (\w+|-)", wanted)
+    got = answer(soizkadur.nas_protected, octets(text))
+    if found:
+        must_be(got, (int(found[1]), octets(found[2]), int(found[3]), octets(found[4])))
+    else:
+        must_be(got, Refusal.NAS_NOT_PROTECTED)
+
+
+@test_of_each(parts("keys", "eia2", "kept_eia2", "kenb", "next_hop", "nas_integrity_key"))
+def keys(told):
+    (call, key, *more), wanted = told
+    if call.endswith("eia2"):
+        got = soizkadur.eia2(octets(key), int(more[0]), DIRECTIONS[more[1]], octets(more[2]))
+    elif call == "kenb":
+        got = soizkadur.kenb(octets(key), int(more[0]))
+    elif call == "next_hop":
+        got = soizkadur.next_hop(octets(key), octets(more[0]))
+    else:
+        got = soizkadur.nas_integrity_key(octets(key))
+    must_be(got.hex(), wanted)
+
+
+@test_of_each([(str(seed), seed) for seed in range(8)])
+def keys_as_hmac_has_them(seed):
+    """Python's hmac and the AES of bench/lte.py (FIPS 197, RFC 4493) come to the same."""
+    rng = random.Random(seed)
+    kasme, previous, count = rng.randbytes(32), rng.randbytes(32), rng.randrange(2**32)
+    must_be(soizkadur.kenb(kasme, count), lte.kenb(kasme, count))
+    must_be(soizkadur.next_hop(kasme, previous), lte.next_hop(kasme, previous))
+    must_be(soizkadur.nas_integrity_key(kasme), lte.nas_integrity_key(kasme))
+    message = rng.randbytes(rng.randrange(80))
+    for direction in Direction:
+        must_be(soizkadur.eia2(kasme[:16], count, direction, message), lte.eia2(lte.Cmac(kasme[:16]), count, direction, message))
+
+
+@test_of_each([("key", (soizkadur.eia2, bytes(15), 0, 0, b"")), ("kenb", (soizkadur.kenb, bytes(31), 0)),
+               ("next_hop", (soizkadur.next_hop, bytes(32), bytes(33))), ("integrity", (soizkadur.nas_integrity_key, b""))])
+def keys_of_other_lengths(told):
+    must_be(answer(*told), Refusal.BAD_OCTETS)
+
+
+@test
+def directions_and_counts_of_their_ranges():
+    must_be(answer(soizkadur.eia2, bytes(16), 0, 2, b""), Refusal.BAD_NUMBER)
+    must_be(answer(soizkadur.eia2, bytes(16), 2**32, 0, b""), Refusal.BAD_NUMBER)
+    must_be(answer(soizkadur.nas, b"\x07\x46", 2), Refusal.BAD_NUMBER)
+
+
+@test
+def the_version_is_that_of_the_repository():
+    must_be(soizkadur.version(), tuple(map(int, (TOP / "VERSION").read_text().split("."))))
+
+
+# --- Phones ---
+
+DEREGISTERED = States(EmmState.DEREGISTERED, EcmState.IDLE, EsmState.INACTIVE)
+REGISTERED = States(EmmState.REGISTERED, EcmState.CONNECTED, EsmState.ACTIVE)
+
+
+def challenged(phone, station):
+    phone.asks_to_attach(station, 1)
+
+
+def secured(phone, station):
+    challenged(phone, station)
+    phone.authenticates()
+
+
+def accepted(phone, station):
+    secured(phone, station)
+    phone.completes_security()
+
+
+def asked_for_information(phone, station):
+    phone.asks_to_attach(station, 1, information=True)
+    phone.authenticates()
+    phone.completes_security()
+
+
+# A name, how far the phone comes, what it does then, and its states at the end.
+FAILURES = [
+    ("wrong RES", challenged, lambda phone, _: phone.gives_wrong_res(), DEREGISTERED),
+    ("cause 20", challenged, lambda phone, _: phone.refuses_the_network(), DEREGISTERED),
+    ("cause 26", challenged, lambda phone, _: phone.refuses_the_network(26), DEREGISTERED),
+    ("cause 21", challenged, lambda phone, _: phone.is_out_of_step(), None),
+    ("cause 21 until no vector is left", challenged, lambda phone, _: [phone.is_out_of_step() for _ in range(4)], DEREGISTERED),
+    ("IPv6", None, lambda phone, station: phone.asks_for_ipv6(station, 1), DEREGISTERED),
+    ("no EIA2", None, lambda phone, station: phone.asks_without_eia2(station, 1), DEREGISTERED),
+    ("an IMSI of nobody", None, lambda phone, station: phone.asks_as_nobody(station, 1, "001010000000999"), DEREGISTERED),
+    ("an identity withheld", None, lambda phone, station: phone.withholds_identity(station, 1), DEREGISTERED),
+    ("SECURITY MODE REJECT", secured, lambda phone, _: phone.rejects_security(), DEREGISTERED),
+    ("no response", challenged, lambda phone, _: phone.holds_back_response(), DEREGISTERED),
+    ("a response too late", challenged, lambda phone, _: (phone.holds_back_response(), phone.answers_too_late()), DEREGISTERED),
+    ("no SECURITY MODE COMPLETE", secured, lambda phone, _: phone.holds_back_security(), DEREGISTERED),
+    ("no ESM INFORMATION RESPONSE", asked_for_information, lambda phone, _: phone.holds_back_information(), DEREGISTERED),
+    ("no ATTACH COMPLETE", accepted, lambda phone, _: phone.holds_back_completion(), DEREGISTERED),
+    ("ATTACH REQUEST twice", challenged, lambda phone, station: phone.attaches(station, 1), REGISTERED),
+    ("AUTHENTICATION RESPONSE twice", secured, lambda phone, _: phone.says_it_again(), None),
+    ("SECURITY MODE COMPLETE twice", accepted, lambda phone, _: phone.says_it_again(), None),
+    ("ATTACH COMPLETE twice", accepted, lambda phone, _: (phone.completes_attach(), phone.says_it_again()), REGISTERED),
+    ("SECURITY MODE COMPLETE forged", secured, lambda phone, _: phone.forges(lte.SECURITY_MODE_COMPLETE, 4), None),
+    ("ATTACH COMPLETE forged", accepted, lambda phone, _: (phone.forges(lte.ATTACH_COMPLETE), phone.completes_attach()),
+     REGISTERED),
+]
+
+
+@test_of_each([(each[0], each) for each in FAILURES])
+def failing_phone(told):
+    """What is owed for each phone that fails comes, octet by octet, and another phone attaches beside it as if it weren't there."""
+    _, begin, act, states = told
+    with Laboratory(phones=2) as here:
+        failing, other = here.phones
+        other.attaches(here.station, 2)
+        if begin:
+            begin(failing, here.station)
+        act(failing, here.station)
+        if states:
+            must_be(here.states(failing), states)
+        must_be(here.states(other), REGISTERED)
+
+
+@test
+def an_attach_without_a_vector():
+    with Laboratory(phones=1, vectors=1) as here:
+        phone = here.phones[0]
+        phone.attaches(here.station, 1)
+        phone.is_released()
+        phone.asks_without_vector(here.station, 2)
+        must_be(here.states(phone), DEREGISTERED)
+
+
+@test
+def an_answer_that_is_not_owed_is_found():
+    """A phone that would have the MME answer otherwise fails the test, with the chart of the run."""
+    for act in (lambda phone: phone.sends(lte.authentication_response(phone.vector.xres)),
+                lambda phone: phone.owed_nas(b"\x07\x54")):
+        try:
+            with Laboratory(phones=1) as here:
+                challenged(here.phones[0], here.station)
+                act(here.phones[0])
+        except Unexpected as unexpected:
+            assert "the MME owes" in str(unexpected), unexpected
+            assert "-- ATTACH REQUEST --" in str(unexpected), unexpected
+        else:
+            raise AssertionError("it isn't found")
+
+
+@test
+def a_laboratory_for_pytest():
+    made = getattr(laboratory, "__wrapped__", laboratory)()
+    here = next(made)
+    must_be(len(here.phones), 10)
+    with fails(StopIteration):
+        next(made)
+
+
+# --- A test SIM ---
+
+# TS 35.207 clause 4.3, test set 1: K, OPc, RAND, f2.
+K, OPC = octets("465b5ce8b199b49faa5f0a2ee238a6bc"), octets("cd63cb71954a9f4e48a5994e37a02baf")
+RAND, F2 = octets("23553cbe9637a89d218ae64dae47bf35"), octets("a54211d5e3ba50bf")
+
+
+@test
+def a_sim_answers_as_the_standard_has_it():
+    sim = Sim(K, OPC)
+    vector = sim.vector(RAND)
+    must_be(vector.xres, F2)
+    must_be(sim.answer(RAND, vector.autn), (F2, None, None))
+    must_be(sim.answer(RAND, bytes(16)).cause, 20)
+    must_be(sim.answer(RAND, sim.vector(RAND, b"\0\0").autn).cause, 26)
+    again = sim.answer(RAND, vector.autn)
+    must_be(again.cause, 21)
+    behind = Sim(K, OPC)
+    behind.resynchronises(RAND, again.auts)
+    must_be(behind.home, sim.sqn)
+
+
+@test
+def a_phone_with_a_sim_attaches():
+    """The first vector is an old one: the phone says that it is out of step, and attaches by the next."""
+    sim = Sim(K, OPC)
+    made = [sim.vector(), sim.vector()]
+    sim.sqn = sim.home - 1
+    with Mme() as mme, soizkadur.standards.Live(mme) as live:
+        phone, station = FailingPhone(live, 0, made), phones.Station(0)
+        live.provision([phone])
+        live.set_up(station)
+        challenged(phone, station)
+        phone.is_out_of_step(sim.answer(phone.vector.rand, phone.vector.autn).auts)
+        must_be(sim.answer(phone.vector.rand, phone.vector.autn).res, phone.vector.xres)
+        phone.authenticates()
+        phone.completes_security()
+        phone.context_is_set_up()
+        phone.completes_attach()
+        must_be(mme.states(phone.imsi), REGISTERED)
+
+
+def main():
+    passed = failed = 0
+    for name, function in TESTS:
+        try:
+            function()
+            passed += 1
+        except Exception as fault:
+            failed += 1
+            where = traceback.extract_tb(fault.__traceback__)[-1]
+            print("FAILED %s: %s:%d: %s: %s" % (name, pathlib.Path(where.filename).name, where.lineno, type(fault).__name__,
+                                                str(fault)[:400]))
+    print("%d passed, %d failed" % (passed, failed))
+    return 0 if passed and not failed else 1
+
+
+if __name__ == "__main__":
+    sys.exit(main())

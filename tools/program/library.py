@@ -1,0 +1,236 @@
+#!/usr/bin/env python3
+"""Proves each crate below the library for C in turn and builds the library, with a line for each: `./mme --library`.
+
+    library.py                  what `./mme --library` does
+    library.py --built FOLDER   builds it in a folder over the libraries that stand built here, as `rt ci` leaves them: the crate
+                                `mme_c` is checked and compiled, the crates below it are not
+
+The library is the archive libsoizkadur.a and the shared object libsoizkadur.so.1, each whole but for the C library, with
+soizkadur.h and soizkadur.pc. Only the functions of soizkadur.h are visible in them. Beside the archive stands the record of what it
+was made of (record.py).
+"""
+import argparse
+import importlib.machinery
+import importlib.util
+import os
+import pathlib
+import re
+import shutil
+import subprocess
+import sys
+import tempfile
+import time
+
+sys.dont_write_bytecode = True
+sys.path.insert(0, str(pathlib.Path(__file__).resolve().parent))
+import children
+import prove
+import record
+from words import BAD_WORDS, Failed, say
+
+CRATE = "mme_c"
+FOLDER = record.TOP / "crates" / CRATE / "out" / "library"
+ARCHIVE, SHARED, PLAIN = "libsoizkadur.a", "libsoizkadur.so.1", "libsoizkadur.so"
+HEADER = record.TOP / "library" / "soizkadur.h"
+PREFIX = "soizkadur_"
+# The C code of the toolchain that the library's heap is: malloc, realloc and free.
+SHIM = pathlib.Path("c") / "liblibc_c.a"
+FUNCTION = re.compile(r"^[a-z]\w* (soizkadur_\w+)\(", re.MULTILINE)
+# What any shared object asks of the linker's own start files, where it is there.
+WEAK = {"_ITM_deregisterTMCloneTable", "_ITM_registerTMCloneTable", "__cxa_finalize", "__gmon_start__"}
+PC = """\
+libdir=${pcfiledir}
+includedir=${pcfiledir}
+
+Name: soizkadur
+Description: An MME of LTE, proved
+Version: %s
+Libs: -L${libdir} -lsoizkadur
+Cflags: -I${includedir}
+"""
+
+
+def ran(words, what, cwd=None):
+    """What a command prints; where it fails, `what` couldn't be done."""
+    done = subprocess.run([str(word) for word in words], cwd=cwd, stdin=subprocess.DEVNULL, stdout=subprocess.PIPE,
+                          stderr=subprocess.STDOUT, text=True, errors="replace", check=False)
+    if done.returncode:
+        raise Failed("%s: status %d\n%s" % (what, done.returncode, done.stdout[-2000:]))
+    return done.stdout
+
+
+# --- The archive, compiled ---
+
+
+def toolchain_module():
+    """The toolchain's own command as a module, so that what is asked of it is what `rt` itself asks."""
+    command = shutil.which("rt")
+    if command is None:
+        raise Failed("no toolchain on the path: the library needs `rt`")
+    loader = importlib.machinery.SourceFileLoader("rt", os.path.realpath(command))
+    module = importlib.util.module_from_spec(importlib.util.spec_from_loader("rt", loader))
+    sys.modules["rt"] = module
+    loader.exec_module(module)
+    return module
+
+
+def compile_over_built(archive):
+    """Checks `mme_c` and compiles it to an archive, over the libraries below it that stand built: `rt ci` leaves them with
+    statements and code, as it needs them for a program."""
+    rt = toolchain_module()
+    rt.Crate.cuts_libraries = True
+    crate = next((one for one in rt.rtlib.crates_below(str(record.TOP)) if one.name == CRATE), None)
+    if crate is None:
+        raise Failed("crates.txt has no crate %s" % CRATE)
+    missing = [one.name for one in crate.below() if not os.path.isdir(one.rlib)]
+    if missing:
+        raise Failed("the libraries below %s aren't built: %s" % (CRATE, record.listed(missing)))
+    with open(os.devnull, "w", encoding="utf-8") as crate.out:
+        words = crate.words(["--jobs", "1"], keeps=False)
+    ran([*rt.rtlib.guarded(), rt.rtlib.RATTLE, "build", *words, "--toolchain", "%s/toolchain" % rt.KIT, "--backend", "llvm",
+         "-o", archive], "%s isn't proved, or doesn't compile" % CRATE, crate.folder)
+
+
+# --- The library, linked ---
+
+
+def functions():
+    """The functions of the header."""
+    return sorted(FUNCTION.findall(HEADER.read_text(encoding="utf-8")))
+
+
+def link_archive(compiled, folder, room):
+    """One object of the compiled crate and the toolchain's C code, in which the header's functions alone are visible."""
+    whole, names = room / "whole.o", room / "names"
+    names.write_text("".join("%s\n" % name for name in functions()), encoding="utf-8")
+    ran(["ld", "-r", "-o", whole, "--whole-archive", compiled, "--no-whole-archive", record.kit() / SHIM],
+        "the archive can't be linked")
+    ran(["objcopy", "--keep-global-symbols=%s" % names, whole, room / "soizkadur.o"], "the archive's names can't be hidden")
+    (folder / ARCHIVE).unlink(missing_ok=True)
+    ran(["ar", "rcsD", folder / ARCHIVE, room / "soizkadur.o"], "the archive can't be written")
+
+
+def link_shared(folder, room):
+    """The shared object of the archive: position independent, with nothing missing but what the C library has."""
+    exports = room / "exports"
+    exports.write_text("{ global: %s local: *; };\n" % "".join("%s; " % name for name in functions()), encoding="utf-8")
+    ran(["cc", "-shared", "-o", folder / SHARED, "-Wl,-soname,%s" % SHARED, "-Wl,--whole-archive", folder / ARCHIVE,
+         "-Wl,--no-whole-archive", "-Wl,--version-script=%s" % exports, "-Wl,-z,defs", "-Wl,-z,text", "-Wl,-z,relro", "-Wl,-z,now",
+         "-Wl,--build-id=none"], "the shared object can't be linked")
+    (folder / PLAIN).unlink(missing_ok=True)
+    (folder / PLAIN).symlink_to(SHARED)
+
+
+def names_in(file, *flags):
+    """The names that `nm` lists of a file."""
+    lines = ran(["nm", *flags, file], "the names of %s can't be listed" % file.name).splitlines()
+    return [line.split()[-1] for line in lines if line and not line.endswith(":")]
+
+
+def look_at(folder):
+    """Fails where what is visible isn't the header's functions, or something is missing that the C library doesn't have."""
+    wanted = functions()
+    for file, flags in ((ARCHIVE, ["--defined-only", "-g"]), (SHARED, ["--defined-only", "-D"])):
+        found = sorted(name.partition("@")[0] for name in names_in(folder / file, *flags))
+        if found != wanted:
+            others = ", ".join(sorted(set(found) ^ set(wanted))[:8])
+            raise Failed("the names in %s aren't those of soizkadur.h: %s" % (file, others))
+    foreign = [name for name in names_in(folder / SHARED, "--undefined-only", "-D") if "@GLIBC" not in name and name not in WEAK]
+    if foreign:
+        raise Failed("%s needs more than the C library: %s" % (SHARED, ", ".join(foreign[:8])))
+    if "TEXTREL" in ran(["readelf", "-d", folder / SHARED], "%s can't be read" % SHARED):
+        raise Failed("%s isn't position independent" % SHARED)
+
+
+def link(compiled, folder):
+    """The library in a folder, of the compiled archive; returns the folder."""
+    folder = pathlib.Path(folder)
+    folder.mkdir(parents=True, exist_ok=True)
+    record.path_of(folder / ARCHIVE).unlink(missing_ok=True)
+    with tempfile.TemporaryDirectory() as room:
+        link_archive(compiled, folder, pathlib.Path(room))
+        link_shared(folder, pathlib.Path(room))
+    shutil.copy(HEADER, folder)
+    version = (record.TOP / "VERSION").read_text(encoding="utf-8").strip()
+    (folder / "soizkadur.pc").write_text(PC % version, encoding="utf-8")
+    look_at(folder)
+    return folder
+
+
+# --- What a test or a package asks for ---
+
+
+def build_over_built(folder):
+    """The library in a folder, over the crates' libraries that stand built here, as after `rt ci`; returns the folder."""
+    with tempfile.TemporaryDirectory() as room:
+        compiled = pathlib.Path(room, "lib%s.a" % CRATE)
+        compile_over_built(compiled)
+        return link(compiled, folder)
+
+
+def fresh():
+    """The folder of the library that `./mme --library` built, where the text and the toolchain are those that it was made of, else
+    None."""
+    told = record.read(FOLDER / ARCHIVE)
+    if told is None or told["program"] != record.digest_of(FOLDER / ARCHIVE) or told["crates"] != record.digests_of_crates(CRATE):
+        return None
+    if list(record.toolchain_changed(told["toolchain"])) or HEADER.read_bytes() != (FOLDER / HEADER.name).read_bytes():
+        return None
+    return FOLDER
+
+
+# --- ./mme --library ---
+
+
+def prove_and_build(begun):
+    """Proves the crates below the library, and builds it."""
+    crates = record.crates_of(CRATE)
+    before = {"crates": record.digests_of_crates(CRATE), "toolchain": record.toolchain()}
+    record.path_of(FOLDER / ARCHIVE).unlink(missing_ok=True)
+    for at, name in enumerate(crates, 1):
+        what = "%s, %d of %d" % (name, at, len(crates))
+        say("proving %s, %d s so far" % (what, time.monotonic() - begun))
+        try:
+            prove.made(name, ["rt", "lib"])
+        except children.Stopped as stopped:
+            raise Failed("stopped while proving %s; what was proved before it is kept" % what, stopped.status) from None
+    link(record.TOP / "crates" / CRATE / "out" / ("lib%s.a" % CRATE), FOLDER)
+    if record.digests_of_crates(CRATE) != before["crates"]:
+        raise Failed("the crates changed while they were proved: ./mme --library once more")
+    record.write(FOLDER / ARCHIVE, before["crates"], before["toolchain"])
+
+
+def library(begun):
+    """What `./mme --library` does."""
+    if not record.has_sources():
+        raise Failed("no sources here: --library is for a clone of the repository")
+    if record.kit() is None:
+        raise Failed("no toolchain on the path: --library needs `rt`")
+    children.catch_signals()
+    prove_and_build(begun)
+    say("proved and built in %d s: %s and %s in %s" % (time.monotonic() - begun, ARCHIVE, SHARED, FOLDER))
+
+
+def main(given):
+    begun = time.monotonic()
+    parser = argparse.ArgumentParser(description=__doc__, formatter_class=argparse.RawDescriptionHelpFormatter)
+    parser.add_argument("--built", metavar="FOLDER")
+    words, others = parser.parse_known_args(given)
+    try:
+        if others:
+            raise Failed("--library takes no word, and not %s" % others[0], BAD_WORDS)
+        if words.built:
+            say("built in %s" % build_over_built(words.built))
+        else:
+            library(begun)
+    except Failed as fault:
+        say(fault)
+        return fault.status
+    except children.Stopped as stopped:
+        say("stopped before the first proof")
+        return stopped.status
+    return 0
+
+
+if __name__ == "__main__":
+    sys.exit(main(sys.argv[1:]))
