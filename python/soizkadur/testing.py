@@ -6,8 +6,10 @@
         for phone in laboratory.phones:
             phone.attaches(laboratory.station, phone.slot + 1)
 
-Each answer of the MME is compared with what the standards' side owes (`soizkadur.standards`). One that is otherwise is an
-`AssertionError`, which has the run as a ladder chart where tools/chart is at hand. With pytest,
+A step of a phone sends its messages, and each answer of the MME is compared with what the standards' side owes
+(`soizkadur.standards`): after it nothing is left to assert. An answer that is otherwise is an `AssertionError`, which has the run
+as a ladder chart where tools/chart is at hand. A step that begins a connection takes its station and `b`, the eNB UE S1AP ID that
+the station gives it: 0 to 2^24 - 1, another for each connection that the station has at one time. With pytest,
 
     from soizkadur.testing import laboratory
 
@@ -40,8 +42,9 @@ def chart(transcript: str) -> str:
 
 
 class Laboratory:
-    """An MME, stations that are set up, and phones that are provisioned, each with its own vectors. Station N is in tracking area
-    N + 1."""
+    """An MME (`mme`), stations that are set up (`stations`, the first also `station`), and phones that are provisioned (`phones`,
+    in order of slot, of the class `phone`), each with as many vectors of its own as `vectors` says; `trace` plays the events and
+    compares what comes. Station N is in tracking area N + 1."""
 
     def __init__(self, phones: int = 10, stations: int = 1, vectors: int = 4, network: Network | None = None,
                  phone: type[FailingPhone] = FailingPhone) -> None:

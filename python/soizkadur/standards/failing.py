@@ -85,18 +85,20 @@ class FailingPhone(phones.Phone):
         self.trace.owe("x%d.%d" % (station.number, b), station, octets)
 
     def fails_authentication(self) -> None:
-        """Owed AUTHENTICATION REJECT and the release (clause 5.4.2.5)."""
+        """What those steps end with that fail authentication: owed AUTHENTICATION REJECT and the release (clause 5.4.2.5)."""
         self.owed_nas(AUTHENTICATION_REJECT)
         self.owed(lte.release_command(self.m, self.b, FAILED))
         self.goes()
 
     def gives_wrong_res(self) -> None:
-        """AUTHENTICATION RESPONSE with another RES than XRES."""
+        """AUTHENTICATION RESPONSE with another RES than XRES; owed AUTHENTICATION REJECT and the release, which the station
+        completes."""
         self.sends(lte.authentication_response(turned(self.vector.xres, -1)))
         self.fails_authentication()
 
     def refuses_the_network(self, cause: int = MAC_FAILURE) -> None:
-        """AUTHENTICATION FAILURE for the MAC (20), or since the vector isn't for EPS (26)."""
+        """AUTHENTICATION FAILURE for the MAC (20), or since the vector isn't for EPS (26); owed AUTHENTICATION REJECT and the
+        release, which the station completes."""
         assert cause in (MAC_FAILURE, NON_EPS), "is_out_of_step is the one for cause 21"
         self.sends(bytes([0x07, 0x5C, cause]))
         self.fails_authentication()
