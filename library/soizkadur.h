@@ -1,6 +1,6 @@
 /* Soizkadur, the MME (mobility management entity) of LTE, as a library for C and C++.
  *
- * An MME lies behind a handle, which the caller owns:
+ * A handle holds an MME. The caller owns the handle:
  *
  *     soizkadur_mme mme = SOIZKADUR_EMPTY;
  *     soizkadur_fault fault;

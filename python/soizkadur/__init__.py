@@ -7,7 +7,7 @@
         for out in mme.receive(0, octets):
             print(out)
 
-An `Mme` is one whole MME, behind a handle of the C library (library/soizkadur.h, whose words hold here too). Each event answers the
+An `Mme` is one whole MME, held by a handle of the C library (library/soizkadur.h, whose words hold here too). Each event answers the
 messages that the MME sends at it, or raises `Refused`, and then the MME is as it was. The calls that need no MME (`s1ap`, `nas`,
 `eia2` ..) read octets and derive keys. `soizkadur.standards` has stations and phones that know the standards and not the MME, and
 `soizkadur.testing` brings both together for tests.

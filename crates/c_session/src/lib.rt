@@ -1,4 +1,4 @@
-//! What lies behind a handle of the library for C: how far a trace has got, and the replies to its last event. Each call says what it
+//! What a handle of the library for C holds: how far a trace has got, and the replies to its last event. Each call says what it
 //! makes of a [`Session`], in the definitions of the MME; nothing here knows C.
 #![tactic(auto)]
 

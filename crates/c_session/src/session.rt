@@ -18,7 +18,7 @@ use std::alloc::Global;
 use std::mem;
 use trace_player::{Progress, add, give, start, states_of_imsi};
 
-/// What lies behind a handle.
+/// What a handle holds.
 #[derive(Drop)]
 pub struct Session {
     /// How far a trace has got: what is provisioned, or the MME.

@@ -147,7 +147,7 @@ registered_holds vectors f _ next o is h = absurd (cc is)
 
 -- ---- path switches
 
--- the next hop after so many of them
+-- the next hop after `moves` of them
 pub hop_is : (moves : ℕ) (kasme : List ℕ) (count : ℕ)
     → next_hop kasme (standing_hop kasme (keys_after moves kasme count)) ≡ hop_at (suc (suc moves)) kasme (kenb kasme count)
 hop_is zero kasme count = refl

@@ -1,4 +1,4 @@
-//! The library for C: each export calls what lies behind a handle, and says what it makes of it. `library/soizkadur.h` has each in
+//! The library for C: each export calls what a handle holds, and says what it makes of it. `library/soizkadur.h` has each in
 //! words, with what C has to uphold.
 //!
 //! C keeps an [`MmeHandle`], which is null or the pointer to a session, and passes its address.
