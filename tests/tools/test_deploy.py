@@ -1,6 +1,8 @@
 """deploy/: that systemd takes the unit and finds few rights in it, that the words in both files are the front's, what the service
-manager is told, that the container's files are all that a front needs and its health check tells whether it serves; and, where the
-program is built, that what the commands of deploy/README.md put into place serves by the unit's words."""
+manager is told, that the container's files are all that a front needs and its health check tells whether it serves, that
+deploy/README.md's words for podman fit them; and, where the program is built, that what the commands of that page put into place
+serves by the unit's words."""
+import argparse
 import contextlib
 import json
 import os
@@ -191,6 +193,59 @@ class Container(unittest.TestCase):
     def test_words(self):
         given = command.parser("").parse_args(self.words("CMD"))
         self.assertEqual((*map(str, given.listen), given.keep, given.log), ("0.0.0.0", 7, "/var/lib/soizkadur/trace"))
+
+    def test_commands(self):
+        """README.md's words for podman fit the file: the options are known ones, and ports, folders and names are the same in
+        both. The image keeps its health check, which ends by itself within its time."""
+        _, text = README.read_text().split("## A container\n")
+        block = "".join(re.findall("^    .*\n", text, re.MULTILINE)).replace("\\\n", "")
+        commands = [shlex.split(line) for line in block.splitlines()]
+        self.assertEqual([words[:3] for words in commands], [
+            ["sudo", "podman", word] for word in ("build", "run", "exec", "healthcheck", "stop", "start")])
+        build, run, within, *others = (self.options().parse_args(words[2:]) for words in commands)
+        self.assertEqual((build.format, build.folder, tools.TOP / build.file, run.image), ("docker", ".", CONTAINER, build.tag))
+        self.assertEqual({given.name for given in (within, *others)}, {run.name})
+        self.assertTrue(run.detach)
+        front = command.parser("").parse_args(self.words("CMD"))
+        self.assertEqual(run.publish, ["127.0.0.1:%d:%d/%s" % (front.port, front.port, "tcp" if front.tcp else "sctp")])
+        self.assertEqual(self.lines("EXPOSE"), [])
+        [subscribers, log] = (volume.split(":") for volume in run.volume)
+        self.assertEqual((subscribers[1:], log[1:]), ([front.subscribers, "ro"], self.lines("VOLUME")))
+        self.assertEqual(str(pathlib.Path(front.log).parent), log[1])
+        [entry] = self.words("ENTRYPOINT")
+        ends, seconds, *check = self.words("HEALTHCHECK")
+        [limit] = re.findall(r"--timeout=(\d+)s", *self.lines("HEALTHCHECK"))
+        self.assertEqual(ends, "timeout")
+        self.assertLess(int(seconds), int(limit))
+        for program, *words in (within.words, check):
+            self.assertEqual((program, command.parser("").parse_args(words).control), (entry, front.control))
+
+    @staticmethod
+    def options():
+        """What podman takes of the words of README.md; docker takes it too, but for the form and the check."""
+        whole = argparse.ArgumentParser(allow_abbrev=False)
+        commands = whole.add_subparsers(required=True)
+        build = commands.add_parser("build", allow_abbrev=False)
+        build.add_argument("--format", choices=("docker", "oci"))
+        build.add_argument("-f", "--file")
+        build.add_argument("-t", "--tag")
+        build.add_argument("folder")
+        run = commands.add_parser("run", allow_abbrev=False)
+        run.add_argument("-d", "--detach", action="store_true")
+        run.add_argument("--name")
+        run.add_argument("--cap-drop", choices=("all",))
+        run.add_argument("--security-opt", choices=("no-new-privileges",))
+        run.add_argument("-p", "--publish", action="append")
+        run.add_argument("-v", "--volume", action="append")
+        run.add_argument("image")
+        within = commands.add_parser("exec", allow_abbrev=False)
+        within.add_argument("name")
+        within.add_argument("words", nargs=argparse.REMAINDER)
+        check = commands.add_parser("healthcheck", allow_abbrev=False)
+        check.add_argument("run", choices=("run",))
+        for named in (check, commands.add_parser("stop"), commands.add_parser("start")):
+            named.add_argument("name")
+        return whole
 
     def test_health(self):
         """The front runs by the container's words and from its files alone, twice; its health check passes where the front and its
