@@ -14,6 +14,7 @@ def doubled(x):
 
 
 def product(x, y):
+    """The product in GF(2^8) (FIPS 197 clause 4.2)."""
     total = 0
     while y:
         if y & 1:
@@ -41,6 +42,7 @@ SHIFTED = [(4 * (place // 4) + 5 * (place % 4)) % 16 for place in range(16)]
 
 
 def round_keys(key):
+    """The keys of all rounds (FIPS 197 clause 5.2)."""
     words = [list(key[4 * i:4 * i + 4]) for i in range(4)]
     constant = 1
     for i in range(4, 44):
@@ -82,6 +84,7 @@ class Cmac:
         self.whole, self.padded = subkeys
 
     def of(self, message):
+        """The CMAC of octets."""
         blocks = max(1, (len(message) + 15) // 16)
         last = message[16 * (blocks - 1):]
         if len(last) == 16:
@@ -112,14 +115,17 @@ def derived(kasme, code, *parameters):
 
 
 def nas_integrity_key(kasme):
+    """The key of 128-EIA2 for NAS (TS 33.401 annex A.7)."""
     return derived(kasme, 0x15, b"\x02", b"\x02")[16:]
 
 
 def kenb(kasme, count):
+    """KeNB of an uplink NAS COUNT (TS 33.401 annex A.3)."""
     return derived(kasme, 0x11, count.to_bytes(4, "big"))
 
 
 def next_hop(kasme, previous):
+    """The next hop key after KeNB or another (TS 33.401 annex A.4)."""
     return derived(kasme, 0x12, previous)
 
 
@@ -133,13 +139,16 @@ class Bits:
         self.value, self.count = 0, 0
 
     def put(self, number, width):
+        """A number in `width` bits."""
         self.value, self.count = (self.value << width) | number, self.count + width
         return self
 
     def align(self):
+        """Zeros up to the next octet."""
         return self.put(0, -self.count % 8)
 
     def octets(self, octets):
+        """Octets, from the next octet on."""
         self.align()
         return self.put(int.from_bytes(octets, "big"), 8 * len(octets))
 
@@ -162,6 +171,7 @@ class Bits:
         return self.put(count, 8) if count < 128 else self.put(0x8000 | count, 16)
 
     def open(self, octets):
+        """Octets with their length before them (clause 11.2)."""
         return self.length(len(octets)).octets(octets)
 
     def done(self):
@@ -185,6 +195,7 @@ IDS_OF_A_SLOT = 1 << 16  # MME UE S1AP IDs of a slot, and M-TMSIs
 
 
 def id_of_slot(slot, counter):
+    """The id of a slot by its counter."""
     return slot * IDS_OF_A_SLOT + counter % IDS_OF_A_SLOT
 
 
@@ -194,26 +205,32 @@ REJECT, IGNORE = 0, 1
 
 
 def mme_id(number):
+    """MME UE S1AP ID."""
     return 0, Bits().whole(number, 0, 2**32 - 1).done()
 
 
 def enb_id(number):
+    """eNB UE S1AP ID."""
     return 8, Bits().whole(number, 0, 2**24 - 1).done()
 
 
 def nas_pdu(octets):
+    """NAS-PDU."""
     return 26, Bits().open(octets).done()
 
 
 def tai(network, tac):
+    """TAI."""
     return 67, Bits().put(0, 2).octets(network.s1ap_plmn).put(tac, 16).done()
 
 
 def cell(network, number):
+    """E-UTRAN CGI."""
     return 100, Bits().put(0, 2).octets(network.s1ap_plmn).put(number, 28).done()
 
 
 def rrc_cause(number):
+    """RRC Establishment Cause."""
     return 134, bits((0, 1), (number, 3))
 
 
@@ -225,6 +242,7 @@ OM_INTERVENTION = ((4, 3), 3)
 
 
 def cause(group_and_number):
+    """Cause, by its group and its number there."""
     (group, width), number = group_and_number
     return 2, bits((0, 1), (group, 3), (0, 1), (number, width))
 
@@ -273,6 +291,7 @@ def rab_to_set_up(address, teid, nas=None):
 
 
 def bit_rates(down, up):
+    """UE Aggregate Maximum Bit Rate."""
     return 66, Bits().put(0, 2).whole(down, 0, 10**10).whole(up, 0, 10**10).done()
 
 
@@ -283,10 +302,12 @@ def capabilities(algorithms):
 
 
 def s_tmsi(network, tmsi):
+    """S-TMSI."""
     return 96, Bits().put(0, 2).put(network.code[0], 8).octets(tmsi.to_bytes(4, "big")).done()
 
 
 def paging_index(imsi):
+    """UE Identity Index value."""
     return 80, bits((int(imsi) % 1024, 10))
 
 
@@ -297,14 +318,17 @@ def paging_identity(network, tmsi):
 
 
 def paging_areas(network, tac):
+    """List of TAIs, of one."""
     return 46, listed_item(47, IGNORE, Bits().octets(tai(network, tac)[1]))
 
 
 def security_key(key):
+    """Security Key."""
     return 73, key
 
 
 def security_context(chaining, key):
+    """Security Context: next hop and its counter."""
     return 40, Bits().put(0, 2).whole(chaining, 0, 7).octets(key).done()
 
 
@@ -328,19 +352,23 @@ def part_of_interface(*associations):
 
 
 def associations_reset(*associations):
+    """The list of RESET ACKNOWLEDGE, each association by its ids."""
     return 93, put_list(Bits(), 91, IGNORE, [association(ids) for ids in associations])
 
 
 def enb_identity(network, number):
+    """Global eNB ID, of a macro eNB."""
     return 59, Bits().put(0, 2).octets(network.s1ap_plmn).put(0, 2).align().put(number, 20).done()
 
 
 def supported_areas(network, tac):
+    """Supported TAs, of one area in one network."""
     out = Bits().whole(1, 1, 256).put(0, 2).put(tac, 16)
     return 64, out.whole(1, 1, 6).octets(network.s1ap_plmn).done()
 
 
 def served_gummeis(network):
+    """Served GUMMEIs, of one."""
     out = Bits().whole(1, 1, 8).put(0, 2)
     out.whole(1, 1, 32).octets(network.s1ap_plmn)
     out.whole(1, 1, 65535).put(int.from_bytes(network.group, "big"), 16)
@@ -362,11 +390,13 @@ def s1ap(kind, code, criticality, *elements):
 
 
 def s1_setup_request(network, station):
+    """S1 SETUP REQUEST."""
     return s1ap(INITIATING, 17, REJECT, (REJECT, enb_identity(network, station.identity)),
                 (REJECT, supported_areas(network, station.tac)), (IGNORE, (137, bits((0, 1), (2, 2)))))
 
 
 def s1_setup_response(network):
+    """S1 SETUP RESPONSE."""
     return s1ap(SUCCESSFUL, 17, REJECT, (REJECT, served_gummeis(network)), (IGNORE, (87, b"\xff")))
 
 
@@ -378,34 +408,41 @@ def initial_ue_message(network, station, b, nas, tmsi=None):
 
 
 def uplink_nas(network, station, m, b, nas):
+    """UPLINK NAS TRANSPORT."""
     return s1ap(INITIATING, 13, IGNORE, (REJECT, mme_id(m)), (REJECT, enb_id(b)), (REJECT, nas_pdu(nas)),
                 (IGNORE, cell(network, station.cell)), (IGNORE, tai(network, station.tac)))
 
 
 def downlink_nas(m, b, nas):
+    """DOWNLINK NAS TRANSPORT."""
     return s1ap(INITIATING, 11, IGNORE, (REJECT, mme_id(m)), (REJECT, enb_id(b)), (REJECT, nas_pdu(nas)))
 
 
 def context_setup_request(network, m, b, subscriber, key, nas=None):
+    """INITIAL CONTEXT SETUP REQUEST, with a NAS message or none."""
     listed = rab_to_set_up(subscriber.gateway, subscriber.teid, nas)
     return s1ap(INITIATING, 9, REJECT, (REJECT, mme_id(m)), (REJECT, enb_id(b)), (REJECT, bit_rates(*network.rates)),
                 (REJECT, listed), (REJECT, capabilities(subscriber.capability)), (REJECT, security_key(key)))
 
 
 def context_setup_response(station, m, b):
+    """INITIAL CONTEXT SETUP RESPONSE."""
     listed = 51, rab_at(50, IGNORE, station.address, b.to_bytes(4, "big"))
     return s1ap(SUCCESSFUL, 9, REJECT, (IGNORE, mme_id(m)), (IGNORE, enb_id(b)), (IGNORE, listed))
 
 
 def release_request(m, b, why):
+    """UE CONTEXT RELEASE REQUEST."""
     return s1ap(INITIATING, 18, IGNORE, (REJECT, mme_id(m)), (REJECT, enb_id(b)), (IGNORE, cause(why)))
 
 
 def release_command(m, b, why):
+    """UE CONTEXT RELEASE COMMAND."""
     return s1ap(INITIATING, 23, REJECT, (REJECT, pair(m, b)), (IGNORE, cause(why)))
 
 
 def release_complete(m, b):
+    """UE CONTEXT RELEASE COMPLETE."""
     return s1ap(SUCCESSFUL, 23, REJECT, (IGNORE, mme_id(m)), (IGNORE, enb_id(b)))
 
 
@@ -416,6 +453,7 @@ def error_indication(why, ids=()):
 
 
 def reset(reset_type=WHOLE_INTERFACE, why=OM_INTERVENTION):
+    """RESET, of the whole interface or of a part."""
     return s1ap(INITIATING, 14, REJECT, (IGNORE, cause(why)), (REJECT, reset_type))
 
 
@@ -426,21 +464,25 @@ def reset_acknowledge(*associations):
 
 
 def paging(network, imsi, tmsi, tac):
+    """PAGING."""
     return s1ap(INITIATING, 10, IGNORE, (IGNORE, paging_index(imsi)), (IGNORE, paging_identity(network, tmsi)),
                 (IGNORE, (109, b"\0")), (IGNORE, paging_areas(network, tac)))
 
 
 def path_switch_request(network, station, m, b, capability):
+    """PATH SWITCH REQUEST."""
     listed = 22, rab_at(23, REJECT, station.address, b.to_bytes(4, "big"))
     return s1ap(INITIATING, 3, REJECT, (REJECT, enb_id(b)), (REJECT, listed), (REJECT, (88, mme_id(m)[1])),
                 (IGNORE, cell(network, station.cell)), (IGNORE, tai(network, station.tac)), (IGNORE, capabilities(capability)))
 
 
 def path_switch_failure(m, b, why):
+    """PATH SWITCH REQUEST FAILURE."""
     return s1ap(UNSUCCESSFUL, 3, REJECT, (IGNORE, mme_id(m)), (IGNORE, enb_id(b)), (IGNORE, cause(why)))
 
 
 def path_switch_acknowledge(m, b, chaining, key):
+    """PATH SWITCH REQUEST ACKNOWLEDGE."""
     return s1ap(SUCCESSFUL, 3, REJECT, (IGNORE, mme_id(m)), (IGNORE, enb_id(b)), (REJECT, security_context(chaining, key)))
 
 
@@ -448,10 +490,12 @@ def path_switch_acknowledge(m, b, chaining, key):
 
 
 def sized(octets):
+    """Octets after their number in one octet."""
     return bytes([len(octets)]) + octets
 
 
 def long_sized(octets):
+    """Octets after their number in two octets."""
     return len(octets).to_bytes(2, "big") + octets
 
 
@@ -465,26 +509,32 @@ def imsi_identity(imsi):
 
 
 def guti(network, tmsi):
+    """The mobile identity of a GUTI (clause 9.9.3.12)."""
     return b"\xf6" + network.nas_plmn + network.group + network.code + tmsi.to_bytes(4, "big")
 
 
 def tai_list(network, tac):
+    """A list of one tracking area (clause 9.9.3.33)."""
     return b"\0" + network.nas_plmn + tac.to_bytes(2, "big")
 
 
 def pdn_connectivity_request(transaction, pdn_type, asks_information):
+    """PDN CONNECTIVITY REQUEST."""
     return bytes([0x02, transaction, 0xD0, pdn_type << 4 | 1]) + (b"\xd1" if asks_information else b"")
 
 
 def attach_request(attach_type, identity, capability, esm):
+    """ATTACH REQUEST."""
     return bytes([0x07, 0x41, 0x70 | attach_type]) + sized(identity) + sized(capability) + long_sized(esm)
 
 
 def authentication_request(ksi, vector):
+    """AUTHENTICATION REQUEST."""
     return bytes([0x07, 0x52, ksi]) + vector.rand + sized(vector.autn)
 
 
 def authentication_response(res):
+    """AUTHENTICATION RESPONSE."""
     return b"\x07\x53" + sized(res)
 
 
@@ -497,22 +547,26 @@ def security_mode_command(ksi, capability):
 
 
 def activate_default_bearer(network, transaction, address, pdn_type):
+    """ACTIVATE DEFAULT EPS BEARER CONTEXT REQUEST."""
     apn = sized(sized(network.apn))
     fallback = b"\x58\x32" if pdn_type == 3 else b""
     return bytes([0x52, transaction, 0xC1]) + b"\x01\x09" + apn + b"\x05\x01" + address + fallback
 
 
 def attach_accept(network, tac, tmsi, attach_type, esm):
+    """ATTACH ACCEPT."""
     only_eps = b"\x53\x12" if attach_type == 2 else b""
     return (b"\x07\x42\x01\x49" + sized(tai_list(network, tac)) + long_sized(esm)
             + b"\x50" + sized(guti(network, tmsi)) + only_eps)
 
 
 def tau_request(update_type, ksi, network, tmsi):
+    """TRACKING AREA UPDATE REQUEST."""
     return bytes([0x07, 0x48, ksi << 4 | update_type]) + sized(guti(network, tmsi))
 
 
 def tau_accept(network, tac, tmsi, update_type):
+    """TRACKING AREA UPDATE ACCEPT."""
     only_eps = b"\x53\x12" if update_type & 7 in (1, 2) else b""
     return (b"\x07\x49\x00\x5a\x49\x50" + sized(guti(network, tmsi)) + b"\x54" + sized(tai_list(network, tac)) + only_eps)
 
@@ -524,10 +578,12 @@ def service_request(cmac, ksi, count):
 
 
 def detach_request(identity, ksi, switch_off):
+    """DETACH REQUEST of a phone."""
     return bytes([0x07, 0x45, ksi << 4 | switch_off << 3 | 1]) + sized(identity)
 
 
 def identity_response(identity):
+    """IDENTITY RESPONSE."""
     return b"\x07\x56" + sized(identity)
 
 

@@ -119,7 +119,16 @@ typedef struct soizkadur_fault {
 } soizkadur_fault;
 
 /* Makes an MME of the provisioning lines of a trace (`mme`, `sub`, `vec`, comments and empty lines, parted by LF) and starts it: no
- * station is up, no subscriber was ever seen, and the clock is 0.
+ * station is up, no subscriber was ever seen, and the clock is 0. `mme` stands first and once, a `vec` below the `sub` of its IMSI,
+ * and a line that begins with # is a comment. Fields are parted by single spaces:
+ *
+ *     mme COUNTRY NETWORK GROUP CODE APN DOWN UP    mme 001 01 8001 01 internet 1000000000 1000000000
+ *     sub IMSI ADDRESS GATEWAY TUNNEL               sub 001010000000001 0a000001 0a000064 00000001
+ *     vec IMSI RAND AUTN XRES KASME                 (the last four are octets in hex)
+ *
+ * COUNTRY has 3 digits, NETWORK 2 or 3, GROUP 4 hex digits and CODE 2; APN is as in soizkadur_provision_new; DOWN and UP are bits a
+ * second, 1 to 10^10. IMSI has 14 or 15 digits; ADDRESS, the phone's, GATEWAY, its S-GW's, and TUNNEL, the S-GW's tunnel end, have
+ * 8 hex digits. RAND and AUTN have 16 octets, XRES 4 to 16, KASME 32.
  * Refused: IN_USE; UNKNOWN_WORD to PROVISION, the fault of the first line that isn't taken (ORDER also for the line of an event or
  * a question, and for the last line, the empty one after the last LF, where no line is `mme`); NO_MEMORY or LOST where memory ran
  * out. An empty handle stays empty. `fault` is written where the call is refused for a line or for want of memory at a line, which
@@ -229,6 +238,11 @@ enum soizkadur_emm_state { /* TS 24.301 clause 5.1.3 */
     SOIZKADUR_DEREGISTERED_INITIATED = 3
 };
 
+/* A phone is IDLE from the event on at which the MME sends the UE CONTEXT RELEASE COMMAND that ends its connection: the state
+ * doesn't wait for UE CONTEXT RELEASE COMPLETE. It is IDLE, too, from the event on that ends the connection without one: the
+ * station is lost, is set up again or resets the interface or this connection, or another phone comes there under its eNB UE S1AP
+ * ID. A UE CONTEXT RELEASE COMMAND for an older connection of the phone, or for one that wasn't taken for it, leaves it
+ * CONNECTED. */
 enum soizkadur_ecm_state { /* TS 23.401 clause 4.6.3 */
     SOIZKADUR_IDLE = 0,
     SOIZKADUR_CONNECTED = 1
@@ -301,8 +315,35 @@ enum soizkadur_direction {
     SOIZKADUR_DOWNLINK = 1
 };
 
-/* The plain EMM message that these octets are, if `direction` sends them, by its message type (TS 24.301 clause 9.8; 0xc7 for
- * SERVICE REQUEST, which has none). Refused: BAD_NUMBER (direction), NAS_TOO_SHORT to NAS_OPTIONAL_PART. */
+/* The EMM messages of the profile, by their message types (TS 24.301 clause 9.8); SERVICE REQUEST, which has none, by its first
+ * octet (clause 9.3.1). */
+enum soizkadur_emm_message {
+    SOIZKADUR_EMM_ATTACH_REQUEST = 0x41,
+    SOIZKADUR_EMM_ATTACH_ACCEPT = 0x42,
+    SOIZKADUR_EMM_ATTACH_COMPLETE = 0x43,
+    SOIZKADUR_EMM_ATTACH_REJECT = 0x44,
+    SOIZKADUR_EMM_DETACH_REQUEST = 0x45,
+    SOIZKADUR_EMM_DETACH_ACCEPT = 0x46,
+    SOIZKADUR_EMM_TRACKING_AREA_UPDATE_REQUEST = 0x48,
+    SOIZKADUR_EMM_TRACKING_AREA_UPDATE_ACCEPT = 0x49,
+    SOIZKADUR_EMM_TRACKING_AREA_UPDATE_COMPLETE = 0x4a,
+    SOIZKADUR_EMM_TRACKING_AREA_UPDATE_REJECT = 0x4b,
+    SOIZKADUR_EMM_SERVICE_REJECT = 0x4e,
+    SOIZKADUR_EMM_AUTHENTICATION_REQUEST = 0x52,
+    SOIZKADUR_EMM_AUTHENTICATION_RESPONSE = 0x53,
+    SOIZKADUR_EMM_AUTHENTICATION_REJECT = 0x54,
+    SOIZKADUR_EMM_IDENTITY_REQUEST = 0x55,
+    SOIZKADUR_EMM_IDENTITY_RESPONSE = 0x56,
+    SOIZKADUR_EMM_AUTHENTICATION_FAILURE = 0x5c,
+    SOIZKADUR_EMM_SECURITY_MODE_COMMAND = 0x5d,
+    SOIZKADUR_EMM_SECURITY_MODE_COMPLETE = 0x5e,
+    SOIZKADUR_EMM_SECURITY_MODE_REJECT = 0x5f,
+    SOIZKADUR_EMM_EMM_STATUS = 0x60,
+    SOIZKADUR_EMM_SERVICE_REQUEST = 0xc7
+};
+
+/* The plain EMM message that these octets are, if `direction` sends them: `kind` is of `enum soizkadur_emm_message`.
+ * Refused: BAD_NUMBER (direction), NAS_TOO_SHORT to NAS_OPTIONAL_PART. */
 uint32_t soizkadur_nas(const uint8_t *octets, size_t length, uint32_t direction, uint32_t *kind);
 
 /* A NAS message in the protected form (TS 24.301 clause 9.1); the plain message is its octets from the seventh on. */

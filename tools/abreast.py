@@ -1,5 +1,6 @@
 """Makes the parts of a long text abreast, each by a process of its own, where there are processors for it. Nothing here is part of
 a proof."""
+import functools
 import os
 import signal
 import tempfile
@@ -7,6 +8,7 @@ import tempfile
 import runs
 
 LEAST = 20000  # things of a part: fewer aren't worth a process
+PIECE = 1 << 20  # letters of a part that are read at once
 
 
 def bounds_of(count, multiple):
@@ -28,7 +30,7 @@ def made(make, bounds):
             if os.waitpid(children.pop(0), 0)[1]:
                 raise runs.Fault("a process that makes a part ended early")
             file.seek(0)
-            yield file.read()
+            yield from iter(functools.partial(file.read, PIECE), "")
             file.close()
     finally:  # nobody reads the rest
         for child in children:

@@ -80,6 +80,11 @@ def number(text, low, high):
     return int(digits)
 
 
+@functools.lru_cache(STATIONS)
+def station_of(text):
+    return number(text, 0, STATIONS - 1)
+
+
 def octets_of(text):
     if text == "-":
         return b""
@@ -101,9 +106,9 @@ def imsi_of(text):
 def event_of(line, word, fields):
     """An event by its word and its fields."""
     if word == "in":
-        return Event(line, word, number(fields[0], 0, STATIONS - 1), octets_of(fields[1]))
+        return Event(line, "in", station_of(fields[0]), octets_of(fields[1]))
     if word in ("up", "lost"):
-        return Event(line, word, number(fields[0], 0, STATIONS - 1))
+        return Event(line, word, station_of(fields[0]))
     if word == "tick":
         return Event(line, word, ticks=number(fields[0], 1, LONGEST_TICK))
     return Event(line, word, imsi=imsi_of(fields[0]))
@@ -118,12 +123,16 @@ def event_text(event):
 
 def fields_of(text, counts):
     """The word and the fields of a line, whose words are these."""
-    word, *fields = text.decode("latin-1").split(" ")
+    fields = text.decode("latin-1").split(" ")
+    word = fields.pop(0)
     if word not in counts:
         raise Fault("no line begins with %r" % word[:40])
     if len(fields) != counts[word]:
         raise Fault("%s has %d fields, not %d" % (word, counts[word], len(fields)))
     return word, fields
+
+
+COMMENT = ord("#")  # how a line begins that is one
 
 
 def lines_of(octets, name, read, comments=False):
@@ -134,7 +143,7 @@ def lines_of(octets, name, read, comments=False):
             if text:
                 if len(text) > LONGEST_LINE:
                     raise Fault("longer than %d octets" % LONGEST_LINE)
-                if text.startswith(b"#") == comments:
+                if (text[0] == COMMENT) == comments:
                     read(line, text)
     except Fault as fault:
         raise Fault("%s: line %d: %s" % (name, line, fault)) from None
@@ -167,7 +176,7 @@ def read_trace(octets, name="trace"):
 
 
 ANSWERS = {"out": 3, "refused": 1, "state": 4}
-
+OWNER = re.compile(r"e\d+|x\d+\.\d+|s\d+")
 
 # How a comment of a trace begins that is an answer.
 TOLD = re.compile(rb"# (?=out [esx]\d|refused \d|state \d)")
@@ -176,13 +185,18 @@ TOLD = re.compile(rb"# (?=out [esx]\d|refused \d|state \d)")
 def answer_of(text):
     """An answer by its line."""
     word, fields = fields_of(text, ANSWERS)
+    if word == "out":
+        return sent(*fields)
     if word == "refused":
         return Answer(word, fault=number(fields[0], 1, 9))
-    if word == "state":
-        return Answer(word, imsi=imsi_of(fields[0]), states=" ".join(fields[1:]))
-    if not re.fullmatch(r"e\d+|x\d+\.\d+|s\d+", fields[0]):
-        raise Fault("%r is nobody a message is sent for" % fields[0][:40])
-    return Answer(word, fields[0], number(fields[1], 0, STATIONS - 1), octets_of(fields[2]))
+    return Answer(word, imsi=imsi_of(fields[0]), states=" ".join(fields[1:]))
+
+
+def sent(owner, station, octets):
+    """An answer that is a message."""
+    if not OWNER.fullmatch(owner):
+        raise Fault("%r is nobody a message is sent for" % owner[:40])
+    return Answer("out", sys.intern(owner), station_of(station), octets_of(octets))
 
 
 def read_answers(octets, name="answers"):
@@ -280,32 +294,37 @@ TIMED_OUT = "nas unspecified"
 TIMERS = {0x42: 6, 0x49: 6, 0x45: 6, 0x52: 6, 0x5D: 6, 0x55: 6, 0xD9: 4}
 PAGING_TIMER = 10  # T3413, which the network chooses (TS 24.301 table 10.2.2)
 
-# What is read of a message. `outcome` is a pair of its procedure's code and which of its messages it is; `tmsi` the M-TMSI in the
-# element S-TMSI; `listed` the associations that it lists; `said` has its causes and its fault in words; `fails` says whether it
-# refuses, fails, or can't be read.
-Content = collections.namedtuple("Content", "name code outcome fault mme_id enb_id cause nas tmsi listed said fails")
+# What is read of a message: first what is its own, then what others of its shape have too. `identity` is who the NAS message in it
+# says it is, by IMSI and by M-TMSI; `tmsi` the M-TMSI in the element S-TMSI; `outcome` a pair of its procedure's code and which of
+# its messages it is; `nas` the type and the name of the NAS message; `listed` the associations that it lists; `said` has its causes
+# and its fault in words; `fails` says whether it refuses, fails, or can't be read.
+Content = collections.namedtuple("Content", "mme_id enb_id identity tmsi name code outcome fault cause nas listed said fails")
+OWN = 4  # parts of it that are its own
+Inner = collections.namedtuple("Inner", "type name")
 # NAS messages that refuse or fail (TS 24.301 clause 9.8): rejects, failures and statuses.
 NAS_FAULTS = {0x44, 0x4B, 0x4E, 0x54, 0x5C, 0x5F, 0x60, 0xC3, 0xD1, 0xD3, 0xE8}
 
 
 class Kept:
-    """The content of a message with where its parts stand, for those of its shape."""
+    """What messages of a shape have in common, and where stands what they don't."""
 
-    def __init__(self, octets, made):
+    def __init__(self, octets, made, nas):
         found = s1ap.spans(octets)
-        self.made, self.nas = made, quick.nas_span(octets, found)
-        self.tmsi = None if made.tmsi is None else found[s1ap.S_TMSI][1] - TMSI_OCTETS
+        self.has_mme_id, self.has_enb_id = made.mme_id is not None, made.enb_id is not None
+        self.type, self.inside, self.identity, self.tmsi, self.common = nas and nas.type, None, made.identity, None, made[OWN:]
+        span = quick.nas_span(octets, found)
+        if span and self.type in s1ap.IDENTITY_PLACES:
+            self.inside = slice(span[1] - len(nas.octets), span[1])
+        if made.tmsi is not None:
+            end = found[s1ap.S_TMSI][1]
+            self.tmsi = slice(end - TMSI_OCTETS, end)
 
     def of(self, octets, ids):
         """The content of another message with these ids."""
-        name, code, outcome, fault, mme_id, enb_id, cause, nas, tmsi, listed, said, fails = self.made
-        if nas and self.nas:
-            end = self.nas[1]
-            nas = s1ap.Nas(nas.header, nas.type, octets[end - len(nas.octets):end], nas.name)
-        if self.tmsi:
-            tmsi = int.from_bytes(octets[self.tmsi:self.tmsi + TMSI_OCTETS], "big")
-        mme_id, enb_id = None if mme_id is None else ids[0], None if enb_id is None else ids[-1]
-        return Content(name, code, outcome, fault, mme_id, enb_id, cause, nas, tmsi, listed, said, fails)
+        own = (ids[0] if self.has_mme_id else None, ids[-1] if self.has_enb_id else None,
+               s1ap.identity(self.type, octets[self.inside]) if self.inside else self.identity,
+               int.from_bytes(octets[self.tmsi], "big") if self.tmsi else None)
+        return Content._make(own + self.common)
 
 
 TMSI_OCTETS = 4
@@ -325,12 +344,24 @@ def met(octets):
     cause, nas = s1ap.cause(message), s1ap.nas(s1ap.carried(message))
     said = (cause, nas_cause(nas) if nas else None, message.fault and "can't be read: " + message.fault)
     fails = message.outcome == s1ap.UNSUCCESSFUL or message.code == s1ap.ERROR or nas is not None and nas.type in NAS_FAULTS
-    made = Content(s1ap.name(message), message.code, (message.code, message.outcome), message.fault, *s1ap.ids(message), cause, nas,
-                   s1ap.tmsi(message), s1ap.listed(message), "; ".join(filter(None, said)), bool(message.fault) or fails)
+    own = (*s1ap.ids(message), s1ap.identity(nas.type, nas.octets) if nas else (None, None), s1ap.tmsi(message))
+    made = Content(*own, s1ap.name(message), message.code, (message.code, message.outcome), message.fault, cause,
+                   nas and Inner(nas.type, nas.name), s1ap.listed(message), "; ".join(filter(None, said)),
+                   bool(message.fault) or fails)
     holes = quick.holes_of(messages.decode(octets), None)
     if holes is not None:
-        SHAPES.keep(octets, quick.Shape(octets, holes, Kept(octets, made)))
+        SHAPES.keep(octets, quick.Shape(octets, holes, Kept(octets, made, nas)))
     return made
+
+
+def may_answer(heard, said):
+    """Whether a message for a phone may be sent on one of its messages, as far as the NAS messages in them tell."""
+    kind = heard.nas and heard.nas.type
+    if said.code == s1ap.CONTEXT_SETUP:
+        return kind in SETS_UP_CONTEXT
+    if said.code == s1ap.DOWNLINK_NAS and heard.nas and said.nas:
+        return said.nas.type in ANSWERS_TO.get(kind, ()) or said.nas.type in STATUSES and kind not in UNANSWERED
+    return said.code == s1ap.RELEASE
 
 
 def may_follow(first, second):
@@ -346,23 +377,21 @@ class Causes:
 
     def __init__(self, imsis):
         self.slots = {imsi: slot for slot, imsi in enumerate(imsis)}
-        self.ready, self.sent, self.due, self.from_idle = set(), {}, {}, set()
+        self.ready, self.sent, self.due, self.from_idle = set(), collections.defaultdict(set), {}, set()
 
     def slot_of(self, heard):
         """The slot that a message names, or nothing."""
         if heard.mme_id is not None and heard.mme_id < FIRST_STRANGER:
             return heard.mme_id >> SLOT_BITS
-        imsi, tmsi = s1ap.identity(heard.nas) if heard.nas else (None, None)
+        imsi, tmsi = heard.identity
         if tmsi is None:
             tmsi = heard.tmsi
         if imsi is not None:
             return self.slots.get(imsi)
         return None if tmsi is None else tmsi >> SLOT_BITS
 
-    def concerns(self, event, heard, answer, said):
-        """Whether what was heard is about whom the answer is for."""
-        if heard.mme_id is not None and heard.mme_id == said.mme_id:
-            return True
+    def concerns(self, event, heard, answer):
+        """Whether what was heard, without the answer's MME UE S1AP ID, is about whom the answer is for."""
         if answer.owner[0] == "s":
             return answer.owner == "s%s" % self.slot_of(heard)
         return answer.owner == "x%d.%s" % (event.station, heard.enb_id)
@@ -387,22 +416,21 @@ class Causes:
             return (heard.mme_id, heard.enb_id) == (said.mme_id, said.enb_id)
         if said.code == s1ap.PATH_SWITCH:
             return heard.outcome == (s1ap.PATH_SWITCH, s1ap.INITIATING) and heard.enb_id == said.enb_id
-        if not self.concerns(event, heard, answer, said):
+        if (heard.mme_id is None or heard.mme_id != said.mme_id) and not self.concerns(event, heard, answer):
             return False
-        before = [content(other.octets) for _, other in step.answers if other.owner == answer.owner]
-        if before and not may_follow(before[-1], said):
+        if not may_answer(heard, said):
             return False
-        kind = heard.nas.type if heard.nas else None
-        first = heard.code == s1ap.INITIAL_UE
-        if said.code == s1ap.CONTEXT_SETUP:
-            return kind in SETS_UP_CONTEXT
-        if said.code == s1ap.RELEASE:
-            asked = heard.code == s1ap.RELEASE_REQUEST or heard.outcome == (s1ap.CONTEXT_SETUP, s1ap.UNSUCCESSFUL)
-            updated = kind == s1ap.TAU_COMPLETE and answer.owner in self.from_idle
-            return first or asked or updated or bool(before) or kind in ENDS_CONNECTION
-        if said.code == s1ap.DOWNLINK_NAS and heard.nas and said.nas:
-            return said.nas.type in ANSWERS_TO.get(kind, ()) or said.nas.type in STATUSES and kind not in UNANSWERED
-        return False
+        before = step.answers and [other for _, other in step.answers if other.owner == answer.owner]
+        if before:
+            return may_follow(content(before[-1].octets), said)
+        return said.code != s1ap.RELEASE or self.ends_connection(heard, answer.owner)
+
+    def ends_connection(self, heard, owner):
+        """Whether a message may be answered by the release of a connection alone: of its own, or of an older one."""
+        if heard.code in (s1ap.INITIAL_UE, s1ap.RELEASE_REQUEST) or heard.outcome == (s1ap.CONTEXT_SETUP, s1ap.UNSUCCESSFUL):
+            return True
+        kind = heard.nas and heard.nas.type
+        return kind in ENDS_CONNECTION or kind == s1ap.TAU_COMPLETE and owner in self.from_idle
 
     def fits(self, step, answer, said):
         """Whether this event can have caused this answer."""
@@ -437,13 +465,14 @@ class Causes:
 
     def note(self, step, second, answer, said):
         """Keeps what was sent, on what, and when it is due again."""
-        self.sent.setdefault(answer.owner, set()).add(self.kind_of(said))
+        self.sent[answer.owner].add(self.kind_of(said))
         if said.outcome == (s1ap.SETUP, s1ap.SUCCESSFUL):
             self.ready.add(answer.station)
-        timer = PAGING_TIMER if said.code == s1ap.PAGING else TIMERS.get(said.nas.type if said.nas else None)
+        kind = said.nas and said.nas.type
+        timer = PAGING_TIMER if said.code == s1ap.PAGING else TIMERS.get(kind)
         if timer:
             self.due[answer.owner] = second + timer
-        if said.nas and said.nas.type == TAU_ACCEPT and step.event.word == "in":
+        if kind == TAU_ACCEPT and step.event.word == "in":
             first = content(step.event.octets).code == s1ap.INITIAL_UE
             (self.from_idle.add if first else self.from_idle.discard)(answer.owner)
 
@@ -456,10 +485,10 @@ class Causes:
             while place < len(able) and not self.fits(steps[able[place]], answer, said):
                 place += 1
             at = place if place < len(able) else at
-            for step in steps[done:able[at]]:
-                yield step
-            done = max(done, able[at])
-            self.take(steps[able[at]], answer, said)
+            if done < able[at]:
+                yield from steps[done:able[at]]
+                done = able[at]
+            self.take(steps[done], answer, said)
         yield from steps[done:]
 
     def take(self, step, answer, said):
@@ -484,7 +513,8 @@ def matching(trace, answers):
         if at < place and all(step.event.word in ("up", "lost") for step in waiting):
             raise Fault("the answers aren't those to this trace: message %d is owed to no event" % (at + 1))
         for step in causes.given(waiting, answers[at:place]):
-            step.answers.sort(key=second_of_answer)
+            if len(step.answers) > 1:
+                step.answers.sort(key=second_of_answer)
             yield step
 
     for step, certain in zip(started(trace), certain_answers(trace)):

@@ -476,17 +476,17 @@ def nas_name(octets, kind):
 
 # Where the identity stands, by the type: as length and value (TS 24.301 clause 8.2).
 IDENTITY_PLACES = {ATTACH_REQUEST: 3, DETACH_REQUEST: 3, TAU_REQUEST: 3, IDENTITY_RESPONSE: 2}
+SWAPPED = bytes(low << 4 | high for high in range(16) for low in range(16))  # each octet with its halves the other way round
 
 
-def identity(message):
-    """Who a NAS message of a phone says it is: its IMSI and its M-TMSI, each nothing where it isn't there."""
-    place = IDENTITY_PLACES.get(message.type)
-    if place is None or len(message.octets) <= place:
+def identity(kind, octets):
+    """Who a plain NAS message of a phone, of a type, says it is: its IMSI and its M-TMSI, each nothing where it isn't there."""
+    place = IDENTITY_PLACES.get(kind)
+    if place is None or len(octets) <= place:
         return None, None
-    value = message.octets[place + 1:place + 1 + message.octets[place]]
+    value = octets[place + 1:place + 1 + octets[place]]
     if len(value) == 11 and value[0] & 7 == GUTI_TYPE:
         return None, int.from_bytes(value[7:], "big")
     if value and value[0] & 7 == IMSI_TYPE:
-        digits = value.hex()
-        return (digits[0] + "".join(digits[at + 1] + digits[at] for at in range(2, len(digits), 2))).rstrip("f"), None
+        return value.translate(SWAPPED).hex()[1:].rstrip("f"), None
     return None, None

@@ -7,21 +7,22 @@
         for out in mme.receive(0, octets):
             print(out)
 
-An `Mme` is one whole MME, held by a handle of the C library (library/soizkadur.h, whose words hold here too). Each event answers the
-messages that the MME sends at it, or raises `Refused`, and then the MME is as it was. The calls that need no MME (`s1ap`, `nas`,
-`eia2` ..) read octets and derive keys. `soizkadur.standards` has stations and phones that know the standards and not the MME, and
-`soizkadur.testing` brings both together for tests.
+An `Mme` is one whole MME, held by a handle of the C library (library/soizkadur.h, whose words hold here too). Each event answers
+the messages that the MME sends at it, or raises `Refused`, and then the MME is as it was. The calls that need no MME (`s1ap`,
+`nas`, `eia2` ..) read octets and derive keys. `soizkadur.standards` has stations and phones that know the standards and not the
+MME, and `soizkadur.testing` brings both together for tests.
 
 It is plain Python over `ctypes`, and needs nothing else. The shared object is found by the variable SOIZKADUR_LIBRARY (the path of
 the file), else beside this package, in the clone where `./mme --library` leaves it, or by the system's loader.
 """
-from .codecs import (Direction, NasParts, S1apKind, S1apMessage, eia2, kenb, nas, nas_integrity_key, nas_protected, next_hop, s1ap,
-                     version)
+from .codecs import (Direction, EmmMessage, NasParts, S1apKind, S1apMessage, eia2, kenb, nas, nas_integrity_key, nas_protected,
+                     next_hop, s1ap, version)
 from .library import LibraryNotFound
 from .mme import EcmState, EmmState, EsmState, Mme, Out, Owner, States
 from .refusals import Refusal, Refused
 
 __all__ = [
-    "Direction", "EcmState", "EmmState", "EsmState", "LibraryNotFound", "Mme", "NasParts", "Out", "Owner", "Refusal", "Refused",
-    "S1apKind", "S1apMessage", "States", "eia2", "kenb", "nas", "nas_integrity_key", "nas_protected", "next_hop", "s1ap", "version",
+    "Direction", "EcmState", "EmmMessage", "EmmState", "EsmState", "LibraryNotFound", "Mme", "NasParts", "Out", "Owner", "Refusal",
+    "Refused", "S1apKind", "S1apMessage", "States", "eia2", "kenb", "nas", "nas_integrity_key", "nas_protected", "next_hop", "s1ap",
+    "version",
 ]

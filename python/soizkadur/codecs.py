@@ -33,6 +33,34 @@ class S1apKind(enum.IntEnum):
     ERROR_INDICATION = 21
 
 
+class EmmMessage(enum.IntEnum):
+    """The EMM messages of the profile, by their message types (TS 24.301 clause 9.8); SERVICE REQUEST, which has none, by its first
+    octet."""
+
+    ATTACH_REQUEST = 0x41
+    ATTACH_ACCEPT = 0x42
+    ATTACH_COMPLETE = 0x43
+    ATTACH_REJECT = 0x44
+    DETACH_REQUEST = 0x45
+    DETACH_ACCEPT = 0x46
+    TRACKING_AREA_UPDATE_REQUEST = 0x48
+    TRACKING_AREA_UPDATE_ACCEPT = 0x49
+    TRACKING_AREA_UPDATE_COMPLETE = 0x4A
+    TRACKING_AREA_UPDATE_REJECT = 0x4B
+    SERVICE_REJECT = 0x4E
+    AUTHENTICATION_REQUEST = 0x52
+    AUTHENTICATION_RESPONSE = 0x53
+    AUTHENTICATION_REJECT = 0x54
+    IDENTITY_REQUEST = 0x55
+    IDENTITY_RESPONSE = 0x56
+    AUTHENTICATION_FAILURE = 0x5C
+    SECURITY_MODE_COMMAND = 0x5D
+    SECURITY_MODE_COMPLETE = 0x5E
+    SECURITY_MODE_REJECT = 0x5F
+    EMM_STATUS = 0x60
+    SERVICE_REQUEST = 0xC7
+
+
 class Direction(enum.IntEnum):
     """Who sends a NAS message."""
 
@@ -72,12 +100,12 @@ def s1ap(octets: bytes) -> S1apMessage:
                        read.enb_ue_id if read.has_enb_ue_id else None)
 
 
-def nas(octets: bytes, direction: Direction) -> int:
-    """The message type of the plain EMM message that these octets are, if `direction` sends them (TS 24.301 clause 9.8; 0xc7 for
-    SERVICE REQUEST, which has none). Refused: BAD_NUMBER (direction), NAS_TOO_SHORT to NAS_OPTIONAL_PART."""
+def nas(octets: bytes, direction: Direction) -> EmmMessage:
+    """The plain EMM message that these octets are, if `direction` sends them. Refused: BAD_NUMBER (direction), NAS_TOO_SHORT to
+    NAS_OPTIONAL_PART."""
     kind = ctypes.c_uint32()
     check(library.calls()["nas"](octets, len(octets), within(direction, 32), kind))
-    return kind.value
+    return EmmMessage(kind.value)
 
 
 def nas_protected(octets: bytes) -> NasParts:

@@ -9,7 +9,7 @@ from . import library
 from .refusals import Refusal, Refused, check, within
 
 MOST_OCTETS = 16388  # of a message that the MME sends
-EVENTS = ("up", "lost", "in", "tick", "data", "cancel")
+EVENTS = (b"up", b"lost", b"in", b"tick", b"data", b"cancel")
 
 
 class Owner(enum.IntEnum):
@@ -18,6 +18,9 @@ class Owner(enum.IntEnum):
     STATION = 1
     STRANGER = 2
     SUBSCRIBER = 3
+
+
+_OWNERS = {owner.value: owner for owner in Owner}
 
 
 class Out(NamedTuple):
@@ -91,7 +94,10 @@ class Mme:
     def __init__(self) -> None:
         self._calls = library.calls()
         self._handle = library.Handle()
+        # What replies are written into, made once: an event takes but some microseconds.
+        self._count, self._output = ctypes.c_size_t(), library.Output()
         self._buffer = ctypes.create_string_buffer(MOST_OCTETS)
+        self._written = memoryview(self._buffer)
         self._thread: int | None = None
 
     @classmethod
@@ -218,9 +224,10 @@ class Mme:
         Refused: NOT_UP to PROVISION, LOST."""
         given = _octets(text)
         self._take("line", given, len(given))
-        if given.split(b" ", 1)[0].decode(errors="replace") not in EVENTS:
-            return []
-        return [out for reply in self.replies() if not isinstance(reply, Refusal) for out in reply]
+        word = given.partition(b" ")[0]
+        if word == b"tick":
+            return [out for reply in self.replies() if not isinstance(reply, Refusal) for out in reply]
+        return self._messages(0) if word in EVENTS else []
 
     def answers(self, text: str | bytes) -> list[str]:
         """Plays one line of a trace, and says what `mme play` prints for it.
@@ -231,9 +238,10 @@ class Mme:
         if answer in (Refusal.NOT_UP, Refusal.ALREADY_UP, Refusal.CLOCK_SPENT, Refusal.UNKNOWN_IMSI):
             return ["refused %d" % answer]
         check(answer)
-        word, _, rest = given.decode(errors="replace").partition(" ")
-        if word == "show":
-            return ["state %s %s" % (rest, self.states(rest))]
+        word, _, rest = given.partition(b" ")
+        if word == b"show":
+            imsi = rest.decode()
+            return ["state %s %s" % (imsi, self.states(imsi))]
         told: list[str] = []
         for reply in self.replies() if word in EVENTS else []:
             told += ["refused %d" % reply] if isinstance(reply, Refusal) else map(str, reply)
@@ -257,14 +265,13 @@ class Mme:
             return refused.refusal
 
     def _messages(self, reply: int) -> list[Out]:
-        count = ctypes.c_size_t()
-        self._take("count", reply, count)
-        return [self._message(reply, place) for place in range(count.value)]
+        self._take("count", reply, self._count)
+        return [self._message(reply, place) for place in range(self._count.value)]
 
     def _message(self, reply: int, place: int) -> Out:
-        output = library.Output()
+        output = self._output
         self._take("out", reply, place, output, self._buffer, MOST_OCTETS)
-        return Out(Owner(output.owner), output.number, output.station, ctypes.string_at(self._buffer, output.length))
+        return Out(_OWNERS[output.owner], output.number, output.station, self._written[:output.length].tobytes())
 
     def states(self, imsi: str) -> States:
         """The states of the subscriber of an IMSI. Refused: NO_MME, BAD_NUMBER, UNKNOWN_IMSI."""

@@ -8,8 +8,10 @@
 
 A step of a phone sends its messages, and each answer of the MME is compared with what the standards' side owes
 (`soizkadur.standards`): after it nothing is left to assert. An answer that is otherwise is an `AssertionError`, which has the run
-as a ladder chart where tools/chart is at hand. A step that begins a connection takes its station and `b`, the eNB UE S1AP ID that
-the station gives it: 0 to 2^24 - 1, another for each connection that the station has at one time. With pytest,
+as a ladder chart where tools/chart is at hand. A step that the phone can't take where it is, as `authenticates` before
+`asks_to_attach`, is an `OutOfPlace`, which says what the phone lacks. A step that begins a connection takes its station and `b`,
+the eNB UE S1AP ID that the station gives it: 0 to 2^24 - 1, another for each connection that the station has at one time. With
+pytest,
 
     from soizkadur.testing import laboratory
 
@@ -24,12 +26,12 @@ import sys
 from collections.abc import Iterator
 
 from .mme import Mme, States
-from .standards import FailingPhone, Live, Network, Station, Unexpected, Vector
+from .standards import FailingPhone, Live, Network, OutOfPlace, Station, Unexpected, Vector
 
 CHART = pathlib.Path(__file__).resolve().parents[2] / "tools" / "chart"
 SECONDS = 60  # for a chart
 
-__all__ = ["Laboratory", "Unexpected", "chart", "laboratory"]
+__all__ = ["Laboratory", "OutOfPlace", "Unexpected", "chart", "laboratory"]
 
 
 def chart(transcript: str) -> str:
@@ -86,6 +88,7 @@ class Laboratory:
 
 
 def _laboratory() -> Iterator[Laboratory]:
+    """A laboratory with ten phones."""
     with Laboratory() as made:
         yield made
 

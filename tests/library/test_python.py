@@ -12,6 +12,7 @@ import random
 import re
 import runpy
 import sys
+import textwrap
 import threading
 import traceback
 
@@ -21,8 +22,8 @@ TOP = pathlib.Path(__file__).resolve().parent.parent.parent
 ROWS, PARTS = TOP / "tests" / "rows", TOP / "tests" / "parts"
 sys.path[:0] = [str(TOP / "python"), str(PARTS)]
 import soizkadur
-from soizkadur import Direction, EcmState, EmmState, EsmState, Mme, Owner, Refusal, Refused, S1apKind, States
-from soizkadur.standards import FailingPhone, Sim, lte, phones
+from soizkadur import Direction, EcmState, EmmMessage, EmmState, EsmState, Mme, Owner, Refusal, Refused, S1apKind, States
+from soizkadur.standards import FailingPhone, OutOfPlace, Sim, carried_nas, lte, phones
 from soizkadur.testing import Laboratory, Unexpected, laboratory
 
 rows_of = runpy.run_path(str(PARTS / "run"))["rows_of"]
@@ -293,6 +294,63 @@ def nas(told):
     must_be(answer(soizkadur.nas, octets(text), DIRECTIONS[direction]), NAS_FAULTS[fault[1]] if fault else TYPES[name])
 
 
+CRATES = TOP / "crates"
+
+
+@test
+def emm_messages_have_the_types_of_the_code():
+    """The names and types of soizkadur.h and of the package are those of the standard's table, and of the crates' definitions."""
+    told = {each.name: each.value for each in EmmMessage}
+    must_be(told, {name.replace(" ", "_"): number for name, number in TYPES.items()})
+    header = (TOP / "library" / "soizkadur.h").read_text()
+    listed = re.findall(r"^    SOIZKADUR_EMM_(\w+) = 0x([0-9a-f]{2})", header, re.M)
+    must_be({name: int(number, 16) for name, number in listed}, told)
+    defined = (CRATES / "nas_messages" / "specs" / "Messages.antt").read_text()
+    codes = {re.sub(r"(?<!^)(?=[A-Z])", "_", name).upper(): int(number, 16)
+             for name, number in re.findall(r"^code_of (\w+) = 0x([0-9a-f]{2})$", defined, re.M)}
+    must_be(codes.pop("NETWORK_DETACH"), told["DETACH_REQUEST"])
+    must_be(codes, {name: number for name, number in told.items() if name != "SERVICE_REQUEST"})
+    elements = (CRATES / "nas_elements" / "src" / "codes.rt").read_text()
+    named = dict(re.findall(r"^pub const (\w+): u8 = 0x([0-9a-f]{2});", elements, re.M))
+    must_be({name: int(number, 16) for name, number in named.items()}, {name: told[name] for name in named})
+    assert "SERVICE_REQUEST" in named, named
+
+
+@test
+def a_nas_message_is_taken_out_of_each_s1ap_message():
+    """What was put into a message comes out, also where a length takes two octets, and from the others nothing."""
+    network, station = phones.Network(), phones.Station(0)
+    phone = FailingPhone(phones.Trace(network), 0, [])
+    for given in (b"\x07\x46", bytes(range(127)), bytes(128), bytes(300)):
+        for made in (lte.initial_ue_message(network, station, 1, given), lte.initial_ue_message(network, station, 1, given, 7),
+                     lte.uplink_nas(network, station, 2**32 - 1, 2**24 - 1, given), lte.downlink_nas(1, 1, given),
+                     lte.context_setup_request(network, 1, 1, phone, bytes(32), given)):
+            must_be(carried_nas(made), given)
+    for made in (lte.context_setup_request(network, 1, 1, phone, bytes(32)), lte.paging(network, IMSI, 1, 1),
+                 lte.s1_setup_request(network, station), lte.reset(), b"", b"\x00\x0b"):
+        must_be(carried_nas(made), None)
+
+
+@test
+def the_nas_messages_of_a_row():
+    """Those that a phone is sent as it attaches (TS 24.301 clause 5.5.1.2), out of the row's answers."""
+    carried = [carried_nas(octets(line.split(" ")[3])) for line in OWED]
+    found = []
+    for each in filter(None, carried):
+        plain = each if each[0] >> 4 == 0 else soizkadur.nas_protected(each).plain
+        found.append(soizkadur.nas(plain, Direction.DOWNLINK))
+    must_be(found, [EmmMessage.AUTHENTICATION_REQUEST, EmmMessage.SECURITY_MODE_COMMAND, EmmMessage.ATTACH_ACCEPT])
+
+
+@test
+def how_the_documents_read_an_answer():
+    """The lines of docs/LIBRARY.md under "Messages and keys", over the row's INITIAL CONTEXT SETUP REQUEST."""
+    text = (TOP / "docs" / "LIBRARY.md").read_text()
+    lines = re.search(r"\nWhat `soizkadur_nas` answers .*\n\n((?:    .*\n|\n)+)", text)[1]
+    out = soizkadur.Out(Owner.SUBSCRIBER, 0, 0, octets(OWED[3].split(" ")[3]))
+    exec(textwrap.dedent(lines), {"out": out, "soizkadur": soizkadur})
+
+
 @test_of_each(parts("nas_messages", "protected"))
 def nas_protected(told):
     (_, text), wanted = told
@@ -415,6 +473,56 @@ def failing_phone(told):
         if states:
             must_be(here.states(failing), states)
         must_be(here.states(other), REGISTERED)
+
+
+# Steps that come first, the step that can't be taken then, and the step that the refusal names.
+OUT_OF_PLACE = [
+    ("authenticates", (), lambda phone, _: phone.authenticates(), "asks_to_attach"),
+    ("a wrong RES", (), lambda phone, _: phone.gives_wrong_res(), "asks_to_attach"),
+    ("completes_security", (challenged,), lambda phone, _: phone.completes_security(), "authenticates"),
+    ("gives_information", (secured,), lambda phone, _: phone.gives_information(), "completes_security"),
+    ("context_is_set_up", (), lambda phone, _: phone.context_is_set_up(), "asks_to_attach"),
+    ("completes_attach", (challenged,), lambda phone, _: phone.completes_attach(), "authenticates"),
+    ("is_released", (), lambda phone, _: phone.is_released(), "asks_for_service"),
+    ("is_released twice", (accepted, lambda phone, _: phone.is_released()), lambda phone, _: phone.is_released(),
+     "asks_for_service"),
+    ("has_data_waiting", (), lambda phone, station: phone.has_data_waiting([station]), "attach"),
+    ("asks_for_service", (), lambda phone, station: phone.asks_for_service(station, 1), "authenticates"),
+    ("updates_from_idle", (challenged,), lambda phone, station: phone.updates_from_idle(station, 2), "authenticates"),
+    ("switches_path", (secured,), lambda phone, station: phone.switches_path(station, 2), "completes_security"),
+    ("detaches", (), lambda phone, _: phone.detaches(), "asks_to_attach"),
+    ("says_it_again", (), lambda phone, _: phone.says_it_again(), "authenticates"),
+    ("answers_too_late", (challenged,), lambda phone, _: phone.answers_too_late(), "holds_back_response"),
+    ("forges", (challenged,), lambda phone, _: phone.forges(lte.ATTACH_COMPLETE), "authenticates"),
+    ("asks_without_vector", (), lambda phone, station: phone.asks_without_vector(station, 1), "vectors"),
+    ("a vector too few", (challenged,), challenged, "no vector left"),
+]
+
+
+@test_of_each([(each[0], each[1:]) for each in OUT_OF_PLACE])
+def step_out_of_place(told):
+    """A step that the phone can't take where it is says so, names what is missing, and nothing is sent."""
+    first, step, expected = told
+    station = phones.Station(0)
+    phone = FailingPhone(phones.Trace(), 0, [phones.Vector.made("only")])
+    for each in first:
+        each(phone, station)
+    before = list(phone.trace.lines)
+    try:
+        step(phone, station)
+    except OutOfPlace as fault:
+        assert expected in str(fault) and phone.imsi in str(fault), fault
+    else:
+        raise AssertionError("it is taken")
+    must_be(phone.trace.lines, before)
+
+
+@test
+def data_for_a_phone_that_is_not_paged():
+    """Nothing is owed for data for a phone that isn't registered, and its step is taken."""
+    phone = FailingPhone(phones.Trace(), 0, [])
+    phone.has_data_waiting([])
+    must_be((phone.trace.lines, phone.trace.answers), (["data " + phone.imsi], []))
 
 
 @test

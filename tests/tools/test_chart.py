@@ -1,8 +1,10 @@
 """tools/chart: whole charts of worked rows, written by hand; that every message of every row is drawn, under its name and
 between the right lanes; that a chart of a browser is XML with the same arrows."""
+import os
 import re
 import sys
 import unittest
+import unittest.mock
 import xml.etree.ElementTree
 
 import tools
@@ -212,6 +214,19 @@ class Text(unittest.TestCase):
         self.assertIn("P60  IMSI 001010000000060", text)
         legend = text.partition("\n\n")[0].split("\n")
         self.assertEqual((len(legend), re.findall(r"P\d+|E0", "".join(legend))), (16, ["P%d" % at for at in range(1, 61)] + ["E0"]))
+
+    def test_parts(self):
+        """A chart is the same whether one process draws it, or four a part each."""
+        trace = ATTACHES.attached(60)[0]
+        read = RUNS.read_trace(trace.text().encode())
+        rows = CHART.rows_of(read, RUNS.matched(read, RUNS.read_answers(trace.answer_text().encode())))
+        with unittest.mock.patch.object(os, "sched_getaffinity", lambda process: range(4)):
+            for drawn in (lambda: CHART.text_of(rows, 7, 120), lambda: CHART.svg_of(rows, 7)):
+                whole = drawn()
+                with unittest.mock.patch.object(CHART.abreast, "LEAST", 80), \
+                        unittest.mock.patch.object(CHART.abreast, "started", wraps=CHART.abreast.started) as started:
+                    self.assertEqual(drawn(), whole)
+                self.assertEqual(started.call_count, 3)
 
     def test_one_phone(self):
         words = [tools.ROWS / "two_phones_on_two_stations.trace", tools.ROWS / "two_phones_on_two_stations.answers"]

@@ -204,6 +204,18 @@ class Skipped(unittest.TestCase):
                 done = tools.ran("explain", "--strict", "--script", *files)
                 self.assertEqual((done.returncode, done.stderr.decode()), (status, told))
 
+    def test_wrong_head(self):
+        """A head that can't be taken is told with its line, also by the tool that draws it."""
+        for line in ("vec 001010000000001 00 00 00 00", "sub 001010000000001 0a00000x 0a000064 00000001"):
+            for tool in ("explain", "chart"):
+                with self.subTest(tool=tool, line=line), tempfile.TemporaryDirectory() as folder:
+                    trace, answers = (pathlib.Path(folder, name) for name in ("trace", "answers"))
+                    trace.write_text("mme 001 01 8001 01 internet 1 1\n%s\nup 0\n" % line)
+                    answers.write_text("")
+                    done = tools.ran(tool, trace, answers)
+                    told = "%s: the head of the trace can't be taken: %s\n" % (tool, line)
+                    self.assertEqual((done.returncode, done.stderr.decode()), (2, told))
+
     def test_no_events(self):
         """Where nothing happened there is nothing to play."""
         for given in (b"", b"mme 001 01 8001 01 internet 1 1\n"):

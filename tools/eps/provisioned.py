@@ -1,6 +1,7 @@
 """What a trace's head says: the MME's network, the subscribers and their vectors (README.md, "A trace")."""
 import dataclasses
 
+import runs
 from eps import identities
 
 IDS_OF_A_SLOT = 1 << 16  # MME UE S1AP IDs of a slot, and M-TMSIs (docs/PROFILE.md, Identities)
@@ -60,21 +61,30 @@ class Network:
         return guti["M-TMSI"] if self.guti(guti["M-TMSI"]) == guti else None
 
 
+def take_line(profiles, word, fields):
+    """Takes a line `sub` or `vec` among the profiles by their IMSIs."""
+    if word == "sub":
+        imsi, address, gateway, teid = fields
+        addresses = (identities.address(32, bytes.fromhex(text)) for text in (address, gateway))
+        profiles[imsi] = Profile(len(profiles), imsi, *addresses, int(teid, 16), [])
+    elif word == "vec":
+        vectors = profiles[fields[0]].vectors
+        vectors.append(Vector(len(vectors) + 1, *map(bytes.fromhex, fields[1:])))
+
+
 def provisioned(head):
     """The network and the profiles of the lines of a head."""
     network, profiles = None, {}
     for line in head:
         word, *fields = line.decode("latin-1").split(" ")
-        if word == "mme":
-            mcc, mnc, group, code, apn, down, up = fields
-            network = Network(mcc, mnc, group.lower(), code.lower(), apn, (int(down), int(up)))
-        elif word == "sub":
-            imsi, address, gateway, teid = fields
-            addresses = (identities.address(32, bytes.fromhex(text)) for text in (address, gateway))
-            profiles[imsi] = Profile(len(profiles), imsi, *addresses, int(teid, 16), [])
-        elif word == "vec":
-            vectors = profiles[fields[0]].vectors
-            vectors.append(Vector(len(vectors) + 1, *map(bytes.fromhex, fields[1:])))
+        try:
+            if word == "mme":
+                mcc, mnc, group, code, apn, down, up = fields
+                network = Network(mcc, mnc, group.lower(), code.lower(), apn, (int(down), int(up)))
+            else:
+                take_line(profiles, word, fields)
+        except (KeyError, ValueError):
+            raise runs.Fault("the head of the trace can't be taken: %.60s" % line.decode("latin-1")) from None
     return network, list(profiles.values())
 
 

@@ -5,7 +5,9 @@ lines of a trace with the answers that are owed; a clone has both in bench/, and
 
 - `Live`: a trace that an MME plays while it is written, which compares each answer with what is owed;
 - `FailingPhone`: a phone that also does what phones shouldn't;
-- `Sim`: a test SIM by Milenage.
+- `OutOfPlace`: why a step can't be taken where the phone is;
+- `Sim`: a test SIM by Milenage;
+- `carried_nas`: the NAS message in an S1AP message.
 """
 import importlib
 import pathlib
@@ -29,10 +31,19 @@ def _beside(name: str, *folders: pathlib.Path):
 
 lte = _beside("lte", _HERE, _CLONE / "bench")
 phones = _beside("phones", _HERE, _CLONE / "bench")
-Network, Station, Vector = phones.Network, phones.Station, phones.Vector
+_s1ap = _beside("s1ap", _HERE, _CLONE / "tools")
+Network, OutOfPlace, Station, Vector = phones.Network, phones.OutOfPlace, phones.Station, phones.Vector
+
+
+def carried_nas(octets: bytes) -> bytes | None:
+    """The NAS message in an S1AP message: its NAS-PDU, or in INITIAL CONTEXT SETUP REQUEST that of the first bearer, where this
+    has no guaranteed bit rate; None where there is none, or none that can be read. It is read by tools/s1ap.py."""
+    return _s1ap.carried(_s1ap.read(octets))
+
 
 from .failing import FailingPhone
 from .live import Live, Unexpected
 from .sim import Sim
 
-__all__ = ["FailingPhone", "Live", "Network", "Sim", "Station", "Unexpected", "Vector", "lte", "phones"]
+__all__ = ["FailingPhone", "Live", "Network", "OutOfPlace", "Sim", "Station", "Unexpected", "Vector", "carried_nas", "lte",
+           "phones"]

@@ -3,6 +3,7 @@ from collections.abc import Callable
 
 from . import lte, phones
 
+needs = phones.needs
 AUTHENTICATION_REJECT = b"\x07\x54"
 NO_SUCH_SUBSCRIBER, NETWORK_FAILURE, ESM_FAILURE, UNSPECIFIED = 8, 17, 19, 111  # EMM causes (TS 24.301 clause 9.9.3.9)
 MAC_FAILURE, SYNCH_FAILURE, NON_EPS = 20, 21, 26
@@ -29,6 +30,9 @@ class FailingPhone(phones.Phone):
     """A phone of `phones.Phone`, whose steps it has, and these."""
 
     last: tuple | None = None  # the station and the octets of the message that was sent last
+    gave_up: tuple | None = None  # the station and the ids of the connection that the network gave up
+    lacks = {**phones.Phone.lacks, "last": "has sent no message by a connection; authenticates is the first",
+             "gave_up": "wasn't given up by the network; holds_back_response brings that"}
 
     # --- What goes wrong in an attach ---
 
@@ -37,6 +41,7 @@ class FailingPhone(phones.Phone):
         esm = lte.pdn_connectivity_request(1, pdn_type, False)
         return lte.attach_request(1, lte.imsi_identity(imsi or self.imsi), self.capability, esm)
 
+    @needs("station")
     def is_rejected(self, cause: int, esm: bytes = b"") -> None:
         """Owed ATTACH REJECT and the release (clause 5.5.1.2.5)."""
         self.owed_nas(bytes([0x07, 0x44, cause]) + (b"\x78" + lte.long_sized(esm) if esm else b""))
@@ -57,7 +62,8 @@ class FailingPhone(phones.Phone):
 
     def asks_without_vector(self, station, b: int) -> None:
         """ATTACH REQUEST of a subscriber whose vectors are used up; owed its reject."""
-        assert self.place == len(self.vectors), "the vectors aren't used up"
+        if self.unused:
+            raise phones.OutOfPlace("asks_without_vector: the phone with IMSI %s has vectors; attaches uses one up" % self.imsi)
         self.sends_first(station, b, self.asks(station, b))
         self.is_rejected(NETWORK_FAILURE)
 
@@ -82,20 +88,24 @@ class FailingPhone(phones.Phone):
         self.owed_as_stranger(station, b, lte.release_command(stranger(station, b), b, lte.NAS_UNSPECIFIED))
 
     def owed_as_stranger(self, station, b: int, octets: bytes) -> None:
+        """Owed this message as a phone that no subscriber is known for."""
         self.trace.owe("x%d.%d" % (station.number, b), station, octets)
 
+    @needs("station")
     def fails_authentication(self) -> None:
         """What those steps end with that fail authentication: owed AUTHENTICATION REJECT and the release (clause 5.4.2.5)."""
         self.owed_nas(AUTHENTICATION_REJECT)
         self.owed(lte.release_command(self.m, self.b, FAILED))
         self.goes()
 
+    @needs("station", "vector")
     def gives_wrong_res(self) -> None:
         """AUTHENTICATION RESPONSE with another RES than XRES; owed AUTHENTICATION REJECT and the release, which the station
         completes."""
         self.sends(lte.authentication_response(turned(self.vector.xres, -1)))
         self.fails_authentication()
 
+    @needs("station", "vector")
     def refuses_the_network(self, cause: int = MAC_FAILURE) -> None:
         """AUTHENTICATION FAILURE for the MAC (20), or since the vector isn't for EPS (26); owed AUTHENTICATION REJECT and the
         release, which the station completes."""
@@ -103,6 +113,7 @@ class FailingPhone(phones.Phone):
         self.sends(bytes([0x07, 0x5C, cause]))
         self.fails_authentication()
 
+    @needs("station", "vector")
     def is_out_of_step(self, auts: bytes = bytes(AUTS_OCTETS)) -> None:
         """AUTHENTICATION FAILURE for the sequence number, with AUTS; owed a challenge by the next vector, or where none is left the
         reject of the attach (clause 5.4.2.7 e)."""
@@ -114,6 +125,7 @@ class FailingPhone(phones.Phone):
         self.place += 1
         self.owed_nas(lte.authentication_request(self.ksi, self.vector))
 
+    @needs("station", "key")
     def rejects_security(self, cause: int = CAPABILITIES_MISMATCH) -> None:
         """SECURITY MODE REJECT; owed the release (clause 5.4.3.5)."""
         self.sends(bytes([0x07, 0x5F, cause]))
@@ -122,18 +134,23 @@ class FailingPhone(phones.Phone):
 
     # --- Messages that are held back, doubled, forged or late ---
 
+    @needs("station")
     def sends(self, nas: bytes) -> None:
+        """A NAS message by UPLINK NAS TRANSPORT; what is owed for it is not said."""
         self.last = self.station, lte.uplink_nas(self.network, self.station, self.m, self.b, nas)
         super().sends(nas)
 
+    @needs("last")
     def says_it_again(self) -> None:
         """The last uplink message comes once more, as it was; owed nothing: the phase is another, or the count is used."""
         self.trace.hear(*self.last)
 
+    @needs("station", "key")
     def forges(self, message: bytes, header: int = 2) -> None:
         """A message under the next count whose MAC has a bit turned; owed nothing."""
         super().sends(turned(self.secured(header, self.up_count, lte.UP, message), 1))
 
+    @needs("station")
     def holds_back(self, again: Callable[[], bytes], seconds: int, repeats: int) -> None:
         """Nothing is sent: what the network waits for an answer to comes again, then the network gives up."""
         for _ in range(repeats):
@@ -144,25 +161,30 @@ class FailingPhone(phones.Phone):
         self.owed(lte.release_command(self.m, self.b, lte.NAS_UNSPECIFIED))
         self.goes()
 
+    @needs("station", "vector")
     def holds_back_response(self) -> None:
         """No answer to AUTHENTICATION REQUEST (clause 5.4.2.7 b)."""
         self.holds_back(lambda: lte.authentication_request(self.ksi, self.vector), T3460, REPEATS)
 
+    @needs("station", "key")
     def holds_back_security(self) -> None:
         """No answer to SECURITY MODE COMMAND (clause 5.4.3.7 b)."""
         command = lte.security_mode_command(self.ksi, self.capability)
         self.holds_back(lambda: self.protected_down(command, header=3), T3460, REPEATS)
 
+    @needs("station", "key")
     def holds_back_information(self) -> None:
         """No answer to ESM INFORMATION REQUEST (clause 6.6.1.2.6)."""
         self.holds_back(lambda: self.protected_down(bytes([2, 1, lte.INFORMATION_REQUEST])), T3489, REPEATS_OF_T3489)
 
+    @needs("station", "key", "tmsis")
     def holds_back_completion(self) -> None:
         """No ATTACH COMPLETE: ATTACH ACCEPT comes again, alone (clause 5.5.1.2.7 c)."""
         esm = lte.activate_default_bearer(self.network, 1, self.address, self.pdn_type)
         accept = lte.attach_accept(self.network, self.accepted_tac, self.tmsi, self.attach_type, esm)
         self.holds_back(lambda: self.protected_down(accept), T3450, REPEATS)
 
+    @needs("gave_up")
     def answers_too_late(self) -> None:
         """AUTHENTICATION RESPONSE after the network gave up; owed ERROR INDICATION: there is no such association."""
         station, m, b = self.gave_up

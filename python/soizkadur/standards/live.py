@@ -33,6 +33,7 @@ class Live(phones.Trace):
         self._transcript += [line] + ["# " + told for told in self._told]
 
     def owe(self, owner: str, station, octets: bytes) -> None:
+        """The MME owes a station a message, which has to be its next answer to the last line."""
         super().owe(owner, station, octets)
         wanted = self.answers[self._first:]
         if self._told[:len(wanted)] != wanted:
