@@ -1,5 +1,5 @@
 -- At a tick, and at what happens to a station, each stays connected as it was or is no longer.
-use Rattle.std.proofs.Common.{◌≡◌, ◌<◌, ℕ, inl, inr, List, [], ◌∷◌, Option, Some, ap, ◌∙◌, subst}
+use Rattle.std.proofs.Common.{◌≡◌, ◌<◌, ℕ, inl, inr, List, [], ◌∷◌, Option, Some, ap, ◌∙◌, sym, subst}
 use Rattle.std.specs.Prelude.{slice_get}
 use Rattle.mme_types.specs.declared.connection.Connection.{Connection}
 use Rattle.emm_state.specs.declared.setting.Setting.{Setting}
@@ -9,12 +9,11 @@ use Rattle.sorted_list.specs.Ordered.{Every}
 use Rattle.stranger_machine.specs.declared.turn.Notice.{Notice}
 use Rattle.stranger_machine.specs.declared.turn.Notice.TheVariants.{Gone, Listed, Tick}
 use Rattle.subscriber_table.specs.SteppedView.{SteppedView}
-use Rattle.stranger_machine.specs.declared.turn.After.{After}
 use Rattle.subscriber_table.specs.Table.{IsCounting, IsStepped}
-use Rattle.subscriber_table.specs.Touched.{IsFreeFor, KeepsPlace}
+use Rattle.subscriber_table.specs.Touched.{KeepsPlace}
 use Rattle.mme_answering.specs.declared.prepared.Prepared.{Prepared}
-use Rattle.mme_answering.specs.declared.prepared.Prepared.TheVariants as prepared
-use Rattle.mme_answering.specs.Settled.{AreFit, IsFreeIf, IsPlaced}
+use Rattle.mme_answering.specs.Settled.{AreFit, IsApart}
+use Rattle.stranger_machine.specs.declared.table.Known.{Known}
 use Rattle.mme_routing.specs.Destinations.{item_of_notice}
 use Rattle.laws_connections.specs.Comes.{Begins, ComesSo, ConnectionsComeSo, IsClaimed, Moves}
 use Rattle.mme_answering.proofs.Stepping.{stepped_at}
@@ -61,15 +60,7 @@ pub keep_all : ConnectionsComeSo → (notice : Notice) (ws : List SubscriberView
 keep_all come notice ws [] h = tt
 keep_all come notice ws (x ∷ xs) h = (keeps_one come notice ws x h.0, keep_all come notice ws xs h.1)
 
--- ---- of one alone
-
-pub free_called : (p : Prepared) (x : SteppedView) (ws : List SubscriberView) → p ≡ prepared.Subscriber x → IsPlaced p ws → IsFreeFor ws x
-free_called p x ws is h = subst (λ (q : Prepared). IsPlaced q ws) is h
-
-pub free_by_stranger : (p : Prepared) (id : ℕ) (after : After) (x : SteppedView) (o : Option SteppedView) (ws : List SubscriberView)
-    → p ≡ prepared.Stranger id after o → o ≡ Some x → IsPlaced p ws → IsFreeFor ws x
-free_by_stranger p id after x o ws is there h =
-    subst (IsFreeIf ws) there (subst (λ (q : Prepared). IsPlaced q ws) is h)
+-- ---- what was prepared for each
 
 pub slots_fit : (n : ℕ) (xs : List SteppedView) → AreFit n xs → Every (λ (x : SteppedView). x.slot < n) xs
 slots_fit n [] h = tt
@@ -78,3 +69,10 @@ slots_fit n (x ∷ xs) h = (h.0.0, slots_fit n xs h.1)
 pub all_counting : (n : ℕ) (xs : List SteppedView) → AreFit n xs → Every (λ (x : SteppedView). IsCounting x.solo) xs
 all_counting n [] h = tt
 all_counting n (x ∷ xs) h = (h.0.1, all_counting n xs h.1)
+
+-- with it no two have one id, where strangers and subscribers are as they were
+pub apart_there : {p q : Prepared} {ks ls : List Known} {ws vs : List SubscriberView} → p ≡ q → ls ≡ ks → vs ≡ ws → IsApart p ks ws
+    → IsApart q ls vs
+apart_there {p} {q} {ks} {ls} {ws} {vs} is strangers subscribers h =
+    subst (λ (ys : List Known). IsApart q ys vs) (sym strangers)
+    (subst (λ (xs : List SubscriberView). IsApart q ks xs) (sym subscribers) (subst (λ (r : Prepared). IsApart r ks ws) is h))

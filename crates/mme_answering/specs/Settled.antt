@@ -1,5 +1,5 @@
 -- What strangers and subscribers are once what was prepared for an event is settled.
-use Rattle.std.specs.Prelude.{◌≡◌, ◌+◌, ◌<◌, ◌≤◌, ◌^◌, ℕ, Bool, true, false, slice_get, List, [], length, map, option_map, Option, Some, None}
+use Rattle.std.specs.Prelude.{◌≡◌, ◌+◌, ◌<◌, ◌≤◌, ◌^◌, ℕ, Bool, true, false, slice_get, List, [], length, map, option_map, Option, Some}
 use Rattle.std.specs.Option.{option_map_or}
 use Rattle.emm_state.specs.declared.draft.Draft.{Draft}
 use Rattle.emm_state.specs.declared.solo.Solo.{Solo}
@@ -14,9 +14,11 @@ use Rattle.stranger_machine.specs.Table.{noted, stranger_at, with_stranger}
 use Rattle.stranger_machine.specs.Turns.{after_of}
 use Rattle.mme_timers.specs.Waiting.{due_ids}
 use Rattle.subscriber_table.specs.SteppedView.{SteppedView}
-use Rattle.subscriber_table.specs.Touched.{IsFreeFor, KeepsPlace}
+use Rattle.subscriber_table.specs.Touched.{KeepsPlace}
 use Rattle.subscriber_table.specs.Table.{IsCounting, due_slots, slots_stepped, step_at, subscriber_step, tick_settled}
 use Rattle.mme_owners.specs.Owners.{IsWaitAfter}
+use Rattle.mme_owners.specs.Placed.{AreApart}
+pub use Rattle.mme_owners.specs.Owners.{with_one, IsFit, IsFitIf}
 use Rattle.mme_answering.specs.declared.out.Out.{Out}
 use Rattle.mme_answering.specs.declared.prepared.Prepared.{Prepared}
 use Rattle.mme_answering.specs.declared.prepared.Prepared.TheVariants as prepared
@@ -25,10 +27,6 @@ use Rattle.mme_routing.specs.declared.destination.Destination.TheVariants as cod
 use Rattle.mme_routing.specs.Destinations.{Destination, Everyone}
 use Rattle.mme_answering.specs.Sending.{slot_out, stranger_out}
 pub use Rattle.subscriber_table.specs.Table.{in_state, with_solo, with_stepped}
-
-abbrev pub with_one : Option SteppedView → List SubscriberView → List SubscriberView
-with_one None ws = ws
-with_one (Some x) ws = with_solo x.slot x.solo ws
 
 -- the subscribers, as they were prepared
 abbrev pub settled_subscribers : Prepared → List SubscriberView → List SubscriberView
@@ -51,16 +49,8 @@ abbrev pub settled_clock : Prepared → ℕ → ℕ
 settled_clock (prepared.Tick ids xs) clock = clock + 1
 settled_clock _ clock = clock
 
--- it has one of the first n slots, and each of its countdowns that runs is in time
-abbrev pub IsFit : ℕ → SteppedView → Type 0
-IsFit n x = (x.slot < n) × IsCounting x.solo
-
 abbrev pub AreFit : ℕ → List SteppedView → Type 0
 AreFit n xs = Every (IsFit n) xs
-
-abbrev pub IsFitIf : ℕ → Option SteppedView → Type 0
-IsFitIf n None = Unit {0}
-IsFitIf n (Some x) = IsFit n x
 
 -- each is that of a subscriber, at a tick they are those who are due, as the strangers are, and any other notice is that of a
 -- station; at both each is connected as it was, or no longer
@@ -74,15 +64,9 @@ IsFor (prepared.Tick ids xs) ks ws =
     (slots_stepped xs.items ≡ due_slots ws) × Every (λ (x : SteppedView). IsCounting x.solo) xs.items × Every (KeepsPlace ws) xs.items
     × (ids.items ≡ due_ids ks)
 
--- and of one alone no other has the id of the connection that was prepared
-abbrev pub IsFreeIf : List SubscriberView → Option SteppedView → Type 0
-IsFreeIf ws None = Unit {0}
-IsFreeIf ws (Some x) = IsFreeFor ws x
-
-abbrev pub IsPlaced : Prepared → List SubscriberView → Type 0
-IsPlaced (prepared.Subscriber x) ws = IsFreeFor ws x
-IsPlaced (prepared.Stranger id after x) ws = IsFreeIf ws x
-IsPlaced _ ws = Unit {0}
+-- with what was prepared no two have one id
+abbrev pub IsApart : Prepared → List Known → List SubscriberView → Type 0
+IsApart p ks ws = AreApart (settled_strangers p ks) (settled_subscribers p ws)
 
 -- a stranger that waits from now on has an id of one, and T3470 in time
 abbrev pub IsWaiting : Prepared → Type 0

@@ -224,13 +224,13 @@ fn event_of(notice: &Notice) -> SoloEvent<'_>
 }
 
 // The slots of those whom a notice of a station may touch.
-fn touched_by(subscribers: &Subscribers, notice: &Notice) -> Result<Vec<Slot>, AllocError>
+fn touched_by(owners: &Owners, notice: &Notice) -> Result<Vec<Slot>, AllocError>
     requires { is_of_station notice.now ≡ true }
-    ensures { IfOk result (λ touched. touched.items ≡ touched_slots (item_of_notice notice.now) subscribers.now.subscribers) }
+    ensures { IfOk result (λ touched. touched.items ≡ touched_slots (item_of_notice notice.now) owners.now.subscribers) }
 {
     match notice {
-        Notice::Gone(station) => subscribers.concerned(*station),
-        Notice::Listed(station, items) => subscribers.listed(*station, items.as_slice()),
+        Notice::Gone(station) => owners.concerned(*station),
+        Notice::Listed(station, items) => owners.listed(*station, items.as_slice()),
         Notice::Tick => unreachable!(),
     }
 }
@@ -243,10 +243,12 @@ fn prepare_all(
     subscribers: &mut Subscribers,
     stations: &EnbWorld,
     notice: &Notice,
+    touched: &[Slot],
     event: &SoloEvent,
     outs: &mut Outs,
 ) -> Result<Vec<Stepped>, AllocError>
     requires station { is_of_station notice.now ≡ true }
+    requires touched { touched.now ≡ touched_slots (item_of_notice notice.now) subscribers.old.subscribers }
     requires event { item_of event.now stations.now ≡ item_of_notice notice.now }
     requires in_use { AreInUse subscribers.old.subscribers }
     ensures sends { OnOk result
@@ -260,9 +262,7 @@ fn prepare_all(
     ensures same { subscribers.new ≡ subscribers.old }
 {
     connections_come_so();
-    let touched = touched_by(subscribers, notice)?;
-    let called = touched.as_slice();
-    prepare_each(alloc, subscribers, called, event, stations, outs)
+    prepare_each(alloc, subscribers, touched, event, stations, outs)
 }
 
 // What is to become of the stranger who begins with a message.
@@ -415,21 +415,29 @@ pub fn prepare<'a>(
         Destination::Everyone(Notice::Tick) => {
             let due = owners.due()?;
             let event = &SoloEvent::Tick;
-            let strangers = &owners.strangers;
-            let subscribers = &mut owners.subscribers;
+            let strangers = &owners.records.strangers;
+            let subscribers = &mut owners.records.subscribers;
             prepare_tick(alloc, strangers, subscribers, due, stations, event, outs)
         }
         Destination::Everyone(notice) => {
             let event = &event_of(&notice);
-            let subscribers = &mut owners.subscribers;
-            let stepped = prepare_all(alloc, subscribers, stations, &notice, event, outs)?;
+            let touched = touched_by(owners, &notice)?;
+            let stepped = prepare_all(
+                alloc,
+                &mut owners.records.subscribers,
+                stations,
+                &notice,
+                touched.as_slice(),
+                event,
+                outs,
+            )?;
             Ok(Prepared::Everyone(notice, stepped))
         }
         own => prepare_own(
             alloc,
             provision,
-            &owners.strangers,
-            &mut owners.subscribers,
+            &owners.records.strangers,
+            &mut owners.records.subscribers,
             stations,
             &own,
             outs,

@@ -1,7 +1,7 @@
 //! What was prepared is so.
 
 ghost use Rattle.std.specs.Prelude.{◌≡◌, ◌<◌, ◌^◌, OnOk, OnErr};
-ghost use Rattle.mme_answering.specs.Settled.{IsFor, IsPlaced, IsWaiting, MayPass, settled_clock, settled_strangers, settled_subscribers, starts_of, steps_of};
+ghost use Rattle.mme_answering.specs.Settled.{IsApart, IsFor, IsWaiting, MayPass, settled_clock, settled_strangers, settled_subscribers, starts_of, steps_of};
 
 use crate::prepared::Prepared;
 use mme_owners::Owners;
@@ -30,11 +30,11 @@ fn steps_of(prepared: &Prepared) -> usize
     }
 }
 
-/// Strangers and subscribers are what was prepared. Room for countdowns, for steps and for a stranger comes first; refused, all are
-/// as they were.
+/// Strangers and subscribers are what was prepared. Room for countdowns, for associations and for a stranger comes first; refused,
+/// all are as they were.
 pub fn settle(owners: &mut Owners, prepared: Prepared) -> Result<(), AllocError>
     requires fits { IsFor prepared owners.old.strangers owners.old.subscribers }
-    requires placed { IsPlaced prepared owners.old.subscribers }
+    requires apart { IsApart prepared owners.old.strangers owners.old.subscribers }
     requires waiting { IsWaiting prepared }
     requires clock { MayPass prepared owners.old.clock }
     ensures strangers { OnOk result (owners.new.strangers ≡ settled_strangers prepared owners.old.strangers) }
@@ -50,12 +50,7 @@ pub fn settle(owners: &mut Owners, prepared: Prepared) -> Result<(), AllocError>
     match prepared {
         Prepared::Nobody => {}
         Prepared::Subscriber(called) => owners.settle(called),
-        Prepared::Stranger(id, after, called) => {
-            owners.settle_stranger(id, after)?;
-            if let Some(called) = called {
-                owners.settle(called);
-            }
-        }
+        Prepared::Stranger(id, after, called) => owners.settle_turn(id, after, called)?,
         Prepared::Everyone(notice, stepped) => {
             owners.note(&notice);
             owners.settle_all(stepped);

@@ -1,4 +1,7 @@
+mod Apart
 mod Noting
 mod Owned
+mod Places
 mod Ticked
+mod Touching
 mod Unchanged

@@ -24,7 +24,7 @@ use Rattle.stranger_table.specs.Table.{StrangerTable}
 use Rattle.subscriber_table.specs.SteppedView.{SteppedView}
 use Rattle.subscriber_table.specs.Laws.{with_solo_is}
 use Rattle.subscriber_table.specs.Table.{SubscriberTable, all_countdowns, countdowns_at, due_slots, in_state, with_solo, with_stepped}
-use Rattle.mme_owners.specs.Owners.{IsOwners, IsStart, all_retimed, countdowns_of}
+use Rattle.mme_owners.specs.Owners.{AreRecords, IsStart, all_retimed, countdowns_of}
 
 -- ---- the countdowns of subscribers
 
@@ -145,21 +145,21 @@ pushed w ks ws off =
     ∙ ap (running_from 0) (sym (map-append (λ (v : SubscriberView). countdowns v.solo) ws (w ∷ []))))
 
 pub pushed_owners : {T E : Type 0} (res : Result T E) (w : SubscriberView) (timers : Countdowns) (strangers : StrangerTable)
-    (subscribers new : SubscriberTable) → countdowns w.solo ≡ (None, None) → IsOwners timers strangers subscribers
+    (subscribers new : SubscriberTable) → countdowns w.solo ≡ (None, None) → AreRecords timers strangers subscribers
     → new.clock ≡ subscribers.clock → OnOk res (new.subscribers ≡ subscribers.subscribers ++ w ∷ []) → OnErr res (new ≡ subscribers)
-    → IsOwners timers strangers new
+    → AreRecords timers strangers new
 pushed_owners (Ok x) w timers strangers subscribers new off h clock ok err = record {
   strangers_clock = h.strangers_clock;
   subscribers_clock = clock ∙ h.subscribers_clock;
   waits = h.waits;
   timed = h.timed ∙ pushed w strangers.strangers subscribers.subscribers off ∙ ap (countdowns_of strangers.strangers) (sym ok);
 }
-pushed_owners (Err e) w timers strangers subscribers new off h clock ok err = subst (IsOwners timers strangers) (sym err) h
+pushed_owners (Err e) w timers strangers subscribers new off h clock ok err = subst (AreRecords timers strangers) (sym err) h
 
 -- ---- nothing but the room is another
 
 pub same_owners : (a b : Countdowns) (strangers : StrangerTable) (s t : SubscriberTable) → b.clock ≡ a.clock → b.running ≡ a.running
-    → t.clock ≡ s.clock → t.subscribers ≡ s.subscribers → IsOwners a strangers s → IsOwners b strangers t
+    → t.clock ≡ s.clock → t.subscribers ≡ s.subscribers → AreRecords a strangers s → AreRecords b strangers t
 same_owners a b strangers s t clock running its same h = record {
   strangers_clock = h.strangers_clock ∙ sym clock;
   subscribers_clock = its ∙ h.subscribers_clock ∙ sym clock;

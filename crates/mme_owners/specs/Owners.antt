@@ -1,5 +1,5 @@
 -- What a caller sees of the owners, and what always holds of them.
-use Rattle.std.specs.Prelude.{◌≡◌, ℕ, ◌^◌, ◌≤◌, List, [], ◌∷◌, ◌++◌, Option, Some, None}
+use Rattle.std.specs.Prelude.{◌≡◌, ℕ, ◌^◌, ◌<◌, ◌≤◌, List, [], ◌∷◌, ◌++◌, Option, Some, None}
 use Rattle.emm_machine.specs.SubscriberView.{SubscriberView}
 use Rattle.emm_machine.specs.Ticks.{countdowns}
 use Rattle.stranger_machine.specs.declared.table.Known.{Known}
@@ -10,25 +10,52 @@ use Rattle.mme_timers.specs.Running.{both_retimed, running_from}
 use Rattle.mme_timers.specs.Waiting.{AreWaits, wait_of, waits_of}
 use Rattle.stranger_table.specs.Table.{StrangerTable}
 use Rattle.subscriber_table.specs.SteppedView.{SteppedView}
-use Rattle.subscriber_table.specs.Table.{SubscriberTable, all_countdowns}
+use Rattle.subscriber_table.specs.Table.{SubscriberTable, all_countdowns, with_solo, IsCounting}
+use Rattle.subscriber_table.specs.Touched.{IsFreeFor}
 
 pub record OwnersView : Type 0 where
   pub clock : ℕ
   pub strangers : List Known  -- those that aren't closed, by rising id, each as it is now
   pub subscribers : List SubscriberView  -- by slot, each as it is now
   pub room : ℕ  -- how many more countdowns can be started with no allocation
-  pub places : ℕ  -- how many more connections can be changed with no allocation
+  pub places : ℕ  -- how many more associations can be changed with no allocation
+
+-- and of their records alone
+pub record RecordsView : Type 0 where
+  pub clock : ℕ
+  pub strangers : List Known
+  pub subscribers : List SubscriberView
+  pub room : ℕ
 
 -- the countdowns that run: T3470 of each stranger that waits, by id, and then those of each subscriber, by slot
 abbrev pub countdowns_of : List Known → List SubscriberView → List Countdown
 countdowns_of ks ws = waits_of ks ++ running_from 0 (all_countdowns ws)
 
--- what always holds: the clocks are one, and the queue has the countdowns that run
-pub record IsOwners (timers : Countdowns) (strangers : StrangerTable) (subscribers : SubscriberTable) : Type 0 where
+-- what always holds of the records: the clocks are one, and the queue has the countdowns that run
+pub record AreRecords (timers : Countdowns) (strangers : StrangerTable) (subscribers : SubscriberTable) : Type 0 where
   pub strangers_clock : strangers.clock ≡ timers.clock
   pub subscribers_clock : subscribers.clock ≡ timers.clock
   pub waits : AreWaits strangers.strangers
   pub timed : timers.running ≡ countdowns_of strangers.strangers subscribers.subscribers
+
+-- the state of the one that was prepared, if one was
+abbrev pub with_one : Option SteppedView → List SubscriberView → List SubscriberView
+with_one None ws = ws
+with_one (Some x) ws = with_solo x.slot x.solo ws
+
+-- it has one of the first n slots, and each of its countdowns that runs is in time
+abbrev pub IsFit : ℕ → SteppedView → Type 0
+IsFit n x = (x.slot < n) × IsCounting x.solo
+
+-- and so the one that was prepared, if one was
+abbrev pub IsFitIf : ℕ → Option SteppedView → Type 0
+IsFitIf n None = Unit {0}
+IsFitIf n (Some x) = IsFit n x
+
+-- no other slot has the id of the connection that was prepared, if one was
+abbrev pub IsFreeIf : List SubscriberView → Option SteppedView → Type 0
+IsFreeIf ws None = Unit {0}
+IsFreeIf ws (Some x) = IsFreeFor ws x
 
 -- the countdowns that run, where those of each slot are what was prepared
 abbrev pub all_retimed : List SteppedView → List Countdown → List Countdown

@@ -1,60 +1,60 @@
-//! Strangers and subscribers, and the one queue of their countdowns.
+//! Strangers and subscribers, the one queue of their countdowns, and the one map of their associations.
 
-ghost use Rattle.std.specs.Prelude.{◌≡◌, ◌+◌, ◌*◌, ◌<◌, ◌≤◌, ◌^◌, ◌++◌, ◌∷◌, ℕ, [], length, slice_get, if◌then◌else◌, IfOk, IsSome, None, OnErr, OnOk, option_map, true};
+ghost use Rattle.std.specs.Prelude.{◌≡◌, ◌+◌, ◌*◌, ◌<◌, ◌≤◌, ◌==◌, ◌^◌, ◌++◌, ◌∷◌, ℕ, [], length, slice_get, if◌then◌else◌, IfOk, IsSome, None, OnErr, OnOk, option_map, true};
 ghost use Rattle.identity_slots.specs.Ids.{slots, station_in};
-ghost use Rattle.connection_table.specs.Whereabouts.{nowhere};
+ghost use Rattle.mme_associations.specs.Whereabouts.{nowhere, waits_at, NoneConnected};
+ghost use Rattle.mme_types.specs.Events.{ConnectionsGone, StationGone};
 ghost use Rattle.emm_machine.specs.Ticks.{countdowns};
 ghost use Rattle.emm_machine.specs.Words.{states_of};
-ghost use Rattle.sorted_list.specs.Ordered.{Every, Rising, put, without};
+ghost use Rattle.sorted_list.specs.Ordered.{Every, Rising, without};
 ghost use Rattle.sorted_list.specs.Sorted.{lowest_from};
 ghost use Rattle.stranger_machine.specs.Machine.{closes, is_of_station, noted_station};
 ghost use Rattle.stranger_machine.specs.Table.{known_id, noted, stranger_at, with_stranger};
 ghost use Rattle.stranger_machine.specs.Turns.{after_of};
 ghost use Rattle.stranger_machine.specs.declared.turn.Notice.TheVariants.{Tick};
-ghost use Rattle.mme_timers.specs.Waiting.{due_ids, wait_of};
+ghost use Rattle.mme_timers.specs.Waiting.{due_ids};
 ghost use Rattle.subscriber_table.specs.Table.{due_slots, slots_stepped, tick_settled, with_solo, with_stepped, AreCounting, IsCounting};
-ghost use Rattle.subscriber_table.specs.Touched.{whereabouts, IsFreeFor, KeepsPlace};
-ghost use Rattle.mme_owners.specs.Owners.{IsStart, IsWaitAfter};
+ghost use Rattle.subscriber_table.specs.Touched.{all_whereabouts, touched_slots, whereabouts, KeepsPlace};
+ghost use Rattle.mme_owners.specs.Owners.{with_one, IsFitIf, IsFreeIf, IsWaitAfter};
+ghost use Rattle.mme_owners.specs.Placed.{AreApart, IsOn, NoneWaitsIf};
 
-use crate::retiming::{restart, retime_all};
+use crate::placing::{leave, place, place_all, place_of};
+use crate::records::Records;
 use emm_machine::{States, Subscriber};
 use identity_slots::{AssociationId, Slot, station_in};
-use mme_timers::{Due, change_wait, find_due, retime, stop_wait, wait_of};
+use mme_associations::Connections;
+use mme_timers::Due;
+use mme_types::{Connection, StationNumber};
+use s1ap_elements::AssociationToReset;
 use std::alloc::{AllocError, Global};
 use std::marker::Model;
-use stranger_machine::{After, Notice, Stranger};
-use stranger_table::Strangers;
-use subscriber_table::{Stepped, Subscribers};
-use timer_queue::Timers;
+use stranger_machine::{After, Notice};
+use subscriber_table::Stepped;
 
-/// Strangers and subscribers, and the queue of their countdowns; a contract sees the clock, each stranger and each subscriber as it
-/// is now, and for how many countdowns and changes of connections there is room. The tables are lent apart, so that a step of a
-/// subscriber can be worked out while the stranger that calls it is lent; whoever changes one owes that the queue still has its
-/// countdowns.
+/// Strangers and subscribers, the queue of their countdowns, and the map of their associations; a contract sees the clock, each
+/// stranger and each subscriber as it is now, and for how many countdowns and changes of associations there is room.
 #[derive(Drop)]
 pub struct Owners {
-    /// The strangers that aren't closed.
-    pub strangers: Strangers,
-    /// The subscribers, by slot.
-    pub subscribers: Subscribers,
-    timers: Timers,
-    alloc: Global,
+    /// The records of both, with the queue.
+    pub records: Records,
+    connections: Connections,
 }
 
 impl Model for Owners {
-    ghost use Rattle.mme_owners.specs.Owners.{OwnersView, IsOwners};
+    ghost use Rattle.mme_owners.specs.Owners.{OwnersView};
+    ghost use Rattle.mme_owners.specs.Placed.{ArePlaced};
 
     ghost Value = { OwnersView };
 
     ghost view = { λ t. record {
-      clock = t.timers.clock;
-      strangers = t.strangers.strangers;
-      subscribers = t.subscribers.subscribers;
-      room = t.timers.room;
-      places = t.subscribers.room;
+      clock = t.records.clock;
+      strangers = t.records.strangers;
+      subscribers = t.records.subscribers;
+      room = t.records.room;
+      places = t.connections.room;
     } };
 
-    ghost invariant = { λ t. IsOwners t.timers t.strangers t.subscribers };
+    ghost invariant = { λ t. ArePlaced t.records.strangers t.records.subscribers t.connections };
 }
 
 // The station of a notice.
@@ -78,12 +78,41 @@ fn first_id(station: u8) -> u64
     }
 }
 
-// An id has 32 bits.
-fn id_is_small(id: AssociationId)
-    ensures { id < 2 ^ 32 }
+// The state of the one that a stranger calls, if it calls one, is what was prepared, and so is the place of its phone. Takes no
+// memory.
+fn settle_called(records: &mut Records, connections: &mut Connections, called: Option<Stepped>)
+    requires many { connections.old.whereabouts ≡ all_whereabouts records.old.subscribers }
+    requires fits { IsFitIf (length records.old.subscribers) called }
+    requires free { IsFreeIf records.old.subscribers called }
+    requires alone { NoneWaitsIf called connections.old.associations }
+    requires room { 2 ≤ records.old.room }
+    requires places { 0 < connections.old.room }
+    ensures clock { records.new.clock ≡ records.old.clock }
+    ensures strangers { records.new.strangers ≡ records.old.strangers }
+    ensures subscribers { records.new.subscribers ≡ with_one called records.old.subscribers }
+    ensures phones { connections.new.whereabouts ≡ all_whereabouts records.new.subscribers }
+    ensures waits { (id : ℕ) → waits_at id connections.new.associations ≡ waits_at id connections.old.associations }
+    ensures places { connections.old.room ≤ connections.new.room + 1 }
 {
-    // (a contract has the range of a number that is read)
-    let _ = id.get();
+    if let Some(stepped) = called {
+        place(connections, stepped.slot(), stepped.solo());
+        records.settle(stepped);
+    }
+}
+
+// A stranger waits where it is said, if it waits. Takes no memory.
+fn begin_wait(connections: &mut Connections, id: AssociationId, place: Option<Connection>)
+    requires own { IsOn id place }
+    requires free { IsSome place → NoneConnected id connections.old.whereabouts }
+    requires alone { waits_at id connections.old.associations ≡ None }
+    requires places { 0 < connections.old.room }
+    ensures phones { connections.new.whereabouts ≡ connections.old.whereabouts }
+    ensures waits { (other : ℕ) → waits_at other connections.new.associations
+        ≡ (if id == other then place else waits_at other connections.old.associations) }
+{
+    if let Some(place) = place {
+        connections.begin_wait(place);
+    }
 }
 
 impl Owners {
@@ -94,14 +123,11 @@ impl Owners {
         ensures strangers { result.strangers ≡ [] }
         ensures subscribers { result.subscribers ≡ [] }
     {
-        let strangers = Strangers::new(alloc, clock);
-        let subscribers = Subscribers::new(alloc, clock);
-        let timers = Timers::new(alloc, clock);
+        let records = Records::new(alloc, clock);
+        let connections = Connections::new(alloc);
         Owners {
-            strangers,
-            subscribers,
-            timers,
-            alloc,
+            records,
+            connections,
         }
     }
 
@@ -115,7 +141,7 @@ impl Owners {
         ensures ok { OnOk result (self.new.subscribers ≡ self.old.subscribers ++ subscriber ∷ []) }
         ensures err { OnErr result (self.new ≡ self.old) }
     {
-        self.subscribers.push(subscriber)
+        self.records.push(subscriber, &mut self.connections)
     }
 
     /// How many subscribers there are. Each countdown of theirs that runs has from 1 to 3480 ticks left.
@@ -124,14 +150,14 @@ impl Owners {
         ensures few { length self.now.subscribers ≤ slots }
         ensures counting { AreCounting self.now.subscribers }
     {
-        self.subscribers.len()
+        self.records.len()
     }
 
     /// The states of a slot, if it is somebody's; takes no memory.
     pub fn states(&self, slot: Slot) -> Option<States>
         ensures { result ≡ option_map (λ w. states_of w.solo) (slice_get self.now.subscribers slot) }
     {
-        self.subscribers.states(slot)
+        self.records.states(slot)
     }
 
     /// Who has a countdown that the next tick ends: strangers by rising id, subscribers by rising slot. Only the front of the queue
@@ -140,9 +166,27 @@ impl Owners {
         ensures strangers { IfOk result (λ due. due.strangers.items ≡ due_ids self.now.strangers) }
         ensures slots { IfOk result (λ due. due.slots.items ≡ due_slots self.now.subscribers) }
     {
-        // (that there are no more of them than slots)
-        let _ = self.subscribers.len();
-        find_due(self.alloc, &self.timers)
+        self.records.due()
+    }
+
+    /// The slots of those whom the loss of a station may touch, by rising slot: who is connected there, or is paged. It leaves all
+    /// others as they are. Only those who are answered are looked at.
+    pub fn concerned(&self, station: StationNumber) -> Result<Vec<Slot>, AllocError>
+        ensures { IfOk result (λ touched. touched.items ≡ touched_slots (StationGone station) self.now.subscribers) }
+    {
+        self.connections.concerned(station)
+    }
+
+    /// The slots of those whose connection a RESET of a part of a station means, by rising slot (TS 36.413 clause 8.7.1.2.2). It
+    /// leaves all others as they are. Each item is looked up.
+    pub fn listed(
+        &self,
+        station: StationNumber,
+        items: &[AssociationToReset],
+    ) -> Result<Vec<Slot>, AllocError>
+        ensures { IfOk result (λ touched. touched.items ≡ touched_slots (ConnectionsGone station items.now) self.now.subscribers) }
+    {
+        self.connections.listed(station, items)
     }
 
     /// Room for T3470 of `strangers` strangers and for `steps` steps of subscribers. Refused, all but the room is as it was.
@@ -153,17 +197,16 @@ impl Owners {
         ensures strangers { self.new.strangers ≡ self.old.strangers }
         ensures subscribers { self.new.subscribers ≡ self.old.subscribers }
         ensures room { OnOk result (strangers + 2 * steps ≤ self.new.room) }
-        ensures places { OnOk result (steps ≤ self.new.places) }
+        ensures places { OnOk result (strangers + steps ≤ self.new.places) }
     {
-        self.timers.reserve(strangers + 2 * steps)?;
-        self.subscribers.reserve(steps)
+        self.records.reserve(strangers, steps)?;
+        self.connections.reserve(strangers + steps)
     }
 
-    /// The state of a slot is the one that was prepared, where there is room, and no other slot has the id of its connection. Takes
-    /// no memory.
+    /// The state of a slot is the one that was prepared, where there is room, and with it no two have one id. Takes no memory.
     pub fn settle(&mut self, stepped: Stepped)
         requires slot { stepped.slot < length self.old.subscribers }
-        requires free { IsFreeFor self.old.subscribers stepped }
+        requires apart { AreApart self.old.strangers (with_solo stepped.slot stepped.solo self.old.subscribers) }
         requires counting { IsCounting stepped.solo }
         requires room { 2 ≤ self.old.room }
         requires places { 0 < self.old.places }
@@ -171,12 +214,7 @@ impl Owners {
         ensures strangers { self.new.strangers ≡ self.old.strangers }
         ensures subscribers { self.new.subscribers ≡ with_solo stepped.slot stepped.solo self.old.subscribers }
     {
-        // (that there are no more of them than slots)
-        let _ = self.subscribers.len();
-        let slot = stepped.slot();
-        let left = stepped.countdowns();
-        let before = self.subscribers.settle(stepped);
-        retime(&mut self.timers, slot.get(), before, left);
+        settle_called(&mut self.records, &mut self.connections, Some(stepped));
     }
 
     /// The states of slots are those that were prepared, one after the other, where there is room, and each is connected as it was,
@@ -191,73 +229,62 @@ impl Owners {
         ensures strangers { self.new.strangers ≡ self.old.strangers }
         ensures subscribers { self.new.subscribers ≡ with_stepped stepped.items self.old.subscribers }
     {
-        // (that there are no more of them than slots)
-        let _ = self.subscribers.len();
-        retime_all(&mut self.timers, stepped.as_slice());
-        self.subscribers.settle_all(stepped);
+        let states = stepped.as_slice();
+        place_all(&mut self.connections, states);
+        self.records.settle_all(stepped);
     }
 
-    /// The stranger with an id is that from now on, where there is room for a countdown; refused, all are as they were.
-    pub fn settle_stranger(&mut self, id: AssociationId, after: After) -> Result<(), AllocError>
+    /// A stranger is what was prepared, and the subscriber that it calls, where there is room, and with both no two have one id:
+    /// where the stranger is claimed, its association is closed before its subscriber has it, and where it waits, opened after the
+    /// subscriber who held the id has lost it. Refused, all are as they were.
+    pub fn settle_turn(
+        &mut self,
+        id: AssociationId,
+        after: After,
+        called: Option<Stepped>,
+    ) -> Result<(), AllocError>
         requires wait { IsWaitAfter id after }
-        requires room { 1 ≤ self.old.room }
+        requires fits { IsFitIf (length self.old.subscribers) called }
+        requires apart { AreApart (with_stranger id (after_of after (stranger_at id self.old.strangers)) self.old.strangers)
+            (with_one called self.old.subscribers) }
+        requires room { 3 ≤ self.old.room }
+        requires places { 2 ≤ self.old.places }
         ensures clock { self.new.clock ≡ self.old.clock }
-        ensures ok { OnOk result
+        ensures strangers { OnOk result
             (self.new.strangers ≡ with_stranger id (after_of after (stranger_at id self.old.strangers)) self.old.strangers) }
-        ensures subscribers { self.new.subscribers ≡ self.old.subscribers }
-        ensures room { self.old.room ≤ self.new.room + 1 }
-        ensures places { self.new.places ≡ self.old.places }
+        ensures subscribers { OnOk result (self.new.subscribers ≡ with_one called self.old.subscribers) }
         ensures err { OnErr result (self.new ≡ self.old) }
     {
+        self.records.ids_rise();
         match after {
-            After::Stays => {
-                // (that their ids rise)
-                let _ = self.strangers.clock();
-                Ok(())
-            }
+            After::Stays => settle_called(&mut self.records, &mut self.connections, called),
             After::Closed => {
                 self.close(id);
-                Ok(())
+                settle_called(&mut self.records, &mut self.connections, called);
             }
-            After::Is(stranger) => self.put(id, stranger),
+            After::Is(stranger) => {
+                let place = place_of(id, &stranger);
+                self.records.put(id, stranger)?;
+                let connections = &mut self.connections;
+                connections.end_wait(id);
+                settle_called(&mut self.records, connections, called);
+                begin_wait(connections, id, place);
+            }
         }
+        Ok(())
     }
 
-    // The stranger with an id is closed, and T3470 stops, if it ran.
+    // The stranger with an id is closed, T3470 stops, if it ran, and so does its association.
     fn close(&mut self, id: AssociationId)
         ensures clock { self.new.clock ≡ self.old.clock }
         ensures strangers { self.new.strangers ≡ without known_id id self.old.strangers }
         ensures subscribers { self.new.subscribers ≡ self.old.subscribers }
         ensures room { self.old.room ≤ self.new.room }
-        ensures places { self.new.places ≡ self.old.places }
+        ensures places { self.old.places ≤ self.new.places }
     {
-        // (that there are no more of them than slots)
-        let _ = self.subscribers.len();
-        let before = self.strangers.left(id);
-        self.strangers.close(id);
-        stop_wait(&mut self.timers, id, before);
-    }
-
-    // The stranger with an id is that, and T3470 runs as it says.
-    fn put(&mut self, id: AssociationId, stranger: Stranger) -> Result<(), AllocError>
-        requires wait { IsStart id (wait_of stranger) }
-        requires room { 1 ≤ self.old.room }
-        ensures clock { self.new.clock ≡ self.old.clock }
-        ensures ok { OnOk result (self.new.strangers ≡ put known_id (record { id = id; stranger = stranger }) self.old.strangers) }
-        ensures subscribers { self.new.subscribers ≡ self.old.subscribers }
-        ensures room { self.old.room ≤ self.new.room + 1 }
-        ensures places { self.new.places ≡ self.old.places }
-        ensures err { OnErr result (self.new ≡ self.old) }
-    {
-        // (that there are no more of them than slots, and that the strangers' ids rise)
-        let _ = self.subscribers.len();
-        let _ = self.strangers.clock();
-        id_is_small(id);
-        let before = self.strangers.left(id);
-        let left = wait_of(&stranger);
-        self.strangers.put(id, stranger)?;
-        change_wait(&mut self.timers, id, before, left);
-        Ok(())
+        self.records.ids_rise();
+        self.records.close(id);
+        self.connections.end_wait(id);
     }
 
     // The lowest id of at least `least`. The ids rise.
@@ -265,7 +292,7 @@ impl Owners {
         ensures value { result ≡ option_map known_id (lowest_from known_id least self.now.strangers) }
         ensures order { Rising known_id self.now.strangers }
     {
-        self.strangers.first_from(least)
+        self.records.strangers.first_from(least)
     }
 
     // Whether a notice of a station closes the stranger with an id, unless it is closed.
@@ -273,7 +300,7 @@ impl Owners {
         requires { is_of_station notice.now ≡ true }
         ensures { IsSome (stranger_at id self.now.strangers) → result ≡ closes id notice.now }
     {
-        self.strangers.is_closed_by(id, notice)
+        self.records.strangers.is_closed_by(id, notice)
     }
 
     // The stranger with an id, which isn't closed, takes a notice of a station.
@@ -285,7 +312,7 @@ impl Owners {
             ≡ (if closes id notice.now then without known_id id self.old.strangers else self.old.strangers) }
         ensures subscribers { self.new.subscribers ≡ self.old.subscribers }
         ensures room { self.old.room ≤ self.new.room }
-        ensures places { self.new.places ≡ self.old.places }
+        ensures places { self.old.places ≤ self.new.places }
     {
         if self.is_closed_by(id, notice) {
             self.close(id);
@@ -299,7 +326,7 @@ impl Owners {
         ensures strangers { self.new.strangers ≡ noted notice.now self.old.strangers }
         ensures subscribers { self.new.subscribers ≡ self.old.subscribers }
         ensures room { self.old.room ≤ self.new.room }
-        ensures places { self.new.places ≡ self.old.places }
+        ensures places { self.old.places ≤ self.new.places }
     {
         let station = noted_station(notice);
         let mut least = first_id(station);
@@ -327,14 +354,10 @@ impl Owners {
         ensures strangers { self.new.strangers ≡ noted Tick self.old.strangers }
         ensures subscribers { self.new.subscribers ≡ tick_settled stepped.items self.old.subscribers }
     {
-        // (that there are no more of them than slots, and that the strangers' ids rise)
-        let _ = self.subscribers.len();
-        let _ = self.strangers.clock();
-        self.timers.pass();
+        self.records.ids_rise();
+        place_all(&mut self.connections, stepped.as_slice());
         let ended = due.as_slice();
-        self.strangers.tick(ended);
-        restart(&mut self.timers, &self.strangers, ended);
-        retime_all(&mut self.timers, stepped.as_slice());
-        self.subscribers.tick(stepped);
+        self.records.tick(ended, stepped);
+        leave(&mut self.connections, &self.records, ended);
     }
 }

@@ -1,6 +1,6 @@
 -- Countdowns of slots: two of each, of a procedure and of an idle phone, as what each slot has left and as the queue has them.
 use Rattle.std.specs.Prelude.{◌≡◌, ℕ, ◌+◌, ◌-◌, ◌≤◌, nat_le, ◌==◌, ◌||◌, Bool, false, List, [], ◌∷◌, Option, Some, None, if◌then◌else◌}
-use Rattle.connection_table.specs.Whereabouts.{slots_where}
+use Rattle.mme_associations.specs.Whereabouts.{slots_where}
 use Rattle.timer_queue.specs.declared.timer.Kind.{Kind}
 use Rattle.timer_queue.specs.declared.timer.Kind.TheVariants.{Procedure, Reachable}
 use Rattle.timer_queue.specs.declared.timer.TimerOwner.TheVariants.{Subscriber}

@@ -1,2 +1,1 @@
-mod Touching
 mod Waking

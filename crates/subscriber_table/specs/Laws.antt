@@ -16,7 +16,7 @@ use Rattle.emm_machine.specs.SubscriberView.{SubscriberView}
 use Rattle.emm_machine.specs.Ticks.{AreAbove, AreTimed, IsAbove, IsTimed, countdowns, solo_aged}
 use Rattle.emm_machine.specs.TickLaws.{quiet_tick}
 use Rattle.sorted_list.specs.Ordered.{Every}
-use Rattle.connection_table.specs.Whereabouts.{slots_where}
+use Rattle.mme_associations.specs.Whereabouts.{slots_where}
 use Rattle.subscriber_table.specs.SteppedView.{SteppedView}
 use Rattle.subscriber_table.specs.Changed.{changed_at, cleared}
 use Rattle.subscriber_table.specs.Matching.{AreOff, Match, changed_by_none, cleared_all, match_changed}

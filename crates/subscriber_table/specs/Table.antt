@@ -13,13 +13,7 @@ use Rattle.mme_timers.specs.Running.{AreInRange, due_from}
 
 pub record SubscriberTable : Type 0 where
   pub clock : ℕ
-  pub subscribers : List SubscriberView
-  pub room : ℕ  -- how many more steps can be settled with no allocation
-
--- what the records say, which take no room
-pub record SleeperTable : Type 0 where
-  pub clock : ℕ
-  pub subscribers : List SubscriberView
+  pub subscribers : List SubscriberView  -- by slot, each as it is now
 
 -- ---- steps
 

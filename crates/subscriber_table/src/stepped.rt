@@ -54,7 +54,7 @@ impl Stepped {
     }
 
     /// The state.
-    pub(crate) fn solo(&self) -> &Solo
+    pub fn solo(&self) -> &Solo
         ensures { result.now ≡ self.now.solo }
     {
         &self.draft.solo

@@ -13,16 +13,16 @@ use Rattle.mme_answering.proofs.preparing.prepare_all.Goals as goal
 pub prepare_each-requires-clause-called : goal.prepare_each-requires-clause-called
 prepare_each-requires-clause-called c =
     let ws = c.args.subscribers.now.subscribers in
-    subst (Every (λ k. k < length ws)) (sym (c.as_slice-called.ensures.value ∙ c.in_ok-touched.ensures))
+    subst (Every (λ k. k < length ws)) (sym c.requires.touched)
     (touched_below (item_of_notice c.args.notice.now) ws)
 
 pub returns-clause-sends : goal.returns-clause-sends
 returns-clause-sends c =
     let ws = c.args.subscribers.now.subscribers in
     let item = item_of_notice c.args.notice.now in
-    let due = c.as_slice-called.ensures.value ∙ c.in_ok-touched.ensures in
+    let due = c.requires.touched in
     on_ok_weaker c.prepare_each.result
-    (λ h. h ∙ ap (λ i. c.args.outs.now ++ some_give (item_sent i) c.as_slice-called.result.now ws) c.requires.event
+    (λ h. h ∙ ap (λ i. c.args.outs.now ++ some_give (item_sent i) c.args.touched.now ws) c.requires.event
     ∙ ap (λ ks. c.args.outs.now ++ some_give (item_sent item) ks ws) due
     ∙ ap (λ (os : List Out). c.args.outs.now ++ os) (touched_send item ws)) c.prepare_each.ensures.sends
 
@@ -30,7 +30,7 @@ pub returns-clause-subscribers : goal.returns-clause-subscribers
 returns-clause-subscribers c =
     let ws = c.args.subscribers.now.subscribers in
     let item = item_of_notice c.args.notice.now in
-    let due = c.as_slice-called.ensures.value ∙ c.in_ok-touched.ensures in
+    let due = c.requires.touched in
     ok_both _ _ _ c.prepare_each.result
     (λ xs slots stepped. touches_all item xs.items ws (slots ∙ due) (subst (λ i. Every (IsStepped i ws) xs.items) c.requires.event stepped))
     c.prepare_each.ensures.slots c.prepare_each.ensures.stepped
@@ -38,7 +38,7 @@ returns-clause-subscribers c =
 pub returns-clause-fits : goal.returns-clause-fits
 returns-clause-fits c =
     let ws = c.args.subscribers.now.subscribers in
-    let due = c.as_slice-called.ensures.value ∙ c.in_ok-touched.ensures in
+    let due = c.requires.touched in
     ok_both _ _ _ c.prepare_each.result
     (λ xs slots counting. touched_fit (item_of_notice c.args.notice.now) xs.items ws (slots ∙ due) counting)
     c.prepare_each.ensures.slots c.prepare_each.ensures.counting

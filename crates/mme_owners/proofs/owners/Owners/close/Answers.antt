@@ -1,22 +1,16 @@
-use Rattle.std.proofs.Common.{sym, ◌∙◌, ap, subst}
-use Rattle.mme_timers.specs.WaitLaws.{are_waits_without}
-use Rattle.mme_timers.specs.Waiting.{AreWaits, wait_stopped}
-use Rattle.mme_owners.specs.Owners.{countdowns_of}
-use Rattle.mme_owners.proofs.Owned.{closed}
+use Rattle.std.proofs.Common.{None, sym, ◌∙◌, ap}
+use Rattle.subscriber_table.specs.Touched.{all_whereabouts}
+use Rattle.mme_owners.specs.Placed.{place_at}
+use Rattle.mme_owners.proofs.Apart.{waits_left}
 use Rattle.mme_owners.proofs.owners.Owners.close.Goals as goal
 
 pub invariant_of-self : goal.invariant_of-self
 invariant_of-self c =
-    let id = c.args.id in
-    let cs = c.self.inside.timers.running in
-    let ks = c.self.inside.strangers.strangers in
-    let ws = c.self.inside.subscribers.subscribers in
+    let ks = c.self.inside.records.strangers in
     record {
-      strangers_clock = c.close.ensures.clock ∙ c.self.invariant.strangers_clock ∙ sym c.stop_wait.ensures.clock;
-      subscribers_clock = c.self.invariant.subscribers_clock ∙ sym c.stop_wait.ensures.clock;
-      waits = subst AreWaits (sym c.close.ensures.strangers) (are_waits_without id ks c.self.invariant.waits);
-      timed =
-          closed id ks ws cs c.stop_wait.new.timers.running c.self.invariant.waits c.len.ensures.few c.self.invariant.timed
-          (c.stop_wait.ensures.running ∙ ap (λ o. wait_stopped id o cs) c.left-before.ensures)
-          ∙ ap (λ xs. countdowns_of xs ws) (sym c.close.ensures.strangers);
+      phones = c.end_wait.ensures.whereabouts ∙ c.self.invariant.phones ∙ ap all_whereabouts (sym c.close.ensures.subscribers);
+      strangers = λ other.
+          waits_left c.args.id other None ks c.self.inside.connections.associations c.end_wait.new.self.associations c.ids_rise.ensures
+          (c.self.invariant.strangers other) (c.end_wait.ensures.strangers other)
+          ∙ ap (place_at other) (sym c.close.ensures.strangers);
     }

@@ -23,7 +23,7 @@ loop-id-init c =
       from = subst (λ e. e ≤ station_in c.first_id-least.result) station (c.first_id-least.ensures.most c.first_id-least.result (omega arith));
       subscribers = refl;
       room = omega arith;
-      places = refl;
+      places = omega arith;
     }
 
 pub loop-id-smaller : goal.loop-id-smaller
@@ -57,7 +57,7 @@ loop-id-preserved c =
       from = subst (λ i. noted_station notice ≤ station_in (i + 1)) (sym is) next;
       subscribers = c.note_one.ensures.subscribers ∙ c.loop-id.invariant.subscribers;
       room = let more = c.note_one.ensures.room in let least = c.loop-id.invariant.room in omega (arith, more, least);
-      places = c.note_one.ensures.places ∙ c.loop-id.invariant.places;
+      places = let more = c.note_one.ensures.places in let least = c.loop-id.invariant.places in omega (arith, more, least);
     }
 
 pub returns-then-station_in-station-clause-strangers : goal.returns-then-station_in-station-clause-strangers

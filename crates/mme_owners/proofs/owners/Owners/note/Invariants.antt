@@ -13,7 +13,7 @@ invariant-loop-id l = record {
   from : noted_station l.notice ≤ station_in l.least;
   subscribers : l.self.subscribers ≡ l.fn.self.subscribers;
   room : l.fn.self.room ≤ l.self.room;
-  places : l.self.places ≡ l.fn.self.places;
+  places : l.fn.self.places ≤ l.self.places;
 }
 
 abbrev pub decreases-loop-id : goal.decreases-loop-id

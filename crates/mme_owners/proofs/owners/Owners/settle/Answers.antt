@@ -1,39 +1,31 @@
-use Rattle.std.proofs.Common.{◌<◌, length, sym, ◌∙◌, ap, subst}
-use Rattle.mme_timers.specs.Running.{AreInRange, AreQueued, both_retimed}
-use Rattle.subscriber_table.specs.Touched.{IsFreeFor}
-use Rattle.mme_owners.specs.Owners.{OwnersView, countdowns_of}
-use Rattle.mme_owners.proofs.Owned.{known_at, settled}
+use Rattle.std.proofs.Common.{◌<◌, length, Some, sym, ◌∙◌, ap, subst}
+use Rattle.mme_owners.specs.Owners.{OwnersView}
+use Rattle.mme_owners.specs.Placed.{place_at, AreApart}
+use Rattle.subscriber_table.specs.Table.{with_solo}
+use Rattle.mme_owners.proofs.Apart.{alone_one, free_one}
 use Rattle.mme_owners.proofs.owners.Owners.settle.Goals as goal
 
-pub settle-before-requires-clause-slot : goal.settle-before-requires-clause-slot
-settle-before-requires-clause-slot c =
-    subst (λ (v : OwnersView). c.args.stepped.slot < length v.subscribers) (sym c.self.view_is) c.requires.slot
+pub settle_called-requires-clause-fits : goal.settle_called-requires-clause-fits
+settle_called-requires-clause-fits c =
+    (subst (λ (v : OwnersView). c.args.stepped.slot < length v.subscribers) (sym c.self.view_is) c.requires.slot, c.requires.counting)
 
-pub settle-before-requires-clause-free : goal.settle-before-requires-clause-free
-settle-before-requires-clause-free c =
-    subst (λ (v : OwnersView). IsFreeFor v.subscribers c.args.stepped) (sym c.self.view_is) c.requires.free
+pub settle_called-requires-clause-free : goal.settle_called-requires-clause-free
+settle_called-requires-clause-free c =
+    let x = c.args.stepped in
+    let lt = subst (λ (v : OwnersView). x.slot < length v.subscribers) (sym c.self.view_is) c.requires.slot in
+    let apart = subst (λ (v : OwnersView). AreApart v.strangers (with_solo x.slot x.solo v.subscribers)) (sym c.self.view_is) c.requires.apart in
+    free_one c.self.inside.records.strangers c.self.inside.records.subscribers (Some x) apart (lt, c.requires.counting)
 
-pub retime-requires-clause-range : goal.retime-requires-clause-range
-retime-requires-clause-range c = subst AreInRange (sym c.countdowns-left.ensures) c.requires.counting
-
-pub retime-requires-clause-known : goal.retime-requires-clause-known
-retime-requires-clause-known c =
-    let lt = subst (λ (v : OwnersView). c.args.stepped.slot < length v.subscribers) (sym c.self.view_is) c.requires.slot in
-    subst (λ n. AreQueued n c.settle-before.result c.self.inside.timers.running) (sym (c.get.ensures.value ∙ c.slot-slot.ensures))
-    (known_at c.args.stepped.slot c.settle-before.result c.self.inside.strangers.strangers c.self.inside.subscribers.subscribers c.self.inside.timers.running c.self.invariant.waits c.len.ensures.few lt c.self.invariant.timed c.settle-before.ensures.before)
+pub settle_called-requires-clause-alone : goal.settle_called-requires-clause-alone
+settle_called-requires-clause-alone c =
+    let x = c.args.stepped in
+    let lt = subst (λ (v : OwnersView). x.slot < length v.subscribers) (sym c.self.view_is) c.requires.slot in
+    let apart = subst (λ (v : OwnersView). AreApart v.strangers (with_solo x.slot x.solo v.subscribers)) (sym c.self.view_is) c.requires.apart in
+    alone_one c.self.inside.records.strangers c.self.inside.records.subscribers c.self.inside.connections.associations (Some x)
+    c.self.invariant.strangers apart (lt, c.requires.counting)
 
 pub invariant_of-self : goal.invariant_of-self
-invariant_of-self c =
-    let x = c.args.stepped in
-    let cs = c.self.inside.timers.running in
-    let ks = c.self.inside.strangers.strangers in
-    let lt = subst (λ (v : OwnersView). x.slot < length v.subscribers) (sym c.self.view_is) c.requires.slot in
-    let retimed = c.retime.ensures.running ∙ ap (λ n. both_retimed n c.countdowns-left.result cs) (c.get.ensures.value ∙ c.slot-slot.ensures) ∙ ap (λ p. both_retimed x.slot p cs) c.countdowns-left.ensures in
-    record {
-      strangers_clock = c.self.invariant.strangers_clock ∙ sym c.retime.ensures.clock;
-      subscribers_clock = c.settle-before.ensures.clock ∙ c.self.invariant.subscribers_clock ∙ sym c.retime.ensures.clock;
-      waits = c.self.invariant.waits;
-      timed =
-          settled x.slot x.solo ks c.self.inside.subscribers.subscribers cs c.retime.new.timers.running c.self.invariant.waits c.len.ensures.few lt c.self.invariant.timed retimed
-          ∙ ap (countdowns_of ks) (sym c.settle-before.ensures.subscribers);
-    }
+invariant_of-self c = record {
+  phones = c.settle_called.ensures.phones;
+  strangers = λ id. c.settle_called.ensures.waits id ∙ c.self.invariant.strangers id ∙ ap (place_at id) (sym c.settle_called.ensures.strangers);
+}

@@ -1,57 +1,45 @@
-use Rattle.std.proofs.Common.{◌+◌, sym, ◌∙◌, ap, subst}
+use Rattle.std.proofs.Common.{◌<◌, length, sym, ◌∙◌, ap, subst}
 use Rattle.sorted_list.specs.Ordered.{Every}
-use Rattle.timer_queue.specs.Countdowns.{aged}
-use Rattle.mme_timers.specs.WaitLaws.{are_waits_ticked}
-use Rattle.mme_timers.specs.Waiting.{AreWaits, due_ids, restarted}
 use Rattle.subscriber_table.specs.SteppedView.{SteppedView}
-use Rattle.subscriber_table.specs.Table.{IsCounting, due_slots, tick_settled}
-use Rattle.subscriber_table.specs.Touched.{KeepsPlace}
-use Rattle.mme_owners.specs.Owners.{OwnersView, all_retimed, countdowns_of}
-use Rattle.mme_owners.proofs.Ticked.{ticked}
+use Rattle.subscriber_table.specs.Table.{due_slots}
+use Rattle.subscriber_table.specs.Touched.{all_whereabouts, with_whereabouts, KeepsConnection, KeepsPlace}
+use Rattle.mme_timers.specs.Waiting.{due_ids}
+use Rattle.mme_owners.specs.Owners.{OwnersView}
+use Rattle.mme_owners.specs.Placed.{place_at, still_there}
+use Rattle.mme_owners.proofs.Places.{still_noted}
+use Rattle.mme_owners.proofs.Touching.{keeps_there, places_below, ticked_there}
 use Rattle.mme_owners.proofs.owners.Owners.tick.Goals as goal
 
-pub tick-requires-clause-due : goal.tick-requires-clause-due
-tick-requires-clause-due c =
-    c.as_slice-ended.ensures.value ∙ c.requires.strangers ∙ ap (λ (v : OwnersView). due_ids v.strangers) (sym c.self.view_is)
+pub place_all-requires-clause-within : goal.place_all-requires-clause-within
+place_all-requires-clause-within c =
+    let due = c.requires.slots ∙ ap (λ (v : OwnersView). due_slots v.subscribers) (sym c.self.view_is) in
+    subst (Every (λ (x : SteppedView). x.slot < length c.self.inside.connections.whereabouts)) (sym c.as_slice.ensures.value)
+    (places_below c.args.stepped.items c.self.inside.records.subscribers c.self.inside.connections.whereabouts c.self.invariant.phones due)
 
-pub restart-requires-clause-waits : goal.restart-requires-clause-waits
-restart-requires-clause-waits c =
-    subst AreWaits (sym c.tick.ensures.strangers) (are_waits_ticked c.self.inside.strangers.strangers c.self.invariant.waits)
-
-pub retime_all-requires-clause-counting : goal.retime_all-requires-clause-counting
-retime_all-requires-clause-counting c =
-    subst (Every (λ (x : SteppedView). IsCounting x.solo)) (sym c.as_slice.ensures.value) c.requires.counting
-
-pub tick-requires-2-clause-due : goal.tick-requires-2-clause-due
-tick-requires-2-clause-due c = c.requires.slots ∙ ap (λ (v : OwnersView). due_slots v.subscribers) (sym c.self.view_is)
-
-pub tick-requires-2-clause-places : goal.tick-requires-2-clause-places
-tick-requires-2-clause-places c =
-    subst (λ (v : OwnersView). Every (KeepsPlace v.subscribers) c.args.stepped.items) (sym c.self.view_is) c.requires.kept
+pub place_all-requires-clause-places : goal.place_all-requires-clause-places
+place_all-requires-clause-places c =
+    let xs = c.args.stepped.items in
+    let kept = subst (λ (v : OwnersView). Every (KeepsPlace v.subscribers) xs) (sym c.self.view_is) c.requires.kept in
+    subst (Every (KeepsConnection c.self.inside.connections.whereabouts)) (sym c.as_slice.ensures.value)
+    (keeps_there xs c.self.inside.records.subscribers c.self.inside.connections.whereabouts c.self.invariant.phones kept)
 
 pub invariant_of-self : goal.invariant_of-self
 invariant_of-self c =
     let xs = c.args.stepped.items in
-    let cs = c.self.inside.timers.running in
-    let ks = c.self.inside.strangers.strangers in
-    let ws = c.self.inside.subscribers.subscribers in
+    let ks = c.self.inside.records.strangers in
+    let ws = c.self.inside.records.subscribers in
+    let cs = c.self.inside.connections.whereabouts in
     let ended = c.as_slice-ended.ensures.value ∙ c.requires.strangers ∙ ap (λ (v : OwnersView). due_ids v.strangers) (sym c.self.view_is) in
-    let due = c.requires.slots ∙ ap (λ (v : OwnersView). due_slots v.subscribers) (sym c.self.view_is) in
-    let clock = c.retime_all.ensures.clock ∙ c.restart.ensures.clock ∙ c.pass.ensures.clock in
-    let after = c.tick.new.self.strangers in
-    let restarts =
-    c.restart.ensures.running ∙ ap (λ ds. restarted c.as_slice-ended.result.now after ds) c.pass.ensures.running
-    ∙ ap (λ ids. restarted ids after (aged cs)) ended
-    ∙ ap (λ ns. restarted (due_ids ks) ns (aged cs)) c.tick.ensures.strangers in
-    let running =
-    c.retime_all.ensures.running ∙ ap (λ ys. all_retimed ys c.restart.new.timers.running) c.as_slice.ensures.value
-    ∙ ap (all_retimed xs) restarts in
     record {
-      strangers_clock = c.tick.ensures.clock ∙ ap (λ n. n + 1) c.self.invariant.strangers_clock ∙ sym clock;
-      subscribers_clock = c.tick-2.ensures.clock ∙ ap (λ n. n + 1) c.self.invariant.subscribers_clock ∙ sym clock;
-      waits = subst AreWaits (sym c.tick.ensures.strangers) (are_waits_ticked ks c.self.invariant.waits);
-      timed =
-          ticked xs ks ws cs c.retime_all.new.timers.running c.clock.ensures.order c.self.invariant.waits c.len.ensures.few due c.self.invariant.timed running
-          ∙ ap (λ ns. countdowns_of ns (tick_settled xs ws)) (sym c.tick.ensures.strangers)
-          ∙ ap (countdowns_of after) (sym c.tick-2.ensures.subscribers);
+      phones =
+          c.leave.ensures.whereabouts ∙ c.place_all.ensures.whereabouts ∙ ap (λ ys. with_whereabouts ys cs) c.as_slice.ensures.value
+          ∙ ap (with_whereabouts xs) c.self.invariant.phones ∙ sym (ticked_there xs ws)
+          ∙ ap all_whereabouts (sym c.tick.ensures.subscribers);
+      strangers = λ id.
+          let was = c.place_all.ensures.strangers id ∙ c.self.invariant.strangers id in
+          c.leave.ensures.strangers id
+          ∙ ap (λ o. still_there c.as_slice-ended.result.now c.tick.new.self.strangers id o) was
+          ∙ ap (λ ids. still_there ids c.tick.new.self.strangers id (place_at id ks)) ended
+          ∙ ap (λ ls. still_there (due_ids ks) ls id (place_at id ks)) c.tick.ensures.strangers ∙ still_noted id ks c.ids_rise.ensures
+          ∙ ap (place_at id) (sym c.tick.ensures.strangers);
     }

@@ -1,26 +1,29 @@
-use Rattle.std.proofs.Common.{sym, ◌∙◌, ap, subst}
-use Rattle.std.specs.Prelude.{slice_set}
-use Rattle.connection_table.specs.Whereabouts.{IsFree}
-use Rattle.emm_state.specs.declared.solo.Solo.{Solo}
-use Rattle.subscriber_table.specs.Table.{SubscriberTable}
-use Rattle.subscriber_table.specs.Touched.{all_whereabouts, whereabouts, IsFreeFor}
-use Rattle.subscriber_table.proofs.Touching.{free_there, settled_there}
+use Rattle.std.proofs.Common.{sym, ◌∙◌, ap, arith, length}
+use Rattle.subscriber_table.specs.Records.{views}
+use Rattle.subscriber_table.specs.Table.{SubscriberTable, countdowns_at, with_solo}
+use Rattle.subscriber_table.proofs.Waking.{IsSubscriberTableOf, settled, views_length}
 use Rattle.subscriber_table.proofs.table.Subscribers.settle.Goals as goal
 
-pub place-requires-clause-free : goal.place-requires-clause-free
-place-requires-clause-free c =
-    let x = c.args.stepped in
-    let seen = subst (λ (v : SubscriberTable). IsFreeFor v.subscribers x) (sym c.self.view_is) c.requires.free in
-    subst (λ n. IsFree n c.solo.result.now.connection c.self.inside.connections.whereabouts) (sym c.slot.ensures)
-    (subst (λ (s : Solo). IsFree x.slot s.connection c.self.inside.connections.whereabouts) (sym c.solo.ensures)
-    (free_there c.self.inside.sleepers.subscribers c.self.inside.connections.whereabouts x c.self.invariant seen))
+pub settle_one-requires-clause-slot : goal.settle_one-requires-clause-slot
+settle_one-requires-clause-slot c =
+    let many = ap (λ (v : SubscriberTable). length v.subscribers) c.self.view_is in
+    let same = views_length c.self.inside.clock c.self.inside.records.items in
+    let lt = c.requires.slot in
+    omega arith
+
+table : (c : goal.After-settle_one)
+    → IsSubscriberTableOf c.self.inside.clock c.settle_one.new.records.items
+    (with_solo c.args.stepped.slot c.args.stepped.solo (views c.self.inside.clock c.self.inside.records.items))
+table c =
+    settled c.self.inside.clock c.args.stepped.slot c.args.stepped.solo c.self.inside.records.items c.settle_one.new.records.items c.self.invariant c.requires.counting c.settle_one.ensures.records
 
 pub invariant_of-self : goal.invariant_of-self
-invariant_of-self c =
-    let ws = c.self.inside.sleepers.subscribers in
-    let x = c.args.stepped in
-    let cs = c.self.inside.connections.whereabouts in
-    c.place.ensures.whereabouts ∙ ap (λ n. slice_set cs n (whereabouts c.solo.result.now)) c.slot.ensures
-    ∙ ap (λ s. slice_set cs x.slot (whereabouts s)) c.solo.ensures
-    ∙ ap (λ ds. slice_set ds x.slot (whereabouts x.solo)) c.self.invariant
-    ∙ sym (settled_there x.slot x.solo ws) ∙ ap all_whereabouts (sym c.settle.ensures.subscribers)
+invariant_of-self c = (table c).table
+
+pub returns-clause-subscribers : goal.returns-clause-subscribers
+returns-clause-subscribers c =
+    (table c).seen ∙ ap (λ (v : SubscriberTable). with_solo c.args.stepped.slot c.args.stepped.solo v.subscribers) c.self.view_is
+
+pub returns-clause-before : goal.returns-clause-before
+returns-clause-before c =
+    ap (λ (v : SubscriberTable). countdowns_at c.args.stepped.slot v.subscribers) (sym c.self.view_is) ∙ c.settle_one.ensures.before

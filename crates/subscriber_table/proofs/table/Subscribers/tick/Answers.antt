@@ -1,27 +1,22 @@
-use Rattle.std.proofs.Common.{◌<◌, length, sym, ◌∙◌, ap, subst}
-use Rattle.sorted_list.specs.Ordered.{Every}
-use Rattle.subscriber_table.specs.SteppedView.{SteppedView}
-use Rattle.subscriber_table.specs.Table.{SubscriberTable, due_slots}
-use Rattle.subscriber_table.specs.Touched.{all_whereabouts, with_whereabouts, KeepsConnection, KeepsPlace}
-use Rattle.subscriber_table.proofs.Touching.{keeps_there, places_below, ticked_there}
+use Rattle.std.proofs.Common.{◌∙◌, sym, ap}
+use Rattle.subscriber_table.specs.Table.{SubscriberTable, due_slots, tick_settled}
+use Rattle.subscriber_table.proofs.Waking.{all_ticked, slots_below}
 use Rattle.subscriber_table.proofs.table.Subscribers.tick.Goals as goal
 
-pub place_all-requires-clause-within : goal.place_all-requires-clause-within
-place_all-requires-clause-within c =
-    let seen = ap (λ (v : SubscriberTable). due_slots v.subscribers) c.self.view_is in
-    subst (Every (λ (x : SteppedView). x.slot < length c.self.inside.connections.whereabouts)) (sym c.as_slice.ensures.value)
-    (places_below c.args.stepped.items c.self.inside.sleepers.subscribers c.self.inside.connections.whereabouts c.self.invariant (c.requires.due ∙ sym seen))
-
-pub place_all-requires-clause-places : goal.place_all-requires-clause-places
-place_all-requires-clause-places c =
-    let seen = subst (λ (v : SubscriberTable). Every (KeepsPlace v.subscribers) c.args.stepped.items) (sym c.self.view_is) c.requires.places in
-    subst (Every (KeepsConnection c.self.inside.connections.whereabouts)) (sym c.as_slice.ensures.value)
-    (keeps_there c.args.stepped.items c.self.inside.sleepers.subscribers c.self.inside.connections.whereabouts c.self.invariant seen)
+pub settle_all-requires : goal.settle_all-requires
+settle_all-requires c =
+    slots_below c.self.inside.clock c.args.stepped.items c.self.inside.records.items
+    (c.requires.due ∙ ap (λ (v : SubscriberTable). due_slots v.subscribers) (sym c.self.view_is))
 
 pub invariant_of-self : goal.invariant_of-self
 invariant_of-self c =
-    let ws = c.self.inside.sleepers.subscribers in
-    let xs = c.args.stepped.items in
-    c.place_all.ensures.whereabouts ∙ ap (λ ys. with_whereabouts ys c.self.inside.connections.whereabouts) c.as_slice.ensures.value
-    ∙ ap (with_whereabouts xs) c.self.invariant
-    ∙ sym (ticked_there xs ws) ∙ ap all_whereabouts (sym c.tick.ensures.subscribers)
+    let rs = c.self.inside.records.items in
+    let due = c.requires.due ∙ ap (λ (v : SubscriberTable). due_slots v.subscribers) (sym c.self.view_is) in
+    (all_ticked c.self.inside.clock c.args.stepped.items rs c.settle_all.new.records.items c.self.invariant due c.requires.counting c.settle_all.ensures).table
+
+pub returns-clause-subscribers : goal.returns-clause-subscribers
+returns-clause-subscribers c =
+    let rs = c.self.inside.records.items in
+    let due = c.requires.due ∙ ap (λ (v : SubscriberTable). due_slots v.subscribers) (sym c.self.view_is) in
+    (all_ticked c.self.inside.clock c.args.stepped.items rs c.settle_all.new.records.items c.self.invariant due c.requires.counting c.settle_all.ensures).seen
+    ∙ ap (λ (v : SubscriberTable). tick_settled c.args.stepped.items v.subscribers) c.self.view_is
