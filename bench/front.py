@@ -1,7 +1,7 @@
 #!/usr/bin/env python3
 """What tools/front takes: messages a second through it, and the time from a message to its answer.
 
-    front.py [PROGRAM] [--only WORD ..] [--stations N ..] [--seconds N]
+    front.py [PROGRAM | --library] [--only WORD ..] [--stations N ..] [--seconds N]
 
 WORD is one of these, and all of them where none is given:
   throughput  stations that each keep messages under way, as many as go; and the processor time of a message
@@ -10,7 +10,8 @@ WORD is one of these, and all of them where none is given:
   attaches    500 phones that attach through one station at the front's own rate, all begun at once
 
 Messages are S1 SETUP REQUESTs, 35 octets each, whose answers have 27; each connection is TCP on this machine. PROGRAM is
-../crates/mme/out/mme where none is given. Times are of the clock, so nothing else should run; the processor time is disturbed less.
+../crates/mme/out/mme where none is given; with --library the MME is in the front's own process, and so is its processor time. Times
+are of the clock, so nothing else should run; the processor time is disturbed less.
 """
 import argparse
 import collections
@@ -38,18 +39,20 @@ UNDER_WAY = 512  # messages that all stations together keep under way, but at le
 RATE, QUIET_RATE, PHONES = 20000, 100, 500
 TICKS = os.sysconf("SC_CLK_TCK")
 AT_WILL = ("--rate", "1000000")
+LIBRARY = object()  # in a program's place: the MME in the front's own process
 
 
 class Front:
     """A front that runs."""
 
     def __init__(self, program, head, *words):
+        mme = ("--library",) if program is LIBRARY else ("--mme", program)
         self.folder = tempfile.TemporaryDirectory()
         folder = pathlib.Path(self.folder.name)
         (folder / "subscribers").write_text(head)
         self.process = subprocess.Popen(
             [sys.executable, TOP / "tools" / "front", "run", folder / "subscribers", folder / "log", "--tcp", "--port", "0",
-             "--per-address", "128", "--setup-seconds", "3600", "--mme", program, *words], stderr=subprocess.PIPE, text=True)
+             "--per-address", "128", "--setup-seconds", "3600", *mme, *words], stderr=subprocess.PIPE, text=True)
         self.port = None
         for line in self.process.stderr:
             found = re.search(r"ready: stations at \S+ port (\d+)", line)
@@ -60,12 +63,12 @@ class Front:
             raise SystemExit("front.py: the front doesn't begin")
 
     def processes(self):
-        """The front's process and its MME's."""
+        """The front's process, and its MME's where that is another."""
         children = pathlib.Path("/proc/%d/task/%d/children" % (self.process.pid, self.process.pid)).read_text().split()
-        return self.process.pid, int(children[0])
+        return self.process.pid, *map(int, children[:1])
 
     def seconds(self):
-        """The processor time of the front, and of the MME."""
+        """The processor time of the front, and of the MME where that is another process."""
         found = []
         for pid in self.processes():
             fields = pathlib.Path("/proc/%d/stat" % pid).read_text().rpartition(")")[2].split()
@@ -172,8 +175,8 @@ def throughput(given):
         load = Load(front.port, count)
         before = front.seconds()
         times = load.at_will(given.seconds)
-        spent = [after - at for after, at in zip(front.seconds(), before)]
-        print("| %d | %d | %.1f | %.1f |" % (count, len(times) / given.seconds, *(1e6 * part / len(times) for part in spent)))
+        spent = ["%.1f" % (1e6 * (after - at) / len(times)) for after, at in zip(front.seconds(), before)]
+        print("| %d | %d | %s |" % (count, len(times) / given.seconds, " | ".join((spent + ["within"])[:2])))
         load.close()
         front.close()
 
@@ -239,7 +242,9 @@ def attaches(given):
 
 def main():
     words = argparse.ArgumentParser(description=__doc__, formatter_class=argparse.RawDescriptionHelpFormatter)
-    words.add_argument("program", metavar="PROGRAM", nargs="?", default=TOP / "crates" / "mme" / "out" / "mme")
+    mmes = words.add_mutually_exclusive_group()
+    mmes.add_argument("program", metavar="PROGRAM", nargs="?", default=TOP / "crates" / "mme" / "out" / "mme")
+    mmes.add_argument("--library", dest="program", action="store_const", const=LIBRARY)
     measures = {measure.__name__: measure for measure in (throughput, latency, flood, attaches)}
     words.add_argument("--only", nargs="+", choices=measures, default=list(measures))
     words.add_argument("--stations", nargs="+", type=int, default=[1, 10, 100])

@@ -92,6 +92,8 @@ class Playing:
     def step(self, text):
         """The step of an event's line, with the answers; nothing for a line of the head."""
         word, fields = runs.fields_of(text, runs.WORDS)
+        if runs.lacks_keys([text]):
+            raise runs.Fault(runs.NO_KEYS + ": so it can't be followed")
         if word in runs.PROVISIONING:
             self.imsis += [fields[0]] if word == "sub" else []
             self.give(text)

@@ -37,6 +37,11 @@ REFUSALS = {1: "the station isn't connected", 2: "the station is connected alrea
 NOT_UP, ALREADY_UP, UNKNOWN_IMSI = 1, 2, 5
 SYSTEM = pathlib.Path(__file__).resolve().parent.parent / "mme"
 
+# A log without keys (tools/fronting/keys.py): what stands there for XRES and for KASME, and how the lines begin that say where a
+# message had an XRES.
+NO_KEY, LEFT_OUT = "-", "# left out at octet "
+NO_KEYS = "the trace is a log without keys, which `tools/front fill` puts back"
+
 Event = collections.namedtuple("Event", "line word station octets ticks imsi", defaults=[None, None, None, None])
 Answer = collections.namedtuple("Answer", "word owner station octets imsi states fault", defaults=[None] * 6)
 Trace = collections.namedtuple("Trace", "head imsis events")
@@ -173,6 +178,11 @@ def read_trace(octets, name="trace"):
     lines_of(octets, name, read)
     head = octets.split(b"\n")[:events[0].line - 1] if events else octets.split(b"\n")
     return Trace(head, imsis, events)
+
+
+def lacks_keys(head):
+    """Whether a vector among the lines of a head has no keys."""
+    return any(line.startswith(b"vec ") and line.endswith(b" " + NO_KEY.encode()) for line in head)
 
 
 ANSWERS = {"out": 3, "refused": 1, "state": 4}
@@ -611,6 +621,8 @@ def output_of(program, text):
 
 def played(trace, program=SYSTEM):
     """The steps of a trace as the program answers them: after each event stands data for nobody, which is always refused."""
+    if lacks_keys(trace.head):
+        raise Fault(NO_KEYS)
     text, marks = marked(trace, b"data " + unknown_imsi(trace.imsis).encode())
     answers = iter(read_answers(output_of(program, text), "the program's answers"))
     steps, known = started(trace), certain_answers(trace)

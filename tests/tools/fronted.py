@@ -19,6 +19,7 @@ from fronting import command, saying
 del sys.path[0]
 
 PROGRAM = tools.TOP / "crates" / "mme" / "out" / "mme"
+LIBRARY = object()  # in a program's place: the MME in the front's own process
 IMSI, NOBODY = "001010000000001", "001010000000009"
 HEAD = "mme 001 01 8001 01 internet 1000000000 1000000000\nsub %s 0a000001 0a000064 00000001\n" % IMSI
 SLOW, MANY, ENDS, KILLS, BABBLES, HANGS = b"\xf0", b"\xf1", b"\xf2", b"\xf3", b"\xf4", b"\xf5"
@@ -127,7 +128,7 @@ class Running:
             program.write_text(STAND_IN)
             program.chmod(0o755)
         given = ["run", self.subscribers, self.log, link, "--port", "0", "--per-address", "128", "--setup-seconds", "3600",
-                 "--answer-seconds", "120", "--mme", program, *words]
+                 "--answer-seconds", "120", *(["--library"] if program is LIBRARY else ["--mme", program]), *words]
         self.process = subprocess.Popen([sys.executable, tools.TOP / "tools" / "front", *map(str, given)], stderr=subprocess.PIPE,
                                         preexec_fn=before)
         self.told, self.connections = b"", []

@@ -3,6 +3,7 @@ the program itself, where it is built: what phones are owed comes from bench/pho
 again."""
 import collections
 import contextlib
+import os
 import pathlib
 import random
 import resource
@@ -15,6 +16,7 @@ import tempfile
 import threading
 import time
 import unittest
+import unittest.mock
 
 import tools
 from fronted import BABBLES, ENDS, HEAD, IMSI, KILLS, MANY, NOBODY, PROGRAM, SLOW, Connected, Running, said
@@ -311,6 +313,7 @@ class Words(unittest.TestCase):
         self.assertEqual(status, wanted)
 
     def test_words(self):
+        self.enterContext(unittest.mock.patch.dict(os.environ, SOIZKADUR_LIBRARY="/nowhere/libsoizkadur.so.1"))
         with tempfile.TemporaryDirectory() as folder:
             subscribers, log = pathlib.Path(folder, "subscribers"), pathlib.Path(folder, "log")
             subscribers.write_text(HEAD)
@@ -333,6 +336,8 @@ class Words(unittest.TestCase):
                     ([*given, "--port", "0", "--control", folder + "/none/x"], "none/x: No such file"),
                     ([*given, "--port", "0", "--control", folder + "/" + "x" * 108], "path too long"),
                     ([*given, "--port", "0", "--mme", folder + "/none"], "none: No such file"),
+                    ([*given, "--port", "0", "--library"], "there is no library, which `./mme --library` builds"),
+                    ([*given, "--library", "--mme", "x"], "not allowed with"),
                     (["run", subscribers, subscribers, "--port", "0", "--tcp"], "there is one already"),
                     (["run", subscribers, folder, "--port", "0", "--tcp", "--keep", "1"], "isn't a file"),
                     (["ask", folder + "/none", "data", IMSI], "No such file"),
@@ -393,7 +398,7 @@ class Live(PHONES.Trace):
 
     def provision(self, phones):
         super().provision(phones)
-        self.running = Running(self.test, head=self.text(), program=PROGRAM)
+        self.running = Running(self.test, head=self.text(), program=self.test.program)
         asking = self.test.enterContext(socket.socket(socket.AF_UNIX))
         asking.connect(str(self.running.control))
         self.asking = self.test.enterContext(asking.makefile("rw"))
@@ -453,6 +458,8 @@ def life(phone, stations):
 
 @unittest.skipUnless(PROGRAM.exists(), "the program isn't built (./mme --prove)")
 class Round(unittest.TestCase):
+    program = PROGRAM  # of the front
+
     def flood(self, trace):
         """A third station, which sends what is no S1AP as fast as it can, and gets an answer to each; those who do it."""
         station = trace.stations[2] = trace.running.station()

@@ -320,6 +320,8 @@ class Talk:
 class GivenToPhones(unittest.TestCase):
     """What is given while the program itself runs, and phones that needed it."""
 
+    program = PROGRAM  # of the front
+
     def setUp(self):
         self.trace, self.station = PHONES.Trace(), PHONES.Station(0)
         self.phones = [PHONES.Phone(self.trace, slot, [PHONES.Vector.made("%d.%d" % (slot, place)) for place in range(2)])
@@ -329,7 +331,7 @@ class GivenToPhones(unittest.TestCase):
     def running(self, withheld):
         """A front that is provisioned without these lines, a station that is set up there, and its talk."""
         lines = self.trace.text().splitlines()
-        running = Running(self, head="".join(line + "\n" for line in lines if line not in withheld), program=PROGRAM)
+        running = Running(self, head="".join(line + "\n" for line in lines if line not in withheld), program=self.program)
         talk = Talk(self, self.trace, running)
         self.trace.set_up(self.station)
         return running, talk

@@ -9,6 +9,7 @@ import struct
 import sys
 import tempfile
 import time
+import types
 import unittest
 
 import tools
@@ -21,10 +22,15 @@ PHONES = tools.module("bench/phones.py")
 import runs as RUNS
 from fronting import giving, journal, limits, links, provisioning, sctp, segments
 from fronting.faults import Failed
+from fronting.loop import Loop
 from fronting.meters import Meters
+from fronting.mme import LibraryMme
 from fronting.notify import Manager
 from fronting.pace import Pace
 del sys.path[:2]
+sys.path.insert(0, str(tools.TOP / "python"))
+import soizkadur
+del sys.path[0]
 
 SETUP = bytes.fromhex("201100170000020069000b000000f11000008001000100574001ff")  # S1 SETUP RESPONSE
 ERROR = bytes.fromhex("000f40070000010002400110")  # ERROR INDICATION with a cause (TS 36.413 clause 9.1.8.3)
@@ -294,6 +300,81 @@ class Counting(unittest.TestCase):
         lines = pathlib.Path(folder, "log.counts").read_text().splitlines()
         self.assertEqual([line for line in lines[2:] if line[0] != "#"], ["tick 3", "up 0", "tick 8", "lost 0"])
         self.assertEqual(lines[-1], "# settled until segment 1, octet %d" % made.happened.place[1])
+
+
+class Echo:
+    """An MME of the package: answers each line by itself, slowly at one that asks for it, and refuses what is a number."""
+    is_open = True
+
+    def answers(self, line):
+        if line.isdigit():
+            raise soizkadur.Refused(int(line))
+        time.sleep(limits.LIBRARY_SECONDS if line == b"slow" else 0)
+        return [line.decode()] if line != b"quiet" else []
+
+    def close(self):
+        self.is_open = False
+
+
+class InProcess(unittest.TestCase):
+    """An MME in the front's process, which isn't the library's here."""
+
+    def setUp(self):
+        self.loop, self.heard, self.said, self.ends = Loop(), [], [], []
+        self.addCleanup(self.loop.close)
+        package = types.SimpleNamespace(Mme=Echo, Refused=soizkadur.Refused, Refusal=soizkadur.Refusal)
+        self.mme = LibraryMme(package, self.loop, self.heard.append, lambda event, text: self.said.append((event, text)))
+        self.mme.end = self.ends.append
+
+    def turn(self, count=20):
+        """Turns of the loop, each with something else to do."""
+        for _ in range(count):
+            self.loop.after(0, lambda: None)
+            self.loop.turn()
+
+    def test_answers(self):
+        """What it is given is answered in later turns, in its order; it ends once it has played all."""
+        self.mme.give(b"a\nquiet\nb\n")
+        self.mme.give(b"c\n")
+        self.assertEqual((self.heard, self.mme.size), ([], 12))
+        self.turn()
+        self.assertEqual((b"".join(self.heard), self.mme.size, self.ends), (b"a\nb\nc\n", 0, []))
+        self.mme.give(b"d\n")
+        self.mme.finish()
+        self.mme.give(b"late\n")
+        self.turn()
+        self.assertEqual((b"".join(self.heard), self.ends), (b"a\nb\nc\nd\n", [0]))
+        self.assertEqual((self.mme.status, self.mme.is_silent, self.mme.mme.is_open, self.said), (0, True, False, []))
+
+    def test_turns(self):
+        """It plays for a while in each turn, so that others have theirs."""
+        self.mme.give(b"slow\n" * 3 + b"a\n")
+        self.turn(1)
+        self.assertEqual(len(self.heard), 1)
+        self.turn()
+        self.assertEqual(self.heard, [b"slow\n"] * 3 + [b"a\n"])
+
+    def test_faults(self):
+        """A line that is wrong, and want of memory, end it as they end the program, after the answers of before."""
+        for refusal, told, status in ((soizkadur.Refusal.UNKNOWN_WORD, "line 3: fault 1", 1),
+                                      (soizkadur.Refusal.PROVISION, "line 3: fault 7", 1),
+                                      (soizkadur.Refusal.NO_MEMORY, "out of memory", 4),
+                                      (soizkadur.Refusal.LOST, "out of memory", 4)):
+            with self.subTest(refusal=refusal):
+                self.setUp()
+                self.mme.give(b"a\nb\n%d\nc\n" % refusal)
+                self.turn()
+                self.assertEqual((self.heard, self.said, self.ends), ([b"a\nb\n"], [("mme", "mme: " + told)], [status]))
+
+    def test_ends(self):
+        """One that is killed or closed plays no more, and one that is closed tells nobody."""
+        for act, ends in ((self.mme.kill, [-9]), (None, [])):
+            if act is None:
+                self.setUp()
+            self.mme.give(b"a\n")
+            (act or self.mme.close)()
+            self.turn()
+            self.assertEqual((self.heard, self.ends, self.mme.status), ([], ends, -9))
 
 
 class Comparing(unittest.TestCase):

@@ -200,15 +200,21 @@ def run_of(trace_path, answers_path, program=None, most=None):
     """A run by the paths of its trace and answers, as runs.run_of has them; answers that are given go to the events that owe them
     by the standards.
 
-    Where there are more than `most` events, the run isn't told, and answers are matched by their kinds alone, which is quicker.
+    Where there are more than `most` events, or the trace is a log without keys, the run isn't told, and answers are matched by
+    their kinds alone, which is quicker. Where it has to be told, with no `most`, a log without keys is a fault.
     """
     if answers_path is None or "-" == trace_path == answers_path:
         trace, steps = runs.run_of(trace_path, answers_path, program)
-        return Run(trace, steps) if is_beyond(steps, most) else told_run(trace, steps)
+        return Run(trace, steps) if why_untold(trace, most) else told_run(trace, steps)
     trace = runs.read_trace(runs.read_file(trace_path), trace_path)
     answers = runs.read_answers(runs.read_file(answers_path), answers_path)
-    return Run(trace, runs.matching(trace, answers)) if is_beyond(trace.events, most) else matched_run(trace, answers)
+    return Run(trace, runs.matching(trace, answers)) if why_untold(trace, most) else matched_run(trace, answers)
 
 
-def is_beyond(events, most):
-    return most is not None and len(events) > most
+def why_untold(trace, most=MOST_TOLD):
+    """Why a run isn't told, or nothing where it is."""
+    if runs.lacks_keys(trace.head):
+        if most is None:
+            raise runs.Fault(runs.NO_KEYS)
+        return runs.NO_KEYS
+    return "%d events" % len(trace.events) if most is not None and len(trace.events) > most else None

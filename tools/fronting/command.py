@@ -3,7 +3,9 @@ import argparse
 import contextlib
 import ipaddress
 import json
+import os
 import socket
+import sys
 import time
 
 import runs
@@ -13,10 +15,12 @@ from fronting import limits
 from fronting.exchange import END, GO_ON, REFUSE
 from fronting.faults import WRONG, told
 from fronting.front import Front
+from fronting.keys import NO, YES, Filling, read_vectors
 from fronting.listening import ControlSocket, listener_of, page_listener_of
 from fronting.page import Page
 from fronting.provisioning import read_head
 from fronting.saying import Voice
+from fronting.segments import whole_series
 
 S1AP_PORT = 36412  # TS 36.412 clause 7
 OF_PHONE, OF_FILE, OF_FRONT = ("data", "cancel", "show"), ("give",), ("stations", "phones", "counters")
@@ -26,6 +30,8 @@ def run(given):
     """Runs the front by these words."""
     given.control = given.control or given.log + ".control"
     given.listen = given.listen or [address_of("127.0.0.1")]
+    if given.log_keys == NO:
+        os.environ.pop("MME_EXPLAIN", None)  # by which `mme` says a line that is wrong, with the keys in it
     voice = Voice(given.log_form == "json")
     try:
         head = read_head(runs.read_file(given.subscribers), given.subscribers, given.code)
@@ -111,6 +117,25 @@ def ask(given):
     return 0 if word.strip() in ("taken", "state", "given", *OF_FRONT) else 1
 
 
+# --- A log without keys ---
+
+
+def fill(given):
+    """Prints a log with the keys of a file's vectors."""
+    try:
+        filling = Filling(read_vectors(given.vectors))
+        for path in whole_series(given.log):
+            with open(path, "rb") as file:
+                sys.stdout.buffer.writelines(filling.whole(line for line in file if line.endswith(b"\n")))
+        sys.stdout.flush()
+        return 0
+    except BrokenPipeError:
+        sys.stderr.close()
+    except (OSError, runs.Fault) as fault:
+        print("front: %s" % (fault if isinstance(fault, runs.Fault) else "%s: %s" % (given.log, told(fault))), file=sys.stderr)
+    return WRONG
+
+
 # --- Words ---
 
 
@@ -179,6 +204,9 @@ def add_log(words):
     """The words on the log, and what the front says."""
     words.add_argument("--keep", type=whole(0, 99), default=0, metavar="N", help="older logs to keep, as LOG.1 to LOG.N")
     words.add_argument("--resume", action="store_true", help="play the last log first and go on after it, where it is whole")
+    words.add_argument("--log-keys", choices=(YES, NO), default=YES,
+                       help="whether the log keeps XRES and KASME of vectors; without them it plays once `fill` has put them back, "
+                       "and --resume needs the SUBSCRIBERS that it was begun with; yes where not given")
     words.add_argument("--segment-size", type=whole(1, 4096), default=limits.SEGMENT_SIZE, metavar="MIB",
                        help="of a segment of the log; %d MiB where not given" % limits.SEGMENT_SIZE)
     words.add_argument("--segments", type=whole(2, 10000), default=limits.SEGMENTS, metavar="N",
@@ -194,7 +222,7 @@ def parser(description):
     words = argparse.ArgumentParser(description=description,
                                     epilog="`tools/front run --help` has the options and the limits.", **form)
     versions.add_to(words)
-    ways = words.add_subparsers(required=True, metavar="run|ask")
+    ways = words.add_subparsers(required=True, metavar="run|ask|fill")
     live = ways.add_parser("run", help="take stations", epilog=limits.LIMITS, **form)
     live.add_argument("subscribers", metavar="SUBSCRIBERS", help="a file with the lines mme, sub and vec")
     live.add_argument("log", metavar="LOG", help="the file that gets the trace")
@@ -204,7 +232,10 @@ def parser(description):
     live.add_argument("--answer-seconds", type=seconds, default=limits.ANSWER_SECONDS, metavar="SECONDS",
                       help="that the MME may owe an answer; then the front ends with status 76")
     live.add_argument("--second", type=seconds, default=1.0, metavar="SECONDS", help="the length of a tick, for tests")
-    live.add_argument("--mme", metavar="PROGRAM", default=runs.SYSTEM, help="the program to run, for ./mme")
+    mmes = live.add_mutually_exclusive_group()
+    mmes.add_argument("--mme", metavar="PROGRAM", default=runs.SYSTEM, help="the program to run, for ./mme")
+    mmes.add_argument("--library", action="store_true",
+                      help="have the MME in the front's own process, by the library of `./mme --library`, in place of a program")
     live.set_defaults(act=run)
     asking = ways.add_parser("ask", help="ask a front that runs", **form)
     asking.add_argument("control", metavar="CONTROL", help="its control socket")
@@ -214,6 +245,10 @@ def parser(description):
     asking.add_argument("--json", action="store_true", help="print what is told of the front as JSON")
     asking.add_argument("--wait", type=seconds, default=0.0, metavar="SECONDS", help="for a front that only begins")
     asking.set_defaults(act=ask)
+    filling = ways.add_parser("fill", help="print a log without keys with the keys of a file", **form)
+    filling.add_argument("vectors", metavar="VECTORS", help="a file with the lines vec, as SUBSCRIBERS")
+    filling.add_argument("log", metavar="LOG", help="the log, with its earlier segments")
+    filling.set_defaults(act=fill)
     return words
 
 

@@ -13,7 +13,7 @@ from fronting import limits
 from fronting.faults import BABBLES, Ended, Failed, LOG_FAILS, SILENT, told
 from fronting.journal import Batch
 from fronting.meters import ERROR_INDICATION, SETUP_RESPONSE
-from fronting.mme import MARK_ANSWER, Program
+from fronting.mme import MARK_ANSWER
 
 OUT, STATION_OWNER, OWNERS = b"out ", ord("e"), b"esx"
 NUMBERS = {b"%d" % number: number for number in range(runs.STATIONS)}
@@ -25,7 +25,7 @@ class Exchange:
 
     def __init__(self, loop, voice, meters, full_disk=END):
         self.loop, self.voice, self.meters, self.full_disk = loop, voice, meters, full_disk
-        self.journal = self.program = self.name = self.mark = None
+        self.journal = self.program = self.make = self.mark = None
         self.batch, self.closed, self.marks = Batch(), [], collections.deque()
         self.receivers = dict.fromkeys(NUMBERS)  # by number, who gets what is sent for it
         self.shows = collections.deque()  # whom the next states are for
@@ -36,14 +36,14 @@ class Exchange:
 
     # To the MME.
 
-    def begin(self, name, head):
-        """Starts the MME with this head."""
-        self.name, self.mark = name, b"data %s\n" % head.unknown_imsi().encode()
-        self.adopt(Program(self.loop, name, self.hear, self.voice.say))
+    def begin(self, make, head):
+        """Starts the MME with this head; `make` makes one, by the loop, what hears its answers, and what hears its words."""
+        self.make, self.mark = make, b"data %s\n" % head.unknown_imsi().encode()
+        self.adopt(make(self.loop, self.hear, self.voice.say))
         self.program.give(head.text.encode("latin-1"))
 
     def adopt(self, program):
-        """From now on this program is the MME."""
+        """From now on this one is the MME."""
         self.program = program
         program.hear, program.end, self.rest = self.hear, self.end, b""
         self.heard_at = time.monotonic()

@@ -1,4 +1,5 @@
 """The front: gives the MME what stations send, and them what it answers."""
+import functools
 import gc
 import os
 import select
@@ -12,8 +13,10 @@ from fronting.exchange import Exchange
 from fronting.faults import SILENT, Ended, Failed
 from fronting.giving import Giving
 from fronting.journal import Journal
+from fronting.keys import Missing, form_of
 from fronting.loop import Loop
 from fronting.meters import Meters
+from fronting.mme import LibraryMme, PipedMme, library
 from fronting.notify import Manager
 from fronting.resuming import NoResume, Standing, make_way, note_stations
 
@@ -32,6 +35,8 @@ class Front:
         self.exchange = self.crowd = self.control = self.page = self.giving = None
         self.is_over, self.is_busy = False, False
         self.resumed, self.given = 0, 0
+        self.form = form_of(settings.log_keys, head)  # of the log, as it begins
+        self.make = functools.partial(*((LibraryMme, library()) if settings.library else (PipedMme, settings.mme)))
 
     # The beginning.
 
@@ -40,7 +45,7 @@ class Front:
         more = self.resume() if self.settings.resume and os.path.exists(self.settings.log) else None
         if more is None:
             make_way(self.settings.log, self.settings.keep)
-            journal = Journal.begun(self.settings.log, self.head, *self.log_size)
+            journal = Journal.begun(self.settings.log, self.head, *self.log_size, self.form)
             self.start(self.head)
             self.exchange.journal = journal
             self.exchange.replay(b"")
@@ -53,7 +58,7 @@ class Front:
 
     def start(self, head):
         self.exchange = Exchange(self.loop, self.voice, self.meters, self.settings.full_disk)
-        self.exchange.begin(self.settings.mme, head)
+        self.exchange.begin(self.make, head)
 
     def wait(self):
         """Waits until the MME has answered all that it was given."""
@@ -75,16 +80,15 @@ class Front:
         """Plays the log that stands, and goes on after it. The lines of provisioning that came since; nothing where it can't be."""
         try:
             standing = Standing(self.settings.log)
-            if not standing.head.is_beginning_of(self.head):
-                raise NoResume("%s begins with other lines than %s" % (self.settings.log, self.settings.subscribers))
-            up = self.play(standing)
-        except (NoResume, Ended) as fault:
+            head = self.head_after(standing)
+            up = self.play(standing, head)
+        except (NoResume, Missing, Ended) as fault:
             self.voice.say("not_resumed", "the last run isn't resumed, and nobody is attached: %s" % fault)
             if self.exchange is not None:
                 self.exchange.program.close()
             return None
         seconds = standing.seconds_since()
-        self.exchange.journal = standing.journal(*self.log_size)
+        self.exchange.journal = standing.journal(*self.log_size, self.form)
         for batch in self.tail:
             self.exchange.journal.settle(batch)
         self.exchange.put("# resumed")
@@ -95,26 +99,38 @@ class Front:
         self.exchange.flush()
         self.wait()
         self.resumed = 1
-        more = self.head.facts[len(standing.head.facts):]
-        self.head = standing.head
+        more = self.head.facts[len(head.facts):]
+        self.head = head
         self.voice.say("resumed", "the run of %s goes on: %d stations were lost, %d s passed"
                        % (self.settings.log, len(up), seconds), stations=len(up), seconds=seconds)
         return more
 
-    def play(self, standing):
+    def head_after(self, standing):
+        """The head to go on with after a log, whose lines those of the subscribers' file begin with."""
+        log, subscribers = self.settings.log, self.settings.subscribers
+        if standing.has_keys != self.form.has_keys:
+            stands, wanted = ("the vectors' keys" if form.has_keys else "no keys" for form in (standing, self.form))
+            raise NoResume("%s keeps %s, and this run's log is to keep %s (--log-keys)" % (log, stands, wanted))
+        head = self.form.taken_up(standing.head, self.head)
+        if head is None:
+            raise NoResume("%s begins with other lines than %s%s" % (
+                log, subscribers, "" if standing.has_keys else ", and has no keys: each of its vectors has to stand there"))
+        return head
+
+    def play(self, standing, head):
         """Gives the MME what counts of a log, and what happened since that was settled; the stations that were connected."""
-        up = set()
-        self.start(standing.head)
+        up, fill = set(), self.form.filling()
+        self.start(head)
         exchange, exchange.is_replaying = self.exchange, True
         for piece in standing.events():
             note_stations(piece, up)
-            exchange.replay(piece)
+            exchange.replay(fill(piece))
             while exchange.program.size and not self.is_over:
                 self.turn_before_stations()
         exchange.replay(b"")
         self.wait()
         exchange.is_replaying = False
-        self.tail = standing.tail_batches()
+        self.tail = standing.tail_batches(fill)
         for batch, octets in zip(self.tail, standing.tail):
             note_stations(octets, up)
             exchange.shows.extend([lambda answer: None] * sum(line.startswith("show ") for line in batch.lines))

@@ -12,7 +12,7 @@ import runs
 import s1ap
 
 from fronting import limits
-from fronting.mme import MARK_ANSWER, Program
+from fronting.mme import MARK_ANSWER
 from fronting.segments import NUMBERED, name_of
 
 MARK = MARK_ANSWER + b"\n"
@@ -121,7 +121,8 @@ class Giving:
         imsis = {line.split(" ")[1] for line in lines if line and not line.startswith("#")}
         self.told = "%d subscribers, %d vectors" % tuple(sum(line.startswith(word) for line in lines) for word in ("sub ", "vec "))
         self.comparison = Comparison(imsis, self.head.slots)
-        self.reading = Reading(front.exchange.journal.counts)
+        self.form = front.exchange.journal.form.of(self.head)  # of the log with the longer head
+        self.reading, self.fill = Reading(front.exchange.journal.counts), self.form.filling()
         self.mark = b"data %s\n" % self.head.unknown_imsi().encode()
         self.given, self.pieces = 0, collections.deque()
         self.is_holding = self.is_settled = self.is_over = False
@@ -135,7 +136,7 @@ class Giving:
         def hear(piece):
             answers.extend(piece)
             self.go_on()
-        program = Program(self.front.loop, self.front.exchange.name, hear, self.front.voice.say)
+        program = self.front.exchange.make(self.front.loop, hear, self.front.voice.say)
         program.end = lambda status: self.refuse("the second MME ended with status %d" % status)
         program.give(head.text.encode("latin-1"))
         return program
@@ -168,7 +169,7 @@ class Giving:
         if piece:
             self.given += piece.count(b"\n")
             self.pieces.append((self.given, piece))
-            marked = piece.replace(b"\n", b"\n" + self.mark)
+            marked = self.fill(piece).replace(b"\n", b"\n" + self.mark)
             self.old.give(marked)
             self.new.give(marked)
             self.front.loop.after(0, self.go_on)
@@ -196,7 +197,7 @@ class Giving:
     def change_over(self):
         """The second MME is the MME from now on."""
         exchange, front = self.front.exchange, self.front
-        exchange.journal.lengthen(self.head)
+        exchange.journal.lengthen(self.head, self.form)
         before, front.head, exchange.mark = exchange.program, self.head, self.mark
         exchange.adopt(self.new)
         before.close()

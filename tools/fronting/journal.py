@@ -9,6 +9,7 @@ import re
 import time
 
 from fronting import limits
+from fronting.keys import Whole
 from fronting.segments import Series
 
 UNTIL = re.compile(rb"# settled until segment (\d+), octet (\d+)\n")
@@ -22,12 +23,13 @@ def clock():
 
 class Batch:
     """Lines that the MME is given together, and what is known of the answers. `heard` has how many messages came from each
-    station, `errors` how many of them were answered by an ERROR INDICATION to the station alone."""
+    station, `errors` how many of them were answered by an ERROR INDICATION to the station alone, and `logged` what the log has of
+    each line, where that isn't the line."""
 
-    __slots__ = ("lines", "owners", "heard", "errors", "given", "after", "place", "time", "answers", "has_ticks")
+    __slots__ = ("lines", "logged", "owners", "heard", "errors", "given", "after", "place", "time", "answers", "has_ticks")
 
     def __init__(self):
-        self.lines, self.owners, self.heard, self.errors, self.has_ticks = [], [], {}, {}, False
+        self.lines, self.logged, self.owners, self.heard, self.errors, self.has_ticks = [], None, [], {}, {}, False
         self.given, self.after, self.place, self.time, self.answers = 0.0, [], None, None, 0
 
     def add(self, line, station=None):
@@ -37,27 +39,30 @@ class Batch:
         self.has_ticks = self.has_ticks or line.startswith("tick ")
 
     def counting(self):
-        """The lines that count: all but those of stations whose every message was answered by an ERROR INDICATION."""
+        """What the log has of the lines that count: of all but those of stations whose every message was answered by an ERROR
+        INDICATION."""
+        lines = self.lines if self.logged is None else self.logged
         idle = {number for number, count in self.heard.items() if self.errors.get(number) == count}
         if not idle:
-            return self.lines
-        return [line for line, owner in zip(self.lines, self.owners) if owner not in idle]
+            return lines
+        return [line for line, owner in zip(lines, self.owners) if owner not in idle]
 
 
 class Journal:
-    """Both series, one of what happened and one of what counts."""
+    """Both series, one of what happened and one of what counts, in a form (keys.py)."""
 
-    def __init__(self, happened, counts):
-        self.happened, self.counts = happened, counts
+    def __init__(self, happened, counts, form):
+        self.happened, self.counts, self.form = happened, counts, form
         self.settled, self.ticks, self.octets = [], 0, 0  # what counts and isn't written yet; ticks in a row at its end
         self.until, self.written, self.due = happened.place, happened.place, time.monotonic()
         self.last_time, self.gone = None, []
 
     @classmethod
-    def begun(cls, path, head, size, most):
+    def begun(cls, path, head, size, most, form=Whole()):
         """A log of a run that begins, with nothing before it."""
-        octets = head.text.encode("latin-1")
-        return cls(Series(path, "what happened", size, most, octets), Series(path + ".counts", "what counts", size, most, octets))
+        octets = form.text(head).encode("latin-1")
+        return cls(Series(path, "what happened", size, most, octets, form.note),
+                   Series(path + ".counts", "what counts", size, most, octets, form.note), form)
 
     def add(self, batches):
         """Writes what the MME is about to be given."""
@@ -69,9 +74,9 @@ class Journal:
         place = self.happened.place
         length = sum(map(len, text)) + len(text)
         for batch in batches:
-            batch.time = now
-            text += batch.lines
-            length += sum(map(len, batch.lines)) + len(batch.lines)
+            batch.time, batch.logged = now, self.form.written(batch.lines)
+            text += batch.logged
+            length += sum(map(len, batch.logged)) + len(batch.logged)
             ends.append(length)
         if text:
             self.happened.add(("\n".join(text) + "\n").encode("latin-1"))
@@ -135,9 +140,10 @@ class Journal:
         gone, self.gone = self.gone, []
         return gone
 
-    def lengthen(self, head):
-        """Both series have this head from now on."""
-        octets = head.text.encode("latin-1")
+    def lengthen(self, head, form):
+        """Both series have this head from now on, in the form that it brings."""
+        self.form = form
+        octets = form.text(head).encode("latin-1")
         if self.happened.is_whole:
             self.happened.lengthen(octets)
         self.counts.lengthen(octets)

@@ -1,11 +1,14 @@
-"""The MME: `mme play` as a process of its own, which is given lines and answers them."""
+"""The MME, which is given lines and answers them: `mme play` as a process of its own, or in this process by the library."""
 import collections
 import contextlib
 import fcntl
 import os
+import pathlib
 import select
 import signal
 import subprocess
+import sys
+import time
 
 import runs
 
@@ -14,21 +17,36 @@ from fronting.faults import Failed, WRONG, told
 
 PIPE_OCTETS = 1 << 20
 MARK_ANSWER = b"refused %d" % runs.UNKNOWN_IMSI
+PACKAGE = pathlib.Path(__file__).resolve().parents[2] / "python"  # where a clone has the package soizkadur
+LINE_IS_WRONG, OUT_OF_MEMORY = 1, 4  # what the program ends with (README.md, "How it ends")
 
 
-class Program:
+class Mme:
+    """What an MME is to the front: `give` and `finish` for what it is given, `hear` for a piece of its answers, `say` for its
+    words, `end` for its end. It has ended once there is a status and it is silent; `pid` is the process that it is in."""
+
+    def __init__(self, loop, hear, say):
+        self.loop, self.hear, self.say = loop, hear, say
+        self.end = lambda status: None
+        self.pid, self.status, self.is_silent = os.getpid(), None, False
+        self.waiting, self.size, self.is_last = collections.deque(), 0, False  # what it is to be given, and its octets
+
+    def is_over(self):
+        if self.is_silent and self.status is not None:
+            self.end(self.status)
+
+
+class PipedMme(Mme):
     """A process that reads lines and writes answers, over pipes that don't block."""
 
-    def __init__(self, loop, program, hear, say):
-        self.loop, self.hear, self.say = loop, hear, say  # what is done with a piece of answers, and with what it says
-        self.end = lambda status: None
+    def __init__(self, program, loop, hear, say):
+        super().__init__(loop, hear, say)
         try:
             self.process = subprocess.Popen([program, "play"], stdin=subprocess.PIPE, stdout=subprocess.PIPE,
                                             stderr=subprocess.PIPE, start_new_session=True)
         except OSError as fault:
             raise Failed("%s: %s" % (program, told(fault)), WRONG) from None
-        self.pid, self.status, self.is_silent = self.process.pid, None, False
-        self.waiting, self.size, self.is_writable, self.is_last = collections.deque(), 0, True, False
+        self.pid, self.is_writable = self.process.pid, True
         pipes = self.process.stdin, self.process.stdout, self.process.stderr
         self.given, self.answers, self.says = (pipe.fileno() for pipe in pipes)
         for pipe in (self.given, self.answers, self.says):
@@ -120,10 +138,6 @@ class Program:
         self.is_silent = True
         self.is_over()
 
-    def is_over(self):
-        if self.is_silent and self.status is not None:
-            self.end(self.status)
-
     def kill(self, number=signal.SIGKILL):
         """Sends it a signal, and what it started."""
         if self.status is None:
@@ -142,3 +156,97 @@ class Program:
         self.process.stdout.close()
         self.process.stderr.close()
         os.close(self.exit)
+
+
+# --- In this process ---
+
+
+def library():
+    """The package soizkadur, of this clone or an installed one, with its shared object."""
+    if str(PACKAGE) not in sys.path:
+        sys.path.append(str(PACKAGE))
+    try:
+        import soizkadur
+        soizkadur.version()
+    except ImportError as fault:
+        raise Failed("there is no library, which `./mme --library` builds (docs/LIBRARY.md): %s" % fault, WRONG) from None
+    return soizkadur
+
+
+class LibraryMme(Mme):
+    """An MME of the library. What it is given it plays in later turns of the loop, a while in each."""
+
+    def __init__(self, package, loop, hear, say):
+        super().__init__(loop, hear, say)
+        self.library, self.mme = package, package.Mme()
+        self.played, self.timer = 0, None  # how many lines were played, and what plays the next
+
+    # To the library.
+
+    def give(self, octets):
+        """Gives it whole lines."""
+        if self.status is None and not self.is_last:
+            self.waiting.extend(octets.split(b"\n")[:-1])
+            self.size += len(octets)
+            self.go_on()
+
+    def finish(self):
+        """Ends what it is given, once it has played all."""
+        self.is_last = True
+        self.go_on()
+
+    def go_on(self):
+        """Has it play on in the next turn."""
+        if self.timer is None and self.status is None:
+            self.timer = self.loop.after(0, self.play)
+
+    def play(self):
+        """Plays lines for a while, and hands on their answers."""
+        self.timer, answers, fault, end = None, [], None, time.monotonic() + limits.LIBRARY_SECONDS
+        while self.waiting and fault is None and time.monotonic() < end:
+            line = self.waiting.popleft()
+            self.played += 1
+            self.size -= len(line) + 1
+            try:
+                answers += self.mme.answers(line)
+            except self.library.Refused as refused:
+                fault = refused.refusal
+        if answers:
+            self.hear("".join([answer + "\n" for answer in answers]).encode())
+        if self.status is not None:
+            return
+        if fault is not None:
+            self.fail(fault)
+        elif self.waiting:
+            self.go_on()
+        elif self.is_last:
+            self.has_ended(0)
+
+    # Its end.
+
+    def fail(self, fault):
+        """Ends as the program does at a line that is wrong, and for want of memory, with the program's words."""
+        kinds = self.library.Refusal
+        if fault in (kinds.NO_MEMORY, kinds.LOST):
+            self.say("mme", "mme: out of memory")
+            self.has_ended(OUT_OF_MEMORY)
+        else:
+            self.say("mme", "mme: line %d: fault %d" % (self.played, fault - kinds.UNKNOWN_WORD + 1))
+            self.has_ended(LINE_IS_WRONG)
+
+    def has_ended(self, status):
+        if self.status is None:
+            self.status, self.is_silent = status, True
+            if self.timer is not None:
+                self.timer.cancel()
+            self.mme.close()
+            self.is_over()
+
+    def kill(self, number=signal.SIGKILL):
+        """Ends it with what it still was to play, as by a signal."""
+        self.has_ended(-number)
+
+    def close(self):
+        """Ends it, and all that it was known by."""
+        self.end = lambda status: None
+        self.kill()

@@ -49,6 +49,8 @@ def imsi_of_further(line, known, facts):
     imsi = runs.imsi_of(fields[0])
     for field in fields[1:]:
         runs.octets_of(field)
+    if runs.NO_KEY in fields:
+        raise runs.Fault("it has no keys: they were left out of a log")
     if line in facts:
         raise runs.Fault("it stands already")
     if (word == "sub") == (imsi in known):
@@ -64,6 +66,8 @@ def read_head(octets, name, code=None):
     lines = octets.decode("latin-1").removesuffix("\n").split("\n")
     if not any(line.startswith("mme ") for line in lines):
         raise Failed("%s: there is no line mme" % name, WRONG)
+    if runs.lacks_keys(trace.head):
+        raise Failed("%s: a vector has no keys: they were left out of a log" % name, WRONG)
     head = Head(lines)
     if code is not None and head.mme[4].lower() != code.lower():
         raise Failed("%s: the MME code is %s, not %s" % (name, head.mme[4], code), WRONG)

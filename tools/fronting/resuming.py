@@ -9,6 +9,7 @@ import time
 import runs
 
 from fronting.journal import UNTIL, Batch, Journal, clock
+from fronting.keys import Keyless
 from fronting.provisioning import Head
 from fronting.segments import NUMBERED, Series, name_of, older_segments
 
@@ -17,6 +18,7 @@ SETTLED, TIME = b"# settled until segment ", b"# time "
 CHANGES = re.compile(rb"^(up|lost) (\d+)$", re.MULTILINE)
 PIECE = 1 << 18  # octets that the MME is given at once
 OTHERS = (".counts",)  # what belongs to a log, after its name
+COMMENTS = (runs.LEFT_OUT, "# came protected: ")  # how lines begin that are about the message below them
 
 
 class NoResume(Exception):
@@ -83,6 +85,19 @@ def read_series(path):
     return {**found, int(own[1]): current}
 
 
+def entries_of(text):
+    """The lines of a log, each after the comments that are about it; without its times and numbers."""
+    entries, comments = [], []
+    for line in text.splitlines():
+        if line.startswith(COMMENTS):
+            comments.append(line)
+            continue
+        if not line.startswith(("# time ", "# segment ")):
+            entries.append("\n".join([*comments, line]))
+        comments = []
+    return entries
+
+
 class Standing:
     """A log that stands: its head, what counts, and what happened since that was settled."""
 
@@ -95,7 +110,7 @@ class Standing:
         if list(self.counts) != list(range(1, len(self.counts) + 1)):
             raise NoResume("%s.counts isn't whole: its segments are %s" % (path, ", ".join(map(str, self.counts))))
         first = NUMBERED.search(self.counts[1])
-        self.start = first.end()
+        self.start, self.has_keys = first.end(), not first[0].endswith(Keyless.note.encode() + b"\n")
         try:
             self.head = Head(self.counts[1][:first.start()].decode("latin-1").removesuffix("\n").split("\n"))
         except (StopIteration, IndexError):
@@ -152,30 +167,29 @@ class Standing:
                 return max(0, min(int((now - then).total_seconds()), runs.LONGEST_TICK))
         return 0
 
-    def tail_batches(self):
-        """The tail as batches whose answers settle it."""
+    def tail_batches(self, fill):
+        """The tail as batches whose answers settle it; `fill` puts back what the log leaves out."""
         batches = []
         for octets, place in zip(self.tail, self.tail_places):
             batch = Batch()
-            for line in octets.decode("latin-1").splitlines():
-                if line.startswith(("# time ", "# segment ")):
-                    continue
-                word, _, rest = line.partition(" ")
+            batch.logged = entries_of(octets.decode("latin-1"))
+            for entry in batch.logged:
+                word, _, rest = entry.rpartition("\n")[2].partition(" ")
                 number = int(rest.partition(" ")[0]) if word == "in" else None
-                batch.add(line, number)
+                batch.add(fill(entry.encode("latin-1")).decode("latin-1"), number)
                 if number is not None:
                     batch.heard[number] = batch.heard.get(number, 0) + 1
             batch.place, batch.time, batch.given = place, clock(), time.monotonic()
             batches.append(batch)
         return batches
 
-    def journal(self, size, most):
+    def journal(self, size, most, form):
         """The log, to be written on: without what a crash left half written."""
         for path, end in ((self.path, self.happened_end), (self.path + ".counts", self.counts_end)):
             os.truncate(path, end)
         journal = Journal(
-            Series.taken_up(self.path, "what happened", size, most, max(self.happened), min(self.happened)),
-            Series.taken_up(self.path + ".counts", "what counts", size, most, len(self.counts), 1))
+            Series.taken_up(self.path, "what happened", size, most, max(self.happened), min(self.happened), form.note),
+            Series.taken_up(self.path + ".counts", "what counts", size, most, len(self.counts), 1, form.note), form)
         journal.happened.is_whole = list(self.happened) == list(range(1, len(self.happened) + 1))
         journal.until = journal.written = self.settled_until()
         return journal

@@ -7,9 +7,12 @@ import pathlib
 import re
 import time
 
+import runs
+
 from fronting.faults import Failed, LOG_FAILS, WRONG, told
 
 NUMBERED = re.compile(rb"^# segment (\d+), begun .*\n", re.MULTILINE)
+NUMBERED_LINE = re.compile(r"# segment \d+, begun ")  # the beginning of such a line
 DIGITS = 6
 
 
@@ -18,9 +21,9 @@ def name_of(path, number):
     return "%s.segment.%0*d" % (path, DIGITS, number)
 
 
-def line_of(number):
-    """The line of a segment's number."""
-    return b"# segment %d, begun " % number + time.strftime("%F %T UTC\n", time.gmtime()).encode()
+def line_of(number, note=""):
+    """The line of a segment's number, with a note on what it has."""
+    return b"# segment %d, begun %s\n" % (number, (time.strftime("%F %T UTC", time.gmtime()) + note).encode())
 
 
 def older_segments(path):
@@ -31,16 +34,24 @@ def older_segments(path):
     return {int(name[len(prefix):]): str(folder / name) for name in found if name[len(prefix):].isdigit()}
 
 
+def whole_series(path):
+    """The files of a series in their order, where the first of them is there."""
+    older = sorted(older_segments(path).items())
+    if [number for number, _ in older] != list(range(1, len(older) + 1)):
+        raise runs.Fault("%s isn't whole: its earlier segments are %s" % (path, ", ".join(str(number) for number, _ in older)))
+    return [name for _, name in older] + [path]
+
+
 def open_new(path):
-    """A new file for its owner alone, since vectors are in it."""
+    """A new file for its owner alone, since vectors may be in it."""
     return os.open(path, os.O_RDWR | os.O_CREAT | os.O_EXCL | os.O_APPEND, 0o600)
 
 
 class Series:
     """What one run writes, in segments of a size, of which a number is kept."""
 
-    def __init__(self, path, what, size, most, head=None):
-        self.path, self.what, self.most_octets, self.most = str(path), what, size, most
+    def __init__(self, path, what, size, most, head=None, note=""):
+        self.path, self.what, self.most_octets, self.most, self.note = str(path), what, size, most, note
         self.is_whole = True  # whether all of it since the start is there
         self.number, self.first, self.head = 1, 1, head
         self.file, self.size, self.base = None, 0, 0
@@ -48,9 +59,9 @@ class Series:
             self.begin(head)
 
     @classmethod
-    def taken_up(cls, path, what, size, most, number, first):
+    def taken_up(cls, path, what, size, most, number, first, note=""):
         """The series that stands there, to be written on."""
-        series = cls(path, what, size, most)
+        series = cls(path, what, size, most, note=note)
         series.number, series.first = number, first
         series.file = os.open(path, os.O_RDWR | os.O_APPEND)
         series.size = os.fstat(series.file).st_size
@@ -62,7 +73,7 @@ class Series:
         """Opens a file for what comes, with the line of its number."""
         try:
             self.file, self.size = open_new(self.path), 0
-            self.write(head + line_of(self.number))
+            self.write(head + line_of(self.number, self.note))
         except FileExistsError:
             raise Failed("%s: there is one already: move it away, or keep it by --keep" % self.path, WRONG) from None
         except OSError as fault:
@@ -97,7 +108,7 @@ class Series:
 
     def roll(self):
         """Begins a new segment; where that can't be, nothing changes."""
-        line, new = line_of(self.number + 1), self.path + ".new"
+        line, new = line_of(self.number + 1, self.note), self.path + ".new"
         pathlib.Path(new).unlink(missing_ok=True)
         file = open_new(new)
         try:

@@ -70,6 +70,7 @@ WORDS = {
 OF_SCRIPTS = WORDS["sim"].keys() - WORDS["play"].keys()
 ANSWERS = ("out", "state", "refused")
 TEXTS = {"play": "a trace", "sim": "a script"}
+KEYS, LEFT_OUT = ("XRES", "KASME"), b"-"  # of a vector, and what a log without keys has in their places
 NAMES = {b" ": "<SP>", b"\t": "<TAB>", b"\r": "<CR>"}
 
 
@@ -215,6 +216,8 @@ def wrong_field(field, text, start):
         why += ", and here are %d" % len(text)
     elif field is IMSI and text.isdigit():
         why += ", and here are %d" % len(text)
+    elif text == LEFT_OUT and field.name in KEYS:
+        why += ", and it was left out of a log without keys: `tools/front fill` puts it back"
     elif not text:
         why += ", and here is nothing: two spaces stand together, or one at the end"
     return Wrong(field.fault, why, start, start + max(len(text), 1))
