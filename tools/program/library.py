@@ -1,7 +1,8 @@
 #!/usr/bin/env python3
-"""Proves each crate below the library for C in turn and builds the library, with a line for each: `./mme --library`.
+"""Proves the crates below the library for C and builds the library: `./mme --library`.
 
-    library.py                  what `./mme --library` does
+    library.py                  what `./mme --library` does: where this machine keeps that `rt ci` proved this text, whole, the
+                                library is built over what is kept; else each crate is proved in turn, with a line for each
     library.py --built FOLDER   builds it in a folder over the libraries that stand built here, as `rt ci` leaves them: the crate
                                 `mme_c` is checked and compiled, the crates below it are not
 
@@ -10,13 +11,10 @@ soizkadur.h and soizkadur.pc. Only the functions of soizkadur.h are visible in t
 was made of (record.py).
 """
 import argparse
-import importlib.machinery
-import importlib.util
 import os
 import pathlib
 import re
 import shutil
-import subprocess
 import sys
 import tempfile
 import time
@@ -24,8 +22,10 @@ import time
 sys.dont_write_bytecode = True
 sys.path.insert(0, str(pathlib.Path(__file__).resolve().parent))
 import children
+import kept
 import prove
 import record
+from kept import ran
 from words import BAD_WORDS, Failed, say
 
 CRATE = "mme_c"
@@ -50,34 +50,19 @@ Cflags: -I${includedir}
 """
 
 
-def ran(words, what, cwd=None):
-    """What a command prints; where it fails, `what` couldn't be done."""
-    done = subprocess.run([str(word) for word in words], cwd=cwd, stdin=subprocess.DEVNULL, stdout=subprocess.PIPE,
-                          stderr=subprocess.STDOUT, text=True, errors="replace", check=False)
-    if done.returncode:
-        raise Failed("%s: status %d\n%s" % (what, done.returncode, done.stdout[-2000:]))
-    return done.stdout
-
-
 # --- The archive, compiled ---
 
 
-def toolchain_module():
-    """The toolchain's own command as a module, so that what is asked of it is what `rt` itself asks."""
-    command = shutil.which("rt")
-    if command is None:
-        raise Failed("no toolchain on the path: the library needs `rt`")
-    loader = importlib.machinery.SourceFileLoader("rt", os.path.realpath(command))
-    module = importlib.util.module_from_spec(importlib.util.spec_from_loader("rt", loader))
-    sys.modules["rt"] = module
-    loader.exec_module(module)
-    return module
+def compiled(rt, crate, archive):
+    """Checks `mme_c` and compiles it to an archive, over the libraries below it."""
+    ran([*rt.rtlib.guarded(), rt.rtlib.RATTLE, "build", *kept.words_of(crate), "--toolchain", "%s/toolchain" % rt.KIT, "--backend",
+         "llvm", "-o", archive], "%s isn't proved, or doesn't compile" % CRATE, crate.folder)
 
 
 def compile_over_built(archive):
-    """Checks `mme_c` and compiles it to an archive, over the libraries below it that stand built: `rt ci` leaves them with
-    statements and code, as it needs them for a program."""
-    rt = toolchain_module()
+    """Compiles `mme_c` over the libraries below it that stand built: `rt ci` leaves them with statements and code, as it needs them
+    for a program."""
+    rt = kept.toolchain_module()
     rt.Crate.cuts_libraries = True
     crate = next((one for one in rt.rtlib.crates_below(str(record.TOP)) if one.name == CRATE), None)
     if crate is None:
@@ -85,10 +70,22 @@ def compile_over_built(archive):
     missing = [one.name for one in crate.below() if not os.path.isdir(one.rlib)]
     if missing:
         raise Failed("the libraries below %s aren't built: %s" % (CRATE, record.listed(missing)))
-    with open(os.devnull, "w", encoding="utf-8") as crate.out:
-        words = crate.words(["--jobs", "1"], keeps=False)
-    ran([*rt.rtlib.guarded(), rt.rtlib.RATTLE, "build", *words, "--toolchain", "%s/toolchain" % rt.KIT, "--backend", "llvm",
-         "-o", archive], "%s isn't proved, or doesn't compile" % CRATE, crate.folder)
+    compiled(rt, crate, archive)
+
+
+def compile_over_kept(archive):
+    """Compiles `mme_c` over the libraries that this machine keeps of `rt ci`; whether it keeps all of them, and that `mme_c` is
+    proved."""
+    rt = kept.toolchain_module()
+    if not kept.keeps_work(rt):
+        return False
+    with tempfile.TemporaryDirectory() as room:
+        kept.copy_crates(room)
+        crate = kept.crate_over_kept(rt, room, CRATE, is_kept_too=True)
+        if crate is None:
+            return False
+        compiled(rt, crate, archive)
+    return True
 
 
 # --- The library, linked ---
@@ -163,30 +160,28 @@ def link(compiled, folder):
 def build_over_built(folder):
     """The library in a folder, over the crates' libraries that stand built here, as after `rt ci`; returns the folder."""
     with tempfile.TemporaryDirectory() as room:
-        compiled = pathlib.Path(room, "lib%s.a" % CRATE)
-        compile_over_built(compiled)
-        return link(compiled, folder)
+        archive = pathlib.Path(room, "lib%s.a" % CRATE)
+        compile_over_built(archive)
+        return link(archive, folder)
 
 
-def fresh():
-    """The folder of the library that `./mme --library` built, where the text and the toolchain are those that it was made of, else
-    None."""
-    told = record.read(FOLDER / ARCHIVE)
-    if told is None or told["program"] != record.digest_of(FOLDER / ARCHIVE) or told["crates"] != record.digests_of_crates(CRATE):
+def fresh(folder=FOLDER):
+    """The folder, that of `./mme --library` where none is given, if the library in it is of this text and this toolchain by its
+    record, else None."""
+    told = record.read(folder / ARCHIVE)
+    if told is None or told["program"] != record.digest_of(folder / ARCHIVE) or told["crates"] != record.digests_of_crates(CRATE):
         return None
-    if list(record.toolchain_changed(told["toolchain"])) or HEADER.read_bytes() != (FOLDER / HEADER.name).read_bytes():
+    if list(record.toolchain_changed(told["toolchain"])) or HEADER.read_bytes() != (folder / HEADER.name).read_bytes():
         return None
-    return FOLDER
+    return folder
 
 
 # --- ./mme --library ---
 
 
-def prove_and_build(begun):
-    """Proves the crates below the library, and builds it."""
+def prove_each(begun):
+    """Proves each crate below the library and the library's own; returns its archive."""
     crates = record.crates_of(CRATE)
-    before = {"crates": record.digests_of_crates(CRATE), "toolchain": record.toolchain()}
-    record.path_of(FOLDER / ARCHIVE).unlink(missing_ok=True)
     for at, name in enumerate(crates, 1):
         what = "%s, %d of %d" % (name, at, len(crates))
         say("proving %s, %d s so far" % (what, time.monotonic() - begun))
@@ -194,7 +189,20 @@ def prove_and_build(begun):
             prove.made(name, ["rt", "lib"])
         except children.Stopped as stopped:
             raise Failed("stopped while proving %s; what was proved before it is kept" % what, stopped.status) from None
-    link(record.TOP / "crates" / CRATE / "out" / ("lib%s.a" % CRATE), FOLDER)
+    return record.TOP / "crates" / CRATE / "out" / ("lib%s.a" % CRATE)
+
+
+def prove_and_build(begun):
+    """Has the crates below the library proved, and builds it."""
+    before = {"crates": record.digests_of_crates(CRATE), "toolchain": record.toolchain()}
+    record.path_of(FOLDER / ARCHIVE).unlink(missing_ok=True)
+    with tempfile.TemporaryDirectory() as room:
+        archive = pathlib.Path(room, "lib%s.a" % CRATE)
+        if compile_over_kept(archive):
+            say("%d crates are kept: `rt ci` proved this text on this machine" % len(before["crates"]))
+        else:
+            archive = prove_each(begun)
+        link(archive, FOLDER)
     if record.digests_of_crates(CRATE) != before["crates"]:
         raise Failed("the crates changed while they were proved: ./mme --library once more")
     record.write(FOLDER / ARCHIVE, before["crates"], before["toolchain"])
