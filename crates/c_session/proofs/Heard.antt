@@ -2,7 +2,7 @@
 use Rattle.std.proofs.Common.{◌≡◌, ℕ, List, Bor, refl}
 use Rattle.mme_core.specs.World.{happens}
 use Rattle.mme_core.specs.declared.event.Event.TheVariants as event
-use Rattle.trace_player.specs.Effects.{in_event}
+use Rattle.trace_progress.specs.Effects.{in_event}
 use Rattle.c_session.specs.declared.session.Session.{Session}
 use Rattle.c_session.specs.Sessions.{happened}
 

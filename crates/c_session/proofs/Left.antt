@@ -1,11 +1,11 @@
 -- What calls leave, by their answers.
 use Rattle.std.proofs.Common.{◌≡◌, ◌⊎◌, inl, inr, ℕ, List, [], Result, Ok, Err, refl, sym, ap, ◌∙◌, subst}
 use Rattle.std.specs.Prelude.{IfErr, OnErr, OnOk}
-use Rattle.trace_player.specs.declared.fault.PlayFault.{PlayFault}
-use Rattle.trace_player.specs.declared.fault.PlayFault.TheVariants as play
-use Rattle.trace_player.specs.declared.progress.Progress.{Progress}
-use Rattle.trace_player.specs.Acts.{Acts}
-use Rattle.trace_player.specs.Effects.{Effect}
+use Rattle.trace_progress.specs.declared.fault.PlayFault.{PlayFault}
+use Rattle.trace_progress.specs.declared.fault.PlayFault.TheVariants as play
+use Rattle.trace_progress.specs.declared.progress.Progress.{Progress}
+use Rattle.trace_progress.specs.Acts.{Acts}
+use Rattle.trace_progress.specs.Effects.{Effect}
 use Rattle.c_session.specs.declared.refusal.Refusal.{Refusal}
 use Rattle.c_session.specs.declared.refusal.Refusal.TheVariants.{NoMemory, Lost}
 use Rattle.c_session.specs.declared.session.Session.{Session}

@@ -2,7 +2,7 @@
 use Rattle.std.specs.Prelude.{ℕ, List, Option, Some, None, Result, Ok, Err}
 use Rattle.identity_slots.specs.Provisioned.{slot_of_imsi}
 use Rattle.emm_machine.specs.declared.subscriber.States.{States}
-use Rattle.trace_player.specs.Effects.{states_of_imsi}
+use Rattle.trace_progress.specs.Effects.{states_of_imsi}
 use Rattle.c_session.specs.declared.refusal.Refusal.{Refusal}
 use Rattle.c_session.specs.declared.refusal.Refusal.TheVariants.{UnknownImsi}
 use Rattle.c_session.specs.declared.session.Session.{Session}

@@ -4,7 +4,7 @@ use Rattle.std.specs.List.{slice_split}
 use Rattle.trace_words.specs.declared.line.Line.{Line}
 use Rattle.trace_words.specs.declared.line.Line.TheVariants.{Skip, Mme, Sub, Vec, Up, Lost, In, Tick, Data, Cancel, Show}
 use Rattle.trace_words.specs.Trace.{line_of}
-use Rattle.trace_player.specs.Effects.{configured, subscriber_added, vector_given}
+use Rattle.trace_progress.specs.Effects.{configured, subscriber_added, vector_given}
 use Rattle.c_session.specs.declared.refusal.Refusal.{Refusal}
 use Rattle.c_session.specs.declared.refusal.Refusal.TheVariants as refusals
 use Rattle.c_session.specs.declared.lines.LinesFault.{LinesFault}

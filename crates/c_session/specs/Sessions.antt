@@ -12,9 +12,9 @@ use Rattle.trace_words.specs.declared.line.Line.{Line}
 use Rattle.trace_words.specs.declared.line.Line.TheVariants.{Skip, Mme, Sub, Vec, Up, Lost, In, Tick, Data, Cancel, Show}
 use Rattle.trace_words.specs.declared.fault.TraceFault.{TraceFault}
 use Rattle.trace_words.specs.Trace.{line_of}
-use Rattle.trace_player.specs.declared.progress.Progress.{Progress}
-use Rattle.trace_player.specs.declared.progress.Progress.TheVariants.{Nothing, Provisioning, Running}
-use Rattle.trace_player.specs.Effects.{Effect, configured, in_event, running, states_of_imsi, subscriber_added, vector_given}
+use Rattle.trace_progress.specs.declared.progress.Progress.{Progress}
+use Rattle.trace_progress.specs.declared.progress.Progress.TheVariants.{Nothing, Provisioning, Running}
+use Rattle.trace_progress.specs.Effects.{Effect, configured, in_event, running, states_of_imsi, subscriber_added, vector_given}
 use Rattle.c_session.specs.declared.refusal.Refusal.{Refusal}
 use Rattle.c_session.specs.declared.refusal.Refusal.TheVariants as refusals
 use Rattle.c_session.specs.declared.session.Session.{Session}

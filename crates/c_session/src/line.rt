@@ -3,7 +3,7 @@
 ghost use Rattle.std.specs.Prelude.{◌≡◌};
 ghost use Rattle.mme_core.specs.declared.event.Event.TheVariants as event;
 ghost use Rattle.c_session.specs.Sessions.{Acts, Leaves, OnceStarted, Plays, Runs, happened, shown, started, world_in};
-ghost use Rattle.trace_player.specs.Effects.{in_event};
+ghost use Rattle.trace_progress.specs.Effects.{in_event};
 
 use crate::refusal::{Refusal, of_line};
 use crate::session::Session;
@@ -11,7 +11,7 @@ use identity_slots::StationNumber;
 use mme_core::Event;
 use nas_elements::Imsi;
 use std::alloc::Global;
-use trace_player::{Progress, states_of_imsi};
+use trace_progress::{Progress, states_of_imsi};
 use trace_words::{Line, parse_line};
 
 impl Session {

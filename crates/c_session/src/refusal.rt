@@ -4,7 +4,7 @@ ghost use Rattle.std.specs.Prelude.{◌≡◌};
 ghost use Rattle.c_session.specs.Refusals.{number_of, of_line, of_play, of_step, told};
 
 use mme_core::StepFault;
-use trace_player::PlayFault;
+use trace_progress::PlayFault;
 use trace_words::TraceFault;
 
 /// Why a call is refused, with its number.

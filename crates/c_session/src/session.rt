@@ -1,7 +1,7 @@
 //! A session: what is provisioned or the MME, and the replies to the last event that was taken.
 
 ghost use Rattle.std.specs.Prelude.{◌≡◌, option_map};
-ghost use Rattle.trace_player.specs.Effects.{configured, in_event, subscriber_added, vector_given};
+ghost use Rattle.trace_progress.specs.Effects.{configured, in_event, subscriber_added, vector_given};
 ghost use Rattle.c_session.specs.Asked.{slot_of, states_of};
 ghost use Rattle.c_session.specs.Kept.{count_at, message_at};
 ghost use Rattle.c_session.specs.Sessions.{IsProvisioning, Leaves, Starts, added, begun, cancelled, data_waits, down, given, happened, heard, nothing, started, up, with_effect};
@@ -16,7 +16,7 @@ use mme_types::Network;
 use nas_elements::Imsi;
 use std::alloc::Global;
 use std::mem;
-use trace_player::{Progress, add, give, start, states_of_imsi};
+use trace_progress::{Progress, add, give, start, states_of_imsi};
 
 /// What a handle holds.
 #[derive(Drop)]

@@ -9,7 +9,7 @@ use crate::replies::Replies;
 use crate::session::Session;
 use mme_core::Event;
 use std::alloc::{AllocError, Global};
-use trace_player::Progress;
+use trace_progress::Progress;
 
 /// How many ticks there are at once, at most.
 const MOST_TICKS: u32 = 1_000_000;

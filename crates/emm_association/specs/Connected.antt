@@ -7,20 +7,16 @@ use Rattle.s1ap_causes.specs.declared.cause.RadioNetworkCause.TheVariants as rad
 use Rattle.s1ap_causes.specs.declared.cause.ProtocolCause.TheVariants as protocol
 use Rattle.eps_keys.specs.Hmac.{next_hop}
 use Rattle.identity_slots.specs.Ids.{is_of_slot}
-use Rattle.mme_types.specs.declared.event.UeBody.{UeBody}
-use Rattle.mme_types.specs.declared.event.UeBody.TheVariants.{Uplink, UeContextReleaseRequest, UeContextReleaseComplete, InitialContextSetupFailure, PathSwitch, Notice}
 use Rattle.mme_types.specs.declared.event.UeMessage.{UeMessage}
 use Rattle.mme_types.specs.declared.connection.Connection.{Connection}
 use Rattle.mme_types.specs.declared.connection.RadioKeys.{RadioKeys}
 use Rattle.mme_types.specs.Listed.{ToReset, is_listed}
-use Rattle.mme_signalling.specs.Pdus.{cause_of_request, error_indication, path_switch_acknowledge, path_switch_failure}
+use Rattle.mme_pdus.specs.Pdus.{error_indication, path_switch_acknowledge, path_switch_failure}
 use Rattle.emm_state.specs.declared.draft.Draft.{Draft}
-use Rattle.emm_state.specs.declared.setting.Setting.{Setting}
 use Rattle.emm_state.specs.declared.solo.Context.{Context}
 use Rattle.emm_state.specs.declared.solo.Repeat.{Repeat}
 use Rattle.emm_state.specs.declared.solo.Repeat.TheVariants as repeats
-use Rattle.emm_state.specs.Actions.{emit, fall, is_at, is_registered, lost}
-use Rattle.emm_uplink.specs.Serving.{uplink}
+use Rattle.emm_state.specs.Actions.{emit, is_at, is_registered, lost}
 
 -- ---- how a message stands to the connection
 
@@ -76,32 +72,6 @@ path_switch m d =
     else if not (is_of_slot m.mme_ue_id) then not_switched (causes.RadioNetwork radio.UnknownMmeUeS1apId) m d
     else if is_registered d.solo.phase then option_map_or (λ x. switched m x d) d.solo.context d
     else not_switched (causes.Protocol protocol.MessageNotCompatible) m d
-
--- ---- a message with the subscriber's id
-
--- on the connection
-unfoldable pub on_connection : UeBody (List ℕ) → Setting → Draft → Option Draft
-on_connection (Uplink nas tai) s d = uplink d.solo.phase s tai nas d
-on_connection (UeContextReleaseRequest cause) s d = Some (fall (cause_of_request cause) d)
-on_connection UeContextReleaseComplete s d = Some d
-on_connection InitialContextSetupFailure s d = Some (fall (causes.RadioNetwork radio.Unspecified) d)
-on_connection PathSwitch s d = Some d
-on_connection Notice s d = Some d
-
-unfoldable pub checked : Setting → UeMessage (List ℕ) → Draft → Option Draft
-checked s m d =
-    if not (has_connection_id m d) then Some (indicate (causes.RadioNetwork radio.UnknownMmeUeS1apId) m d)
-    else if has_pair m d then on_connection m.body s d
-    else Some (indicate (causes.RadioNetwork radio.UnknownPairUeS1apId) m d)
-
--- UE CONTEXT RELEASE COMPLETE is never answered; a path switch comes from elsewhere
-unfoldable pub message_of : UeBody (List ℕ) → Setting → UeMessage (List ℕ) → Draft → Option Draft
-message_of UeContextReleaseComplete s m d = Some d
-message_of PathSwitch s m d = Some (path_switch m d)
-message_of (Uplink nas tai) s m d = checked s m d
-message_of (UeContextReleaseRequest cause) s m d = checked s m d
-message_of InitialContextSetupFailure s m d = checked s m d
-message_of Notice s m d = checked s m d
 
 -- ---- what ends a connection without a message
 

@@ -1,19 +1,14 @@
 //! The rows of messages on an association, and of what ends one (TS 36.413 clause 8).
 
 ghost use Rattle.std.specs.Prelude.{◌≡◌, OnOk, Some, None};
-ghost use Rattle.mme_signalling.specs.Pdus.{cause_of_request, is_extended};
-ghost use Rattle.emm_association.specs.Connected.{checked, connection_of, connections_gone, displaced, has_connection_id, has_pair, hop_after, indicate, message_of, next_chaining_count, not_switched, on_connection, path_switch, standing_hop, station_gone, strike, struck, switched};
-ghost use Rattle.emm_state.specs.Does.{Does};
+ghost use Rattle.emm_association.specs.Connected.{connection_of, connections_gone, displaced, has_connection_id, has_pair, hop_after, hopped, indicate, next_chaining_count, not_switched, path_switch, standing_hop, station_gone, strike, struck, switched};
 ghost use Rattle.mme_types.specs.Events.{message_lists};
 
-use emm_state::{Context, Draft, Repeat, Setting, StepStop, is_registered};
-use emm_uplink::uplink;
-use eps_keys::KeySchedule;
+use emm_state::{Context, Draft, Repeat, is_registered};
+use eps_keys::Kasme;
 use identity_slots::AssociationId;
-use mme_signalling::{
-    cause_of_request, error_indication, path_switch_acknowledge, path_switch_failure,
-};
-use mme_types::{Connection, RadioKeys, StationNumber, UeBody, UeMessage, is_listed};
+use mme_pdus::{error_indication, path_switch_acknowledge, path_switch_failure};
+use mme_types::{Connection, RadioKeys, StationNumber, UeMessage, is_listed};
 use s1ap_elements::{AssociationToReset, Cause, ProtocolCause, RadioNetworkCause};
 use std::alloc::{AllocError, Global};
 
@@ -28,21 +23,34 @@ fn next_chaining_count(count: u8) -> u8
 }
 
 // The next hop that stands: the one that a station was told last, else the first of the chain (TS 33.401 clause A.4).
-fn standing_hop(schedule: &mut KeySchedule, kasme: &[u8; 32], radio: &RadioKeys) -> [u8; 32]
+fn standing_hop(kasme: &Kasme, radio: &RadioKeys) -> [u8; 32]
     ensures { result ≡ standing_hop kasme.now radio.now }
 {
     match radio.next_hop {
         Some(told) => told,
-        None => schedule.next_hop(kasme, &radio.kenb),
+        None => kasme.next_hop(&radio.kenb),
     }
 }
 
 // The next hop after the one that stands.
-fn hop_after(schedule: &mut KeySchedule, context: &Context) -> [u8; 32]
+fn hop_after(context: &Context) -> [u8; 32]
     ensures { result ≡ hop_after context.now }
 {
-    let standing = standing_hop(schedule, &context.kasme, &context.radio);
-    schedule.next_hop(&context.kasme, &standing)
+    let kasme = context.kasme.get();
+    kasme.next_hop(&standing_hop(kasme, &context.radio))
+}
+
+// The context's radio keys are those of the next hop after the one that stands, which is returned, with its chaining count.
+fn hop(context: &mut Context) -> ([u8; 32], u8)
+    ensures hop { result.0 ≡ hop_after context.old }
+    ensures count { result.1 ≡ next_chaining_count context.old.radio.chaining_count }
+    ensures keys { context.new ≡ record context.old { radio = hopped context.old } }
+{
+    let hop = hop_after(context);
+    let count = next_chaining_count(context.radio.chaining_count);
+    context.radio.next_hop = Some(hop);
+    context.radio.chaining_count = count;
+    (hop, count)
 }
 
 // The connection that a path switch leads to.
@@ -56,7 +64,8 @@ fn connection_of(message: &UeMessage<&[u8]>) -> Connection
     }
 }
 
-fn has_connection_id(draft: &Draft, message: &UeMessage<&[u8]>) -> bool
+/// Whether the message has the MME UE S1AP ID of the connection.
+pub fn has_connection_id(draft: &Draft, message: &UeMessage<&[u8]>) -> bool
     ensures { result ≡ has_connection_id (message_lists message.now) draft.now }
 {
     match draft.solo.connection {
@@ -65,7 +74,8 @@ fn has_connection_id(draft: &Draft, message: &UeMessage<&[u8]>) -> bool
     }
 }
 
-fn has_pair(draft: &Draft, message: &UeMessage<&[u8]>) -> bool
+/// Whether the message is of the connection's station, with its eNB UE S1AP ID.
+pub fn has_pair(draft: &Draft, message: &UeMessage<&[u8]>) -> bool
     ensures { result ≡ has_pair (message_lists message.now) draft.now }
 {
     match draft.solo.connection {
@@ -76,8 +86,9 @@ fn has_pair(draft: &Draft, message: &UeMessage<&[u8]>) -> bool
     }
 }
 
+/// ERROR INDICATION with the ids that were received goes back (TS 36.413 clause 8.7.2).
 #[tactic(auto, unfolding(crate::specs::Connected::indicate))]
-fn indicate(
+pub fn indicate(
     draft: &mut Draft,
     alloc: Global,
     cause: RadioNetworkCause,
@@ -108,26 +119,23 @@ fn not_switched(
 
 // The connection moves, and the station is told the next hop.
 #[tactic(auto, unfolding(crate::specs::Connected::switched))]
-fn switched(
-    draft: &mut Draft,
-    alloc: Global,
-    message: &UeMessage<&[u8]>,
-    mut context: Context,
-) -> Result<(), AllocError>
-    ensures { OnOk result (draft.new ≡ switched (message_lists message.now) context draft.old) }
+fn switched(draft: &mut Draft, alloc: Global, message: &UeMessage<&[u8]>) -> Result<(), AllocError>
+    ensures some { (x : Context) → draft.old.solo.context ≡ Some x
+        → OnOk result (draft.new ≡ switched (message_lists message.now) x draft.old) }
+    ensures none { draft.old.solo.context ≡ None → draft.new ≡ draft.old }
 {
-    let hop = hop_after(&mut draft.solo.schedule, &context);
-    let count = next_chaining_count(context.radio.chaining_count);
+    let Some(context) = &mut draft.solo.context else {
+        return Ok(());
+    };
+    let (hop, count) = hop(context);
     let answer = path_switch_acknowledge(connection_of(message), hop, count);
-    context.radio.next_hop = Some(hop);
-    context.radio.chaining_count = count;
     draft.solo.connection = Some(connection_of(message));
-    draft.solo.context = Some(context);
     draft.emit(alloc, message.station, answer, None)
 }
 
+/// PATH SWITCH REQUEST (TS 36.413 clause 8.4.4).
 #[tactic(auto, unfolding(crate::specs::Connected::path_switch))]
-fn path_switch(
+pub fn path_switch(
     draft: &mut Draft,
     alloc: Global,
     message: &UeMessage<&[u8]>,
@@ -145,78 +153,7 @@ fn path_switch(
         let not_compatible = Cause::Protocol(ProtocolCause::MessageNotCompatible);
         return not_switched(draft, alloc, not_compatible, message);
     }
-    match draft.solo.context {
-        Some(context) => switched(draft, alloc, message, context),
-        None => Ok(()),
-    }
-}
-
-#[tactic(auto, unfolding(crate::specs::Connected::on_connection))]
-fn on_connection(
-    draft: &mut Draft,
-    alloc: Global,
-    setting: &Setting,
-    message: &UeMessage<&[u8]>,
-) -> Result<(), StepStop>
-    ensures { Does result draft.new (on_connection (message_lists message.now).body setting.now draft.old) }
-{
-    match message.body {
-        UeBody::Uplink { nas, tai } => uplink(draft, alloc, setting, tai, nas),
-        UeBody::UeContextReleaseRequest { cause } => Ok(draft.fall(
-            alloc,
-            cause_of_request(cause),
-        )?),
-        UeBody::InitialContextSetupFailure => {
-            let unspecified = Cause::RadioNetwork(RadioNetworkCause::Unspecified);
-            Ok(draft.fall(alloc, unspecified)?)
-        }
-        UeBody::UeContextReleaseComplete | UeBody::PathSwitch | UeBody::Notice => Ok(()),
-    }
-}
-
-#[tactic(auto, unfolding(crate::specs::Connected::checked))]
-fn checked(
-    draft: &mut Draft,
-    alloc: Global,
-    setting: &Setting,
-    message: &UeMessage<&[u8]>,
-) -> Result<(), StepStop>
-    ensures { Does result draft.new (checked setting.now (message_lists message.now) draft.old) }
-{
-    if !has_connection_id(draft, message) {
-        return Ok(indicate(draft, alloc, RadioNetworkCause::UnknownMmeUeS1apId, message)?);
-    }
-    if has_pair(draft, message) {
-        on_connection(draft, alloc, setting, message)
-    } else {
-        Ok(indicate(
-            draft,
-            alloc,
-            RadioNetworkCause::UnknownPairUeS1apId,
-            message,
-        )?)
-    }
-}
-
-/// A message with the subscriber's id.
-#[tactic(auto, unfolding(crate::specs::Connected::message_of))]
-pub fn message_of(
-    draft: &mut Draft,
-    alloc: Global,
-    setting: &Setting,
-    message: &UeMessage<&[u8]>,
-) -> Result<(), StepStop>
-    ensures { Does result draft.new
-        (message_of (message_lists message.now).body setting.now (message_lists message.now) draft.old) }
-{
-    match message.body {
-        UeBody::UeContextReleaseComplete => Ok(()),
-        UeBody::PathSwitch => Ok(path_switch(draft, alloc, message)?),
-        UeBody::Uplink { nas: _, tai: _ }
-        | UeBody::UeContextReleaseRequest { cause: _ }
-        | UeBody::InitialContextSetupFailure
-        | UeBody::Notice => checked(draft, alloc, setting, message),
-    }
+    switched(draft, alloc, message)
 }
 
 /// A stranger came anew where an association was claimed.

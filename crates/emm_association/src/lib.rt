@@ -4,4 +4,6 @@
 
 mod connected;
 
-pub use connected::{connections_gone, displaced, message_of, station_gone};
+pub use connected::{
+    connections_gone, displaced, has_connection_id, has_pair, indicate, path_switch, station_gone,
+};

@@ -12,9 +12,10 @@ ghost use Rattle.emm_state.specs.Does.{Does};
 ghost use Rattle.emm_state.specs.declared.solo.Context.{Context};
 
 use emm_state::{
-    Asked, Context, Draft, NasTimer, Phase, Protection, Repeat, Setting, StepStop, ksi_of,
+    Asked, Context, Draft, NasTimer, Phase, Protection, Repeat, Setting, SharedKasme, StepStop,
+    ksi_of,
 };
-use eps_keys::{KeySchedule, same_octets};
+use eps_keys::{Kasme, same_octets};
 use esm_machine::Requested;
 use identity_slots::{Tmsi, Vector};
 use mme_signalling::{
@@ -52,11 +53,11 @@ fn is_reject(nas: &[u8]) -> bool
 }
 
 // The radio keys of a count (TS 33.401 clause A.3): no station was told a next hop yet.
-fn keys_of(schedule: &mut KeySchedule, kasme: &[u8; 32], count: u32) -> RadioKeys
+fn keys_of(kasme: &Kasme, count: u32) -> RadioKeys
     ensures { result ≡ keys_of kasme.now count }
 {
     RadioKeys {
-        kenb: schedule.kenb(kasme, count),
+        kenb: kasme.kenb(count),
         next_hop: None,
         chaining_count: 1,
     }
@@ -160,21 +161,28 @@ pub fn attach(
 }
 
 #[tactic(auto, unfolding(crate::specs::Attaching::new_context))]
-fn new_context(draft: &mut Draft, place: usize, vector: &Vector)
-    ensures { draft.new ≡ new_context place vector.now draft.old }
+fn new_context(
+    draft: &mut Draft,
+    alloc: Global,
+    place: usize,
+    vector: &Vector,
+) -> Result<(), AllocError>
+    ensures { OnOk result (draft.new ≡ new_context place vector.now draft.old) }
 {
+    let kasme = Kasme::new(&vector.kasme);
+    let integrity = Eia2::new(&kasme.nas_integrity_key());
     draft.solo.phase = Phase::SecurityMode;
-    let integrity = Eia2::new(&draft.solo.schedule.nas_integrity_key(&vector.kasme));
     draft.solo.context = Some(Context {
         place,
         security: SecurityContext::new(integrity, ksi_of(place), 0, None),
-        kasme: vector.kasme,
+        kasme: SharedKasme::new(alloc, kasme)?,
         radio: RadioKeys {
             kenb: [0; 32],
             next_hop: None,
             chaining_count: 0,
         },
     });
+    Ok(())
 }
 
 #[tactic(auto, unfolding(crate::specs::Attaching::authenticated))]
@@ -187,7 +195,7 @@ fn authenticated(
     ensures { Does result draft.new (authenticated place vector.now draft.old) }
 {
     let command = security_mode_command(alloc, ksi_of(place), &draft.solo.asked.capability)?;
-    new_context(draft, place, vector);
+    new_context(draft, alloc, place, vector)?;
     draft.protect_and_await(alloc, NasTimer::T3460, SecurityHeader::NewContext, command)
 }
 
@@ -386,7 +394,7 @@ pub fn keyed(draft: &mut Draft, count: u32) -> [u8; 32]
     match &mut draft.solo.context {
         Some(context) => {
             let place = context.place;
-            let radio = keys_of(&mut draft.solo.schedule, &context.kasme, count);
+            let radio = keys_of(context.kasme.get(), count);
             context.radio = radio;
             draft.accepted = Some(Mark { place, count });
             radio.kenb

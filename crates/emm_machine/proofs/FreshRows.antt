@@ -39,6 +39,7 @@ use Rattle.emm_state.specs.Actions.{connect, connect_on, association_counted, em
 use Rattle.emm_attach.specs.Attaching as attaching
 use Rattle.emm_attach.specs.Attaching.{counted_up, keyed, took}
 use Rattle.emm_association.specs.Connected as connected
+use Rattle.emm_machine.specs.Messages as messages
 use Rattle.emm_machine.specs.Freshness.{IsInUse, next_place, next_up}
 use Rattle.mme_signalling.specs.Hearing.{heard}
 use Rattle.mme_types.specs.Events as events
@@ -406,21 +407,21 @@ module _ (whole : WholeIsFresh) (short : ShortIsFresh) {b : Solo} where
   fresh_uplink _ s tai nas is h = fresh_in_later s tai nas h
 
   fresh_on_connection : {d : Draft} (body : UeBody (List ℕ)) (s : Setting) → IsFresh b d
-      → IsFreshIf b (connected.on_connection body s d)
-  unfolding connected.on_connection
+      → IsFreshIf b (messages.on_connection body s d)
+  unfolding messages.on_connection
   fresh_on_connection {d} (bodies.Uplink nas tai) s h = fresh_uplink d.solo.phase s tai nas refl h
   fresh_on_connection (bodies.UeContextReleaseRequest cause) s h = some (fresh_fall _ h)
   fresh_on_connection bodies.InitialContextSetupFailure s h = some (fresh_fall _ h)
   fresh_on_connection _ s h = some h
 
-  fresh_checked : {d : Draft} (s : Setting) (m : UeMessage (List ℕ)) → IsFresh b d → IsFreshIf b (connected.checked s m d)
-  unfolding connected.checked connected.indicate
+  fresh_checked : {d : Draft} (s : Setting) (m : UeMessage (List ℕ)) → IsFresh b d → IsFreshIf b (messages.checked s m d)
+  unfolding messages.checked connected.indicate
   fresh_checked s m h =
       either_if _ (some (fresh_emit m.station _ h)) (either_if _ (fresh_on_connection m.body s h) (some (fresh_emit m.station _ h)))
 
   fresh_message_of : {d : Draft} (body : UeBody (List ℕ)) (s : Setting) (m : UeMessage (List ℕ)) → IsFresh b d
-      → IsFreshIf b (connected.message_of body s m d)
-  unfolding connected.message_of
+      → IsFreshIf b (messages.message_of body s m d)
+  unfolding messages.message_of
   fresh_message_of bodies.UeContextReleaseComplete s m h = some h
   fresh_message_of bodies.PathSwitch s m h = some (fresh_path_switch m h)
   fresh_message_of _ s m h = fresh_checked s m h

@@ -1,6 +1,7 @@
 -- Freshness over whole runs: the NAS COUNTs that messages are sent and accepted under, each with the place of its vector, and
 -- the vectors that become contexts (TS 24.301 clause 4.4.3, TS 33.401 clause 6.5).
-use Rattle.std.specs.Prelude.{◌≡◌, ℕ, ◌-◌, ◌<◌, ◌≤◌, ◌==◌, ◌⊎◌, if◌then◌else◌, List, [], ◌∷◌, ◌++◌, All, AllPairs, flat_map, Option, Some, None, option_to_list}
+use Rattle.std.specs.Prelude.{◌≡◌, ℕ, ◌-◌, ◌<◌, ◌≤◌, ◌==◌, ◌⊎◌, ◌&&◌, Bool, not, nat_lt, if◌then◌else◌, List, [], ◌∷◌, ◌++◌, All, AllPairs, flat_map, Option, Some, None, option_to_list}
+use Rattle.std.specs.List.{list_any}
 use Rattle.nas_security.specs.Counts.{first_after}
 use Rattle.mme_types.specs.declared.octets.Answer.{Answer}
 use Rattle.mme_types.specs.declared.octets.Mark.{Mark}
@@ -28,17 +29,22 @@ accepted_marks s solo [] = []
 accepted_marks s solo (item ∷ items) =
     option_to_list (solo_step s solo item).accepted ++ accepted_marks s (solo_step s solo item).solo items
 
--- the place of a context that wasn't there before
-abbrev pub place_made : Option Context → Option Context → List ℕ
-place_made before None = []
-place_made None (Some y) = y.place ∷ []
-place_made (Some x) (Some y) = if x.place == y.place then [] else y.place ∷ []
+-- a message is sent under a count of the context that was spent before: its vector was made a context once more
+abbrev pub counts_anew : Context → List Mark → Bool
+counts_anew x marks = list_any (λ m. (m.place == x.place) && nat_lt m.count x.security.down_next) marks
+
+-- the place of the context that a step makes, whose messages are sent under these: one that wasn't there before, or that counts anew
+abbrev pub place_made : Option Context → Option Context → List Mark → List ℕ
+place_made before None marks = []
+place_made None (Some y) marks = y.place ∷ []
+place_made (Some x) (Some y) marks = if (x.place == y.place) && not (counts_anew x marks) then [] else y.place ∷ []
 
 -- the places of the vectors that become contexts over a list of items
 abbrev pub places_made : Setting → Solo → List Item → List ℕ
 places_made s solo [] = []
 places_made s solo (item ∷ items) =
-    place_made solo.context (solo_step s solo item).solo.context ++ places_made s (solo_step s solo item).solo items
+    place_made solo.context (solo_step s solo item).solo.context (marks_of (solo_step s solo item).sent)
+    ++ places_made s (solo_step s solo item).solo items
 
 -- ---- what lies ahead of a state
 

@@ -55,7 +55,6 @@ fresh_solo = record {
   phase = phases.Deregistered;
   connection = None;
   context = None;
-  schedule = tt;  -- what is kept hashed of the last key, of which a contract sees nothing
   associations = 0;
   tmsis = 0;
   tmsi = None;

@@ -6,6 +6,7 @@
 #![tactic(auto)]
 
 mod laws;
+mod messages;
 mod passing;
 mod subscriber;
 

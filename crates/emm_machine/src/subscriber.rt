@@ -7,12 +7,12 @@ ghost use Rattle.emm_machine.specs.Steps.{row, solo_step, spent};
 ghost use Rattle.emm_machine.specs.Ticks.{AreAbove, countdowns, ticks_after};
 ghost use Rattle.emm_machine.specs.Words.{ecm_of, emm_of, fresh_solo, pages_in, states_of};
 
+use crate::messages::message_of;
 use crate::passing::age;
-use emm_association::{connections_gone, displaced, message_of, station_gone};
+use emm_association::{connections_gone, displaced, station_gone};
 use emm_network::{cancelled, data_waits, tick};
 use emm_state::{Asked, Counter, Draft, Phase, Repeat, Setting, Solo, StepStop};
 use emm_uplink::{claim, initial};
-use eps_keys::KeySchedule;
 use esm_machine::{Bearer, BearerState};
 use identity_slots::{Profile, Slot, Vectors};
 use mme_types::{Answers, Connection, EnbWorld, SharedNetwork, SoloEvent, StationNumber};
@@ -63,14 +63,13 @@ fn emm_of(phase: Phase) -> EmmState
     }
 }
 
-fn fresh_solo(alloc: Global) -> Solo
+fn fresh_solo() -> Solo
     ensures { result ≡ fresh_solo }
 {
     Solo {
         phase: Phase::Deregistered,
         connection: None,
         context: None,
-        schedule: KeySchedule::new(alloc),
         associations: Counter::new(),
         tmsis: Counter::new(),
         tmsi: None,
@@ -195,7 +194,7 @@ impl Subscriber {
         };
         Ok(Subscriber {
             setting,
-            state: Draft::of(alloc, fresh_solo(alloc))?,
+            state: Draft::of(alloc, fresh_solo())?,
             alloc,
         })
     }

@@ -14,7 +14,7 @@ use crate::setting::Setting;
 use crate::solo::{Context, Countdown, NasTimer, Phase, Protection, Repeat};
 use esm_machine::Bearer;
 use identity_slots::{AssociationId, Slot};
-use mme_signalling::{context_setup, downlink, release_command};
+use mme_pdus::{context_setup, downlink, release_command};
 use mme_types::{Answer, Connection, Mark, NasOctets, SentOctets, StationNumber};
 use nas_messages::{SecurityHeader, timers};
 use nas_security::SecurityFault;

@@ -12,5 +12,6 @@ pub use draft::{Draft, Sealed, StepStop};
 pub use nas_elements::timers;
 pub use setting::Setting;
 pub use solo::{
-    Asked, Context, Countdown, Counter, NasTimer, Phase, Protection, Repeat, Solo, Stations, ksi_of,
+    Asked, Context, Countdown, Counter, NasTimer, Phase, Protection, Repeat, SharedKasme, Solo,
+    Stations, ksi_of,
 };

@@ -1,6 +1,6 @@
 //! What a subscriber's machine keeps.
 
-ghost use Rattle.std.specs.Prelude.{◌≡◌, ◌<◌, ◌==◌, not, filter, IfOk};
+ghost use Rattle.std.specs.Prelude.{◌≡◌, ◌<◌, ◌==◌, not, filter, IfOk, OnOk};
 ghost use Rattle.std.specs.List.{list_any};
 ghost use Rattle.identity_slots.specs.Ids.{next_counter, id_of_slot};
 ghost use Rattle.nas_elements.specs.Codes.{no_key_set};
@@ -8,7 +8,7 @@ ghost use Rattle.emm_state.specs.KeySets.{ksi_of};
 ghost use Rattle.emm_state.specs.Phases.{is};
 ghost use Rattle.emm_state.specs.Timers.{repeats_of, ticks_of};
 
-use eps_keys::KeySchedule;
+use eps_keys::Kasme;
 use esm_machine::Bearer;
 use identity_slots::{AssociationId, Slot, Tmsi};
 use mme_types::{Connection, NasOctets, RadioKeys, StationNumber};
@@ -18,7 +18,7 @@ use nas_security::{Eia2, SecurityContext};
 use s1ap_elements::Tai;
 use std::alloc::{AllocError, Global};
 use std::marker::Model;
-use std::slice;
+use std::rc::Rc;
 
 /// What the machine is about (TS 24.301 clause 5.1.3.4).
 #[derive(Clone, Copy, PartialEq, Eq, Debug)]
@@ -48,12 +48,53 @@ impl Phase {
     }
 }
 
+/// KASME, which all copies of a context share; a contract sees its octets.
+#[derive(Drop)]
+pub struct SharedKasme {
+    kasme: Rc<Kasme>,
+}
+
+impl Model for SharedKasme {
+    ghost use Rattle.std.specs.Prelude.{ℕ, List};
+
+    ghost Value = { List ℕ };
+
+    ghost view = { λ s. s.kasme.value };
+}
+
+impl SharedKasme {
+    /// This KASME, to be shared.
+    pub fn new(alloc: Global, kasme: Kasme) -> Result<SharedKasme, AllocError>
+        ensures { IfOk result (λ s. s ≡ kasme) }
+    {
+        Ok(SharedKasme {
+            kasme: Rc::new(alloc, kasme)?,
+        })
+    }
+
+    /// KASME.
+    pub fn get(&self) -> &Kasme
+        ensures { result.now ≡ self.now }
+    {
+        self.kasme.as_ref()
+    }
+
+    /// The same once more; takes no memory, and is refused where more share it than can be counted.
+    pub(crate) fn copy(&self) -> Result<SharedKasme, AllocError>
+        ensures { IfOk result (λ s. s ≡ self.now) }
+    {
+        Ok(SharedKasme {
+            kasme: self.kasme.clone()?,
+        })
+    }
+}
+
 /// A security context with the place of the vector that it was made of. KeNB is zero until a message's count gave it.
-#[derive(Clone, Copy)]
+#[derive(Drop)]
 pub struct Context {
     pub place: usize,
     pub security: SecurityContext<Eia2>,
-    pub kasme: [u8; 32],
+    pub kasme: SharedKasme,
     pub radio: RadioKeys,
 }
 
@@ -261,8 +302,6 @@ pub struct Solo {
     pub phase: Phase,
     pub connection: Option<Connection>,
     pub context: Option<Context>,
-    /// The masked blocks of the last KASME, hashed; a contract sees nothing of it.
-    pub schedule: KeySchedule,
     pub associations: Counter,
     pub tmsis: Counter,
     pub tmsi: Option<Tmsi>,
@@ -278,11 +317,32 @@ pub struct Solo {
     pub reachable: Option<u32>,
 }
 
-// A security context, of some 340 octets, is copied where it is to stand.
-fn copy_context(to: &mut Option<Context>, from: &Option<Context>)
-    ensures { to.new ≡ from.now }
+// A security context, of some 300 octets, is copied where it is to stand.
+fn copy_context(to: &mut Option<Context>, from: &Option<Context>) -> Result<(), AllocError>
+    ensures { OnOk result (to.new ≡ from.now) }
 {
-    slice::from_mut(to).copy_from_slice(slice::from_ref(from));
+    let Some(from) = from else {
+        *to = None;
+        return Ok(());
+    };
+    let kasme = from.kasme.copy()?;
+    match to {
+        Some(to) => {
+            to.place = from.place;
+            to.security = from.security;
+            to.kasme = kasme;
+            to.radio = from.radio;
+        }
+        None => {
+            *to = Some(Context {
+                place: from.place,
+                security: from.security,
+                kasme,
+                radio: from.radio,
+            });
+        }
+    }
+    Ok(())
 }
 
 impl Solo {
@@ -297,14 +357,15 @@ impl Solo {
     }
 
     /// The same state with this to be sent again.
-    pub(crate) fn with_repeat(&self, repeat: Option<Repeat>) -> Solo
-        ensures { result ≡ record self.now { repeat = repeat } }
+    pub(crate) fn with_repeat(&self, repeat: Option<Repeat>) -> Result<Solo, AllocError>
+        ensures { IfOk result (λ s. s ≡ record self.now { repeat = repeat }) }
     {
-        Solo {
+        let mut context = None;
+        copy_context(&mut context, &self.context)?;
+        Ok(Solo {
             phase: self.phase,
             connection: self.connection,
-            context: self.context,
-            schedule: self.schedule.copy(),
+            context,
             associations: self.associations,
             tmsis: self.tmsis,
             tmsi: self.tmsi,
@@ -315,17 +376,16 @@ impl Solo {
             repeat,
             procedure: self.procedure,
             reachable: self.reachable,
-        }
+        })
     }
 
     /// The same state as another one, with this to be sent again.
-    pub(crate) fn begin(&mut self, other: &Solo, repeat: Option<Repeat>)
-        ensures { self.new ≡ record other.now { repeat = repeat } }
+    pub(crate) fn begin(&mut self, other: &Solo, repeat: Option<Repeat>) -> Result<(), AllocError>
+        ensures { OnOk result (self.new ≡ record other.now { repeat = repeat }) }
     {
+        copy_context(&mut self.context, &other.context)?;
         self.phase = other.phase;
         self.connection = other.connection;
-        copy_context(&mut self.context, &other.context);
-        self.schedule = other.schedule.copy();
         self.associations = other.associations;
         self.tmsis = other.tmsis;
         self.tmsi = other.tmsi;
@@ -336,6 +396,7 @@ impl Solo {
         self.repeat = repeat;
         self.procedure = other.procedure;
         self.reachable = other.reachable;
+        Ok(())
     }
 
     /// The same state once more.
@@ -343,6 +404,6 @@ impl Solo {
         ensures { IfOk result (λ s. s ≡ self.now) }
     {
         let repeat = self.repeat_copy(alloc)?;
-        Ok(self.with_repeat(repeat))
+        self.with_repeat(repeat)
     }
 }

@@ -464,10 +464,11 @@ fn inner_emm(
 fn information_came(draft: &mut Draft, alloc: Global, setting: &Setting) -> Result<(), StepStop>
     ensures { Does result draft.new (information_came setting.now draft.old) }
 {
-    match draft.solo.context {
-        Some(context) => accept(draft, alloc, setting, context.radio.kenb),
-        None => Ok(()),
-    }
+    let Some(context) = &draft.solo.context else {
+        return Ok(());
+    };
+    let kenb = context.radio.kenb;
+    accept(draft, alloc, setting, kenb)
 }
 
 #[tactic(auto, unfolding(crate::specs::Serving::inner_esm, crate::specs::Serving::reacted))]

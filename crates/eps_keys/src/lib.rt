@@ -1,8 +1,7 @@
 //! Keys and integrity of EPS NAS signalling: AES-128, CMAC, 128-EIA2, HMAC-SHA-256 and the key
 //! derivations.
 //!
-//! No call is refused, and none takes memory but what a [`KeySchedule`] keeps, which keeps nothing
-//! where there is none. Each is proved equal to its function on whole lists in `specs/`. No proof speaks of time, but AES, CMAC
+//! No call is refused, and none takes memory. Each is proved equal to its function on whole lists in `specs/`. No proof speaks of time, but AES, CMAC
 //! and [`same_octets`] have no branch and no address in memory that depends on a key or an octet of a message: only lengths
 //! steer them.
 #![tactic(auto)]
@@ -12,15 +11,15 @@ mod block;
 mod derive;
 mod direction;
 mod equal;
+mod kasme;
 mod lanes;
 mod laws;
 mod mac;
-mod schedule;
 
 pub use aes::aes_encrypt;
 pub use derive::{hmac_sha256, kenb, nas_integrity_key, next_hop};
 pub use direction::DirectionBit;
 pub use equal::same_octets;
+pub use kasme::Kasme;
 pub use laws::same_is_equal;
 pub use mac::{MacKey, cmac, eia2};
-pub use schedule::KeySchedule;

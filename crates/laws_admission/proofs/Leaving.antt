@@ -29,6 +29,7 @@ use Rattle.emm_state.specs.declared.solo.Solo.{Solo}
 use Rattle.emm_state.specs.Phases as phases
 use Rattle.emm_state.specs.Actions.{association_counted, disconnected, emit, ended, fall, fallen, is_registered, lost, mac_of, refuse, release, resting, start, turn_away, untouched}
 use Rattle.emm_machine.specs.Connected as connected
+use Rattle.emm_machine.specs.Messages as messages
 use Rattle.emm_machine.specs.Idle as idle
 use Rattle.emm_machine.specs.Serving as serving
 use Rattle.emm_machine.specs.Serving.{accepted_by_context}
@@ -224,8 +225,8 @@ module _ {x : Context} {b : Solo} where
   keeps_uplink _ s tai nas r e h = absurd (cc)
 
   keeps_on_connection : {d : Draft} (body : UeBody (List ℕ)) (s : Setting) → is_proved_body x body ≡ false → Keeps x b d
-      → Within (Keeps x b) (connected.on_connection body s d)
-  unfolding connected.on_connection
+      → Within (Keeps x b) (messages.on_connection body s d)
+  unfolding messages.on_connection
   keeps_on_connection {d} (bodies.Uplink nas tai) s e h = keeps_uplink d.solo.phase s tai nas h.stays.registered e h
   keeps_on_connection (bodies.UeContextReleaseRequest cause) s e h = here (keeps_fall _ h)
   keeps_on_connection bodies.InitialContextSetupFailure s e h = here (keeps_fall _ h)
@@ -236,8 +237,8 @@ module _ {x : Context} {b : Solo} where
   keeps_indicate cause m h = keeps_emit m.station _ h
 
   keeps_checked : {d : Draft} (s : Setting) (m : UeMessage (List ℕ)) → is_proved_body x m.body ≡ false → Keeps x b d
-      → Within (Keeps x b) (connected.checked s m d)
-  unfolding connected.checked
+      → Within (Keeps x b) (messages.checked s m d)
+  unfolding messages.checked
   keeps_checked s m e h =
       either (Within (Keeps x b)) _ (here (keeps_indicate _ m h))
       (either (Within (Keeps x b)) _ (keeps_on_connection m.body s e h) (here (keeps_indicate _ m h)))
@@ -263,8 +264,8 @@ module _ {x : Context} {b : Solo} where
 
   leaves_message_of : {d : Draft} (body : UeBody (List ℕ)) (s : Setting) (m : UeMessage (List ℕ)) → is_proved_body x m.body ≡ false
       → Keeps x b d
-      → Within (Leaves x b (is_path_switch_body body)) (connected.message_of body s m d)
-  unfolding connected.message_of
+      → Within (Leaves x b (is_path_switch_body body)) (messages.message_of body s m d)
+  unfolding messages.message_of
   leaves_message_of bodies.UeContextReleaseComplete s m e h = here (leaves false h)
   leaves_message_of bodies.PathSwitch s m e h = here (leaves_path_switch m h)
   leaves_message_of _ s m e h = within false (keeps_checked s m e h)

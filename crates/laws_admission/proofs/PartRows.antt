@@ -45,6 +45,7 @@ use Rattle.emm_state.specs.Actions.{connect, connect_on, emit, ended, is_registe
 use Rattle.emm_machine.specs.Attaching as attaching
 use Rattle.emm_machine.specs.Attaching.{counted_up}
 use Rattle.emm_machine.specs.Connected as connected
+use Rattle.emm_machine.specs.Messages as messages
 use Rattle.emm_machine.specs.Idle as idle
 use Rattle.emm_machine.specs.Serving as serving
 use Rattle.emm_machine.specs.Steps as steps
@@ -433,16 +434,16 @@ module _ {s : Setting} {b : Solo} {item : events.Item} where
   -- ---- messages on an association
 
   moves_on_connection : SameIsEqual → (body : UeBody (List ℕ)) → nas_of_body body ≡ uplink_nas item → IsSome b.connection
-      → Whenever (Moves s b item) (connected.on_connection body s (untouched b))
-  unfolding connected.on_connection
+      → Whenever (Moves s b item) (messages.on_connection body s (untouched b))
+  unfolding messages.on_connection
   moves_on_connection equal (bodies.Uplink nas tai) up linked = moves_uplink equal b.phase tai nas refl linked (sym up)
   moves_on_connection equal (bodies.UeContextReleaseRequest cause) up linked = some (moves_fall _ begun)
   moves_on_connection equal bodies.InitialContextSetupFailure up linked = some (moves_fall _ begun)
   moves_on_connection equal _ up linked = some (stays begun)
 
   moves_checked : SameIsEqual → (m : UeMessage (List ℕ)) → nas_of_body m.body ≡ uplink_nas item
-      → Whenever (Moves s b item) (connected.checked s m (untouched b))
-  unfolding connected.checked
+      → Whenever (Moves s b item) (messages.checked s m (untouched b))
+  unfolding messages.checked
   moves_checked equal m up =
       either_by (Whenever (Moves s b item)) (not (connected.has_connection_id m (untouched b)))
       (λ t. some (stays (here_indicate _ m begun)))
@@ -450,8 +451,8 @@ module _ {s : Setting} {b : Solo} {item : events.Item} where
       either (Whenever (Moves s b item)) _ (moves_on_connection equal m.body up linked) (some (stays (here_indicate _ m begun))))
 
   moves_message_of : SameIsEqual → (body : UeBody (List ℕ)) (m : UeMessage (List ℕ)) → nas_of_body m.body ≡ uplink_nas item
-      → Whenever (Moves s b item) (connected.message_of body s m (untouched b))
-  unfolding connected.message_of
+      → Whenever (Moves s b item) (messages.message_of body s m (untouched b))
+  unfolding messages.message_of
   moves_message_of equal bodies.UeContextReleaseComplete m up = some (stays begun)
   moves_message_of equal bodies.PathSwitch m up = some (stays (here_path_switch m begun))
   moves_message_of equal _ m up = moves_checked equal m up

@@ -51,6 +51,7 @@ use Rattle.emm_state.specs.Actions.{emit, ended, is_registered, set_up_with, unt
 use Rattle.emm_machine.specs.Attaching as attaching
 use Rattle.emm_machine.specs.Attaching.{counted_up, keys_of}
 use Rattle.emm_machine.specs.Connected as connected
+use Rattle.emm_machine.specs.Messages as messages
 use Rattle.emm_machine.specs.Idle as idle
 use Rattle.emm_machine.specs.Serving as serving
 use Rattle.emm_machine.specs.Steps as steps
@@ -582,8 +583,8 @@ module _ (whole : WholeIsFresh) {s : Setting} where
   -- ---- messages on an association
 
   done_on_connection : {d : Draft} (body : UeBody (List ℕ)) → IsSome d.solo.connection → IsReady s (IsSound s) d
-      → Whenever (IsDone s) (connected.on_connection body s d)
-  unfolding connected.on_connection
+      → Whenever (IsDone s) (messages.on_connection body s d)
+  unfolding messages.on_connection
   done_on_connection {d} (bodies.Uplink nas tai) linked h = done_uplink d.solo.phase tai nas refl linked h
   done_on_connection (bodies.UeContextReleaseRequest cause) linked h = some (done (sound_fall _ h))
   done_on_connection bodies.InitialContextSetupFailure linked h = some (done (sound_fall _ h))
@@ -594,8 +595,8 @@ module _ (whole : WholeIsFresh) {s : Setting} where
   unfolding connected.indicate error_indication
   sound_indicate cause m h = ready_emit m.station _ None refl refl h
 
-  done_checked : {d : Draft} (m : UeMessage (List ℕ)) → IsReady s (IsSound s) d → Whenever (IsDone s) (connected.checked s m d)
-  unfolding connected.checked
+  done_checked : {d : Draft} (m : UeMessage (List ℕ)) → IsReady s (IsSound s) d → Whenever (IsDone s) (messages.checked s m d)
+  unfolding messages.checked
   done_checked {d} m h =
       either_by (Whenever (IsDone s)) _ (λ t. some (done (sound_indicate _ m h)))
       (λ t. let linked = connected_of d.solo.connection _ (true_of (connected.has_connection_id m d) t) in
@@ -651,8 +652,8 @@ module _ (whole : WholeIsFresh) {s : Setting} where
       (either_by (IsDone s) (is_registered d.solo.phase) (λ r. at_some (IsDone s) d.solo.context (λ x is. done_switched m x is r linked h) (λ is. done h)) (λ r. failed _)))
 
   done_message_of : {d : Draft} (body : UeBody (List ℕ)) (m : UeMessage (List ℕ)) → IsReady s (IsSound s) d
-      → Whenever (IsDone s) (connected.message_of body s m d)
-  unfolding connected.message_of
+      → Whenever (IsDone s) (messages.message_of body s m d)
+  unfolding messages.message_of
   done_message_of bodies.UeContextReleaseComplete m h = some (done h)
   done_message_of bodies.PathSwitch m h = some (done_path_switch m h)
   done_message_of _ m h = done_checked m h

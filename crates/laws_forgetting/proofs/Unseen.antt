@@ -29,6 +29,7 @@ use Rattle.emm_state.specs.declared.solo.Solo.{Solo}
 use Rattle.emm_state.specs.Actions.{association_counted, connect, connect_on, disconnected, emit, leave_old, refuse, release, send, untouched, wipe}
 use Rattle.emm_machine.specs.Attaching as attaching
 use Rattle.emm_machine.specs.Connected as connected
+use Rattle.emm_machine.specs.Messages as messages
 use Rattle.emm_machine.specs.Idle as idle
 use Rattle.emm_machine.specs.Serving as serving
 use Rattle.emm_machine.specs.Steps.{row, solo_answers, solo_step, spent}
@@ -122,9 +123,9 @@ module _ (s : Setting) (tai : Tai) (asked : Asked) where
   -- ---- a message on an association that isn't there
 
   message : (m : UeMessage (List ℕ)) (body : UeBody (List ℕ)) (z : Solo)
-      → GoAlike (unwrap_or (connected.message_of body s m (untouched (bare z))) (spent (bare z)))
-      (unwrap_or (connected.message_of body s m (untouched (bare (but_for tai asked z)))) (spent (bare (but_for tai asked z))))
-  unfolding connected.message_of connected.path_switch connected.not_switched connected.checked connected.indicate emit
+      → GoAlike (unwrap_or (messages.message_of body s m (untouched (bare z))) (spent (bare z)))
+      (unwrap_or (messages.message_of body s m (untouched (bare (but_for tai asked z)))) (spent (bare (but_for tai asked z))))
+  unfolding messages.message_of connected.path_switch connected.not_switched messages.checked connected.indicate emit
   message m bodies.UeContextReleaseComplete z = stay z
   message m bodies.PathSwitch z = record { sent = refl; solo = inr (z, refl, refl) }
   message m _ z = record { sent = refl; solo = inr (z, refl, refl) }

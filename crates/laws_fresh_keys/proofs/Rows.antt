@@ -56,6 +56,7 @@ use Rattle.emm_state.specs.Phases.{is}
 use Rattle.emm_machine.specs.Attaching as attaching
 use Rattle.emm_machine.specs.Attaching.{counted_up}
 use Rattle.emm_machine.specs.Connected as connected
+use Rattle.emm_machine.specs.Messages as messages
 use Rattle.emm_machine.specs.Freshness.{HasVector, next_place}
 use Rattle.emm_machine.specs.Idle as idle
 use Rattle.emm_machine.specs.Serving as serving
@@ -488,8 +489,8 @@ module _ (whole : WholeIsFresh) (short : ShortIsFresh) {s : Setting} {f : RadioK
   -- ---- messages on an association
 
   done_on_connection : (body : UeBody (List ℕ)) → IsQuiet s f (untouched b)
-      → Whenever (IsDone s f b) (connected.on_connection body s (untouched b))
-  unfolding connected.on_connection
+      → Whenever (IsDone s f b) (messages.on_connection body s (untouched b))
+  unfolding messages.on_connection
   done_on_connection (bodies.Uplink nas tai) h = done_uplink b.phase tai nas refl h
   done_on_connection (bodies.UeContextReleaseRequest cause) h = some (Silent (quiet_fall _ h))
   done_on_connection bodies.InitialContextSetupFailure h = some (Silent (quiet_fall _ h))
@@ -500,8 +501,8 @@ module _ (whole : WholeIsFresh) (short : ShortIsFresh) {s : Setting} {f : RadioK
   quiet_indicate cause m h = quiet_emit m.station _ None refl h
 
   done_checked : (m : UeMessage (List ℕ)) → IsQuiet s f (untouched b)
-      → Whenever (IsDone s f b) (connected.checked s m (untouched b))
-  unfolding connected.checked
+      → Whenever (IsDone s f b) (messages.checked s m (untouched b))
+  unfolding messages.checked
   done_checked m h =
       either (Whenever (IsDone s f b)) _ (some (Silent (quiet_indicate _ m h)))
       (either (Whenever (IsDone s f b)) _ (done_on_connection m.body h) (some (Silent (quiet_indicate _ m h))))
@@ -521,8 +522,8 @@ module _ (whole : WholeIsFresh) (short : ShortIsFresh) {s : Setting} {f : RadioK
       (λ r. Silent (quiet_not_switched _ m h))))
 
   done_message_of : (body : UeBody (List ℕ)) (m : UeMessage (List ℕ)) → IsQuiet s f (untouched b)
-      → Whenever (IsDone s f b) (connected.message_of body s m (untouched b))
-  unfolding connected.message_of
+      → Whenever (IsDone s f b) (messages.message_of body s m (untouched b))
+  unfolding messages.message_of
   done_message_of bodies.UeContextReleaseComplete m h = some (Silent h)
   done_message_of bodies.PathSwitch m h = some (done_path_switch m h)
   done_message_of _ m h = done_checked m h

@@ -15,11 +15,11 @@ use Rattle.trace_words.specs.declared.line.Line.{Line}
 use Rattle.trace_words.specs.declared.line.Line.TheVariants.{Skip, Mme, Sub, Vec, Up, Lost, In, Tick, Data, Cancel, Show}
 use Rattle.trace_words.specs.declared.fault.TraceFault.{TraceFault}
 use Rattle.trace_words.specs.declared.fault.TraceFault.TheVariants.{Order, Provision}
-use Rattle.trace_player.specs.declared.progress.Progress.{Progress}
-use Rattle.trace_player.specs.declared.progress.Progress.TheVariants.{Nothing, Provisioning, Running}
-use Rattle.trace_player.specs.Effects.{Effect, config_of, effect_of, nobody, running, with_subscriber, with_vector_at}
-use Rattle.trace_player.specs.Text.{Played, lines_of, play, played_of, then_play}
-use Rattle.trace_player.specs.TextLaws.{play-cons, play-nil}
+use Rattle.trace_progress.specs.declared.progress.Progress.{Progress}
+use Rattle.trace_progress.specs.declared.progress.Progress.TheVariants.{Nothing, Provisioning, Running}
+use Rattle.trace_progress.specs.Effects.{Effect, config_of, effect_of, nobody, running, with_subscriber, with_vector_at}
+use Rattle.trace_progress.specs.Text.{Played, lines_of, play, played_of, then_play}
+use Rattle.trace_progress.specs.TextLaws.{play-cons, play-nil}
 use Rattle.laws_printed.specs.Laws.{RunBeginsFresh}
 use Rattle.laws_printed.specs.Runs.{Run, begins_at, begun, events_in, once_provisioned, run_from, run_of}
 

@@ -8,3 +8,4 @@ pub mod Slots
 pub mod Stations
 pub mod Strangers
 pub mod Two
+pub mod Commented

@@ -18,8 +18,8 @@ use Rattle.trace_words.specs.Lines.{is_unbroken}
 use Rattle.trace_words.specs.Trace.{◌␣◌, octets_text}
 use Rattle.trace_words.specs.WordLaws.{is_word, word_over, word_unbroken, shown_word, unbroken_append}
 use Rattle.trace_answers.specs.Words.{ecm_word, emm_word, esm_word, owner_text, refused_text, sent_text, states_text}
-use Rattle.trace_player.specs.Text.{breaks, lines_of}
-use Rattle.trace_player.specs.TextLaws.{lines_of-at, lines_of-nil}
+use Rattle.trace_progress.specs.Text.{breaks, lines_of}
+use Rattle.trace_progress.specs.TextLaws.{lines_of-at, lines_of-nil}
 use Rattle.laws_printed.specs.Printed.{begins_with, lines_for, told_line}
 
 -- ---- whole lines

@@ -9,7 +9,7 @@ use Rattle.mme_core.specs.declared.event.StepFault.{StepFault}
 use Rattle.mme_core.specs.Projection.{Told, owned_by, told_in, told_of}
 use Rattle.trace_words.specs.Trace.{octets_text}
 use Rattle.trace_answers.specs.Words.{answers_of, out_text, owner_text, refused_text, states_text}
-use Rattle.trace_player.specs.Replies.{refusal_number, reply_text}
+use Rattle.trace_progress.specs.Replies.{refusal_number, reply_text}
 use Rattle.laws_printed.specs.Printed.{begins_with, lines_for, told_line}
 use Rattle.laws_printed.proofs.Lines.{IsWhole, lines_for-append, lines_for-line, lines_for-nil, refused_line, refused_unbroken, sent_line, state_line, states_line, states_unbroken, told_unbroken, whole_both, whole_line, whole_nil}
 use Rattle.laws_printed.proofs.Names.{Agree, is_of, same_owner}

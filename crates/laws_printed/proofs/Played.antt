@@ -14,12 +14,12 @@ use Rattle.trace_words.specs.Trace.{◌>>=◌, line_of}
 use Rattle.trace_words.specs.declared.line.Line.{Line}
 use Rattle.trace_words.specs.declared.line.Line.TheVariants.{Skip, Mme, Sub, Vec, Up, Lost, In, Tick, Data, Cancel, Show}
 use Rattle.trace_words.specs.declared.fault.TraceFault.{TraceFault}
-use Rattle.trace_player.specs.declared.progress.Progress.{Progress}
-use Rattle.trace_player.specs.declared.progress.Progress.TheVariants.{Running}
-use Rattle.trace_player.specs.Effects.{Effect, effect_of, event_played, in_event, left, left_by, states_of_imsi, states_shown, tick_then, ticked}
-use Rattle.trace_player.specs.Replies.{reply_text}
-use Rattle.trace_player.specs.Text.{Played, line_effect, play, then_play}
-use Rattle.trace_player.specs.TextLaws.{play-cons, play-nil}
+use Rattle.trace_progress.specs.declared.progress.Progress.{Progress}
+use Rattle.trace_progress.specs.declared.progress.Progress.TheVariants.{Running}
+use Rattle.trace_progress.specs.Effects.{Effect, effect_of, event_played, in_event, left, left_by, states_of_imsi, states_shown, tick_then, ticked}
+use Rattle.trace_progress.specs.Replies.{reply_text}
+use Rattle.trace_progress.specs.Text.{Played, line_effect, play, then_play}
+use Rattle.trace_progress.specs.TextLaws.{play-cons, play-nil}
 use Rattle.laws_printed.specs.Printed.{lines_for, told_line, told_lines}
 use Rattle.laws_printed.specs.Runs.{events_in, line_events, seconds, text_events, then_events}
 use Rattle.laws_printed.proofs.Lines.{IsWhole, lines_for-append, lines_for-nil, whole_both, whole_nil}

@@ -8,7 +8,7 @@ use Rattle.mme_core.specs.declared.event.Event.{Event}
 use Rattle.mme_core.specs.Laws.{in_order}
 use Rattle.mme_core.specs.Projection.{silence, subscriber_told}
 use Rattle.laws_runs.specs.Alone.{NobodyIsTold, SlotIsTold, own_items}
-use Rattle.trace_player.specs.Text.{played_of}
+use Rattle.trace_progress.specs.Text.{played_of}
 use Rattle.laws_printed.specs.Laws.{NobodyIsPrinted, NobodyIsPrintedFrom, SlotIsPrinted, SlotIsPrintedFrom}
 use Rattle.laws_printed.specs.Printed.{lines_for, told_line, told_lines}
 use Rattle.laws_printed.specs.Runs.{Run, events_in}

@@ -17,7 +17,7 @@ use Rattle.trace_words.specs.declared.line.Line.{Line}
 use Rattle.trace_words.specs.declared.line.Line.TheVariants.{Skip, Mme, Sub, Vec, Up, Lost, In, Tick, Data, Cancel, Show}
 use Rattle.trace_words.specs.declared.fault.TraceFault.{TraceFault}
 use Rattle.trace_words.specs.declared.fault.TraceFault.TheVariants.{BadNumber}
-use Rattle.trace_player.specs.Effects.{states_of_imsi}
+use Rattle.trace_progress.specs.Effects.{states_of_imsi}
 use Rattle.laws_printed.specs.Laws.{StationIsPrinted, StationIsPrintedFrom}
 use Rattle.laws_printed.specs.Printed.{lines_for, told_lines}
 use Rattle.laws_printed.specs.Runs.{events_in, line_events, seconds, text_events, then_events}

@@ -7,7 +7,7 @@ use Rattle.mme_answering.specs.declared.out.Owner.TheVariants.{Station, Stranger
 use Rattle.mme_core.specs.Laws.{SameToSlot}
 use Rattle.mme_core.specs.World.{World, strangers_in}
 use Rattle.laws_runs.specs.Same.{SameToStation, SameToStranger}
-use Rattle.trace_player.specs.Text.{played_of}
+use Rattle.trace_progress.specs.Text.{played_of}
 use Rattle.laws_printed.specs.Laws.{SameSlotIsPrinted, SameStationIsPrinted, SameStrangerIsPrinted, SlotIsPrinted, StationIsPrinted, StrangerIsPrinted}
 use Rattle.laws_printed.specs.Printed.{told_line}
 use Rattle.laws_printed.specs.Runs.{Run}

@@ -15,8 +15,8 @@ use Rattle.mme_core.specs.World.{World, fresh_world}
 use Rattle.laws_runs.specs.Alone.{own_items}
 use Rattle.laws_runs.specs.Same.{busy_inputs, events_of, inputs_along}
 use Rattle.laws_stations.specs.Placed.{AllPlaced}
-use Rattle.trace_player.specs.declared.progress.Progress.TheVariants.{Running}
-use Rattle.trace_player.specs.Text.{play, played_of}
+use Rattle.trace_progress.specs.declared.progress.Progress.TheVariants.{Running}
+use Rattle.trace_progress.specs.Text.{play, played_of}
 use Rattle.laws_printed.specs.Printed.{lines_for, told_lines}
 use Rattle.laws_printed.specs.Runs.{Run, events_in, run_of}
 

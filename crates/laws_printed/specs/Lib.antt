@@ -1,3 +1,4 @@
 pub mod Runs
 pub mod Printed
 pub mod Laws
+pub mod Comments

@@ -6,7 +6,7 @@ use Rattle.mme_core.specs.Laws.{in_order}
 use Rattle.mme_core.specs.Projection.{Told}
 use Rattle.trace_words.specs.Trace.{octets_text}
 use Rattle.trace_answers.specs.Words.{owner_text}
-use Rattle.trace_player.specs.Text.{lines_of}
+use Rattle.trace_progress.specs.Text.{lines_of}
 
 -- whether a text begins with these octets
 abbrev pub begins_with : List ℕ → List ℕ → Bool

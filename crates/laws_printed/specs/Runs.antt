@@ -7,10 +7,10 @@ use Rattle.trace_words.specs.Trace.{line_of}
 use Rattle.trace_words.specs.declared.line.Line.{Line}
 use Rattle.trace_words.specs.declared.line.Line.TheVariants.{Skip, Mme, Sub, Vec, Up, Lost, In, Tick, Data, Cancel, Show}
 use Rattle.trace_words.specs.declared.fault.TraceFault.{TraceFault}
-use Rattle.trace_player.specs.declared.progress.Progress.{Progress}
-use Rattle.trace_player.specs.declared.progress.Progress.TheVariants.{Nothing}
-use Rattle.trace_player.specs.Effects.{Effect, effect_of, in_event, running, states_of_imsi}
-use Rattle.trace_player.specs.Text.{lines_of}
+use Rattle.trace_progress.specs.declared.progress.Progress.{Progress}
+use Rattle.trace_progress.specs.declared.progress.Progress.TheVariants.{Nothing}
+use Rattle.trace_progress.specs.Effects.{Effect, effect_of, in_event, running, states_of_imsi}
+use Rattle.trace_progress.specs.Text.{lines_of}
 
 -- ---- events
 

@@ -1,5 +1,6 @@
 //! The laws: each is the contract of a function that does nothing.
 
+ghost use Rattle.laws_printed.specs.Comments.{CommentsArePlayed, NobodyIsSimulated, NothingIsSimulated, SlotIsSimulated, StationIsSimulated, StrangerIsSimulated};
 ghost use Rattle.laws_printed.specs.Laws.{NobodyIsPrinted, NobodyIsPrintedFrom, NothingIsPrinted, RunBeginsFresh, SameSlotIsPrinted, SameStationIsPrinted, SameStrangerIsPrinted, SlotIsPrinted, SlotIsPrintedFrom, StationIsPrinted, StationIsPrintedFrom, StrangerIsPrinted, StrangerIsPrintedFrom};
 
 use laws_runs::{
@@ -65,4 +66,22 @@ pub fn same_is_printed_alike()
     same_to_stranger();
     stations_are_printed();
     same_to_station();
+}
+
+/// In what a simulation prints, up to the end of its script or to a line that has a fault, the lines that begin with `# out` and
+/// the name of an owner are those of its own machine over what the printed trace has for it: of `sN` those of slot N's machine, of
+/// `xE.B` those of the stranger with the number B at station E, of `eE` what station E's own events lead to. They are, after `# `,
+/// what is printed for the owner where the output is played as a trace; where no line of it comes to an MME there are none.
+pub fn simulations_are_printed()
+    ensures played { CommentsArePlayed }
+    ensures nothing { NothingIsSimulated }
+    ensures slot { SlotIsSimulated }
+    ensures absent { NobodyIsSimulated }
+    ensures station { StationIsSimulated }
+    ensures stranger { StrangerIsSimulated }
+{
+    no_run_prints_nothing();
+    slots_are_printed();
+    stations_are_printed();
+    strangers_are_printed();
 }

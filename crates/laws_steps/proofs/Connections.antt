@@ -28,6 +28,7 @@ use Rattle.emm_state.specs.declared.solo.Solo.{Solo}
 use Rattle.emm_state.specs.Actions.{association_counted, emit, is_registered, refuse, start, turn_away, untouched}
 use Rattle.emm_state.specs.Phases.{is}
 use Rattle.emm_machine.specs.Connected as connected
+use Rattle.emm_machine.specs.Messages as messages
 use Rattle.emm_machine.specs.Idle as idle
 use Rattle.emm_machine.specs.Serving as serving
 use Rattle.emm_machine.specs.Steps as steps
@@ -169,8 +170,8 @@ module _ (s : Setting) (solo : Solo) (item : Item) (k : Connection) (at : solo.c
         either_by StaysOr (not (connected.has_connection_id m (untouched solo))) (λ none. emitted m.station _)
         (λ has. inr (Switch (subst (λ (i : Item). IsSwitchOf i k) (sym is_message) (switches, same_id has))))
 
-    checked : item ≡ events.Message m → RowStaysOr (connected.checked s m (untouched solo))
-    unfolding connected.checked connected.indicate RowStaysOr
+    checked : item ≡ events.Message m → RowStaysOr (messages.checked s m (untouched solo))
+    unfolding messages.checked connected.indicate RowStaysOr
     checked is_message =
         either_by RowStaysOr (not (connected.has_connection_id m (untouched solo))) (λ none. row_of _ (emitted m.station _))
         (λ has. either_by RowStaysOr (connected.has_pair m (untouched solo))
@@ -178,8 +179,8 @@ module _ (s : Setting) (solo : Solo) (item : Item) (k : Connection) (at : solo.c
         (λ other. row_of _ (emitted m.station _)))
 
     message_of : (body : UeBody (List ℕ)) → item ≡ events.Message m → m.body ≡ body
-        → RowStaysOr (connected.message_of body s m (untouched solo))
-    unfolding connected.message_of
+        → RowStaysOr (messages.message_of body s m (untouched solo))
+    unfolding messages.message_of
     message_of bodies.UeContextReleaseComplete is_message body = row_of _ stays_here
     message_of bodies.PathSwitch is_message body = row_of _ (path_switch is_message body)
     message_of _ is_message body = checked is_message

@@ -51,6 +51,7 @@ use Rattle.emm_state.specs.Actions.{association_counted, connect, connect_on, di
 use Rattle.emm_state.specs.Does.{◌>>=◌}
 use Rattle.emm_machine.specs.Attaching as attaching
 use Rattle.emm_machine.specs.Connected as connected
+use Rattle.emm_machine.specs.Messages as messages
 use Rattle.emm_machine.specs.Idle as idle
 use Rattle.emm_machine.specs.Serving as serving
 use Rattle.emm_machine.specs.Steps as steps
@@ -410,15 +411,15 @@ module _ (s : Setting) {n : ℕ} where
   uplink Detaching tai nas h = in_later tai nas h
 
   on_connection : {d : Draft} (body : UeBody (List ℕ)) → AtMost n d
-      → Whenever (AtMost (suc (suc n))) (connected.on_connection body s d)
-  unfolding connected.on_connection
+      → Whenever (AtMost (suc (suc n))) (messages.on_connection body s d)
+  unfolding messages.on_connection
   on_connection {d} (bodies.Uplink nas tai) h = uplink d.solo.phase tai nas h
   on_connection (bodies.UeContextReleaseRequest cause) h = some (one_more (fall_so _ h))
   on_connection bodies.InitialContextSetupFailure h = some (one_more (fall_so _ h))
   on_connection _ h = some (one_more (one_more h))
 
-  checked : {d : Draft} (m : UeMessage (List ℕ)) → AtMost n d → Whenever (AtMost (suc (suc n))) (connected.checked s m d)
-  unfolding connected.checked connected.indicate
+  checked : {d : Draft} (m : UeMessage (List ℕ)) → AtMost n d → Whenever (AtMost (suc (suc n))) (messages.checked s m d)
+  unfolding messages.checked connected.indicate
   checked m h =
       either (Whenever (AtMost (suc (suc n)))) _ (some (one_more (emits _ _ None h)))
       (either (Whenever (AtMost (suc (suc n)))) _ (on_connection m.body h) (some (one_more (emits _ _ None h))))
@@ -438,8 +439,8 @@ module _ (s : Setting) {n : ℕ} where
       (no (causes.Protocol protocol.MessageNotCompatible))))
 
   message_of : {d : Draft} (body : UeBody (List ℕ)) (m : UeMessage (List ℕ)) → AtMost n d
-      → Whenever (AtMost (suc (suc n))) (connected.message_of body s m d)
-  unfolding connected.message_of
+      → Whenever (AtMost (suc (suc n))) (messages.message_of body s m d)
+  unfolding messages.message_of
   message_of bodies.UeContextReleaseComplete m h = some (one_more (one_more h))
   message_of bodies.PathSwitch m h = some (path_switch m h)
   message_of _ m h = checked m h

@@ -50,6 +50,7 @@ use Rattle.emm_state.specs.Does.{◌>>=◌}
 use Rattle.emm_state.specs.Phases.{is}
 use Rattle.emm_machine.specs.Attaching as attaching
 use Rattle.emm_machine.specs.Connected as connected
+use Rattle.emm_machine.specs.Messages as messages
 use Rattle.emm_machine.specs.Idle as idle
 use Rattle.emm_machine.specs.Serving as serving
 use Rattle.emm_machine.specs.Steps as steps
@@ -457,8 +458,8 @@ module _ (s : Setting) (solo : Solo) (item : Item) {P : Draft → Type 0} (k : K
     from = ap station_of is_message
 
     on_connection : (body : UeBody (List ℕ)) → m.body ≡ body → P (untouched solo)
-        → Whenever P (connected.on_connection body s (untouched solo))
-    unfolding connected.on_connection
+        → Whenever P (messages.on_connection body s (untouched solo))
+    unfolding messages.on_connection
     on_connection (bodies.Uplink nas tai) body h =
         uplink solo.phase tai nas refl (ap uplink_nas is_message ∙ ap nas_of_body body) (ap tai_of is_message ∙ ap tai_of_body body) h
     on_connection (bodies.UeContextReleaseRequest cause) body h = some (falls _ h)
@@ -469,8 +470,8 @@ module _ (s : Setting) (solo : Solo) (item : Item) {P : Draft → Type 0} (k : K
     unfolding connected.indicate
     indicate cause h = k.emits m.station _ (untouched solo) from (m.mme_ue_id, m.enb_ue_id, cause, inl refl) h
 
-    checked : P (untouched solo) → Whenever P (connected.checked s m (untouched solo))
-    unfolding connected.checked
+    checked : P (untouched solo) → Whenever P (messages.checked s m (untouched solo))
+    unfolding messages.checked
     checked h =
         either (Whenever P) _ (some (indicate _ h))
         (either (Whenever P) _ (on_connection m.body refl h) (some (indicate _ h)))
@@ -486,8 +487,8 @@ module _ (s : Setting) (solo : Solo) (item : Item) {P : Draft → Type 0} (k : K
         (at_some P solo.context (λ x has. k.switches m x (untouched solo) is_message has h) (λ none. h))
         (no (causes.Protocol protocol.MessageNotCompatible))))
 
-    message_of : (body : UeBody (List ℕ)) → P (untouched solo) → Whenever P (connected.message_of body s m (untouched solo))
-    unfolding connected.message_of
+    message_of : (body : UeBody (List ℕ)) → P (untouched solo) → Whenever P (messages.message_of body s m (untouched solo))
+    unfolding messages.message_of
     message_of bodies.UeContextReleaseComplete h = some h
     message_of bodies.PathSwitch h = some (path_switch h)
     message_of _ h = checked h

@@ -47,6 +47,7 @@ use Rattle.emm_state.specs.Actions.{emit, ended, is_registered, mac_of, untouche
 use Rattle.emm_machine.specs.Attaching as attaching
 use Rattle.emm_machine.specs.Attaching.{counted_up, keys_of, no_keys}
 use Rattle.emm_machine.specs.Connected as connected
+use Rattle.emm_machine.specs.Messages as messages
 use Rattle.emm_machine.specs.Idle as idle
 use Rattle.emm_machine.specs.Serving as serving
 use Rattle.emm_machine.specs.Steps as steps
@@ -395,8 +396,8 @@ module _ (written : AreWritten) (spelled : DecodedIsSpelled) (esm_spelled : Deco
 
   -- ---- messages on an association
 
-  fit_on_connection : {d : Draft} (body : UeBody (List ℕ)) → BodyInRange body → IsFit d → FitIf (connected.on_connection body s d)
-  unfolding connected.on_connection
+  fit_on_connection : {d : Draft} (body : UeBody (List ℕ)) → BodyInRange body → IsFit d → FitIf (messages.on_connection body s d)
+  unfolding messages.on_connection
   fit_on_connection {d} (bodies.Uplink nas tai) parts h = fit_uplink d.solo.phase tai nas parts.0 parts.1 h
   fit_on_connection (bodies.UeContextReleaseRequest cause) parts h = some (fit_fall written _ (requests_are_known cause) h)
   fit_on_connection bodies.InitialContextSetupFailure parts h = some (fit_fall written _ refl h)
@@ -408,8 +409,8 @@ module _ (written : AreWritten) (spelled : DecodedIsSpelled) (esm_spelled : Deco
   fit_indicate cause m known message h =
       fit_emit m.station _ None (written.indication m.mme_ue_id m.enb_ue_id cause message.mme_ue_id message.enb_ue_id known) h
 
-  fit_checked : {d : Draft} (m : UeMessage (List ℕ)) → MessageInRange m → IsFit d → FitIf (connected.checked s m d)
-  unfolding connected.checked
+  fit_checked : {d : Draft} (m : UeMessage (List ℕ)) → MessageInRange m → IsFit d → FitIf (messages.checked s m d)
+  unfolding messages.checked
   fit_checked m message h =
       either FitIf _ (some (fit_indicate _ m refl message h))
       (either FitIf _ (fit_on_connection m.body message.body h) (some (fit_indicate _ m refl message h)))
@@ -441,8 +442,8 @@ module _ (written : AreWritten) (spelled : DecodedIsSpelled) (esm_spelled : Deco
       (fit_not_switched (causes.Protocol protocol.MessageNotCompatible) m refl message h)))
 
   fit_message_of : {d : Draft} (body : UeBody (List ℕ)) (m : UeMessage (List ℕ)) → MessageInRange m → IsFit d
-      → FitIf (connected.message_of body s m d)
-  unfolding connected.message_of
+      → FitIf (messages.message_of body s m d)
+  unfolding messages.message_of
   fit_message_of bodies.UeContextReleaseComplete m message h = some h
   fit_message_of bodies.PathSwitch m message h = some (fit_path_switch m message h)
   fit_message_of _ m message h = fit_checked m message h

@@ -1,4 +1,5 @@
 pub mod Causes
 pub mod Hearing
 pub mod Messages
-pub mod Pdus
+-- the S1AP messages
+pub use Rattle.mme_pdus.specs.Pdus

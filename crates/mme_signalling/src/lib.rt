@@ -5,7 +5,6 @@
 mod cause;
 mod heard;
 mod messages;
-mod pdus;
 
 pub use cause::{EmmCause, cause_of_fault};
 pub use heard::{Heard, hear, initial_octets, is_esm};
@@ -14,7 +13,7 @@ pub use messages::{
     authentication_request, detach_accept, emm_status, identity_request, network_detach,
     security_mode_command, service_reject, update_accept, update_reject,
 };
-pub use pdus::{
+pub use mme_pdus::{
     cause_of_request, context_setup, downlink, error_indication, paging, path_switch_acknowledge,
     path_switch_failure, release_command,
 };

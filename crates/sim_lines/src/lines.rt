@@ -17,7 +17,7 @@ use sim_printing::{
 };
 use sim_words::ScriptAct;
 use std::alloc::{AllocError, Global};
-use trace_player::PlayFault;
+use trace_progress::PlayFault;
 use trace_words::{Line, TraceFault};
 
 /// What a line does that is read as in a trace; `text` is the line of that number, as it was read.

@@ -2,8 +2,8 @@
 
 ghost use Rattle.std.specs.Prelude.{◌≡◌, ◌∷◌, []};
 ghost use Rattle.sim_words.specs.Kept.{kept_in};
-ghost use Rattle.trace_player.specs.Text.{breaks};
-ghost use Rattle.trace_player.specs.declared.progress.Progress.TheVariants.{Nothing};
+ghost use Rattle.trace_progress.specs.Text.{breaks};
+ghost use Rattle.trace_progress.specs.declared.progress.Progress.TheVariants.{Nothing};
 ghost use Rattle.sim_printing.specs.Printed.{PrintsScriptLine};
 
 use crate::acts::play_act_line;
@@ -11,7 +11,7 @@ use crate::lines::play_trace_line;
 use sim_crowd::Crowd;
 use sim_words::{ScriptLine, first_word_tells, parse_script_line};
 use std::alloc::Global;
-use trace_player::{PlayFault, Progress, fault_in_line};
+use trace_progress::{PlayFault, Progress, fault_in_line};
 
 /// A script that is being played: the trace that it makes, and its stations and phones.
 #[derive(Drop)]

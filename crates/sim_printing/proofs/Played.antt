@@ -15,14 +15,14 @@ use Rattle.trace_words.specs.declared.fault.TraceFault.{TraceFault}
 use Rattle.trace_words.specs.Trace.{line_of, ◌>>=◌}
 use Rattle.sim_words.specs.Kept.{kept_line}
 use Rattle.sim_words.specs.Script.{FirstWordTells}
-use Rattle.trace_player.specs.declared.fault.PlayFault.{PlayFault}
-use Rattle.trace_player.specs.declared.fault.PlayFault.TheVariants.{Trace, Read, Write, NoMemory}
-use Rattle.trace_player.specs.Acts.{Acts}
-use Rattle.trace_player.specs.declared.progress.Progress.{Progress}
-use Rattle.trace_player.specs.declared.progress.Progress.TheVariants.{Running}
-use Rattle.trace_player.specs.Effects.{Effect, configured, effect_of, event_played, in_event, left, left_by, running, states_of_imsi, states_shown, subscriber_added, tick_then, ticked, vector_given}
+use Rattle.trace_progress.specs.declared.fault.PlayFault.{PlayFault}
+use Rattle.trace_progress.specs.declared.fault.PlayFault.TheVariants.{Trace, Read, Write, NoMemory}
+use Rattle.trace_progress.specs.Acts.{Acts}
+use Rattle.trace_progress.specs.declared.progress.Progress.{Progress}
+use Rattle.trace_progress.specs.declared.progress.Progress.TheVariants.{Running}
+use Rattle.trace_progress.specs.Effects.{Effect, configured, effect_of, event_played, in_event, left, left_by, running, states_of_imsi, states_shown, subscriber_added, tick_then, ticked, vector_given}
 use Rattle.trace_answers.specs.Words.{answers_of, refused_text, states_text}
-use Rattle.trace_player.specs.Replies.{refusal_number, reply_text}
+use Rattle.trace_progress.specs.Replies.{refusal_number, reply_text}
 use Rattle.sim_printing.specs.Printed.{AddsComments, IfSent, Prints, PrintsFrom, PrintsLine, ReadsAs, event_line}
 use Rattle.sim_printing.specs.PrintLaws.{AddsComments-none, Prints-line}
 

@@ -9,10 +9,10 @@ use Rattle.trace_words.specs.declared.line.Line.TheVariants.{Skip}
 use Rattle.trace_words.specs.declared.fault.TraceFault.{TraceFault}
 use Rattle.trace_words.specs.declared.fault.TraceFault.TheVariants.{TooLong}
 use Rattle.trace_words.specs.Trace.{line_of, is_skipped, read_words, ◌>>=◌}
-use Rattle.trace_player.specs.declared.progress.Progress.{Progress}
-use Rattle.trace_player.specs.Effects.{effect_of}
-use Rattle.trace_player.specs.Text.{line_effect, lines_of, breaks}
-use Rattle.trace_player.specs.TextLaws.{breaks-append, lines_of-at, lines_of-nil}
+use Rattle.trace_progress.specs.declared.progress.Progress.{Progress}
+use Rattle.trace_progress.specs.Effects.{effect_of}
+use Rattle.trace_progress.specs.Text.{line_effect, lines_of, breaks}
+use Rattle.trace_progress.specs.TextLaws.{breaks-append, lines_of-at, lines_of-nil}
 
 -- ---- LFs
 

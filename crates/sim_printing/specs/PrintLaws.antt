@@ -8,11 +8,11 @@ use Rattle.trace_answers.specs.Lines.{IsLineWithin}
 use Rattle.trace_words.specs.Trace.{line_of, is_skipped, ◌>>=◌}
 use Rattle.sim_words.specs.Kept.{kept_in, kept_line, is_kept_text}
 use Rattle.sim_words.specs.Script.{CommentsAreNotKept, FirstWordTells}
-use Rattle.trace_player.specs.declared.progress.Progress.{Progress}
-use Rattle.trace_player.specs.Effects.{effect_of}
-use Rattle.trace_player.specs.Text.{prepended, play, then_play, line_effect, lines_of, breaks}
+use Rattle.trace_progress.specs.declared.progress.Progress.{Progress}
+use Rattle.trace_progress.specs.Effects.{effect_of}
+use Rattle.trace_progress.specs.Text.{prepended, play, then_play, line_effect, lines_of, breaks}
 use Rattle.sim_printing.specs.Printed.{answer_in, answers_in, AreComments, AddsComments, Speaks, Prints, ReadsAs}
-use Rattle.trace_player.specs.TextLaws.{breaks-append, lines_of-nil, play-cons, prepended-then}
+use Rattle.trace_progress.specs.TextLaws.{breaks-append, lines_of-nil, play-cons, prepended-then}
 use Rattle.sim_printing.specs.LineLaws.{first_line, one_line, one_break, skip_effect, hash_skip, not_skipped}
 
 pub kept_nil : (xs : List (Result Line TraceFault)) → xs ++ [] ≡ xs

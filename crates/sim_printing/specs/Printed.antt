@@ -9,12 +9,12 @@ use Rattle.trace_words.specs.declared.line.Line.TheVariants.{Up, Lost, In, Tick,
 use Rattle.trace_words.specs.declared.fault.TraceFault.{TraceFault}
 use Rattle.trace_words.specs.Trace.{line_of}
 use Rattle.sim_words.specs.Kept.{kept_in, kept_line}
-use Rattle.trace_player.specs.declared.fault.PlayFault.{PlayFault}
-use Rattle.trace_player.specs.declared.fault.PlayFault.TheVariants.{Trace, Read, Write, NoMemory}
-use Rattle.trace_player.specs.declared.progress.Progress.{Progress}
-use Rattle.trace_player.specs.declared.progress.Progress.TheVariants.{Nothing, Provisioning, Running}
-use Rattle.trace_player.specs.Effects.{effect_of, running}
-use Rattle.trace_player.specs.Text.{prepended, play, lines_of, breaks}
+use Rattle.trace_progress.specs.declared.fault.PlayFault.{PlayFault}
+use Rattle.trace_progress.specs.declared.fault.PlayFault.TheVariants.{Trace, Read, Write, NoMemory}
+use Rattle.trace_progress.specs.declared.progress.Progress.{Progress}
+use Rattle.trace_progress.specs.declared.progress.Progress.TheVariants.{Nothing, Provisioning, Running}
+use Rattle.trace_progress.specs.Effects.{effect_of, running}
+use Rattle.trace_progress.specs.Text.{prepended, play, lines_of, breaks}
 
 -- ---- comments
 

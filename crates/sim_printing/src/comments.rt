@@ -5,7 +5,7 @@ ghost use Rattle.std.specs.Fmt.{decimal};
 ghost use Rattle.s1ap_pdus.specs.Pdus.{longest};
 ghost use Rattle.trace_answers.specs.Lines.{octets_said};
 ghost use Rattle.trace_answers.specs.Words.{answer_text, answers_of, out_text, refused_text, states_text};
-ghost use Rattle.trace_player.specs.Replies.{refusal_number};
+ghost use Rattle.trace_progress.specs.Replies.{refusal_number};
 ghost use Rattle.sim_printing.specs.Printed.{AddsComments};
 
 use emm_machine::States;

@@ -4,7 +4,7 @@ ghost use Rattle.std.specs.Prelude.{◌≡◌, true, false, IfOk, OnOk, is_some}
 ghost use Rattle.std.specs.Result.{result_ok};
 ghost use Rattle.sim_words.specs.Kept.{kept_line};
 ghost use Rattle.mme_core.specs.World.{reply};
-ghost use Rattle.trace_player.specs.Effects.{states_of_imsi};
+ghost use Rattle.trace_progress.specs.Effects.{states_of_imsi};
 ghost use Rattle.trace_words.specs.declared.line.Line.TheVariants.{Show};
 ghost use Rattle.sim_printing.specs.Printed.{PrintsFrom, ReadsAs, event_line};
 
@@ -13,7 +13,7 @@ use mme_core::{Event, Mme, Outs};
 use nas_elements::Imsi;
 use sim_words::first_word_tells;
 use std::alloc::{AllocError, Global};
-use trace_player::states_of_imsi;
+use trace_progress::states_of_imsi;
 
 /// Plays an event: appends `text`, the line that says it, and then its answers, each after `# `. What is sent, or None where
 /// the event was refused. A refusal leaves the MME as it was; where memory is refused the output may end within a line.

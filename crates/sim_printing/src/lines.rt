@@ -5,7 +5,7 @@ ghost use Rattle.trace_words.specs.declared.line.Line.TheVariants.{Mme, Sub, Vec
 ghost use Rattle.sim_words.specs.Kept.{kept_line};
 ghost use Rattle.mme_core.specs.World.{World};
 ghost use Rattle.mme_core.specs.declared.event.Event.TheVariants as event;
-ghost use Rattle.trace_player.specs.Effects.{in_event, running, states_of_imsi};
+ghost use Rattle.trace_progress.specs.Effects.{in_event, running, states_of_imsi};
 ghost use Rattle.sim_printing.specs.Printed.{IfSent, IsBegun, PrintsLine, PrintsOn, ReadsAs, event_line};
 
 use crate::comments::push_line;
@@ -16,7 +16,7 @@ use mme_types::Network;
 use nas_elements::Imsi;
 use sim_words::first_word_tells;
 use std::alloc::{AllocError, Global};
-use trace_player::{PlayFault, Progress, add, give, run, start};
+use trace_progress::{PlayFault, Progress, add, give, run, start};
 use trace_words::{LONGEST_LINE, write_in, write_lost, write_up};
 
 // ---- provisioning

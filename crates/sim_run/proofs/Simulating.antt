@@ -4,12 +4,12 @@ use Rattle.std.proofs.lemmas.List.{take_all, take-append-le}
 use Rattle.trace_words.specs.declared.line.Line.{Line}
 use Rattle.trace_words.specs.declared.fault.TraceFault.{TraceFault}
 use Rattle.sim_words.specs.Kept.{kept_in}
-use Rattle.trace_player.specs.declared.fault.PlayFault.{PlayFault}
-use Rattle.trace_player.specs.declared.fault.PlayFault.TheVariants.{Trace, Read, Write, NoMemory}
-use Rattle.trace_player.specs.declared.progress.Progress.{Progress}
-use Rattle.trace_player.specs.declared.progress.Progress.TheVariants.{Nothing}
-use Rattle.trace_player.specs.Text.{prepended, play, played_text, lines_of, played_of, breaks}
-use Rattle.trace_player.specs.TextLaws.{lines_of-nil, play-nil, prepended-ends}
+use Rattle.trace_progress.specs.declared.fault.PlayFault.{PlayFault}
+use Rattle.trace_progress.specs.declared.fault.PlayFault.TheVariants.{Trace, Read, Write, NoMemory}
+use Rattle.trace_progress.specs.declared.progress.Progress.{Progress}
+use Rattle.trace_progress.specs.declared.progress.Progress.TheVariants.{Nothing}
+use Rattle.trace_progress.specs.Text.{prepended, play, played_text, lines_of, played_of, breaks}
+use Rattle.trace_progress.specs.TextLaws.{lines_of-nil, play-nil, prepended-ends}
 use Rattle.trace_lines.specs.OneLine.{IsOfLine}
 use Rattle.trace_lines.specs.Lines.{PlaysAll, StopsAt, PlaysEach}
 use Rattle.sim_printing.specs.Printed.{answers_in, Speaks, Prints, PrintsScriptLine}

@@ -4,10 +4,10 @@ use Rattle.std.specs.Io.KnownBytes.{Consumes, Appends}
 use Rattle.trace_words.specs.declared.line.Line.{Line}
 use Rattle.trace_words.specs.declared.fault.TraceFault.{TraceFault}
 use Rattle.sim_words.specs.Kept.{kept_in}
-use Rattle.trace_player.specs.declared.fault.PlayFault.{PlayFault}
-use Rattle.trace_player.specs.declared.fault.PlayFault.TheVariants.{Trace, Read, Write, NoMemory}
-use Rattle.trace_player.specs.declared.progress.Progress.{Progress}
-use Rattle.trace_player.specs.Text.{played_text, lines_of, played_of}
+use Rattle.trace_progress.specs.declared.fault.PlayFault.{PlayFault}
+use Rattle.trace_progress.specs.declared.fault.PlayFault.TheVariants.{Trace, Read, Write, NoMemory}
+use Rattle.trace_progress.specs.declared.progress.Progress.{Progress}
+use Rattle.trace_progress.specs.Text.{played_text, lines_of, played_of}
 use Rattle.trace_lines.specs.Lines.{ReadsFarEnough}
 use Rattle.sim_printing.specs.Printed.{answers_in, Speaks}
 

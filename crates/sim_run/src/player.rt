@@ -2,7 +2,7 @@
 
 ghost use Rattle.std.specs.Prelude.{◌≡◌, ◌∷◌, []};
 ghost use Rattle.sim_words.specs.Kept.{kept_in};
-ghost use Rattle.trace_player.specs.declared.progress.Progress.TheVariants.{Nothing};
+ghost use Rattle.trace_progress.specs.declared.progress.Progress.TheVariants.{Nothing};
 ghost use Rattle.sim_run.specs.Simulated.{WritesLine};
 
 use sim_lines::{Script, play_script_line};

@@ -1,10 +1,10 @@
 -- Pieces of a text, one after another: the lines that they end, and what is played of them.
 use Rattle.std.proofs.Common.{◌≡◌, ℕ, ◌+◌, ◌<◌, ◌≤◌, List, [], ◌∷◌, ◌++◌, length, take, drop, Result, Ok, Err, inl, inr, refl, sym, ap, subst, ◌∙◌, append_assoc, append-nil, length-append, arith}
 use Rattle.std.proofs.lemmas.List.{take-append-drop}
-use Rattle.trace_player.specs.declared.fault.PlayFault.{PlayFault}
-use Rattle.trace_player.specs.declared.fault.PlayFault.TheVariants.{Trace, Read, Write, NoMemory}
-use Rattle.trace_player.specs.Text.{breaks, lines_of}
-use Rattle.trace_player.specs.TextLaws.{breaks-append, lines_of-at, lines_of-front, lines_of-last, lines_of-nil}
+use Rattle.trace_progress.specs.declared.fault.PlayFault.{PlayFault}
+use Rattle.trace_progress.specs.declared.fault.PlayFault.TheVariants.{Trace, Read, Write, NoMemory}
+use Rattle.trace_progress.specs.Text.{breaks, lines_of}
+use Rattle.trace_progress.specs.TextLaws.{breaks-append, lines_of-at, lines_of-front, lines_of-last, lines_of-nil}
 use Rattle.trace_lines.specs.declared.under_way.LineUnderWay.{LineUnderWay}
 use Rattle.trace_lines.specs.OneLine.{LineRelation, IsOfLine}
 use Rattle.trace_lines.specs.Parts.{GoesOnBy, TakesPart}

@@ -1,10 +1,10 @@
 -- A run over a text, one turn after another.
 use Rattle.std.proofs.Common.{◌≡◌, ℕ, ◌+◌, Bool, true, List, [], ◌++◌, length, Option, Result, Ok, Err, inl, inr, refl, sym, ap, ◌∙◌, append_assoc, append-nil, length-append, arith}
 use Rattle.std.specs.Io.KnownBytes.{Appends, Consumes, Keeps}
-use Rattle.trace_player.specs.declared.fault.PlayFault.{PlayFault}
-use Rattle.trace_player.specs.declared.fault.PlayFault.TheVariants.{Trace, Read, Write, NoMemory}
-use Rattle.trace_player.specs.Text.{breaks, lines_of}
-use Rattle.trace_player.specs.TextLaws.{breaks-append}
+use Rattle.trace_progress.specs.declared.fault.PlayFault.{PlayFault}
+use Rattle.trace_progress.specs.declared.fault.PlayFault.TheVariants.{Trace, Read, Write, NoMemory}
+use Rattle.trace_progress.specs.Text.{breaks, lines_of}
+use Rattle.trace_progress.specs.TextLaws.{breaks-append}
 use Rattle.trace_player.specs.OctetLaws.{Appends-nil, Appends-then, Consumes-nil, Consumes-then, Consumes-keeps, Consumes-same}
 use Rattle.trace_lines.specs.declared.under_way.LineUnderWay.{LineUnderWay}
 use Rattle.trace_lines.specs.OneLine.{LineRelation}

@@ -5,7 +5,7 @@ use Rattle.std.specs.Option.{unwrap_or}
 use Rattle.std.proofs.lemmas.Bool.Decides.{nat_tests}
 use Rattle.std.proofs.lemmas.List.{take_all}
 use Rattle.memchr.specs.Find.{IsFirstByte, is_byte}
-use Rattle.trace_player.specs.Text.{breaks}
+use Rattle.trace_progress.specs.Text.{breaks}
 use Rattle.trace_lines.specs.Parts.{LiesWhole, TakesPart}
 
 is_false : (b : Bool) → ¬ (b ≡ true) → b ≡ false

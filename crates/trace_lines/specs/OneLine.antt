@@ -1,7 +1,7 @@
 -- What a player makes of one line of a text.
 use Rattle.std.specs.Prelude.{◌≡◌, ℕ, ⊤, List, Result, Ok, Err}
-use Rattle.trace_player.specs.declared.fault.PlayFault.{PlayFault}
-use Rattle.trace_player.specs.declared.fault.PlayFault.TheVariants.{Trace, Read, Write, NoMemory}
+use Rattle.trace_progress.specs.declared.fault.PlayFault.{PlayFault}
+use Rattle.trace_progress.specs.declared.fault.PlayFault.TheVariants.{Trace, Read, Write, NoMemory}
 
 -- the type of `plays`: what the lines before have left, the number and the octets of the line, the answer, what the line leaves, and
 -- what is written of it

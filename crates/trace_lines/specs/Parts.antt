@@ -1,9 +1,9 @@
 -- What the line that is under way takes of a piece of the text.
 use Rattle.std.specs.Prelude.{◌≡◌, ℕ, ◌<◌, ◌≤◌, List, [], ◌++◌, length, take, slice_index, Option, Some, None, Result, Ok, Err}
 use Rattle.trace_words.specs.declared.fault.TraceFault.TheVariants.{TooLong}
-use Rattle.trace_player.specs.declared.fault.PlayFault.{PlayFault}
-use Rattle.trace_player.specs.declared.fault.PlayFault.TheVariants.{Trace, Read, Write, NoMemory}
-use Rattle.trace_player.specs.Text.{breaks}
+use Rattle.trace_progress.specs.declared.fault.PlayFault.{PlayFault}
+use Rattle.trace_progress.specs.declared.fault.PlayFault.TheVariants.{Trace, Read, Write, NoMemory}
+use Rattle.trace_progress.specs.Text.{breaks}
 
 -- the line has gone on by a part without an LF, and isn't too long
 abbrev pub GoesOnBy : List ℕ → List ℕ → List ℕ → Type 0

@@ -1,7 +1,7 @@
 //! What a piece of a text has of the line that is under way.
 
 ghost use Rattle.std.specs.Prelude.{◌≡◌, ◌⊎◌, ◌<◌, ◌≤◌, length, IfSome, IfNone};
-ghost use Rattle.trace_player.specs.Text.{breaks};
+ghost use Rattle.trace_progress.specs.Text.{breaks};
 ghost use Rattle.trace_lines.specs.Parts.{LiesWhole, TakesPart};
 
 use memchr::memchr;

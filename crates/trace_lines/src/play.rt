@@ -2,8 +2,8 @@
 
 ghost use Rattle.std.specs.Prelude.{◌≡◌, ◌⊎◌, ◌<◌, ◌≤◌, ◌+◌, ◌^◌, length, true, OnOk, IsErrOf};
 ghost use Rattle.std.specs.Io.KnownBytes.{IsAtEnd};
-ghost use Rattle.trace_player.specs.Acts.{GrowsBy};
-ghost use Rattle.trace_player.specs.Text.{lines_of};
+ghost use Rattle.trace_progress.specs.Acts.{GrowsBy};
+ghost use Rattle.trace_progress.specs.Text.{lines_of};
 ghost use Rattle.trace_lines.specs.OneLine.{IsOfLine};
 ghost use Rattle.trace_lines.specs.Lines.{Feeds, IsReady, PlaysEach, PlaysRead};
 

@@ -1,8 +1,8 @@
 //! What plays a text line by line.
 
 ghost use Rattle.std.specs.Prelude.{◌≡◌, true, IsErrOf};
-ghost use Rattle.trace_player.specs.Acts.{GrowsBy};
-ghost use Rattle.trace_player.specs.Text.{breaks};
+ghost use Rattle.trace_progress.specs.Acts.{GrowsBy};
+ghost use Rattle.trace_progress.specs.Text.{breaks};
 ghost use Rattle.trace_lines.specs.OneLine.{IsOfLine, LineRelation};
 
 use std::alloc::Global;

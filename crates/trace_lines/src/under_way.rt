@@ -1,8 +1,8 @@
 //! The lines of a text, as its octets come.
 
 ghost use Rattle.std.specs.Prelude.{◌≡◌, ◌<◌, ◌+◌, [], ◌^◌, length, OnOk, IsErrOf, true};
-ghost use Rattle.trace_player.specs.Acts.{GrowsBy};
-ghost use Rattle.trace_player.specs.Text.{breaks, lines_of};
+ghost use Rattle.trace_progress.specs.Acts.{GrowsBy};
+ghost use Rattle.trace_progress.specs.Text.{breaks, lines_of};
 ghost use Rattle.trace_lines.specs.Parts.{LiesWhole};
 ghost use Rattle.trace_lines.specs.OneLine.{IsOfLine};
 ghost use Rattle.trace_lines.specs.Lines.{Feeds, FeedsFront, IsReady, PlaysEach};

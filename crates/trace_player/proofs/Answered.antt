@@ -2,11 +2,11 @@
 use Rattle.std.proofs.Common.{subst, ◌≡◌, ℕ, ◌+◌, ◌<◌, List, ◌++◌, length, Err, take, drop, get_or, sym, ap, ◌∙◌}
 use Rattle.std.proofs.lemmas.List.{take-append-drop}
 use Rattle.mme_answering.specs.declared.out.Out.{Out}
-use Rattle.trace_player.specs.declared.fault.PlayFault.{PlayFault}
-use Rattle.trace_player.specs.declared.fault.PlayFault.TheVariants.{Trace, Read, Write, NoMemory}
+use Rattle.trace_progress.specs.declared.fault.PlayFault.{PlayFault}
+use Rattle.trace_progress.specs.declared.fault.PlayFault.TheVariants.{Trace, Read, Write, NoMemory}
 use Rattle.trace_answers.specs.Words.{answers_of, out_text}
 use Rattle.trace_answers.specs.WordLaws.{answers_of-append, answers_of-more}
-use Rattle.trace_player.specs.Acts.{IsPrefix, Puts}
+use Rattle.trace_progress.specs.Acts.{IsPrefix, Puts}
 use Rattle.trace_player.specs.FrontLaws.{IsPrefix-of, IsPrefix-after, IsPrefix-more}
 
 pub answers_of-front : (outs : List Out) (i : ℕ) (out : Out) → i < length outs → out ≡ get_or outs i out

@@ -4,10 +4,10 @@ use Rattle.mme_core.specs.World.{happens}
 use Rattle.mme_core.specs.declared.event.Event.TheVariants as event
 use Rattle.trace_words.specs.declared.line.Line.{Line}
 use Rattle.trace_words.specs.declared.line.Line.TheVariants.{In}
-use Rattle.trace_player.specs.declared.fault.PlayFault.{PlayFault}
-use Rattle.trace_player.specs.declared.progress.Progress.{Progress}
-use Rattle.trace_player.specs.Effects.{Effect, effect_of, happened, in_event}
-use Rattle.trace_player.specs.Acts.{Acts}
+use Rattle.trace_progress.specs.declared.fault.PlayFault.{PlayFault}
+use Rattle.trace_progress.specs.declared.progress.Progress.{Progress}
+use Rattle.trace_progress.specs.Effects.{Effect, effect_of, happened, in_event}
+use Rattle.trace_progress.specs.Acts.{Acts}
 
 -- where octets lie in memory is nothing to the MME
 happened-octets : (progress : Progress) (e : ℕ) (octets : Bor (List ℕ))

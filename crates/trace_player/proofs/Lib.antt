@@ -1,4 +1,3 @@
 pub mod Answered
 pub mod Ticks
-pub mod Places
 pub mod Heard

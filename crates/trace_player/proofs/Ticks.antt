@@ -5,9 +5,9 @@ use Rattle.mme_core.specs.World.{World, reply}
 use Rattle.mme_core.specs.declared.event.Event.TheVariants as event
 use Rattle.mme_core.specs.declared.event.StepFault.{StepFault}
 use Rattle.mme_answering.specs.declared.out.Out.{Out}
-use Rattle.trace_player.specs.Replies.{reply_text}
-use Rattle.trace_player.specs.Effects.{left_by, with_text_before, tick_then, ticked}
-use Rattle.trace_player.specs.Acts.{IsPrefix}
+use Rattle.trace_progress.specs.Replies.{reply_text}
+use Rattle.trace_progress.specs.Effects.{left_by, with_text_before, tick_then, ticked}
+use Rattle.trace_progress.specs.Acts.{IsPrefix}
 use Rattle.trace_player.specs.FrontLaws.{IsPrefix-of, IsPrefix-after}
 
 -- after n ticks: what they wrote, and the world that they left

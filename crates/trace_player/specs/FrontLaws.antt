@@ -1,7 +1,7 @@
 -- The front of a text: laws of `IsPrefix`.
 use Rattle.std.proofs.Common.{◌≡◌, ℕ, List, [], ◌++◌, take, drop, refl, sym, ap, ◌∙◌, append_assoc, append-nil}
 use Rattle.std.proofs.lemmas.List.{take-append-drop}
-use Rattle.trace_player.specs.Acts.{IsPrefix}
+use Rattle.trace_progress.specs.Acts.{IsPrefix}
 
 pub IsPrefix-take : (n : ℕ) (front all : List ℕ) → IsPrefix front all → IsPrefix (take n front) all
 IsPrefix-take n front all p = (

@@ -2,27 +2,26 @@
 
 ghost use Rattle.std.specs.Prelude.{◌≡◌, true, is_ok, IfOk, OnOk, IsErrOf};
 ghost use Rattle.mme_core.specs.World.{reply};
-ghost use Rattle.trace_player.specs.Effects.{effect_of, happened, left_by, ticks_passed, shown, states_of_imsi, ticked, states_shown};
-ghost use Rattle.trace_player.specs.Replies.{reply_text};
-ghost use Rattle.trace_player.specs.Acts.{Acts, GrowsBy, Puts};
-ghost use Rattle.trace_player.specs.declared.progress.Progress.TheVariants.{Running};
+ghost use Rattle.trace_progress.specs.Effects.{effect_of, happened, left_by, ticks_passed, shown, states_of_imsi, ticked, states_shown};
+ghost use Rattle.trace_progress.specs.Replies.{reply_text};
+ghost use Rattle.trace_progress.specs.Acts.{Acts, GrowsBy, Puts};
+ghost use Rattle.trace_progress.specs.declared.progress.Progress.TheVariants.{Running};
 
 use crate::answers::{write_all, write_refusal, write_states};
-use crate::fault::PlayFault;
-use crate::progress::{Progress, add, give, run, start};
 use crate::watched::Watched;
 use emm_machine::States;
 use mme_core::{Event, Mme, StepFault};
 use nas_elements::Imsi;
 use std::alloc::Global;
 use std::io::Write;
+use trace_progress::{PlayFault, Progress, add, give, run, start, states_of_imsi};
 use trace_words::{Line, TraceFault};
 
 /// Does what the line of that number says, and writes its answers. Order or Provision where what came before doesn't allow the
 /// line, and then nothing is written; Write where the writer failed and NoMemory where a growth of memory was refused, and then a
 /// front of its answers is. Takes memory for what is provisioned, for the MME, which the first event or question makes, for what
 /// an event sends, and for an answer that `room` is too small for: the room of the last line, used again.
-#[tactic(auto, unfolding(crate::specs::Effects::effect_of))]
+#[tactic(auto, unfolding(trace_progress::specs::Effects::effect_of))]
 pub fn act_on_line<W: Write>(
     alloc: Global,
     progress: &mut Progress,
@@ -193,15 +192,5 @@ fn show_states<W: Write>(
     match states_of_imsi(mme, imsi) {
         Some(states) => write_states(alloc, imsi, states, room, writer),
         None => Err(PlayFault::Trace(number, TraceFault::Provision)),
-    }
-}
-
-/// The states of the subscriber of that IMSI, if one is provisioned with it.
-pub fn states_of_imsi(mme: &Mme, imsi: Imsi) -> Option<States>
-    ensures { result ≡ states_of_imsi imsi mme.now }
-{
-    match mme.slot_of_imsi(imsi) {
-        Some(slot) => mme.states(slot),
-        None => None,
     }
 }

@@ -3,9 +3,8 @@
 ghost use Rattle.std.specs.Prelude.{◌≡◌, ℕ, List, length, take, true, false, IfOk, IsErrOf, IsTrue};
 ghost use Rattle.std.specs.Io.KnownBytes.{Appends};
 ghost use Rattle.trace_answers.specs.Words.{answer_text, answers_of, out_text, refused_text, states_text};
-ghost use Rattle.trace_player.specs.Acts.{GrowsBy, Puts};
+ghost use Rattle.trace_progress.specs.Acts.{GrowsBy, Puts};
 
-use crate::fault::PlayFault;
 use crate::watched::Watched;
 use emm_machine::States;
 use mme_core::Out;
@@ -14,6 +13,7 @@ use std::alloc::Global;
 use std::io::Write;
 use std::mem;
 use trace_answers::{Answer, sent_line, write_answer};
+use trace_progress::PlayFault;
 
 /// Writes these octets; at `false` the writer failed, and has the first of them.
 pub fn write_whole<W: Write>(writer: &mut Watched<W>, octets: &[u8]) -> bool

@@ -3,12 +3,11 @@
 
 mod acts;
 mod answers;
-mod fault;
-mod progress;
 mod watched;
 
-pub use acts::{act_on_line, states_of_imsi};
+pub use acts::act_on_line;
 pub use answers::write_whole;
-pub use fault::{PlayFault, fault_in_line};
-pub use progress::{Progress, add, give, run, start};
+pub use trace_progress::{
+    PlayFault, Progress, add, fault_in_line, give, run, start, states_of_imsi,
+};
 pub use watched::{MOST_TURNS, Watched};

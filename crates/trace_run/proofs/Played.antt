@@ -3,16 +3,16 @@ use Rattle.std.proofs.Common.{◌≡◌, ℕ, ◌+◌, ◌<◌, List, [], ◌∷
 use Rattle.trace_words.specs.declared.fault.TraceFault.{TraceFault}
 use Rattle.trace_words.specs.declared.fault.TraceFault.TheVariants as fault
 use Rattle.trace_words.specs.declared.fault.TraceFault.TheVariants.{UnknownWord, FieldCount, BadNumber, BadHex, TooLong, Order, Provision}
-use Rattle.trace_player.specs.declared.fault.PlayFault.{PlayFault}
-use Rattle.trace_player.specs.declared.fault.PlayFault.TheVariants.{Trace, Read, Write, NoMemory}
-use Rattle.trace_player.specs.declared.progress.Progress.{Progress}
-use Rattle.trace_player.specs.declared.progress.Progress.TheVariants.{Nothing}
-use Rattle.trace_player.specs.Effects.{Effect}
-use Rattle.trace_player.specs.Faults.{in_line}
-use Rattle.trace_player.specs.Text.{Played, prepended, played_text, play, then_play, line_effect, lines_of, played_of}
-use Rattle.trace_player.specs.Acts.{IsPrefix, Acts, effect_text}
+use Rattle.trace_progress.specs.declared.fault.PlayFault.{PlayFault}
+use Rattle.trace_progress.specs.declared.fault.PlayFault.TheVariants.{Trace, Read, Write, NoMemory}
+use Rattle.trace_progress.specs.declared.progress.Progress.{Progress}
+use Rattle.trace_progress.specs.declared.progress.Progress.TheVariants.{Nothing}
+use Rattle.trace_progress.specs.Effects.{Effect}
+use Rattle.trace_progress.specs.Faults.{in_line}
+use Rattle.trace_progress.specs.Text.{Played, prepended, played_text, play, then_play, line_effect, lines_of, played_of}
+use Rattle.trace_progress.specs.Acts.{IsPrefix, Acts, effect_text}
 use Rattle.trace_player.specs.FrontLaws.{IsPrefix-nil, IsPrefix-of, IsPrefix-after, IsPrefix-more}
-use Rattle.trace_player.specs.TextLaws.{line_of-long, play-cons, play-nil, prepended-then, prepended-ends}
+use Rattle.trace_progress.specs.TextLaws.{line_of-long, play-cons, play-nil, prepended-then, prepended-ends}
 use Rattle.trace_lines.specs.OneLine.{IsOfLine}
 use Rattle.trace_lines.specs.Lines.{PlaysAll, IsCutShort, StopsAt, StopsIn, PlaysEach}
 use Rattle.trace_run.specs.declared.player.Player.{Player}

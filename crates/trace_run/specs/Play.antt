@@ -1,10 +1,10 @@
 -- What a run of the program says of the whole trace.
 use Rattle.std.specs.Prelude.{◌≡◌, ℕ, Bool, List, Option, Some, None, Result, Ok, Err}
 use Rattle.std.specs.Io.KnownBytes.{Consumes, Appends}
-use Rattle.trace_player.specs.declared.fault.PlayFault.{PlayFault}
-use Rattle.trace_player.specs.declared.fault.PlayFault.TheVariants.{Trace, Read, Write, NoMemory}
-use Rattle.trace_player.specs.Text.{played_text, played_of}
-use Rattle.trace_player.specs.Acts.{IsPrefix}
+use Rattle.trace_progress.specs.declared.fault.PlayFault.{PlayFault}
+use Rattle.trace_progress.specs.declared.fault.PlayFault.TheVariants.{Trace, Read, Write, NoMemory}
+use Rattle.trace_progress.specs.Text.{played_text, played_of}
+use Rattle.trace_progress.specs.Acts.{IsPrefix}
 use Rattle.trace_lines.specs.Lines.{ReadsFarEnough}
 
 -- what has been written for a trace that is read so far, by the answer

@@ -1,9 +1,9 @@
 //! The player of a trace.
 
 ghost use Rattle.std.specs.Prelude.{◌≡◌};
-ghost use Rattle.trace_player.specs.declared.progress.Progress.TheVariants.{Nothing};
-ghost use Rattle.trace_player.specs.Text.{line_effect};
-ghost use Rattle.trace_player.specs.Acts.{Acts};
+ghost use Rattle.trace_progress.specs.declared.progress.Progress.TheVariants.{Nothing};
+ghost use Rattle.trace_progress.specs.Text.{line_effect};
+ghost use Rattle.trace_progress.specs.Acts.{Acts};
 
 use std::alloc::Global;
 use std::io::Write;

@@ -1,6 +1,6 @@
 use Rattle.std.proofs.Common.{◌∙◌}
 use Rattle.trace_words.specs.declared.line.Line.TheVariants.{Mme}
-use Rattle.trace_player.specs.Effects.{configured}
+use Rattle.trace_progress.specs.Effects.{configured}
 use Rattle.sim_printing.proofs.Played.{mme_effect, Prints-provisioned, PrintsLine-fault}
 use Rattle.sim_printing.proofs.lines.play_mme.Goals as goal
 

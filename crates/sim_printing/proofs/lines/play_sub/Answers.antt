@@ -1,6 +1,6 @@
 use Rattle.std.proofs.Common.{◌∙◌}
 use Rattle.trace_words.specs.declared.line.Line.TheVariants.{Sub}
-use Rattle.trace_player.specs.Effects.{subscriber_added}
+use Rattle.trace_progress.specs.Effects.{subscriber_added}
 use Rattle.sim_printing.proofs.Played.{sub_effect, Prints-provisioned, PrintsLine-fault}
 use Rattle.sim_printing.proofs.lines.play_sub.Goals as goal
 

@@ -1,6 +1,6 @@
 use Rattle.std.proofs.Common.{◌∙◌}
 use Rattle.trace_words.specs.declared.line.Line.TheVariants.{Vec}
-use Rattle.trace_player.specs.Effects.{vector_given}
+use Rattle.trace_progress.specs.Effects.{vector_given}
 use Rattle.sim_printing.proofs.Played.{vec_effect, Prints-provisioned, PrintsLine-fault}
 use Rattle.sim_printing.proofs.lines.play_vec.Goals as goal
 

@@ -1,5 +1,5 @@
 use Rattle.std.proofs.Common.{◌++◌, [], append-nil}
-use Rattle.trace_player.specs.Text.{lines_of}
+use Rattle.trace_progress.specs.Text.{lines_of}
 use Rattle.trace_player.specs.OctetLaws.{Appends-then, Appends-keeps, Appends-same}
 use Rattle.trace_lines.proofs.Feeding.{PlaysEach-write}
 use Rattle.trace_lines.proofs.play.last_turn.Goals as goal

@@ -2,7 +2,7 @@ use Rattle.std.proofs.Common.{[], take, ap, ◌∙◌, arith, rules}
 use Rattle.std.proofs.lemmas.List.{length-take}
 use Rattle.trace_player.specs.OctetLaws.{Consumes-same, Keeps-same}
 use Rattle.trace_player.specs.Watching.{OnOk-always, moves_none-some}
-use Rattle.trace_player.specs.TextLaws.{breaks-le}
+use Rattle.trace_progress.specs.TextLaws.{breaks-le}
 use Rattle.trace_lines.proofs.Running.{Running-start, Running-turn, PlaysRead-fault, PlaysRead-end, PlaysRead-read}
 use Rattle.trace_lines.proofs.play.play_lines.Goals as goal
 

@@ -1,6 +1,6 @@
 use Rattle.std.proofs.Common.{refl}
 use Rattle.mme_core.specs.declared.event.Event.TheVariants as event
-use Rattle.trace_player.specs.Effects.{effect_of, happened}
+use Rattle.trace_progress.specs.Effects.{effect_of, happened}
 use Rattle.trace_player.proofs.Heard.{Acts-effect, octets-effect}
 use Rattle.trace_player.proofs.acts.act_on_line.Goals as goal
 

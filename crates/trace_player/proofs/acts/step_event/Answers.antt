@@ -1,7 +1,7 @@
 use Rattle.std.proofs.Common.{Bool, sym, ◌∙◌, ap}
 use Rattle.mme_core.specs.World.{reply}
 use Rattle.trace_answers.specs.Words.{answers_of}
-use Rattle.trace_player.specs.Replies.{reply_text}
+use Rattle.trace_progress.specs.Replies.{reply_text}
 use Rattle.trace_player.proofs.Answered.{Puts-same}
 use Rattle.trace_player.proofs.acts.step_event.Goals as goal
 

@@ -1,8 +1,8 @@
 use Rattle.std.proofs.Common.{ℕ, ◌++◌, List, sym, ap, ◌∙◌, arith, Bool}
 use Rattle.mme_core.specs.World.{World, reply}
 use Rattle.mme_core.specs.declared.event.Event.TheVariants as event
-use Rattle.trace_player.specs.Replies.{reply_text}
-use Rattle.trace_player.specs.Effects.{ticked}
+use Rattle.trace_progress.specs.Replies.{reply_text}
+use Rattle.trace_progress.specs.Effects.{ticked}
 use Rattle.trace_player.specs.OctetLaws.{Appends-then}
 use Rattle.trace_player.proofs.Answered.{Puts-after}
 use Rattle.trace_player.proofs.Ticks.{Ticking-tick, Ticking-refused, Ticking-end, Ticking-front}

@@ -2,7 +2,7 @@ use Rattle.std.proofs.Common.{[], ◌++◌, length, take, Ok, Err, refl, sym, ap
 use Rattle.std.specs.Prelude.{slice_range}
 use Rattle.trace_lines.specs.PartLaws.{rest_follows}
 use Rattle.trace_player.specs.OctetLaws.{Appends-nil, Appends-then}
-use Rattle.trace_player.specs.TextLaws.{breaks-le, nil-from_length}
+use Rattle.trace_progress.specs.TextLaws.{breaks-le, nil-from_length}
 use Rattle.trace_lines.proofs.Feeding.{Feeds-none, Feeds-then, Feeds-piece}
 use Rattle.trace_lines.proofs.under_way.LineUnderWay.feed.Goals as goal
 

@@ -1,5 +1,5 @@
 use Rattle.std.proofs.Common.{◌≡◌, ℕ, List, ◌++◌, length, Ok}
-use Rattle.trace_player.specs.Acts.{GrowsBy}
+use Rattle.trace_progress.specs.Acts.{GrowsBy}
 use Rattle.trace_lines.specs.Lines.{Feeds}
 use Rattle.trace_lines.proofs.under_way.LineUnderWay.feed.Given as goal
 

@@ -2,7 +2,7 @@ use Rattle.std.proofs.Common.{[], arith, rules}
 use Rattle.std.proofs.lemmas.Grind.{common_steps}
 use Rattle.std.proofs.lemmas.Bool.Decides.{nat_tests}
 use Rattle.trace_player.specs.OctetLaws.{Appends-nil}
-use Rattle.trace_player.specs.TextLaws.{nil-from_length}
+use Rattle.trace_progress.specs.TextLaws.{nil-from_length}
 use Rattle.trace_lines.proofs.Feeding.{PlaysEach-none, PlaysEach-one}
 use Rattle.trace_lines.proofs.under_way.LineUnderWay.finish.Goals as goal
 

@@ -1,7 +1,7 @@
 use Rattle.std.proofs.Common.{◌+◌, [], ◌∷◌, ◌++◌, length, take, drop, Ok, Err, refl, sym, ap, ◌∙◌, arith}
 use Rattle.std.proofs.lemmas.List.{take_more, take_all}
 use Rattle.trace_player.specs.OctetLaws.{Appends-nil}
-use Rattle.trace_player.specs.TextLaws.{split_at}
+use Rattle.trace_progress.specs.TextLaws.{split_at}
 use Rattle.trace_lines.specs.declared.under_way.LineUnderWay.{LineUnderWay}
 use Rattle.trace_lines.proofs.Feeding.{EndsLines-line, Feeds-part, Feeds-part_fault, Feeds-line, Feeds-fault, Feeds-then, Feeds-stop, Feeds-piece}
 use Rattle.trace_lines.proofs.under_way.LineUnderWay.go_on.Goals as goal

@@ -1,6 +1,6 @@
 use Rattle.std.proofs.Common.{◌+◌, [], ◌∷◌, ◌++◌, take, drop, Ok, Err, refl, sym, ap, ◌∙◌, arith}
 use Rattle.std.proofs.lemmas.List.{take_more}
-use Rattle.trace_player.specs.TextLaws.{split_at}
+use Rattle.trace_progress.specs.TextLaws.{split_at}
 use Rattle.trace_lines.proofs.Feeding.{EndsLines-whole, EndsLines-left, Feeds-line, Feeds-fault, Feeds-stop, Feeds-piece}
 use Rattle.trace_lines.proofs.under_way.LineUnderWay.take_whole.Goals as goal
 

@@ -1,6 +1,6 @@
 use Rattle.std.proofs.Common.{Err, sym, subst}
-use Rattle.trace_player.specs.declared.fault.PlayFault.{PlayFault}
-use Rattle.trace_player.specs.Effects.{effect_of}
+use Rattle.trace_progress.specs.declared.fault.PlayFault.{PlayFault}
+use Rattle.trace_progress.specs.Effects.{effect_of}
 use Rattle.trace_lines.specs.OneLine.{IsOfLine}
 use Rattle.trace_run.proofs.Played.{in_line-place, Acts-place}
 use Rattle.trace_run.proofs.player.PlayerPlaysLines.play_line.Goals as goal

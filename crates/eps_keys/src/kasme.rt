@@ -1,0 +1,87 @@
+//! KASME, and the keys that are derived of it (TS 33.401, annex A), by its masked blocks that are kept hashed.
+
+ghost use Rattle.std.specs.Prelude.{◌≡◌};
+ghost use Rattle.eps_keys.specs.Hmac.{hmac_sha256, kenb, nas_integrity_key, next_hop};
+
+use crate::derive::{
+    block_hashed, kenb_input, last_half, mac_from, nas_integrity_input, next_hop_input,
+};
+use sha2::Sha256;
+use std::marker::Model;
+
+// A copy of a hasher takes no memory, so it can't fail.
+fn hasher_copy(hasher: &Sha256) -> Sha256
+    ensures { result ≡ hasher.now }
+{
+    match hasher.clone() {
+        Ok(copy) => copy,
+        Err(_) => unreachable!(),
+    }
+}
+
+/// KASME, 32 octets, of which every other key comes (TS 33.401 clause 6.2); a contract sees its octets. It is kept with its block
+/// under each of the two masks of HMAC hashed (RFC 2104 section 4), so that a key is derived by two blocks of SHA-256 in place of
+/// four. It is neither copied nor printed nor compared.
+#[derive(Drop)]
+pub struct Kasme {
+    key: [u8; 32],
+    inner: Sha256,
+    outer: Sha256,
+}
+
+impl Model for Kasme {
+    ghost use Rattle.std.specs.Prelude.{ℕ, List};
+
+    ghost Value = { List ℕ };
+
+    ghost use Rattle.eps_keys.specs.Hashed.{IsHashed};
+
+    ghost view = { λ k. k.key };
+
+    ghost invariant = { IsHashed };
+}
+
+impl Kasme {
+    /// KASME of these octets; takes no memory.
+    pub fn new(key: &[u8; 32]) -> Self
+        ensures { result ≡ key.now }
+    {
+        Kasme {
+            key: *key,
+            inner: block_hashed(key, 0x36),
+            outer: block_hashed(key, 0x5c),
+        }
+    }
+
+    // The HMAC of a message under it: from copies of what is hashed.
+    #[tactic(auto, unfolding(crate::specs::Hmac::hmac_sha256))]
+    fn mac(&self, message: &[u8]) -> [u8; 32]
+        ensures { result ≡ hmac_sha256 self.now message.now }
+    {
+        mac_from(hasher_copy(&self.inner), hasher_copy(&self.outer), message)
+    }
+
+    /// The key of 16 octets for the integrity of NAS messages by 128-EIA2 (TS 33.401, A.7), as [`crate::nas_integrity_key`].
+    #[tactic(auto, unfolding(crate::specs::Hmac::nas_integrity_key))]
+    pub fn nas_integrity_key(&self) -> [u8; 16]
+        ensures { result ≡ nas_integrity_key self.now }
+    {
+        last_half(&self.mac(&nas_integrity_input()))
+    }
+
+    /// The key KeNB of 32 octets for a base station, of an uplink NAS COUNT (TS 33.401, A.3), as [`crate::kenb`].
+    #[tactic(auto, unfolding(crate::specs::Hmac::kenb))]
+    pub fn kenb(&self, count: u32) -> [u8; 32]
+        ensures { result ≡ kenb self.now count }
+    {
+        self.mac(&kenb_input(count))
+    }
+
+    /// The next hop key NH of 32 octets: of the one before it, and the first of KeNB (TS 33.401, A.4), as [`crate::next_hop`].
+    #[tactic(auto, unfolding(crate::specs::Hmac::next_hop))]
+    pub fn next_hop(&self, previous: &[u8; 32]) -> [u8; 32]
+        ensures { result ≡ next_hop self.now previous.now }
+    {
+        self.mac(&next_hop_input(previous))
+    }
+}

@@ -1,0 +1,13 @@
+pub mod Outcomes
+pub mod Unspelled
+pub mod Telling
+pub mod Judging
+pub mod Bits
+pub mod Deciding
+pub mod Numbers
+pub mod Strings
+pub mod Nexts
+pub mod Closing
+pub mod Wholes
+pub mod Formats
+pub mod MessageParts

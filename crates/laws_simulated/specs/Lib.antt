@@ -1,0 +1,5 @@
+pub mod NasSent
+pub mod PhoneRanges
+pub mod Phones
+pub mod StationRanges
+pub mod Stations

@@ -1,0 +1,8 @@
+pub mod Effects
+pub mod Text
+pub mod Faults
+pub mod Acts
+pub mod TextLaws
+pub mod Replies
+-- what is written of an event's messages
+pub use Rattle.trace_answers.specs.Words
