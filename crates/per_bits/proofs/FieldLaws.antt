@@ -1,7 +1,7 @@
--- Bits that are held as one number.
+-- Bit strings of a fixed length, and bits that are kept as one number.
 use Rattle.std.specs.Prelude.{OnErr, OnOk}
 use Rattle.std.proofs.Common.{◌≡◌, ℕ, ◌+◌, ◌-◌, ◌*◌, ◌/◌, ◌%◌, ◌^◌, ◌<◌, ◌≤◌, Bool, false, eqb, List, [], ◌∷◌, ◌++◌, length, take, set, get_or, Result, Ok, Err, append_assoc, refl, sym, ap, subst, ◌∙◌, arith, add-one}
-use Rattle.std.proofs.lemmas.Bool.{lt-ltb, le-ltb}
+use Rattle.std.proofs.lemmas.Bool.{lt-ltb, le-ltb, eq-eqb}
 use Rattle.std.proofs.lemmas.List.{get_or_append_left, get_or_at, length-take-le, take_all}
 use Rattle.std.proofs.Math.Nat.{pow-succ'}
 use Rattle.std.proofs.Math.Pow.{pow_mono}
@@ -9,48 +9,48 @@ use Rattle.std.proofs.Math.Seq.{take-suc, take-suc-set}
 use mir.Val.{bool_byte}
 use Rattle.per_streams.specs.declared.fault.PerError.{PerError}
 use Rattle.per_streams.specs.declared.fault.PerError.TheVariants.{NoMemory, Fault}
-use Rattle.per_streams.specs.Bits.{Place, pad, bits, value, align_at, number_bits_at, aligned_bits_at}
+use Rattle.per_streams.specs.Bits.{Place, pad, bits, value, take_at, align_at, aligned_bits_at}
 use Rattle.per_streams.specs.BitLaws.{length-bits, value_below, value-push, bits-value}
 use Rattle.per_streams.specs.PartLaws.{bits-split, bits-join, bit-is}
-use Rattle.per_streams.specs.WholeOctets.{field_ok, field_length}
 use Rattle.per_numbers.specs.Writing.{Wrote}
+use Rattle.per_bits.specs.declared.kept.Kept.{Kept}
+use Rattle.per_bits.specs.declared.kept.Kept.TheVariants.{Number}
+use Rattle.per_bits.specs.Kept.{IsKept, kept_bits}
 use Rattle.per_bits.specs.Reading.{bits_at}
 use Rattle.per_bits.specs.Writing.{write_bits}
 
-pub read_near : (n number : ℕ) (s t : Place) → n < 17 → number_bits_at n s ≡ Ok (number, t) → bits_at n s ≡ Ok (bits n number, t)
+pub read_near : (n : ℕ) (bs : List Bool) (s t : Place) → n < 17 → take_at n s ≡ Ok (bs, t) → bits_at n s ≡ Ok (bs, t)
 unfolding bits_at
-read_near n number s t lt e = rw (lt-ltb n 17 lt) (field_ok n s number t e)
+read_near n bs s t lt e = rw (lt-ltb n 17 lt) e
 
-pub read_far : (n number : ℕ) (s t u : Place) → 17 ≤ n → align_at s ≡ Ok (tt, t) → number_bits_at n t ≡ Ok (number, u)
-    → bits_at n s ≡ Ok (bits n number, u)
+pub read_far : (n : ℕ) (bs : List Bool) (s t u : Place) → 17 ≤ n → align_at s ≡ Ok (tt, t) → take_at n t ≡ Ok (bs, u)
+    → bits_at n s ≡ Ok (bs, u)
 unfolding bits_at aligned_bits_at
-read_far n number s t u le a e = rw (le-ltb n 17 le, a) (field_ok n t number u e)
+read_far n bs s t u le a e = rw (le-ltb n 17 le, a) e
 
 -- ---- writing
 
-bits_near : (n number : ℕ) (old : List Bool) → n < 17 → write_bits n (bits n number) old ≡ Ok (old ++ bits n number)
+bits_near : (n : ℕ) (bs old : List Bool) → length bs ≡ n → n < 17 → write_bits n bs old ≡ Ok (old ++ bs)
 unfolding write_bits
-bits_near n number old lt = rw (field_length n number, lt-ltb n 17 lt) refl
+bits_near n bs old long lt = rw (eq-eqb (length bs) n long, lt-ltb n 17 lt) refl
 
-bits_far : (n number : ℕ) (old : List Bool) → 17 ≤ n
-    → write_bits n (bits n number) old ≡ Ok (old ++ (pad (length old) ++ bits n number))
+bits_far : (n : ℕ) (bs old : List Bool) → length bs ≡ n → 17 ≤ n → write_bits n bs old ≡ Ok (old ++ (pad (length old) ++ bs))
 unfolding write_bits
-bits_far n number old le = rw (field_length n number, le-ltb n 17 le) refl
+bits_far n bs old long le = rw (eq-eqb (length bs) n long, le-ltb n 17 le) refl
 
-pub wrote_near : {X : Type 0} (n number : ℕ) (old new all : List Bool) (r : Result X PerError) → bits n number ≡ all → n < 17
-    → OnOk r (new ≡ old ++ bits n number) → OnErr r (r ≡ Err NoMemory) → Wrote r new (write_bits n all old)
-wrote_near n number old new all (Ok x) e lt wrote refused = rw (← e, wrote) (bits_near n number old lt)
-wrote_near n number old new all (Err NoMemory) e lt wrote refused = tt
-wrote_near n number old new all (Err (Fault f)) e lt wrote refused = absurd cc
+pub wrote_near : {X : Type 0} (n : ℕ) (bs old new all : List Bool) (r : Result X PerError) → bs ≡ all → length bs ≡ n → n < 17
+    → OnOk r (new ≡ old ++ bs) → OnErr r (r ≡ Err NoMemory) → Wrote r new (write_bits n all old)
+wrote_near n bs old new all (Ok x) e long lt wrote refused = rw (← e, wrote) (bits_near n bs old long lt)
+wrote_near n bs old new all (Err NoMemory) e long lt wrote refused = tt
+wrote_near n bs old new all (Err (Fault f)) e long lt wrote refused = absurd cc
 
-pub wrote_far : {X : Type 0} (n number : ℕ) (old mid new all : List Bool) (r : Result X PerError) → bits n number ≡ all → 17 ≤ n
-    → mid ≡ old ++ pad (length old) → OnOk r (new ≡ mid ++ bits n number) → OnErr r (r ≡ Err NoMemory)
-    → Wrote r new (write_bits n all old)
-wrote_far n number old mid new all (Ok x) e le aligned wrote refused =
+pub wrote_far : {X : Type 0} (n : ℕ) (bs old mid new all : List Bool) (r : Result X PerError) → bs ≡ all → length bs ≡ n → 17 ≤ n
+    → mid ≡ old ++ pad (length old) → OnOk r (new ≡ mid ++ bs) → OnErr r (r ≡ Err NoMemory) → Wrote r new (write_bits n all old)
+wrote_far n bs old mid new all (Ok x) e long le aligned wrote refused =
     rw (← e, wrote, aligned)
-    (bits_far n number old le ∙ ap (λ (l : List Bool). Ok l) (sym (append_assoc old (pad (length old)) (bits n number))))
-wrote_far n number old mid new all (Err NoMemory) e le aligned wrote refused = tt
-wrote_far n number old mid new all (Err (Fault f)) e le aligned wrote refused = absurd cc
+    (bits_far n bs old long le ∙ ap (λ (l : List Bool). Ok l) (sym (append_assoc old (pad (length old)) bs)))
+wrote_far n bs old mid new all (Err NoMemory) e long le aligned wrote refused = tt
+wrote_far n bs old mid new all (Err (Fault f)) e long le aligned wrote refused = absurd cc
 
 -- ---- the number of the first bits
 
@@ -119,3 +119,10 @@ bit_of n i number lt fits =
     ap (λ (l : List Bool). get_or l i false) parts.0
     ∙ get_or_append_left (bits (i + 1) p) _ false i (omega (arith, length-bits (i + 1) p)) ∙ last_bit i p parts.1
     ∙ ap (λ k. eqb (number / 2 ^ k % 2) 1) sum
+
+pub bit_of_number : {n : ℕ} (k : Kept n) (i number : ℕ) (all : List Bool) → k ≡ Number number → IsKept k → kept_bits k ≡ all
+    → i < n → eqb (number / 2 ^ (n - 1 - i) % 2) 1 ≡ get_or all i false
+bit_of_number {n} k i number all e h view lt =
+    let fits = (subst (λ (j : Kept n). IsKept j) e h).1 in
+    let same : bits n number ≡ all = ap (λ (j : Kept n). kept_bits j) (sym e) ∙ view in
+    sym (bit_of n i number lt fits) ∙ ap (λ (l : List Bool). get_or l i false) same

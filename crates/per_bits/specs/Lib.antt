@@ -4,6 +4,7 @@ pub mod Reading
 pub mod Writing
 pub mod Written
 pub mod Names
+pub mod Kept
 pub mod Sequences
 pub mod BaseLaws
 pub mod LargeLaws
@@ -11,3 +12,6 @@ pub mod FormatLaws
 pub mod WritingLaws
 -- whole numbers, for those who stand on the formats
 pub use Rattle.per_numbers.specs.Numbers
+-- crates below, passed on with all of their definitions
+pub use Rattle.per_streams.specs as per_streams
+pub use Rattle.per_numbers.specs as per_numbers

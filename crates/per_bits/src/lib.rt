@@ -7,6 +7,7 @@ mod element;
 mod enumerated;
 mod field;
 mod items;
+mod kept;
 mod laws;
 mod name;
 mod octets;

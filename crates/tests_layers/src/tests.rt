@@ -1,5 +1,6 @@
 mod associations;
 mod elements;
+mod fields;
 mod sessions;
 mod subscribers;
 mod timers;
