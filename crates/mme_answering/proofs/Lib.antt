@@ -4,3 +4,4 @@ pub mod Room
 pub mod Short
 pub mod Known
 pub mod Places
+pub mod Quiet

@@ -109,6 +109,21 @@ concerned_held e ws es paged last t order so =
     ∙ any_is ws es paged t order (λ a. a.station == e) (is_there e) refl (λ j k. refl) i))
     (so (λ i. (whereabouts_at i ws).is_paged) t.paged))
 
+-- nobody is there, and nobody is paged
+or_none : (b : Bool) → (b || false) ≡ b
+or_none true = refl
+or_none false = refl
+
+none_gathered : Gathers (λ i. false) [] []
+none_gathered before h = record { rising = h.rising; each = λ i. h.each i ∙ sym (or_none (before i)) }
+
+pub none_concerned : (e : ℕ) (ws : List Whereabouts) (es : List Association) (paged : List OrderedSlot) → IsTable ws es paged
+    → Rising association_id es → at_station e es ≡ [] → paged ≡ [] → [] ≡ slots_where (is_concerned e) 0 ws
+none_concerned e ws es paged t order there none =
+    concerned_held e ws es paged [] t order
+    (subst (λ (xs : List Association). Gathers (λ i. list_any (is_held i) xs) paged []) (sym there)
+    (subst (λ (ss : List OrderedSlot). Gathers (λ i. false) ss []) (sym none) none_gathered))
+
 -- ---- a list
 
 eq_sym : (a b : ℕ) → (a == b) ≡ (b == a)

@@ -1,6 +1,6 @@
 //! Slots in their order, each once: those that are paged, and those that are gathered.
 
-ghost use Rattle.std.specs.Prelude.{◌≡◌, ◌+◌, ◌<◌, ◌≤◌, ◌==◌, Bool, ℕ, IfOk, OnOk, is_some, map, if◌then◌else◌};
+ghost use Rattle.std.specs.Prelude.{◌≡◌, ◌+◌, ◌<◌, ◌≤◌, ◌==◌, Bool, ℕ, [], IfOk, OnOk, is_some, map, true, if◌then◌else◌};
 ghost use Rattle.std.specs.List.{list_any};
 ghost use Rattle.sorted_list.specs.Ordered.{at};
 ghost use Rattle.mme_associations.specs.Kept.{slot_rank, is_held, Gathers, Holds};
@@ -61,6 +61,13 @@ pub(crate) fn gather_owners(
         gather_owner(&associations[place], gathered)?;
     }
     Ok(())
+}
+
+/// Whether there are no associations, and no slots.
+pub(crate) fn is_nobody(associations: &[Association], slots: &SortedList<OrderedSlot>) -> bool
+    ensures { result ≡ true → (associations.now ≡ []) × (slots.now.items ≡ []) }
+{
+    associations.is_empty() && slots.is_empty()
 }
 
 /// The slots that were gathered, by rising slot.

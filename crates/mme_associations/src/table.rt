@@ -7,7 +7,7 @@ ghost use Rattle.mme_associations.specs.Whereabouts.{nowhere, is_concerned, is_m
 
 use crate::items::listed_items;
 use crate::opening::{close_stranger, open_stranger, reopen};
-use crate::slots::{OrderedSlot, gather_owners, list_slot, slots_of};
+use crate::slots::{OrderedSlot, gather_owners, is_nobody, list_slot, slots_of};
 use crate::whereabouts::{Whereabouts, is_same};
 use association_table::Associations;
 use identity_slots::{AssociationId, Slot, StationNumber};
@@ -148,6 +148,9 @@ impl Connections {
         ensures { IfOk result (λ s. s.items ≡ slots_where (is_concerned station) 0 self.now.whereabouts) }
     {
         let there = self.associations.entries_at(station.get())?;
+        if is_nobody(there.as_slice(), &self.paged) {
+            return Ok(Vec::new(self.alloc));
+        }
         let mut gathered = self.paged.copy()?;
         gather_owners(there.as_slice(), &mut gathered)?;
         slots_of(self.alloc, &gathered)

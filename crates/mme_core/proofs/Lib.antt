@@ -18,3 +18,4 @@ pub mod Faults
 pub mod Taken
 pub mod Ticks
 pub mod Placing
+pub mod Quiet

@@ -1,5 +1,6 @@
 pub mod Sight
 pub mod World
+pub mod Quiet
 pub mod Ready
 pub mod Projection
 pub mod FreshRuns
@@ -9,3 +10,5 @@ pub mod Kept
 pub mod Apart
 pub mod Laws
 pub mod Faults
+-- crates below, passed on with all of their definitions
+pub use Rattle.mme_answering.specs as mme_answering

@@ -1,11 +1,12 @@
 //! The MME.
 
-ghost use Rattle.std.specs.Prelude.{◌≡◌, ◌≢◌, ◌⊎◌, ◌<◌, ◌++◌, ◌≤◌, ◌↔◌, ℕ, length, slice_get, IfOk, IfErr, IfSome, IsNone, OnOk, OnErr, Ok, Err, Some, None};
+ghost use Rattle.std.specs.Prelude.{◌≡◌, ◌≢◌, ◌⊎◌, ◌<◌, ◌++◌, ◌≤◌, ◌+◌, ◌^◌, ◌↔◌, ℕ, [], length, slice_get, true, IfOk, IfErr, IfSome, IsNone, OnOk, OnErr, Ok, Err, Some, None};
 ghost use Rattle.identity_slots.specs.Provisioned.{slot_of_imsi};
 ghost use Rattle.mme_types.specs.Stations.{station_at};
 ghost use Rattle.emm_machine.specs.SubscriberView.{SubscriberView};
 ghost use Rattle.sorted_list.specs.Ordered.{Distinct, Every, Rising};
 ghost use Rattle.stranger_machine.specs.Table.{known_id, stranger_at};
+ghost use Rattle.mme_core.specs.declared.event.Event.TheVariants.{Tick};
 ghost use Rattle.mme_core.specs.declared.event.StepFault.TheVariants.{NoMemory};
 ghost use Rattle.mme_core.specs.Projection.{AllInOrder, AreInOrder, alone_after, is_slot, is_station, is_stranger, projection, silence, station_run, station_told, states_along, states_at, states_run, stranger_run, stranger_told, subscriber_told, told};
 ghost use Rattle.mme_types.specs.declared.stations.StationState.{StationState};
@@ -21,6 +22,7 @@ ghost use Rattle.mme_core.specs.FreshRuns.{AreInUse, IsFreshRun};
 ghost use Rattle.mme_core.specs.GuardedRuns.{IsGuardedRun};
 ghost use Rattle.mme_core.specs.Kept.{IsKept, IsKnownTimed};
 ghost use Rattle.mme_core.specs.Faults.{HasEachFault};
+ghost use Rattle.mme_core.specs.Quiet.{IsQuiet};
 ghost use Rattle.mme_core.specs.Ready.{ready_world};
 ghost use Rattle.mme_answering.specs.Short.{AreShort};
 ghost use Rattle.mme_core.specs.World.{clock_after, each_after, each_sent, event_fault, events_taken, fresh_world, happens, replies, replies_given, reply, slot_named, strangers_in, strangers_sent, world_of, world_after, world_run};
@@ -41,7 +43,7 @@ use laws_admission::{
 };
 use laws_apart::{associations_are_a_map, no_two_share_an_id};
 use laws_ends::{clocks_are_kept, silent_phones_end, strangers_are_closed};
-use mme_answering::{Outs, Prepared, prepare, settle};
+use mme_answering::{Outs, Prepared, pass, prepare, settle};
 use mme_owners::Owners;
 use mme_routing::{Destination, Outcome, outcome_of};
 use mme_types::{Answers, EnbWorld, SharedNetwork, SoloEvent, StationNumber, StationState};
@@ -175,7 +177,8 @@ impl Mme {
     }
 
     /// One event: what is sent, or why it is refused. A refused event leaves the MME as it was. No message is longer than 16,388
-    /// octets. Want of memory is the fault of no event that is refused for another cause.
+    /// octets. Want of memory is the fault of no event that is refused for another cause. A tick that ends nobody's countdown is
+    /// passed at once.
     pub fn step(&mut self, event: &Event<'_>) -> Result<Outs, StepFault>
         ensures reply { IfOk result (λ outs. reply self.old event.now ≡ Ok outs) }
         ensures after { OnOk result (self.new ≡ world_after self.old event.now) }
@@ -185,6 +188,9 @@ impl Mme {
         ensures refused { IfErr result (λ fault. fault ≢ NoMemory → reply self.old event.now ≡ Err fault) }
         ensures err { OnErr result (self.new ≡ self.old) }
     {
+        if self.is_quiet(event) {
+            return Ok(self.pass());
+        }
         let ready = self.ready(event)?;
         self.take(ready)
     }
@@ -248,6 +254,32 @@ impl Mme {
         Ok(replies)
     }
 
+    // Whether an event is a tick that isn't refused, and that ends nobody's countdown.
+    fn is_quiet(&self, event: &Event<'_>) -> bool
+        ensures { result ≡ true → IsQuiet self.now event.now }
+    {
+        let Event::Tick = event else {
+            return false;
+        };
+        if !self.surroundings.may_tick() {
+            return false;
+        }
+        !self.owners.is_due()
+    }
+
+    // Such a tick: nothing is sent for it. Takes no memory.
+    fn pass(&mut self) -> Outs
+        requires { IsQuiet self.old Tick }
+        ensures none { result ≡ [] }
+        ensures silent { reply self.old Tick ≡ Ok [] }
+        ensures after { self.new ≡ world_after self.old Tick }
+    {
+        worlds_are_kept();
+        ids_are_apart();
+        pass(&mut self.owners);
+        self.surroundings.pass_silently()
+    }
+
     // What an event leads to, on copies.
     fn ready(&mut self, event: &Event<'_>) -> Result<Ready, StepFault>
         ensures reply { IfOk result (λ r. reply self.old event.now ≡ Ok r.outs) }
@@ -289,6 +321,23 @@ impl Surroundings {
         ensures { result ≡ slot_of_imsi imsi self.now.profiles }
     {
         self.provision.slot_of_imsi(imsi)
+    }
+
+    // Whether the clock is before its last tick.
+    fn may_tick(&self) -> bool
+        ensures { (result ≡ true) ↔ (self.now.clock < 2 ^ 62) }
+    {
+        self.clock < LAST_TICK
+    }
+
+    // One tick, for which nothing is sent.
+    fn pass_silently(&mut self) -> Outs
+        requires { self.old.clock < 2 ^ 62 }
+        ensures moved { self.new ≡ record self.old { clock = self.old.clock + 1 } }
+        ensures none { result ≡ [] }
+    {
+        self.clock += 1;
+        Outs::new(self.alloc)
     }
 
     // The slot of the IMSI that an event names, if it names one that is provisioned. It is looked up once for each event.

@@ -1,9 +1,9 @@
 -- The countdowns of all after a change of one stranger, or of some subscribers.
-use Rattle.std.proofs.Common.{◌≡◌, ℕ, zero, suc, ◌+◌, ◌-◌, ◌^◌, ◌<◌, ◌≤◌, List, [], ◌∷◌, ◌++◌, length, refl, sym, ◌∙◌, ap, subst, arith}
-use Rattle.std.specs.Prelude.{slice_get, Option, Some, None, OnErr, OnOk, Result, Ok, Err}
+use Rattle.std.proofs.Common.{◌≡◌, ◌↔◌, ℕ, zero, suc, ◌+◌, ◌-◌, ◌^◌, ◌<◌, ◌≤◌, List, [], ◌∷◌, ◌++◌, length, refl, sym, ◌∙◌, ap, subst, arith}
+use Rattle.std.specs.Prelude.{if◌then◌else◌, slice_get, Option, Some, None, OnErr, OnOk, Result, Ok, Err}
 use Rattle.std.proofs.lemmas.List.{map-append}
 use Rattle.std.proofs.lemmas.Option.{slice_get-map}
-use Rattle.identity_slots.specs.Ids.{slots}
+use Rattle.identity_slots.specs.Ids.{slots, stranger_id}
 use Rattle.emm_state.specs.declared.solo.Solo.{Solo}
 use Rattle.emm_machine.specs.SubscriberView.{SubscriberView}
 use Rattle.emm_machine.specs.Ticks.{countdowns}
@@ -13,8 +13,11 @@ use Rattle.stranger_machine.specs.declared.table.Known.{Known}
 use Rattle.stranger_machine.specs.Table.{known_id}
 use Rattle.timer_queue.specs.Countdowns.{Countdown, Countdowns, countdown_rank, due_of}
 use Rattle.timer_queue.specs.declared.timer.Kind.TheVariants.{Procedure, Reachable}
+use Rattle.timer_queue.specs.declared.timer.Timer.{Timer}
+use Rattle.timer_queue.specs.declared.timer.TimerOwner.{TimerOwner}
+use Rattle.timer_queue.specs.declared.timer.TimerOwner.TheVariants as owners
 use Rattle.mme_timers.specs.Changed.{changed_at}
-use Rattle.mme_timers.specs.Due.{ids_of, slots_once, AreOfOwners}
+use Rattle.mme_timers.specs.Due.{id_of, ids_of, is_past, owner_slot, slots_once, with_id, AreOfOwners}
 use Rattle.mme_timers.specs.Joined.{due_joined}
 use Rattle.mme_timers.specs.Running.{AreQueued, IsInRange, both_retimed, running_from, with_countdown}
 use Rattle.mme_timers.specs.SlotLaws.{AreBefore, both_retimed_is, both_retimed_joined, changed_length, once_is, over_from, queued_at, queued_joined, slots_are_owners, slots_have_no_id}
@@ -24,7 +27,7 @@ use Rattle.stranger_table.specs.Table.{StrangerTable}
 use Rattle.subscriber_table.specs.SteppedView.{SteppedView}
 use Rattle.subscriber_table.specs.Laws.{with_solo_is}
 use Rattle.subscriber_table.specs.Table.{SubscriberTable, all_countdowns, countdowns_at, due_slots, in_state, with_solo, with_stepped}
-use Rattle.mme_owners.specs.Owners.{AreRecords, IsStart, all_retimed, countdowns_of}
+use Rattle.mme_owners.specs.Owners.{AreRecords, IsStart, NobodyIsDue, all_retimed, countdowns_of}
 
 -- ---- the countdowns of subscribers
 
@@ -190,3 +193,27 @@ due_subscribers ks ws cs h e =
     let rest = running_from 0 (all_countdowns ws) in
     ap (λ xs. slots_once None (due_of xs)) e ∙ ap (slots_once None) (due_joined (waits_of ks) rest)
     ∙ due_slots_joined ks (due_of rest) h ∙ once_is 0 None (all_countdowns ws) tt
+
+-- ---- nobody is due where the queue has nobody who is
+
+no_cons : (n : ℕ) (ns : List ℕ) → n ∷ ns ≡ [] → ⊥
+no_cons n ns h = cc
+
+somebody : (o : TimerOwner) (ids xs ys : List ℕ) → with_id (id_of o) ids ≡ []
+    → (if is_past o None then xs else owner_slot o ∷ ys) ≡ [] → ⊥
+somebody (owners.Stranger station enb_ue_id) ids xs ys h k = no_cons (stranger_id station enb_ue_id) ids h
+somebody (owners.Subscriber slot) ids xs ys h k = no_cons slot ys k
+
+none_of : (ts : List Timer) → ids_of ts ≡ [] → slots_once None ts ≡ [] → ts ≡ []
+none_of [] h k = refl
+none_of (t ∷ ts) h k =
+    absurd (somebody t.owner (ids_of ts) (slots_once None ts) (slots_once (Some (owner_slot t.owner)) ts) h k)
+
+pub due_nobody : (ks : List Known) (ws : List SubscriberView) (cs : List Countdown) → AreWaits ks → cs ≡ countdowns_of ks ws
+    → (due_of cs ≡ []) ↔ NobodyIsDue ks ws
+due_nobody ks ws cs h e =
+    let ids = due_strangers ks ws cs h e in
+    let numbers = due_subscribers ks ws cs h e in (
+      λ none. record { strangers = sym ids ∙ ap ids_of none; slots = sym numbers ∙ ap (slots_once None) none },
+      λ nobody. none_of (due_of cs) (ids ∙ nobody.strangers) (numbers ∙ nobody.slots),
+    )

@@ -7,10 +7,10 @@ use Rattle.stranger_machine.specs.declared.turn.After.{After}
 use Rattle.stranger_machine.specs.declared.turn.After.TheVariants as after
 use Rattle.timer_queue.specs.Countdowns.{Countdown, Countdowns}
 use Rattle.mme_timers.specs.Running.{both_retimed, running_from}
-use Rattle.mme_timers.specs.Waiting.{AreWaits, wait_of, waits_of}
+use Rattle.mme_timers.specs.Waiting.{AreWaits, due_ids, wait_of, waits_of}
 use Rattle.stranger_table.specs.Table.{StrangerTable}
 use Rattle.subscriber_table.specs.SteppedView.{SteppedView}
-use Rattle.subscriber_table.specs.Table.{SubscriberTable, all_countdowns, with_solo, IsCounting}
+use Rattle.subscriber_table.specs.Table.{SubscriberTable, all_countdowns, due_slots, with_solo, IsCounting}
 use Rattle.subscriber_table.specs.Touched.{IsFreeFor}
 
 pub record OwnersView : Type 0 where
@@ -37,6 +37,11 @@ pub record AreRecords (timers : Countdowns) (strangers : StrangerTable) (subscri
   pub subscribers_clock : subscribers.clock ≡ timers.clock
   pub waits : AreWaits strangers.strangers
   pub timed : timers.running ≡ countdowns_of strangers.strangers subscribers.subscribers
+
+-- the next tick ends no countdown: T3470 of no stranger, and none of a subscriber
+pub record NobodyIsDue (ks : List Known) (ws : List SubscriberView) : Type 0 where
+  pub strangers : due_ids ks ≡ []
+  pub slots : due_slots ws ≡ []
 
 -- the state of the one that was prepared, if one was
 abbrev pub with_one : Option SteppedView → List SubscriberView → List SubscriberView

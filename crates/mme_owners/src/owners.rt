@@ -1,6 +1,6 @@
 //! Strangers and subscribers, the one queue of their countdowns, and the one map of their associations.
 
-ghost use Rattle.std.specs.Prelude.{◌≡◌, ◌+◌, ◌*◌, ◌<◌, ◌≤◌, ◌==◌, ◌^◌, ◌++◌, ◌∷◌, ℕ, [], length, slice_get, if◌then◌else◌, IfOk, IsSome, None, OnErr, OnOk, option_map, true};
+ghost use Rattle.std.specs.Prelude.{◌≡◌, ◌+◌, ◌*◌, ◌<◌, ◌≤◌, ◌==◌, ◌^◌, ◌++◌, ◌∷◌, ◌↔◌, ℕ, [], false, length, map, slice_get, if◌then◌else◌, IfOk, IsSome, None, OnErr, OnOk, option_map, true};
 ghost use Rattle.identity_slots.specs.Ids.{slots, station_in};
 ghost use Rattle.mme_associations.specs.Whereabouts.{nowhere, waits_at, NoneConnected};
 ghost use Rattle.mme_types.specs.Events.{ConnectionsGone, StationGone};
@@ -13,9 +13,9 @@ ghost use Rattle.stranger_machine.specs.Table.{known_id, noted, stranger_at, wit
 ghost use Rattle.stranger_machine.specs.Turns.{after_of};
 ghost use Rattle.stranger_machine.specs.declared.turn.Notice.TheVariants.{Tick};
 ghost use Rattle.mme_timers.specs.Waiting.{due_ids};
-ghost use Rattle.subscriber_table.specs.Table.{due_slots, slots_stepped, tick_settled, with_solo, with_stepped, AreCounting, IsCounting};
+ghost use Rattle.subscriber_table.specs.Table.{due_slots, one_less, slots_stepped, tick_settled, with_solo, with_stepped, AreCounting, IsCounting};
 ghost use Rattle.subscriber_table.specs.Touched.{all_whereabouts, touched_slots, whereabouts, KeepsPlace};
-ghost use Rattle.mme_owners.specs.Owners.{with_one, IsFitIf, IsFreeIf, IsWaitAfter};
+ghost use Rattle.mme_owners.specs.Owners.{with_one, IsFitIf, IsFreeIf, IsWaitAfter, NobodyIsDue};
 ghost use Rattle.mme_owners.specs.Placed.{AreApart, IsOn, NoneWaitsIf};
 
 use crate::placing::{leave, place, place_all, place_of};
@@ -158,6 +158,13 @@ impl Owners {
         ensures { result ≡ option_map (λ w. states_of w.solo) (slice_get self.now.subscribers slot) }
     {
         self.records.states(slot)
+    }
+
+    /// Whether the next tick ends somebody's countdown. Only the front of the queue is looked at; takes no memory.
+    pub fn is_due(&self) -> bool
+        ensures { (result ≡ false) ↔ NobodyIsDue self.now.strangers self.now.subscribers }
+    {
+        self.records.is_due()
     }
 
     /// Who has a countdown that the next tick ends: strangers by rising id, subscribers by rising slot. Only the front of the queue
@@ -359,5 +366,19 @@ impl Owners {
         let ended = due.as_slice();
         self.records.tick(ended, stepped);
         leave(&mut self.connections, &self.records, ended);
+    }
+
+    /// One tick that ends nobody's countdown: each that runs has a tick less. Nobody is touched; takes no memory. The strangers' ids
+    /// rise.
+    pub fn pass(&mut self)
+        requires clock { self.old.clock < 2 ^ 62 }
+        requires nobody { NobodyIsDue self.old.strangers self.old.subscribers }
+        ensures clock { self.new.clock ≡ self.old.clock + 1 }
+        ensures strangers { self.new.strangers ≡ noted Tick self.old.strangers }
+        ensures subscribers { self.new.subscribers ≡ map one_less self.old.subscribers }
+        ensures order { Rising known_id self.old.strangers }
+    {
+        self.records.ids_rise();
+        self.records.pass();
     }
 }

@@ -1,6 +1,6 @@
 //! Strangers and subscribers, and the one queue of their countdowns.
 
-ghost use Rattle.std.specs.Prelude.{◌≡◌, ◌+◌, ◌*◌, ◌<◌, ◌≤◌, ◌^◌, ◌++◌, ◌∷◌, [], length, slice_get, IfOk, None, OnErr, OnOk, option_map};
+ghost use Rattle.std.specs.Prelude.{◌≡◌, ◌+◌, ◌*◌, ◌<◌, ◌≤◌, ◌^◌, ◌++◌, ◌∷◌, ◌↔◌, [], false, length, map, slice_get, IfOk, None, OnErr, OnOk, option_map};
 ghost use Rattle.identity_slots.specs.Ids.{slots};
 ghost use Rattle.mme_associations.specs.Whereabouts.{nowhere};
 ghost use Rattle.emm_machine.specs.Ticks.{countdowns};
@@ -9,8 +9,8 @@ ghost use Rattle.sorted_list.specs.Ordered.{Every, Rising, put, without};
 ghost use Rattle.stranger_machine.specs.Table.{known_id, noted};
 ghost use Rattle.stranger_machine.specs.declared.turn.Notice.TheVariants.{Tick};
 ghost use Rattle.mme_timers.specs.Waiting.{due_ids, wait_at, wait_of};
-ghost use Rattle.subscriber_table.specs.Table.{due_slots, slots_stepped, tick_settled, with_solo, with_stepped, AreCounting, IsCounting};
-ghost use Rattle.mme_owners.specs.Owners.{IsStart};
+ghost use Rattle.subscriber_table.specs.Table.{due_slots, one_less, slots_stepped, tick_settled, with_solo, with_stepped, AreCounting, IsCounting};
+ghost use Rattle.mme_owners.specs.Owners.{IsStart, NobodyIsDue};
 
 use crate::retiming::{restart, retime_all};
 use emm_machine::{States, Subscriber};
@@ -130,6 +130,13 @@ impl Records {
         self.subscribers.states(slot)
     }
 
+    /// Whether the next tick ends somebody's countdown. Only the front of the queue is looked at; takes no memory.
+    pub(crate) fn is_due(&self) -> bool
+        ensures { (result ≡ false) ↔ NobodyIsDue self.now.strangers self.now.subscribers }
+    {
+        self.timers.is_due()
+    }
+
     /// Who has a countdown that the next tick ends: strangers by rising id, subscribers by rising slot. Only the front of the queue
     /// is looked at.
     pub(crate) fn due(&self) -> Result<Due, AllocError>
@@ -241,5 +248,22 @@ impl Records {
         restart(&mut self.timers, &self.strangers, due);
         retime_all(&mut self.timers, stepped.as_slice());
         self.subscribers.tick(stepped);
+    }
+
+    /// One tick that ends nobody's countdown: each that runs has a tick less. Nobody is touched; takes no memory.
+    pub(crate) fn pass(&mut self)
+        requires clock { self.old.clock < 2 ^ 62 }
+        requires nobody { NobodyIsDue self.old.strangers self.old.subscribers }
+        ensures clock { self.new.clock ≡ self.old.clock + 1 }
+        ensures strangers { self.new.strangers ≡ noted Tick self.old.strangers }
+        ensures subscribers { self.new.subscribers ≡ map one_less self.old.subscribers }
+    {
+        // (that there are no more of them than slots, and that the strangers' ids rise)
+        let _ = self.subscribers.len();
+        let _ = self.strangers.clock();
+        let timers = &mut self.timers;
+        timers.pass();
+        self.strangers.tick(&[]);
+        self.subscribers.tick(Vec::new(self.alloc));
     }
 }

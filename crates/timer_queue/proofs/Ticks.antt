@@ -1,10 +1,10 @@
 -- What a tick makes of the queue.
-use Rattle.std.proofs.Common.{◌≡◌, ℕ, ◌+◌, ◌-◌, ◌*◌, ◌^◌, ◌<◌, ◌≤◌, List, [], ◌∷◌, ◌++◌, length, map, refl, sym, ◌∙◌, ap, subst, arith, append_assoc, append-nil}
+use Rattle.std.proofs.Common.{◌≡◌, ◌↔◌, ℕ, ◌+◌, ◌-◌, ◌*◌, ◌^◌, ◌<◌, ◌≤◌, List, [], ◌∷◌, ◌++◌, length, map, refl, sym, ◌∙◌, ap, subst, arith, append_assoc, append-nil}
 use Rattle.std.specs.Prelude.{nat_lt, nat_le, Bool, true, false, cond, Some, None, if◌then◌else◌}
 use Rattle.std.proofs.lemmas.Bool.Decides.{nat_tests}
 use Rattle.sorted_list.specs.Ordered.{add, ordered, AllOver, Rising, Every}
 use Rattle.sorted_list.specs.Indexed.{every-ordered}
-use Rattle.sorted_list.specs.Sorted.{lowest_from}
+use Rattle.sorted_list.specs.Sorted.{lowest, lowest_from}
 use Rattle.timer_queue.specs.Countdowns.{Countdown}
 use Rattle.timer_queue.specs.declared.timer.Timer.{Timer}
 use Rattle.timer_queue.specs.declared.queue.Deadline.{Deadline}
@@ -202,6 +202,23 @@ walk_stops clock k e due queue r f lt h =
 pub walk_ends : (clock k : ℕ) (due : List Timer) (queue : List Deadline) → lowest_from moment k queue ≡ None
     → leading clock queue ≡ due ++ leading clock (rest_from k queue) → due ≡ leading clock queue
 walk_ends clock k due queue f h = sym (h ∙ ap (λ es. due ++ leading clock es) (rest_none k queue f) ∙ append-nil due)
+
+-- the first tells whether any is due
+first_by : (t : Timer) (ts : List Timer) (b : Bool) → (b ≡ false) ↔ (cond b (t ∷ ts) [] ≡ [])
+first_by t ts true = (λ no. absurd cc, λ no. absurd cc)
+first_by t ts false = (λ no. refl, λ no. refl)
+
+pub first_tells : (clock : ℕ) (e : Deadline) (queue : List Deadline) → lowest queue ≡ Some e
+    → (nat_le e.deadline clock ≡ false) ↔ (leading clock queue ≡ [])
+first_tells clock e [] h = absurd (cc)
+first_tells clock e (y ∷ ys) h =
+    let same : y ≡ e = cc in
+    subst (λ (z : Deadline). (nat_le z.deadline clock ≡ false) ↔ (leading clock (y ∷ ys) ≡ [])) same
+    (first_by y.timer (leading clock ys) (nat_le y.deadline clock))
+
+pub none_leads : (clock : ℕ) (queue : List Deadline) → lowest queue ≡ None → (false ≡ false) ↔ (leading clock queue ≡ [])
+none_leads clock [] h = (λ no. refl, λ no. refl)
+none_leads clock (y ∷ ys) h = absurd (cc)
 
 pub moment_fits : (d r clock : ℕ) → d ≤ clock → clock < 2 ^ 63 → r < 2 ^ 64 → d * 2 ^ 64 + r + 1 < 2 ^ 128
 moment_fits d r clock le small h = omega arith

@@ -84,7 +84,7 @@ fn due_at(
 
 /// Whether the first of a queue ends by a clock; where it doesn't, none does, and nothing is searched.
 fn is_first_due(queue: &SortedList<Deadline>, clock: u64) -> bool
-    ensures { result ≡ false → leading clock queue.now.items ≡ [] }
+    ensures { (result ≡ false) ↔ (leading clock queue.now.items ≡ []) }
 {
     match queue.first() {
         Some(first) => first.deadline <= clock,
@@ -226,6 +226,13 @@ impl Timers {
             let deadline = running.deadline;
             self.queue.take(moment(&Deadline { deadline, timer }));
         }
+    }
+
+    /// Whether the next tick ends a timer. Only the front of the queue is looked at; takes no memory.
+    pub fn is_due(&self) -> bool
+        ensures { (result ≡ false) ↔ (due_of self.now.running ≡ []) }
+    {
+        is_first_due(&self.queue, self.clock + 1)
     }
 
     /// The timers that the next tick ends, in order: strangers by station and eNB UE id, then subscribers by slot, and of one
