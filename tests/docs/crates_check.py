@@ -6,6 +6,8 @@
 - docs/ARCHITECTURE.md: "What it does" is the sentence of crates/README.md, "Stands on" the same as there.
 - The picture of the layers is the same in both, at most 100 columns wide. It has each crate once, and none stands on one above it.
 - No crate has more than 1,500 lines of source or 100 functions, tests left out.
+- The ways down through crates.txt, from each crate to each of those below, are at most 4,000,000: the toolchain goes each of them,
+  several times, before the first proof (docs/GATE.md). A crate that passes on what it stands on saves others a line to it.
 """
 import re
 
@@ -14,6 +16,7 @@ import tables
 PAGE, MAP = "crates/README.md", "docs/ARCHITECTURE.md"
 WIDTH = 100
 LINES, FUNCTIONS = 1500, 100
+WAYS = 4_000_000
 FUNCTION = re.compile(r"^\s*(?:pub(?:\(\w+\))? )?(?:const )?(?:unsafe )?fn \w+", re.M)
 
 
@@ -35,6 +38,18 @@ def below(uses):
     for crate in uses:
         of(crate)
     return found
+
+
+def ways(uses):
+    """How many ways lead down from the crates, each of them and each to itself counted."""
+    found = {}
+
+    def of(crate):
+        if crate not in found:
+            found[crate] = 1 + sum(of(one) for one in uses[crate] if one in uses)
+        return found[crate]
+
+    return sum(map(of, uses))
 
 
 def stands_on(uses):
@@ -157,6 +172,8 @@ def checked(_words=()):
                 faults.append("%s: should be %s ('tests/docs/write crates' writes it)" % (path, owed))
     faults += ["%s: %s" % (PAGE, fault) for fault in picture_faults(tables.text(PAGE), uses)]
     faults += size_faults(uses)
+    if ways(uses) > WAYS:
+        faults.append("%d ways lead through crates.txt: at most %d" % (ways(uses), WAYS))
     for fault in faults:
         print("FAILED " + fault)
     return passed, len(faults)

@@ -114,7 +114,7 @@ def whole(run):
 
 
 def session(seed, count, players):
-    """A session of so many events, and the short traces after it: what they had, and what the first difference is."""
+    """A session of `count` events, and the short traces after it: what they had, and what the first difference is."""
     counts = collections.Counter()
     try:
         run = fuzz.lived(seed, count, players.mme)
@@ -144,7 +144,7 @@ def sessions(count):
 
 
 def compared(count, jobs, players, counts):
-    """For each session of so many random events its seed and a difference, if there is one; `counts` grows."""
+    """For each session of `count` random events its seed and a difference, if there is one; `counts` grows."""
     with concurrent.futures.ProcessPoolExecutor(jobs) as pool:
         asked = {pool.submit(session, *one, players): one[0] for one in sessions(count)}
         for done in concurrent.futures.as_completed(asked):

@@ -44,17 +44,17 @@ def copy_crates(folder):
     pathlib.Path(folder, ".git").mkdir()  # where the toolchain's search for the top ends
 
 
-def crate_over_kept(rt, folder, name, is_kept_too):
-    """The crate of a name in a fresh copy of the crates. Each crate below it gets the library that is kept of it; the crate itself
-    has to be kept too, where that is asked. None where one isn't kept."""
+def crate_over_kept(rt, folder, name):
+    """The crate of a name in a fresh copy of the crates. It and each crate below it get the library that is kept of them; None where
+    one isn't kept."""
     folder = os.path.realpath(folder)
     rt.rtlib.Crate = rt.Crate
     rt.Crate.cuts_libraries = True
     rt.Crate.allowed = rt.handles_of(folder)
     crate = rt.Crate(os.path.join(folder, "crates", name), folder, {})
-    below = crate.below()
-    kept = rt.Kept([*below, crate])
-    for one in [*below, crate] if is_kept_too else below:
+    crates = [*crate.below(), crate]
+    kept = rt.Kept(crates)
+    for one in crates:
         # (where something is there already, nothing can be given, and the toolchain takes what it keeps for damaged)
         os.mkdir(os.path.join(one.folder, "out"))
         if not kept.give(one, False, kept.key(one)):

@@ -81,7 +81,7 @@ def compile_over_kept(archive):
         return False
     with tempfile.TemporaryDirectory() as room:
         kept.copy_crates(room)
-        crate = kept.crate_over_kept(rt, room, CRATE, is_kept_too=True)
+        crate = kept.crate_over_kept(rt, room, CRATE)
         if crate is None:
             return False
         compiled(rt, crate, archive)
@@ -220,24 +220,19 @@ def library(begun):
 
 
 def main(given):
-    begun = time.monotonic()
     parser = argparse.ArgumentParser(description=__doc__, formatter_class=argparse.RawDescriptionHelpFormatter)
     parser.add_argument("--built", metavar="FOLDER")
     words, others = parser.parse_known_args(given)
-    try:
+
+    def work(begun):
         if others:
             raise Failed("--library takes no word, and not %s" % others[0], BAD_WORDS)
         if words.built:
             say("built in %s" % build_over_built(words.built))
         else:
             library(begun)
-    except Failed as fault:
-        say(fault)
-        return fault.status
-    except children.Stopped as stopped:
-        say("stopped before the first proof")
-        return stopped.status
-    return 0
+
+    return prove.status_of(work)
 
 
 if __name__ == "__main__":

@@ -99,9 +99,21 @@ def keep_record(before, processor):
     record.write(PROGRAM, before["crates"], before["toolchain"], processor or record.DEFAULT_PROCESSOR)
 
 
-def main(given):
-    begun = time.monotonic()
+def status_of(work):
+    """Does what proves or builds, which is told when it began; says why it failed or stopped, and returns the status."""
     try:
+        work(time.monotonic())
+    except Failed as fault:
+        say(fault)
+        return fault.status
+    except children.Stopped as stopped:
+        say("stopped before the first proof")
+        return stopped.status
+    return 0
+
+
+def main(given):
+    def work(begun):
         processor = processor_of(given)
         if not record.has_sources():
             raise Failed("no sources here: --prove is for a clone of the repository")
@@ -109,14 +121,9 @@ def main(given):
             raise Failed("no toolchain on the path: --prove needs `rt`")
         children.catch_signals()
         prove(processor, begun)
-    except Failed as fault:
-        say(fault)
-        return fault.status
-    except children.Stopped as stopped:
-        say("stopped before the first proof")
-        return stopped.status
-    say("proved and built in %d s" % (time.monotonic() - begun))
-    return 0
+        say("proved and built in %d s" % (time.monotonic() - begun))
+
+    return status_of(work)
 
 
 if __name__ == "__main__":

@@ -8,7 +8,7 @@ pub mod TickLaws
 pub mod Freshness
 pub mod Laws
 -- what the rows do, for those who stand on the machine alone
-pub use Rattle.emm_attach.specs.Attaching
+pub use Rattle.emm_uplink.specs.emm_attach.Attaching
 pub use Rattle.emm_association.specs.Connected
 pub use Rattle.emm_network.specs.Idle
 pub use Rattle.emm_uplink.specs.Serving

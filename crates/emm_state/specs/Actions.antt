@@ -2,11 +2,11 @@
 -- a connection sends nothing, and a message without a written form isn't sent.
 use Rattle.std.specs.Prelude.{ℕ, ◌+◌, ◌^◌, ◌==◌, ◌&&◌, ◌||◌, Bool, true, false, is_none, nat_lt, if◌then◌else◌, List, [], ◌++◌, Option, Some, None, Result, Ok, Err}
 use Rattle.std.specs.Option.{option_map_or}
-use Rattle.s1ap_causes.specs.declared.cause.Cause.{Cause}
-use Rattle.s1ap_causes.specs.declared.cause.Cause.TheVariants.{Nas}
-use Rattle.s1ap_causes.specs.declared.cause.NasCause.TheVariants.{NormalRelease}
-use Rattle.s1ap_pdus.specs.declared.pdu.Pdu.{Pdu}
-use Rattle.s1ap_pdus.specs.Pdus.{encoded}
+use Rattle.mme_types.specs.s1ap_causes.declared.cause.Cause.{Cause}
+use Rattle.mme_types.specs.s1ap_causes.declared.cause.Cause.TheVariants.{Nas}
+use Rattle.mme_types.specs.s1ap_causes.declared.cause.NasCause.TheVariants.{NormalRelease}
+use Rattle.mme_types.specs.s1ap_pdus.declared.pdu.Pdu.{Pdu}
+use Rattle.mme_types.specs.s1ap_pdus.Pdus.{encoded}
 use Rattle.nas_messages.specs.declared.protection.SecurityHeader.{SecurityHeader}
 use Rattle.nas_messages.specs.declared.protection.SecurityHeader.TheVariants.{IntegrityProtectedCiphered}
 use Rattle.eps_keys.specs.Eia2.{eia2}

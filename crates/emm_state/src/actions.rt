@@ -1,9 +1,9 @@
 //! The actions of a step.
 
 ghost use Rattle.std.specs.Prelude.{◌≡◌, ◌<◌, ◌^◌, IfOk, OnOk, Some, None, option_map};
-ghost use Rattle.s1ap_pdus.specs.Pdus.{encoded, lists};
-ghost use Rattle.s1ap_causes.specs.declared.cause.Cause.TheVariants as causes;
-ghost use Rattle.s1ap_causes.specs.declared.cause.NasCause.TheVariants as nas_causes;
+ghost use Rattle.mme_types.specs.s1ap_pdus.Pdus.{encoded, lists};
+ghost use Rattle.mme_types.specs.s1ap_causes.declared.cause.Cause.TheVariants as causes;
+ghost use Rattle.mme_types.specs.s1ap_causes.declared.cause.NasCause.TheVariants as nas_causes;
 ghost use Rattle.nas_security.specs.Accepting.{accepted, last_after};
 ghost use Rattle.emm_state.specs.Actions.{connect, connect_on, association_counted, disconnected, emit, ended, fall, is_registered, leave_old, lost, mac_of, next_id, protect, protect_and_await, refuse, release, resting, seal, sealed_under, seen_accepted, send, set_up, set_up_with, start, turn_away, wipe, with_context};
 ghost use Rattle.emm_state.specs.Does.{Does, Makes};
@@ -15,11 +15,11 @@ use crate::solo::{Context, Countdown, NasTimer, Phase, Protection, Repeat};
 use esm_machine::Bearer;
 use identity_slots::{AssociationId, Slot};
 use mme_pdus::{context_setup, downlink, release_command};
+use mme_types::s1ap::S1apPdu;
+use mme_types::s1ap::elements::{Cause, EnbUeId, NasCause};
 use mme_types::{Answer, Connection, Mark, NasOctets, SentOctets, StationNumber};
 use nas_messages::{SecurityHeader, timers};
 use nas_security::SecurityFault;
-use s1ap_elements::{Cause, EnbUeId, NasCause};
-use s1ap_pdus::S1apPdu;
 use std::alloc::{AllocError, Global};
 
 // The cause of an association that ends as it should.

@@ -21,7 +21,7 @@ use Rattle.laws_faults.proofs.Telling.{Tells, tells_bind, tells_map, tells_wheth
 use Rattle.laws_faults.proofs.Bits.{tells_padding}
 use Rattle.laws_faults.proofs.Judging.{HasRoom, Judges, judges_lowest, judges_one, judges_taken, left_at, tells_alone, verdict_unless}
 
--- ---- in so many bits
+-- ---- in N bits
 
 above : (v last : ℕ) → leb v last ≡ false → last < v
 above v last e = leb-false v last e

@@ -26,7 +26,7 @@ pub data Component : Type 0 where
   -- no bits: the end of a complete encoding
   end_of_octets : Component
 
--- how many bits it has, where so many stand before it
+-- how many bits it has, by how many stand before it
 abbrev pub component_width : Component → ℕ → ℕ
 component_width (any_bits n) at = n
 component_width padding_bits at = padding at

@@ -9,8 +9,8 @@ use Rattle.trace_progress.specs.declared.fault.PlayFault.{PlayFault}
 use Rattle.trace_progress.specs.declared.fault.PlayFault.TheVariants.{Trace, Read, Write, NoMemory}
 use Rattle.trace_progress.specs.Text.{Played, breaks, lines_of, played_of}
 use Rattle.trace_progress.specs.TextLaws.{breaks-cons, lines_of-nil}
-use Rattle.sim_printing.specs.LineLaws.{first_line}
-use Rattle.sim_printing.specs.Printed.{answer_in, answers_in}
+use Rattle.sim_run.specs.sim_printing.LineLaws.{first_line}
+use Rattle.sim_run.specs.sim_printing.Printed.{answer_in, answers_in}
 use Rattle.sim_run.specs.Simulated.{SimTells}
 use Rattle.laws_printed.specs.Comments.{CommentsArePlayed, IsToEnd, NobodyIsSimulated, NothingIsSimulated, SlotIsSimulated, StationIsSimulated, StrangerIsSimulated, commented}
 use Rattle.laws_printed.specs.Laws.{NobodyIsPrinted, NothingIsPrinted, SlotIsPrinted, StationIsPrinted, StrangerIsPrinted}

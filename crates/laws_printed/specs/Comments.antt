@@ -11,7 +11,7 @@ use Rattle.trace_answers.specs.Words.{owner_text}
 use Rattle.trace_progress.specs.declared.fault.PlayFault.{PlayFault}
 use Rattle.trace_progress.specs.declared.fault.PlayFault.TheVariants.{Trace, Read, Write, NoMemory}
 use Rattle.trace_progress.specs.Text.{lines_of, played_of}
-use Rattle.sim_printing.specs.Printed.{answers_in}
+use Rattle.sim_run.specs.sim_printing.Printed.{answers_in}
 use Rattle.sim_run.specs.Simulated.{SimTells}
 use Rattle.laws_printed.specs.Printed.{begins_with, lines_for, told_lines}
 use Rattle.laws_printed.specs.Runs.{Run, run_of}

@@ -5,5 +5,4 @@
 
 pub use mme_command::{Choice, CommandFault, command};
 pub use sim_run::run_sim;
-pub use trace_player::{PlayFault, Watched};
-pub use trace_run::run_play;
+pub use trace_run::{PlayFault, Watched, run_play};

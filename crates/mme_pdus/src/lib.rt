@@ -3,6 +3,7 @@
 
 mod pdus;
 
+pub use mme_types as types;
 pub use pdus::{
     cause_of_request, context_setup, downlink, error_indication, paging, path_switch_acknowledge,
     path_switch_failure, release_command,

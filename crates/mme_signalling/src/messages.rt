@@ -8,13 +8,13 @@ ghost use Rattle.mme_signalling.specs.Messages.{attach_accept, attach_reject, au
 
 use crate::cause::EmmCause;
 use identity_slots::Tmsi;
-use mme_types::Network;
+use mme_pdus::types::Network;
+use mme_pdus::types::s1ap::elements::Tai;
 use nas_elements::{Guti, Plmn, TaiList, UeCapability};
 use nas_messages::{
     AttachAccept, AttachReject, AuthenticationRequest, Emm, EmmMessage, Lent, SecurityModeCommand,
     TrackingAreaUpdateAccept, encode_emm, timers,
 };
-use s1ap_elements::Tai;
 use std::alloc::{AllocError, Global};
 
 /// What a phone is granted: its M-TMSI in its tracking area; the cause of a combined request, which is granted for EPS

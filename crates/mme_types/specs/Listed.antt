@@ -1,8 +1,8 @@
 -- Which associations a list in a RESET means (TS 36.413 clause 8.7.1.2.2).
 use Rattle.std.specs.Prelude.{ℕ, ◌==◌, ◌&&◌, ◌||◌, Bool, true, List, Option, Some, None, is_some}
 use Rattle.std.specs.List.{list_any}
-use Rattle.s1ap_elements.specs.declared.reset.ListedAssociation.{ListedAssociation}
-use Rattle.s1ap_elements.specs.Resets.{AssociationToReset}
+use Rattle.s1ap_pdus.specs.s1ap_elements.declared.reset.ListedAssociation.{ListedAssociation}
+use Rattle.s1ap_pdus.specs.s1ap_elements.Resets.{AssociationToReset}
 
 -- what a RESET of a part names, item by item
 abbrev pub ToReset : Type 0

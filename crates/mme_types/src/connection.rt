@@ -1,7 +1,7 @@
 //! Where a phone is connected, and its keys for the radio.
 
 use identity_slots::{AssociationId, StationNumber};
-use s1ap_elements::EnbUeId;
+use s1ap_pdus::elements::EnbUeId;
 
 /// Where the phone is connected: the association, its station and its eNB UE S1AP ID.
 #[derive(Clone, Copy)]

@@ -1,7 +1,7 @@
 //! What happens to a subscriber. `B` is what holds octets: a slice of the message in code, a list in contracts.
 
 use identity_slots::{AssociationId, StationNumber};
-use s1ap_elements::{AssociationToReset, Cause, EnbUeId, Tai};
+use s1ap_pdus::elements::{AssociationToReset, Cause, EnbUeId, Tai};
 
 /// An INITIAL UE MESSAGE (TS 36.413 clause 8.6.2.1).
 #[derive(Clone, Copy)]

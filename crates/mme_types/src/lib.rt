@@ -15,4 +15,5 @@ pub use identity_slots::StationNumber;
 pub use listed::is_listed;
 pub use network::{AggregateBitRate, Apn, Network, SharedNetwork};
 pub use octets::{Answer, Answers, Mark, NasOctets, SentOctets};
+pub use s1ap_pdus as s1ap;
 pub use stations::{EnbWorld, StationState, is_broadcast};

@@ -4,7 +4,7 @@ ghost use Rattle.std.specs.Prelude.{◌≡◌};
 ghost use Rattle.mme_types.specs.Listed.{agrees, is_listed, matches};
 
 use identity_slots::AssociationId;
-use s1ap_elements::{AssociationToReset, EnbUeId, ListedAssociation, MmeUeId};
+use s1ap_pdus::elements::{AssociationToReset, EnbUeId, ListedAssociation, MmeUeId};
 
 fn agrees_with_mme_ue_id(given: Option<MmeUeId>, mme_ue_id: AssociationId) -> bool
     ensures { result ≡ agrees given mme_ue_id }

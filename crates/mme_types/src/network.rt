@@ -4,8 +4,7 @@ ghost use Rattle.std.specs.Prelude.{◌≡◌, ◌↔◌, ◌≤◌, length, IsS
 ghost use Rattle.mme_types.specs.Network.{IsLabel, is_label_octet};
 
 use arrayvec::ArrayString;
-use per_bits::Whole;
-use s1ap_elements::{MmeCode, MmeGroup, Plmn};
+use s1ap_pdus::elements::{MmeCode, MmeGroup, Plmn, Whole};
 use std::alloc::{AllocError, Global};
 use std::marker::Model;
 use std::rc::Rc;

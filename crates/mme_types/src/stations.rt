@@ -4,7 +4,7 @@ ghost use Rattle.std.specs.Prelude.{◌≡◌, IfOk, slice_set, length};
 ghost use Rattle.mme_types.specs.Stations.{is_broadcast, no_stations, station_at};
 
 use identity_slots::StationNumber;
-use s1ap_elements::{Plmn, SupportedTas};
+use s1ap_pdus::elements::{Plmn, SupportedTas};
 use std::alloc::{AllocError, Global};
 use std::marker::Model;
 

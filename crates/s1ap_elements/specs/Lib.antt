@@ -9,3 +9,5 @@ pub mod ListLaws
 pub mod PhoneLaws
 pub mod ResetLaws
 pub mod StationLaws
+-- crates below, passed on with all of their definitions
+pub use Rattle.s1ap_causes.specs as s1ap_causes

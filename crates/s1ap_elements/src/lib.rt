@@ -33,6 +33,7 @@ pub use identity::{
     Address, BitRate, CellId, EnbUeId, ErabId, MTmsi, MmeCode, MmeGroup, MmeUeId, Plmn,
     RelativeCapacity, SecurityKey, Tac, Teid, UeIndex,
 };
+pub use per_bits::{BitField, Items, Octets, Whole};
 pub use phone::{
     CnDomain, EutranCgi, RrcCause, STmsi, SecurityCapabilities, SecurityContext, Tai, TaiItem,
     TaiList, UeIdPair, UePagingId, UeS1apIds,

@@ -2,11 +2,11 @@
 use Rattle.std.proofs.Common.{◌≡◌, ℕ, List, Option, Some, None, Result, Ok, Err, refl, sym, ap, subst, ◌∙◌, option_map}
 use Rattle.per_streams.specs.declared.fault.PerFault.{PerFault}
 use Rattle.per_bits.specs.Formats.{Value}
-use Rattle.s1ap_causes.specs.Causes.{cause, typed_cause, named_cause}
+use Rattle.s1ap_elements.specs.s1ap_causes.Causes.{cause, typed_cause, named_cause}
 use Rattle.s1ap_elements.specs.Phones.{typed_s_tmsi, named_s_tmsi}
 use Rattle.s1ap_elements.specs.Resets.{typed_associations_reset, named_associations_reset}
 use Rattle.s1ap_elements.specs.ListLaws.{option_back}
-use Rattle.s1ap_causes.specs.CauseLaws.{cause_again, cause_spelled}
+use Rattle.s1ap_elements.specs.s1ap_causes.CauseLaws.{cause_again, cause_spelled}
 use Rattle.s1ap_elements.specs.StationLaws.{global_enb_id_again, global_enb_id_spelled, paging_drx_again, paging_drx_spelled, served_gummeis_again, served_gummeis_spelled, supported_tas_again, supported_tas_spelled}
 use Rattle.s1ap_elements.specs.PhoneLaws.{cn_domain_again, cn_domain_spelled, rrc_cause_again, rrc_cause_spelled, tai_list_again, tai_list_spelled, ue_paging_id_again, ue_paging_id_spelled, ue_s1ap_ids_again, ue_s1ap_ids_spelled}
 use Rattle.s1ap_elements.specs.ResetLaws.{associations_reset_again, associations_reset_spelled, reset_type_again, reset_type_spelled}

@@ -3,7 +3,7 @@ use Rattle.std.proofs.Common.{◌≡◌, ℕ, List, not, Option, Some, None, sub
 use Rattle.std.specs.Prelude.{filter}
 use Rattle.per_bits.specs.Formats.{Format, Value}
 use Rattle.per_bits.specs.Spelling.{SpellsWhole, IfSomeOr}
-use Rattle.s1ap_causes.specs.NameLaws.{Spelled}
+use Rattle.s1ap_elements.specs.s1ap_causes.NameLaws.{Spelled}
 use Rattle.s1ap_rows.specs.Rows.{Rows, ie, end, needed, optional, unkept, Slots, Kept}
 use Rattle.s1ap_pdus.specs.Profile.{rows_of}
 use Rattle.s1ap_pdus.specs.Typed.{Typed, SpellsTyped}

@@ -2,7 +2,7 @@
 use Rattle.std.specs.Prelude.{◌≡◌, true, ℕ, List, Option, Some, None, option_map, Result, Ok, Err}
 use Rattle.std.specs.Borrow.{Bor}
 use Rattle.per_streams.specs.declared.fault.PerFault.{PerFault}
-use Rattle.s1ap_causes.specs.Causes.{typed_cause, named_cause}
+use Rattle.s1ap_elements.specs.s1ap_causes.Causes.{typed_cause, named_cause}
 use Rattle.s1ap_elements.specs.Stations.{typed_global_enb_id, named_global_enb_id, typed_supported_tas, named_supported_tas, typed_paging_drx, named_paging_drx, typed_served_gummeis, named_served_gummeis}
 use Rattle.s1ap_elements.specs.Phones.{typed_tai, named_tai, typed_eutran_cgi, named_eutran_cgi, typed_rrc_cause, named_rrc_cause, typed_s_tmsi, named_s_tmsi, typed_security_capabilities, named_security_capabilities, typed_ue_s1ap_ids, named_ue_s1ap_ids, typed_ue_paging_id, named_ue_paging_id, ue_paging_id_lists, typed_cn_domain, named_cn_domain, typed_tai_list, named_tai_list, typed_security_context, named_security_context}
 use Rattle.s1ap_elements.specs.Resets.{typed_reset_type, named_reset_type, typed_associations_reset, named_associations_reset}

@@ -2,7 +2,7 @@
 use Rattle.std.specs.Prelude.{ℕ, ◌==◌, if◌then◌else◌, Option, Some, None}
 use Rattle.per_bits.specs.Formats.{octet_string}
 use Rattle.s1ap_elements.specs.Ids as id
-use Rattle.s1ap_causes.specs.Causes.{cause}
+use Rattle.s1ap_elements.specs.s1ap_causes.Causes.{cause}
 use Rattle.s1ap_elements.specs.Formats.{ambr, associations_reset, cn_domain, enb_ue_id, erabs_setup, erabs_to_be_setup, erabs_to_be_switched, eutran_cgi, global_enb_id, mme_ue_id, paging_drx, relative_capacity, reset_type, rrc_cause, s_tmsi, security_capabilities, security_context, security_key, served_gummeis, supported_tas, tai, tai_list, text, ue_index, ue_paging_id, ue_s1ap_ids}
 use Rattle.s1ap_rows.specs.Rows.{Rows, ie, end, needed, optional, unkept}
 use Rattle.s1ap_rows.specs.declared.criticality.Criticality.{Criticality}

@@ -33,4 +33,5 @@ pub use pdu::{
     UeCapabilityInfoIndication, UeContextReleaseCommand, UeContextReleaseComplete,
     UeContextReleaseRequest, UplinkNasTransport,
 };
+pub use s1ap_elements as elements;
 pub use s1ap_rows::{Criticality, EncodeFault, S1apFault};

@@ -1,1 +1,3 @@
 pub mod Events
+-- crates below, passed on with all of their definitions
+pub use Rattle.sim_printing.specs as sim_printing

@@ -3,7 +3,7 @@ use Rattle.std.specs.Prelude.{◌≡◌, ℕ, ◌+◌, ◌==◌, ⊤, List, [], 
 use Rattle.mme_core.specs.World.{World, reply}
 use Rattle.mme_core.specs.declared.event.Event.{Event}
 use Rattle.mme_core.specs.declared.event.Event.TheVariants as event
-use Rattle.mme_answering.specs.declared.out.Out.{Out}
+use Rattle.mme_core.specs.mme_answering.declared.out.Out.{Out}
 use Rattle.trace_words.specs.declared.line.Line.{Line}
 use Rattle.trace_words.specs.declared.line.Line.TheVariants.{Up, Lost, In, Tick, Data, Cancel}
 use Rattle.trace_words.specs.declared.fault.TraceFault.{TraceFault}

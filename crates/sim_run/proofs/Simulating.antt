@@ -12,8 +12,8 @@ use Rattle.trace_progress.specs.Text.{prepended, play, played_text, lines_of, pl
 use Rattle.trace_progress.specs.TextLaws.{lines_of-nil, play-nil, prepended-ends}
 use Rattle.trace_lines.specs.OneLine.{IsOfLine}
 use Rattle.trace_lines.specs.Lines.{PlaysAll, StopsAt, PlaysEach}
-use Rattle.sim_printing.specs.Printed.{answers_in, Speaks, Prints, PrintsScriptLine}
-use Rattle.sim_printing.specs.PrintLaws.{kept_in-append, Speaks-nil, Speaks-then}
+use Rattle.sim_lines.specs.sim_printing.Printed.{answers_in, Speaks, Prints, PrintsScriptLine}
+use Rattle.sim_lines.specs.sim_printing.PrintLaws.{kept_in-append, Speaks-nil, Speaks-then}
 use Rattle.sim_run.specs.declared.player.ScriptPlayer.{ScriptPlayer}
 use Rattle.sim_run.specs.Simulated.{WritesLine, SimTells}
 

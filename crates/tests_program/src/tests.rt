@@ -9,8 +9,7 @@ use std::alloc::Global;
 use std::io;
 use std::io::{BufWriter, Read, Write};
 use std::process::Abort;
-use trace_lines::play_lines;
-use trace_player::{PlayFault, Progress, Watched};
+use trace_lines::{PlayFault, Progress, Watched, play_lines};
 use trace_run::Player;
 use trace_words::TraceFault;
 

@@ -9,3 +9,6 @@ mod under_way;
 
 pub use play::play_lines;
 pub use player::PlaysLines;
+pub use trace_player::{
+    MOST_TURNS, PlayFault, Progress, Watched, act_on_line, fault_in_line, write_whole,
+};

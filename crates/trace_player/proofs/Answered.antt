@@ -1,7 +1,7 @@
 -- The texts of answers, one after another.
 use Rattle.std.proofs.Common.{subst, ◌≡◌, ℕ, ◌+◌, ◌<◌, List, ◌++◌, length, Err, take, drop, get_or, sym, ap, ◌∙◌}
 use Rattle.std.proofs.lemmas.List.{take-append-drop}
-use Rattle.mme_answering.specs.declared.out.Out.{Out}
+use Rattle.mme_core.specs.mme_answering.declared.out.Out.{Out}
 use Rattle.trace_progress.specs.declared.fault.PlayFault.{PlayFault}
 use Rattle.trace_progress.specs.declared.fault.PlayFault.TheVariants.{Trace, Read, Write, NoMemory}
 use Rattle.trace_answers.specs.Words.{answers_of, out_text}

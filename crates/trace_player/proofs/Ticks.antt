@@ -4,7 +4,7 @@ use Rattle.std.specs.Prelude.{is_ok}
 use Rattle.mme_core.specs.World.{World, reply}
 use Rattle.mme_core.specs.declared.event.Event.TheVariants as event
 use Rattle.mme_core.specs.declared.event.StepFault.{StepFault}
-use Rattle.mme_answering.specs.declared.out.Out.{Out}
+use Rattle.mme_core.specs.mme_answering.declared.out.Out.{Out}
 use Rattle.trace_progress.specs.Replies.{reply_text}
 use Rattle.trace_progress.specs.Effects.{left_by, with_text_before, tick_then, ticked}
 use Rattle.trace_progress.specs.Acts.{IsPrefix}

@@ -12,7 +12,7 @@ use Rattle.mme_core.specs.declared.config.Config.{Config}
 use Rattle.mme_core.specs.declared.event.Event.{Event}
 use Rattle.mme_core.specs.declared.event.Event.TheVariants as event
 use Rattle.mme_core.specs.declared.event.StepFault.{StepFault}
-use Rattle.mme_answering.specs.declared.out.Out.{Out}
+use Rattle.mme_core.specs.mme_answering.declared.out.Out.{Out}
 use Rattle.trace_words.specs.Trace.{◌>>=◌}
 use Rattle.trace_words.specs.declared.line.Line.{Line}
 use Rattle.trace_words.specs.declared.line.Line.TheVariants.{Skip, Mme, Sub, Vec, Up, Lost, In, Tick, Data, Cancel, Show}

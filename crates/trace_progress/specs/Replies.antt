@@ -1,6 +1,6 @@
 -- What is written of the reply to an event.
 use Rattle.std.specs.Prelude.{ℕ, List, Result, Ok, Err}
-use Rattle.mme_answering.specs.declared.out.Out.{Out}
+use Rattle.mme_core.specs.mme_answering.declared.out.Out.{Out}
 use Rattle.mme_core.specs.declared.event.StepFault.{StepFault}
 use Rattle.mme_core.specs.declared.event.StepFault.TheVariants.{NotUp, AlreadyUp, ClockSpent, NoMemory, UnknownImsi}
 use Rattle.trace_answers.specs.Words.{answers_of, refused_text}

@@ -6,3 +6,4 @@ mod player;
 
 pub use play::run_play;
 pub use player::Player;
+pub use trace_lines::{PlayFault, Watched};

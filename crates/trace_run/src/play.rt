@@ -7,8 +7,7 @@ ghost use Rattle.trace_run.specs.Play.{Plays};
 use crate::player::Player;
 use std::alloc::Global;
 use std::io::{Read, Write};
-use trace_lines::play_lines;
-use trace_player::{MOST_TURNS, PlayFault, Watched};
+use trace_lines::{MOST_TURNS, PlayFault, Watched, play_lines};
 
 /// Plays the trace that the reader gives, and writes the answers of each event before the next one.
 /// What has been answered is flushed before each read after the first.

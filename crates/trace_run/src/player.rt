@@ -7,8 +7,7 @@ ghost use Rattle.trace_progress.specs.Acts.{Acts};
 
 use std::alloc::Global;
 use std::io::Write;
-use trace_lines::PlaysLines;
-use trace_player::{PlayFault, Progress, Watched, act_on_line, fault_in_line};
+use trace_lines::{PlayFault, PlaysLines, Progress, Watched, act_on_line, fault_in_line};
 use trace_words::parse_line;
 
 /// How far a trace has been played.

@@ -1,6 +1,6 @@
 use Rattle.std.proofs.Common.{[], ◌∷◌}
 use Rattle.sim_words.specs.Kept.{kept_in}
-use Rattle.trace_player.specs.OctetLaws.{Appends-nil, Appends-same}
+use Rattle.trace_lines.specs.trace_player.OctetLaws.{Appends-nil, Appends-same}
 use Rattle.sim_run.proofs.Simulating.{WritesLine-printed, WritesLine-fault, PrintsScriptLine-place}
 use Rattle.sim_run.proofs.player.ScriptPlayerPlaysLines.play_line.Goals as goal
 
