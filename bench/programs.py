@@ -20,6 +20,10 @@ sys.dont_write_bytecode = True
 import repository
 
 HERE = pathlib.Path(__file__).resolve().parent
+sys.path.insert(0, str(HERE.parent / "tools" / "program"))
+import toolchain
+
+del sys.path[0]
 END = ".rt.txt"
 MAIN = HERE / ("main" + END)
 NAME = "benchmarks"
@@ -45,7 +49,7 @@ def made(folder, names=()):
 
 def tried(crate):
     """The run of all benchmarks by an unproved program: its status, what it printed, and what `rt try` said."""
-    words = ["rt", "try", "--steps", "100", "--seconds", str(SECONDS), "--", "brief"]
+    words = toolchain.command("try", "--steps", "100", "--seconds", str(SECONDS), "--", "brief")
     done = subprocess.run(words, cwd=crate, stdin=subprocess.DEVNULL, capture_output=True, text=True, check=False)
     return done.returncode, done.stdout, done.stderr
 

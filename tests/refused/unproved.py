@@ -15,10 +15,11 @@ import time
 
 from shimmed import HERE, SECONDS, TOP, Ran
 
-sys.path.insert(0, str(TOP / "bench"))
+sys.path[:0] = [str(TOP / "bench"), str(TOP / "tools" / "program")]
+import toolchain
 from repository import with_crate
 
-del sys.path[0]
+del sys.path[:2]
 
 # The allocation that is refused where none is to be.
 NONE = 1999999999
@@ -55,7 +56,7 @@ class Program:
         (folder / "repository").mkdir()
         crate = with_crate(folder / "repository", NAME, sorted((HERE / "calls").iterdir()))
         (folder / "given").write_bytes((TOP / "tests" / "rows" / "setup.trace").read_bytes() + b"tick 1000000\n")
-        words = ["rt", "try", "--steps", "100", "--seconds", "20", "--fail-alloc", str(NONE)]
+        words = toolchain.command("try", "--steps", "100", "--seconds", "20", "--fail-alloc", str(NONE))
         octets = b""
         with open(folder / "given", "rb") as trace, open(folder / "told", "wb") as told:
             run = subprocess.Popen(words, cwd=crate, stdin=trace, stdout=subprocess.DEVNULL, stderr=told,

@@ -4,28 +4,13 @@
 there, by the toolchain's own code, and only where the crate's text, the libraries below it and the toolchain are those that were
 proved.
 """
-import importlib.machinery
-import importlib.util
 import os
 import pathlib
 import shutil
 import subprocess
-import sys
 
 import record
 from words import Failed
-
-
-def toolchain_module():
-    """The toolchain's own command as a module, so that what is asked of it is what `rt` itself asks."""
-    command = shutil.which("rt")
-    if command is None:
-        raise Failed("no toolchain on the path: the library needs `rt`")
-    loader = importlib.machinery.SourceFileLoader("rt", os.path.realpath(command))
-    module = importlib.util.module_from_spec(importlib.util.spec_from_loader("rt", loader))
-    sys.modules["rt"] = module
-    loader.exec_module(module)
-    return module
 
 
 def keeps_work(rt):

@@ -25,6 +25,7 @@ import children
 import kept
 import prove
 import record
+import toolchain
 from kept import ran
 from words import BAD_WORDS, Failed, say
 
@@ -62,7 +63,7 @@ def compiled(rt, crate, archive):
 def compile_over_built(archive):
     """Compiles `mme_c` over the libraries below it that stand built: `rt ci` leaves them with statements and code, as it needs them
     for a program."""
-    rt = kept.toolchain_module()
+    rt = toolchain.module()
     rt.Crate.cuts_libraries = True
     crate = next((one for one in rt.rtlib.crates_below(str(record.TOP)) if one.name == CRATE), None)
     if crate is None:
@@ -76,7 +77,7 @@ def compile_over_built(archive):
 def compile_over_kept(archive):
     """Compiles `mme_c` over the libraries that this machine keeps of `rt ci`; whether it keeps all of them, and that `mme_c` is
     proved."""
-    rt = kept.toolchain_module()
+    rt = toolchain.module()
     if not kept.keeps_work(rt):
         return False
     with tempfile.TemporaryDirectory() as room:
@@ -186,7 +187,7 @@ def prove_each(begun):
         what = "%s, %d of %d" % (name, at, len(crates))
         say("proving %s, %d s so far" % (what, time.monotonic() - begun))
         try:
-            prove.made(name, ["rt", "lib"])
+            prove.made(name, toolchain.command("lib"))
         except children.Stopped as stopped:
             raise Failed("stopped while proving %s; what was proved before it is kept" % what, stopped.status) from None
     return record.TOP / "crates" / CRATE / "out" / ("lib%s.a" % CRATE)

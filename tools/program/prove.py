@@ -16,6 +16,7 @@ sys.dont_write_bytecode = True
 sys.path.insert(0, str(pathlib.Path(__file__).resolve().parent))
 import children
 import record
+import toolchain
 from words import BAD_WORDS, Failed, say
 
 PROCESSORS = ("x86-64", "x86-64-v2", "x86-64-v3")
@@ -61,8 +62,8 @@ def put_back(made, room):
 def asked_of(name, processor):
     """What the toolchain is asked for a crate."""
     if name != record.NAME:
-        return ["rt", "lib"]
-    return ["rt", "run", *(["--cpu=" + processor] if processor else []), "--", "play"]
+        return toolchain.command("lib")
+    return toolchain.command("run", *(["--cpu=" + processor] if processor else []), "--", "play")
 
 
 def made(name, words):

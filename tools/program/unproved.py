@@ -24,6 +24,7 @@ sys.path.insert(0, str(HERE))
 import children
 import explained
 import record
+import toolchain
 from words import Failed, say
 
 KEPT = record.TOP / "crates" / record.NAME / "out" / "unproved"
@@ -142,7 +143,7 @@ def build(verb, target):
         crate = repository(folder / "repository", verb) if verb else record.TOP / "crates" / record.NAME
         if wait.shows:
             say("reading %d crates and the toolchain's libraries" % len(crates_of(verb)))
-        words = ["rt", "try", "--steps", "1", *([] if verb else ["--", "play"])]
+        words = toolchain.command("try", "--steps", "1", *([] if verb else ["--", "play"]))
         with open(folder / "given", "rb") as given, open(folder / "told", "wb") as told:
             try:
                 with children.started(words, cwd=crate, stdin=given, stdout=subprocess.DEVNULL, stderr=told,
