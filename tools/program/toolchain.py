@@ -7,19 +7,32 @@
 crate's text (`Crate.stamp`), which some toolchains ask twice for each crate and for which they read the crates below once for each
 way. Here the toolchain's own code answers each question once: `below` of a crate once, since what a crate uses is read when it is
 made and doesn't change, and within one sum the text of each crate once. Every answer is the one that `rt` gives.
+
+What proves is started with huge_pages.c, where there is a C compiler for it and the system gives huge pages to those that ask: the
+prover is a seventh quicker so, and does nothing else.
 """
+import contextlib
 import functools
 import importlib.machinery
 import importlib.util
 import os
 import pathlib
 import shutil
+import subprocess
 import sys
+import tempfile
 import threading
 
 sys.dont_write_bytecode = True
 sys.path.insert(0, str(pathlib.Path(__file__).resolve().parent))
 from words import Failed, say
+
+# The words that have the toolchain prove something.
+PROVING = {"all", "check", "ci", "lib", "must-fail", "plant", "run", "test", "tidy", "verdict"}
+HUGE_PAGES = pathlib.Path(__file__).resolve().parent / "huge_pages.c"
+# The file in which Linux says who gets huge pages, and its word for those that ask.
+WHO_GETS_THEM, WHO_ASKS = pathlib.Path("/sys/kernel/mm/transparent_hugepage/enabled"), "[madvise]"
+PRELOAD = "LD_PRELOAD"
 
 
 def found_once(below):
@@ -51,6 +64,22 @@ def summed_once(stamp):
         return known[crate.folder]
 
     return summed
+
+
+def ask_for_huge_pages():
+    """Has what this process starts from here on ask for huge pages, if the system gives them to those that ask."""
+    with contextlib.suppress(OSError, subprocess.CalledProcessError):
+        if WHO_ASKS not in WHO_GETS_THEM.read_text(encoding="utf-8"):
+            return
+        # (in memory, so that nothing is left behind however this process ends)
+        kept = os.memfd_create(HUGE_PAGES.stem)
+        with tempfile.TemporaryDirectory() as room:
+            library = pathlib.Path(room, HUGE_PAGES.stem)
+            subprocess.run(["cc", "-O2", "-shared", "-fPIC", "-o", library, HUGE_PAGES, "-ldl"], check=True, stdin=subprocess.DEVNULL,
+                           stdout=subprocess.DEVNULL, stderr=subprocess.DEVNULL)
+            os.write(kept, library.read_bytes())
+        loaded = "/proc/%d/fd/%d" % (os.getpid(), kept)
+        os.environ[PRELOAD] = " ".join(filter(None, [loaded, os.environ.get(PRELOAD)]))
 
 
 def path():
@@ -91,6 +120,8 @@ def main(words):
         return fault.status
     if not is_python(found):
         os.execv(found, [found, *words])
+    if words[:1] and words[0] in PROVING:
+        ask_for_huge_pages()
     return module().main(words)
 
 

@@ -1,0 +1,134 @@
+"""tools/program/toolchain.py: every answer is the one that the toolchain's own `rt` gives, and each is found once."""
+import importlib.machinery
+import importlib.util
+import os
+import pathlib
+import shutil
+import subprocess
+import sys
+import tempfile
+import unittest
+
+import tools
+
+sys.path.insert(0, str(tools.TOP / "tools" / "program"))
+import toolchain
+
+SCRIPT = tools.TOP / "tools" / "program" / "toolchain.py"
+CRATES = "low:\nleft: low\nright: low\ntop: left right\nhighest: top left low\n"
+# Maps four megabytes, and prints the flags that the system has of the mapping (proc(5), VmFlags).
+MAPPED = """
+import mmap, re
+held = mmap.mmap(-1, 4 << 20, flags=mmap.MAP_PRIVATE | mmap.MAP_ANONYMOUS)
+parts = re.split(r"(?m)^(?=[0-9a-f]+-[0-9a-f]+ )", open("/proc/self/smaps").read())
+print(any(" hg" in part for part in parts))
+"""
+
+
+def plain():
+    """The toolchain's command as it is."""
+    loader = importlib.machinery.SourceFileLoader("rt", os.path.realpath(shutil.which("rt")))
+    rt = importlib.util.module_from_spec(importlib.util.spec_from_loader("rt", loader))
+    loader.exec_module(rt)
+    return rt
+
+
+def crates_of(rt, top):
+    rt.rtlib.Crate = rt.Crate
+    return {crate.name: crate for crate in rt.rtlib.crates_below(str(top))}
+
+
+class Answers(unittest.TestCase):
+    """Over five crates that stand on one another in several ways."""
+
+    def setUp(self):
+        self.top = pathlib.Path(self.enterContext(tempfile.TemporaryDirectory()))
+        (self.top / ".git").mkdir()
+        (self.top / "crates.txt").write_text(CRATES)
+        for line in CRATES.splitlines():
+            source = self.top / "crates" / line.split(":")[0] / "src" / "lib.rt"
+            source.parent.mkdir(parents=True)
+            source.write_text("// %s\n" % line)
+
+    def test_same_answers(self):
+        own, quick = crates_of(plain(), self.top), crates_of(toolchain.module(), self.top)
+        self.assertEqual(list(quick), list(own))
+        for name, crate in own.items():
+            for _ in range(2):
+                self.assertEqual([one.name for one in quick[name].below()], [one.name for one in crate.below()])
+                self.assertEqual(quick[name].stamp(), crate.stamp())
+        self.assertEqual([one.name for one in quick["highest"].below()], ["low", "left", "right", "top"])
+
+    def test_the_list_is_the_callers(self):
+        top = crates_of(toolchain.module(), self.top)["top"]
+        top.below().clear()
+        self.assertEqual([one.name for one in top.below()], ["low", "left", "right"])
+
+    def test_a_changed_text_has_another_sum(self):
+        crates = crates_of(toolchain.module(), self.top)
+        before = {name: crate.stamp() for name, crate in crates.items()}
+        (self.top / "crates" / "right" / "src" / "lib.rt").write_text("// more\n")
+        changed = {name for name, crate in crates.items() if crate.stamp() != before[name]}
+        self.assertEqual(changed, {"right", "top", "highest"})
+
+    def test_once(self):
+        """Of each crate the text is read once for a sum, and what stands below it is looked for once."""
+        asked = []
+
+        class Crate:
+            def __init__(self, folder, *deps):
+                self.folder, self.deps = folder, deps
+
+            def below(self):
+                asked.append(self.folder)
+                return [one for dep in self.deps for one in [*dep.below(), dep]]
+
+            def stamp(self):
+                asked.append(self.folder)
+                return "%s(%s)" % (self.folder, " ".join(dep.stamp() for dep in self.deps))
+
+        Crate.below, Crate.stamp = toolchain.found_once(Crate.below), toolchain.summed_once(Crate.stamp)
+        low = Crate("low")
+        left, right = Crate("left", low), Crate("right", low)
+        top = Crate("top", left, right, left)
+        self.assertEqual(top.stamp(), "top(left(low()) right(low()) left(low()))")
+        self.assertEqual(sorted(asked), ["left", "low", "right", "top"])
+        asked.clear()
+        self.assertEqual(len(top.below() + top.below()), 12)
+        self.assertEqual(sorted(asked), ["left", "low", "right", "top"])
+
+
+class Command(unittest.TestCase):
+    def ran(self, *words, **named):
+        return subprocess.run(words, stdin=subprocess.DEVNULL, capture_output=True, text=True, timeout=60, check=False, **named)
+
+    def test_does_what_rt_does(self):
+        for words in (["version"], ["doc"], ["ci", "more"], ["bogus"]):
+            own, quick = self.ran("rt", *words), self.ran(sys.executable, SCRIPT, *words)
+            self.assertEqual((quick.returncode, quick.stdout, quick.stderr), (own.returncode, own.stdout, own.stderr))
+
+    def test_without_a_toolchain(self):
+        with tempfile.TemporaryDirectory() as room:
+            done = self.ran(sys.executable, SCRIPT, "version", env={"PATH": room})
+        self.assertEqual((done.returncode, done.stdout, done.stderr), (70, "", "mme: no toolchain on the path: there is no `rt`\n"))
+
+    def asks(self, who):
+        """Whether a process that is started asks for huge pages, where the system says who gets them so."""
+        with tempfile.TemporaryDirectory() as room:
+            told = pathlib.Path(room, "enabled")
+            told.write_text(who)
+            script = "import pathlib, subprocess, sys; sys.path.insert(0, %r); import toolchain; toolchain.WHO_GETS_THEM = " \
+                "pathlib.Path(%r); toolchain.ask_for_huge_pages(); subprocess.run([sys.executable, '-c', %r], check=True)"
+            done = self.ran(sys.executable, "-B", "-c", script % (str(SCRIPT.parent), str(told), MAPPED), env={**os.environ, "TMPDIR": room})
+            self.assertEqual(sorted(os.listdir(room)), ["enabled"])
+        self.assertEqual((done.returncode, done.stderr), (0, ""))
+        return done.stdout
+
+    @unittest.skipUnless(toolchain.WHO_GETS_THEM.exists() and shutil.which("cc"), "no huge pages here, or no C compiler")
+    def test_huge_pages(self):
+        self.assertEqual(self.asks("always [madvise] never\n"), "True\n")
+        self.assertEqual(self.asks("always madvise [never]\n"), "False\n")
+
+
+if __name__ == "__main__":
+    unittest.main()
