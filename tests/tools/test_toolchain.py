@@ -23,6 +23,14 @@ held = mmap.mmap(-1, 4 << 20, flags=mmap.MAP_PRIVATE | mmap.MAP_ANONYMOUS)
 parts = re.split(r"(?m)^(?=[0-9a-f]+-[0-9a-f]+ )", open("/proc/self/smaps").read())
 print(any(" hg" in part for part in parts))
 """
+# Starts that, as what proves is started, where a file says who gets huge pages.
+ASKED = """
+import os, pathlib, subprocess, sys
+sys.path.insert(0, %r)
+import toolchain
+toolchain.WHO_GETS_THEM = pathlib.Path(%r)
+subprocess.run([sys.executable, "-c", %r], check=True, env={**os.environ, **toolchain.asking_for_huge_pages()})
+"""
 
 
 def plain():
@@ -117,9 +125,8 @@ class Command(unittest.TestCase):
         with tempfile.TemporaryDirectory() as room:
             told = pathlib.Path(room, "enabled")
             told.write_text(who)
-            script = "import pathlib, subprocess, sys; sys.path.insert(0, %r); import toolchain; toolchain.WHO_GETS_THEM = " \
-                "pathlib.Path(%r); toolchain.ask_for_huge_pages(); subprocess.run([sys.executable, '-c', %r], check=True)"
-            done = self.ran(sys.executable, "-B", "-c", script % (str(SCRIPT.parent), str(told), MAPPED), env={**os.environ, "TMPDIR": room})
+            script = ASKED % (str(SCRIPT.parent), str(told), MAPPED)
+            done = self.ran(sys.executable, "-B", "-c", script, env={**os.environ, "TMPDIR": room})
             self.assertEqual(sorted(os.listdir(room)), ["enabled"])
         self.assertEqual((done.returncode, done.stderr), (0, ""))
         return done.stdout

@@ -54,10 +54,10 @@ def words_of(crate):
         return crate.words(["--jobs", "1"], keeps=False)
 
 
-def ran(words, what, cwd=None):
-    """What a command prints; where it fails, `what` couldn't be done."""
-    done = subprocess.run([str(word) for word in words], cwd=cwd, stdin=subprocess.DEVNULL, stdout=subprocess.PIPE,
-                          stderr=subprocess.STDOUT, text=True, errors="replace", check=False)
+def ran(words, what, cwd=None, **more):
+    """What a command prints, with more in its environment; where it fails, `what` couldn't be done."""
+    done = subprocess.run([str(word) for word in words], cwd=cwd, env={**os.environ, **more}, stdin=subprocess.DEVNULL,
+                          stdout=subprocess.PIPE, stderr=subprocess.STDOUT, text=True, errors="replace", check=False)
     if done.returncode:
         raise Failed("%s: status %d\n%s" % (what, done.returncode, done.stdout[-2000:]))
     return done.stdout

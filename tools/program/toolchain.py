@@ -66,20 +66,23 @@ def summed_once(stamp):
     return summed
 
 
-def ask_for_huge_pages():
-    """Has what this process starts from here on ask for huge pages, if the system gives them to those that ask."""
+@functools.lru_cache(maxsize=None)
+def asking_for_huge_pages():
+    """What the environment of a prover has more, so that it asks for huge pages; nothing where the system gives none to those that
+    ask, or where there is no C compiler. It holds while this process lives."""
     with contextlib.suppress(OSError, subprocess.CalledProcessError):
         if WHO_ASKS not in WHO_GETS_THEM.read_text(encoding="utf-8"):
-            return
+            return {}
         # (in memory, so that nothing is left behind however this process ends)
         kept = os.memfd_create(HUGE_PAGES.stem)
         with tempfile.TemporaryDirectory() as room:
             library = pathlib.Path(room, HUGE_PAGES.stem)
-            subprocess.run(["cc", "-O2", "-shared", "-fPIC", "-o", library, HUGE_PAGES, "-ldl"], check=True, stdin=subprocess.DEVNULL,
-                           stdout=subprocess.DEVNULL, stderr=subprocess.DEVNULL)
+            subprocess.run(["cc", "-O2", "-shared", "-fPIC", "-o", library, HUGE_PAGES, "-ldl"], check=True,
+                           stdin=subprocess.DEVNULL, stdout=subprocess.DEVNULL, stderr=subprocess.DEVNULL)
             os.write(kept, library.read_bytes())
         loaded = "/proc/%d/fd/%d" % (os.getpid(), kept)
-        os.environ[PRELOAD] = " ".join(filter(None, [loaded, os.environ.get(PRELOAD)]))
+        return {PRELOAD: " ".join(filter(None, [loaded, os.environ.get(PRELOAD)]))}
+    return {}
 
 
 def path():
@@ -121,7 +124,7 @@ def main(words):
     if not is_python(found):
         os.execv(found, [found, *words])
     if words[:1] and words[0] in PROVING:
-        ask_for_huge_pages()
+        os.environ.update(asking_for_huge_pages())
     return module().main(words)
 
 
