@@ -1,12 +1,14 @@
 """tools/program/toolchain.py: every answer is the one that the toolchain's own `rt` gives, and each is found once."""
 import importlib.machinery
 import importlib.util
+import io
 import os
 import pathlib
 import shutil
 import subprocess
 import sys
 import tempfile
+import threading
 import unittest
 
 import tools
@@ -104,6 +106,24 @@ class Answers(unittest.TestCase):
         asked.clear()
         self.assertEqual(len(top.below() + top.below()), 12)
         self.assertEqual(sorted(asked), ["left", "low", "right", "top"])
+
+    def test_compilers(self):
+        """The second compiler begins with the first; what it says, and its status, come when it is asked for."""
+        both = threading.Barrier(2, timeout=10)
+
+        class Crate:
+            folder, out = "program", io.StringIO()
+
+            def compile_by(self, backend, words, to):
+                both.wait()
+                print("%s: %s to %s" % (backend, words, to), file=self.out)
+                return {"llvm": 0, "rattle": 3}[backend]
+
+        Crate.compile_by = toolchain.compiled_at_once(Crate.compile_by)
+        crate = Crate()
+        self.assertEqual((crate.compile_by("llvm", "words", "made"), crate.out.getvalue()), (0, "llvm: words to made\n"))
+        self.assertEqual(crate.compile_by("rattle", "words", "made"), 3)
+        self.assertEqual(crate.out.getvalue(), "llvm: words to made\nrattle: words to made\n")
 
 
 class Command(unittest.TestCase):

@@ -1,20 +1,24 @@
 #!/usr/bin/env python3
-"""The toolchain's own command, `rt`, with what stands below a crate found once.
+"""The toolchain's own command, `rt`, with what stands below a crate found once, and a program's two compilers at work at once.
 
     toolchain.py WORD ..    does what `rt WORD ..` does, and ends with its status
 
 `rt` finds what stands below a crate by going each way down through crates.txt, anew for each question; so it does for the sum of a
 crate's text (`Crate.stamp`), which some toolchains ask twice for each crate and for which they read the crates below once for each
 way. Here the toolchain's own code answers each question once: `below` of a crate once, since what a crate uses is read when it is
-made and doesn't change, and within one sum the text of each crate once. Every answer is the one that `rt` gives.
+made and doesn't change, and within one sum the text of each crate once. `rt ci` has a program compiled by LLVM and then by the toolchain's own compiler;
+here it is compiled by both at once. Every answer is the one that `rt` gives.
 
 What proves is started with huge_pages.c, where there is a C compiler for it and the system gives huge pages to those that ask: the
 prover is a seventh quicker so, and does nothing else.
 """
+import concurrent.futures
 import contextlib
+import copy
 import functools
 import importlib.machinery
 import importlib.util
+import io
 import os
 import pathlib
 import shutil
@@ -33,6 +37,8 @@ HUGE_PAGES = pathlib.Path(__file__).resolve().parent / "huge_pages.c"
 # The file in which Linux says who gets huge pages, and its word for those that ask.
 WHO_GETS_THEM, WHO_ASKS = pathlib.Path("/sys/kernel/mm/transparent_hugepage/enabled"), "[madvise]"
 PRELOAD = "LD_PRELOAD"
+# What `rt` calls the toolchain's own compiler, beside LLVM.
+OWN_COMPILER = "rattle"
 
 
 def found_once(below):
@@ -64,6 +70,29 @@ def summed_once(stamp):
         return known[crate.folder]
 
     return summed
+
+
+def compiled_at_once(compile_by):
+    """`Crate.compile_by`, which is asked to compile a program by LLVM and, where that went well, by the toolchain's own compiler: asked
+    for the first, it does both, and tells of the second when it is asked for that."""
+    second = {}
+
+    def by_the_other(crate, words, to):
+        own = copy.copy(crate)
+        own.out = io.StringIO()
+        return compile_by(own, OWN_COMPILER, words, to), own.out.getvalue()
+
+    @functools.wraps(compile_by)
+    def compiled(crate, backend, words, to):
+        if backend == OWN_COMPILER:
+            status, said = second.pop(crate.folder).result()
+            print(said, end="", file=crate.out)
+            return status
+        with concurrent.futures.ThreadPoolExecutor(1) as pool:
+            second[crate.folder] = pool.submit(by_the_other, crate, words, to)
+            return compile_by(crate, backend, words, to)
+
+    return compiled
 
 
 @functools.lru_cache(maxsize=None)
@@ -107,6 +136,8 @@ def module():
     loader.exec_module(rt)
     crate = rt.rtlib.Crate
     crate.below, crate.stamp = found_once(crate.below), summed_once(crate.stamp)
+    if set(getattr(rt, "BACKENDS", ())) == {"llvm", OWN_COMPILER}:
+        rt.Crate.compile_by = compiled_at_once(rt.Crate.compile_by)
     return rt
 
 
