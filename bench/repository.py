@@ -4,8 +4,17 @@ import pathlib
 import re
 import shutil
 import subprocess
+import sys
+import tempfile
 
 TOP = pathlib.Path(__file__).resolve().parent.parent
+PLACES = sys.path[:]
+sys.path.insert(0, str(TOP / "tools" / "program"))
+import children
+import tried
+from words import Failed
+
+sys.path[:] = PLACES
 KEPT = ".txt"  # what the name of a source has more outside crates/
 
 
@@ -36,3 +45,20 @@ def with_crate(folder, name, sources):
         shutil.copy(source, code / source.name.removesuffix(KEPT))
     subprocess.run(["git", "init", "-q", folder], check=True)  # where rt's search for the top ends
     return code.parent
+
+
+def build(name, sources, words, given, target):
+    """Has `rt try WORDS` build the program of such a crate, unproved and with every access checked, and takes it to `target`.
+    `given` are octets that it runs for long on."""
+    # (not below the top: `rt ci`, which may run beside, takes each source there for one of the repository's own)
+    with tempfile.TemporaryDirectory() as room:
+        folder = pathlib.Path(room)
+        (folder / "repository").mkdir()
+        crate = with_crate(folder / "repository", name, sources)
+        children.catch_signals()
+        try:
+            tried.build(crate, words, given, folder, target)
+        except children.Stopped as stopped:
+            raise Failed("stopped while %s was built" % name, stopped.status) from None
+        finally:
+            children.leave_signals()

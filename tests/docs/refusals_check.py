@@ -8,7 +8,6 @@
 - Each variant that people wrote is one of the error that the calls answer, or of what that holds.
 - A call under "What isn't said" is marked; each whose object may change and of which no clause says what stays is there, and a
   clause that this table quotes is of one of the row's calls.
-- A crate without contracts, named under "The calculator", has none, and its calls aren't listed.
 """
 import collections
 import re
@@ -16,7 +15,7 @@ import re
 import tables
 
 DOCUMENT = "docs/REFUSALS.md"
-NUMBERS, CALLS, ANSWERS, UNSAID, BARE = "Numbers", "Calls", "Answers that are no refusals", "What isn't said", "The calculator"
+NUMBERS, CALLS, ANSWERS, UNSAID = "Numbers", "Calls", "Answers that are no refusals", "What isn't said"
 MARK = "†"  # of a call that stands under "What isn't said"
 
 MEMORY = ("never", "alone", "last", "anywhere")
@@ -235,7 +234,6 @@ class Document:
         self.others = collections.defaultdict(set)
         for crate, calls in table_of(found.get(ANSWERS, "")):
             self.others[crate.strip("`")] |= set(named(calls))
-        self.bare = set(named(found.get(BARE, "").split("\n\n")[1])) if BARE in found else set()
 
     def is_answer(self, crate, call, function):
         """Whether a refusal of this call, want of memory apart, is an answer: `None`, or `false` where people said so."""
@@ -263,7 +261,7 @@ def rows_of(code, document):
     """The rows of all calls that can be refused; calls of a crate that agree share one."""
     for crate in code.public:
         rows = {}
-        for call, function in code.public[crate].items() if crate not in document.bare else ():
+        for call, function in code.public[crate].items():
             is_answer = document.is_answer(crate, call, function)
             if not is_answer and not function.result.startswith("Result<"):
                 continue
@@ -284,7 +282,7 @@ def calls_table(code, document):
 
 
 def numbers_table(code, document):
-    errors = {error_of(function.result) for crate in set(code.public) - document.bare for function in code.public[crate].values()}
+    errors = {error_of(function.result) for public in code.public.values() for function in public.values()}
     lines = ["| Error | Crate | Variants | In the code |", "|---|---|---|---|"]
     for error, crate in code.home.items():
         if error in errors:
@@ -355,9 +353,6 @@ def people_faults(code, document):
     for crate, calls in document.others.items():
         yield from ("%s of %s answers no Option" % (call, crate) for call in sorted(calls)
                     if not re.match(r"(?:Result<)?Option<", getattr(code.public[crate].get(call), "result", "")))
-    for crate in document.bare:
-        yield from ("%s has a contract" % call for call, function in code.public[crate].items()
-                    if function.clauses or function.unnamed)
     for crate, calls, _, clause in document.unsaid:
         contracts = [code.public[crate.strip("`")][call].contract for call in named(calls) if call in code.public[crate.strip("`")]]
         yield from ("none of %s has %s" % (calls, quoted) for quoted in named(clause)

@@ -1,7 +1,10 @@
 """The messages of the worked rows cut to each shorter length and with each bit turned: S1AP at a station that is ready, NAS in its
 message at its place in the row, and both by the calculator.
 """
+import os
 import subprocess
+import sys
+from concurrent.futures import ThreadPoolExecutor
 
 import compare
 import laboratory
@@ -11,10 +14,15 @@ import worked
 from lies import turned
 from standards import lte, phones
 
-CALCULATOR = standards.TOP / "crates" / "calculator" / "out" / "calculator"
+sys.path.insert(0, str(worked.PARTS))
+import calculator
+
+del sys.path[0]
+
 # ERROR INDICATION, protocol transfer-syntax-error (TS 36.413 clauses 8.7.2, 10.2)
 SYNTAX_ERROR = bytes.fromhex("000f40080000010002400130")
 DEREGISTERED = "DEREGISTERED IDLE INACTIVE"
+SECONDS = 1800  # for a run of the calculator, which takes minutes of the processor
 
 
 def cuts(octets):
@@ -136,13 +144,23 @@ def nas_in_place(rows, stride=1, first=0):
 # --- By the calculator ---
 
 
-def asked(calls):
-    """What the calculator answers to each call."""
-    done = subprocess.run([CALCULATOR], input="".join(call + "\n" for call in calls).encode(), stdout=subprocess.PIPE, timeout=600,
+def answered(calls, built):
+    """What one run of the built calculator answers to each call."""
+    done = subprocess.run([built], input="".join(call + "\n" for call in calls).encode(), stdout=subprocess.PIPE, timeout=SECONDS,
                           check=False)
     lines = done.stdout.decode().splitlines()
     if done.returncode or len(lines) != len(calls):
         raise program.Ended("the calculator: status %d, %d lines for %d calls" % (done.returncode, len(lines), len(calls)))
+    return lines
+
+
+def asked(calls):
+    """What the calculator answers to each call, each of which stands alone: by a run for each processor, at once."""
+    built, lanes, lines = calculator.program(), len(os.sched_getaffinity(0)), [None] * len(calls)
+    with ThreadPoolExecutor(lanes) as pool:
+        parts = pool.map(lambda lane: answered(calls[lane::lanes], built), range(lanes))
+        for lane, answers in enumerate(parts):
+            lines[lane::lanes] = answers
     return lines
 
 

@@ -2,12 +2,15 @@
 call again.
 """
 import collections
+import itertools
 from concurrent.futures import ThreadPoolExecutor
 
 NO_MEMORY = b"mme: out of memory\n"
 # So many runs in a row in which no call was refused mean that the last allocation is passed.
 SILENT = 40
 REFUSED_LINE, REFUSED_CALL = "wrong line: out of memory", "fault NoMemory"
+# Who was refused, where it is no call.
+OWN, NOBODY = "the program's own", "nobody"
 
 
 def played(shim, words, given, wanted):
@@ -27,42 +30,52 @@ def played(shim, words, given, wanted):
     return counts.allocations, whole, otherwise
 
 
+def each_refused(program, given):
+    """A run with ample memory, as that of allocation 0, and one in which each allocation is refused, in turn; without an end."""
+    with ThreadPoolExecutor(program.lanes) as pool:
+        for first in itertools.count(0, SILENT):
+            yield from enumerate(pool.map(lambda number: program.ran(given, number), range(first, first + SILENT)), first)
+
+
+def asked(calls):
+    """What the calculator reads."""
+    return "".join(call + "\n" for call in calls).encode()
+
+
 class Calculated:
     """The calculator over rows of tests/parts. Where a call answers that there is no memory, all after it is answered as if it
     hadn't been made. Where the calculator says so, the call was refused, or the text of its answer: then all after it is answered
     as if it hadn't been made, or as if it had.
     """
 
-    def __init__(self, shim, program, rows):
-        self.shim, self.program = shim, program
+    def __init__(self, program, rows):
+        self.program = program
         self.calls = [call for _, call, _, _ in rows]
         self.wanted = [answer for _, _, _, answer in rows]
         self.without = {}  # what is answered where a call is left out, by its place
         self.told = collections.Counter()
 
-    def asked(self, calls, **refusals):
-        ran = self.shim.ran([self.program], "".join(call + "\n" for call in calls).encode(), **refusals)
-        return ran, ran.output.decode().splitlines()
-
     def answers_without(self, place):
         if place not in self.without:
-            self.without[place] = self.asked(self.calls[:place] + self.calls[place + 1:])[1]
+            ran = self.program.ran(asked(self.calls[:place] + self.calls[place + 1:]), 0)
+            self.without[place] = ran.output.decode().splitlines()
         return self.without[place]
 
-    def fault(self, refused):
-        """What went otherwise where this allocation is refused."""
-        ran, lines = self.asked(self.calls, REFUSE=refused)
+    def judged(self, ran):
+        """Who was refused in a run, and what went otherwise."""
+        lines = ran.output.decode().splitlines()
         if ran.status:
-            self.told["the program's own"] += 1
             whole = self.wanted[:len(lines)] == lines
-            return None if ran.status == 1 and whole else "status %d, %r" % (ran.status, ran.text[:60])
+            return OWN, None if ran.status == 1 and whole else "status %d, %r" % (ran.status, ran.text[:60])
         place = next((at for at, (got, wanted) in enumerate(zip(lines, self.wanted)) if got != wanted), None)
         if place is None:
-            self.told["nobody"] += 1
-            return None if len(lines) == len(self.wanted) else "%d lines" % len(lines)
+            return NOBODY, None if len(lines) == len(self.wanted) else "%d lines" % len(lines)
         if lines[place] not in (REFUSED_LINE, REFUSED_CALL):
-            return "%r is answered %r" % (self.calls[place], lines[place])
-        self.told["the line" if lines[place] == REFUSED_LINE else "the call"] += 1
+            return NOBODY, "%r is answered %r" % (self.calls[place], lines[place])
+        return "the line" if lines[place] == REFUSED_LINE else "the call", self.change(place, lines)
+
+    def change(self, place, lines):
+        """What a refused call has changed."""
         others = lines[:place] + lines[place + 1:]
         was_made = lines[place] == REFUSED_LINE and others == self.wanted[:place] + self.wanted[place + 1:]
         if not was_made and others != self.answers_without(place):
@@ -71,28 +84,33 @@ class Calculated:
 
     def faults(self):
         """How many allocations there were, and what went otherwise."""
-        ran, counts = self.shim.counted([self.program], "".join(call + "\n" for call in self.calls).encode())
-        otherwise = [] if ran.output.decode().splitlines() == self.wanted else ["other answers with ample memory"]
-        for refused in range(1, counts.allocations + 1):
-            fault = self.fault(refused)
+        otherwise, silent = [], 0
+        for refused, ran in each_refused(self.program, asked(self.calls)):
+            who, fault = self.judged(ran)
+            if not refused and (fault or who != NOBODY):
+                return 0, ["with ample memory: %s" % (fault or "%s was refused" % who)]
             if fault:
                 otherwise.append("allocation %d: %s" % (refused, fault))
-        return counts.allocations, otherwise
+            silent = silent + bool(refused) if who == NOBODY else 0
+            self.told[who] += bool(refused)
+            if silent == SILENT:
+                self.told[NOBODY] -= silent
+                return refused - silent, otherwise
 
 
 def called_again(program, given, wanted):
     """A run of the program of calls/ for each of its allocations: how many there were, the calls that were refused, and what
     went otherwise. It prints the answers, whatever is refused, and one call alone is told."""
-    otherwise, calls, refused, silent = [], collections.Counter(), 0, 0
-    with ThreadPoolExecutor(program.lanes) as pool:
-        while silent < SILENT:
-            for ran in pool.map(lambda number: program.ran(given, number), range(refused, refused + SILENT)):
-                told = ran.text.decode().split("\n")[:-1]
-                if ran.output != wanted or ran.status or len(told) > bool(refused):
-                    otherwise.append("allocation %d: status %d, told %s, %s" % (
-                        refused, ran.status, told[:3], "the answers" if ran.output == wanted else repr(ran.output[-60:])))
-                silent = 0 if told else silent + bool(refused)
-                calls[told[0] if told else "nobody"] += bool(refused)
-                refused += 1
-    calls["nobody"] -= silent
-    return refused - 1 - silent, calls, otherwise
+    otherwise, calls, silent = [], collections.Counter(), 0
+    for refused, ran in each_refused(program, given):
+        told = ran.text.decode().split("\n")[:-1]
+        if ran.output != wanted or ran.status or len(told) > bool(refused):
+            otherwise.append("allocation %d: status %d, told %s, %s" % (
+                refused, ran.status, told[:3], "the answers" if ran.output == wanted else repr(ran.output[-60:])))
+            if not refused:
+                return 0, calls, otherwise
+        silent = 0 if told else silent + bool(refused)
+        calls[told[0] if told else NOBODY] += bool(refused)
+        if silent == SILENT:
+            calls[NOBODY] -= silent
+            return refused - silent, calls, otherwise

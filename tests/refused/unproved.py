@@ -1,33 +1,29 @@
-"""Builds the program of calls/, unproved and with every access checked, as `rt try --fail-alloc` builds it, and runs it.
+"""Programs that are built unproved and with every access checked, of which any allocation can be refused, as `rt try --fail-alloc`
+builds them; and the one of calls/.
 
 `rt try` builds anew for each number of an allocation that is to be refused. The number stands as a constant in what is built, so
-that it is built once here, and the constant set for each run.
+that it is built once, and the constant set for each run.
 """
 import os
-import pathlib
 import queue
 import re
 import struct
 import subprocess
 import sys
 import threading
-import time
 
 from shimmed import HERE, SECONDS, TOP, Ran
 
+PLACES = sys.path[:]
 sys.path[:0] = [str(TOP / "bench"), str(TOP / "tools" / "program")]
-import toolchain
-from repository import with_crate
+import repository
+import tried
+from words import Failed
 
-del sys.path[:2]
+sys.path[:] = PLACES
 
-# The allocation that is refused where none is to be.
-NONE = 1999999999
 NAME = "refused_calls"
-
-
-class NotBuilt(Exception):
-    """`rt try` has built no program that refuses allocations: what it said."""
+WORDS = ["--steps", "100", "--fail-alloc", str(tried.NONE)]
 
 
 def compared(number):
@@ -35,41 +31,24 @@ def compared(number):
     return b"\x48\x3d" + struct.pack("<i", number)
 
 
-def taken(folder, best):
-    """The octets of the program below a folder, if there are more of them than before."""
-    for place, _, names in os.walk(folder):
-        if "program" in names:
-            try:
-                octets = pathlib.Path(place, "program").read_bytes()
-            except OSError:
-                continue
-            best = max(best, octets, key=len)
-    return best
+def made_of_calls(folder):
+    """The octets of the program of calls/, taken to a folder from where it runs over many ticks."""
+    trace, target = (TOP / "tests" / "rows" / "setup.trace").read_bytes() + b"tick 1000000\n", folder / "taken"
+    repository.build(NAME, sorted((HERE / "calls").iterdir()), WORDS, trace, target)
+    return target.read_bytes()
 
 
 class Program:
-    """The program, taken from where `rt try` runs it over many ticks."""
+    """A program, as copies in a new folder: one for each lane."""
 
-    def __init__(self, folder):
-        room = folder / "room"
-        room.mkdir()
-        (folder / "repository").mkdir()
-        crate = with_crate(folder / "repository", NAME, sorted((HERE / "calls").iterdir()))
-        (folder / "given").write_bytes((TOP / "tests" / "rows" / "setup.trace").read_bytes() + b"tick 1000000\n")
-        words = toolchain.command("try", "--steps", "100", "--seconds", "20", "--fail-alloc", str(NONE))
-        octets = b""
-        with open(folder / "given", "rb") as trace, open(folder / "told", "wb") as told:
-            run = subprocess.Popen(words, cwd=crate, stdin=trace, stdout=subprocess.DEVNULL, stderr=told,
-                                   env={**os.environ, "TMPDIR": str(room)})
-            while run.poll() is None:
-                octets = taken(room, octets)
-                time.sleep(0.05)
-        self.places = [at.start() for at in re.finditer(re.escape(compared(NONE)), octets)]
+    def __init__(self, octets, folder):
+        folder.mkdir()
+        self.places = [at.start() for at in re.finditer(re.escape(compared(tried.NONE)), octets)]
         if not self.places:
-            raise NotBuilt((folder / "told").read_text(errors="replace")[-300:])
+            raise Failed("the program has no number of an allocation that is refused")
         self.lanes, self.free, self.starting = len(os.sched_getaffinity(0)), queue.SimpleQueue(), threading.Lock()
         for lane in range(self.lanes):
-            copy = folder / ("calls.%d" % lane)
+            copy = folder / str(lane)
             copy.write_bytes(octets)
             copy.chmod(0o700)
             self.free.put(copy)
@@ -82,7 +61,7 @@ class Program:
             with open(copy, "r+b") as file:
                 for place in self.places:
                     file.seek(place)
-                    file.write(compared(refused or NONE))
+                    file.write(compared(refused or tried.NONE))
             run = subprocess.Popen([copy], stdin=subprocess.PIPE, stdout=subprocess.PIPE, stderr=subprocess.PIPE)
         output, text = run.communicate(given, SECONDS)
         self.free.put(copy)

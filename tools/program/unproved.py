@@ -8,12 +8,10 @@ get the whole. The toolchain builds it by `rt try`, in a folder that is gone aft
 crates/mme/out/unproved under the digest of what it was made of, so the next run needs no build. Ctrl-C leaves nothing of it.
 """
 import contextlib
-import hashlib
 import os
 import pathlib
 import shutil
 import signal
-import subprocess
 import sys
 import tempfile
 import time
@@ -24,7 +22,7 @@ sys.path.insert(0, str(HERE))
 import children
 import explained
 import record
-import toolchain
+import tried
 from words import Failed, say
 
 KEPT = record.TOP / "crates" / record.NAME / "out" / "unproved"
@@ -36,7 +34,6 @@ CRATE = "small"
 # What the program is given while it is taken from where it runs: it is to run for long.
 LONG_RUN = b"mme 001 01 8001 01 internet 1 1\nup 0\ntick 1000000\n"
 STEPS = {"clang": "compiling", "ld.lld": "linking"}
-LOOK = 0.05  # seconds between two looks
 READ_FAILED, STATUS_READ = "mme: read failed", 3
 
 
@@ -53,20 +50,12 @@ def small_source(verb):
 
 def crates_of(verb):
     """The crates that the program of a verb is made of; of the whole program where there is none."""
-    if verb is None:
-        return record.crates_of(record.NAME)
-    return sorted({below for name in USES[verb] for below in record.crates_of(name)})
+    return tried.crates_below(USES[verb] if verb else [record.NAME])
 
 
 def digest(verb):
-    """The SHA-256 of all that the program is made of: the sources of its crates, what they use, and the toolchain."""
-    uses = record.uses_of()
-    told = hashlib.sha256(repr((verb, verb and small_source(verb), record.toolchain_name(), record.toolchain_seen())).encode())
-    for name in crates_of(verb):
-        told.update(repr((name, uses[name])).encode())
-        for path in record.files_below(record.TOP / "crates" / name / "src"):
-            told.update(b"%s %s\n" % (str(path.relative_to(record.TOP)).encode(), hashlib.sha256(path.read_bytes()).digest()))
-    return told.hexdigest()
+    """The SHA-256 of all that the program is made of."""
+    return tried.digest(crates_of(verb), verb, verb and small_source(verb))
 
 
 def repository(folder, verb):
@@ -110,51 +99,21 @@ class Wait:
                         say("%s, %d s so far" % (step, self.seconds()))
 
 
-def program_in(room):
-    """The program, where it stands in the toolchain's folder by now."""
-    for folder, _, names in os.walk(room):
-        if "program" in names:
-            return pathlib.Path(folder, "program")
-    return None
-
-
-def taken(running, room, target, wait):
-    """Waits for the program and takes it; whether there was one."""
-    while running.poll() is None:
-        found = program_in(room)
-        if found:
-            with contextlib.suppress(OSError):
-                os.link(found, target)
-                return True
-        wait.look(running.pid)
-        time.sleep(LOOK)
-    return False
-
-
 def build(verb, target):
     """Builds the program of a verb, or the whole one, and keeps it."""
     wait = Wait()
     KEPT.mkdir(parents=True, exist_ok=True)
     with tempfile.TemporaryDirectory(prefix="building-", dir=KEPT) as name:
         folder = pathlib.Path(name)
-        for part in ("repository", "room"):
-            (folder / part).mkdir()
-        (folder / "given").write_bytes(LONG_RUN)
+        (folder / "repository").mkdir()
         crate = repository(folder / "repository", verb) if verb else record.TOP / "crates" / record.NAME
         if wait.shows:
             say("reading %d crates and the toolchain's libraries" % len(crates_of(verb)))
-        words = toolchain.command("try", "--steps", "1", *([] if verb else ["--", "play"]))
-        with open(folder / "given", "rb") as given, open(folder / "told", "wb") as told:
-            try:
-                with children.started(words, cwd=crate, stdin=given, stdout=subprocess.DEVNULL, stderr=told,
-                                      env={**os.environ, "TMPDIR": str(folder / "room")}) as running:
-                    is_taken = taken(running, folder / "room", folder / "program", wait)
-                    children.end_all(running.pid)
-            except children.Stopped as stopped:
-                raise Failed("stopped while %s; nothing of it is kept" % wait.step, stopped.status) from None
-        if not is_taken:
-            said = (folder / "told").read_text(encoding="utf-8", errors="replace").splitlines()
-            raise Failed("no unproved program: %s" % " / ".join(said[-4:])[:400])
+        words = ["--steps", "1", *([] if verb else ["--", "play"])]
+        try:
+            tried.build(crate, words, LONG_RUN, folder, folder / "program", wait.look)
+        except children.Stopped as stopped:
+            raise Failed("stopped while %s; nothing of it is kept" % wait.step, stopped.status) from None
         for older in KEPT.glob("%s-*" % (verb or "whole")):
             older.unlink()
         os.replace(folder / "program", target)

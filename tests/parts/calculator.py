@@ -1,0 +1,77 @@
+#!/usr/bin/env python3
+"""The calculator of the protocol's parts: reads a call a line and prints what the library answers. Builds it first where it isn't
+kept.
+
+    calculator.py          reads calls from standard input
+    calculator.py --help   prints which there are
+
+Its sources stand in calculator/. It is a program of tests alone, built unproved and with every access checked, and so that any of
+its allocations can be refused (tests/refused/unproved.py). It is kept in calculator/out under the digest of all that it is made of;
+where several ask for it at once, one builds it and the others wait.
+"""
+import fcntl
+import functools
+import os
+import pathlib
+import sys
+
+sys.dont_write_bytecode = True
+HERE = pathlib.Path(__file__).resolve().parent
+TOP = HERE.parent.parent
+PLACES = sys.path[:]
+sys.path[:0] = [str(TOP / "bench"), str(TOP / "tools" / "program")]
+import repository
+import tried
+from words import Failed
+
+sys.path[:] = PLACES
+NAME = "calculator"
+FOLDER = HERE / NAME
+KEPT = FOLDER / "out"
+WORDS = ["--steps", "1", "--fail-alloc", str(tried.NONE)]
+# What it is given while it is taken from where it runs: it is to run for long.
+LONG_RUN = b"s1ap_turned 000f40080000010002400130\n" * 10000
+
+
+def sources():
+    """Its sources, each a module; `main` is its root."""
+    return sorted(FOLDER.glob("*.rt" + repository.KEPT))
+
+
+def digest():
+    """The SHA-256 of all that it is made of."""
+    texts = [(source.name, source.read_bytes()) for source in sources()]
+    return tried.digest(repository.used(sources()), texts, WORDS)
+
+
+def build(target):
+    """Builds it, and keeps it in place of an older one."""
+    repository.build(NAME, sources(), WORDS, LONG_RUN, KEPT / "new")
+    for older in KEPT.glob(NAME + "-*"):
+        older.unlink()
+    os.replace(KEPT / "new", target)
+
+
+@functools.lru_cache
+def program():
+    """Where it stands, built; to be asked in the main thread, where signals end a build whole."""
+    target = KEPT / ("%s-%s" % (NAME, digest()[:32]))
+    KEPT.mkdir(exist_ok=True)
+    with open(KEPT / "lock", "wb") as lock:
+        fcntl.flock(lock, fcntl.LOCK_EX)
+        if not target.exists():
+            build(target)
+    return target
+
+
+def main(words):
+    try:
+        found = program()
+    except Failed as fault:
+        print("calculator.py: %s" % fault, file=sys.stderr)
+        return fault.status
+    os.execv(found, [NAME, *words])
+
+
+if __name__ == "__main__":
+    sys.exit(main(sys.argv[1:]))
