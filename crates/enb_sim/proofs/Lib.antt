@@ -1,3 +1,3 @@
 mod Bearers
-mod Lengths
-pub mod Writable
+mod Sizes
+pub mod Fitting

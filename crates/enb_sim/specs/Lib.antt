@@ -1,4 +1,5 @@
 pub mod Profile
+pub mod Ranges
 pub mod Sending
 pub mod Delivering
 pub mod View

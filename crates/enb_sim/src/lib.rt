@@ -10,6 +10,7 @@ mod pairs;
 mod profile;
 mod setup;
 mod station;
+mod writable;
 
 pub use delivering::{Delivery, PhoneNas};
 pub use profile::StationProfile;

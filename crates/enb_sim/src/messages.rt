@@ -1,12 +1,15 @@
 //! The S1AP messages that a station sends, as octets.
 
-ghost use Rattle.std.specs.Prelude.{◌≡◌, ◌++◌, ◌≤◌, ◌∷◌, [], IfOk, Some, option_map};
+ghost use Rattle.std.specs.Prelude.{◌≡◌, ◌≢◌, ◌++◌, ◌≤◌, ◌∷◌, [], IfOk, Some, option_map};
 ghost use Rattle.std.specs.Int.{w32, to_be_bytes};
 ghost use Rattle.s1ap_pdus.specs.Pdus.{encoded, lists};
 ghost use Rattle.enb_sim.specs.Profile.{address_of, area_of, cell_number, cell_of, phone_capabilities};
 ghost use Rattle.enb_sim.specs.Sending.{complete_pdu, context_pdu, initial_pdu, release_pdu, switch_pdu, uplink_pdu};
 
 use crate::profile::StationProfile;
+use crate::writable::{
+    is_initial_writable, is_uplink_writable, release_is_writable, switch_is_writable,
+};
 use per_bits::{BitField, Items, Octets, Whole};
 use s1ap_elements::{
     Address, Cause, CellId, EnbUeId, ErabId, ErabTunnel, EutranCgi, Listed, RadioNetworkCause,
@@ -103,7 +106,7 @@ fn default_bearer() -> ErabId
     Whole::new(5)
 }
 
-/// INITIAL UE MESSAGE (TS 36.413 clause 8.6.2.1).
+/// INITIAL UE MESSAGE (TS 36.413 clause 8.6.2.1); `None` where its NAS message is too long, whatever memory there is.
 #[tactic(auto, unfolding(crate::specs::Sending::initial_pdu))]
 pub(crate) fn initial(
     alloc: Global,
@@ -112,8 +115,12 @@ pub(crate) fn initial(
     nas: &[u8],
     s_tmsi: Option<STmsi>,
 ) -> Sent
-    ensures { IfOk result (λ o. option_map (λ v. v.items) o ≡ encoded (initial_pdu profile.now enb_ue_id nas.now s_tmsi)) }
+    ensures octets { IfOk result (λ o. option_map (λ v. v.items) o ≡ encoded (initial_pdu profile.now enb_ue_id nas.now s_tmsi)) }
+    ensures unsent { encoded (initial_pdu profile.now enb_ue_id nas.now s_tmsi) ≡ None → result ≡ Ok None }
 {
+    if !is_initial_writable(profile, enb_ue_id, nas, &s_tmsi) {
+        return Ok(None);
+    }
     let message = Pdu::InitialUeMessage(InitialUeMessage {
         enb_ue_id,
         nas,
@@ -125,11 +132,15 @@ pub(crate) fn initial(
     sent(alloc, &message)
 }
 
-/// UPLINK NAS TRANSPORT (TS 36.413 clause 8.6.2.3).
+/// UPLINK NAS TRANSPORT (TS 36.413 clause 8.6.2.3); `None` where its NAS message is too long, whatever memory there is.
 #[tactic(auto, unfolding(crate::specs::Sending::uplink_pdu))]
 pub(crate) fn uplink(alloc: Global, profile: &StationProfile, pair: UeIdPair, nas: &[u8]) -> Sent
-    ensures { IfOk result (λ o. option_map (λ v. v.items) o ≡ encoded (uplink_pdu profile.now pair nas.now)) }
+    ensures octets { IfOk result (λ o. option_map (λ v. v.items) o ≡ encoded (uplink_pdu profile.now pair nas.now)) }
+    ensures unsent { encoded (uplink_pdu profile.now pair nas.now) ≡ None → result ≡ Ok None }
 {
+    if !is_uplink_writable(profile, &pair, nas) {
+        return Ok(None);
+    }
     let message = Pdu::UplinkNasTransport(UplinkNasTransport {
         mme_ue_id: pair.mme_ue_id,
         enb_ue_id: pair.enb_ue_id,
@@ -169,8 +180,10 @@ fn switch_request<'a>(
 
 /// PATH SWITCH REQUEST (TS 36.413 clause 8.4.4).
 pub(crate) fn switch(alloc: Global, profile: &StationProfile, pair: UeIdPair) -> Sent
-    ensures { IfOk result (λ o. option_map (λ v. v.items) o ≡ encoded (switch_pdu profile.now pair)) }
+    ensures octets { IfOk result (λ o. option_map (λ v. v.items) o ≡ encoded (switch_pdu profile.now pair)) }
+    ensures written { encoded (switch_pdu profile.now pair) ≢ None }
 {
+    switch_is_writable(profile, &pair);
     let address = address(profile);
     let message = switch_request(alloc, profile, &address, pair)?;
     sent(alloc, &message)
@@ -179,8 +192,10 @@ pub(crate) fn switch(alloc: Global, profile: &StationProfile, pair: UeIdPair) ->
 /// UE CONTEXT RELEASE REQUEST for inactivity (TS 36.413 clause 8.3.2).
 #[tactic(auto, unfolding(crate::specs::Sending::release_pdu))]
 pub(crate) fn release_request(alloc: Global, pair: UeIdPair) -> Sent
-    ensures { IfOk result (λ o. option_map (λ v. v.items) o ≡ encoded (release_pdu pair)) }
+    ensures octets { IfOk result (λ o. option_map (λ v. v.items) o ≡ encoded (release_pdu pair)) }
+    ensures written { encoded (release_pdu pair) ≢ None }
 {
+    release_is_writable(&pair);
     let message = Pdu::UeContextReleaseRequest(UeContextReleaseRequest {
         mme_ue_id: pair.mme_ue_id,
         enb_ue_id: pair.enb_ue_id,

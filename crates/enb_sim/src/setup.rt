@@ -1,15 +1,14 @@
 //! S1 SETUP REQUEST.
 
-ghost use Rattle.std.specs.Prelude.{◌≡◌, IfOk, Ok, Some};
-ghost use Rattle.s1ap_pdus.specs.Pdus.{IsWritableMessage, decoded, encoded, lists};
+ghost use Rattle.std.specs.Prelude.{◌≡◌, ◌≢◌, IfOk, Ok, Some};
+ghost use Rattle.s1ap_pdus.specs.Pdus.{decoded, encoded, lists};
 ghost use Rattle.enb_sim.specs.Sending.{setup_pdu};
 
 use crate::profile::StationProfile;
+use crate::writable::setup_is_writable;
 use per_bits::Items;
 use s1ap_elements::{EnbId, GlobalEnbId, PagingDrx, SupportedTa};
-use s1ap_messages::{
-    EncodeFault, Pdu, S1SetupRequest, S1apPdu, encode, encoded_exactly, what_is_encoded,
-};
+use s1ap_messages::{EncodeFault, Pdu, S1SetupRequest, S1apPdu, encode, what_is_encoded};
 use std::alloc::{AllocError, Global};
 
 // S1 SETUP REQUEST (TS 36.413 clause 9.1.8.4): without a name, one tracking area, a paging cycle of 128 frames.
@@ -32,16 +31,6 @@ fn setup_request<'a>(alloc: Global, profile: &StationProfile) -> Result<S1apPdu<
     }))
 }
 
-// Each station's request has a written form.
-#[tactic(auto, using(crate::proofs::Writable::setup_fits))]
-fn is_writable(profile: StationProfile)
-    ensures { IsWritableMessage (setup_pdu profile) }
-{
-    let _plmn = profile.plmn;
-    let _macro_id = profile.macro_id.bits();
-    let _tac = profile.tac;
-}
-
 // What is written of it is decoded as it.
 fn is_read(profile: StationProfile, octets: &[u8])
     requires { encoded (setup_pdu profile) ≡ Some octets.now }
@@ -56,9 +45,9 @@ fn is_read(profile: StationProfile, octets: &[u8])
 pub(crate) fn setup(alloc: Global, profile: &StationProfile) -> Result<Vec<u8>, AllocError>
     ensures octets { IfOk result (λ o. encoded (setup_pdu profile.now) ≡ Some o.items) }
     ensures read { IfOk result (λ o. decoded o.items ≡ Ok (setup_pdu profile.now)) }
+    ensures written { encoded (setup_pdu profile.now) ≢ None }
 {
-    is_writable(*profile);
-    encoded_exactly();
+    setup_is_writable(profile);
     let message = setup_request(alloc, profile)?;
     match encode(alloc, &message) {
         Ok(octets) => {

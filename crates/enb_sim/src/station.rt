@@ -1,6 +1,6 @@
 //! A station.
 
-ghost use Rattle.std.specs.Prelude.{◌≡◌, ◌&&◌, ℕ, IfOk, OnOk, OnErr, IfSome, IsSome, Ok, Some, None, [], false, option_map};
+ghost use Rattle.std.specs.Prelude.{◌≡◌, ◌≢◌, ◌&&◌, ℕ, IfOk, OnOk, OnErr, IfSome, IsSome, Ok, Some, None, [], false, option_map};
 ghost use Rattle.s1ap_pdus.specs.Pdus.{context_setup_request_lists, decoded, downlink_nas_transport_lists, encoded, listed};
 ghost use Rattle.s1ap_pdus.specs.declared.pdu.Pdu.TheVariants as pdu;
 ghost use Rattle.enb_sim.specs.Sending.{setup_pdu};
@@ -130,6 +130,7 @@ impl Station {
     fn set_up(&mut self) -> Result<Vec<u8>, AllocError>
         ensures octets { IfOk result (λ o. encoded (setup_pdu self.old.profile) ≡ Some o.items) }
         ensures read { IfOk result (λ o. decoded o.items ≡ Ok (setup_pdu self.old.profile)) }
+        ensures written { encoded (setup_pdu self.old.profile) ≢ None }
         ensures station { OnOk result (self.new ≡ new_station self.old.profile) }
         ensures err { OnErr result (self.new ≡ self.old) }
     {
@@ -138,13 +139,14 @@ impl Station {
         Ok(octets)
     }
 
-    /// Does an act: the octets to send, or `None` where it can't be done, whatever memory there is, or its message would be too
-    /// long. Refused for want of memory alone, and the station is then as it was.
+    /// Does an act: the octets to send, or `None` where there are none, since it can't be done or its NAS message is too long,
+    /// whatever memory there is. Refused for want of memory alone, and the station is then as it was.
     #[tactic(auto, unfolding(crate::specs::View::act_octets, crate::specs::View::can_act))]
     pub fn act(&mut self, act: &StationAct<'_>) -> Sent
         ensures octets { IfOk result (λ o. option_map (λ v. v.items) o ≡ act_octets act.now self.old) }
         ensures station { OnOk result (self.new ≡ after_station_act act.now self.old) }
         ensures undone { can_act act.now self.old ≡ false → result ≡ Ok None }
+        ensures unsent { act_octets act.now self.old ≡ None → result ≡ Ok None }
         ensures err { OnErr result (self.new ≡ self.old) }
 
         // Setting up always answers the request, which is decoded as that.

@@ -1,5 +1,5 @@
 -- The parts of a station's messages: in range, and small.
-use Rattle.std.proofs.Common.{◌≡◌, ℕ, ◌+◌, ◌^◌, ◌<◌, ◌≤◌, ◌&&◌, Bool, true, List, ◌++◌, length, refl, arith}
+use Rattle.std.proofs.Common.{◌≡◌, ℕ, ◌^◌, ◌<◌, ◌≤◌, ◌&&◌, Bool, true, List, ◌++◌, length, refl, arith}
 use Rattle.std.specs.Int.{w32, to_be_bytes}
 use Rattle.std.proofs.lemmas.Bool.{and_from, eq-eqb, eqb-true}
 use Rattle.std.proofs.lemmas.List.{length-append}
@@ -12,10 +12,10 @@ use Rattle.s1ap_elements.specs.Formats.{erab_tunnel, eutran_cgi, tai}
 use Rattle.s1ap_elements.specs.Phones.{typed_eutran_cgi, typed_tai}
 use Rattle.enb_sim.specs.declared.profile.StationProfile.{StationProfile}
 use Rattle.enb_sim.specs.Profile.{address_of, area_of, cell_number, cell_of, tunnel_of}
+use Rattle.enb_sim.specs.Ranges.{SiteInRange}
 use Rattle.laws_written.specs.BuilderLaws.{bytes_long, four_bytes}
 use Rattle.laws_written.specs.SizeLaws.{number_allowed}
 use Rattle.laws_written.specs.Sizes.{in_range, most_octets}
-use Rattle.laws_simulated.specs.StationRanges.{SiteInRange}
 
 -- ---- tests, one after another
 

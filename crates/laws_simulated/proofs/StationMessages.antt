@@ -8,11 +8,12 @@ use Rattle.s1ap_elements.specs.Formats.{erab_tunnel, eutran_cgi, tai}
 use Rattle.s1ap_elements.specs.Phones.{typed_eutran_cgi, typed_tai}
 use Rattle.enb_sim.specs.declared.profile.StationProfile.{StationProfile}
 use Rattle.enb_sim.specs.Profile.{area_of, cell_of, tunnel_of}
+use Rattle.enb_sim.specs.Ranges.{STmsiInRangeIf, SiteInRange}
 use Rattle.enb_sim.specs.Sending.{complete_pdu, context_pdu, initial_pdu, release_pdu, setup_pdu, switch_pdu, uplink_pdu}
 use Rattle.laws_written.specs.BuilderLaws.{bytes_long}
 use Rattle.laws_written.specs.Ranges.{IsBrief}
 use Rattle.laws_written.specs.Sizes.{IsShortMessage, most_octets}
-use Rattle.laws_simulated.specs.StationRanges.{PairInRange, STmsiInRangeIf, SiteInRange}
+use Rattle.laws_simulated.specs.StationRanges.{PairInRange}
 use Rattle.laws_simulated.proofs.SmallParts.{area_fits, area_size, bits_long, cell_fits, cell_size, enb_then, mme_then, then_done, tunnel_fits, tunnel_size}
 
 pub short_setup : (s : StationProfile) → SiteInRange s → IsShortMessage (setup_pdu s)

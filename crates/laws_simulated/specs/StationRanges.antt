@@ -1,21 +1,13 @@
 -- The ranges of what a station's messages are built of. A definition's numbers are any and its strings of any length; in the code
 -- these hold by the types, and of the associations by how they came about.
-use Rattle.std.specs.Prelude.{◌^◌, ◌<◌, Option, Some, None}
+use Rattle.std.specs.Prelude.{◌^◌, ◌<◌}
 use Rattle.std.specs.List.{AllByRecursion}
-use Rattle.per_streams.specs.Octet.{AreBytes, IsLong}
-use Rattle.s1ap_elements.specs.declared.phone.STmsi.{STmsi}
 use Rattle.s1ap_elements.specs.declared.phone.UeIdPair.{UeIdPair}
-use Rattle.enb_sim.specs.declared.profile.StationProfile.{StationProfile}
 use Rattle.enb_sim.specs.declared.station.StationAct.{StationAct}
 use Rattle.enb_sim.specs.declared.station.StationAct.TheVariants.{SetUp, Initial, Uplink, Switch, Release}
 use Rattle.enb_sim.specs.Delivering.{StationView, pair_with}
+use Rattle.enb_sim.specs.Ranges.{STmsiInRangeIf, SiteInRange}
 use Rattle.laws_written.specs.Ranges.{IsBrief}
-
--- its network, its Macro eNB ID of 20 bits and its tracking area (TS 36.413 clauses 9.2.3.8, 9.2.1.37, 9.2.3.7)
-pub record SiteInRange (s : StationProfile) : Type 0 where
-  pub plmn : AreBytes 3 s.plmn
-  pub macro_id : IsLong 20 s.macro_id
-  pub tac : AreBytes 2 s.tac
 
 -- an MME UE S1AP ID and an eNB UE S1AP ID (TS 36.413 clauses 9.2.3.3, 9.2.3.4)
 pub record PairInRange (pair : UeIdPair) : Type 0 where
@@ -26,11 +18,6 @@ pub record PairInRange (pair : UeIdPair) : Type 0 where
 pub record StationInRange (s : StationView) : Type 0 where
   pub profile : SiteInRange s.profile
   pub pairs : AllByRecursion PairInRange s.pairs
-
--- an MME code and an M-TMSI, where they are there (TS 36.413 clause 9.2.3.6)
-abbrev pub STmsiInRangeIf : Option STmsi → Type 0
-STmsiInRangeIf None = Unit {0}
-STmsiInRangeIf (Some t) = AreBytes 1 t.code × AreBytes 4 t.m_tmsi
 
 -- ids in range, and a NAS message of at most 15,000 octets; what a phone sends has 1,100 at most
 abbrev pub ActInRange : StationAct → Type 0

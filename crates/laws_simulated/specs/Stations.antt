@@ -9,10 +9,11 @@ use Rattle.enb_sim.specs.declared.profile.StationProfile.{StationProfile}
 use Rattle.enb_sim.specs.declared.station.StationAct.{StationAct}
 use Rattle.enb_sim.specs.declared.station.StationAct.TheVariants.{SetUp, Initial, Uplink, Switch, Release}
 use Rattle.enb_sim.specs.Delivering.{PhoneNasView, StationView, delivered, first_bearer, named_pair, pair_with}
+use Rattle.enb_sim.specs.Ranges.{SiteInRange}
 use Rattle.enb_sim.specs.Sending.{complete_pdu, context_pdu, initial_pdu, release_pdu, setup_pdu, switch_pdu, uplink_pdu}
 use Rattle.enb_sim.specs.View.{act_octets, after_station_act, can_act, new_station}
 use Rattle.laws_simulated.specs.NasSent.{IsPhoneNasIf}
-use Rattle.laws_simulated.specs.StationRanges.{ActInRange, SiteInRange, StationInRange}
+use Rattle.laws_simulated.specs.StationRanges.{ActInRange, StationInRange}
 
 -- ---- what is sent of a message
 

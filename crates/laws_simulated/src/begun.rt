@@ -3,9 +3,10 @@
 ghost use Rattle.std.specs.Prelude.{◌≡◌, ◌≤◌, true, length, IfSome};
 ghost use Rattle.per_streams.specs.Octet.{all_below};
 ghost use Rattle.sim_phone.specs.View.{new_phone};
+ghost use Rattle.enb_sim.specs.Ranges.{STmsiInRangeIf, SiteInRange};
 ghost use Rattle.enb_sim.specs.View.{new_station};
 ghost use Rattle.laws_simulated.specs.PhoneRanges.{AnswerInRange, AnswersInRange, PhoneInRange};
-ghost use Rattle.laws_simulated.specs.StationRanges.{ActInRange, STmsiInRangeIf, SiteInRange, StationInRange};
+ghost use Rattle.laws_simulated.specs.StationRanges.{ActInRange, StationInRange};
 ghost use Rattle.laws_simulated.specs.Stations.{nas_of_act};
 
 use enb_sim::{StationAct, StationProfile};
