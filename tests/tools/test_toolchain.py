@@ -125,6 +125,21 @@ class Answers(unittest.TestCase):
         self.assertEqual(crate.compile_by("rattle", "words", "made"), 3)
         self.assertEqual(crate.out.getvalue(), "llvm: words to made\nrattle: words to made\n")
 
+    def test_another_form(self):
+        """What a toolchain has in another form stays as it is."""
+        class Crate:
+            def below(self, how):
+                return how
+
+            def stamp(self):
+                return "a sum"
+
+        below = Crate.below
+        toolchain.make_quicker(Crate)
+        self.assertIs(Crate.below, below)
+        self.assertEqual(Crate.stamp.__wrapped__(None), "a sum")
+        self.assertFalse(hasattr(Crate, "compile_by"))
+
 
 class Command(unittest.TestCase):
     def ran(self, *words, **named):

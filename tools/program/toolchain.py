@@ -18,6 +18,7 @@ import copy
 import functools
 import importlib.machinery
 import importlib.util
+import inspect
 import io
 import os
 import pathlib
@@ -95,6 +96,19 @@ def compiled_at_once(compile_by):
     return compiled
 
 
+# The methods that are quicker here, with their parameters, and what takes their place.
+QUICKER = (("below", ["self"], found_once), ("stamp", ["self"], summed_once),
+           ("compile_by", ["self", "backend", "words", "to"], compiled_at_once))
+
+
+def make_quicker(crate):
+    """Puts the quicker methods in place of those that a class of the toolchain has itself, in the form that is known here."""
+    for name, parameters, quicker in QUICKER:
+        own = vars(crate).get(name)
+        if own and list(inspect.signature(own).parameters) == parameters:
+            setattr(crate, name, quicker(own))
+
+
 @functools.lru_cache(maxsize=None)
 def asking_for_huge_pages():
     """What the environment of a prover has more, so that it asks for huge pages; nothing where the system gives none to those that
@@ -134,10 +148,8 @@ def module():
     rt = importlib.util.module_from_spec(importlib.util.spec_from_loader("rt", loader))
     sys.modules["rt"] = rt
     loader.exec_module(rt)
-    crate = rt.rtlib.Crate
-    crate.below, crate.stamp = found_once(crate.below), summed_once(crate.stamp)
-    if set(getattr(rt, "BACKENDS", ())) == {"llvm", OWN_COMPILER}:
-        rt.Crate.compile_by = compiled_at_once(rt.Crate.compile_by)
+    for crate in (rt.rtlib.Crate, rt.Crate):
+        make_quicker(crate)
     return rt
 
 
