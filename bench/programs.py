@@ -27,7 +27,7 @@ del sys.path[0]
 END = ".rt.txt"
 MAIN = HERE / ("main" + END)
 NAME = "benchmarks"
-SECONDS = 120  # for the run of all benchmarks
+SECONDS = 1200  # for the run of all benchmarks, which gives way to proofs in the gate
 
 
 def benchmarks():

@@ -22,7 +22,7 @@ del sys.path[0]
 # ERROR INDICATION, protocol transfer-syntax-error (TS 36.413 clauses 8.7.2, 10.2)
 SYNTAX_ERROR = bytes.fromhex("000f40080000010002400130")
 DEREGISTERED = "DEREGISTERED IDLE INACTIVE"
-SECONDS = 1800  # for a run of the calculator, which takes minutes of the processor
+SECONDS = 3600  # for a run of the calculator, which takes minutes of the processor and gives way to all else in the gate
 
 
 def cuts(octets):

@@ -12,7 +12,7 @@ import subprocess
 import sys
 import threading
 
-from shimmed import HERE, SECONDS, TOP, Ran
+from shimmed import HERE, TOP, Ran
 
 PLACES = sys.path[:]
 sys.path[:0] = [str(TOP / "bench"), str(TOP / "tools" / "program")]
@@ -22,6 +22,7 @@ from words import Failed
 
 sys.path[:] = PLACES
 
+PATIENCE = 1800  # seconds for one run, which gives way to all else in the gate
 NAME = "refused_calls"
 WORDS = ["--steps", "100", "--fail-alloc", str(tried.NONE)]
 
@@ -63,6 +64,6 @@ class Program:
                     file.seek(place)
                     file.write(compared(refused or tried.NONE))
             run = subprocess.Popen([copy], stdin=subprocess.PIPE, stdout=subprocess.PIPE, stderr=subprocess.PIPE)
-        output, text = run.communicate(given, SECONDS)
+        output, text = run.communicate(given, PATIENCE)
         self.free.put(copy)
         return Ran(output, text, run.returncode)
