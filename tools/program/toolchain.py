@@ -6,8 +6,8 @@
 `rt` finds what stands below a crate by going each way down through crates.txt, anew for each question; so it does for the sum of a
 crate's text (`Crate.stamp`), which some toolchains ask twice for each crate and for which they read the crates below once for each
 way. Here the toolchain's own code answers each question once: `below` of a crate once, since what a crate uses is read when it is
-made and doesn't change, and within one sum the text of each crate once. `rt ci` has a program compiled by LLVM and then by the toolchain's own compiler;
-here it is compiled by both at once. Every answer is the one that `rt` gives.
+made and doesn't change, and within one sum the text of each crate once. `rt ci` has a program compiled by LLVM and then by the
+toolchain's own compiler; here it is compiled by both at once. Every answer is the one that `rt` gives.
 
 What proves is started with huge_pages.c, where there is a C compiler for it and the system gives huge pages to those that ask: the
 prover is a seventh quicker so, and does nothing else.
@@ -74,8 +74,8 @@ def summed_once(stamp):
 
 
 def compiled_at_once(compile_by):
-    """`Crate.compile_by`, which is asked to compile a program by LLVM and, where that went well, by the toolchain's own compiler: asked
-    for the first, it does both, and tells of the second when it is asked for that."""
+    """`Crate.compile_by`, which is asked to compile a program by LLVM and, where that went well, by the toolchain's own compiler:
+    asked for the first, it does both, and tells of the second when it is asked for that."""
     second = {}
 
     def by_the_other(crate, words, to):
