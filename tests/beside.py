@@ -1,5 +1,11 @@
-"""What runs beside the proofs of the gate, and begins with a crate once `rt ci` has proved it."""
+#!/usr/bin/env python3
+"""What runs beside the proofs of the gate, and begins with a crate once `rt ci` has proved it.
+
+    beside.py LOG CRATE WORD ..    becomes the command WORD .. once the `rt ci` that writes LOG has proved the crate, or has ended
+"""
+import os
 import re
+import sys
 import time
 
 # What `rt ci` says of a crate that it proved, or proved in an earlier run; its last line; and seconds between two looks at it.
@@ -20,3 +26,14 @@ def proved_in(log):
                 yield told[1]
             elif not line.endswith("\n"):
                 time.sleep(BETWEEN_LOOKS)
+
+
+def main(log, crate, *words):
+    for name in proved_in(log):
+        if name == crate:
+            break
+    os.execvp(words[0], words)
+
+
+if __name__ == "__main__":
+    main(*sys.argv[1:])
