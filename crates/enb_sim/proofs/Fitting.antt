@@ -36,7 +36,7 @@ number_fitting lo hi n low high small =
 
 -- ---- the rows of a message
 
--- a value has a written form of n octets, if P; of so many it is in any case
+-- where P holds a value can be written; what it would be written as has n octets
 record Fits (P : Type 0) (f : Format) (v : Value f) (n : ℕ) : Type 0 where
   value : P → writable f v ≡ true
   long : length (padded (written f v 0)) ≡ n

@@ -192,7 +192,7 @@ content_octets es =
 abbrev pub elements_room : ℕ
 elements_room = 16380
 
--- elements that are writable have room in a message exactly where they take at most so many octets
+-- the elements of a message that can be written take at most the room that there is for them
 pub room : (es : List Raw) → writable (open_type message) (es, tt) ≡ true → sizes es ≤ elements_room
 room es h =
     let long = content_octets es in
