@@ -44,7 +44,7 @@ pub fn derived_kenb(kasme: &[u8], count: u32) -> Result<[u8; 32], CodecFault>
     ensures { result ≡ derived_kenb kasme.now count }
 {
     let kasme = sized::<32>(kasme)?;
-    Ok(kenb(&kasme, count))
+    Ok(*kenb(&kasme, count).octets())
 }
 
 /// The next hop key of KASME and the key before it, 32 octets each. BadOctets for others.
@@ -53,7 +53,7 @@ pub fn derived_next_hop(kasme: &[u8], previous: &[u8]) -> Result<[u8; 32], Codec
 {
     let kasme = sized::<32>(kasme)?;
     let previous = sized::<32>(previous)?;
-    Ok(next_hop(&kasme, &previous))
+    Ok(*next_hop(&kasme, &previous).octets())
 }
 
 /// The key of NAS integrity by 128-EIA2 of KASME, 32 octets. BadOctets for another KASME.
@@ -61,5 +61,5 @@ pub fn derived_nas_integrity_key(kasme: &[u8]) -> Result<[u8; 16], CodecFault>
     ensures { result ≡ derived_nas_integrity_key kasme.now }
 {
     let kasme = sized::<32>(kasme)?;
-    Ok(nas_integrity_key(&kasme))
+    Ok(*nas_integrity_key(&kasme).octets())
 }

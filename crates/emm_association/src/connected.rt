@@ -5,7 +5,7 @@ ghost use Rattle.emm_association.specs.Connected.{connection_of, connections_gon
 ghost use Rattle.mme_types.specs.Events.{message_lists};
 
 use emm_state::{Context, Draft, Repeat, is_registered};
-use eps_keys::Kasme;
+use eps_keys::{Kasme, NextHop};
 use identity_slots::AssociationId;
 use mme_pdus::{error_indication, path_switch_acknowledge, path_switch_failure};
 use mme_types::{Connection, RadioKeys, StationNumber, UeMessage, is_listed};
@@ -23,17 +23,17 @@ fn next_chaining_count(count: u8) -> u8
 }
 
 // The next hop that stands: the one that a station was told last, else the first of the chain (TS 33.401 clause A.4).
-fn standing_hop(kasme: &Kasme, radio: &RadioKeys) -> [u8; 32]
+fn standing_hop(kasme: &Kasme, radio: &RadioKeys) -> NextHop
     ensures { result ≡ standing_hop kasme.now radio.now }
 {
-    match radio.next_hop {
-        Some(told) => told,
-        None => kasme.next_hop(&radio.kenb),
+    match &radio.next_hop {
+        Some(told) => told.copy(),
+        None => kasme.first_hop(&radio.kenb),
     }
 }
 
 // The next hop after the one that stands.
-fn hop_after(context: &Context) -> [u8; 32]
+fn hop_after(context: &Context) -> NextHop
     ensures { result ≡ hop_after context.now }
 {
     let kasme = context.kasme.get();
@@ -41,14 +41,14 @@ fn hop_after(context: &Context) -> [u8; 32]
 }
 
 // The context's radio keys are those of the next hop after the one that stands, which is returned, with its chaining count.
-fn hop(context: &mut Context) -> ([u8; 32], u8)
+fn hop(context: &mut Context) -> (NextHop, u8)
     ensures hop { result.0 ≡ hop_after context.old }
     ensures count { result.1 ≡ next_chaining_count context.old.radio.chaining_count }
     ensures keys { context.new ≡ record context.old { radio = hopped context.old } }
 {
     let hop = hop_after(context);
     let count = next_chaining_count(context.radio.chaining_count);
-    context.radio.next_hop = Some(hop);
+    context.radio.next_hop = Some(hop.copy());
     context.radio.chaining_count = count;
     (hop, count)
 }

@@ -15,7 +15,7 @@ use emm_state::{
     Asked, Context, Draft, NasTimer, Phase, Protection, Repeat, Setting, SharedKasme, StepStop,
     ksi_of,
 };
-use eps_keys::{Kasme, same_octets};
+use eps_keys::{Kasme, Kenb, same_octets};
 use esm_machine::Requested;
 use identity_slots::{Tmsi, Vector};
 use mme_signalling::{
@@ -177,7 +177,7 @@ fn new_context(
         security: SecurityContext::new(integrity, ksi_of(place), 0, None),
         kasme: SharedKasme::new(alloc, kasme)?,
         radio: RadioKeys {
-            kenb: [0; 32],
+            kenb: Kenb::new([0; 32]),
             next_hop: None,
             chaining_count: 0,
         },
@@ -345,7 +345,7 @@ pub fn accept(
     draft: &mut Draft,
     alloc: Global,
     setting: &Setting,
-    kenb: [u8; 32],
+    kenb: Kenb,
 ) -> Result<(), StepStop>
     ensures { Does result draft.new (accept setting.now kenb draft.old) }
 {
@@ -386,7 +386,7 @@ fn ask_information(draft: &mut Draft, alloc: Global) -> Result<(), StepStop>
 /// An uplink message was accepted under the count by the context that stands, and the radio keys follow from it; KeNB is returned.
 /// Where no context stands, nothing changes, and zeros are returned.
 #[tactic(auto, unfolding(crate::specs::Attaching::keyed, crate::specs::Attaching::took))]
-pub fn keyed(draft: &mut Draft, count: u32) -> [u8; 32]
+pub fn keyed(draft: &mut Draft, count: u32) -> Kenb
     ensures kenb { (x : Context) → draft.old.solo.context ≡ Some x → result ≡ kenb x.kasme count }
     ensures keyed { (x : Context) → draft.old.solo.context ≡ Some x → draft.new ≡ keyed x count draft.old }
     ensures none { draft.old.solo.context ≡ None → (result ≡ replicate 32 0) × (draft.new ≡ draft.old) }
@@ -395,11 +395,12 @@ pub fn keyed(draft: &mut Draft, count: u32) -> [u8; 32]
         Some(context) => {
             let place = context.place;
             let radio = keys_of(context.kasme.get(), count);
+            let kenb = radio.kenb.copy();
             context.radio = radio;
             draft.accepted = Some(Mark { place, count });
-            radio.kenb
+            kenb
         }
-        None => [0; 32],
+        None => Kenb::new([0; 32]),
     }
 }
 

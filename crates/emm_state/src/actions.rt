@@ -12,6 +12,7 @@ ghost use Rattle.emm_state.specs.declared.draft.Draft.{Draft};
 use crate::draft::{Draft, Sealed, StepStop};
 use crate::setting::Setting;
 use crate::solo::{Context, Countdown, NasTimer, Phase, Protection, Repeat};
+use eps_keys::Kenb;
 use esm_machine::Bearer;
 use identity_slots::{AssociationId, Slot};
 use mme_pdus::{context_setup, downlink, release_command};
@@ -397,7 +398,7 @@ impl Draft {
         &mut self,
         alloc: Global,
         setting: &'x Setting,
-        kenb: [u8; 32],
+        kenb: Kenb,
         nas: Option<&'x [u8]>,
         under: Option<Mark>,
     ) -> Result<(), AllocError>
@@ -425,7 +426,7 @@ impl Draft {
         &mut self,
         alloc: Global,
         setting: &Setting,
-        kenb: [u8; 32],
+        kenb: Kenb,
     ) -> Result<(), AllocError>
         ensures { OnOk result (self.new ≡ set_up setting.now kenb None None self.old) }
     {
@@ -438,7 +439,7 @@ impl Draft {
         &mut self,
         alloc: Global,
         setting: &Setting,
-        kenb: [u8; 32],
+        kenb: Kenb,
         nas: &[u8],
     ) -> Result<(), StepStop>
         ensures { Does result self.new (set_up_with setting.now kenb nas.now self.old) }

@@ -331,14 +331,14 @@ fn copy_context(to: &mut Option<Context>, from: &Option<Context>) -> Result<(), 
             to.place = from.place;
             to.security = from.security;
             to.kasme = kasme;
-            to.radio = from.radio;
+            to.radio = from.radio.copy();
         }
         None => {
             *to = Some(Context {
                 place: from.place,
                 security: from.security,
                 kasme,
-                radio: from.radio,
+                radio: from.radio.copy(),
             });
         }
     }

@@ -467,7 +467,7 @@ fn information_came(draft: &mut Draft, alloc: Global, setting: &Setting) -> Resu
     let Some(context) = &draft.solo.context else {
         return Ok(());
     };
-    let kenb = context.radio.kenb;
+    let kenb = context.radio.kenb.copy();
     accept(draft, alloc, setting, kenb)
 }
 

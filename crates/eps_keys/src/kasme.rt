@@ -6,6 +6,7 @@ ghost use Rattle.eps_keys.specs.Hmac.{hmac_sha256, kenb, nas_integrity_key, next
 use crate::derive::{
     block_hashed, kenb_input, last_half, mac_from, nas_integrity_input, next_hop_input,
 };
+use crate::secrets::{IntegrityKey, Kenb, NextHop};
 use sha2::Sha256;
 use std::marker::Model;
 
@@ -63,25 +64,33 @@ impl Kasme {
 
     /// The key of 16 octets for the integrity of NAS messages by 128-EIA2 (TS 33.401, A.7), as [`crate::nas_integrity_key`].
     #[tactic(auto, unfolding(crate::specs::Hmac::nas_integrity_key))]
-    pub fn nas_integrity_key(&self) -> [u8; 16]
+    pub fn nas_integrity_key(&self) -> IntegrityKey
         ensures { result ≡ nas_integrity_key self.now }
     {
-        last_half(&self.mac(&nas_integrity_input()))
+        IntegrityKey::new(last_half(&self.mac(&nas_integrity_input())))
     }
 
     /// The key KeNB of 32 octets for a base station, of an uplink NAS COUNT (TS 33.401, A.3), as [`crate::kenb`].
     #[tactic(auto, unfolding(crate::specs::Hmac::kenb))]
-    pub fn kenb(&self, count: u32) -> [u8; 32]
+    pub fn kenb(&self, count: u32) -> Kenb
         ensures { result ≡ kenb self.now count }
     {
-        self.mac(&kenb_input(count))
+        Kenb::new(self.mac(&kenb_input(count)))
     }
 
-    /// The next hop key NH of 32 octets: of the one before it, and the first of KeNB (TS 33.401, A.4), as [`crate::next_hop`].
+    /// The first next hop key NH, of KeNB (TS 33.401, A.4), as [`crate::next_hop`].
     #[tactic(auto, unfolding(crate::specs::Hmac::next_hop))]
-    pub fn next_hop(&self, previous: &[u8; 32]) -> [u8; 32]
+    pub fn first_hop(&self, kenb: &Kenb) -> NextHop
+        ensures { result ≡ next_hop self.now kenb.now }
+    {
+        NextHop::new(self.mac(&next_hop_input(kenb.octets())))
+    }
+
+    /// The next hop key NH after another (TS 33.401, A.4), as [`crate::next_hop`].
+    #[tactic(auto, unfolding(crate::specs::Hmac::next_hop))]
+    pub fn next_hop(&self, previous: &NextHop) -> NextHop
         ensures { result ≡ next_hop self.now previous.now }
     {
-        self.mac(&next_hop_input(previous))
+        NextHop::new(self.mac(&next_hop_input(previous.octets())))
     }
 }

@@ -15,6 +15,7 @@ mod kasme;
 mod lanes;
 mod laws;
 mod mac;
+mod secrets;
 
 pub use aes::aes_encrypt;
 pub use derive::{hmac_sha256, kenb, nas_integrity_key, next_hop};
@@ -23,3 +24,4 @@ pub use equal::same_octets;
 pub use kasme::Kasme;
 pub use laws::same_is_equal;
 pub use mac::{MacKey, cmac, eia2};
+pub use secrets::{IntegrityKey, Kenb, NextHop};

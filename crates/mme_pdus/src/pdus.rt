@@ -4,6 +4,7 @@ ghost use Rattle.std.specs.Prelude.{◌≡◌, ◌<◌, ◌≤◌, ◌%◌, ◌�
 ghost use Rattle.mme_types.specs.s1ap_pdus.Pdus.{lists};
 ghost use Rattle.mme_pdus.specs.Pdus.{algorithm_bits, cause_of_request, context_setup, downlink, error_indication, index_bits, is_extended, number_from, paging, path_switch_acknowledge, path_switch_failure, qos, release_command, ue_index};
 
+use eps_keys::{Kenb, NextHop};
 use identity_slots::{AssociationId, Profile, Tmsi};
 use mme_types::s1ap::elements::{
     Address, Ambr, Arp, BitField, Cause, CnDomain, EnbUeId, ErabId, ErabToBeSetup, Items, Listed,
@@ -115,7 +116,7 @@ pub fn path_switch_failure<'a>(
 #[tactic(auto, unfolding(crate::specs::Pdus::path_switch_acknowledge))]
 pub fn path_switch_acknowledge<'a>(
     connection: Connection,
-    next_hop: [u8; 32],
+    next_hop: NextHop,
     chaining_count: u8,
 ) -> S1apPdu<'a>
     requires { chaining_count < 8 }
@@ -126,7 +127,7 @@ pub fn path_switch_acknowledge<'a>(
         enb_ue_id: connection.enb_ue_id,
         context: SecurityContext {
             chaining_count: Whole::new(u64::from(chaining_count)),
-            next_hop: Octets::new(next_hop),
+            next_hop: Octets::new(*next_hop.octets()),
         },
     })
 }
@@ -177,7 +178,7 @@ pub fn context_setup<'a>(
     profile: &'a Profile,
     capability: &UeCapability,
     connection: Connection,
-    kenb: [u8; 32],
+    kenb: Kenb,
     nas: Option<&'a [u8]>,
 ) -> Result<S1apPdu<'a>, AllocError>
     ensures { IfOk result
@@ -206,7 +207,7 @@ pub fn context_setup<'a>(
             encryption: algorithm_bits(capability.encryption()),
             integrity: algorithm_bits(capability.integrity()),
         },
-        key: Octets::new(kenb),
+        key: Octets::new(*kenb.octets()),
     }))
 }
 

@@ -3,7 +3,7 @@
 ghost use Rattle.std.specs.Prelude.{◌≡◌};
 ghost use Rattle.nas_security.specs.Context.{Mac};
 
-use eps_keys::{DirectionBit, MacKey};
+use eps_keys::{DirectionBit, IntegrityKey, MacKey};
 use std::marker::Model;
 
 /// An integrity algorithm of NAS signalling under one key (TS 33.401 clause B.2.1).
@@ -35,11 +35,11 @@ impl Model for Eia2 {
 
 impl Eia2 {
     /// The algorithm under a key, which is expanded once.
-    pub fn new(key: &[u8; 16]) -> Self
+    pub fn new(key: &IntegrityKey) -> Self
         ensures { result ≡ key.now }
     {
         Eia2 {
-            key: MacKey::new(key),
+            key: MacKey::new(key.octets()),
         }
     }
 }

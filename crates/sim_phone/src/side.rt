@@ -3,7 +3,7 @@
 ghost use Rattle.std.specs.Prelude.{◌≡◌};
 ghost use Rattle.sim_phone.specs.Sides.{opposite};
 
-use eps_keys::DirectionBit;
+use eps_keys::{DirectionBit, IntegrityKey};
 use nas_security::{Eia2, Integrity};
 use std::marker::Model;
 
@@ -25,8 +25,8 @@ impl Model for PhoneSide {
 }
 
 impl PhoneSide {
-    /// The phone's side under a key of 16 octets.
-    pub fn new(key: &[u8; 16]) -> PhoneSide
+    /// The phone's side under a key.
+    pub fn new(key: &IntegrityKey) -> PhoneSide
         ensures { result ≡ key.now }
     {
         PhoneSide {
