@@ -1,5 +1,6 @@
 pub mod Calling
 pub mod Stepping
+pub mod Parts
 pub mod Room
 pub mod Short
 pub mod Known

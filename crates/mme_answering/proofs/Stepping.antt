@@ -1,5 +1,5 @@
 -- A step that was prepared, of one and of some.
-use Rattle.std.proofs.Common.{◌≡◌, ℕ, zero, suc, ◌+◌, ◌<◌, ◌≤◌, List, [], ◌∷◌, ◌++◌, length, map, true, false, Option, Some, None, Result, Ok, Err, IfOk, refl, sym, subst, ◌∙◌, ap, arith}
+use Rattle.std.proofs.Common.{◌≡◌, ℕ, zero, suc, ◌+◌, ◌<◌, ◌≤◌, List, [], ◌∷◌, ◌++◌, length, map, true, false, Option, Some, None, refl, sym, subst, ◌∙◌, ap, arith}
 use Rattle.std.specs.Prelude.{slice_get, slice_set, option_map}
 use Rattle.std.specs.Option.{option_map_or}
 use Rattle.emm_state.specs.declared.solo.Solo.{Solo}
@@ -110,8 +110,3 @@ pub touches_all : (item : Item) (xs : List SteppedView) (ws : List SubscriberVie
     → Every (IsStepped item ws) xs
     → with_stepped xs ws ≡ each_after (for_all item) 0 ws
 touches_all item xs ws touched h = touched_is_of_all item xs ws touched h
-
--- two facts of one answer
-pub ok_both : {T E : Type 0} (P Q R : T → Type 0) (r : Result T E) → ((x : T) → P x → Q x → R x) → IfOk r P → IfOk r Q → IfOk r R
-ok_both P Q R (Ok x) both p q = both x p q
-ok_both P Q R (Err e) both p q = tt

@@ -2,26 +2,26 @@
 //!
 //! A call that isn't one of each step stands out of line (`inline(never)`), so that a step doesn't clear its locals.
 
-ghost use Rattle.std.specs.Prelude.{◌≡◌, ◌<◌, ◌≤◌, ◌++◌, List, map, length, IfOk, OnOk, Some, true};
+ghost use Rattle.std.specs.Prelude.{◌≡◌, ◌<◌, ◌++◌, List, length, IfOk, OnOk, Some, false, true};
+ghost use Rattle.identity_slots.specs.declared.profile.Profile.{Profile};
 ghost use Rattle.mme_types.specs.declared.stations.StationState.{StationState};
 ghost use Rattle.mme_types.specs.Events.{entry_lists, item_of, message_lists};
 ghost use Rattle.mme_types.specs.Events as items;
 ghost use Rattle.sorted_list.specs.Ordered.{Every};
 ghost use Rattle.stranger_machine.specs.declared.table.Known.{Known};
 ghost use Rattle.stranger_machine.specs.declared.turn.Notice.TheVariants as notices;
-ghost use Rattle.stranger_machine.specs.Machine.{begins, is_of_station, receives};
-ghost use Rattle.stranger_machine.specs.Table.{noted, stranger_at, with_stranger};
-ghost use Rattle.stranger_machine.specs.Turns.{after_of, call_of};
-ghost use Rattle.subscriber_table.specs.declared.stepped.Stepped.{Stepped};
-ghost use Rattle.subscriber_table.specs.Laws.{some_give};
+ghost use Rattle.stranger_machine.specs.Machine.{is_of_station};
+ghost use Rattle.stranger_machine.specs.Table.{stranger_at};
+ghost use Rattle.stranger_machine.specs.Turns.{call_of, turn_of};
 ghost use Rattle.mme_timers.specs.Waiting.{due_ids};
-ghost use Rattle.subscriber_table.specs.Table.{IsCounting, IsStepped, due_slots, each_after, slots_stepped};
-ghost use Rattle.subscriber_table.specs.Touched.{touched_slots, KeepsPlace};
-ghost use Rattle.mme_routing.specs.Destinations.{Destination as DestinationInSpecs, Everyone, for_all, for_one, if_called, item_at, item_of_notice, strangers_left};
+ghost use Rattle.subscriber_table.specs.Table.{IsCounting, due_slots};
+ghost use Rattle.subscriber_table.specs.Touched.{touched_slots};
+ghost use Rattle.mme_routing.specs.Destinations.{Beginner as BeginnerInSpecs, Everyone, Stranger as StrangerInSpecs, for_one, if_called, item_of_notice};
 ghost use Rattle.mme_routing.specs.Seen.{destination_of};
+ghost use Rattle.mme_answering.specs.declared.prepared.Prepared.TheVariants.{Everyone as EveryoneInCode};
 ghost use Rattle.mme_answering.specs.InUse.{AreInUse};
-ghost use Rattle.mme_answering.specs.Settled.{AreFit, IsFitIf, IsFor, IsPassing, is_own, item_sent, sent_at, settled_strangers, settled_subscribers, solo_at, with_one, with_stepped};
-ghost use Rattle.mme_answering.specs.Sending.{each_known, each_sent, stranger_out, strangers_sent};
+ghost use Rattle.mme_answering.specs.Prepares.{Prepares, PreparesEach, PreparesOne, PreparesTurn};
+ghost use Rattle.mme_answering.specs.Settled.{is_own, sent_at, solo_at};
 
 use crate::out::{Outs, Owner};
 use crate::prepared::Prepared;
@@ -72,11 +72,8 @@ fn prepare_each(
 ) -> Result<Vec<Stepped>, AllocError>
     requires called { Every (λ k. k < length subscribers.old.subscribers) called.now }
     requires in_use { AreInUse subscribers.old.subscribers }
-    ensures slots { IfOk result (λ xs. slots_stepped xs.items ≡ called.now) }
-    ensures stepped { IfOk result (λ xs. Every (IsStepped (item_of event.now stations.now) subscribers.old.subscribers) xs.items) }
-    ensures counting { IfOk result (λ xs. Every (λ (x : Stepped). IsCounting x.solo) xs.items) }
-    ensures sends { OnOk result
-        (outs.new ≡ outs.old ++ some_give (item_sent (item_of event.now stations.now)) called.now subscribers.old.subscribers) }
+    ensures prepares { IfOk result
+        (λ xs. PreparesEach (item_of event.now stations.now) called.now subscribers.old.subscribers outs.old outs.new xs.items) }
     ensures same { subscribers.new ≡ subscribers.old }
 {
     let mut stepped = Vec::new(alloc);
@@ -97,12 +94,8 @@ fn prepare_one(
     outs: &mut Outs,
 ) -> Result<Option<Stepped>, AllocError>
     requires { AreInUse subscribers.old.subscribers }
-    ensures after { IfOk result
-        (λ x. with_one x subscribers.old.subscribers
-        ≡ each_after (for_one slot (item_of event.now stations.now)) 0 subscribers.old.subscribers) }
-    ensures fits { IfOk result (λ x. IsFitIf (length subscribers.old.subscribers) x) }
-    ensures sends { OnOk result
-        (outs.new ≡ outs.old ++ each_sent (for_one slot (item_of event.now stations.now)) 0 subscribers.old.subscribers) }
+    ensures prepares { IfOk result
+        (λ x. PreparesOne (for_one slot (item_of event.now stations.now)) subscribers.old.subscribers outs.old outs.new x) }
     ensures same { subscribers.new ≡ subscribers.old }
 {
     let place = slot.get() as usize;
@@ -123,12 +116,8 @@ fn prepare_called(
     outs: &mut Outs,
 ) -> Result<Option<Stepped>, AllocError>
     requires { AreInUse subscribers.old.subscribers }
-    ensures after { IfOk result
-        (λ x. with_one x subscribers.old.subscribers
-        ≡ each_after (if_called (call_of stations.now call.now)) 0 subscribers.old.subscribers) }
-    ensures fits { IfOk result (λ x. IsFitIf (length subscribers.old.subscribers) x) }
-    ensures sends { OnOk result
-        (outs.new ≡ outs.old ++ each_sent (if_called (call_of stations.now call.now)) 0 subscribers.old.subscribers) }
+    ensures prepares { IfOk result
+        (λ x. PreparesOne (if_called (call_of stations.now call.now)) subscribers.old.subscribers outs.old outs.new x) }
     ensures same { subscribers.new ≡ subscribers.old }
 {
     match call {
@@ -151,17 +140,9 @@ fn prepare_turn(
     outs: &mut Outs,
 ) -> Result<Prepared, AllocError>
     requires { AreInUse subscribers.old.subscribers }
-    ensures sends { OnOk result
-        (outs.new ≡ outs.old
-        ++ (map (stranger_out id) turn.entry.sent
-        ++ each_sent (if_called (call_of stations.now turn.entry.call)) 0 subscribers.old.subscribers)) }
-    ensures strangers { IfOk result
-        (λ p. (ks : List Known) → settled_strangers p ks ≡ with_stranger id (after_of turn.entry.after (stranger_at id ks)) ks) }
-    ensures subscribers { IfOk result
-        (λ p. settled_subscribers p subscribers.old.subscribers
-        ≡ each_after (if_called (call_of stations.now turn.entry.call)) 0 subscribers.old.subscribers) }
-    ensures fits { IfOk result (λ p. (ks : List Known) → IsFor p ks subscribers.old.subscribers) }
-    ensures passing { IfOk result (λ p. (d : DestinationInSpecs) → IsPassing d p) }
+    ensures prepares { IfOk result
+        (λ p. (ks : List Known) → PreparesTurn id (turn_of stations.now (stranger_at id ks) turn.entry)
+        ks subscribers.old.subscribers outs.old outs.new p) }
     ensures same { subscribers.new ≡ subscribers.old }
 {
     let Turn {
@@ -189,15 +170,9 @@ fn prepare_tick(
     requires due_strangers { due.strangers.items ≡ due_ids strangers.now.strangers }
     requires due_slots { due.slots.items ≡ due_slots subscribers.old.subscribers }
     requires in_use { AreInUse subscribers.old.subscribers }
-    ensures sends { OnOk result
-        (outs.new ≡ outs.old
-        ++ (each_known notices.Tick strangers.now.strangers ++ each_sent (for_all items.Tick) 0 subscribers.old.subscribers)) }
-    ensures strangers { IfOk result
-        (λ p. settled_strangers p strangers.now.strangers ≡ noted notices.Tick strangers.now.strangers) }
-    ensures subscribers { IfOk result
-        (λ p. settled_subscribers p subscribers.old.subscribers ≡ each_after (for_all items.Tick) 0 subscribers.old.subscribers) }
-    ensures fits { IfOk result (λ p. IsFor p strangers.now.strangers subscribers.old.subscribers) }
-    ensures passing { IfOk result (λ p. IsPassing (Everyone notices.Tick) p) }
+    ensures prepares { IfOk result
+        (λ p. (ps : List Profile) → Prepares ps (Everyone notices.Tick)
+        strangers.now.strangers subscribers.old.subscribers outs.old outs.new p) }
     ensures same { subscribers.new ≡ subscribers.old }
 {
     connections_come_so();
@@ -243,26 +218,22 @@ fn prepare_all(
     subscribers: &mut Subscribers,
     stations: &EnbWorld,
     notice: &Notice,
-    touched: &[Slot],
+    touched: Vec<Slot>,
     event: &SoloEvent,
     outs: &mut Outs,
 ) -> Result<Vec<Stepped>, AllocError>
     requires station { is_of_station notice.now ≡ true }
-    requires touched { touched.now ≡ touched_slots (item_of_notice notice.now) subscribers.old.subscribers }
+    requires touched { touched.items ≡ touched_slots (item_of_notice notice.now) subscribers.old.subscribers }
     requires event { item_of event.now stations.now ≡ item_of_notice notice.now }
     requires in_use { AreInUse subscribers.old.subscribers }
-    ensures sends { OnOk result
-        (outs.new ≡ outs.old ++ each_sent (for_all (item_of_notice notice.now)) 0 subscribers.old.subscribers) }
-    ensures subscribers { IfOk result
-        (λ xs. with_stepped xs.items subscribers.old.subscribers
-        ≡ each_after (for_all (item_of_notice notice.now)) 0 subscribers.old.subscribers) }
-    ensures fits { IfOk result
-        (λ xs. AreFit (length subscribers.old.subscribers) xs.items × (length xs.items ≤ length subscribers.old.subscribers)) }
-    ensures places { IfOk result (λ xs. Every (KeepsPlace subscribers.old.subscribers) xs.items) }
+    ensures prepares { IfOk result
+        (λ xs. (ps : List Profile) (ks : List Known) → Prepares ps (Everyone notice.now)
+        ks subscribers.old.subscribers outs.old outs.new (EveryoneInCode notice.now xs)) }
     ensures same { subscribers.new ≡ subscribers.old }
 {
     connections_come_so();
-    prepare_each(alloc, subscribers, touched, event, stations, outs)
+    let called = touched.as_slice();
+    prepare_each(alloc, subscribers, called, event, stations, outs)
 }
 
 // What is to become of the stranger who begins with a message.
@@ -277,19 +248,9 @@ fn prepare_beginner(
     outs: &mut Outs,
 ) -> Result<Prepared, AllocError>
     requires { AreInUse subscribers.old.subscribers }
-    ensures sends { OnOk result
-        (outs.new ≡ outs.old
-        ++ (map (stranger_out id) (begins id (stranger_at id strangers.now.strangers) (entry_lists entry.now)).sent
-        ++ each_sent (if_called
-        (begins id (stranger_at id strangers.now.strangers) (entry_lists entry.now)).call) 0 subscribers.old.subscribers)) }
-    ensures strangers { IfOk result (λ p. settled_strangers p strangers.now.strangers
-        ≡ with_stranger id (begins id (stranger_at id strangers.now.strangers)
-        (entry_lists entry.now)).stranger strangers.now.strangers) }
-    ensures subscribers { IfOk result (λ p. settled_subscribers p subscribers.old.subscribers
-        ≡ each_after (if_called
-        (begins id (stranger_at id strangers.now.strangers) (entry_lists entry.now)).call) 0 subscribers.old.subscribers) }
-    ensures fits { IfOk result (λ p. (ks : List Known) → IsFor p ks subscribers.old.subscribers) }
-    ensures passing { IfOk result (λ p. (d : DestinationInSpecs) → IsPassing d p) }
+    ensures prepares { IfOk result
+        (λ p. (ps : List Profile) → Prepares ps (BeginnerInSpecs id (entry_lists entry.now))
+        strangers.now.strangers subscribers.old.subscribers outs.old outs.new p) }
     ensures same { subscribers.new ≡ subscribers.old }
 {
     let turn = begins(alloc, id, strangers.find(id), entry)?;
@@ -308,24 +269,9 @@ fn prepare_stranger(
     outs: &mut Outs,
 ) -> Result<Prepared, AllocError>
     requires { AreInUse subscribers.old.subscribers }
-    ensures sends { OnOk result
-        (outs.new ≡ outs.old
-        ++ (map (stranger_out message.now.mme_ue_id)
-        (receives provision.now.profiles (stranger_at message.now.mme_ue_id strangers.now.strangers)
-        (message_lists message.now)).sent
-        ++ each_sent (if_called
-        (receives provision.now.profiles (stranger_at message.now.mme_ue_id strangers.now.strangers)
-        (message_lists message.now)).call) 0 subscribers.old.subscribers)) }
-    ensures strangers { IfOk result (λ p. settled_strangers p strangers.now.strangers
-        ≡ with_stranger message.now.mme_ue_id
-        (receives provision.now.profiles (stranger_at message.now.mme_ue_id strangers.now.strangers)
-        (message_lists message.now)).stranger strangers.now.strangers) }
-    ensures subscribers { IfOk result (λ p. settled_subscribers p subscribers.old.subscribers
-        ≡ each_after (if_called
-        (receives provision.now.profiles (stranger_at message.now.mme_ue_id strangers.now.strangers)
-        (message_lists message.now)).call) 0 subscribers.old.subscribers) }
-    ensures fits { IfOk result (λ p. (ks : List Known) → IsFor p ks subscribers.old.subscribers) }
-    ensures passing { IfOk result (λ p. (d : DestinationInSpecs) → IsPassing d p) }
+    ensures prepares { IfOk result
+        (λ p. Prepares provision.now.profiles (StrangerInSpecs (message_lists message.now))
+        strangers.now.strangers subscribers.old.subscribers outs.old outs.new p) }
     ensures same { subscribers.new ≡ subscribers.old }
 {
     let id = message.mme_ue_id;
@@ -345,19 +291,9 @@ fn prepare_own<'a>(
 ) -> Result<Prepared, AllocError>
     requires own { is_own destination.now ≡ true }
     requires in_use { AreInUse subscribers.old.subscribers }
-    ensures sends { OnOk result
-        (outs.new ≡ outs.old
-        ++ (strangers_sent provision.now.profiles (destination_of stations.now destination.now) strangers.entry.now.strangers
-        ++ each_sent (item_at (destination_of stations.now destination.now) provision.now.profiles
-        (λ id. stranger_at id strangers.entry.now.strangers)) 0 subscribers.old.subscribers)) }
-    ensures strangers { IfOk result
-        (λ p. settled_strangers p strangers.entry.now.strangers
-        ≡ strangers_left provision.now.profiles (destination_of stations.now destination.now) strangers.entry.now.strangers) }
-    ensures subscribers { IfOk result (λ p. settled_subscribers p subscribers.old.subscribers
-        ≡ each_after (item_at (destination_of stations.now destination.now) provision.now.profiles
-        (λ id. stranger_at id strangers.entry.now.strangers)) 0 subscribers.old.subscribers) }
-    ensures fits { IfOk result (λ p. IsFor p strangers.entry.now.strangers subscribers.old.subscribers) }
-    ensures passing { IfOk result (λ p. IsPassing (destination_of stations.now destination.now) p) }
+    ensures prepares { IfOk result
+        (λ p. Prepares provision.now.profiles (destination_of stations.now destination.now)
+        strangers.entry.now.strangers subscribers.old.subscribers outs.old outs.new p) }
     ensures same { subscribers.new ≡ subscribers.old }
 {
     match destination {
@@ -386,29 +322,20 @@ fn prepare_own<'a>(
     }
 }
 
-/// What is to become of those whom an event goes to, worked out on copies; what they send stands after what is sent so far.
-pub fn prepare<'a>(
+// What is to become of all, where an event goes to everyone.
+#[inline(never)]
+fn prepare_everyone<'a>(
     alloc: Global,
-    provision: &Provision,
     owners: &mut Owners,
     stations: &EnbWorld,
     destination: Destination<'a>,
     outs: &mut Outs,
 ) -> Result<Prepared, AllocError>
+    requires everyone { is_own destination ≡ false }
     requires in_use { AreInUse owners.old.subscribers }
-    ensures sends { OnOk result
-        (outs.new ≡ outs.old
-        ++ (strangers_sent provision.now.profiles (destination_of stations.now destination.entry) owners.old.strangers
-        ++ each_sent (item_at (destination_of stations.now destination.entry) provision.now.profiles
-        (λ id. stranger_at id owners.old.strangers)) 0 owners.old.subscribers)) }
-    ensures strangers { IfOk result
-        (λ p. settled_strangers p owners.old.strangers
-        ≡ strangers_left provision.now.profiles (destination_of stations.now destination.entry) owners.old.strangers) }
-    ensures subscribers { IfOk result (λ p. settled_subscribers p owners.old.subscribers
-        ≡ each_after (item_at (destination_of stations.now destination.entry) provision.now.profiles
-        (λ id. stranger_at id owners.old.strangers)) 0 owners.old.subscribers) }
-    ensures fits { IfOk result (λ p. IsFor p owners.old.strangers owners.old.subscribers) }
-    ensures passing { IfOk result (λ p. IsPassing (destination_of stations.now destination.entry) p) }
+    ensures prepares { IfOk result
+        (λ p. (ps : List Profile) → Prepares ps (destination_of stations.now destination.entry)
+        owners.old.strangers owners.old.subscribers outs.old outs.new p) }
     ensures same { owners.new ≡ owners.old }
 {
     match destination {
@@ -420,27 +347,53 @@ pub fn prepare<'a>(
             prepare_tick(alloc, strangers, subscribers, due, stations, event, outs)
         }
         Destination::Everyone(notice) => {
-            let event = &event_of(&notice);
             let touched = touched_by(owners, &notice)?;
-            let stepped = prepare_all(
-                alloc,
-                &mut owners.records.subscribers,
-                stations,
-                &notice,
-                touched.as_slice(),
-                event,
-                outs,
-            )?;
+            let event = &event_of(&notice);
+            let subscribers = &mut owners.records.subscribers;
+            let stepped = prepare_all(alloc, subscribers, stations, &notice, touched, event, outs)?;
             Ok(Prepared::Everyone(notice, stepped))
         }
-        own => prepare_own(
-            alloc,
-            provision,
-            &owners.records.strangers,
-            &mut owners.records.subscribers,
-            stations,
-            &own,
-            outs,
-        ),
+        _ => unreachable!(),
     }
+}
+
+// Whether it isn't for everyone.
+fn is_own(destination: &Destination<'_>) -> bool
+    ensures { result ≡ is_own destination.now }
+{
+    match destination {
+        Destination::Everyone(_) => false,
+        _ => true,
+    }
+}
+
+/// What is to become of those whom an event goes to, worked out on copies; what they send stands after what is sent so far.
+pub fn prepare<'a>(
+    alloc: Global,
+    provision: &Provision,
+    owners: &mut Owners,
+    stations: &EnbWorld,
+    destination: Destination<'a>,
+    outs: &mut Outs,
+) -> Result<Prepared, AllocError>
+    requires in_use { AreInUse owners.old.subscribers }
+    ensures prepares { IfOk result
+        (λ p. Prepares provision.now.profiles (destination_of stations.now destination.entry)
+        owners.old.strangers owners.old.subscribers outs.old outs.new p) }
+    ensures same { owners.new ≡ owners.old }
+{
+    if !is_own(&destination) {
+        return prepare_everyone(alloc, owners, stations, destination, outs);
+    }
+    let strangers = &owners.records.strangers;
+    let subscribers = &mut owners.records.subscribers;
+    prepare_own(
+        alloc,
+        provision,
+        strangers,
+        subscribers,
+        stations,
+        &destination,
+        outs,
+    )
 }

@@ -1,5 +1,5 @@
 -- Event by event the ids of an MME stay apart.
-use Rattle.std.proofs.Common.{◌≡◌, ℕ, zero, suc, ◌+◌, ◌≤◌, List, [], ◌∷◌, Option, Some, None, Result, Ok, Err, IfOk, sym, ◌∙◌, ap, subst, arith}
+use Rattle.std.proofs.Common.{◌≡◌, ℕ, zero, suc, ◌+◌, ◌≤◌, List, [], ◌∷◌, Option, Some, None, sym, ◌∙◌, ap, subst, arith}
 use Rattle.std.specs.Prelude.{slice_get}
 use Rattle.std.proofs.lemmas.Option.{same_Some}
 use Rattle.identity_slots.specs.declared.profile.Profile.{Profile}
@@ -15,9 +15,7 @@ use Rattle.laws_apart.specs.Goes.{ClaimsNone, GoesMade, OctetsGoMade}
 use Rattle.mme_core.specs.declared.event.Event.{Event}
 use Rattle.mme_core.specs.declared.event.Event.TheVariants.{Up as UpEvent, Lost as LostEvent, In as InEvent, Tick as TickEvent, Data as DataEvent, Cancel as CancelEvent}
 use Rattle.mme_core.specs.declared.event.StepFault.{StepFault}
-use Rattle.mme_core.specs.declared.mme.Ready.{Ready}
 use Rattle.mme_core.specs.Apart.{AreApart, EventsGoMade, IdsBeginApart, IdsStayApart}
-use Rattle.mme_core.specs.Ready.{ready_world}
 use Rattle.mme_core.specs.World.{World, event_fault, fresh_subscribers, happens, to_slot, unless, world_after, world_moved}
 use Rattle.mme_core.proofs.Kept.{as_many_fresh}
 
@@ -71,10 +69,3 @@ module _ (stays : StaysApart) (go : EventsGoMade) where
   pub ids_stay_apart : IdsStayApart
   ids_stay_apart w [] h = h
   ids_stay_apart w (event ∷ events) h = ids_stay_apart (world_after w event) events (apart_after (event_fault w.sight event) w event h)
-
--- ---- what was prepared
-
-pub apart_ready : {E : Type 0} (res : Result Ready E) (w : World) (event : Event) → IdsStayApart → AreApart w
-    → IfOk res (λ r. ready_world r w ≡ world_after w event) → IfOk res (λ r. AreApart (ready_world r w))
-apart_ready (Ok r) w event stays h after = subst AreApart (sym after) (stays w (event ∷ []) h)
-apart_ready (Err e) w event stays h after = tt

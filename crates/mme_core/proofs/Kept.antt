@@ -1,5 +1,5 @@
 -- What always holds of an MME holds from its beginning on, and after each event.
-use Rattle.std.proofs.Common.{◌≡◌, ℕ, suc, ◌+◌, ◌==◌, Bool, true, false, cond, List, [], ◌∷◌, length, Option, Some, None, Result, Ok, Err, IfOk, nat_lt, refl, sym, subst, ap, ◌∙◌}
+use Rattle.std.proofs.Common.{◌≡◌, ℕ, suc, ◌+◌, ◌==◌, Bool, true, false, cond, List, [], ◌∷◌, length, Option, Some, None, nat_lt, refl, ap, ◌∙◌}
 use Rattle.std.specs.Prelude.{option_map}
 use Rattle.std.proofs.lemmas.List.{length-replicate}
 use Rattle.sorted_list.specs.Ordered.{Every, put, without}
@@ -25,9 +25,7 @@ use Rattle.laws_ends.specs.Clocked.{IsClocked, StaysClocked}
 use Rattle.laws_ends.specs.Strangers.{IsTimed, StaysTimed}
 use Rattle.mme_core.specs.declared.event.Event.{Event}
 use Rattle.mme_core.specs.declared.event.StepFault.{StepFault}
-use Rattle.mme_core.specs.declared.mme.Ready.{Ready}
 use Rattle.mme_core.specs.Kept.{BeginsKept, IsKept, IsKnownTimed, StaysKept}
-use Rattle.mme_core.specs.Ready.{ready_world}
 use Rattle.mme_core.specs.World.{World, each_after, event_fault, fresh_subscribers, happens, items_of, strangers_in, unless, world_after, world_moved}
 use Rattle.mme_core.proofs.InUse.{each_in_use, fresh_in_use}
 use Rattle.mme_core.proofs.Stations.{placed_many}
@@ -136,10 +134,3 @@ module _ (used : StaysInUse) (sound : StaysSound) (clocked : StaysClocked) (stay
   stays_kept w [] h = h
   stays_kept w (event ∷ events) h =
       stays_kept (world_after w event) events (either_way IsKept (event_fault w.sight event) h (moved_kept w event h))
-
--- ---- what was prepared
-
-pub kept_ready : {E : Type 0} (res : Result Ready E) (w : World) (event : Event) → StaysKept → IsKept w
-    → IfOk res (λ r. ready_world r w ≡ world_after w event) → IfOk res (λ r. IsKept (ready_world r w))
-kept_ready (Ok r) w event stays h after = subst IsKept (sym after) (stays w (event ∷ []) h)
-kept_ready (Err e) w event stays h after = tt

@@ -6,6 +6,7 @@ pub mod Order
 pub mod Runs
 pub mod Stations
 pub mod Steps
+pub mod Leading
 pub mod SameToSlot
 pub mod Named
 pub mod Exchange

@@ -1,16 +1,38 @@
 -- What was prepared for an event, and the MME when it is taken.
+use Rattle.std.specs.Prelude.{◌≡◌, None, Ok}
+use Rattle.mme_core.specs.declared.event.Event.{Event}
+use Rattle.mme_core.specs.declared.mme.Moves.{Moves}
 use Rattle.mme_core.specs.declared.mme.Ready.{Ready}
-use Rattle.mme_answering.specs.Settled.{settled_strangers, settled_subscribers}
-use Rattle.mme_core.specs.World.{World, placed}
+use Rattle.mme_answering.specs.Settled.{IsFor, IsInTime, settled_strangers, settled_subscribers}
+use Rattle.mme_core.specs.Projection.{AreInOrder}
+use Rattle.mme_core.specs.Sight.{Sight}
+use Rattle.mme_core.specs.World.{World, event_fault, placed, reply, world_after}
+
+-- what every owner may see then
+abbrev pub ready_sight : Moves → Sight → Sight
+ready_sight m s = record {
+  config = s.config;
+  clock = m.clock;
+  stations = placed m.station m.state s.stations;
+  profiles = s.profiles;
+}
 
 abbrev pub ready_world : Ready → World → World
 ready_world r w = record {
-  sight = record {
-    config = w.sight.config;
-    clock = r.moves.clock;
-    stations = placed r.moves.station r.moves.state w.sight.stations;
-    profiles = w.sight.profiles;
-  };
+  sight = ready_sight r.moves w.sight;
   strangers = settled_strangers r.prepared w.strangers;
   subscribers = settled_subscribers r.prepared w.subscribers;
 }
+
+-- what an event leads to, before it is taken
+pub record LeadsTo (w : World) (event : Event) (r : Ready) : Type 0 where
+  -- it isn't refused
+  pub accepted : event_fault w.sight event ≡ None
+  -- the whole output, in the order of its owners
+  pub sends : reply w event ≡ Ok r.outs
+  pub order : AreInOrder r.outs
+  -- the MME once it is taken
+  pub after : ready_world r w ≡ world_after w event
+  -- it may be taken, and the owners' clock doesn't pass the MME's by it
+  pub fits : IsFor r.prepared w.strangers w.subscribers
+  pub in_time : IsInTime r.prepared w.sight.clock r.moves.clock

@@ -76,6 +76,11 @@ station_of TickEvent = None
 station_of (DataEvent imsi) = None
 station_of (CancelEvent imsi) = None
 
+-- whether it is a message
+abbrev pub is_message : Event → Bool
+is_message (InEvent e octets) = true
+is_message _ = false
+
 abbrev pub to_slot : Option ℕ → Item → Destination
 to_slot None item = to.Nobody
 to_slot (Some slot) item = to.Subscriber slot item

@@ -3,9 +3,12 @@
 ghost use Rattle.std.specs.Prelude.{◌≡◌};
 ghost use Rattle.mme_core.specs.declared.event.StepFault.TheVariants.{NoMemory};
 
-use mme_types::StationNumber;
+use identity_slots::Slot;
+use mme_routing::Destination;
+use mme_types::{SoloEvent, StationNumber, StationState};
 use nas_elements::Imsi;
 use std::alloc::{AllocError, AllocFailed};
+use stranger_machine::Notice;
 
 /// What happens to an MME.
 #[derive(Clone, Copy)]
@@ -25,8 +28,10 @@ pub enum Event<'a> {
 }
 
 impl Event<'_> {
-    ghost use Rattle.std.specs.Prelude.{◌≡◌};
-    ghost use Rattle.mme_core.specs.World.{station_of};
+    ghost use Rattle.std.specs.Prelude.{◌≡◌, false};
+    ghost use Rattle.mme_routing.specs.Seen.{destination_of};
+    ghost use Rattle.mme_core.specs.Sight.{Sight};
+    ghost use Rattle.mme_core.specs.World.{happens, is_message, slot_named, station_of};
 
     // The station that it is of.
     pub(crate) fn station(&self) -> Option<StationNumber>
@@ -35,6 +40,37 @@ impl Event<'_> {
         match self {
             Event::Up(station) | Event::Lost(station) | Event::In(station, _) => Some(*station),
             Event::Tick | Event::Data(_) | Event::Cancel(_) => None,
+        }
+    }
+
+    // Of an event that is no message: the new state of its station, where it has one.
+    pub(crate) fn state(&self) -> Option<StationState>
+        ensures { (s : Sight) → is_message self.now ≡ false → result ≡ (happens s self.now).state }
+    {
+        match self {
+            Event::Up(_) => Some(StationState::Up),
+            Event::Lost(_) => Some(StationState::Down),
+            Event::In(_, _) | Event::Tick | Event::Data(_) | Event::Cancel(_) => None,
+        }
+    }
+
+    // Of an event that is no message: where it goes, where that is the slot that it names.
+    pub(crate) fn destination<'a>(&self, named: &Option<Slot>) -> Destination<'a>
+        ensures { (s : Sight) → is_message self.now ≡ false → named.now ≡ slot_named s self.now
+            → destination_of s.stations result ≡ (happens s self.now).destination }
+    {
+        match self {
+            Event::Up(_) | Event::In(_, _) => Destination::Nobody,
+            Event::Lost(station) => Destination::Everyone(Notice::Gone(*station)),
+            Event::Tick => Destination::Everyone(Notice::Tick),
+            Event::Data(_) => match named {
+                Some(slot) => Destination::Subscriber(*slot, SoloEvent::Data),
+                None => Destination::Nobody,
+            },
+            Event::Cancel(_) => match named {
+                Some(slot) => Destination::Subscriber(*slot, SoloEvent::Cancel),
+                None => Destination::Nobody,
+            },
         }
     }
 }

@@ -1,31 +1,31 @@
 //! The MME.
 
-ghost use Rattle.std.specs.Prelude.{◌≡◌, ◌≢◌, ◌⊎◌, ◌<◌, ◌++◌, ◌≤◌, ◌+◌, ◌^◌, ◌↔◌, ℕ, [], length, slice_get, true, IfOk, IfErr, IfSome, IsNone, OnOk, OnErr, Ok, Err, Some, None};
+ghost use Rattle.std.specs.Prelude.{◌≡◌, ◌≢◌, ◌⊎◌, ◌<◌, ◌≤◌, ◌+◌, ◌^◌, ◌↔◌, ℕ, [], length, slice_get, false, true, IfOk, IfErr, IfSome, IsNone, OnOk, OnErr, Ok, Err, Some, None};
 ghost use Rattle.identity_slots.specs.Provisioned.{slot_of_imsi};
+ghost use Rattle.s1ap_pdus.specs.Pdus.{decoded};
 ghost use Rattle.mme_types.specs.Stations.{station_at};
 ghost use Rattle.emm_machine.specs.SubscriberView.{SubscriberView};
 ghost use Rattle.sorted_list.specs.Ordered.{Distinct, Every, Rising};
 ghost use Rattle.stranger_machine.specs.Table.{known_id, stranger_at};
+ghost use Rattle.mme_core.specs.declared.event.Event.{Event};
 ghost use Rattle.mme_core.specs.declared.event.Event.TheVariants.{Tick};
 ghost use Rattle.mme_core.specs.declared.event.StepFault.TheVariants.{NoMemory};
 ghost use Rattle.mme_core.specs.Projection.{AllInOrder, AreInOrder, alone_after, is_slot, is_station, is_stranger, projection, silence, station_run, station_told, states_along, states_at, states_run, stranger_run, stranger_told, subscriber_told, told};
-ghost use Rattle.mme_types.specs.declared.stations.StationState.{StationState};
-ghost use Rattle.mme_routing.specs.Destinations.{item_at, strangers_left};
+ghost use Rattle.mme_routing.specs.Outcomes.{outcome_of};
 ghost use Rattle.mme_routing.specs.Seen.{destination_of, seen_outcome};
-ghost use Rattle.mme_answering.specs.Settled.{IsFor, IsInTime, IsPassing, settled_strangers, settled_subscribers};
+ghost use Rattle.mme_answering.specs.Prepares.{Prepares};
 ghost use Rattle.association_table.specs.Table.{association_id};
-ghost use Rattle.laws_apart.specs.Apart.{IdsApart};
 ghost use Rattle.laws_apart.specs.Associations.{associations};
 ghost use Rattle.mme_core.specs.Apart.{AreApart};
 ghost use Rattle.mme_core.specs.EndingRuns.{IsEndingRun};
 ghost use Rattle.mme_core.specs.FreshRuns.{AreInUse, IsFreshRun};
 ghost use Rattle.mme_core.specs.GuardedRuns.{IsGuardedRun};
-ghost use Rattle.mme_core.specs.Kept.{IsKept, IsKnownTimed};
+ghost use Rattle.mme_core.specs.Kept.{IsKnownTimed};
 ghost use Rattle.mme_core.specs.Faults.{HasEachFault};
 ghost use Rattle.mme_core.specs.Quiet.{IsQuiet};
-ghost use Rattle.mme_core.specs.Ready.{ready_world};
+ghost use Rattle.mme_core.specs.Ready.{LeadsTo, ready_sight, ready_world};
 ghost use Rattle.mme_answering.specs.Short.{AreShort};
-ghost use Rattle.mme_core.specs.World.{clock_after, each_after, each_sent, event_fault, events_taken, fresh_world, happens, replies, replies_given, reply, slot_named, strangers_in, strangers_sent, world_of, world_after, world_run};
+ghost use Rattle.mme_core.specs.World.{clock_after, event_fault, events_taken, fresh_world, is_message, replies, replies_given, reply, slot_named, strangers_in, world_of, world_after, world_run};
 
 use crate::config::Config;
 use crate::event::{Event, StepFault};
@@ -33,8 +33,7 @@ use crate::laws::{ids_are_apart, worlds_are_kept};
 use crate::provisioning::fresh_owners;
 use crate::station::{settle_station, station_outs};
 use emm_machine::{
-    States, accepted_counts_are_fresh, in_use_is_kept, sent_counts_are_fresh,
-    vector_makes_one_context,
+    States, accepted_counts_are_fresh, sent_counts_are_fresh, vector_makes_one_context,
 };
 use identity_slots::{Provision, Slot};
 use laws_admission::{
@@ -42,15 +41,14 @@ use laws_admission::{
     unproved_leaves,
 };
 use laws_apart::{associations_are_a_map, no_two_share_an_id};
-use laws_ends::{clocks_are_kept, silent_phones_end, strangers_are_closed};
+use laws_ends::{clocks_are_kept, silent_phones_end};
 use mme_answering::{Outs, Prepared, pass, prepare, settle};
 use mme_owners::Owners;
 use mme_routing::{Destination, Outcome, outcome_of};
-use mme_types::{Answers, EnbWorld, SharedNetwork, SoloEvent, StationNumber, StationState};
+use mme_types::{EnbWorld, StationNumber, StationState};
 use nas_elements::Imsi;
 use std::alloc::{AllocError, Global};
 use std::marker::Model;
-use stranger_machine::Notice;
 
 /// The last tick of the clock.
 const LAST_TICK: u64 = 1 << 62;
@@ -121,14 +119,11 @@ impl Mme {
     pub fn new(alloc: Global, config: Config, provision: Provision) -> Result<Mme, AllocError>
         ensures { IfOk result (λ m. m ≡ fresh_world config provision) }
     {
-        in_use_is_kept();
-        soundness_is_kept();
-        clocks_are_kept();
+        worlds_are_kept();
         ids_are_apart();
         let mut provision = provision;
-        let network = SharedNetwork::new(alloc, config.network.clone()?)?;
-        let owners = fresh_owners(alloc, &network, &mut provision)?;
         let stations = EnbWorld::new(alloc)?;
+        let owners = fresh_owners(alloc, &config.network, &mut provision)?;
         let clock = config.clock;
         let surroundings = Surroundings {
             config,
@@ -267,7 +262,8 @@ impl Mme {
         !self.owners.is_due()
     }
 
-    // Such a tick: nothing is sent for it. Takes no memory.
+    // Such a tick: nothing is sent for it. Takes no memory. Out of line, so that no other event clears its locals.
+    #[inline(never)]
     fn pass(&mut self) -> Outs
         requires { IsQuiet self.old Tick }
         ensures none { result ≡ [] }
@@ -282,36 +278,36 @@ impl Mme {
 
     // What an event leads to, on copies.
     fn ready(&mut self, event: &Event<'_>) -> Result<Ready, StepFault>
-        ensures reply { IfOk result (λ r. reply self.old event.now ≡ Ok r.outs) }
-        ensures after { IfOk result (λ r. ready_world r self.old ≡ world_after self.old event.now) }
-        ensures fits { IfOk result (λ r. IsFor r.prepared self.old.strangers self.old.subscribers) }
-        ensures in_time { IfOk result (λ r. IsInTime r.prepared self.old.sight.clock r.moves.clock) }
-        ensures order { IfOk result (λ r. AreInOrder r.outs) }
-        ensures accepted { OnOk result (event_fault self.old.sight event.now ≡ None) }
+        ensures leads { IfOk result (λ r. LeadsTo self.old event.now r) }
         ensures refused { IfErr result (λ fault. (event_fault self.old.sight event.now ≡ Some fault)
             ⊎ ((fault ≡ NoMemory) × (event_fault self.old.sight event.now ≡ None))) }
         ensures same { self.new ≡ self.old }
-        ensures kept { IfOk result (λ r. IsKept (ready_world r self.new)) }
-        ensures apart { IfOk result (λ r. AreApart (ready_world r self.new)) }
     {
-        worlds_are_kept();
-        ids_are_apart();
         self.surroundings.ready(&mut self.owners, event)
     }
 
-    // What was prepared is so. Room for steps and for a stranger comes first; refused, all is as it was.
+    // What was prepared for an event is so. Room for steps and for a stranger comes first; refused, all is as it was.
     fn take(&mut self, ready: Ready) -> Result<Outs, StepFault>
-        requires fits { IsFor ready.prepared self.old.strangers self.old.subscribers }
-        requires in_time { IsInTime ready.prepared self.old.sight.clock ready.moves.clock }
-        requires kept { IsKept (ready_world ready self.old) }
-        requires apart { AreApart (ready_world ready self.old) }
+        requires { (event : Event) × LeadsTo self.old event ready }
         ensures after { OnOk result (self.new ≡ ready_world ready self.old) }
         ensures outs { IfOk result (λ outs. outs ≡ ready.outs) }
         ensures short { IfOk result (λ outs. AreShort outs) }
         ensures memory { IfErr result (λ fault. fault ≡ NoMemory) }
         ensures err { OnErr result (self.new ≡ self.old) }
     {
-        self.surroundings.take(&mut self.owners, ready)
+        worlds_are_kept();
+        ids_are_apart();
+        no_two_share_an_id();
+        let Ready {
+            moves,
+            prepared,
+            outs,
+        } = ready;
+        settle(&mut self.owners, prepared)?;
+        self.surroundings.move_on(moves);
+        // The caller is told this of all messages.
+        outs.are_short();
+        Ok(outs)
     }
 }
 
@@ -373,59 +369,18 @@ impl Surroundings {
         }
     }
 
-    // What comes of an event that isn't refused, where that is the slot that it names.
+    // What comes of a message of a station that isn't down.
     fn outcome<'a>(
-        &'a self,
-        event: &'a Event<'_>,
-        named: &Option<Slot>,
+        &self,
+        station: StationNumber,
+        octets: &'a [u8],
     ) -> Result<Outcome<'a>, AllocError>
-        requires { named.now ≡ slot_named self.now event.now }
-        ensures { IfOk result (λ h. seen_outcome self.entry.now.stations h ≡ happens self.entry.now event.entry.now) }
+        ensures { IfOk result (λ h. seen_outcome self.now.stations h
+            ≡ outcome_of self.now.config.network self.now.profiles station (station_at self.now.stations station) (decoded octets.entry.now)) }
     {
-        match event {
-            Event::Up(_) => Ok(Outcome {
-                state: Some(StationState::Up),
-                sent: Answers::new(self.alloc),
-                destination: Destination::Nobody,
-            }),
-            Event::Lost(station) => {
-                let down = Some(StationState::Down);
-                Ok(Outcome::begins_anew(*station, down, Answers::new(self.alloc)))
-            }
-            Event::In(station, octets) => {
-                let state = self.stations.get(*station);
-                let network = &self.config.network;
-                outcome_of(
-                    self.alloc,
-                    network,
-                    &self.provision,
-                    *station,
-                    state,
-                    octets,
-                )
-            }
-            Event::Tick => Ok(Outcome {
-                state: None,
-                sent: Answers::new(self.alloc),
-                destination: Destination::Everyone(Notice::Tick),
-            }),
-            Event::Data(_) => match named {
-                Some(slot) => Ok(Outcome {
-                    state: None,
-                    sent: Answers::new(self.alloc),
-                    destination: Destination::Subscriber(*slot, SoloEvent::Data),
-                }),
-                None => Ok(Outcome::answered(Answers::new(self.alloc))),
-            },
-            Event::Cancel(_) => match named {
-                Some(slot) => Ok(Outcome {
-                    state: None,
-                    sent: Answers::new(self.alloc),
-                    destination: Destination::Subscriber(*slot, SoloEvent::Cancel),
-                }),
-                None => Ok(Outcome::answered(Answers::new(self.alloc))),
-            },
-        }
+        let state = self.stations.get(station);
+        let network = &self.config.network;
+        outcome_of(self.alloc, network, &self.provision, station, state, octets)
     }
 
     // The clock after an event that isn't refused.
@@ -448,20 +403,9 @@ impl Surroundings {
         outs: &mut Outs,
     ) -> Result<Prepared, AllocError>
         requires { AreInUse owners.old.subscribers }
-        ensures sends { OnOk result
-            (outs.new ≡ outs.old
-            ++ (strangers_sent self.entry.now.profiles
-            (destination_of self.entry.now.stations destination.entry) owners.old.strangers
-            ++ each_sent (item_at (destination_of self.entry.now.stations destination.entry) self.entry.now.profiles
-            (λ id. stranger_at id owners.old.strangers)) 0 owners.old.subscribers)) }
-        ensures strangers { IfOk result (λ p. settled_strangers p owners.old.strangers
-            ≡ strangers_left self.entry.now.profiles
-            (destination_of self.entry.now.stations destination.entry) owners.old.strangers) }
-        ensures subscribers { IfOk result (λ p. settled_subscribers p owners.old.subscribers
-            ≡ each_after (item_at (destination_of self.entry.now.stations destination.entry) self.entry.now.profiles
-            (λ id. stranger_at id owners.old.strangers)) 0 owners.old.subscribers) }
-        ensures fits { IfOk result (λ p. IsFor p owners.old.strangers owners.old.subscribers) }
-        ensures passing { IfOk result (λ p. IsPassing (destination_of self.entry.now.stations destination.entry) p) }
+        ensures prepares { IfOk result
+            (λ p. Prepares self.entry.now.profiles (destination_of self.entry.now.stations destination.entry)
+            owners.old.strangers owners.old.subscribers outs.old outs.new p) }
         ensures same { owners.new ≡ owners.old }
     {
         prepare(
@@ -474,18 +418,43 @@ impl Surroundings {
         )
     }
 
+    // What an event that is no message leads to, on copies: nothing is sent for its station. Out of line, so that a message doesn't
+    // clear its locals.
+    #[inline(never)]
+    fn ready_without_message(
+        &self,
+        owners: &mut Owners,
+        event: &Event<'_>,
+        named: &Option<Slot>,
+    ) -> Result<Ready, StepFault>
+        requires other { is_message event.now ≡ false }
+        requires named { named.now ≡ slot_named self.now event.now }
+        requires fine { event_fault self.now event.now ≡ None }
+        requires rising { Rising known_id owners.old.strangers }
+        requires in_use { AreInUse owners.old.subscribers }
+        ensures leads { IfOk result (λ r. LeadsTo (world_of self.now owners.old) event.now r) }
+        ensures memory { IfErr result (λ fault. fault ≡ NoMemory) }
+        ensures same { owners.new ≡ owners.old }
+    {
+        let moves = Moves {
+            station: event.station(),
+            state: event.state(),
+            clock: self.clock_after(event),
+        };
+        let mut outs = Outs::new(self.alloc);
+        let prepared = self.prepared(owners, event.destination(named), &mut outs)?;
+        Ok(Ready {
+            moves,
+            prepared,
+            outs,
+        })
+    }
+
     // What an event leads to, on copies.
     fn ready<'a>(&'a self, owners: &mut Owners, event: &'a Event<'_>) -> Result<Ready, StepFault>
         requires rising { Rising known_id owners.old.strangers }
         requires in_use { AreInUse owners.old.subscribers }
-        ensures reply { IfOk result (λ r. reply (world_of self.entry.now owners.old) event.entry.now ≡ Ok r.outs) }
-        ensures after { IfOk result
-            (λ r. ready_world r (world_of self.entry.now owners.old)
-            ≡ world_after (world_of self.entry.now owners.old) event.entry.now) }
-        ensures fits { IfOk result (λ r. IsFor r.prepared owners.old.strangers owners.old.subscribers) }
-        ensures in_time { IfOk result (λ r. IsInTime r.prepared self.entry.now.clock r.moves.clock) }
-        ensures order { IfOk result (λ r. AreInOrder r.outs) }
-        ensures accepted { OnOk result (event_fault self.entry.now event.entry.now ≡ None) }
+        ensures leads { IfOk result (λ r. LeadsTo (world_of self.entry.now owners.old) event.entry.now r) }
         ensures refused { IfErr result (λ fault. (event_fault self.entry.now event.entry.now ≡ Some fault)
             ⊎ ((fault ≡ NoMemory) × (event_fault self.entry.now event.entry.now ≡ None))) }
         ensures same { owners.new ≡ owners.old }
@@ -494,14 +463,17 @@ impl Surroundings {
         if let Some(fault) = self.fault_of(event, &named) {
             return Err(fault);
         }
+        let Event::In(station, octets) = event else {
+            return self.ready_without_message(owners, event, &named);
+        };
         let clock = self.clock_after(event);
         let Outcome {
             state,
             sent,
             destination,
-        } = self.outcome(event, &named)?;
+        } = self.outcome(*station, octets)?;
         let moves = Moves {
-            station: event.station(),
+            station: Some(*station),
             state,
             clock,
         };
@@ -514,35 +486,11 @@ impl Surroundings {
         })
     }
 
-    // What was prepared is so.
-    fn take(&mut self, owners: &mut Owners, ready: Ready) -> Result<Outs, StepFault>
-        requires fits { IsFor ready.prepared owners.old.strangers owners.old.subscribers }
-        requires clock { owners.old.clock ≤ self.old.clock }
-        requires in_time { IsInTime ready.prepared self.old.clock ready.moves.clock }
-        requires timed { Every IsKnownTimed (settled_strangers ready.prepared owners.old.strangers) }
-        requires apart { IdsApart (settled_strangers ready.prepared owners.old.strangers)
-            (settled_subscribers ready.prepared owners.old.subscribers) }
-        ensures after { OnOk result (world_of self.new owners.new ≡ ready_world ready (world_of self.old owners.old)) }
-        ensures clock { OnOk result (owners.new.clock ≤ self.new.clock) }
-        ensures outs { IfOk result (λ outs. outs ≡ ready.outs) }
-        ensures short { IfOk result (λ outs. AreShort outs) }
-        ensures memory { IfErr result (λ fault. fault ≡ NoMemory) }
-        ensures err { OnErr result (self.new ≡ self.old) }
-        ensures err_strangers { OnErr result (owners.new.strangers ≡ owners.old.strangers) }
-        ensures err_subscribers { OnErr result (owners.new.subscribers ≡ owners.old.subscribers) }
-        ensures err_clock { OnErr result (owners.new.clock ≡ owners.old.clock) }
+    // The station that an event was of has its new state, and the clock is the one after it.
+    fn move_on(&mut self, moves: Moves)
+        ensures { self.new ≡ ready_sight moves self.old }
     {
-        no_two_share_an_id();
-        let Ready {
-            moves,
-            prepared,
-            outs,
-        } = ready;
-        settle(owners, prepared)?;
         settle_station(&mut self.stations, moves.station, moves.state);
         self.clock = moves.clock;
-        // The caller is told this of all messages.
-        outs.are_short();
-        Ok(outs)
     }
 }

@@ -1,4 +1,4 @@
-use Rattle.std.proofs.Common.{◌++◌, List, sym, ◌∙◌, ap}
+use Rattle.std.proofs.Common.{◌++◌, List, ◌∙◌, ap}
 use Rattle.mme_types.specs.Events.{Tick}
 use Rattle.mme_routing.specs.Destinations.{for_all}
 use Rattle.mme_answering.specs.declared.out.Out.{Out}

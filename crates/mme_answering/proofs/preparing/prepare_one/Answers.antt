@@ -6,24 +6,25 @@ use Rattle.mme_answering.proofs.Calling.{call_past}
 use Rattle.mme_answering.proofs.Stepping.{called_after, called_sends}
 use Rattle.mme_answering.proofs.preparing.prepare_one.Goals as goal
 
-pub returns-then-place-len-clause-after : goal.returns-then-place-len-clause-after
-returns-then-place-len-clause-after c =
-    sym (call_past c.args.slot (item_of c.args.event.now c.args.stations.now) c.args.subscribers.now.subscribers (omega (arith, c.if-place-len.true, c.len.ensures.value, c.get-place.ensures.value))).0
+pub returns-then-place-len-clause-prepares : goal.returns-then-place-len-clause-prepares
+returns-then-place-len-clause-prepares c =
+    let ws = c.args.subscribers.now.subscribers in
+    let item = item_of c.args.event.now c.args.stations.now in
+    let past = call_past c.args.slot item ws (omega (arith, c.if-place-len.true, c.len.ensures.value, c.get-place.ensures.value)) in
+    record {
+      sends = sym (ap (λ os. c.args.outs.now ++ os) past.1 ∙ append-nil c.args.outs.now);
+      subscribers = sym past.0;
+      fits = tt;
+    }
 
-pub returns-then-place-len-clause-sends : goal.returns-then-place-len-clause-sends
-returns-then-place-len-clause-sends c =
-    sym (ap (λ zs. c.args.outs.now ++ zs) (call_past c.args.slot (item_of c.args.event.now c.args.stations.now) c.args.subscribers.now.subscribers (omega (arith, c.if-place-len.true, c.len.ensures.value, c.get-place.ensures.value))).1 ∙ append-nil c.args.outs.now)
-
-pub returns-clause-after : goal.returns-clause-after
-returns-clause-after c =
+pub returns-clause-prepares : goal.returns-clause-prepares
+returns-clause-prepares c =
     let ws = c.args.subscribers.now.subscribers in
     let item = item_of c.args.event.now c.args.stations.now in
     let one = c.in_ok-one.one in
-    ap (λ n. with_solo n one.solo ws) c.in_ok-one.ensures.slot ∙ called_after c.args.slot item ws one.solo c.in_ok-one.ensures.after
-
-pub returns-clause-sends : goal.returns-clause-sends
-returns-clause-sends c =
-    let ws = c.args.subscribers.now.subscribers in
-    let item = item_of c.args.event.now c.args.stations.now in
-    c.in_ok-one.ensures.sends
-    ∙ ap (λ zs. c.args.outs.now ++ zs) (called_sends c.args.slot item ws c.in_ok-one.one.solo c.in_ok-one.ensures.after)
+    let done = c.in_ok-one.ensures in
+    record {
+      sends = done.sends ∙ ap (λ os. c.args.outs.now ++ os) (called_sends c.args.slot item ws one.solo done.after);
+      subscribers = ap (λ n. with_solo n one.solo ws) done.slot ∙ called_after c.args.slot item ws one.solo done.after;
+      fits = (omega (arith, done.slot, c.if-place-len.false, c.len.ensures.value, c.get-place.ensures.value), done.counting);
+    }

@@ -1,37 +1,33 @@
 use Rattle.std.proofs.Common.{◌++◌, sym, ◌∙◌, ap, refl}
 use Rattle.std.proofs.lemmas.List.{append-nil}
-use Rattle.stranger_machine.specs.Machine.{stranger_step}
+use Rattle.std.proofs.lemmas.Result.{IfOk-weaker}
 use Rattle.mme_answering.proofs.Calling.{after_nothing, sends_nothing}
+use Rattle.mme_answering.proofs.Parts.{passed_over, stepped}
 use Rattle.mme_answering.proofs.preparing.prepare_own.Goals as goal
 
-pub returns-in-Nobody-clause-sends : goal.returns-in-Nobody-clause-sends
-returns-in-Nobody-clause-sends c =
-    rw c.in-Nobody.is (sym (ap (λ zs. c.args.outs.now ++ zs) (sends_nothing 0 _ c.args.subscribers.now.subscribers (λ m le. refl)) ∙ append-nil c.args.outs.now))
+pub returns-in-Nobody-clause-prepares : goal.returns-in-Nobody-clause-prepares
+returns-in-Nobody-clause-prepares c =
+    let ws = c.args.subscribers.now.subscribers in
+    let outs = c.args.outs.now in
+    rw c.in-Nobody.is (record {
+      sends = sym (ap (λ os. outs ++ os) (sends_nothing 0 _ ws (λ m le. refl)) ∙ append-nil outs);
+      strangers = refl;
+      subscribers = sym (after_nothing 0 _ ws (λ m le. refl));
+      fits = tt;
+      passing = tt;
+    })
 
-pub returns-in-Nobody-clause-subscribers : goal.returns-in-Nobody-clause-subscribers
-returns-in-Nobody-clause-subscribers c =
-    rw c.in-Nobody.is (sym (after_nothing 0 _ c.args.subscribers.now.subscribers (λ m le. refl)))
+pub returns-in-Some-clause-prepares : goal.returns-in-Some-clause-prepares
+returns-in-Some-clause-prepares c =
+    rw c.in-Subscriber.is (stepped _ _ _ _ _ _ _ _ _ c.in-Some.is c.in_ok-stepped-in-Subscriber.ensures.prepares)
 
-pub returns-in-Beginner-clause-sends : goal.returns-in-Beginner-clause-sends
-unfolding stranger_step
-returns-in-Beginner-clause-sends c = rw c.in-Beginner.is c.prepare_beginner.ensures.sends
+pub returns-in-None-clause-prepares : goal.returns-in-None-clause-prepares
+returns-in-None-clause-prepares c =
+    rw c.in-Subscriber.is (passed_over _ _ _ _ _ _ _ _ c.in-None.is c.in_ok-stepped-in-Subscriber.ensures.prepares)
 
-pub returns-in-Beginner-clause-strangers : goal.returns-in-Beginner-clause-strangers
-unfolding stranger_step
-returns-in-Beginner-clause-strangers c = rw c.in-Beginner.is c.prepare_beginner.ensures.strangers
+pub returns-in-Beginner-clause-prepares : goal.returns-in-Beginner-clause-prepares
+returns-in-Beginner-clause-prepares c =
+    rw c.in-Beginner.is (IfOk-weaker c.prepare_beginner.result _ _ (λ p h. h c.args.provision.now.profiles) c.prepare_beginner.ensures.prepares)
 
-pub returns-in-Beginner-clause-subscribers : goal.returns-in-Beginner-clause-subscribers
-unfolding stranger_step
-returns-in-Beginner-clause-subscribers c = rw c.in-Beginner.is c.prepare_beginner.ensures.subscribers
-
-pub returns-in-Stranger-clause-sends : goal.returns-in-Stranger-clause-sends
-unfolding stranger_step
-returns-in-Stranger-clause-sends c = rw c.in-Stranger.is c.prepare_stranger.ensures.sends
-
-pub returns-in-Stranger-clause-strangers : goal.returns-in-Stranger-clause-strangers
-unfolding stranger_step
-returns-in-Stranger-clause-strangers c = rw c.in-Stranger.is c.prepare_stranger.ensures.strangers
-
-pub returns-in-Stranger-clause-subscribers : goal.returns-in-Stranger-clause-subscribers
-unfolding stranger_step
-returns-in-Stranger-clause-subscribers c = rw c.in-Stranger.is c.prepare_stranger.ensures.subscribers
+pub returns-in-Stranger-clause-prepares : goal.returns-in-Stranger-clause-prepares
+returns-in-Stranger-clause-prepares c = rw c.in-Stranger.is c.prepare_stranger.ensures.prepares

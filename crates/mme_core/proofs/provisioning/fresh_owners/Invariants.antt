@@ -9,8 +9,8 @@ invariant-loop-place l = record {
   clock : l.owners.clock ≡ 0;
   strangers : l.owners.strangers ≡ [];
   made : l.owners.subscribers
-      ++ fresh_subscribers l.network l.place (drop l.place l.fn.provision.profiles) l.fn.provision.vectors
-      ≡ fresh_subscribers l.network 0 l.fn.provision.profiles l.fn.provision.vectors;
+      ++ fresh_subscribers l.fn.network l.place (drop l.place l.fn.provision.profiles) l.fn.provision.vectors
+      ≡ fresh_subscribers l.fn.network 0 l.fn.provision.profiles l.fn.provision.vectors;
   count : length l.owners.subscribers ≡ l.place;
   profiles : l.provision.profiles ≡ l.fn.provision.profiles;
   left : (k : ℕ) → l.place ≤ k → vectors_at k l.provision.vectors ≡ vectors_at k l.fn.provision.vectors;

@@ -1,4 +1,4 @@
-use Rattle.std.proofs.Common.{◌≡◌, ◌+◌, [], Ok, sym, ◌∙◌, ap, subst, arith}
+use Rattle.std.proofs.Common.{◌≡◌, [], Ok, sym, ◌∙◌, ap, subst, arith}
 use Rattle.mme_core.specs.declared.event.Event.TheVariants.{Tick}
 use Rattle.mme_core.specs.Quiet.{IsQuiet}
 use Rattle.mme_core.specs.Sight.{Sight}
