@@ -59,6 +59,14 @@ abbrev pub told : Result (Unit {0}) PlayFault → Result (Unit {0}) Refusal
 told (Ok _) = Ok tt
 told (Err fault) = Err (of_play fault)
 
+-- the refusal of what the start of an MME answered: where memory ran out, what was provisioned is lost
+abbrev pub told_of_start : Result (Unit {0}) PlayFault → Result (Unit {0}) Refusal
+told_of_start (Ok _) = Ok tt
+told_of_start (Err play.NoMemory) = Err Lost
+told_of_start (Err (play.Trace number fault)) = Err (of_line fault)
+told_of_start (Err play.Read) = Err NoMemory
+told_of_start (Err play.Write) = Err NoMemory
+
 -- a field of a line, as an argument
 abbrev pub of_field : {A : Type 0} → Result A TraceFault → Result A Refusal
 of_field (Ok x) = Ok x

@@ -1,12 +1,11 @@
 -- What each call makes of a session.
-use Rattle.std.specs.Prelude.{◌≡◌, ⊤, ◌⊎◌, ℕ, List, [], ◌∷◌, length, replicate, Option, Some, None, Result, Ok, Err}
-use Rattle.identity_slots.specs.Provisioned.{slot_of_imsi}
+use Rattle.std.specs.Prelude.{◌≡◌, ◌⊎◌, ℕ, List, [], ◌∷◌, length, replicate, Option, Some, None, Result, Ok, Err}
 use Rattle.emm_machine.specs.declared.subscriber.States.{States}
 use Rattle.mme_answering.specs.declared.out.Out.{Out}
 use Rattle.mme_core.specs.declared.event.Event.{Event}
 use Rattle.mme_core.specs.declared.event.Event.TheVariants as event
 use Rattle.mme_core.specs.declared.event.StepFault.{StepFault}
-use Rattle.mme_core.specs.World.{World, events_taken, fresh_world, replies, replies_given, reply, world_after, world_run}
+use Rattle.mme_core.specs.World.{World, events_taken, replies, replies_given, reply, world_after, world_run}
 use Rattle.mme_core.specs.Faults.{HasEachFault}
 use Rattle.trace_words.specs.declared.line.Line.{Line}
 use Rattle.trace_words.specs.declared.line.Line.TheVariants.{Skip, Mme, Sub, Vec, Up, Lost, In, Tick, Data, Cancel, Show}
@@ -67,12 +66,6 @@ started s = of_field (running s.progress) >>= (λ world. Ok (with_world s world)
 -- what is left where memory ran out while the MME was made: nothing is provisioned
 abbrev pub lost : Session → Session
 lost s = record { progress = Nothing; replies = s.replies }
-
--- something is provisioned, and the MME isn't made
-abbrev pub IsProvisioning : Progress → Type 0
-IsProvisioning Nothing = ⊥
-IsProvisioning (Provisioning config provisioned) = ⊤
-IsProvisioning (Running world) = ⊥
 
 -- what the start leaves
 abbrev pub Starts : Result Session Refusal → Session → Result (Unit {0}) Refusal → Session → Type 0

@@ -1,7 +1,7 @@
 //! Why a call is refused.
 
 ghost use Rattle.std.specs.Prelude.{◌≡◌};
-ghost use Rattle.c_session.specs.Refusals.{number_of, of_line, of_play, of_step, told};
+ghost use Rattle.c_session.specs.Refusals.{number_of, of_line, of_play, of_step, told, told_of_start};
 
 use mme_core::StepFault;
 use trace_progress::PlayFault;
@@ -99,6 +99,17 @@ pub(crate) fn told(answer: Result<(), PlayFault>) -> Result<(), Refusal>
 {
     match answer {
         Ok(()) => Ok(()),
+        Err(fault) => Err(of_play(fault)),
+    }
+}
+
+/// What the start of an MME answered: where memory ran out, what was provisioned is lost.
+pub(crate) fn told_of_start(answer: Result<(), PlayFault>) -> Result<(), Refusal>
+    ensures { result ≡ told_of_start answer }
+{
+    match answer {
+        Ok(()) => Ok(()),
+        Err(PlayFault::NoMemory) => Err(Refusal::Lost),
         Err(fault) => Err(of_play(fault)),
     }
 }

@@ -4,19 +4,18 @@ ghost use Rattle.std.specs.Prelude.{◌≡◌, option_map};
 ghost use Rattle.trace_progress.specs.Effects.{configured, in_event, subscriber_added, vector_given};
 ghost use Rattle.c_session.specs.Asked.{slot_of, states_of};
 ghost use Rattle.c_session.specs.Kept.{count_at, message_at};
-ghost use Rattle.c_session.specs.Sessions.{IsProvisioning, Leaves, Starts, added, begun, cancelled, data_waits, down, given, happened, heard, nothing, started, up, with_effect};
+ghost use Rattle.c_session.specs.Sessions.{Leaves, Starts, added, begun, cancelled, data_waits, down, given, happened, heard, nothing, started, up, with_effect};
 
 use crate::arguments::{imsi_of, network_of, profile_of, station_of, vector_of};
-use crate::refusal::{Refusal, of_step, told};
+use crate::refusal::{Refusal, of_step, told, told_of_start};
 use crate::replies::Replies;
 use emm_machine::States;
 use identity_slots::{Profile, Slot, StationNumber, Vector};
-use mme_core::{Event, Mme, Out};
+use mme_core::{Event, Out};
 use mme_types::Network;
 use nas_elements::Imsi;
 use std::alloc::Global;
-use std::mem;
-use trace_progress::{Progress, add, give, start, states_of_imsi};
+use trace_progress::{Progress, add, give, run, start, states_of_imsi};
 
 /// What a handle holds.
 #[derive(Drop)]
@@ -110,35 +109,11 @@ impl Session {
 
     /// Makes the MME of what is provisioned, where it doesn't run yet. Order where nothing is, and then all is as it was; Lost where
     /// memory ran out, and then nothing is provisioned any more.
+    #[tactic(auto, using(crate::proofs::Left::starts_by_run))]
     pub fn start(&mut self, alloc: Global) -> Result<(), Refusal>
         ensures { Starts (started self.old) self.old result self.new }
     {
-        match &self.progress {
-            Progress::Running(_) => return Ok(()),
-            Progress::Nothing => return Err(Refusal::Order),
-            Progress::Provisioning(_, _) => {}
-        }
-        self.set_out(alloc)
-    }
-
-    /// Makes the MME of what is provisioned; else as `start`, but for an MME that runs, which is let go.
-    fn set_out(&mut self, alloc: Global) -> Result<(), Refusal>
-        requires { IsProvisioning self.old.progress }
-        ensures { Starts (started self.old) self.old result self.new }
-    {
-        let Progress::Provisioning(config, provision) = mem::replace(
-            &mut self.progress,
-            Progress::Nothing,
-        ) else {
-            return Err(Refusal::Lost);
-        };
-        match Mme::new(alloc, config, provision) {
-            Ok(mme) => {
-                self.progress = Progress::Running(mme);
-                Ok(())
-            }
-            Err(_) => Err(Refusal::Lost),
-        }
+        told_of_start(run(alloc, &mut self.progress, 0))
     }
 
     /// A station connects. BadNumber for a station above 127, NoMme, AlreadyUp, then NoMemory.

@@ -120,7 +120,7 @@ fn fault_in_provision(line: u64, fault: ProvisionFault) -> PlayFault
 }
 
 /// Makes the MME of what is provisioned, where it doesn't run yet. Order where nothing is, and then the progress is as it was;
-/// NoMemory last.
+/// NoMemory last, and then nothing is provisioned any more, since `Mme::new` takes what was.
 pub fn run(alloc: Global, progress: &mut Progress, number: u64) -> Result<(), PlayFault>
     ensures runs { Runs number (running progress.old) result progress.new }
     ensures fault { IfErr (running progress.old) (λ fault. result ≡ Err (PlayFault.Trace number fault)) }
