@@ -1,5 +1,6 @@
 -- What an event and a question print.
 use Rattle.std.proofs.Common.{◌≡◌, ◌≢◌, ℕ, List, [], ◌∷◌, ◌++◌, Option, Some, None, Result, Ok, Err, Bor, codes, refl, sym, ap, ◌∙◌, append-nil}
+use Rattle.std.specs.Prelude.{is_ok, IsOk, IfErr}
 use Rattle.identity_slots.specs.declared.profile.Profile.{Profile}
 use Rattle.identity_slots.specs.declared.profile.Vector.{Vector}
 use Rattle.emm_machine.specs.declared.subscriber.States.{States}
@@ -148,11 +149,25 @@ pub Prints-provisioned : FirstWordTells → (old new : Progress) (before after l
 Prints-provisioned law old new before after l line reads some effect e =
     Prints-line law old new before after after l [] line reads some effect e (AddsComments-none after)
 
+-- a line that is taken has no fault
+pub IsOk-effect : (effect same : Effect) (done : Progress × List ℕ) → effect ≡ same → same ≡ Ok done → IsOk effect
+IsOk-effect effect same done e h = ap (λ (v : Effect). is_ok v) (e ∙ h)
+
+abbrev refused : PlayFault → Result (Unit {0}) PlayFault
+refused fault = Err fault
+
+-- nor has one for which memory was wanting, since its fault would have come
+IsOk-unfaulted : (number : ℕ) (effect same : Effect) → effect ≡ same
+    → IfErr same (λ met. refused NoMemory ≡ refused (Trace number met)) → IsOk effect
+IsOk-unfaulted number effect (Ok done) e due = IsOk-effect effect (Ok done) done e refl
+IsOk-unfaulted number effect (Err met) e due = absurd (cc due)
+
 -- a line that is refused
 pub PrintsLine-fault : (number : ℕ) (line : Line) (effect : Effect) (old new : Progress) (out : List ℕ) (fault : PlayFault)
     → effect_of old line ≡ effect
-    → Acts number effect (Err fault) new [] → fault ≢ Write → PrintsLine number line old out (Err fault) new out
-PrintsLine-fault number line effect old new out (Trace place fault) e acts other = (e ∙ acts.0, acts.1, refl)
-PrintsLine-fault number line effect old new out NoMemory e acts other = tt
-PrintsLine-fault number line effect old new out Read e acts other = absurd acts
-PrintsLine-fault number line effect old new out Write e acts other = other refl
+    → Acts number effect (Err fault) new [] → fault ≢ Write → IfErr effect (λ met. refused fault ≡ refused (Trace number met))
+    → PrintsLine number line old out (Err fault) new out
+PrintsLine-fault number line effect old new out (Trace place fault) e acts other due = (e ∙ acts.0, acts.1, refl)
+PrintsLine-fault number line effect old new out NoMemory e acts other due = IsOk-unfaulted number (effect_of old line) effect e due
+PrintsLine-fault number line effect old new out Read e acts other due = absurd acts
+PrintsLine-fault number line effect old new out Write e acts other due = absurd (other refl)

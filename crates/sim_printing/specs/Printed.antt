@@ -1,5 +1,5 @@
 -- The output of a simulation: a trace whose comments are its answers.
-use Rattle.std.specs.Prelude.{◌≡◌, ℕ, ◌+◌, ◌==◌, ⊤, List, [], ◌∷◌, ◌++◌, Option, Some, None, Result, Ok, Err, if◌then◌else◌}
+use Rattle.std.specs.Prelude.{◌≡◌, ℕ, ◌+◌, ◌==◌, ⊤, List, [], ◌∷◌, ◌++◌, Option, Some, None, Result, Ok, Err, IsOk, if◌then◌else◌}
 use Rattle.mme_core.specs.World.{World, reply}
 use Rattle.mme_core.specs.declared.event.Event.{Event}
 use Rattle.mme_core.specs.declared.event.Event.TheVariants as event
@@ -59,12 +59,14 @@ abbrev pub PrintsFrom : World → List ℕ → World → List ℕ → List (Resu
 PrintsFrom old before new after kept =
     (progress : Progress) → running progress ≡ Ok old → Prints progress before (Running new) after kept
 
--- what the trace line of that number leaves: it is printed with its answers, or at its fault nothing is
+-- what the trace line of that number leaves, which writes nothing: it is printed, or at its fault nothing is, and memory is wanting
+-- only where it has none
 abbrev pub PrintsLine : ℕ → Line → Progress → List ℕ → Result (Unit {0}) PlayFault → Progress → List ℕ → Type 0
-PrintsLine number line old before (Ok _) new after = Prints old before new after (kept_line line)
+PrintsLine number line old before (Ok _) new after =
+    (effect_of old line ≡ Ok (new, [])) × Prints old before new after (kept_line line)
 PrintsLine number line old before (Err (Trace place fault)) new after =
     (effect_of old line ≡ Err fault) × (place ≡ number) × (after ≡ before)
-PrintsLine number line old before (Err NoMemory) new after = ⊤
+PrintsLine number line old before (Err NoMemory) new after = IsOk (effect_of old line)
 PrintsLine number line old before (Err Read) new after = ⊥
 PrintsLine number line old before (Err Write) new after = ⊥
 

@@ -1,6 +1,6 @@
 //! Answers and remarks, as comments of the trace that is printed.
 
-ghost use Rattle.std.specs.Prelude.{◌≡◌, ◌≢◌, ◌≤◌, ◌++◌, ◌∷◌, [], OnOk, codes};
+ghost use Rattle.std.specs.Prelude.{◌≡◌, ◌≢◌, ◌≤◌, ◌++◌, ◌∷◌, [], OnOk, OnErr, codes};
 ghost use Rattle.std.specs.Fmt.{decimal};
 ghost use Rattle.s1ap_pdus.specs.Pdus.{longest};
 ghost use Rattle.trace_answers.specs.Lines.{octets_said};
@@ -91,18 +91,20 @@ fn push_marked(text: &[u8], out: &mut Vec<u8>) -> Result<(), AllocError>
     out.extend_from_slice(text)
 }
 
-/// Appends the line `## skipped`, which answers nothing: an act that can't be done.
+/// Appends the line `## skipped`, which answers nothing: an act that can't be done. Where memory is refused the output stays.
 pub fn push_skipped(out: &mut Vec<u8>) -> Result<(), AllocError>
-    ensures { OnOk result (AddsComments out.old.items out.new.items []) }
+    ensures added { OnOk result (AddsComments out.old.items out.new.items []) }
+    ensures err { OnErr result (out.new.items ≡ out.old.items) }
 {
     comments_are_not_kept();
     out.extend_from_slice(b"## skipped\n")?;
     Ok(())
 }
 
-/// Appends the line `## dropped N`, which answers nothing: N events were left out.
+/// Appends the line `## dropped N`, which answers nothing: N events were left out. Where memory is refused the output stays.
 pub fn push_dropped(alloc: Global, count: usize, out: &mut Vec<u8>) -> Result<(), AllocError>
-    ensures { OnOk result (AddsComments out.old.items out.new.items []) }
+    ensures added { OnOk result (AddsComments out.old.items out.new.items []) }
+    ensures err { OnErr result (out.new.items ≡ out.old.items) }
 {
     comments_are_not_kept();
     push_count(alloc, count, out)?;
@@ -110,7 +112,8 @@ pub fn push_dropped(alloc: Global, count: usize, out: &mut Vec<u8>) -> Result<()
 }
 
 fn push_count(alloc: Global, count: usize, out: &mut Vec<u8>) -> Result<(), AllocError>
-    ensures { OnOk result (out.new.items ≡ out.old.items ++ (codes "## dropped " ++ decimal count ++ codes "\n")) }
+    ensures added { OnOk result (out.new.items ≡ out.old.items ++ (codes "## dropped " ++ decimal count ++ codes "\n")) }
+    ensures err { OnErr result (out.new.items ≡ out.old.items) }
 {
     let text = format!(in alloc; "## dropped {count}\n")?;
     out.extend_from_slice(text.as_bytes())

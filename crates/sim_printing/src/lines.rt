@@ -21,7 +21,8 @@ use trace_words::{LONGEST_LINE, write_in, write_lost, write_up};
 
 // ---- provisioning
 
-/// Begins the provisioning, and appends the line as it was read. A fault is that of the line of that number.
+/// Begins the provisioning, and appends the line as it was read. A fault is that of the line of that number, and comes whatever
+/// memory there is.
 pub fn play_mme(
     alloc: Global,
     progress: &mut Progress,
@@ -44,7 +45,8 @@ pub fn play_mme(
     }
 }
 
-/// Provisions a subscriber, and appends the line as it was read. A fault is that of the line of that number.
+/// Provisions a subscriber, and appends the line as it was read. A fault is that of the line of that number, and comes whatever
+/// memory there is.
 pub fn play_sub(
     progress: &mut Progress,
     number: u64,
@@ -66,7 +68,8 @@ pub fn play_sub(
     }
 }
 
-/// Gives a subscriber a vector, and appends the line as it was read. A fault is that of the line of that number.
+/// Gives a subscriber a vector, and appends the line as it was read. A fault is that of the line of that number, and comes
+/// whatever memory there is.
 pub fn play_vec(
     progress: &mut Progress,
     number: u64,

@@ -1,5 +1,5 @@
 -- The lines of a script, played one after another.
-use Rattle.std.proofs.Common.{◌≡◌, ℕ, ◌+◌, ◌-◌, List, [], ◌∷◌, ◌++◌, length, take, None, Result, Ok, Err, inl, inr, refl, sym, ap, subst, ◌∙◌, append-nil, arith}
+use Rattle.std.proofs.Common.{◌≡◌, ℕ, ◌+◌, ◌-◌, Bool, List, [], ◌∷◌, ◌++◌, length, take, None, Result, Ok, Err, inl, inr, refl, sym, ap, subst, ◌∙◌, append-nil, arith}
 use Rattle.std.proofs.lemmas.List.{take_all, take-append-le}
 use Rattle.trace_words.specs.declared.line.Line.{Line}
 use Rattle.trace_words.specs.declared.fault.TraceFault.{TraceFault}
@@ -10,6 +10,7 @@ use Rattle.trace_progress.specs.declared.progress.Progress.{Progress}
 use Rattle.trace_progress.specs.declared.progress.Progress.TheVariants.{Nothing}
 use Rattle.trace_progress.specs.Text.{prepended, play, played_text, lines_of, played_of, breaks}
 use Rattle.trace_progress.specs.TextLaws.{lines_of-nil, play-nil, prepended-ends}
+use Rattle.trace_lines.specs.trace_player.Watching.{failed_after_play}
 use Rattle.trace_lines.specs.OneLine.{IsOfLine}
 use Rattle.trace_lines.specs.Lines.{PlaysAll, StopsAt, PlaysEach}
 use Rattle.sim_lines.specs.sim_printing.Printed.{answers_in, Speaks, Prints, PrintsScriptLine}
@@ -41,6 +42,15 @@ WritesLine-fault number kept old new before after (Trace line fault) h = refl
 WritesLine-fault number kept old new before after NoMemory h = tt
 WritesLine-fault number kept old new before after Write h = absurd h
 WritesLine-fault number kept old new before after Read h = absurd h
+
+-- no script line's fault is that of a write
+pub failed-script_line : (failed : Bool) (number : ℕ) (kept : List (Result Line TraceFault)) (old new : Progress)
+    (before after : List ℕ) (fault : PlayFault)
+    → PrintsScriptLine number kept old before (Err fault) new after → failed ≡ failed_after_play {A = Unit {0}} failed (Err fault)
+failed-script_line failed number kept old new before after (Trace line fault) h = refl
+failed-script_line failed number kept old new before after NoMemory h = refl
+failed-script_line failed number kept old new before after Write h = absurd h
+failed-script_line failed number kept old new before after Read h = absurd h
 
 pub PrintsScriptLine-place : (number : ℕ) (kept : List (Result Line TraceFault)) (old new : Progress) (before after : List ℕ)
     (fault : PlayFault) → PrintsScriptLine number kept old before (Err fault) new after → IsOfLine number (Err fault)

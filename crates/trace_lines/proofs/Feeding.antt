@@ -1,10 +1,11 @@
 -- Pieces of a text, one after another: the lines that they end, and what is played of them.
-use Rattle.std.proofs.Common.{◌≡◌, ℕ, ◌+◌, ◌<◌, ◌≤◌, List, [], ◌∷◌, ◌++◌, length, take, drop, Result, Ok, Err, inl, inr, refl, sym, ap, subst, ◌∙◌, append_assoc, append-nil, length-append, arith}
+use Rattle.std.proofs.Common.{◌≡◌, ℕ, ◌+◌, ◌<◌, ◌≤◌, Bool, List, [], ◌∷◌, ◌++◌, length, take, drop, Result, Ok, Err, inl, inr, refl, sym, ap, subst, ◌∙◌, append_assoc, append-nil, length-append, arith}
 use Rattle.std.proofs.lemmas.List.{take-append-drop}
 use Rattle.trace_progress.specs.declared.fault.PlayFault.{PlayFault}
 use Rattle.trace_progress.specs.declared.fault.PlayFault.TheVariants.{Trace, Read, Write, NoMemory}
 use Rattle.trace_progress.specs.Text.{breaks, lines_of}
 use Rattle.trace_progress.specs.TextLaws.{breaks-append, lines_of-at, lines_of-front, lines_of-last, lines_of-nil}
+use Rattle.trace_player.specs.Watching.{failed_after_play}
 use Rattle.trace_lines.specs.declared.under_way.LineUnderWay.{LineUnderWay}
 use Rattle.trace_lines.specs.OneLine.{LineRelation, IsOfLine}
 use Rattle.trace_lines.specs.Parts.{GoesOnBy, TakesPart}
@@ -81,6 +82,14 @@ IsSeen-own number next (Trace line fault) lt place = inr (omega (arith, lt, plac
 IsSeen-own number next NoMemory lt place = tt
 IsSeen-own number next Write lt place = tt
 IsSeen-own number next Read lt place = absurd place
+
+-- a part of a line that isn't taken is not written either
+pub failed-part : (failed : Bool) (number : ℕ) (old piece left : List ℕ) (fault : PlayFault)
+    → TakesPart number old piece (Err fault) left → failed ≡ failed_after_play {A = ℕ} failed (Err fault)
+failed-part failed number old piece left (Trace line fault) h = refl
+failed-part failed number old piece left NoMemory h = refl
+failed-part failed number old piece left Write h = absurd h
+failed-part failed number old piece left Read h = absurd h
 
 module _ {S : Type 0} (plays : LineRelation S) where
   -- ---- lines that are played

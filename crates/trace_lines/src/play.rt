@@ -1,9 +1,10 @@
 //! A text played from a reader to a writer.
 
-ghost use Rattle.std.specs.Prelude.{◌≡◌, ◌⊎◌, ◌<◌, ◌≤◌, ◌+◌, ◌^◌, length, true, OnOk, IsErrOf};
+ghost use Rattle.std.specs.Prelude.{◌≡◌, ◌⊎◌, ◌<◌, ◌≤◌, ◌+◌, ◌^◌, length, true, false, OnOk, IsErrOf};
 ghost use Rattle.std.specs.Io.KnownBytes.{IsAtEnd};
 ghost use Rattle.trace_progress.specs.Acts.{GrowsBy};
 ghost use Rattle.trace_progress.specs.Text.{lines_of};
+ghost use Rattle.trace_player.specs.Watching.{failed_after_play};
 ghost use Rattle.trace_lines.specs.OneLine.{IsOfLine};
 ghost use Rattle.trace_lines.specs.Lines.{Feeds, IsReady, PlaysEach, PlaysRead};
 
@@ -32,7 +33,8 @@ pub fn play_lines<P: PlaysLines, R: Read, W: Write>(
     ensures end { OnOk result (IsAtEnd (R.remaining reader.new.inner)) }
     ensures read { reader.old.calls ≡ 0 → IsErrOf result PlayFault.Read
         → (reader.new.failed ≡ true) ⊎ (MOST_TURNS ≤ reader.new.calls) }
-    ensures write { IsErrOf result PlayFault.Write → writer.new.failed ≡ true }
+    ensures read_failed { reader.old.failed ≡ false → reader.new.failed ≡ true → IsErrOf result PlayFault.Read }
+    ensures write_failed { writer.new.failed ≡ failed_after_play writer.old.failed result }
 {
     let mut line = LineUnderWay::new(alloc);
     let mut chunk = [0u8; PIECE];
@@ -63,7 +65,7 @@ fn one_turn<P: PlaysLines, W: Write>(
     requires counted { line.old.number + length piece.now < 2 ^ 64 }
     ensures feeds { GrowsBy (W.contents writer.old.inner) (W.contents writer.new.inner)
         (Feeds P.plays player.old line.old piece.now result player.new line.new) }
-    ensures write { IsErrOf result PlayFault.Write → writer.new.failed ≡ true }
+    ensures write_failed { writer.new.failed ≡ failed_after_play writer.old.failed result }
 {
     let result = line.feed(alloc, player, piece, writer);
     if writer.flush().is_err() {
@@ -84,7 +86,7 @@ fn last_turn<P: PlaysLines, W: Write>(
     ensures finishes { GrowsBy (W.contents writer.old.inner) (W.contents writer.new.inner)
         (PlaysEach P.plays player.old line.old.number (lines_of line.old.octets.items) result) }
     ensures fault { IsOfLine line.old.number result }
-    ensures write { IsErrOf result PlayFault.Write → writer.new.failed ≡ true }
+    ensures write_failed { writer.new.failed ≡ failed_after_play writer.old.failed result }
 {
     let result = line.finish(alloc, player, writer);
     if writer.flush().is_err() {

@@ -1,7 +1,8 @@
 //! What plays a text line by line.
 
-ghost use Rattle.std.specs.Prelude.{◌≡◌, true, IsErrOf};
+ghost use Rattle.std.specs.Prelude.{◌≡◌};
 ghost use Rattle.trace_progress.specs.Acts.{GrowsBy};
+ghost use Rattle.trace_player.specs.Watching.{failed_after_play};
 ghost use Rattle.trace_progress.specs.Text.{breaks};
 ghost use Rattle.trace_lines.specs.OneLine.{IsOfLine, LineRelation};
 
@@ -15,7 +16,8 @@ pub trait PlaysLines {
     ghost plays: { LineRelation Self };
 
     /// Plays the line of that number, given without its LF, and writes what comes of it. The fault is that of the line; or it is
-    /// `Write` where the writer failed, or `NoMemory`. Then some of what comes of the line may have been written.
+    /// `Write` where a call of the writer failed, and only there, or `NoMemory`. Then some of what comes of the line may have been
+    /// written.
     fn play_line<W: Write>(
         &mut self,
         alloc: Global,
@@ -27,5 +29,5 @@ pub trait PlaysLines {
         ensures played { GrowsBy (W.contents writer.old.inner) (W.contents writer.new.inner)
             (plays self.old number text.now result self.new) }
         ensures fault { IsOfLine number result }
-        ensures write { IsErrOf result PlayFault.Write → writer.new.failed ≡ true };
+        ensures write_failed { writer.new.failed ≡ failed_after_play writer.old.failed result };
 }

@@ -1,7 +1,8 @@
 //! The lines of a text, as its octets come.
 
-ghost use Rattle.std.specs.Prelude.{◌≡◌, ◌<◌, ◌+◌, [], ◌^◌, length, OnOk, IsErrOf, true};
+ghost use Rattle.std.specs.Prelude.{◌≡◌, ◌<◌, ◌+◌, [], ◌^◌, length, OnOk};
 ghost use Rattle.trace_progress.specs.Acts.{GrowsBy};
+ghost use Rattle.trace_player.specs.Watching.{failed_after_play};
 ghost use Rattle.trace_progress.specs.Text.{breaks, lines_of};
 ghost use Rattle.trace_lines.specs.Parts.{LiesWhole};
 ghost use Rattle.trace_lines.specs.OneLine.{IsOfLine};
@@ -46,7 +47,7 @@ impl LineUnderWay {
         requires counted { self.old.number + length piece.now < 2 ^ 64 }
         ensures feeds { GrowsBy (W.contents writer.old.inner) (W.contents writer.new.inner)
             (Feeds P.plays player.old self.old piece.now result player.new self.new) }
-        ensures write { IsErrOf result PlayFault.Write → writer.new.failed ≡ true }
+        ensures write_failed { writer.new.failed ≡ failed_after_play writer.old.failed result }
     {
         let mut rest = piece;
         while rest.len() > 0 {
@@ -71,7 +72,7 @@ impl LineUnderWay {
         requires counted { self.old.number + length piece.now < 2 ^ 64 }
         ensures feeds { GrowsBy (W.contents writer.old.inner) (W.contents writer.new.inner)
             (FeedsFront P.plays player.old self.old piece.now result player.new self.new) }
-        ensures write { IsErrOf result PlayFault.Write → writer.new.failed ≡ true }
+        ensures write_failed { writer.new.failed ≡ failed_after_play writer.old.failed result }
     {
         match whole_line(self.octets.as_slice(), piece) {
             Some(end) => self.take_whole(alloc, player, piece, end, writer),
@@ -92,7 +93,7 @@ impl LineUnderWay {
         requires counted { self.old.number + length piece.now < 2 ^ 64 }
         ensures feeds { GrowsBy (W.contents writer.old.inner) (W.contents writer.new.inner)
             (FeedsFront P.plays player.old self.old piece.now result player.new self.new) }
-        ensures write { IsErrOf result PlayFault.Write → writer.new.failed ≡ true }
+        ensures write_failed { writer.new.failed ≡ failed_after_play writer.old.failed result }
     {
         match player.play_line(alloc, self.number, &piece[..end], writer) {
             Ok(()) => {
@@ -116,7 +117,7 @@ impl LineUnderWay {
         requires counted { self.old.number + length piece.now < 2 ^ 64 }
         ensures feeds { GrowsBy (W.contents writer.old.inner) (W.contents writer.new.inner)
             (FeedsFront P.plays player.old self.old piece.now result player.new self.new) }
-        ensures write { IsErrOf result PlayFault.Write → writer.new.failed ≡ true }
+        ensures write_failed { writer.new.failed ≡ failed_after_play writer.old.failed result }
     {
         match take_part(&mut self.octets, self.number, piece) {
             Ok(None) => Ok(piece.len()),
@@ -140,7 +141,7 @@ impl LineUnderWay {
         ensures finishes { GrowsBy (W.contents writer.old.inner) (W.contents writer.new.inner)
             (PlaysEach P.plays player.old self.old.number (lines_of self.old.octets.items) result) }
         ensures fault { IsOfLine self.old.number result }
-        ensures write { IsErrOf result PlayFault.Write → writer.new.failed ≡ true }
+        ensures write_failed { writer.new.failed ≡ failed_after_play writer.old.failed result }
     {
         if self.octets.is_empty() {
             return Ok(());
@@ -162,7 +163,7 @@ impl LineUnderWay {
         ensures fault { IsOfLine self.old.number result }
         ensures number { OnOk result (self.new.number ≡ self.old.number + 1) }
         ensures octets { OnOk result (self.new.octets.items ≡ []) }
-        ensures write { IsErrOf result PlayFault.Write → writer.new.failed ≡ true }
+        ensures write_failed { writer.new.failed ≡ failed_after_play writer.old.failed result }
     {
         match player.play_line(alloc, self.number, self.octets.as_slice(), writer) {
             Ok(()) => {

@@ -1,3 +1,4 @@
 pub mod Answered
 pub mod Ticks
 pub mod Heard
+pub mod Unrun

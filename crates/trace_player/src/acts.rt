@@ -1,11 +1,12 @@
 //! What each line of a trace does.
 
-ghost use Rattle.std.specs.Prelude.{◌≡◌, true, is_ok, IfOk, OnOk, IsErrOf};
+ghost use Rattle.std.specs.Prelude.{◌≡◌, is_ok, IfOk, OnOk};
 ghost use Rattle.mme_core.specs.World.{reply};
 ghost use Rattle.trace_progress.specs.Effects.{effect_of, happened, left_by, ticks_passed, shown, states_of_imsi, ticked, states_shown};
 ghost use Rattle.trace_progress.specs.Replies.{reply_text};
 ghost use Rattle.trace_progress.specs.Acts.{Acts, GrowsBy, Puts};
 ghost use Rattle.trace_progress.specs.declared.progress.Progress.TheVariants.{Running};
+ghost use Rattle.trace_player.specs.Watching.{failed_after_play};
 
 use crate::answers::{write_all, write_refusal, write_states};
 use crate::watched::Watched;
@@ -32,7 +33,7 @@ pub fn act_on_line<W: Write>(
 ) -> Result<(), PlayFault>
     ensures acts { GrowsBy (W.contents writer.old.inner) (W.contents writer.new.inner)
         (Acts number (effect_of progress.old line) result progress.new) }
-    ensures write { IsErrOf result PlayFault.Write → writer.new.failed ≡ true }
+    ensures write_failed { writer.new.failed ≡ failed_after_play writer.old.failed result }
 {
     match line {
         Line::Skip => Ok(()),
@@ -76,9 +77,12 @@ fn play_event<W: Write>(
 ) -> Result<(), PlayFault>
     ensures acts { GrowsBy (W.contents writer.old.inner) (W.contents writer.new.inner)
         (Acts number (happened progress.old event.now) result progress.new) }
-    ensures write { IsErrOf result PlayFault.Write → writer.new.failed ≡ true }
+    ensures write_failed { writer.new.failed ≡ failed_after_play writer.old.failed result }
 {
-    run(alloc, progress, number)?;
+    match run(alloc, progress, number) {
+        Ok(()) => {}
+        Err(fault) => return Err(fault),
+    }
     let Progress::Running(mme) = progress else {
         return Err(PlayFault::Trace(number, TraceFault::Order));
     };
@@ -99,9 +103,12 @@ fn play_ticks<W: Write>(
 ) -> Result<(), PlayFault>
     ensures acts { GrowsBy (W.contents writer.old.inner) (W.contents writer.new.inner)
         (Acts number (ticks_passed progress.old count) result progress.new) }
-    ensures write { IsErrOf result PlayFault.Write → writer.new.failed ≡ true }
+    ensures write_failed { writer.new.failed ≡ failed_after_play writer.old.failed result }
 {
-    run(alloc, progress, number)?;
+    match run(alloc, progress, number) {
+        Ok(()) => {}
+        Err(fault) => return Err(fault),
+    }
     let Progress::Running(mme) = progress else {
         return Err(PlayFault::Trace(number, TraceFault::Order));
     };
@@ -119,9 +126,12 @@ fn show<W: Write>(
 ) -> Result<(), PlayFault>
     ensures acts { GrowsBy (W.contents writer.old.inner) (W.contents writer.new.inner)
         (Acts number (shown progress.old imsi) result progress.new) }
-    ensures write { IsErrOf result PlayFault.Write → writer.new.failed ≡ true }
+    ensures write_failed { writer.new.failed ≡ failed_after_play writer.old.failed result }
 {
-    run(alloc, progress, number)?;
+    match run(alloc, progress, number) {
+        Ok(()) => {}
+        Err(fault) => return Err(fault),
+    }
     let Progress::Running(mme) = progress else {
         return Err(PlayFault::Trace(number, TraceFault::Order));
     };
@@ -140,7 +150,7 @@ fn step_event<W: Write>(
         (Puts (reply_text (reply mme.old event.now)) result) }
     ensures after { OnOk result (mme.new ≡ left_by mme.old event.now (reply mme.old event.now)) }
     ensures taken { IfOk result (λ taken. taken ≡ is_ok (reply mme.old event.now)) }
-    ensures write { IsErrOf result PlayFault.Write → writer.new.failed ≡ true }
+    ensures write_failed { writer.new.failed ≡ failed_after_play writer.old.failed result }
 {
     match mme.step(event) {
         Ok(outs) => match write_all(alloc, outs.as_slice(), room, writer) {
@@ -165,7 +175,7 @@ fn step_ticks<W: Write>(
 ) -> Result<(), PlayFault>
     ensures put { GrowsBy (W.contents writer.old.inner) (W.contents writer.new.inner) (Puts (ticked count mme.old).1 result) }
     ensures after { OnOk result (mme.new ≡ (ticked count mme.old).0) }
-    ensures write { IsErrOf result PlayFault.Write → writer.new.failed ≡ true }
+    ensures write_failed { writer.new.failed ≡ failed_after_play writer.old.failed result }
 {
     for _tick in 0..count {
         match step_event(alloc, mme, &Event::Tick, room, writer) {
@@ -187,7 +197,7 @@ fn show_states<W: Write>(
 ) -> Result<(), PlayFault>
     ensures acts { GrowsBy (W.contents writer.old.inner) (W.contents writer.new.inner)
         (Acts number (states_shown imsi mme.now (states_of_imsi imsi mme.now)) result (Running mme.now)) }
-    ensures write { IsErrOf result PlayFault.Write → writer.new.failed ≡ true }
+    ensures write_failed { writer.new.failed ≡ failed_after_play writer.old.failed result }
 {
     match states_of_imsi(mme, imsi) {
         Some(states) => write_states(alloc, imsi, states, room, writer),

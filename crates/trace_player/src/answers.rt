@@ -1,9 +1,10 @@
 //! The answers of one event, written as they come.
 
-ghost use Rattle.std.specs.Prelude.{◌≡◌, ℕ, List, length, take, true, false, IfOk, IsErrOf, IsTrue};
+ghost use Rattle.std.specs.Prelude.{◌≡◌, ℕ, List, length, take, false, IfOk, IsTrue};
 ghost use Rattle.std.specs.Io.KnownBytes.{Appends};
 ghost use Rattle.trace_answers.specs.Words.{answer_text, answers_of, out_text, refused_text, states_text};
 ghost use Rattle.trace_progress.specs.Acts.{GrowsBy, Puts};
+ghost use Rattle.trace_player.specs.Watching.{failed_after_octets, failed_after_play};
 
 use crate::watched::Watched;
 use emm_machine::States;
@@ -19,7 +20,7 @@ use trace_progress::PlayFault;
 pub fn write_whole<W: Write>(writer: &mut Watched<W>, octets: &[u8]) -> bool
     ensures some { (n : ℕ) × Appends (W.contents writer.old.inner) (W.contents writer.new.inner) (take n octets.now) }
     ensures all { IsTrue result → Appends (W.contents writer.old.inner) (W.contents writer.new.inner) octets.now }
-    ensures failed { (result ≡ false) → writer.new.failed ≡ true }
+    ensures write_failed { writer.new.failed ≡ failed_after_octets writer.old.failed result }
 {
     let mut at = 0;
     for _turn in 0..octets.len() {
@@ -43,7 +44,7 @@ fn write_one<W: Write>(
     writer: &mut Watched<W>,
 ) -> Result<(), PlayFault>
     ensures put { GrowsBy (W.contents writer.old.inner) (W.contents writer.new.inner) (Puts (answer_text answer.now) result) }
-    ensures write { IsErrOf result PlayFault.Write → writer.new.failed ≡ true }
+    ensures write_failed { writer.new.failed ≡ failed_after_play writer.old.failed result }
 {
     let Ok(line) = write_answer(mem::replace(room, Vec::new(alloc)), answer) else {
         return Err(PlayFault::NoMemory);
@@ -63,7 +64,7 @@ pub(crate) fn write_all<W: Write>(
     writer: &mut Watched<W>,
 ) -> Result<(), PlayFault>
     ensures put { GrowsBy (W.contents writer.old.inner) (W.contents writer.new.inner) (Puts (answers_of outs.now) result) }
-    ensures write { IsErrOf result PlayFault.Write → writer.new.failed ≡ true }
+    ensures write_failed { writer.new.failed ≡ failed_after_play writer.old.failed result }
 {
     for out in outs {
         match write_out(alloc, out, room, writer) {
@@ -81,7 +82,7 @@ fn write_out<W: Write>(
     writer: &mut Watched<W>,
 ) -> Result<(), PlayFault>
     ensures put { GrowsBy (W.contents writer.old.inner) (W.contents writer.new.inner) (Puts (out_text out.now) result) }
-    ensures write { IsErrOf result PlayFault.Write → writer.new.failed ≡ true }
+    ensures write_failed { writer.new.failed ≡ failed_after_play writer.old.failed result }
 {
     write_one(alloc, &sent_line(out), room, writer)
 }
@@ -95,7 +96,7 @@ pub(crate) fn write_refusal<W: Write>(
 ) -> Result<bool, PlayFault>
     ensures put { GrowsBy (W.contents writer.old.inner) (W.contents writer.new.inner) (Puts (refused_text number) result) }
     ensures taken { IfOk result (λ taken. taken ≡ false) }
-    ensures write { IsErrOf result PlayFault.Write → writer.new.failed ≡ true }
+    ensures write_failed { writer.new.failed ≡ failed_after_play writer.old.failed result }
 {
     match write_one(alloc, &Answer::Refused(number), room, writer) {
         Ok(()) => Ok(false),
@@ -112,7 +113,7 @@ pub(crate) fn write_states<W: Write>(
     writer: &mut Watched<W>,
 ) -> Result<(), PlayFault>
     ensures put { GrowsBy (W.contents writer.old.inner) (W.contents writer.new.inner) (Puts (states_text imsi states) result) }
-    ensures write { IsErrOf result PlayFault.Write → writer.new.failed ≡ true }
+    ensures write_failed { writer.new.failed ≡ failed_after_play writer.old.failed result }
 {
     write_one(alloc, &Answer::State(imsi, states), room, writer)
 }

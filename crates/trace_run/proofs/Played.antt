@@ -1,5 +1,5 @@
 -- The lines of a trace, played one after another.
-use Rattle.std.proofs.Common.{◌≡◌, ℕ, ◌+◌, ◌<◌, List, [], ◌∷◌, ◌++◌, length, Some, None, Result, Ok, Err, inl, inr, refl, sym, ap, subst, ◌∙◌, append-nil, arith}
+use Rattle.std.proofs.Common.{◌≡◌, ℕ, ◌+◌, ◌<◌, Bool, List, [], ◌∷◌, ◌++◌, length, Some, None, Result, Ok, Err, inl, inr, refl, sym, ap, subst, ◌∙◌, append-nil, arith}
 use Rattle.trace_words.specs.declared.fault.TraceFault.{TraceFault}
 use Rattle.trace_words.specs.declared.fault.TraceFault.TheVariants as fault
 use Rattle.trace_words.specs.declared.fault.TraceFault.TheVariants.{UnknownWord, FieldCount, BadNumber, BadHex, TooLong, Order, Provision}
@@ -12,6 +12,7 @@ use Rattle.trace_progress.specs.Faults.{in_line}
 use Rattle.trace_progress.specs.Text.{Played, prepended, played_text, play, then_play, line_effect, lines_of, played_of}
 use Rattle.trace_progress.specs.Acts.{IsPrefix, Acts, effect_text}
 use Rattle.trace_lines.specs.trace_player.FrontLaws.{IsPrefix-nil, IsPrefix-of, IsPrefix-after, IsPrefix-more}
+use Rattle.trace_lines.specs.trace_player.Watching.{failed_after_play}
 use Rattle.trace_progress.specs.TextLaws.{line_of-long, play-cons, play-nil, prepended-then, prepended-ends}
 use Rattle.trace_lines.specs.OneLine.{IsOfLine}
 use Rattle.trace_lines.specs.Lines.{PlaysAll, IsCutShort, StopsAt, StopsIn, PlaysEach}
@@ -33,6 +34,18 @@ in_line-place number BadHex = refl
 in_line-place number TooLong = refl
 in_line-place number Order = refl
 in_line-place number Provision = refl
+
+-- what has a fault that was read isn't written
+pub in_line-unwritten : (failed : Bool) (number : ℕ) (fault : TraceFault)
+    → failed ≡ failed_after_play {A = Unit {0}} failed (Err (in_line number fault))
+in_line-unwritten failed number fault.NoMemory = refl
+in_line-unwritten failed number UnknownWord = refl
+in_line-unwritten failed number FieldCount = refl
+in_line-unwritten failed number BadNumber = refl
+in_line-unwritten failed number BadHex = refl
+in_line-unwritten failed number TooLong = refl
+in_line-unwritten failed number Order = refl
+in_line-unwritten failed number Provision = refl
 
 pub Acts-place : (number : ℕ) (effect : Effect) (result : Result (Unit {0}) PlayFault) (new : Progress) (written : List ℕ)
     → Acts number effect result new written → IsOfLine number result

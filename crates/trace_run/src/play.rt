@@ -1,6 +1,6 @@
 //! A trace played from a reader to a writer.
 
-ghost use Rattle.std.specs.Prelude.{◌≡◌, ◌⊎◌, ◌≤◌, true, OnOk, IsErrOf};
+ghost use Rattle.std.specs.Prelude.{◌≡◌, ◌⊎◌, ◌≤◌, true, false, OnOk, IsErrOf};
 ghost use Rattle.std.specs.Io.KnownBytes.{IsAtEnd};
 ghost use Rattle.trace_run.specs.Play.{Plays};
 
@@ -22,6 +22,8 @@ pub fn run_play<R: Read, W: Write>(
     ensures read { reader.old.calls ≡ 0 → IsErrOf result PlayFault.Read
         → (reader.new.failed ≡ true) ⊎ (MOST_TURNS ≤ reader.new.calls) }
     ensures write { IsErrOf result PlayFault.Write → writer.new.failed ≡ true }
+    ensures read_failed { reader.old.failed ≡ false → reader.new.failed ≡ true → IsErrOf result PlayFault.Read }
+    ensures write_failed { writer.old.failed ≡ false → writer.new.failed ≡ true → IsErrOf result PlayFault.Write }
 {
     let mut player = Player::new(alloc);
     play_lines(alloc, &mut player, reader, writer)

@@ -13,4 +13,4 @@ returns c =
     let mid = c.loop-turn.out.items in
     let last = c.push_dropped.new.out.items in
     PrintsOn-then c.args.script.now.progress progress progress c.args.out.now.items mid last [] c.loop-turn.invariant
-    (PrintsOn-remark progress mid last c.loop-turn.invariant.0 c.in_ok-push_dropped.ensures)
+    (PrintsOn-remark progress mid last c.loop-turn.invariant.0 c.in_ok-push_dropped.ensures.added)

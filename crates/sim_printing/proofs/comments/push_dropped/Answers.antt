@@ -5,13 +5,13 @@ use Rattle.sim_printing.specs.LineLaws.{decimal_breaks, unbroken_then}
 use Rattle.sim_printing.specs.PrintLaws.{AreComments-remark}
 use Rattle.sim_printing.proofs.comments.push_dropped.Goals as goal
 
-pub returns : goal.returns
-returns c =
+pub returns-clause-added : goal.returns-clause-added
+returns-clause-added c =
     let n = c.args.count in
     let h : n < 2 ^ 64 = omega arith in
     let d : length (decimal n) ≤ 20 = length-decimal-le 20 n (omega arith) (omega arith) h in (
       codes "## dropped " ++ decimal n ++ codes "\n",
-      c.in_ok-push_count.ensures,
+      c.in_ok-push_count.ensures.added,
       AreComments-remark c.comments_are_not_kept.ensures (codes " dropped " ++ decimal n)
           (unbroken_then (codes " dropped ") (decimal n) refl (decimal_breaks n h))
           (omega (arith, d, length-append (codes " dropped ") (decimal n))),

@@ -1,7 +1,7 @@
-use Rattle.std.proofs.Common.{[], take, ap, ◌∙◌, arith, rules}
+use Rattle.std.proofs.Common.{[], Err, take, refl, sym, ap, ◌∙◌, arith, rules}
 use Rattle.std.proofs.lemmas.List.{length-take}
 use Rattle.trace_player.specs.OctetLaws.{Consumes-same, Keeps-same}
-use Rattle.trace_player.specs.Watching.{OnOk-always, moves_none-some}
+use Rattle.trace_player.specs.Watching.{failed_after_play, OnOk-always, moves_none-some}
 use Rattle.trace_progress.specs.TextLaws.{breaks-le}
 use Rattle.trace_lines.proofs.Running.{Running-start, Running-turn, PlaysRead-fault, PlaysRead-end, PlaysRead-read}
 use Rattle.trace_lines.proofs.play.play_lines.Goals as goal
@@ -47,6 +47,29 @@ returns-in-Err-clause-played g c =
     c.loop-turn.invariant.running (take c.in-Ok.count c.read.new.buf) turn.0 c.in-Ok.ensures.bytes.0 turn.1
     c.one_turn.new.player c.one_turn.new.line c.read.new.self.ended c.in-Err.fault turn.2
 
+pub returns-in_default-clause-write_failed : goal.returns-in_default-clause-write_failed
+returns-in_default-clause-write_failed g c = c.loop-turn.invariant.unfailed
+
+pub returns-then-count-eq0-clause-read_failed : goal.returns-then-count-eq0-clause-read_failed
+returns-then-count-eq0-clause-read_failed g c = λ was is.
+    absurd (cc (sym is ∙ c.in-Ok.ensures.failed ∙ c.loop-turn.invariant.unfailed_read ∙ was))
+
+pub returns-then-count-eq0-clause-write_failed : goal.returns-then-count-eq0-clause-write_failed
+returns-then-count-eq0-clause-write_failed g c =
+    c.last_turn.ensures.write_failed ∙ ap (λ failed. failed_after_play failed c.last_turn.result) c.loop-turn.invariant.unfailed
+
+pub returns-in-Err-clause-read_failed : goal.returns-in-Err-clause-read_failed
+returns-in-Err-clause-read_failed g c = λ was is.
+    absurd (cc (sym is ∙ c.in-Ok.ensures.failed ∙ c.loop-turn.invariant.unfailed_read ∙ was))
+
+pub returns-in-Err-clause-write_failed : goal.returns-in-Err-clause-write_failed
+returns-in-Err-clause-write_failed g c =
+    c.in-Err.ensures.write_failed
+    ∙ ap (λ failed. failed_after_play {A = Unit {0}} failed (Err c.in-Err.fault)) c.loop-turn.invariant.unfailed
+
+pub returns-clause-write_failed : goal.returns-clause-write_failed
+returns-clause-write_failed g c = c.loop-turn.invariant.unfailed
+
 pub loop-turn-preserved : goal.loop-turn-preserved
 loop-turn-preserved g c =
     let left = g.R.Read.remaining in
@@ -60,6 +83,8 @@ loop-turn-preserved g c =
           c.loop-turn.invariant.running piece turn.0 c.in-Ok.ensures.bytes.0 turn.1 c.one_turn.new.player c.one_turn.new.line turn.2;
       short = omega (arith, turn.2.4, turn.2.2.1, breaks-le piece, length-take c.in-Ok.count c.read.new.buf, c.loop-turn.invariant.short);
       calls = λ h. omega (arith, c.loop-turn.invariant.calls h, c.in-Ok.ensures.calls);
+      unfailed = c.in-Ok-one_turn.ensures.write_failed ∙ c.loop-turn.invariant.unfailed;
+      unfailed_read = c.in-Ok.ensures.failed ∙ c.loop-turn.invariant.unfailed_read;
     }
 
 pub returns-clause-played : goal.returns-clause-played
@@ -77,4 +102,6 @@ loop-turn-init g c = record {
       (g.W.Write.contents c.args.writer.now.inner) c.new-line.result c.new-line.ensures.number c.new-line.ensures.octets;
   short = omega (arith, c.new-line.ensures.number);
   calls = λ h. h;
+  unfailed = refl;
+  unfailed_read = refl;
 }

@@ -8,4 +8,6 @@ invariant-loop-turn g l = record {
       (g.W.Write.contents l.initial.writer.inner) (g.W.Write.contents l.writer.inner) l.player l.line;
   short : l.line.number ≤ 1 + 65536 * l.turn;
   calls : l.initial.reader.calls ≡ 0 → l.reader.calls ≡ l.turn;
+  unfailed : l.writer.failed ≡ l.initial.writer.failed;
+  unfailed_read : l.reader.failed ≡ l.initial.reader.failed;
 }

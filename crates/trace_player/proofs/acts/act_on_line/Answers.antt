@@ -1,6 +1,7 @@
 use Rattle.std.proofs.Common.{refl}
 use Rattle.mme_core.specs.declared.event.Event.TheVariants as event
 use Rattle.trace_progress.specs.Effects.{effect_of, happened}
+use Rattle.trace_player.specs.Watching.{failed_after_play-other}
 use Rattle.trace_player.proofs.Heard.{Acts-effect, octets-effect}
 use Rattle.trace_player.proofs.acts.act_on_line.Goals as goal
 
@@ -13,3 +14,12 @@ returns-in-In-clause-acts g c =
     let acts = c.play_event-in-In.ensures.acts in
     let same = octets-effect old line c.in-In.station number c.in-In.octets slice c.in-In.is refl c.as_slice.ensures in
     (acts.0, acts.1, Acts-effect c.args.number (happened old (event.In number slice)) (effect_of old line) c.play_event-in-In.result c.play_event-in-In.new.progress acts.0 same acts.2)
+
+pub returns-in-Mme-clause-write_failed : goal.returns-in-Mme-clause-write_failed
+returns-in-Mme-clause-write_failed g c = failed_after_play-other c.args.writer.now.failed c.start.result c.start.ensures.write
+
+pub returns-in-Sub-clause-write_failed : goal.returns-in-Sub-clause-write_failed
+returns-in-Sub-clause-write_failed g c = failed_after_play-other c.args.writer.now.failed c.add.result c.add.ensures.write
+
+pub returns-in-Vec-clause-write_failed : goal.returns-in-Vec-clause-write_failed
+returns-in-Vec-clause-write_failed g c = failed_after_play-other c.args.writer.now.failed c.give.result c.give.ensures.write

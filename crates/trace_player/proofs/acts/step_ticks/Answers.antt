@@ -1,9 +1,10 @@
-use Rattle.std.proofs.Common.{ℕ, ◌++◌, List, sym, ap, ◌∙◌, arith, Bool}
+use Rattle.std.proofs.Common.{ℕ, ◌++◌, List, Err, sym, ap, ◌∙◌, arith, Bool}
 use Rattle.mme_core.specs.World.{World, reply}
 use Rattle.mme_core.specs.declared.event.Event.TheVariants as event
 use Rattle.trace_progress.specs.Replies.{reply_text}
 use Rattle.trace_progress.specs.Effects.{ticked}
 use Rattle.trace_player.specs.OctetLaws.{Appends-then}
+use Rattle.trace_player.specs.Watching.{failed_after_play}
 use Rattle.trace_player.proofs.Answered.{Puts-after}
 use Rattle.trace_player.proofs.Ticks.{Ticking-tick, Ticking-refused, Ticking-end, Ticking-front}
 use Rattle.trace_player.proofs.acts.step_ticks.Goals as goal
@@ -30,6 +31,14 @@ returns-in-Ok-false-clause-after g c =
     let put = c.in-Ok-false.ensures.put in
     let refused = sym c.in-Ok-false.ensures.taken ∙ c.in-Ok-false.field-0-test in
     ap (λ (v : World × List ℕ). v.0) (sym (Ticking-refused c.args.mme.now c.loop-tick.mme c.step_event.new.mme c.loop-tick._tick c.args.count before.0 put.0 before.2 (omega arith) refused c.in-Ok-false.ensures.after put.2))
+
+pub returns-in-Ok-false-clause-write_failed : goal.returns-in-Ok-false-clause-write_failed
+returns-in-Ok-false-clause-write_failed g c = c.in-Ok-false.ensures.write_failed ∙ c.loop-tick.invariant.3
+
+pub returns-in-Err-clause-write_failed : goal.returns-in-Err-clause-write_failed
+returns-in-Err-clause-write_failed g c =
+    c.in-Err.ensures.write_failed
+    ∙ ap (λ failed. failed_after_play {A = Unit {0}} failed (Err c.in-Err.fault)) c.loop-tick.invariant.3
 
 pub returns-in-Err-clause-put : goal.returns-in-Err-clause-put
 returns-in-Err-clause-put g c =
@@ -59,6 +68,7 @@ loop-tick-preserved g c =
           (held c.step_event.new.writer.inner) before.0 put.0 before.1 put.1,
       Ticking-tick old mid new c.loop-tick._tick before.0 put.0 before.2
           (sym c.in-Ok-true.ensures.taken ∙ c.in-Ok-true.field-0-test) c.in-Ok-true.ensures.after put.2,
+      c.in-Ok-true.ensures.write_failed ∙ before.3,
     )
 
 pub returns-clause-put : goal.returns-clause-put
@@ -66,6 +76,9 @@ returns-clause-put g c =
     let before = c.loop-tick.invariant in
     let all = Ticking-end c.args.mme.now c.loop-tick.mme c.loop-tick._tick c.args.count before.0 before.2 (omega arith) in
     (before.0, before.1, ap (λ (v : World × List ℕ). v.1) (sym all))
+
+pub returns-clause-write_failed : goal.returns-clause-write_failed
+returns-clause-write_failed g c = c.loop-tick.invariant.3
 
 pub returns-clause-after : goal.returns-clause-after
 returns-clause-after g c =

@@ -1,4 +1,4 @@
-use Rattle.std.proofs.Common.{ℕ, List}
+use Rattle.std.proofs.Common.{◌≡◌, ℕ, List}
 use Rattle.std.specs.Io.KnownBytes.{Appends}
 use Rattle.trace_player.proofs.Ticks.{Ticking}
 use Rattle.trace_player.proofs.acts.step_ticks.Given as goal
@@ -6,4 +6,4 @@ use Rattle.trace_player.proofs.acts.step_ticks.Given as goal
 abbrev pub invariant-loop-tick : goal.invariant-loop-tick
 invariant-loop-tick g l =
     (written : List ℕ) × Appends (g.W.Write.contents l.initial.writer.inner) (g.W.Write.contents l.writer.inner) written
-    × Ticking l.initial.mme l._tick l.mme written
+    × Ticking l.initial.mme l._tick l.mme written × (l.writer.failed ≡ l.initial.writer.failed)

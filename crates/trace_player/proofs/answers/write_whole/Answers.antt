@@ -1,7 +1,8 @@
-use Rattle.std.proofs.Common.{◌-◌, length, take, drop, ap, arith}
+use Rattle.std.proofs.Common.{◌-◌, length, take, drop, ap, ◌∙◌, arith}
 use Rattle.std.proofs.lemmas.List.{length-drop}
 use Rattle.std.specs.Io.KnownBytes.{Appends}
 use Rattle.trace_player.specs.OctetLaws.{Appends-then, Appends-same, take_then_take, take_rest}
+use Rattle.trace_player.specs.Watching.{moves_none-more}
 use Rattle.trace_player.proofs.answers.write_whole.Goals as goal
 
 pub loop-turn-preserved : goal.loop-turn-preserved
@@ -14,4 +15,12 @@ loop-turn-preserved g c =
     let last = g.W.Write.contents c.write.new.self.inner in
     let raw : Appends mid last (take n (take (length octets - at) (drop at octets))) = c.in-Ok.ensures.bytes in
     let bytes = Appends-same mid last _ _ (ap (take n) (take_rest at octets)) raw in
-    (Appends-same first last _ _ (take_then_take at n octets (omega arith)) (Appends-then first mid last (take at octets) (take n (drop at octets)) c.loop-turn.invariant.0 bytes), omega (arith, ap length (take_rest at octets), length-drop at octets, c.in-Ok.ensures.bound), omega arith)
+    let unfailed =
+    c.in-Ok.ensures.failed ∙ moves_none-more c.loop-turn.writer.failed (length (take (length octets - at) (drop at octets))) n (omega arith)
+    ∙ c.loop-turn.invariant.3 in (
+      Appends-same first last _ _ (take_then_take at n octets (omega arith))
+          (Appends-then first mid last (take at octets) (take n (drop at octets)) c.loop-turn.invariant.0 bytes),
+      omega (arith, ap length (take_rest at octets), length-drop at octets, c.in-Ok.ensures.bound),
+      omega arith,
+      unfailed,
+    )

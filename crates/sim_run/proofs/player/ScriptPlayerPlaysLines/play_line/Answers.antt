@@ -1,7 +1,8 @@
-use Rattle.std.proofs.Common.{[], ◌∷◌}
+use Rattle.std.proofs.Common.{[], ◌∷◌, ap, ◌∙◌}
 use Rattle.sim_words.specs.Kept.{kept_in}
 use Rattle.trace_lines.specs.trace_player.OctetLaws.{Appends-nil, Appends-same}
-use Rattle.sim_run.proofs.Simulating.{WritesLine-printed, WritesLine-fault, PrintsScriptLine-place}
+use Rattle.trace_lines.specs.trace_player.Watching.{failed_after_octets}
+use Rattle.sim_run.proofs.Simulating.{WritesLine-printed, WritesLine-fault, PrintsScriptLine-place, failed-script_line}
 use Rattle.sim_run.proofs.player.ScriptPlayerPlaysLines.play_line.Goals as goal
 
 pub returns-in-Err-clause-played : goal.returns-in-Err-clause-played
@@ -26,3 +27,16 @@ returns-clause-played g c =
     WritesLine-printed kept c.args.self.now.script.progress c.play_script_line.new.script.progress c.new-out.result.items out
     c.new-out.ensures.items c.in-Ok.ensures in
     (out, Appends-same _ _ _ _ c.as_slice.ensures.value (c.write_whole.ensures.all c.if-not-write_whole.false), printed)
+
+pub returns-in-Err-clause-write_failed : goal.returns-in-Err-clause-write_failed
+returns-in-Err-clause-write_failed g c =
+    failed-script_line c.args.writer.now.failed c.args.number (kept_in (c.args.text.now ∷ [])) c.args.self.now.script.progress
+    c.play_script_line.new.script.progress c.new-out.result.items c.play_script_line.new.out.items c.in-Err.fault c.in-Err.ensures
+
+pub returns-then-not-write_whole-clause-write_failed : goal.returns-then-not-write_whole-clause-write_failed
+returns-then-not-write_whole-clause-write_failed g c =
+    c.write_whole.ensures.write_failed ∙ ap (failed_after_octets c.args.writer.now.failed) c.if-not-write_whole.true
+
+pub returns-clause-write_failed : goal.returns-clause-write_failed
+returns-clause-write_failed g c =
+    c.write_whole.ensures.write_failed ∙ ap (failed_after_octets c.args.writer.now.failed) c.if-not-write_whole.false

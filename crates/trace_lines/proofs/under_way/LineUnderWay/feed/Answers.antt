@@ -2,6 +2,7 @@ use Rattle.std.proofs.Common.{[], ◌++◌, length, take, Ok, Err, refl, sym, ap
 use Rattle.std.specs.Prelude.{slice_range}
 use Rattle.trace_lines.specs.PartLaws.{rest_follows}
 use Rattle.trace_player.specs.OctetLaws.{Appends-nil, Appends-then}
+use Rattle.trace_player.specs.Watching.{failed_after_play}
 use Rattle.trace_progress.specs.TextLaws.{breaks-le, nil-from_length}
 use Rattle.trace_lines.proofs.Feeding.{Feeds-none, Feeds-then, Feeds-piece}
 use Rattle.trace_lines.proofs.under_way.LineUnderWay.feed.Goals as goal
@@ -33,6 +34,14 @@ returns-in-Err-clause-feeds g c =
           result before.2.2 added.2),
     )
 
+pub returns-in-Err-clause-write_failed : goal.returns-in-Err-clause-write_failed
+returns-in-Err-clause-write_failed g c =
+    c.in-Err.ensures.write_failed
+    ∙ ap (λ failed. failed_after_play {A = Unit {0}} failed (Err c.in-Err.fault)) c.loop-rest.invariant.3
+
+pub returns-clause-write_failed : goal.returns-clause-write_failed
+returns-clause-write_failed g c = c.loop-rest.invariant.3
+
 pub loop-rest-preserved : goal.loop-rest-preserved
 loop-rest-preserved g c =
     let held = g.W.Write.contents in
@@ -50,11 +59,12 @@ loop-rest-preserved g c =
         Feeds-then g.P.PlaysLines.plays c.args.player.now c.loop-rest.player c.take_front.new.player c.args.self.now c.loop-rest.self
             c.take_front.new.self before.2.0 added.0 before.0 (take count rest) (Ok tt) before.2.2 added.2.2,
       ),
+      c.in-Ok.ensures.write_failed ∙ before.3,
     )
 
 pub loop-rest-init : goal.loop-rest-init
 loop-rest-init g c =
-    ([], refl, ([], Appends-nil _, Feeds-none g.P.PlaysLines.plays c.args.player.now c.args.self.now c.requires.ready))
+    ([], refl, ([], Appends-nil _, Feeds-none g.P.PlaysLines.plays c.args.player.now c.args.self.now c.requires.ready), refl)
 
 pub returns-clause-feeds : goal.returns-clause-feeds
 returns-clause-feeds g c =

@@ -3,7 +3,7 @@ use Rattle.std.proofs.lemmas.List.{take_more, take_all}
 use Rattle.trace_player.specs.OctetLaws.{Appends-nil}
 use Rattle.trace_progress.specs.TextLaws.{split_at}
 use Rattle.trace_lines.specs.declared.under_way.LineUnderWay.{LineUnderWay}
-use Rattle.trace_lines.proofs.Feeding.{EndsLines-line, Feeds-part, Feeds-part_fault, Feeds-line, Feeds-fault, Feeds-then, Feeds-stop, Feeds-piece}
+use Rattle.trace_lines.proofs.Feeding.{EndsLines-line, Feeds-part, Feeds-part_fault, Feeds-line, Feeds-fault, Feeds-then, Feeds-stop, Feeds-piece, failed-part}
 use Rattle.trace_lines.proofs.under_way.LineUnderWay.go_on.Goals as goal
 
 pub end_line-requires-clause-unbroken : goal.end_line-requires-clause-unbroken
@@ -72,6 +72,11 @@ returns-in-Err-end_line-clause-feeds g c =
       Feeds-piece plays player last old new played.0 _ piece (Err fault) (sym (split_at piece end 10 found.0 (sym found.1)))
           (Feeds-stop plays player last old new played.0 (part ++ 10 ∷ []) (drop (end + 1) piece) fault whole),
     )
+
+pub returns-in-Err-clause-write_failed : goal.returns-in-Err-clause-write_failed
+returns-in-Err-clause-write_failed g c =
+    failed-part c.args.writer.now.failed c.args.self.now.number c.args.self.now.octets.items c.args.piece.now
+    c.take_part.new.line.items c.in-Err.fault c.in-Err.ensures
 
 pub returns-in-Err-clause-feeds : goal.returns-in-Err-clause-feeds
 returns-in-Err-clause-feeds g c =

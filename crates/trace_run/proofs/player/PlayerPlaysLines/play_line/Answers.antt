@@ -1,8 +1,9 @@
-use Rattle.std.proofs.Common.{Err, sym, subst}
+use Rattle.std.proofs.Common.{◌≡◌, Err, sym, subst}
 use Rattle.trace_progress.specs.declared.fault.PlayFault.{PlayFault}
 use Rattle.trace_progress.specs.Effects.{effect_of}
 use Rattle.trace_lines.specs.OneLine.{IsOfLine}
-use Rattle.trace_run.proofs.Played.{in_line-place, Acts-place}
+use Rattle.trace_lines.specs.trace_player.Watching.{failed_after_play}
+use Rattle.trace_run.proofs.Played.{in_line-place, in_line-unwritten, Acts-place}
 use Rattle.trace_run.proofs.player.PlayerPlaysLines.play_line.Goals as goal
 
 pub returns-in-Ok-clause-fault : goal.returns-in-Ok-clause-fault
@@ -13,3 +14,9 @@ returns-in-Ok-clause-fault g c =
 pub returns-in-Err-clause-fault : goal.returns-in-Err-clause-fault
 returns-in-Err-clause-fault g c =
     subst (λ (v : PlayFault). IsOfLine c.args.number (Err v)) (sym c.fault_in_line.ensures) (in_line-place c.args.number c.in-Err.fault)
+
+pub returns-in-Err-clause-write_failed : goal.returns-in-Err-clause-write_failed
+returns-in-Err-clause-write_failed g c =
+    let failed = c.args.writer.now.failed in
+    subst (λ (v : PlayFault). failed ≡ failed_after_play {A = Unit {0}} failed (Err v)) (sym c.fault_in_line.ensures)
+    (in_line-unwritten failed c.args.number c.in-Err.fault)
