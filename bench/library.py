@@ -2,12 +2,16 @@
 """Times a phone's day through the libraries for C and for Python, beside `mme play` of the same events.
 
     library.py FOLDER [--program MME] [--count N ..] [--rounds N]
+    library.py FOLDER --steps PROGRAM [--count N ..] [--rounds N]
 
 FOLDER has libsoizkadur.a, libsoizkadur.so.1 and soizkadur.h, as `./mme --library` leaves them in crates/mme_c/out/library. A day is
 attach, release, service request, release, a tracking area update from idle, detach (measure.py, `days`). Through the library for C
 an event is a call with its octets and a copy of each message that it sends (library.c), in Python the same (`receive`) or a line of
 a trace (`line`); through `mme play` it is lines of text, and what the program takes to start and to be provisioned is taken off.
 Times are of one processor, the best of the rounds. Ends with 1 where an answer is wrong.
+
+With --steps an event through the library for C is set beside one that `Mme::step` alone hears, by PROGRAM, which is built of
+steps.rt.txt (programs.py). In each round both programs run, one after the other, and each has ten rounds of its own.
 """
 import argparse
 import functools
@@ -29,6 +33,7 @@ import soizkadur
 
 ACTS = ("attach %s 0 %d", "idle %s", "service %s 0 %d", "idle %s", "tau %s 0 %d", "detach %s")
 LINE = re.compile(r"(\d+) events, (\d+) messages, (\d+) octets in (\d+) ns\n")
+EACH = 10  # rounds of library.c, as ROUNDS in steps.rt.txt
 
 
 def built(folder, room):
@@ -46,13 +51,24 @@ def days_of(count):
     return [measure.played(scripts.owed("\n".join(part) + "\n")) for part in (lines, lines + acts)]
 
 
-def through_library(program, bench, trace, rounds):
-    """The seconds that the events of a trace take, and whether as many messages with as many octets were sent as are owed."""
-    path = bench.kept("library", trace.text())
-    found = LINE.fullmatch(subprocess.run([program, path, str(rounds)], check=True, capture_output=True, text=True).stdout)
-    _, messages, octets, took = map(int, found.groups())
+def events_in(trace):
+    """How many lines of a trace are events."""
+    return sum(line.split(" ")[0] not in ("mme", "sub", "vec") for line in trace.lines)
+
+
+def timed(words, bench, trace):
+    """The seconds that the events of a trace take by a program which reads it and prints what library.c does, and whether as many
+    messages with as many octets were sent as are owed."""
+    with open(bench.kept("library", trace.text()), encoding="utf-8") as text:
+        said = subprocess.run(words, stdin=text, check=True, capture_output=True, text=True).stdout
+    events, messages, octets, took = map(int, LINE.fullmatch(said).groups())
     owed = [bytes.fromhex(line.split(" ")[3]) for line in trace.answers if line.startswith("out ")]
-    return took / 1e9, (messages, octets) == (len(owed), sum(map(len, owed)))
+    return took / 1e9, (events, messages, octets) == (events_in(trace), len(owed), sum(map(len, owed)))
+
+
+def through_library(program, bench, trace, rounds):
+    """The seconds that the events of a trace take through the library for C, and whether it sends what is owed."""
+    return timed([program, "-", str(rounds)], bench, trace)
 
 
 def event_of(mme, line, by_lines):
@@ -78,16 +94,43 @@ def through_python(folder, trace, rounds, by_lines):
     return best, right
 
 
+def beside_steps(program, steps, bench, trace, rounds):
+    """The seconds that the events of a trace take through the library for C and by `Mme::step` alone, both in turn, and whether
+    both send what is owed."""
+    best, right = [float("inf")] * 2, True
+    for _ in range(rounds):
+        for at, words in enumerate(([program, "-", str(EACH)], [steps, "steps"])):
+            took, is_right = timed(words, bench, trace)
+            best[at], right = min(best[at], took), right and is_right
+    return best, right
+
+
+def print_steps(program, steps, bench, counts):
+    """Prints what an event costs by each, with the days of each number of phones; how often something was wrong."""
+    wrong = 0
+    for count in counts:
+        trace = days_of(count)[1]
+        best, right = beside_steps(program, steps, bench, trace, max(bench.rounds, 2000 // count))
+        library, alone = (seconds / events_in(trace) * 1e9 for seconds in best)
+        print("%d phones, an event by the library: %.0f ns, by Mme::step: %.0f ns, the difference: %.0f ns; the messages: %s" % (
+            count, library, alone, library - alone, "as owed" if right else "WRONG"), flush=True)
+        wrong += not right
+    return wrong
+
+
 def main():
     parser = argparse.ArgumentParser(description=__doc__, formatter_class=argparse.RawDescriptionHelpFormatter)
     parser.add_argument("folder", metavar="FOLDER")
     parser.add_argument("--program", metavar="MME", default=measure.PROGRAM)
+    parser.add_argument("--steps", metavar="PROGRAM")
     parser.add_argument("--count", type=int, nargs="+", default=[measure.FEW, measure.MANY])
     parser.add_argument("--rounds", type=int, default=10)
     given = parser.parse_args()
     bench, wrong = measure.Bench(given.program, given.rounds), 0
     with tempfile.TemporaryDirectory() as room:
         program = built(given.folder, room)
+        if given.steps:
+            return 1 if print_steps(program, given.steps, bench, given.count) else 0
         for count in given.count:
             base, trace = days_of(count)
             bench.checked("%d days" % count, trace)
@@ -96,7 +139,7 @@ def main():
             calls, right_calls = through_python(given.folder, trace, given.rounds, False)
             lines, right_lines = through_python(given.folder, trace, given.rounds, True)
             wrong += not (right and right_calls and right_lines)
-            events = sum(line.split(" ")[0] not in ("mme", "sub", "vec") for line in trace.lines)
+            events = events_in(trace)
             for what, seconds in (("the library", through), ("calls in Python", calls), ("lines in Python", lines),
                                   ("mme play", most - least)):
                 print("%d phones, a day by %s: %.1f us, %.0f a second; %.0f events a second" % (

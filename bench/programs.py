@@ -4,10 +4,10 @@
     programs.py FOLDER [NAME ..] [--try]
 
 FOLDER isn't there yet, and gets a copy of the crates with one crate more, `benchmarks`. There `rt run -- NAME` in
-crates/benchmarks proves and builds the program, and runs the benchmark of this name: speed, codec, tables or simulated. With names
-the program has these alone, and only the crates that they use have to be proved.
+crates/benchmarks proves and builds the program, and runs the benchmark of this name: speed, codec, steps, tables or simulated. With
+names the program has these alone, and only the crates that they use have to be proved.
 With --try the program is built unproved, with every access checked, runs each briefly, and what it prints is printed: no figures to
-keep, but what is computed (tests/bench/run looks at it).
+keep, but what is computed (tests/bench/run looks at it). The trace that `steps` plays then is tests/rows/attach_whole.trace.
 """
 import argparse
 import pathlib
@@ -27,6 +27,7 @@ del sys.path[0]
 END = ".rt.txt"
 MAIN = HERE / ("main" + END)
 NAME = "benchmarks"
+TRACE = HERE.parent / "tests" / "rows" / "attach_whole.trace"  # what `steps` plays in the run of all benchmarks
 SECONDS = 1200  # for the run of all benchmarks, which gives way to proofs in the gate
 
 
@@ -50,7 +51,8 @@ def made(folder, names=()):
 def tried(crate):
     """The run of all benchmarks by an unproved program: its status, what it printed, and what `rt try` said."""
     words = toolchain.command("try", "--steps", "100", "--seconds", str(SECONDS), "--", "brief")
-    done = subprocess.run(words, cwd=crate, stdin=subprocess.DEVNULL, capture_output=True, text=True, check=False)
+    with open(TRACE, "rb") as trace:
+        done = subprocess.run(words, cwd=crate, stdin=trace, capture_output=True, text=True, check=False)
     return done.returncode, done.stdout, done.stderr
 
 
