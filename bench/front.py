@@ -244,12 +244,14 @@ def main():
     words = argparse.ArgumentParser(description=__doc__, formatter_class=argparse.RawDescriptionHelpFormatter)
     mmes = words.add_mutually_exclusive_group()
     mmes.add_argument("program", metavar="PROGRAM", nargs="?", default=TOP / "crates" / "mme" / "out" / "mme")
-    mmes.add_argument("--library", dest="program", action="store_const", const=LIBRARY)
+    mmes.add_argument("--library", action="store_true")
     measures = {measure.__name__: measure for measure in (throughput, latency, flood, attaches)}
     words.add_argument("--only", nargs="+", choices=measures, default=list(measures))
     words.add_argument("--stations", nargs="+", type=int, default=[1, 10, 100])
     words.add_argument("--seconds", type=float, default=5.0)
     given = words.parse_args()
+    if given.library:
+        given.program = LIBRARY  # (a word that sets `program` would give way to the default of the one that is left out)
     for name in given.only:
         measures[name](given)
         print(flush=True)

@@ -5,11 +5,32 @@
  *     soizkadur_mme mme = SOIZKADUR_EMPTY;
  *     soizkadur_fault fault;
  *     if (soizkadur_new(&mme, lines, length, &fault) == SOIZKADUR_OK) {
+ *         size_t count = 0;
  *         soizkadur_up(&mme, 0);
  *         soizkadur_in(&mme, 0, octets, octets_length);
- *         ... soizkadur_count, soizkadur_out ...
+ *         soizkadur_count(&mme, 0, &count);
+ *         for (size_t index = 0; index < count; index++) {
+ *             uint8_t buffer[16388];
+ *             soizkadur_output output;
+ *             if (soizkadur_out(&mme, 0, index, &output, buffer, sizeof buffer) == SOIZKADUR_OK)
+ *                 ... output.length octets of buffer go to station output.station ...
+ *         }
  *     }
  *     soizkadur_free(&mme);
+ *
+ * soizkadur_up is the connection alone: the first message of a station is S1 SETUP REQUEST, and until it is taken no other is. One
+ * that fits the line `mme 001 01 8001 01 ..`, of the macro eNB 1 with tracking area 1:
+ *
+ *     0011001f000003003b00080000f11000000010004000070000004000f1100089400140
+ *
+ * WHAT IS SPOKEN. S1AP (TS 36.413) and EPS NAS (TS 24.301) of Release 8, in a profile: set-up and reset of stations, attach,
+ * authentication, security mode, service request, paging, tracking area update, path switch, release and detach, with one default
+ * bearer for each phone. Integrity is by 128-EIA2, which a phone has to offer, and ciphering is null. The elements of a message are
+ * taken in any order. Octets that spell no message of the profile are answered, if at all, by ERROR INDICATION with the cause and
+ * without Criticality Diagnostics, where they are an S1 SETUP REQUEST too. docs/PROFILE.md has each message and element.
+ *
+ * To compile and link: cc -I FOLDER test.c FOLDER/libsoizkadur.a, or with the shared object
+ * cc -I FOLDER test.c -L FOLDER -lsoizkadur -Wl,-rpath,FOLDER.
  *
  * Each call does what is written over it: this is proved, for every handle and all arguments that are as below, at every outcome of
  * every allocation (crates/mme_c/src has the contracts). Proved too: no call reads or writes outside what it is given or owns, none
@@ -21,7 +42,8 @@
  *
  * WHAT THE CALLER HAS TO UPHOLD. Nothing checks it.
  *
- * - A handle begins as SOIZKADUR_EMPTY (all zero). Its word is the library's: the caller doesn't read, write or compare it.
+ * - A handle begins as SOIZKADUR_EMPTY (all zero), which is an initializer and, in C, no value to assign. Its word is the
+ *   library's: the caller doesn't read, write or compare it.
  * - A handle isn't copied. One that is moved (memcpy, realloc, return by value) is used at its new place alone; a copy would be
  *   freed twice.
  * - A handle stays on the thread that first used it. Different handles may be used by different threads at once, and the calls
@@ -84,9 +106,10 @@ enum soizkadur_refusal {
     SOIZKADUR_NO_ROOM = 24,   /* the buffer is too small for the message */
     SOIZKADUR_LOST = 25,      /* memory ran out while the MME was made of what was provisioned, of which nothing is left */
 
-    /* of octets that are no S1AP message (TS 36.413); less 30, the numbers of the first fault from the left */
+    /* of octets that are no S1AP message (TS 36.413); less 30, the numbers of the first fault from the left. No call says at which
+     * octet or in which element it is: a message that is written by hand is best tried element by element */
     SOIZKADUR_S1AP_SYNTAX = 31,            /* they spell nothing at some place (X.691) */
-    SOIZKADUR_S1AP_UNKNOWN_PROCEDURE = 32, /* a procedure that isn't known */
+    SOIZKADUR_S1AP_UNKNOWN_PROCEDURE = 32, /* a procedure that isn't of the profile */
     SOIZKADUR_S1AP_MISSING_ELEMENT = 33,   /* an element that must stand does not */
     SOIZKADUR_S1AP_REPEATED_ELEMENT = 34,  /* an element stands twice */
     SOIZKADUR_S1AP_REFUSED_ELEMENT = 35,   /* an unknown element is marked reject */
@@ -146,7 +169,8 @@ uint32_t soizkadur_line(soizkadur_mme *mme, const uint8_t *line, size_t length);
 
 /* ---- an MME, made call by call */
 
-/* Begins the provisioning, as the line `mme`. `plmn` is the network in 3 octets, packed as S1AP has it (TS 36.413 clause 9.2.3.8);
+/* Begins the provisioning, as the line `mme`. `plmn` is the network in 3 octets, packed as S1AP has it (TS 36.413 clause 9.2.3.8;
+ * 001 01 is 00 f1 10, and 310 260 is 13 20 06);
  * `group` and `code` are the MME group ID and the MME code; `apn` is one label, 1 to 63 ASCII letters, digits and hyphens; `down`
  * and `up` are the most bits a second of all bearers of a phone, 1 to 10^10.
  * Refused: BAD_OCTETS (plmn), BAD_NUMBER (apn, down, up), ORDER where something is provisioned or the MME runs, NO_MEMORY. */
@@ -161,7 +185,8 @@ uint32_t soizkadur_add(soizkadur_mme *mme, const uint8_t *imsi, size_t imsi_leng
                        uint32_t teid);
 
 /* Gives a subscriber one more authentication vector (TS 33.401 clause 6.1.2), as the line `vec`: RAND of 16 octets, AUTN of 16,
- * XRES of 4 to 16, KASME of 32. They are used in the order in which they are given.
+ * XRES of 4 to 16, KASME of 32. They are used in the order in which they are given. Nothing in them is checked: any octets do, and
+ * a phone's RES is right where it is XRES, octet by octet and as long.
  * Refused: NO_MME for an empty handle, BAD_NUMBER (imsi), BAD_OCTETS (the others), ORDER before soizkadur_provision_new and once
  * the MME runs, PROVISION where nobody has the IMSI or the subscriber has 64 vectors, NO_MEMORY. */
 uint32_t soizkadur_give(soizkadur_mme *mme, const uint8_t *imsi, size_t imsi_length, const uint8_t *rand, size_t rand_length,
@@ -176,14 +201,14 @@ uint32_t soizkadur_start(soizkadur_mme *mme);
  *      A refused event leaves the MME, and the replies of the last event that was taken, as they were.
  *      NO_MEMORY is the answer to no event that would be refused for another cause. */
 
-/* A station connects. Refused: BAD_NUMBER for a station above 127, ALREADY_UP. */
+/* A station connects: its transport alone, so nothing is sent. Refused: BAD_NUMBER for a station above 127, ALREADY_UP. */
 uint32_t soizkadur_up(soizkadur_mme *mme, uint8_t station);
 
 /* A station's connection is lost. Refused: BAD_NUMBER for a station above 127, NOT_UP. */
 uint32_t soizkadur_lost(soizkadur_mme *mme, uint8_t station);
 
-/* A station sends one whole S1AP message. Octets that are none are no fault of the call: the MME answers them as TS 36.413
- * clause 10 has it. Refused: BAD_NUMBER for a station above 127, NOT_UP. */
+/* A station sends one whole S1AP message. Octets that are none are no fault of the call: the MME answers them, by ERROR INDICATION
+ * with the cause (TS 36.413 clause 10). Refused: BAD_NUMBER for a station above 127, NOT_UP. */
 uint32_t soizkadur_in(soizkadur_mme *mme, uint8_t station, const uint8_t *octets, size_t length);
 
 /* `count` seconds pass, 1 to 1000000, one tick after another. There is a reply for each tick, in order, and each is taken or
@@ -231,6 +256,8 @@ uint32_t soizkadur_out(soizkadur_mme *mme, size_t reply, size_t index, soizkadur
 
 /* ---- questions, and the end */
 
+/* A phone whose RES is wrong is DEREGISTERED, and INACTIVE, from the event on at which AUTHENTICATION REJECT is sent: these states,
+ * too, don't wait for UE CONTEXT RELEASE COMPLETE. */
 enum soizkadur_emm_state { /* TS 24.301 clause 5.1.3 */
     SOIZKADUR_DEREGISTERED = 0,
     SOIZKADUR_COMMON_PROCEDURE_INITIATED = 1,

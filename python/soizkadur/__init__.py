@@ -9,8 +9,10 @@
 
 An `Mme` is one whole MME, held by a handle of the C library (library/soizkadur.h, whose words hold here too). Each event answers
 the messages that the MME sends at it, or raises `Refused`, and then the MME is as it was. The calls that need no MME (`s1ap`,
-`nas`, `eia2` ..) read octets and derive keys. `soizkadur.standards` has stations and phones that know the standards and not the
-MME, and `soizkadur.testing` brings both together for tests.
+`nas`, `eia2` ..) read octets and derive keys; `pydoc soizkadur.mme.Mme` and `pydoc soizkadur.codecs` say more of both.
+
+`soizkadur.standards` has stations and phones that know the standards and not the MME, and `soizkadur.testing` brings both together
+for tests. These two read files of bench/ and tools/, so they are for a clone: set PYTHONPATH to its folder python.
 
 It is plain Python over `ctypes`, and needs nothing else. The shared object is found by the variable SOIZKADUR_LIBRARY (the path of
 the file), else beside this package, in the clone where `./mme --library` leaves it, or by the system's loader.

@@ -46,7 +46,8 @@ def chart(transcript: str) -> str:
 class Laboratory:
     """An MME (`mme`), stations that are set up (`stations`, the first also `station`), and phones that are provisioned (`phones`,
     in order of slot, of the class `phone`), each with as many vectors of its own as `vectors` says; `trace` plays the events and
-    compares what comes. Station N is in tracking area N + 1."""
+    compares what comes. Station N (`number`) is in tracking area N + 1. A phone has its place (`slot`), its identity (`imsi`) and
+    its `vectors`; where a step takes a station, it is one of `stations`, and not its number."""
 
     def __init__(self, phones: int = 10, stations: int = 1, vectors: int = 4, network: Network | None = None,
                  phone: type[FailingPhone] = FailingPhone) -> None:
@@ -73,7 +74,7 @@ class Laboratory:
         return chart(self.trace.transcript())
 
     def close(self) -> None:
-        """Frees the MME."""
+        """Frees the MME, and compares nothing: at the end of a `with` what was sent last is compared first."""
         self.mme.close()
 
     def __enter__(self) -> "Laboratory":

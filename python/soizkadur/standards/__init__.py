@@ -21,7 +21,8 @@ def _beside(name: str, *folders: pathlib.Path):
     """A module by its file's name in the first of these folders that has it; it may name others there without a package."""
     folder = next((folder for folder in folders if (folder / (name + ".py")).exists()), None)
     if folder is None:
-        raise ImportError("no %s.py in %s" % (name, " or ".join(map(str, folders))))
+        raise ImportError("no %s.py in %s: soizkadur.standards and soizkadur.testing are for a clone, whose folder python has "
+                          "to be on PYTHONPATH" % (name, " or ".join(map(str, folders))))
     sys.path.insert(0, str(folder))
     try:
         return importlib.import_module(name)

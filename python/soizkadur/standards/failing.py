@@ -37,7 +37,7 @@ class FailingPhone(phones.Phone):
     # --- What goes wrong in an attach ---
 
     def asks(self, station, b: int, *, imsi: str | None = None, pdn_type: int = 1) -> bytes:
-        """An ATTACH REQUEST, of which nothing is owed yet."""
+        """The octets of an ATTACH REQUEST as NAS. Nothing is sent: `asks_to_attach` sends one."""
         esm = lte.pdn_connectivity_request(1, pdn_type, False)
         return lte.attach_request(1, lte.imsi_identity(imsi or self.imsi), self.capability, esm)
 
@@ -93,7 +93,8 @@ class FailingPhone(phones.Phone):
 
     @needs("station")
     def fails_authentication(self) -> None:
-        """What those steps end with that fail authentication: owed AUTHENTICATION REJECT and the release (clause 5.4.2.5)."""
+        """What those steps end with that fail authentication: owed AUTHENTICATION REJECT and the release (clause 5.4.2.5), which
+        the station completes."""
         self.owed_nas(AUTHENTICATION_REJECT)
         self.owed(lte.release_command(self.m, self.b, FAILED))
         self.goes()
@@ -136,7 +137,8 @@ class FailingPhone(phones.Phone):
 
     @needs("station")
     def sends(self, nas: bytes) -> None:
-        """A NAS message by UPLINK NAS TRANSPORT; what is owed for it is not said."""
+        """A NAS message by UPLINK NAS TRANSPORT. What is owed for it is said after it, by `owed_nas`, `owed` or a step that ends a
+        procedure; an answer that isn't owed is found at the next line."""
         self.last = self.station, lte.uplink_nas(self.network, self.station, self.m, self.b, nas)
         super().sends(nas)
 
