@@ -20,6 +20,12 @@ abbrev pub Answers : {X Y : Type 0} → (X → Y) → Result X S1apFault → Res
 Answers view (Ok x) read = read ≡ Ok (view x)
 Answers view (Err e) read = FailsAs e read
 
+-- an answer that is never want of memory
+abbrev pub WantsNoMemory : {X : Type 0} → Result X S1apFault → Type 0
+WantsNoMemory (Ok x) = Unit {0}
+WantsNoMemory (Err NoMemory) = ⊥
+WantsNoMemory (Err f) = Unit {0}
+
 abbrev pub fault_of : PerError → S1apFault
 fault_of (errors.Fault f) = Syntax f
 fault_of errors.NoMemory = NoMemory

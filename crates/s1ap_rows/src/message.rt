@@ -7,7 +7,7 @@ ghost use Rattle.s1ap_rows.specs.Rows.{Rows, Slots, Kept, row_count, no_slots};
 ghost use Rattle.s1ap_rows.specs.Reading.{put_at, kept_of, message_at};
 ghost use Rattle.s1ap_rows.specs.Writing.{count_of, write_rows, write_message, write_content, write_pdu};
 ghost use Rattle.s1ap_rows.specs.Criticalities.{criticality_number};
-ghost use Rattle.s1ap_rows.specs.Answers.{Answers, Reads};
+ghost use Rattle.s1ap_rows.specs.Answers.{Answers, Reads, WantsNoMemory};
 
 use crate::criticality::Criticality;
 use crate::engine::{MOST_ELEMENTS, fill_message};
@@ -43,7 +43,8 @@ pub trait Message<'a>: Drop {
 
     /// What the message has of what was read, or the first element that must stand and does not.
     fn elements(self) -> Result<Self::Elements, S1apFault>
-        ensures { Answers view result (kept_of rows (slots self)) };
+        ensures answer { Answers view result (kept_of rows (slots self)) }
+        ensures memory { WantsNoMemory result };
 }
 
 /// The rows of a message that is written.
