@@ -4,7 +4,7 @@ ghost use Rattle.std.specs.Prelude.{◌≡◌, ◌<◌, ◌^◌};
 ghost use Rattle.c_session.specs.Arguments.{apn_of, imsi_of, network_of, profile_of, rate_of, sized, station_of, vector_of, xres_of};
 
 use crate::refusal::{Refusal, of_line};
-use identity_slots::{Profile, StationNumber, Vector, Xres};
+use identity_slots::{GivenKasme, Profile, StationNumber, Vector, Xres};
 use mme_types::{AggregateBitRate, Apn, Network};
 use nas_elements::Imsi;
 use per_bits::Octets;
@@ -122,6 +122,6 @@ pub(crate) fn vector_of(
         rand: sized::<16>(rand)?,
         autn: sized::<16>(autn)?,
         xres: xres_of(xres)?,
-        kasme: sized::<32>(kasme)?,
+        kasme: GivenKasme::new(sized::<32>(kasme)?),
     })
 }

@@ -169,7 +169,7 @@ fn new_context(
 ) -> Result<(), AllocError>
     ensures { OnOk result (draft.new ≡ new_context place vector.now draft.old) }
 {
-    let kasme = Kasme::new(&vector.kasme);
+    let kasme = Kasme::new(vector.kasme.octets());
     let integrity = Eia2::new(&kasme.nas_integrity_key());
     draft.solo.phase = Phase::SecurityMode;
     draft.solo.context = Some(Context {

@@ -10,6 +10,6 @@ mod station;
 
 pub use ids::{AssociationId, COUNTERS, Slot, Tmsi, number_in, station_in};
 pub use laws::{imsis_apart, octets_apart};
-pub use profile::{Profile, Vector, Vectors, Xres};
+pub use profile::{GivenKasme, Profile, Vector, Vectors, Xres};
 pub use provision::{Provision, ProvisionFault};
 pub use station::StationNumber;

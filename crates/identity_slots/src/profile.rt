@@ -72,13 +72,44 @@ impl Clone for Xres {
     }
 }
 
+/// KASME as it was given with a vector, 32 octets (TS 33.401 clause 6.1.2), which a contract sees as its octets. It is neither
+/// copied unsaid nor printed nor compared.
+#[derive(Drop)]
+pub struct GivenKasme {
+    octets: [u8; 32],
+}
+
+impl Model for GivenKasme {
+    ghost use Rattle.std.specs.Prelude.{ℕ, List};
+
+    ghost Value = { List ℕ };
+
+    ghost view = { λ k. k.octets };
+}
+
+impl GivenKasme {
+    /// The key of these octets.
+    pub fn new(octets: [u8; 32]) -> Self
+        ensures { result ≡ octets }
+    {
+        GivenKasme { octets }
+    }
+
+    /// Its octets, which are a secret.
+    pub fn octets(&self) -> &[u8; 32]
+        ensures { result.now ≡ self.now }
+    {
+        &self.octets
+    }
+}
+
 /// An authentication vector (TS 33.401 clause 6.1.2).
 #[derive(Drop)]
 pub struct Vector {
     pub rand: [u8; 16],
     pub autn: [u8; 16],
     pub xres: Xres,
-    pub kasme: [u8; 32],
+    pub kasme: GivenKasme,
 }
 
 impl Clone for Vector {
@@ -91,7 +122,7 @@ impl Clone for Vector {
             rand: self.rand,
             autn: self.autn,
             xres: self.xres.clone()?,
-            kasme: self.kasme,
+            kasme: GivenKasme::new(*self.kasme.octets()),
         })
     }
 }

@@ -44,7 +44,7 @@ fn first_with<'a>(vectors: &'a [Vector], rand: &[u8]) -> Option<&'a Vector>
 fn fresh_context(vector: &Vector, ksi: u8) -> PhoneContext
     ensures { result ≡ fresh_context vector.now ksi }
 {
-    let key = nas_integrity_key(&vector.kasme);
+    let key = nas_integrity_key(vector.kasme.octets());
     PhoneContext::new(PhoneSide::new(&key), ksi, 0, None)
 }
 

@@ -11,7 +11,7 @@ use crate::fields::{
     bit_rate, imsi, is_named, label, octets, plmn, sized_octets, station, ticks, xres,
 };
 use crate::values::{TraceOctets, TraceTicks};
-use identity_slots::{Profile, StationNumber, Vector};
+use identity_slots::{GivenKasme, Profile, StationNumber, Vector};
 use memchr::memchr;
 use mme_types::Network;
 use nas_elements::Imsi;
@@ -245,7 +245,7 @@ fn vec_line(
         rand: sized_octets::<16>(rand)?,
         autn: sized_octets::<16>(autn)?,
         xres: xres(alloc, answer)?,
-        kasme: sized_octets::<32>(kasme)?,
+        kasme: GivenKasme::new(sized_octets::<32>(kasme)?),
     };
     Ok(Line::Vec(of, vector))
 }

@@ -114,7 +114,7 @@ fn write_vec(alloc: Global, imsi: &Imsi, vector: &Vector) -> Result<String, Allo
     push_octets(alloc, &mut text, &vector.rand)?;
     push_octets(alloc, &mut text, &vector.autn)?;
     push_octets(alloc, &mut text, vector.xres.as_slice())?;
-    push_octets(alloc, &mut text, &vector.kasme)?;
+    push_octets(alloc, &mut text, vector.kasme.octets())?;
     Ok(text)
 }
 

@@ -4,7 +4,7 @@
 ghost use Rattle.std.specs.Prelude.{◌≡◌, ◌<◌, length, true};
 
 use super::must;
-use identity_slots::{Profile, Provision, ProvisionFault, Slot, Vector, Xres};
+use identity_slots::{GivenKasme, Profile, Provision, ProvisionFault, Slot, Vector, Xres};
 use nas_elements::Imsi;
 
 fn profile(imsi: Imsi) -> Profile {
@@ -50,7 +50,7 @@ fn gives(provision: &mut Provision, slot: Slot) -> bool
         rand: [0; 16],
         autn: [1; 16],
         xres,
-        kasme: [2; 32],
+        kasme: GivenKasme::new([2; 32]),
     };
     provision.give(slot, vector).is_ok()
 }

@@ -1,7 +1,7 @@
 //! A list of events at once: a station is set up, and a phone that is known attaches and is challenged.
 
 use crate::tests::{config, must};
-use identity_slots::{Profile, Provision, Slot, Vector, Xres};
+use identity_slots::{GivenKasme, Profile, Provision, Slot, Vector, Xres};
 use mme_core::{Config, Event, Mme, Outs, Owner, StepFault};
 use mme_types::StationNumber;
 use nas_elements::Imsi;
@@ -32,7 +32,7 @@ fn vector() -> Option<Vector> {
         rand: *b"\x00\x01\x02\x03\x04\x05\x06\x07\x08\x09\x0a\x0b\x0c\x0d\x0e\x0f",
         autn: *b"\x10\x11\x12\x13\x14\x15\x16\x17\x18\x19\x1a\x1b\x1c\x1d\x1e\x1f",
         xres: Xres::try_new(b"expected")?,
-        kasme: [0; 32],
+        kasme: GivenKasme::new([0; 32]),
     })
 }
 
