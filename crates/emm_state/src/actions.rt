@@ -1,6 +1,6 @@
 //! The actions of a step.
 
-ghost use Rattle.std.specs.Prelude.{◌≡◌, ◌<◌, ◌^◌, IfOk, OnOk, Some, None, option_map};
+ghost use Rattle.std.specs.Prelude.{◌≡◌, ◌<◌, ◌^◌, IfOk, OnErr, OnOk, Some, None, option_map};
 ghost use Rattle.mme_types.specs.s1ap_pdus.Pdus.{encoded, lists};
 ghost use Rattle.mme_types.specs.s1ap_causes.declared.cause.Cause.TheVariants as causes;
 ghost use Rattle.mme_types.specs.s1ap_causes.declared.cause.NasCause.TheVariants as nas_causes;
@@ -101,7 +101,8 @@ impl Draft {
         message: &S1apPdu,
         under: Option<Mark>,
     ) -> Result<(), AllocError>
-        ensures { OnOk result (self.new ≡ emit station (lists message.now) under self.old) }
+        ensures after { OnOk result (self.new ≡ emit station (lists message.now) under self.old) }
+        ensures err { OnErr result (self.new ≡ self.old) }
     {
         let Some(octets) = SentOctets::of_message(alloc, message)? else {
             self.unwritten = true;
@@ -123,7 +124,8 @@ impl Draft {
         message: S1apPdu,
         under: Option<Mark>,
     ) -> Result<(), AllocError>
-        ensures { OnOk result (self.new ≡ emit station (lists message.entry) under self.old) }
+        ensures after { OnOk result (self.new ≡ emit station (lists message.entry) under self.old) }
+        ensures err { OnErr result (self.new ≡ self.old) }
     {
         self.emit_lent(alloc, station, &message, under)
     }
@@ -131,7 +133,8 @@ impl Draft {
     /// NAS to the phone, plain, in DOWNLINK NAS TRANSPORT.
     #[tactic(auto, unfolding(crate::specs::Actions::send))]
     pub fn send(&mut self, alloc: Global, nas: &[u8]) -> Result<(), AllocError>
-        ensures { OnOk result (self.new ≡ send nas.now self.old) }
+        ensures after { OnOk result (self.new ≡ send nas.now self.old) }
+        ensures err { OnErr result (self.new ≡ self.old) }
     {
         let Some(connection) = self.solo.connection else {
             return Ok(());
@@ -144,7 +147,8 @@ impl Draft {
     /// UE CONTEXT RELEASE COMMAND, and the connection is gone.
     #[tactic(auto, unfolding(crate::specs::Actions::release, crate::specs::Actions::disconnected))]
     pub fn release(&mut self, alloc: Global, cause: Cause) -> Result<(), AllocError>
-        ensures { OnOk result (self.new ≡ release cause self.old) }
+        ensures after { OnOk result (self.new ≡ release cause self.old) }
+        ensures err { OnErr result (self.new ≡ self.old) }
     {
         let Some(connection) = self.solo.connection else {
             return Ok(());
@@ -204,7 +208,8 @@ impl Draft {
     /// The connection ends: a phone that is registered is idle, any other is forgotten.
     #[tactic(auto, unfolding(crate::specs::Actions::fall))]
     pub fn fall(&mut self, alloc: Global, cause: Cause) -> Result<(), AllocError>
-        ensures { OnOk result (self.new ≡ fall cause self.old) }
+        ensures after { OnOk result (self.new ≡ fall cause self.old) }
+        ensures err { OnErr result (self.new ≡ self.old) }
     {
         self.release(alloc, cause)?;
         if is_registered(self.solo.phase) {
@@ -223,7 +228,8 @@ impl Draft {
         station: StationNumber,
         enb_ue_id: EnbUeId,
     ) -> Result<(), AllocError>
-        ensures { OnOk result (self.new ≡ leave_old station enb_ue_id self.old) }
+        ensures after { OnOk result (self.new ≡ leave_old station enb_ue_id self.old) }
+        ensures err { OnErr result (self.new ≡ self.old) }
     {
         let Some(old) = self.solo.connection else {
             return Ok(());
@@ -244,7 +250,8 @@ impl Draft {
         station: StationNumber,
         enb_ue_id: EnbUeId,
     ) -> Result<(), AllocError>
-        ensures { OnOk result (self.new ≡ connect_on id station enb_ue_id self.old) }
+        ensures after { OnOk result (self.new ≡ connect_on id station enb_ue_id self.old) }
+        ensures err { OnErr result (self.new ≡ self.old) }
     {
         self.leave_old(alloc, station, enb_ue_id)?;
         self.solo.connection = Some(Connection {
@@ -267,7 +274,7 @@ impl Draft {
     }
 
     /// An association with the slot's next id is the connection.
-    #[tactic(auto, unfolding(crate::specs::Actions::connect))]
+    #[tactic(auto, unfolding(crate::specs::Actions::connect, crate::specs::Actions::association_counted))]
     pub fn connect(
         &mut self,
         alloc: Global,
@@ -275,14 +282,20 @@ impl Draft {
         station: StationNumber,
         enb_ue_id: EnbUeId,
     ) -> Result<(), AllocError>
-        ensures { OnOk result (self.new ≡ connect slot station enb_ue_id self.old) }
+        ensures after { OnOk result (self.new ≡ connect slot station enb_ue_id self.old) }
+        ensures err { OnErr result (self.new ≡ self.old) }
     {
+        let before = self.solo.associations;
         let id = self.next_id(slot);
-        self.connect_on(alloc, id, station, enb_ue_id)
+        let connected = self.connect_on(alloc, id, station, enb_ue_id);
+        if connected.is_err() {
+            self.solo.associations = before;
+        }
+        connected
     }
 
     /// A phone's request is answered by a release alone, on an association of its own; all else stays.
-    #[tactic(auto, unfolding(crate::specs::Actions::turn_away))]
+    #[tactic(auto, unfolding(crate::specs::Actions::turn_away, crate::specs::Actions::emit, crate::specs::Actions::association_counted))]
     pub fn turn_away(
         &mut self,
         alloc: Global,
@@ -290,11 +303,14 @@ impl Draft {
         station: StationNumber,
         enb_ue_id: EnbUeId,
     ) -> Result<(), AllocError>
-        ensures { OnOk result (self.new ≡ turn_away slot station enb_ue_id self.old) }
+        ensures after { OnOk result (self.new ≡ turn_away slot station enb_ue_id self.old) }
+        ensures err { OnErr result (self.new ≡ self.old) }
     {
-        let id = self.next_id(slot);
+        let (id, counter) = self.solo.associations.association(slot);
         let message = release_command(id, enb_ue_id, normal_release());
-        self.emit(alloc, station, message, None)
+        self.emit(alloc, station, message, None)?;
+        self.solo.associations = counter;
+        Ok(())
     }
 
     /// A phone's request is refused by a plain message and a release, on an association of its own; all else stays.
@@ -402,7 +418,8 @@ impl Draft {
         nas: Option<&'x [u8]>,
         under: Option<Mark>,
     ) -> Result<(), AllocError>
-        ensures { OnOk result (self.new ≡ set_up setting.now kenb (option_map (λ o. o.now) nas.entry) under self.old) }
+        ensures after { OnOk result (self.new ≡ set_up setting.now kenb (option_map (λ o. o.now) nas.entry) under self.old) }
+        ensures err { OnErr result (self.new ≡ self.old) }
     {
         let Some(connection) = self.solo.connection else {
             return Ok(());
@@ -428,7 +445,8 @@ impl Draft {
         setting: &Setting,
         kenb: Kenb,
     ) -> Result<(), AllocError>
-        ensures { OnOk result (self.new ≡ set_up setting.now kenb None None self.old) }
+        ensures after { OnOk result (self.new ≡ set_up setting.now kenb None None self.old) }
+        ensures err { OnErr result (self.new ≡ self.old) }
     {
         self.set_up(alloc, setting, kenb, None, None)
     }

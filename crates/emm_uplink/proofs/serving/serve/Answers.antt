@@ -9,6 +9,6 @@ use Rattle.emm_uplink.proofs.serving.serve.Goals as goal
 pub returns : goal.returns
 unfolding served active ended
 returns c x h =
-    let moved = c.active.ensures ∙ ap (active _) c.in_ok-connect.ensures in
+    let moved = c.active.ensures ∙ ap (active _) c.in_ok-connect.ensures.after in
     let stands = ap (λ (d : Draft). d.solo.context) moved ∙ connect_keeps _ _ _ (Some x) _ h in
-    rw (sym (c.keyed-kenb.ensures.kenb x stands), sym (c.keyed-kenb.ensures.keyed x stands ∙ ap (keyed x c.args.count) moved)) c.set_up_alone.ensures
+    rw (sym (c.keyed-kenb.ensures.kenb x stands), sym (c.keyed-kenb.ensures.keyed x stands ∙ ap (keyed x c.args.count) moved)) c.set_up_alone.ensures.after
