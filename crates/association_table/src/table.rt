@@ -1,7 +1,7 @@
 //! The map.
 
-ghost use Rattle.std.specs.Prelude.{◌≡◌, ℕ, ◌+◌, ◌-◌, ◌*◌, ◌<◌, ◌≤◌, ◌^◌, ◌↔◌, List, [], IfOk, OnOk, OnErr, IsTrue, IsSome, Option, Some, None, Err, is_some, IsOk, if◌then◌else◌};
-ghost use Rattle.association_table.specs.declared.association.OpenFault.TheVariants.{Taken};
+ghost use Rattle.std.specs.Prelude.{◌≡◌, ◌≢◌, ℕ, ◌+◌, ◌-◌, ◌*◌, ◌<◌, ◌≤◌, ◌^◌, ◌↔◌, List, [], IfOk, IfErr, OnOk, OnErr, IsTrue, IsSome, Option, Some, None, Err, is_some, IsOk, if◌then◌else◌};
+ghost use Rattle.association_table.specs.declared.association.OpenFault.TheVariants.{Taken, NoMemory};
 ghost use Rattle.association_table.specs.declared.association.MoveFault.TheVariants.{Unknown};
 ghost use Rattle.sorted_list.specs.Ordered.{Rising};
 ghost use Rattle.association_table.specs.Table.{association_id, found, opened, closed, moved, at_station, elsewhere};
@@ -86,12 +86,15 @@ impl Associations {
         }
     }
 
-    /// Makes room for `more` further ones. Where that is refused the entries are as they were.
+    /// Makes room for `more` further ones. Where there is room enough it isn't refused; where it is the entries are as they were.
     pub fn reserve(&mut self, more: usize) -> Result<(), AllocError>
         ensures entries { self.new.entries ≡ self.old.entries }
         ensures room { OnOk result (more ≤ self.new.room) }
         ensures kept { self.old.room ≤ self.new.room }
+        ensures enough { more ≤ self.old.room → IsOk result }
     {
+        // (that it holds no more than fits)
+        let _ = self.slab.capacity();
         self.slab.reserve(more)?;
         self.by_id.reserve(more)?;
         self.by_station.reserve(more)?;
@@ -99,13 +102,16 @@ impl Associations {
         Ok(())
     }
 
-    /// Opens an association: Taken where its id has one, else NoMemory where room for it was refused. All growths come first,
-    /// and a refused call leaves the entries as they were.
+    /// Opens an association: Taken where its id has one, else NoMemory where there is no room for it and it was refused. All
+    /// growths come first, and a refused call leaves the entries as they were, and no less room.
     pub fn open(&mut self, association: Association) -> Result<(), OpenFault>
         ensures entries { OnOk result (self.new.entries ≡ opened association self.old.entries) }
         ensures taken { (result ≡ Err Taken) ↔ IsSome (found association.id self.old.entries) }
         ensures err { OnErr result (self.new.entries ≡ self.old.entries) }
         ensures room { self.old.room ≤ self.new.room + 1 }
+        ensures kept { OnErr result (self.old.room ≤ self.new.room) }
+        ensures enough { 1 ≤ self.old.room → result ≢ Err NoMemory }
+        ensures refused { IfErr result (λ fault. fault ≢ NoMemory → self.new ≡ self.old) }
     {
         if self.find(association.id).is_some() {
             return Err(OpenFault::Taken);

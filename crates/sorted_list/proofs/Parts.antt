@@ -1,5 +1,5 @@
 -- The first part of a key decides.
-use Rattle.std.proofs.Common.{◌≡◌, ℕ, ◌+◌, ◌*◌, ◌^◌, ◌<◌, arith}
+use Rattle.std.proofs.Common.{◌^◌, arith}
 use Rattle.sorted_list.specs.Paired.{paired, paired_short, IsOrder}
 
 pub long : IsOrder (2 ^ 64) paired

@@ -1,6 +1,6 @@
 //! The list.
 
-ghost use Rattle.std.specs.Prelude.{◌≡◌, ℕ, ◌+◌, ◌<◌, ◌≤◌, List, [], IfOk, OnOk, OnErr, Option, Some, None, if◌then◌else◌, is_some, length, drop, ◌==◌, true, false};
+ghost use Rattle.std.specs.Prelude.{◌≡◌, ℕ, ◌+◌, ◌<◌, ◌≤◌, List, [], IfOk, IsOk, OnOk, OnErr, Option, Some, None, if◌then◌else◌, is_some, length, drop, ◌==◌, true, false};
 ghost use Rattle.sorted_list.specs.Ordered.{at, add, put, without, Rising};
 ghost use Rattle.sorted_list.specs.Sorted.{lowest, lowest_from};
 
@@ -14,7 +14,7 @@ use std::alloc::{AllocError, Global};
 use std::marker::Model;
 
 /// Elements with keys of their own. Contracts see them by rising key, and for how many more there is room: that many can be
-/// inserted with no allocation, whatever is taken out or replaced between. A call that is refused keeps the elements.
+/// inserted with no allocation, whatever is taken out or replaced between. A call that is refused leaves the list as it was.
 #[derive(Drop)]
 pub struct SortedList<T: Keyed> {
     // No chunk is empty.
@@ -125,12 +125,14 @@ impl<T: Keyed> SortedList<T> {
     }
 
     /// Makes room for `more` further ones. It takes a free chunk for each at most, and no more than the number of elements that
-    /// there will be, divided by 128, and one. Where that is refused the elements are as they were.
+    /// there will be, divided by 128, and one. Where there is room enough it isn't refused; where it is the list is as it was.
     pub fn reserve(&mut self, more: usize) -> Result<(), AllocError>
         ensures items { self.new.items ≡ self.old.items }
         ensures room { OnOk result (more ≤ self.new.room) }
         ensures kept { self.old.room ≤ self.new.room }
         ensures steady { self.new.steady ≡ self.old.steady }
+        ensures enough { more ≤ self.old.room → IsOk result }
+        ensures refused { OnErr result (self.new ≡ self.old) }
     {
         if more <= self.room {
             return Ok(());
@@ -153,13 +155,15 @@ impl<T: Keyed> SortedList<T> {
         Ok(())
     }
 
-    /// Inserts an element whose key is free. Where room is refused the elements are as they were.
+    /// Inserts an element whose key is free. Where there is room it isn't refused; where it is the list is as it was.
     pub fn insert(&mut self, item: T) -> Result<(), AllocError>
         requires { at T.rank (T.rank item) self.old.items ≡ None }
         ensures items { OnOk result (self.new.items ≡ add T.rank item self.old.items) }
         ensures err { OnErr result (self.new.items ≡ self.old.items) }
         ensures room { self.old.room ≤ self.new.room + 1 }
         ensures steady { self.new.steady ≡ self.old.steady }
+        ensures enough { 1 ≤ self.old.room → IsOk result }
+        ensures refused { OnErr result (self.new ≡ self.old) }
     {
         self.reserve(1)?;
         self.insert_reserved(item);

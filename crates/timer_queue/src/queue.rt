@@ -1,6 +1,6 @@
 //! Timers as two lists of what runs: a queue in the order of the deadlines, and an index in the order of the timers.
 
-ghost use Rattle.std.specs.Prelude.{◌≡◌, ℕ, ◌+◌, ◌*◌, ◌<◌, ◌≤◌, ◌^◌, ◌↔◌, List, [], IfOk, OnOk, OnErr, Option, Err, false};
+ghost use Rattle.std.specs.Prelude.{◌≡◌, ℕ, ◌+◌, ◌*◌, ◌<◌, ◌≤◌, ◌^◌, ◌↔◌, List, [], IfOk, IsOk, IsErr, OnOk, OnErr, Option, Err, false};
 ghost use Rattle.timer_queue.specs.declared.queue.TickFault.TheVariants.{ClockSpent, NoMemory};
 ghost use Rattle.sorted_list.specs.Ordered.{Rising, Every};
 ghost use Rattle.timer_queue.specs.Countdowns.{Countdowns, countdown_rank, ticks_left, started, stopped, due_of, aged};
@@ -175,25 +175,30 @@ impl Timers {
         }
     }
 
-    /// Makes room for `more` further timers. Where that is refused the timers are as they were.
+    /// Makes room for `more` further timers. Where there is room enough it isn't refused; where it is the timers are as they were.
     pub fn reserve(&mut self, more: usize) -> Result<(), AllocError>
         ensures clock { self.new.clock ≡ self.old.clock }
         ensures running { self.new.running ≡ self.old.running }
         ensures room { OnOk result (more ≤ self.new.room) }
         ensures kept { self.old.room ≤ self.new.room }
+        ensures enough { more ≤ self.old.room → IsOk result }
+        ensures short { IsErr result → self.new.room < more }
     {
         self.queue.reserve(more)?;
         self.index.reserve(more)?;
         Ok(())
     }
 
-    /// Starts a timer of 1 to 3480 ticks, in place of one that runs. Where room for it is refused the timers are as they were.
+    /// Starts a timer of 1 to 3480 ticks, in place of one that runs. Where there is room it isn't refused; where it is the timers
+    /// and the room are as they were.
     pub fn start(&mut self, owner: TimerOwner, kind: Kind, ticks: u64) -> Result<(), AllocError>
         requires { (1 ≤ ticks) × (ticks ≤ 3480) }
         ensures clock { self.new.clock ≡ self.old.clock }
         ensures running { OnOk result (self.new.running ≡ started owner kind ticks self.old.running) }
         ensures err { OnErr result (self.new.running ≡ self.old.running) }
         ensures room { self.old.room ≤ self.new.room + 1 }
+        ensures enough { 1 ≤ self.old.room → IsOk result }
+        ensures refused { OnErr result (self.new ≡ self.old) }
     {
         self.reserve(1)?;
         self.start_reserved(owner, kind, ticks);

@@ -1,4 +1,4 @@
-use Rattle.std.proofs.Common.{◌≡◌, sym, ◌∙◌, ap}
+use Rattle.std.proofs.Common.{sym, ◌∙◌, ap}
 use Rattle.sorted_list.specs.Sorted.{lowest_from}
 use Rattle.association_table.specs.Kept.{index_rank}
 use Rattle.association_table.proofs.Stations.{entry_end, entry_absent, entry_found}
