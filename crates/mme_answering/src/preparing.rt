@@ -31,7 +31,8 @@ use laws_connections::connections_come_so;
 use laws_ends::clocks_are_kept;
 use mme_owners::{Due, Owners};
 use mme_routing::Destination;
-use mme_types::{EnbWorld, Entry, SoloEvent, UeMessage};
+use mme_types::{EnbWorld, Entry, SoloEvent, StationNumber, UeMessage};
+use s1ap_elements::AssociationToReset;
 use std::alloc::{AllocError, Global};
 use stranger_machine::{Call, Notice, Turn, begins, receives};
 use stranger_table::Strangers;
@@ -198,6 +199,19 @@ fn event_of(notice: &Notice) -> SoloEvent<'_>
     }
 }
 
+// The slots of those whose connection a RESET of a part of a station means.
+#[inline(never)]
+fn listed(
+    owners: &Owners,
+    station: StationNumber,
+    list: &[AssociationToReset],
+) -> Result<Vec<Slot>, AllocError>
+    ensures { IfOk result
+        (λ touched. touched.items ≡ touched_slots (items.ConnectionsGone station list.now) owners.now.subscribers) }
+{
+    owners.listed(station, list)
+}
+
 // The slots of those whom a notice of a station may touch.
 fn touched_by(owners: &Owners, notice: &Notice) -> Result<Vec<Slot>, AllocError>
     requires { is_of_station notice.now ≡ true }
@@ -205,14 +219,13 @@ fn touched_by(owners: &Owners, notice: &Notice) -> Result<Vec<Slot>, AllocError>
 {
     match notice {
         Notice::Gone(station) => owners.concerned(*station),
-        Notice::Listed(station, items) => owners.listed(*station, items.as_slice()),
+        Notice::Listed(station, items) => listed(owners, *station, items.as_slice()),
         Notice::Tick => unreachable!(),
     }
 }
 
 // What a notice of a station makes of those subscribers whom it touches, by the event that it is to them, and what they send;
 // strangers send nothing at it.
-#[inline(never)]
 fn prepare_all(
     alloc: Global,
     subscribers: &mut Subscribers,
@@ -322,6 +335,28 @@ fn prepare_own<'a>(
     }
 }
 
+// What is to become of all at a tick.
+#[inline(never)]
+fn prepare_due(
+    alloc: Global,
+    owners: &mut Owners,
+    stations: &EnbWorld,
+    event: &SoloEvent,
+    outs: &mut Outs,
+) -> Result<Prepared, AllocError>
+    requires tick { item_of event.now stations.now ≡ items.Tick }
+    requires in_use { AreInUse owners.old.subscribers }
+    ensures prepares { IfOk result
+        (λ p. (ps : List Profile) → Prepares ps (Everyone notices.Tick)
+        owners.old.strangers owners.old.subscribers outs.old outs.new p) }
+    ensures same { owners.new ≡ owners.old }
+{
+    let due = owners.due()?;
+    let strangers = &owners.records.strangers;
+    let subscribers = &mut owners.records.subscribers;
+    prepare_tick(alloc, strangers, subscribers, due, stations, event, outs)
+}
+
 // What is to become of all, where an event goes to everyone.
 #[inline(never)]
 fn prepare_everyone<'a>(
@@ -340,11 +375,7 @@ fn prepare_everyone<'a>(
 {
     match destination {
         Destination::Everyone(Notice::Tick) => {
-            let due = owners.due()?;
-            let event = &SoloEvent::Tick;
-            let strangers = &owners.records.strangers;
-            let subscribers = &mut owners.records.subscribers;
-            prepare_tick(alloc, strangers, subscribers, due, stations, event, outs)
+            prepare_due(alloc, owners, stations, &SoloEvent::Tick, outs)
         }
         Destination::Everyone(notice) => {
             let touched = touched_by(owners, &notice)?;

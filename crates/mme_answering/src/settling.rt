@@ -1,11 +1,27 @@
 //! What was prepared is so.
+//!
+//! What isn't a subscriber's own step is settled out of line (`inline(never)`), so that a step doesn't clear its locals.
 
-ghost use Rattle.std.specs.Prelude.{◌≡◌, ◌<◌, ◌^◌, OnOk, OnErr};
-ghost use Rattle.mme_answering.specs.Settled.{IsApart, IsFor, IsWaiting, MayPass, settled_clock, settled_strangers, settled_subscribers, starts_of, steps_of};
+ghost use Rattle.std.specs.Prelude.{◌≡◌, ◌+◌, ◌*◌, ◌<◌, ◌≤◌, ◌^◌, length, OnOk, OnErr, true};
+ghost use Rattle.identity_slots.specs.Ids.{slots};
+ghost use Rattle.sorted_list.specs.Ordered.{Every};
+ghost use Rattle.stranger_machine.specs.declared.turn.Notice.TheVariants.{Tick};
+ghost use Rattle.stranger_machine.specs.Machine.{is_of_station};
+ghost use Rattle.stranger_machine.specs.Table.{noted, stranger_at, with_stranger};
+ghost use Rattle.stranger_machine.specs.Turns.{after_of};
+ghost use Rattle.mme_timers.specs.Waiting.{due_ids};
+ghost use Rattle.subscriber_table.specs.Table.{due_slots, slots_stepped, tick_settled, with_stepped, IsCounting};
+ghost use Rattle.subscriber_table.specs.Touched.{KeepsPlace};
+ghost use Rattle.mme_owners.specs.Owners.{with_one, IsFitIf, IsWaitAfter};
+ghost use Rattle.mme_owners.specs.Placed.{AreApart};
+ghost use Rattle.mme_answering.specs.Settled.{AreFit, IsApart, IsFor, IsWaiting, MayPass, settled_clock, settled_strangers, settled_subscribers, starts_of, steps_of};
 
 use crate::prepared::Prepared;
+use identity_slots::AssociationId;
 use mme_owners::Owners;
 use std::alloc::AllocError;
+use stranger_machine::{After, Notice};
+use subscriber_table::Stepped;
 
 // For T3470 of how many strangers room is made.
 fn starts_of(prepared: &Prepared) -> usize
@@ -30,6 +46,79 @@ fn steps_of(prepared: &Prepared) -> usize
     }
 }
 
+// Room for T3470 of `strangers` strangers and for `steps` steps of subscribers, where there are some. Refused, all but the room is
+// as it was.
+fn reserve(owners: &mut Owners, strangers: usize, steps: usize) -> Result<(), AllocError>
+    requires strangers { strangers < 2 ^ 63 }
+    requires steps { steps ≤ slots }
+    ensures clock { owners.new.clock ≡ owners.old.clock }
+    ensures strangers { owners.new.strangers ≡ owners.old.strangers }
+    ensures subscribers { owners.new.subscribers ≡ owners.old.subscribers }
+    ensures room { OnOk result (strangers + 2 * steps ≤ owners.new.room) }
+    ensures places { OnOk result (strangers + steps ≤ owners.new.places) }
+{
+    if strangers == 0 && steps == 0 {
+        return Ok(());
+    }
+    owners.reserve(strangers, steps)
+}
+
+// A stranger is what was prepared, and the subscriber that it calls. Refused, all are as they were.
+#[inline(never)]
+fn settle_turn(
+    owners: &mut Owners,
+    id: AssociationId,
+    after: After,
+    called: Option<Stepped>,
+) -> Result<(), AllocError>
+    requires wait { IsWaitAfter id after }
+    requires fits { IsFitIf (length owners.old.subscribers) called }
+    requires apart { AreApart (with_stranger id (after_of after (stranger_at id owners.old.strangers)) owners.old.strangers)
+        (with_one called owners.old.subscribers) }
+    requires room { 3 ≤ owners.old.room }
+    requires places { 2 ≤ owners.old.places }
+    ensures clock { owners.new.clock ≡ owners.old.clock }
+    ensures strangers { OnOk result
+        (owners.new.strangers ≡ with_stranger id (after_of after (stranger_at id owners.old.strangers)) owners.old.strangers) }
+    ensures subscribers { OnOk result (owners.new.subscribers ≡ with_one called owners.old.subscribers) }
+    ensures err { OnErr result (owners.new ≡ owners.old) }
+{
+    owners.settle_turn(id, after, called)
+}
+
+// All strangers have taken a notice of a station, and those subscribers whom it touches are what was prepared.
+#[inline(never)]
+fn settle_noticed(owners: &mut Owners, notice: Notice, stepped: Vec<Stepped>)
+    requires station { is_of_station notice ≡ true }
+    requires fits { AreFit (length owners.old.subscribers) stepped.items }
+    requires kept { Every (KeepsPlace owners.old.subscribers) stepped.items }
+    requires room { 2 * length stepped.items ≤ owners.old.room }
+    requires places { length stepped.items ≤ owners.old.places }
+    ensures clock { owners.new.clock ≡ owners.old.clock }
+    ensures strangers { owners.new.strangers ≡ noted notice owners.old.strangers }
+    ensures subscribers { owners.new.subscribers ≡ with_stepped stepped.items owners.old.subscribers }
+{
+    owners.note(&notice);
+    owners.settle_all(stepped);
+}
+
+// A tick for all, where those who are due are what was prepared.
+#[inline(never)]
+fn tick(owners: &mut Owners, due: Vec<AssociationId>, stepped: Vec<Stepped>)
+    requires clock { owners.old.clock < 2 ^ 62 }
+    requires strangers { due.items ≡ due_ids owners.old.strangers }
+    requires slots { slots_stepped stepped.items ≡ due_slots owners.old.subscribers }
+    requires kept { Every (KeepsPlace owners.old.subscribers) stepped.items }
+    requires counting { Every (λ x. IsCounting x.solo) stepped.items }
+    requires room { length due.items + 2 * length stepped.items ≤ owners.old.room }
+    requires places { length stepped.items ≤ owners.old.places }
+    ensures clock { owners.new.clock ≡ owners.old.clock + 1 }
+    ensures strangers { owners.new.strangers ≡ noted Tick owners.old.strangers }
+    ensures subscribers { owners.new.subscribers ≡ tick_settled stepped.items owners.old.subscribers }
+{
+    owners.tick(due, stepped);
+}
+
 /// Strangers and subscribers are what was prepared. Room for countdowns, for associations and for a stranger comes first; refused,
 /// all are as they were.
 pub fn settle(owners: &mut Owners, prepared: Prepared) -> Result<(), AllocError>
@@ -46,16 +135,13 @@ pub fn settle(owners: &mut Owners, prepared: Prepared) -> Result<(), AllocError>
 {
     // (that there are no more of them than slots)
     let _ = owners.len();
-    owners.reserve(starts_of(&prepared), steps_of(&prepared))?;
+    reserve(owners, starts_of(&prepared), steps_of(&prepared))?;
     match prepared {
         Prepared::Nobody => {}
         Prepared::Subscriber(called) => owners.settle(called),
-        Prepared::Stranger(id, after, called) => owners.settle_turn(id, after, called)?,
-        Prepared::Everyone(notice, stepped) => {
-            owners.note(&notice);
-            owners.settle_all(stepped);
-        }
-        Prepared::Tick(due, stepped) => owners.tick(due, stepped),
+        Prepared::Stranger(id, after, called) => settle_turn(owners, id, after, called)?,
+        Prepared::Everyone(notice, stepped) => settle_noticed(owners, notice, stepped),
+        Prepared::Tick(due, stepped) => tick(owners, due, stepped),
     }
     Ok(())
 }

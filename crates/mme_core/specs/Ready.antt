@@ -1,6 +1,8 @@
 -- What was prepared for an event, and the MME when it is taken.
-use Rattle.std.specs.Prelude.{◌≡◌, None, Ok}
+use Rattle.std.specs.Prelude.{◌≡◌, ◌⊎◌, None, Ok, Some}
 use Rattle.mme_core.specs.declared.event.Event.{Event}
+use Rattle.mme_core.specs.declared.event.StepFault.{StepFault}
+use Rattle.mme_core.specs.declared.event.StepFault.TheVariants.{NoMemory}
 use Rattle.mme_core.specs.declared.mme.Moves.{Moves}
 use Rattle.mme_core.specs.declared.mme.Ready.{Ready}
 use Rattle.mme_answering.specs.Settled.{IsFor, IsInTime, settled_strangers, settled_subscribers}
@@ -36,3 +38,7 @@ pub record LeadsTo (w : World) (event : Event) (r : Ready) : Type 0 where
   -- it may be taken, and the owners' clock doesn't pass the MME's by it
   pub fits : IsFor r.prepared w.strangers w.subscribers
   pub in_time : IsInTime r.prepared w.sight.clock r.moves.clock
+
+-- why an event isn't taken: its own fault, or want of memory where it has none
+abbrev pub IsRefused : World → Event → StepFault → Type 0
+IsRefused w event fault = (event_fault w.sight event ≡ Some fault) ⊎ ((fault ≡ NoMemory) × (event_fault w.sight event ≡ None))

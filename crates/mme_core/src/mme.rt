@@ -23,7 +23,7 @@ ghost use Rattle.mme_core.specs.GuardedRuns.{IsGuardedRun};
 ghost use Rattle.mme_core.specs.Kept.{IsKnownTimed};
 ghost use Rattle.mme_core.specs.Faults.{HasEachFault};
 ghost use Rattle.mme_core.specs.Quiet.{IsQuiet};
-ghost use Rattle.mme_core.specs.Ready.{LeadsTo, ready_sight, ready_world};
+ghost use Rattle.mme_core.specs.Ready.{IsRefused, LeadsTo, ready_sight, ready_world};
 ghost use Rattle.mme_answering.specs.Short.{AreShort};
 ghost use Rattle.mme_core.specs.World.{clock_after, event_fault, events_taken, fresh_world, is_message, replies, replies_given, reply, slot_named, strangers_in, world_of, world_after, world_run};
 
@@ -44,8 +44,8 @@ use laws_apart::{associations_are_a_map, no_two_share_an_id};
 use laws_ends::{clocks_are_kept, silent_phones_end};
 use mme_answering::{Outs, Prepared, pass, prepare, settle};
 use mme_owners::Owners;
-use mme_routing::{Destination, Outcome, outcome_of};
-use mme_types::{EnbWorld, StationNumber, StationState};
+use mme_routing::{Destination, Outcome, outcome_of, setup_response};
+use mme_types::{EnbWorld, SentOctets, StationNumber, StationState};
 use nas_elements::Imsi;
 use std::alloc::{AllocError, Global};
 use std::marker::Model;
@@ -60,6 +60,8 @@ pub(crate) struct Surroundings {
     clock: u64,
     stations: EnbWorld,
     provision: Provision,
+    // the octets of S1 SETUP RESPONSE, if it has a written form
+    setup_response: Option<SentOctets>,
     alloc: Global,
 }
 
@@ -71,7 +73,10 @@ impl Model for Surroundings {
 
     ghost view = { λ s. record { config = s.config; clock = s.clock; stations = s.stations; profiles = s.provision.profiles } };
 
-    ghost invariant = { λ s. length s.stations ≡ 128 };
+    ghost use Rattle.s1ap_pdus.specs.Pdus.{encoded};
+    ghost use Rattle.mme_routing.specs.Outcomes.{setup_response as response_of};
+
+    ghost invariant = { λ s. (length s.stations ≡ 128) × (s.setup_response ≡ encoded (response_of s.config.network)) };
 }
 
 /// An MME with its stations, strangers and subscribers; a contract sees what every owner may see, the strangers that aren't
@@ -124,12 +129,14 @@ impl Mme {
         let mut provision = provision;
         let stations = EnbWorld::new(alloc)?;
         let owners = fresh_owners(alloc, &config.network, &mut provision)?;
+        let setup_response = setup_response(alloc, &config.network)?;
         let clock = config.clock;
         let surroundings = Surroundings {
             config,
             clock,
             stations,
             provision,
+            setup_response,
             alloc,
         };
         Ok(Mme {
@@ -186,8 +193,10 @@ impl Mme {
         if self.is_quiet(event) {
             return Ok(self.pass());
         }
-        let ready = self.ready(event)?;
-        self.take(ready)
+        match event {
+            Event::In(_, _) => self.step_message(event),
+            _ => self.step_without_message(event),
+        }
     }
 
     /// Events in order, each by `step`; room for all replies is made first, and a refused run has taken no event.
@@ -276,17 +285,61 @@ impl Mme {
         self.surroundings.pass_silently()
     }
 
-    // What an event leads to, on copies.
-    fn ready(&mut self, event: &Event<'_>) -> Result<Ready, StepFault>
+    // What a message leads to, on copies.
+    fn ready_for_message(&mut self, event: &Event<'_>) -> Result<Ready, StepFault>
+        requires { is_message event.now ≡ true }
         ensures leads { IfOk result (λ r. LeadsTo self.old event.now r) }
-        ensures refused { IfErr result (λ fault. (event_fault self.old.sight event.now ≡ Some fault)
-            ⊎ ((fault ≡ NoMemory) × (event_fault self.old.sight event.now ≡ None))) }
+        ensures refused { IfErr result (λ fault. IsRefused self.old event.now fault) }
         ensures same { self.new ≡ self.old }
     {
-        self.surroundings.ready(&mut self.owners, event)
+        self.surroundings.ready_for_message(&mut self.owners, event)
+    }
+
+    // What an event that is no message leads to, on copies.
+    fn ready_without_message(&mut self, event: &Event<'_>) -> Result<Ready, StepFault>
+        requires { is_message event.now ≡ false }
+        ensures leads { IfOk result (λ r. LeadsTo self.old event.now r) }
+        ensures refused { IfErr result (λ fault. IsRefused self.old event.now fault) }
+        ensures same { self.new ≡ self.old }
+    {
+        self.surroundings
+            .ready_without_message(&mut self.owners, event)
+    }
+
+    // A message. Out of line, so that no other event clears its locals.
+    #[inline(never)]
+    fn step_message(&mut self, event: &Event<'_>) -> Result<Outs, StepFault>
+        requires { is_message event.now ≡ true }
+        ensures reply { IfOk result (λ outs. reply self.old event.now ≡ Ok outs) }
+        ensures after { OnOk result (self.new ≡ world_after self.old event.now) }
+        ensures order { IfOk result (λ outs. AreInOrder outs) }
+        ensures short { IfOk result (λ outs. AreShort outs) }
+        ensures fault { IfSome (event_fault self.old.sight event.now) (λ fault. result ≡ Err fault) }
+        ensures refused { IfErr result (λ fault. fault ≢ NoMemory → reply self.old event.now ≡ Err fault) }
+        ensures err { OnErr result (self.new ≡ self.old) }
+    {
+        let ready = self.ready_for_message(event)?;
+        self.take(ready)
+    }
+
+    // An event that is no message. Out of line, so that a message doesn't clear its locals.
+    #[inline(never)]
+    fn step_without_message(&mut self, event: &Event<'_>) -> Result<Outs, StepFault>
+        requires { is_message event.now ≡ false }
+        ensures reply { IfOk result (λ outs. reply self.old event.now ≡ Ok outs) }
+        ensures after { OnOk result (self.new ≡ world_after self.old event.now) }
+        ensures order { IfOk result (λ outs. AreInOrder outs) }
+        ensures short { IfOk result (λ outs. AreShort outs) }
+        ensures fault { IfSome (event_fault self.old.sight event.now) (λ fault. result ≡ Err fault) }
+        ensures refused { IfErr result (λ fault. fault ≢ NoMemory → reply self.old event.now ≡ Err fault) }
+        ensures err { OnErr result (self.new ≡ self.old) }
+    {
+        let ready = self.ready_without_message(event)?;
+        self.take(ready)
     }
 
     // What was prepared for an event is so. Room for steps and for a stranger comes first; refused, all is as it was.
+    #[inline(always)]
     fn take(&mut self, ready: Ready) -> Result<Outs, StepFault>
         requires { (event : Event) × LeadsTo self.old event ready }
         ensures after { OnOk result (self.new ≡ ready_world ready self.old) }
@@ -380,7 +433,15 @@ impl Surroundings {
     {
         let state = self.stations.get(station);
         let network = &self.config.network;
-        outcome_of(self.alloc, network, &self.provision, station, state, octets)
+        outcome_of(
+            self.alloc,
+            network,
+            &self.setup_response,
+            &self.provision,
+            station,
+            state,
+            octets,
+        )
     }
 
     // The clock after an event that isn't refused.
@@ -418,31 +479,30 @@ impl Surroundings {
         )
     }
 
-    // What an event that is no message leads to, on copies: nothing is sent for its station. Out of line, so that a message doesn't
-    // clear its locals.
-    #[inline(never)]
+    // What an event that is no message leads to, on copies: nothing is sent for its station.
     fn ready_without_message(
         &self,
         owners: &mut Owners,
         event: &Event<'_>,
-        named: &Option<Slot>,
     ) -> Result<Ready, StepFault>
         requires other { is_message event.now ≡ false }
-        requires named { named.now ≡ slot_named self.now event.now }
-        requires fine { event_fault self.now event.now ≡ None }
         requires rising { Rising known_id owners.old.strangers }
         requires in_use { AreInUse owners.old.subscribers }
         ensures leads { IfOk result (λ r. LeadsTo (world_of self.now owners.old) event.now r) }
-        ensures memory { IfErr result (λ fault. fault ≡ NoMemory) }
+        ensures refused { IfErr result (λ fault. IsRefused (world_of self.now owners.old) event.now fault) }
         ensures same { owners.new ≡ owners.old }
     {
+        let named = self.slot_named(event);
+        if let Some(fault) = self.fault_of(event, &named) {
+            return Err(fault);
+        }
         let moves = Moves {
             station: event.station(),
             state: event.state(),
             clock: self.clock_after(event),
         };
         let mut outs = Outs::new(self.alloc);
-        let prepared = self.prepared(owners, event.destination(named), &mut outs)?;
+        let prepared = self.prepared(owners, event.destination(&named), &mut outs)?;
         Ok(Ready {
             moves,
             prepared,
@@ -450,22 +510,25 @@ impl Surroundings {
         })
     }
 
-    // What an event leads to, on copies.
-    fn ready<'a>(&'a self, owners: &mut Owners, event: &'a Event<'_>) -> Result<Ready, StepFault>
+    // What a message leads to, on copies.
+    fn ready_for_message<'a>(
+        &'a self,
+        owners: &mut Owners,
+        event: &'a Event<'_>,
+    ) -> Result<Ready, StepFault>
+        requires message { is_message event.now ≡ true }
         requires rising { Rising known_id owners.old.strangers }
         requires in_use { AreInUse owners.old.subscribers }
         ensures leads { IfOk result (λ r. LeadsTo (world_of self.entry.now owners.old) event.entry.now r) }
-        ensures refused { IfErr result (λ fault. (event_fault self.entry.now event.entry.now ≡ Some fault)
-            ⊎ ((fault ≡ NoMemory) × (event_fault self.entry.now event.entry.now ≡ None))) }
+        ensures refused { IfErr result (λ fault. IsRefused (world_of self.entry.now owners.old) event.entry.now fault) }
         ensures same { owners.new ≡ owners.old }
     {
-        let named = self.slot_named(event);
-        if let Some(fault) = self.fault_of(event, &named) {
+        let Event::In(station, octets) = event else {
+            unreachable!()
+        };
+        if let Some(fault) = self.fault_of(event, &None) {
             return Err(fault);
         }
-        let Event::In(station, octets) = event else {
-            return self.ready_without_message(owners, event, &named);
-        };
         let clock = self.clock_after(event);
         let Outcome {
             state,
@@ -487,6 +550,7 @@ impl Surroundings {
     }
 
     // The station that an event was of has its new state, and the clock is the one after it.
+    #[inline(always)]
     fn move_on(&mut self, moves: Moves)
         ensures { self.new ≡ ready_sight moves self.old }
     {

@@ -7,5 +7,6 @@ mod destination;
 mod outcome;
 mod resets;
 
+pub use answers::setup_response;
 pub use destination::Destination;
 pub use outcome::{Outcome, outcome_of};

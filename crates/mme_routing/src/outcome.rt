@@ -1,24 +1,25 @@
 //! What a station that isn't down makes of the octets that it sends, and where they go.
 
-ghost use Rattle.std.specs.Prelude.{◌≡◌, ◌≢◌, ◌^◌, ◌≤◌, List, [], IfOk, OnOk, Some, Ok, Err, option_map};
+ghost use Rattle.std.specs.Prelude.{◌≡◌, ◌≢◌, ◌^◌, ◌≤◌, List, [], IfOk, OnOk, Some, None, Ok, Err, option_map};
 ghost use Rattle.identity_slots.specs.Ids.{stranger_id};
-ghost use Rattle.s1ap_pdus.specs.Pdus.{lists, decoded, initial_ue_message_lists};
+ghost use Rattle.s1ap_pdus.specs.Pdus.{lists, decoded, encoded, initial_ue_message_lists};
 ghost use Rattle.s1ap_rows.specs.declared.fault.S1apFault.TheVariants as faults;
 ghost use Rattle.mme_types.specs.declared.stations.StationState.{StationState};
 ghost use Rattle.mme_types.specs.declared.stations.StationState.TheVariants.{Up, Ready};
 ghost use Rattle.stranger_machine.specs.Turns.{sent_to};
+ghost use Rattle.mme_types.specs.Answers.{answer_of};
 ghost use Rattle.mme_types.specs.Events.{ue_body_lists, message_lists};
 ghost use Rattle.mme_routing.specs.Seen.{destination_of, seen_outcome};
 ghost use Rattle.mme_routing.specs.Resets.{reset};
 ghost use Rattle.mme_routing.specs.Outcomes.{begins_anew, broadcasts, cause_of, entry_routed, enters, goes_to, outcome_of, outcome_of_message, indicated, indication, not_compatible, answered, setup_failure, setup_response, station_set_up, phone_message, phone_message_if, message_by_id, message_of_slot, ue_message, ue_message_in};
 
-use crate::answers::{cause_of, indication, setup_failure, setup_response};
+use crate::answers::{cause_of, indication, sent_again, setup_failure};
 use crate::destination::Destination;
 use crate::resets::reset;
 use identity_slots::{AssociationId, Provision};
 use mme_naming::named_slot;
 use mme_types::{
-    Answers, Entry, Network, SoloEvent, StationNumber, StationState, UeBody, UeMessage,
+    Answers, Entry, Network, SentOctets, SoloEvent, StationNumber, StationState, UeBody, UeMessage,
     is_broadcast,
 };
 use s1ap_elements::{Cause, EnbUeId, MmeUeId, Plmn, ProtocolCause, SupportedTa, SupportedTas};
@@ -111,15 +112,14 @@ fn broadcasts(plmn: Plmn, tas: &[SupportedTa]) -> bool
 // A station that broadcasts the network is set up.
 fn station_taken<'a>(
     alloc: Global,
-    network: &Network,
+    response: &Option<SentOctets>,
     station: StationNumber,
     supported_tas: SupportedTas,
 ) -> Result<Outcome<'a>, AllocError>
     ensures { IfOk result (λ h. (stations : List StationState) → seen_outcome stations h
-        ≡ begins_anew station (Some (Ready supported_tas)) (sent_to station (setup_response network.now))) }
+        ≡ begins_anew station (Some (Ready supported_tas)) (answer_of station None response.now)) }
 {
-    let response = setup_response(alloc, network)?;
-    let sent = sent_to(alloc, station, response)?;
+    let sent = sent_again(alloc, station, response)?;
     let ready = StationState::Ready(supported_tas);
     Ok(Outcome::begins_anew(station, Some(ready), sent))
 }
@@ -135,14 +135,16 @@ fn station_turned_away<'a>(alloc: Global, station: StationNumber) -> Result<Outc
 fn station_set_up<'a>(
     alloc: Global,
     network: &Network,
+    response: &Option<SentOctets>,
     station: StationNumber,
     supported_tas: SupportedTas,
 ) -> Result<Outcome<'a>, AllocError>
+    requires { response.now ≡ encoded (setup_response network.now) }
     ensures { IfOk result
         (λ h. (stations : List StationState) → seen_outcome stations h ≡ station_set_up network.now station supported_tas) }
 {
     if broadcasts(network.plmn, supported_tas.as_slice()) {
-        station_taken(alloc, network, station, supported_tas)
+        station_taken(alloc, response, station, supported_tas)
     } else {
         station_turned_away(alloc, station)
     }
@@ -311,16 +313,20 @@ fn phone_message_if<'a>(
 fn outcome_of_message<'a>(
     alloc: Global,
     network: &Network,
+    response: &Option<SentOctets>,
     provision: &Provision,
     station: StationNumber,
     state: &StationState,
     message: S1apPdu<'a>,
 ) -> Result<Outcome<'a>, AllocError>
+    requires { response.now ≡ encoded (setup_response network.now) }
     ensures { IfOk result (λ h. (stations : List StationState) → seen_outcome stations h
         ≡ outcome_of_message network.now provision.now.profiles station state.now (lists message.entry)) }
 {
     match message {
-        Pdu::S1SetupRequest(m) => station_set_up(alloc, network, station, m.supported_tas),
+        Pdu::S1SetupRequest(m) => {
+            station_set_up(alloc, network, response, station, m.supported_tas)
+        }
         Pdu::Reset(m) => reset(alloc, station, state, m.reset_type),
         Pdu::ErrorIndication(_) | Pdu::ResetAcknowledge(_) => {
             Ok(Outcome::answered(Answers::new(alloc)))
@@ -330,20 +336,24 @@ fn outcome_of_message<'a>(
     }
 }
 
-/// What the octets make of a station in that state, and where they go.
+/// What the octets make of a station in that state, and where they go; `response` is the network's S1 SETUP RESPONSE.
 pub fn outcome_of<'a>(
     alloc: Global,
     network: &Network,
+    response: &Option<SentOctets>,
     provision: &Provision,
     station: StationNumber,
     state: &StationState,
     octets: &'a [u8],
 ) -> Result<Outcome<'a>, AllocError>
+    requires { response.now ≡ encoded (setup_response network.now) }
     ensures { IfOk result (λ h. (stations : List StationState) → seen_outcome stations h
         ≡ outcome_of network.now provision.now.profiles station state.now (decoded octets.entry.now)) }
 {
     match decode(alloc, octets) {
-        Ok(message) => outcome_of_message(alloc, network, provision, station, state, message),
+        Ok(message) => {
+            outcome_of_message(alloc, network, response, provision, station, state, message)
+        }
         Err(fault) => outcome_of_fault(alloc, station, fault),
     }
 }

@@ -7,9 +7,11 @@ use Rattle.mme_core.proofs.Stations.{placed_many}
 use Rattle.mme_core.proofs.mme.Surroundings.move_on.Goals as goal
 
 pub invariant_of-self : goal.invariant_of-self
-invariant_of-self c =
-    ap length c.settle_station.ensures ∙ placed_many c.args.moves.station c.args.moves.state c.self.inside.stations
-    ∙ c.self.invariant
+invariant_of-self c = (
+  ap length c.settle_station.ensures ∙ placed_many c.args.moves.station c.args.moves.state c.self.inside.stations
+      ∙ c.self.invariant.0,
+  c.self.invariant.1,
+)
 
 pub returns : goal.returns
 returns c =

@@ -1,8 +1,0 @@
-use Rattle.std.proofs.Common.{IfOk, subst}
-use Rattle.mme_core.specs.Ready.{LeadsTo}
-use Rattle.mme_core.specs.World.{World}
-use Rattle.mme_core.proofs.mme.Mme.ready.Goals as goal
-
-pub returns-clause-leads : goal.returns-clause-leads
-returns-clause-leads c =
-    subst (λ (v : World). IfOk c.ready.result (λ r. LeadsTo v c.args.event.now r)) c.self.view_is c.ready.ensures.leads
