@@ -1,5 +1,6 @@
 """A front that runs, what it runs in the MME's place, and stations by TCP, for the tests of tools/front."""
 import contextlib
+import fcntl
 import io
 import os
 import pathlib
@@ -10,6 +11,7 @@ import struct
 import subprocess
 import sys
 import tempfile
+import termios
 import time
 
 import tools
@@ -78,6 +80,10 @@ class Connected:
 
     def send(self, octets):
         self.socket.sendall(len(octets).to_bytes(2, "big") + octets)
+
+    def is_delivered(self):
+        """Whether all that it sent stands where the front reads it."""
+        return not struct.unpack("i", fcntl.ioctl(self.socket, termios.TIOCOUTQ, bytes(4)))[0]
 
     def exactly(self, count):
         while len(self.got) < count:

@@ -64,14 +64,21 @@ def leave_signals():
         signal.signal(each, signal.default_int_handler if each == signal.SIGINT else signal.SIG_DFL)
 
 
+def tasks_of(process):
+    """The ids of a process's threads; none where it has gone, also while they are listed."""
+    with contextlib.suppress(OSError):
+        return os.listdir("/proc/%d/task" % process)
+    return []
+
+
 def below(process):
     """The ids of all that a process has started and that still runs."""
     found, todo = [], [process]
     while todo:
         one = todo.pop()
-        for path in pathlib.Path("/proc/%d/task" % one).glob("*/children"):
+        for task in tasks_of(one):
             with contextlib.suppress(OSError):
-                ids = [int(word) for word in path.read_text().split()]
+                ids = [int(word) for word in pathlib.Path("/proc/%d/task/%s/children" % (one, task)).read_text().split()]
                 found += ids
                 todo += ids
     return found
