@@ -5,13 +5,12 @@
 import collections
 import gzip
 import ipaddress
-import pathlib
 import re
 import struct
-import sys
 
 import runs
 import s1ap
+import versions
 
 # --- The formats, for both ways ---
 
@@ -49,7 +48,7 @@ MILLION = 10**6
 
 
 def warn(text):
-    print("%s: %s" % (pathlib.Path(sys.argv[0]).name, text), file=sys.stderr)
+    versions.complain(text)
 
 
 Place = collections.namedtuple("Place", "address port")

@@ -17,6 +17,7 @@ import tempfile
 
 import progress
 import s1ap
+import versions
 from causes import nas_cause
 from eps import messages, quick
 
@@ -42,13 +43,21 @@ SYSTEM = pathlib.Path(__file__).resolve().parent.parent / "mme"
 NO_KEY, LEFT_OUT = "-", "# left out at octet "
 NO_KEYS = "the trace is a log without keys, which `tools/front fill` puts back"
 
-Event = collections.namedtuple("Event", "line word station octets ticks imsi", defaults=[None, None, None, None])
+# How a comment of a log begins, above a `cancel` by which the front begins a subscriber anew (tools/fronting/giving.py).
+BEGUN_ANEW = "# begun anew: "
+
+Event = collections.namedtuple("Event", "line word station octets ticks imsi is_anew", defaults=[None, None, None, None, False])
 Answer = collections.namedtuple("Answer", "word owner station octets imsi states fault", defaults=[None] * 6)
 Trace = collections.namedtuple("Trace", "head imsis events")
 
 
 class Fault(Exception):
     """Input that can't be taken; its text says why."""
+
+
+def counted(count, thing):
+    """A number of things in words: `1 subscriber`, `2 subscribers`."""
+    return "%d %s%s" % (count, thing, "" if count == 1 else "s")
 
 
 class Step:
@@ -133,7 +142,7 @@ def fields_of(text, counts):
     if word not in counts:
         raise Fault("no line begins with %r" % word[:40])
     if len(fields) != counts[word]:
-        raise Fault("%s has %d fields, not %d" % (word, counts[word], len(fields)))
+        raise Fault("%s has %s, not %d" % (word, counted(counts[word], "field"), len(fields)))
     return word, fields
 
 
@@ -154,9 +163,25 @@ def lines_of(octets, name, read, comments=False):
         raise Fault("%s: line %d: %s" % (name, line, fault)) from None
 
 
+# How a later segment of a log begins (tools/fronting/segments.py), with its number; and what follows a log's name in that of one.
+LATER_SEGMENT = re.compile(rb"# segment (\d+), begun ")
+SEGMENT_END = re.compile(r"\.segment\.\d+$")
+
+
+def earlier_segments(name, number):
+    """The segments of a log before this one, by the name of its file."""
+    log = "LOG" if name in ("-", "trace") else SEGMENT_END.sub("", name)
+    first, last = ("%s.segment.%06d" % (log, at) for at in (1, number - 1))
+    return first if first == last else "%s and so on to %s" % (first, last)
+
+
 def read_trace(octets, name="trace"):
     """A trace: its lines before the first event as they are, the IMSIs by slot, and its events."""
     imsis, known, events, is_begun = [], set(), [], False
+    if found := LATER_SEGMENT.match(octets):
+        number = int(found[1])
+        raise Fault("%s: this is segment %d of a front's log, which goes on after %s: join them by `cat` in this order, it last" % (
+            name, number, earlier_segments(name, number)))
 
     def read(line, text):
         nonlocal is_begun
@@ -176,8 +201,11 @@ def read_trace(octets, name="trace"):
             known.add(imsis[-1])
 
     lines_of(octets, name, read)
-    head = octets.split(b"\n")[:events[0].line - 1] if events else octets.split(b"\n")
-    return Trace(head, imsis, events)
+    lines = octets.split(b"\n")
+    for place, event in enumerate(events):
+        if event.word == "cancel" and lines[event.line - 2].startswith(BEGUN_ANEW.encode()):
+            events[place] = event._replace(is_anew=True)
+    return Trace(lines[:events[0].line - 1] if events else lines, imsis, events)
 
 
 def lacks_keys(head):
@@ -567,7 +595,7 @@ def told(trace, answers):
     for line, answer in answers:
         place = bisect.bisect(lines, line) - 1
         if place < 0:
-            raise Fault("the comments aren't the answers to this trace: line %d stands before all events" % line)
+            raise Fault(not_the_answers("line %d stands before all events" % line))
         step = steps[place]
         if answer.word == "out":
             causes.take(step, answer, content(answer.octets))
@@ -575,9 +603,15 @@ def told(trace, answers):
             step.answers.append((step.second, answer))
     for step, certain in zip(steps, certain_answers(trace)):
         if not is_met(step, certain):
-            raise Fault("the comments aren't the answers to this trace: line %d of it, %s, isn't answered as it must be"
-                        % (step.event.line, event_text(step.event)[:60]))
+            raise Fault(not_the_answers("line %d of it, %s, isn't answered as it must be"
+                                        % (step.event.line, event_text(step.event)[:60])))
     return steps
+
+
+def not_the_answers(why):
+    """That the comments of a trace aren't its answers, and what helps."""
+    return "the comments aren't the answers to this trace: %s; with --mme %s the program answers it, whatever stands there" % (
+        why, versions.program())
 
 
 # --- Running the program ---

@@ -113,13 +113,13 @@ class Unit(unittest.TestCase):
         self.assertEqual(manager.recv(100), b"READY=1")
         self.assertEqual(manager.recv(100), b"WATCHDOG=1\nSTATUS=0 stations")
         running.station()
-        while manager.recv(100) != b"WATCHDOG=1\nSTATUS=1 stations":
+        while manager.recv(100) != b"WATCHDOG=1\nSTATUS=1 station":
             pass
         running.process.send_signal(signal.SIGSTOP)
         self.assertTrue(self.is_silent(manager))
         running.process.send_signal(signal.SIGCONT)
         manager.settimeout(20)
-        self.assertEqual(manager.recv(100), b"WATCHDOG=1\nSTATUS=1 stations")
+        self.assertEqual(manager.recv(100), b"WATCHDOG=1\nSTATUS=1 station")
         self.assertEqual(running.stop()[0], 0)
         while manager.recv(100) != b"STOPPING=1":
             pass
@@ -134,25 +134,40 @@ class Unit(unittest.TestCase):
             return False
         return True
 
+    def test_folders(self):
+        """README.md says of each folder that the unit writes to and reads who makes it; and no command of systemd's part is of a
+        clone alone, by its path or by the file that it needs."""
+        lines = dict(re.findall(r"^(\w+)=(.*)$", UNIT.read_text(), re.MULTILINE))
+        text = README.read_text()
+        folders = "`/var/lib/%s` and `/run/%s`" % tuple(
+            lines[name].replace("%i", "01") for name in ("StateDirectory", "RuntimeDirectory"))
+        [row] = [line for line in text.splitlines() if line.startswith("| %s" % folders)]
+        self.assertIn("made by systemd when `soizkadur@01` starts", row)
+        [part] = re.findall(r"^## systemd\n(.*?)^## ", text, re.MULTILINE | re.DOTALL)
+        commands = re.findall("^    (.*)$", part, re.MULTILINE)
+        self.assertGreater(len(commands), 10)
+        self.assertEqual([line for line in commands if re.search(r"/opt/|tools/|deploy/|crates/|\./mme", line)], [])
+
     @unittest.skipUnless((tools.TOP / BUILT).exists(), "the program isn't built (./mme --prove)")
     def test_commands(self):
         """Twice, so that the second run goes on after the first."""
         folder = self.enterContext(tempfile.TemporaryDirectory())
         place, log = folder + "/soizkadur/01/", pathlib.Path(folder, "soizkadur/01/trace")
-        commands = re.findall("^    sudo (install .*/opt/.*)", README.read_text(), re.MULTILINE)
-        subprocess.run(["sh", "-eu", "-c", "\n".join(commands).replace("/opt", folder + "/opt")], cwd=tools.TOP, check=True)
+        commands = re.findall("^    sudo ((?:install|ln) .*/opt/.*)", README.read_text(), re.MULTILINE)
+        text = "\n".join(commands).replace("/opt", folder + "/opt").replace("/usr/local/bin", folder)
+        subprocess.run(["sh", "-eu", "-c", text], cwd=tools.TOP, check=True)
         pathlib.Path(place).mkdir(parents=True)
         pathlib.Path(folder, "subscribers").write_text(HEAD)
         program, *words = front_words(runtime=folder, credentials=folder, state=folder, address="127.0.0.1", words="--tcp --port 0")
         for count in range(2):
             with subprocess.Popen([folder + program, *words], stderr=subprocess.DEVNULL) as running:
-                done = subprocess.run([folder + program, "ask", place + "control", "show", IMSI, "--wait", "20"],
+                done = subprocess.run([folder + "/mme-front", "ask", place + "control", "show", IMSI, "--wait", "20"],
                                       capture_output=True, timeout=60, check=False)
                 self.assertEqual(done.stdout.decode(), "state %s DEREGISTERED IDLE INACTIVE\n" % IMSI)
                 running.terminate()
             self.assertEqual(running.returncode, 0)
             self.assertEqual({path.name for path in pathlib.Path(place).glob("trace*")}, {"trace", "trace.counts"})
-            played = subprocess.run([folder + INSTALLED + "mme", "play", log], capture_output=True, timeout=60, check=False)
+            played = subprocess.run([folder + "/mme", "play", log], capture_output=True, timeout=60, check=False)
             self.assertEqual(played.stdout, done.stdout * (count + 1))
 
 

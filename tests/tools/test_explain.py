@@ -7,6 +7,7 @@ import os
 import pathlib
 import random
 import re
+import subprocess
 import sys
 import tempfile
 import unittest
@@ -21,6 +22,7 @@ STORY = importlib.import_module("eps.story")
 WORLD = importlib.import_module("eps.world")
 SKIPPING = importlib.import_module("eps.scripts")
 REASONS = importlib.import_module("eps.reasons")
+GIVING = importlib.import_module("fronting.giving")
 del sys.path[0]
 sys.path.insert(0, str(tools.TOP / "tests" / "hostile"))
 FUZZ = importlib.import_module("fuzz")
@@ -29,6 +31,7 @@ del sys.path[0]
 
 PROGRAM = tools.TOP / "crates" / "mme" / "out" / "mme"
 SESSIONS, EVENTS = 4, 1000  # of random events, by each seed
+OTHER, NOBODYS = "001010000000008", "001010000000009"  # IMSIs without a `sub` line
 TURNED = 40  # bits of a message
 SCRIPTS = {**{path: path.with_suffix(".trace") for path in (tools.TOP / "examples").glob("*.script")},
            **{path: path.with_suffix(".expect") for path in (tools.TOP / "tests" / "scripts").glob("*.script")}}
@@ -41,6 +44,14 @@ def explained(trace, answers, *words):
         for path, text in zip(paths, (trace, answers)):
             path.write_text(text)
         return tools.ran("explain", *words, *paths)
+
+
+def refused_as_nobodys(station):
+    """The answers to a stranger, eNB UE S1AP ID 1 there, whose IMSI nobody is provisioned with, as comments of a trace."""
+    trace, stranger = failures.phones.Trace(), (1 << 31) + 1
+    trace.owe("x0.1", station, failures.lte.downlink_nas(stranger, 1, b"\x07\x44\x08"))
+    trace.owe("x0.1", station, failures.lte.release_command(stranger, 1, failures.lte.NORMAL_RELEASE))
+    return ["# " + line for line in trace.answers]
 
 
 def strays(trace, answers):
@@ -108,7 +119,90 @@ class Reasons(unittest.TestCase):
         path = tools.TOP / "examples" / "two_stations.trace"
         text = tools.ran("explain", "--imsi", "001010000000002", path).stdout.decode()
         self.assertEqual(re.findall("^[^ !?\n].*", text, re.M), ["IMSI 001010000000002"])
-        self.assertEqual(tools.ran("explain", "--imsi", "001010000000009", path).returncode, 2)
+
+    def test_phone_that_nobody_is_provisioned_with(self):
+        """It is told by its IMSI: as whom it came, what it was answered and why; not who else came there under the same eNB id."""
+        trace, phone, station = failures.begun()
+        esm = failures.lte.pdn_connectivity_request(1, 1, False)
+        for imsi in (OTHER, NOBODYS, OTHER):
+            request = failures.lte.attach_request(1, failures.lte.imsi_identity(imsi), phone.capability, esm)
+            trace.hear(station, failures.lte.initial_ue_message(trace.network, station, 1, request))
+            trace.answers += [line.removeprefix("# ") for line in refused_as_nobodys(station)]
+        trace.say("data " + NOBODYS)
+        trace.answers.append("refused 5")
+        done = explained(trace.text(), trace.answer_text(), "--imsi", NOBODYS)
+        self.assertEqual((done.returncode, done.stderr, done.stdout.decode()), (0, b"", """\
+A stranger, eNB UE S1AP ID 1 at station 0
+! line 8, 0 s: ATTACH REQUEST is refused: nobody is provisioned with IMSI 001010000000009 (TS 24.301 clause 5.5.1.2.5)
+    ATTACH REJECT #8 EPS services and non-EPS services not allowed: refuses the request
+    UE CONTEXT RELEASE COMMAND nas normal-release: the request was refused
+
+Nobody
+! line 10, 0 s: downlink data is refused: nobody is provisioned with IMSI 001010000000009 (README.md, A trace)
+    line 10, 0 s: refused 5: nobody has this IMSI
+
+"""))
+        done = explained(trace.text(), trace.answer_text(), "--imsi", "001010000000007")
+        told = b"explain: nobody is provisioned with IMSI 001010000000007, and no message names it\n"
+        self.assertEqual((done.returncode, done.stdout, done.stderr), (2, b"", told))
+
+    def test_phone_that_tells_its_imsi_when_asked(self):
+        """What came before the IMSI is told too, of a phone that came by another network's GUTI."""
+        imsi, station = "001010000000001", failures.phones.Station(0)
+        lines = (tools.TOP / "examples" / "foreign.trace").read_text().splitlines()
+        lines = [line.replace(imsi, OTHER) for line in lines[:9]] + refused_as_nobodys(station)
+        done = tools.ran("explain", "--imsi", imsi, "-", given="\n".join(lines).encode())
+        self.assertEqual((done.returncode, done.stderr), (0, b""))
+        story = done.stdout.decode().splitlines()
+        self.assertEqual(story[0], "A stranger, eNB UE S1AP ID 1 at station 0")
+        self.assertIn("begins an attach by the GUTI of another MME or of nobody", story[1])
+        self.assertIn("IDENTITY RESPONSE is refused: nobody is provisioned with IMSI " + imsi, story[3])
+
+    def test_example_without_a_subscriber(self):
+        """examples/no_subscriber.trace is what the standards' formats make of it, and its comments are what the program answers."""
+        path = tools.TOP / "examples" / "no_subscriber.trace"
+        lines = path.read_text().splitlines()
+        made, gone = failures.unknown_imsi(), failures.lte.release_complete((1 << 31) + 1, 1)
+        self.assertEqual([line for line in lines if not line.startswith("#")],
+                         [line for line in made.lines if not line.startswith("vec")] + ["in 0 " + gone.hex()])
+        self.assertEqual([line[2:] for line in lines if line.startswith("# out")], made.answers)
+        told = tools.ran("explain", "--brief", "--imsi", NOBODYS, path).stdout.decode()
+        [failure] = [failure for failure in failures.FAILURES if failure.make is failures.unknown_imsi]
+        self.assertEqual(told, failure.words.replace("line 7", "line %d" % (lines.index(made.lines[-1]) + 1)) + "\n")
+        if PROGRAM.exists():
+            played = subprocess.run([PROGRAM, "play", path], capture_output=True, text=True, check=False, timeout=60)
+            self.assertEqual((played.returncode, played.stdout.splitlines()), (0, made.answers))
+
+    def test_begun_anew(self):
+        """A `cancel` below the front's comment is the front's, and nobody's who withdraws a subscription; so in a chart."""
+        imsi, mark = "001010000000001", GIVING.ANEW + "\n"
+        trace = (tools.TOP / "examples" / "cancel.trace").read_text()
+        self.assertEqual(trace.count("cancel " + imsi), 2)
+        told = tools.ran("explain", "-", given=trace.encode()).stdout.decode()
+        self.assertEqual(told.count("the subscription is withdrawn: "), 2)
+        marked = trace.replace("cancel " + imsi, mark % imsi + "cancel " + imsi)
+        told = tools.ran("explain", "-", given=marked.encode()).stdout.decode()
+        self.assertNotIn("is withdrawn", told)
+        self.assertEqual(re.findall("the front begins the subscriber anew, .*; nobody withdrew the subscription: (.*)", told),
+                         ["the network detaches the phone", "the idle phone is forgotten"])
+        self.assertIn("front begins anew P1", tools.ran("chart", "-", given=marked.encode()).stdout.decode())
+
+    def test_begun_anew_before_it_is_registered(self):
+        """The same in the midst of an attach, where the connection is released, and where there is nothing to end."""
+        for begins, ends in ((True, "; nobody withdrew the subscription: the attach ends"),
+                             (False, ": there is no registration that could be ended: the phone is in Deregistered")):
+            with self.subTest(begins=begins):
+                trace, phone, station = failures.begun()
+                if begins:
+                    phone.asks_to_attach(station, 1)
+                trace.say(GIVING.ANEW % phone.imsi)
+                trace.say("cancel " + phone.imsi)
+                if begins:
+                    phone.owed(failures.lte.release_command(phone.m, phone.b, failures.lte.DETACHED))
+                told = explained(trace.text(), trace.answer_text())
+                self.assertEqual(told.returncode, 0, told)
+                [line] = re.findall(".*: the front begins the subscriber anew, .*", told.stdout.decode())
+                self.assertIn(ends, line)
 
     def test_every_reason_has_a_clause(self):
         for why in REASONS.Why:

@@ -188,6 +188,7 @@ class Floods(unittest.TestCase):
         for place, station in enumerate(stations):
             for _ in range(90):
                 station.send(b"%d" % place)
+        running.until(lambda: all(station.is_delivered() for station in stations))
         running.process.send_signal(signal.SIGCONT)
         running.until(lambda: running.lines().count("in") == 270)
         order = [line.split(" ")[1] for line in running.events() if line.startswith("in")]
@@ -267,7 +268,7 @@ class Control(unittest.TestCase):
             asking.sendall(b"data %s\ncancel %s\nshow %s\nshow %s\n\ntick 1\ndata\nshow x\n" % tuple(
                 imsi.encode() for imsi in (IMSI, IMSI, NOBODY, IMSI)))
             wanted = ["taken", "taken", "refused 5: nobody has this IMSI", "state %s DEREGISTERED IDLE INACTIVE" % IMSI,
-                      "fault no line begins with ''", "fault no line begins with 'tick'", "fault data has 1 fields, not 0",
+                      "fault no line begins with ''", "fault no line begins with 'tick'", "fault data has 1 field, not 0",
                       "fault 'x' isn't an IMSI"]
             self.assertEqual([answers.readline().rstrip("\n") for _ in wanted], wanted)
             asking.sendall(b"x" * 2000)
@@ -341,7 +342,7 @@ class Words(unittest.TestCase):
                     (["run", subscribers, subscribers, "--port", "0", "--tcp"], "there is one already"),
                     (["run", subscribers, folder, "--port", "0", "--tcp", "--keep", "1"], "isn't a file"),
                     (["ask", folder + "/none", "data", IMSI], "No such file"),
-                    (["ask", folder + "/none", "data"], "1 words after it"),
+                    (["ask", folder + "/none", "data"], "data has 1 word after it"),
                     (["ask", subscribers, "data", IMSI], "Connection refused")):
                 with self.subTest(told=told):
                     log.unlink(missing_ok=True)

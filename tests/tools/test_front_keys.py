@@ -141,7 +141,7 @@ class Lives:
         self.settle()
         self.ends((self.first,), running, kill=True)
         running = self.begin("--resume")
-        self.test.assertIn(b"goes on: 1 stations were lost", running.told)
+        self.test.assertIn(b"goes on: 1 station was lost", running.told)
         self.test.assertEqual(running.asks("show", IMSI), "state %s %s\n" % (IMSI, PHONES.IDLE))
         self.first.attaches(self.station, 21)
         self.settle()

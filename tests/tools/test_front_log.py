@@ -168,7 +168,7 @@ class Resuming(unittest.TestCase):
         with open(running.log, "ab") as log:
             log.write(b"in 0 f6f6f")  # a line that was begun when it was killed
         again = Running(self, "--resume", folder=running.folder)
-        self.assertIn(b"goes on: 1 stations were lost", again.told)
+        self.assertIn(b"goes on: 1 station was lost", again.told)
         self.assertEqual(again.asks("show", IMSI), "state %s HEARD-3 IDLE INACTIVE\n" % IMSI)
         station = again.station()
         self.assertEqual(station.says(REMEMBERED), REMEMBERED)
@@ -225,7 +225,7 @@ class Resuming(unittest.TestCase):
         self.assertEqual(running.station().says(REMEMBERED), REMEMBERED)
         self.assertEqual(running.stop()[0], 0)
         again = Running(self, "--resume", head=HEAD + OTHER_SUB, folder=running.folder)
-        again.until(lambda: b"given 1 subscribers" in again.said())
+        again.until(lambda: b"given 1 subscriber" in again.said())
         self.assertEqual(again.asks("show", "001010000000002"), "state 001010000000002 HEARD-1 IDLE INACTIVE\n")
         self.assertEqual(again.stop()[0], 0)
         other = Running(self, "--resume", "--keep", "1", head=HEAD.replace("8001", "8002"), folder=running.folder)
@@ -257,7 +257,7 @@ class Giving(unittest.TestCase):
         station = running.station()
         self.assertEqual(station.says(REMEMBERED), REMEMBERED)
         before = running.asks("counters")
-        self.assertEqual(give(running, OTHER_SUB), "given 1 subscribers, 0 vectors\n")
+        self.assertEqual(give(running, OTHER_SUB), "given 1 subscriber, 0 vectors\n")
         self.assertEqual(running.asks("show", "001010000000002"), "state 001010000000002 HEARD-1 IDLE INACTIVE\n")
         self.assertEqual(station.says(b"still"), b"still")
         self.assertIn("given: 0", before)
@@ -357,7 +357,7 @@ class GivenToPhones(unittest.TestCase):
         spent.attaches(self.station, 1)
         spent.is_released()
         talk.settle()
-        self.assertEqual(give(running, withheld[0] + "\n"), "given 0 subscribers, 1 vectors\n")
+        self.assertEqual(give(running, withheld[0] + "\n"), "given 0 subscribers, 1 vector\n")
         spent.attaches(self.station, 9)
         talk.settle()
         self.check_end(running)
@@ -377,7 +377,7 @@ class GivenToPhones(unittest.TestCase):
         self.trace.owe("x0.2", self.station, LTE.downlink_nas(stranger, 2, b"\x07\x44\x08"))
         self.trace.owe("x0.2", self.station, LTE.release_command(stranger, 2, LTE.NORMAL_RELEASE))
         talk.settle()
-        self.assertEqual(give(running, "\n".join(withheld) + "\n"), "given 1 subscribers, 2 vectors\n")
+        self.assertEqual(give(running, "\n".join(withheld) + "\n"), "given 1 subscriber, 2 vectors\n")
         # (with the longer head the request was challenged, by the first vector)
         self.trace.owe("s1", self.station, LTE.release_command(LTE.id_of_slot(1, 1), 2, LTE.DETACHED))
         talk.settle()
@@ -385,8 +385,20 @@ class GivenToPhones(unittest.TestCase):
         late.attaches(self.station, 3)
         talk.settle()
         self.check_end(running)
-        cancelled = [line for line in running.log.read_text().splitlines() if line.startswith("cancel")]
-        self.assertEqual(cancelled, ["cancel " + late.imsi])
+        self.check_cancelled(running, late.imsi)
+
+    def check_cancelled(self, running, imsi):
+        """The log has one `cancel`, below a comment that says whose it is; and the reasons say that nobody withdrew anything."""
+        for end in ("", ".counts"):
+            lines = whole(running, end).splitlines()
+            [place] = [place for place, line in enumerate(lines) if line.startswith("cancel")]
+            self.assertEqual(lines[place], "cancel " + imsi)
+            self.assertTrue(lines[place - 1].startswith("# begun anew: the front was given lines of %s, " % imsi), lines[place - 1])
+        told = tools.ran("explain", "--mme", PROGRAM, running.log)
+        self.assertEqual(told.returncode, 0, told)
+        [line] = [line for line in told.stdout.decode().splitlines() if "begins the subscriber anew" in line]
+        self.assertIn("the front begins the subscriber anew", line)
+        self.assertNotIn("is withdrawn", told.stdout.decode())
 
 
 class Hanging(unittest.TestCase):

@@ -20,7 +20,7 @@ sys.path.insert(0, str(tools.TOP / "bench"))
 LTE = tools.module("bench/lte.py")
 PHONES = tools.module("bench/phones.py")
 import runs as RUNS
-from fronting import giving, journal, limits, links, provisioning, sctp, segments
+from fronting import giving, journal, limits, links, provisioning, resuming, sctp, segments
 from fronting.faults import Failed
 from fronting.loop import Loop
 from fronting.meters import Meters
@@ -416,6 +416,14 @@ class Comparing(unittest.TestCase):
                                        {"001010000000002": 1}), (1, {"001010000000002"}))
         with self.assertRaises(giving.Differs):
             self.compared([b"out x0.78 0 " + answer, b"refused 5"], [b"out s1 0 " + answer, b"refused 5"], {"001010000000002": 1})
+
+
+class Resumed(unittest.TestCase):
+    def test_comments_of_a_line(self):
+        """What says why the front begins a subscriber anew stays with its line; times and numbers of segments don't come again."""
+        anew = giving.ANEW % IMSI + "\ncancel " + IMSI
+        entries = resuming.entries_of("# time 1\n%s\n# segment 2, begun\n# resumed\nup 0\n" % anew)
+        self.assertEqual(entries, [anew, "# resumed", "up 0"])
 
 
 class Provisioning(unittest.TestCase):

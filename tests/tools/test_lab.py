@@ -1,33 +1,85 @@
-"""The commands of docs/LAB.md, in their order. In the program's place stands what bench/phones.py says that an MME owes; those of
-the live station need the program, and are tried where it is built."""
+"""The commands of docs/LAB.md, in their order, by the names of the package: in a clone, and with the files of the package laid out.
+In the program's place stands what bench/phones.py says that an MME owes; those of the live station and of the package need the
+program, and are tried where it is built."""
+import contextlib
 import pathlib
 import re
 import socket
 import subprocess
+import sys
 import tempfile
 import unittest
 import xml.etree.ElementTree
 
+import packed
 import tools
+from fronted import PROGRAM
+
+sys.path.insert(0, str(tools.TOP / "bench"))
+PHONES = tools.module("bench/phones.py")
+del sys.path[0]
 
 DOCUMENT = tools.TOP / "docs" / "LAB.md"
-PLAY = "./mme play $lab/lab.trace"
+PLAY, SIM = "mme play $lab/lab.trace", "mme sim $lab/station.script"
 LIVE = re.compile("^## 8. A live station\n.*?(?=^## )", re.MULTILINE | re.DOTALL)
-PROGRAM = tools.TOP / "crates" / "mme" / "out" / "mme"
-# The capture's answers; then the states that the added `show` asks for, the page for the added `data`, and its repeat.
-OWED = """owed() {
-    head -n -1 $lab/station.answers
-    echo state 001010000000001 REGISTERED IDLE ACTIVE
-    tail -n 1 $lab/station.answers
-    tail -n 1 $lab/station.answers
+NAMES = "mkdir $lab/names"  # how the lines begin that give a clone's tools the package's names
+IMSI = "001010000000001"
+# The program in bash. For `sim` the run of a phone; for `play` the answers of that, then the states that the added `show` asks for,
+# the page for the added `data`, and its repeat.
+STAND_IN = """mme() {
+    case $1 in
+    sim) python3 -B tests/tools/test_lab.py $lab/vectors ;;
+    play)
+        sed -n 's/^# //p' $lab/station.trace
+        echo state %s REGISTERED IDLE ACTIVE
+        python3 -B tests/tools/test_lab.py $lab/vectors paged
+        python3 -B tests/tools/test_lab.py $lab/vectors paged ;;
+    esac
 }
-"""
+""" % IMSI
+
+
+class Told(PHONES.Trace):
+    """A trace with its answers as comments, each below the line that it answers."""
+
+    def owe(self, owner, station, octets):
+        super().owe(owner, station, octets)
+        self.say("# " + self.answers[-1])
+
+
+def station_run(vectors):
+    """A run of a station and the phone with these vectors, lines `vec`, as a trace with its answers as comments; and the answer to
+    data that waits for the phone after it."""
+    words = [line.split() for line in vectors.splitlines() if line.startswith("vec")]
+    trace, station = Told(), PHONES.Station(0)
+    phone = PHONES.Phone(trace, 0, [PHONES.Vector(*map(bytes.fromhex, fields[2:])) for fields in words])
+    trace.provision([phone])
+    trace.set_up(station)
+    phone.attaches(station, 1)
+    phone.is_released()
+    text = trace.text()
+    phone.has_data_waiting([station])
+    return text, trace.answers[-1]
 
 
 def blocks(text):
     """The indented blocks of a text."""
     found = re.findall(r"(?:^    .*\n|^\n(?=    ))+", text, re.MULTILINE)
     return ["\n".join(line[4:] for line in block.strip("\n").split("\n")) for block in found]
+
+
+def without_names(found):
+    """The blocks without the one for a clone."""
+    return [block for block in found if not block.startswith(NAMES)]
+
+
+@contextlib.contextmanager
+def in_package():
+    """A folder with the files of the package laid out, one for the commands, and one to run them in."""
+    with contextlib.ExitStack() as after:
+        root, lab, elsewhere = (pathlib.Path(after.enter_context(tempfile.TemporaryDirectory())) for _ in range(3))
+        packed.laid(root)
+        yield root, lab, elsewhere
 
 
 def free_port():
@@ -40,43 +92,76 @@ class Lab(unittest.TestCase):
         found = blocks(LIVE.sub("", DOCUMENT.read_text(encoding="utf-8")))
         [chart] = [block for block in found if block.startswith("P1 ")]
         commands = "\n".join(block for block in found if block != chart)
-        self.assertEqual(commands.count(PLAY), 1)
+        self.assertEqual((commands.count(PLAY), commands.count(SIM)), (1, 1))
         with tempfile.TemporaryDirectory() as folder:
-            commands = commands.replace("lab=$(mktemp -d)", "lab=" + folder).replace(PLAY, "owed")
-            done = subprocess.run(["bash", "-euc", OWED + commands], cwd=tools.TOP, capture_output=True, timeout=60, check=False)
+            commands = commands.replace("lab=$(mktemp -d)", "lab=" + folder)
+            commands = STAND_IN + commands
+            done = subprocess.run(["bash", "-euc", commands], cwd=tools.TOP, capture_output=True, timeout=60, check=False)
             self.assertEqual((done.returncode, done.stderr.decode()), (0, ""))
-            printed, lab = done.stdout.decode(), pathlib.Path(folder)
-            self.assertTrue(printed.startswith(chart + "\n"))
-            self.assertIn("REGISTERED IDLE ACTIVE", printed)
-            self.assertIn("# SQN ff9bb4d0b627\n", printed)
-            self.assertEqual(printed.splitlines()[-1], (lab / "vectors").read_text().splitlines()[1])
-            xml.etree.ElementTree.parse(lab / "run.svg")
-            again = tools.ran("capture", "in", lab / "run.pcapng").stdout.decode().splitlines()
-            played = (lab / "lab.trace").read_text().splitlines()
-            self.assertEqual(again, [line for line in played if line.split()[0] in ("up", "in", "tick")])
+            self.check(done.stdout.decode(), pathlib.Path(folder), chart)
+
+    def check(self, printed, lab, chart):
+        """What the commands but for those of the live station print and leave in their folder."""
+        self.assertTrue(printed.startswith(chart + "\n"))
+        self.assertIn("REGISTERED IDLE ACTIVE", printed)
+        self.assertIn("# SQN ff9bb4d0b627\n", printed)
+        self.assertEqual(printed.splitlines()[-1], (lab / "vectors").read_text().splitlines()[1])
+        xml.etree.ElementTree.parse(lab / "run.svg")
+        again = tools.ran("capture", "in", lab / "run.pcapng").stdout.decode().splitlines()
+        played = (lab / "lab.trace").read_text().splitlines()
+        self.assertEqual(again, [line for line in played if line.split()[0] in ("up", "in", "tick")])
+
+    @unittest.skipUnless(PROGRAM.exists(), "the program isn't built (./mme --prove)")
+    def test_with_the_package(self):
+        """The same commands with the package, in a folder where nothing of a clone is, and without the lines for a clone."""
+        found = without_names(blocks(LIVE.sub("", DOCUMENT.read_text(encoding="utf-8"))))
+        [chart] = [block for block in found if block.startswith("P1 ")]
+        with in_package() as (root, lab, elsewhere):
+            commands = "\n".join(block for block in found if block != chart).replace("lab=$(mktemp -d)", "lab=%s" % lab)
+            done = packed.ran(root, "bash", "-euc", commands, cwd=elsewhere)
+            self.assertEqual((done.returncode, done.stderr), (0, ""))
+            self.check(done.stdout, lab, chart)
 
     @unittest.skipUnless(PROGRAM.exists(), "the program isn't built (./mme --prove)")
     def test_live_station(self):
         """The commands of the live station after those that it needs, on another port than S1AP's."""
+        with tempfile.TemporaryDirectory() as folder:
+            commands = "\n".join(self.live_blocks()).replace("lab=$(mktemp -d)", "lab=" + folder)
+            done = subprocess.run(["bash", "-euc", commands], cwd=tools.TOP, capture_output=True, timeout=240, check=False)
+            self.assertEqual((done.returncode, done.stderr.decode()), (0, ""))
+            self.check_live(done.stdout.decode(), pathlib.Path(folder))
+
+    @unittest.skipUnless(PROGRAM.exists(), "the program isn't built (./mme --prove)")
+    def test_live_station_with_the_package(self):
+        with in_package() as (root, lab, elsewhere):
+            commands = "\n".join(without_names(self.live_blocks())).replace("lab=$(mktemp -d)", "lab=%s" % lab)
+            done = packed.ran(root, "bash", "-euc", commands, cwd=elsewhere)
+            self.assertEqual((done.returncode, done.stderr), (0, ""))
+            self.check_live(done.stdout, lab)
+
+    def live_blocks(self):
+        """The commands up to those of the live station, with shorter waits and other ports."""
         text, port = DOCUMENT.read_text(encoding="utf-8"), str(free_port())
-        needed = blocks(text.partition("## 4.")[0])
-        commands = "\n".join(needed + blocks(LIVE.search(text)[0]))
+        commands = "\0".join(blocks(text.partition("## 4.")[0]) + blocks(LIVE.search(text)[0]))
         for before, after in (("--tcp", "--tcp --port " + port), ("36412", port), ("sleep 1", "sleep 0.3"), ("sleep 2", "sleep 1"),
                               ("127.0.0.1:9101", "127.0.0.1:0")):
             self.assertIn(before, commands)
             commands = commands.replace(before, after)
-        with tempfile.TemporaryDirectory() as folder:
-            commands = commands.replace("lab=$(mktemp -d)", "lab=" + folder)
-            done = subprocess.run(["bash", "-euc", commands], cwd=tools.TOP, capture_output=True, timeout=240, check=False)
-            self.assertEqual((done.returncode, done.stderr.decode()), (0, ""))
-            lab = pathlib.Path(folder)
-            got = (lab / "station.got").read_text().splitlines()
-            owed = [line.split()[3] for line in (lab / "station.answers").read_text().splitlines()]
-            self.assertEqual(got, owed)
-            printed = done.stdout.decode()
-            shown = ["state 001010000000001 DEREGISTERED IDLE INACTIVE", "state 001010000000001 REGISTERED IDLE ACTIVE"]
-            told = re.findall(r"^(?:state|taken|given \d).*", printed, re.MULTILINE)
-            again = shown[1:] + ["given 0 subscribers, 4 vectors"]
-            self.assertEqual(told, shown + ["taken"] + shown + again)
-            self.assertEqual(re.findall("^out .*? 0 (.*)", printed, re.MULTILINE), owed)
-            self.assertIn("- PAGING -", printed)
+        return commands.split("\0")
+
+    def check_live(self, printed, lab):
+        """What the commands of the live station print and leave in their folder."""
+        text, page = station_run((lab / "vectors").read_text())
+        owed = [line.split()[-1] for line in text.splitlines() + [page] if "out " in line]
+        self.assertEqual((lab / "station.got").read_text().splitlines(), owed)
+        shown = ["state %s DEREGISTERED IDLE INACTIVE" % IMSI, "state %s REGISTERED IDLE ACTIVE" % IMSI]
+        told = re.findall(r"^(?:state|taken|given \d).*", printed, re.MULTILINE)
+        again = shown[1:] + ["given 0 subscribers, 4 vectors"]
+        self.assertEqual(told, shown + ["taken"] + shown + again)
+        self.assertEqual(re.findall("^out .*? 0 (.*)", printed, re.MULTILINE), owed)
+        self.assertIn("- PAGING -", printed)
+
+
+if __name__ == "__main__":
+    run, page = station_run(pathlib.Path(sys.argv[1]).read_text())
+    print(page if sys.argv[2:] else run, end="\n" if sys.argv[2:] else "")

@@ -17,6 +17,7 @@ RUNS = tools.module("tools/runs.py")
 PHONES = tools.module("bench/phones.py")
 BENCH_ROWS = tools.module("bench/rows.py")
 del sys.path[0]
+from fronting import segments as SEGMENTS
 
 
 def row(name):
@@ -198,7 +199,7 @@ class Telling(unittest.TestCase):
         """An answer that isn't of its form, that stands before all events, or that isn't what its event must get."""
         for lines, told in (
                 ("up 0\n# out s0 0 0g", "line 4: '0g' aren't octets"),
-                ("up 0\n# refused 2 2", "line 4: refused has 1 fields, not 2"),
+                ("up 0\n# refused 2 2", "line 4: refused has 1 field, not 2"),
                 ("# refused 2\nup 0", "line 3 stands before all events"), ("up 0\n# refused 2", "line 3 of it, up 0"),
                 ("up 0\nup 0\n# out e0 0 00", "line 4 of it, up 0"), ("lost 0\n# refused 2", "line 3 of it, lost 0"),
                 ("up 0\nup 0\n# refused 2\n# refused 2", "line 4 of it, up 0"),
@@ -207,6 +208,11 @@ class Telling(unittest.TestCase):
             with self.subTest(told=told):
                 with self.assertRaisesRegex(RUNS.Fault, told):
                     steps_told(self.HEAD + lines.encode())
+
+    def test_what_helps(self):
+        """Who has a trace with other comments is told of the flag by which they don't count."""
+        with self.assertRaisesRegex(RUNS.Fault, r"isn't answered as it must be; with --mme \S+ the program answers it, whatever stands"):
+            steps_told(self.HEAD + b"up 0\nup 0\n# out e0 0 00")
 
 
 PROGRAM = """#!%s
@@ -275,6 +281,15 @@ class Reading(unittest.TestCase):
             with self.subTest(row=path.stem):
                 with self.assertRaisesRegex(RUNS.Fault, "line %s: " % number):
                     RUNS.read_trace(octets)
+
+    def test_later_segments(self):
+        """A log's later segment is named as one, with the files that come before it."""
+        for name, number, before in (("log", 2, "log.segment.000001"), ("log", 4, "log.segment.000001 and so on to log.segment.000003"),
+                                     ("a/log.segment.000002", 2, "a/log.segment.000001"), ("-", 2, "LOG.segment.000001")):
+            with self.subTest(name=name, number=number), self.assertRaises(RUNS.Fault) as raised:
+                RUNS.read_trace(SEGMENTS.line_of(number) + b"# time 1\nup 0\n", name)
+            told = "%s: this is segment %d of a front's log, which goes on after %s: join them by `cat` in this order, it last"
+            self.assertEqual(str(raised.exception), told % (name, number, before))
 
     def test_good_traces(self):
         for name in tools.playable():

@@ -232,6 +232,8 @@ class Words(unittest.TestCase):
     def test_order(self):
         head = "mme 001 01 8001 01 internet 1 1\n"
         self.assert_told("play", "# first\nup 0", 6, "the line `mme` has to come first")
+        self.assert_told("play", "# segment 3, begun 2026-01-01 00:00:00 UTC\nup 0", 6,
+                         "the line `mme` has to come first: this is segment 3 of a front's log, and those before it come first")
         self.assert_told("play", head + "mme 001 01 8001 01 internet 1 1", 6, "there is a line `mme` already, line 1")
         self.assert_told("sim", head + "\nstation 0 00001 0001\nup 0\nsub 001010000000001 0a000001 0a000064 00000001", 6,
                          "`sub` may not come after line 3, with which the events begin")

@@ -187,6 +187,10 @@ class Faults(unittest.TestCase):
                 (SIM, b"--sqn"),
                 (SIM + ["--sqn", "20"], b"6 octets"),
                 (SIM + ["--sqn", "00000000002g"], b"isn't hex"),
+                (SIM + ["--sqn", "20"], b"'20' isn't 6 octets in hex, which are 12 digits: here are 2; with its zeros, 20 is "
+                 b"000000000020"),
+                (SIM + ["--sqn", "fff"], b"here are 3; with its zeros, fff is 000000000fff"),
+                (SIM + ["--sqn", "00000000000020"], b"isn't 6 octets in hex, which are 12 digits: here are 14\n"),
                 (SIM + ["--sqn", "00 0000000020"], b"6 octets"),
                 (SIM + sqn + ["--count", "65"], b"from 1 to 64"),
                 (SIM + sqn + ["--count", "x"], b"from 1 to 64"),

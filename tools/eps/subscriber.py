@@ -17,7 +17,11 @@ from eps.telling import DETACHED, FAILED, NORMAL_RELEASE, NOT_COMPATIBLE, RADIO_
 from eps.telling import Place, Said
 
 BEARER = 5
-PHONE, DATA, SUBSCRIPTION = "the phone", "downlink data", "the subscription"  # what things are said of, beside messages
+PHONE, DATA, SUBSCRIPTION, FRONT = "the phone", "downlink data", "the subscription", "the front"  # what things are said of
+# Why a registration ends by `cancel`: what that is said of, what it is, and how it is said of what ended by it.
+WITHDRAWN = SUBSCRIPTION, "is withdrawn", "subscription was withdrawn"
+BEGUN_ANEW = (FRONT, "begins the subscriber anew, since it was given lines of it, and above the phone was sent something else than "
+              "stands here; nobody withdrew the subscription", "subscriber was begun anew by the front")
 EMM_SYNCH_FAILURE, EMM_MAC_FAILURE, EMM_NON_EPS = 21, 20, 26
 IPV6, IPV4V6 = 2, 3
 ASKS_INFORMATION = 1
@@ -634,22 +638,23 @@ class Subscriber:
         for station in self.pages:
             now.send(self.owner, station, (s1ap.PAGING, 0), values, "pages the phone", repeat=repeat)
 
-    def on_cancel(self, now):
-        """The subscription is withdrawn (clause 5.5.2.3)."""
+    def on_cancel(self, now, is_anew=False):
+        """The subscription is withdrawn (clause 5.5.2.3), or the front begins the subscriber anew."""
+        subject, role, ended = BEGUN_ANEW if is_anew else WITHDRAWN
         if self.phase in SERVED and self.place:
-            self.tell(now, "is withdrawn: the network detaches the phone", subject=SUBSCRIPTION)
+            self.tell(now, role + ": the network detaches the phone", subject=subject)
             self.phase = Phase.DETACHING
             self.send_detach(now)
             self.start(now, timers.T3422, self.send_detach)
         elif self.phase is Phase.REGISTERED:
-            self.tell(now, "is withdrawn: the idle phone is forgotten", subject=SUBSCRIPTION)
-            self.wipe("its subscription was withdrawn")
+            self.tell(now, role + ": the idle phone is forgotten", subject=subject)
+            self.wipe("its " + ended)
         elif self.phase in (Phase.DEREGISTERED, Phase.DETACHING):
-            self.tell(now, "is withdrawn", Why.NOTHING_TO_END, dropped=True, subject=SUBSCRIPTION, phase=self.phase_text())
+            self.tell(now, role, Why.NOTHING_TO_END, dropped=True, subject=subject, phase=self.phase_text())
         else:
-            self.tell(now, "is withdrawn in the midst of the attach", subject=SUBSCRIPTION)
-            self.release(now, DETACHED, "the subscription was withdrawn")
-            self.wipe("its subscription was withdrawn")
+            self.tell(now, role + (": the attach ends" if is_anew else " in the midst of the attach"), subject=subject)
+            self.release(now, DETACHED, "the " + ended)
+            self.wipe("its " + ended)
 
     def send_detach(self, now, repeat=None):
         said = Said(nas.DETACH_REQUEST, {"detach type": named({2: "re-attach not required"}, 2)})

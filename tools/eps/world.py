@@ -4,6 +4,7 @@ It knows docs/TABLE.md and docs/PROFILE.md and not the MME. For each event it sa
 """
 import enum
 
+import runs
 import s1ap
 from eps import messages, nas
 from eps.context import Spent
@@ -98,7 +99,7 @@ class World:
         return self.on_notice(now, event, lambda subscriber: subscriber.on_data(now, self.stations))
 
     def on_cancel(self, now, event):
-        return self.on_notice(now, event, lambda subscriber: subscriber.on_cancel(now))
+        return self.on_notice(now, event, lambda subscriber: subscriber.on_cancel(now, event.is_anew))
 
     def on_notice(self, now, event, act):
         subscriber = self.by_imsi.get(event.imsi)
@@ -221,7 +222,7 @@ class World:
                 subscriber.on_station_gone(now, now.station, "reset the interface", RESET)
             now.send(owner, now.station, (s1ap.RESET, 1), {}, "acknowledges the reset")
             return
-        now.tell(owner, "resets %d associations" % len(items))
+        now.tell(owner, "resets %s" % runs.counted(len(items), "association"))
         for stranger in self.strangers_of(now.station):
             if any(map(stranger.place.is_listed, items)):
                 stranger.close()

@@ -75,7 +75,7 @@ def question(given):
     """What is sent for the words of `ask`."""
     wanted = 0 if given.word in OF_FRONT else 1
     if len(given.more) != wanted:
-        raise runs.Fault("%s has %d words after it" % (given.word, wanted))
+        raise runs.Fault("%s has %s after it" % (given.word, runs.counted(wanted, "word")))
     if given.word in OF_FILE:
         octets = runs.read_file(given.more[0])
         return b"give %d\n" % len(octets) + octets
@@ -132,7 +132,7 @@ def fill(given):
     except BrokenPipeError:
         sys.stderr.close()
     except (OSError, runs.Fault) as fault:
-        print("front: %s" % (fault if isinstance(fault, runs.Fault) else "%s: %s" % (given.log, told(fault))), file=sys.stderr)
+        versions.complain(fault if isinstance(fault, runs.Fault) else "%s: %s" % (given.log, told(fault)))
     return WRONG
 
 
@@ -233,9 +233,10 @@ def parser(description):
                       help="that the MME may owe an answer; then the front ends with status 76")
     live.add_argument("--second", type=seconds, default=1.0, metavar="SECONDS", help="the length of a tick, for tests")
     mmes = live.add_mutually_exclusive_group()
-    mmes.add_argument("--mme", metavar="PROGRAM", default=runs.SYSTEM, help="the program to run, for ./mme")
+    mmes.add_argument("--mme", metavar="PROGRAM", default=runs.SYSTEM,
+                      help="the program to run, in place of the one beside this tool")
     mmes.add_argument("--library", action="store_true",
-                      help="have the MME in the front's own process, by the library of `./mme --library`, in place of a program")
+                      help="have the MME in the front's own process, by the library for C and Python, in place of a program")
     live.set_defaults(act=run)
     asking = ways.add_parser("ask", help="ask a front that runs", **form)
     asking.add_argument("control", metavar="CONTROL", help="its control socket")

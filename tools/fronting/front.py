@@ -101,8 +101,9 @@ class Front:
         self.resumed = 1
         more = self.head.facts[len(head.facts):]
         self.head = head
-        self.voice.say("resumed", "the run of %s goes on: %d stations were lost, %d s passed"
-                       % (self.settings.log, len(up), seconds), stations=len(up), seconds=seconds)
+        self.voice.say("resumed", "the run of %s goes on: %s lost, %d s passed" % (
+            self.settings.log, "1 station was" if len(up) == 1 else "%d stations were" % len(up), seconds),
+            stations=len(up), seconds=seconds)
         return more
 
     def head_after(self, standing):
@@ -208,7 +209,7 @@ class Front:
 
     def watchdog(self):
         """Tells the service manager that it still turns."""
-        self.manager.tell(WATCHDOG=1, STATUS="%d stations" % len(self.crowd.stations))
+        self.manager.tell(WATCHDOG=1, STATUS=runs.counted(len(self.crowd.stations), "station"))
         self.loop.after(self.manager.period, self.watchdog)
 
     def give(self, text, reply):

@@ -3,7 +3,8 @@
 What the MME answers is a function of its head and its events. So a second MME gets the longer head and all events so far, a third
 one the head as it is, and their answers are compared after each line. Where they are the same, but for the subscribers whose
 provisioning changes, the second MME takes the place of the one that runs, between two turns of the stations. A subscriber of whom
-something else was said than the second MME says now is brought to a known state by `cancel`.
+something else was said than the second MME says now, and such a one alone, is brought to a known state by `cancel`, which stands
+in the log below a comment that says so: from there on the log answers what is sent, and above it what the longer head would have.
 """
 import collections
 import os
@@ -17,6 +18,8 @@ from fronting.segments import NUMBERED, name_of
 
 MARK = MARK_ANSWER + b"\n"
 PIECE = 1 << 17  # octets of the log that are given at once
+# Why the front has a subscriber's registration end, in the log above that line.
+ANEW = runs.BEGUN_ANEW + "the front was given lines of %s, who was sent something else above than stands here; nobody withdrew it"
 
 
 class Differs(Exception):
@@ -119,7 +122,8 @@ class Giving:
         self.front, self.reply = front, reply
         self.head = front.head.with_more(lines)
         imsis = {line.split(" ")[1] for line in lines if line and not line.startswith("#")}
-        self.told = "%d subscribers, %d vectors" % tuple(sum(line.startswith(word) for line in lines) for word in ("sub ", "vec "))
+        self.told = ", ".join(runs.counted(sum(line.startswith(word) for line in lines), thing)
+                              for word, thing in (("sub ", "subscriber"), ("vec ", "vector")))
         self.comparison = Comparison(imsis, self.head.slots)
         self.form = front.exchange.journal.form.of(self.head)  # of the log with the longer head
         self.reading, self.fill = Reading(front.exchange.journal.counts), self.form.filling()
@@ -202,7 +206,7 @@ class Giving:
         exchange.adopt(self.new)
         before.close()
         for imsi in sorted(self.comparison.differing):
-            exchange.put("cancel " + imsi)
+            exchange.put("%s\ncancel %s" % (ANEW % imsi, imsi))
         front.given += 1
         self.is_over = True
         self.close()

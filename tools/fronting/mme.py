@@ -17,7 +17,12 @@ from fronting.faults import Failed, WRONG, told
 
 PIPE_OCTETS = 1 << 20
 MARK_ANSWER = b"refused %d" % runs.UNKNOWN_IMSI
-PACKAGE = pathlib.Path(__file__).resolve().parents[2] / "python"  # where a clone has the package soizkadur
+TOP = pathlib.Path(__file__).resolve().parents[2]
+PACKAGE = TOP / "python"  # where a clone has the package soizkadur
+# Why there is no library: in a clone, and in a package.
+NOT_BUILT = "there is no library, which `./mme --library` builds (docs/LIBRARY.md)"
+NOT_PACKED = ("there is no library: this package was made without it; one with it is made in a clone: ./mme --library, then "
+              "deploy/package FOLDER")
 LINE_IS_WRONG, OUT_OF_MEMORY = 1, 4  # what the program ends with (README.md, "How it ends")
 
 
@@ -169,7 +174,9 @@ def library():
         import soizkadur
         soizkadur.version()
     except ImportError as fault:
-        raise Failed("there is no library, which `./mme --library` builds (docs/LIBRARY.md): %s" % fault, WRONG) from None
+        if isinstance(fault, ModuleNotFoundError):
+            raise Failed(NOT_PACKED, WRONG) from None
+        raise Failed("%s: %s" % (NOT_BUILT if (TOP / "crates").exists() else "there is no library", fault), WRONG) from None
     return soizkadur
 
 

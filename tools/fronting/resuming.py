@@ -18,7 +18,7 @@ SETTLED, TIME = b"# settled until segment ", b"# time "
 CHANGES = re.compile(rb"^(up|lost) (\d+)$", re.MULTILINE)
 PIECE = 1 << 18  # octets that the MME is given at once
 OTHERS = (".counts",)  # what belongs to a log, after its name
-COMMENTS = (runs.LEFT_OUT, "# came protected: ")  # how lines begin that are about the message below them
+COMMENTS = (runs.LEFT_OUT, "# came protected: ", runs.BEGUN_ANEW)  # how lines begin that are about the line below them
 
 
 class NoResume(Exception):

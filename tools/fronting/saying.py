@@ -6,6 +6,8 @@ import os
 import threading
 import time
 
+import versions
+
 from fronting import limits
 
 PLACE = 2  # standard error
@@ -36,7 +38,7 @@ class Voice:
 
     def line(self, event, text, fields):
         if not self.as_json:
-            return "front: %s\n" % text
+            return "%s: %s\n" % (versions.called(), text)
         now = datetime.datetime.now(datetime.timezone.utc).isoformat(timespec="milliseconds")
         return json.dumps({"time": now, "event": event, "text": text, **fields}) + "\n"
 

@@ -8,6 +8,7 @@ import difflib
 import re
 
 LONGEST = 40000  # octets of a line
+LATER_SEGMENT = re.compile(rb"# segment (\d+), begun ")  # how a later segment of a front's log begins
 MOST_SUBSCRIBERS, MOST_VECTORS = 32768, 64
 UNKNOWN_WORD, FIELD_COUNT, NOT_OF_FORM, NOT_HEX, TOO_LONG, ORDER, PROVISION = range(1, 8)
 BYTE_ORDER_MARK = b"\xef\xbb\xbf"
@@ -89,6 +90,7 @@ class Reader:
 
     def __init__(self, verb):
         self.verb, self.head, self.event = verb, None, None
+        self.segment = None  # which one of a front's log it is, where it is a later one
         self.imsis, self.addresses, self.subscribers, self.vectors = {}, {}, [], collections.Counter()
 
     def read(self, number, line):
@@ -103,6 +105,8 @@ class Reader:
             self.vectors[rest.partition(b" ")[0]] += 1
         elif word == b"mme":
             self.head = self.head or number
+        elif number == 1 and (later := LATER_SEGMENT.match(line)):
+            self.segment = int(later[1])
         elif self.event is None and line and not line.startswith(b"#"):
             self.event = number
 
@@ -156,6 +160,7 @@ class Reader:
             why = "there is a line `mme` already, line %d" % self.head
         elif not self.head or self.head > number:
             why = "the line `mme` has to come first"
+            why += ": this is segment %d of a front's log, and those before it come first" % self.segment if self.segment else ""
         elif name in HEAD and self.event and self.event < number:
             why = "`%s` may not come after line %d, with which the events begin" % (name, self.event)
         else:
