@@ -12,10 +12,11 @@ the messages that the MME sends at it, or raises `Refused`, and then the MME is 
 `nas`, `eia2` ..) read octets and derive keys; `pydoc soizkadur.mme.Mme` and `pydoc soizkadur.codecs` say more of both.
 
 `soizkadur.standards` has stations and phones that know the standards and not the MME, and `soizkadur.testing` brings both together
-for tests. These two read files of bench/ and tools/, so they are for a clone: set PYTHONPATH to its folder python.
+for tests. In a clone or an unpacked archive PYTHONPATH has to name its folder python.
 
 It is plain Python over `ctypes`, and needs nothing else. The shared object is found by the variable SOIZKADUR_LIBRARY (the path of
-the file), else beside this package, in the clone where `./mme --library` leaves it, or by the system's loader.
+the file), else beside this package, where `./mme --library` leaves it in a clone, in the folder lib of an archive, or by the
+system's loader.
 """
 from .codecs import (Direction, EmmMessage, NasParts, S1apKind, S1apMessage, eia2, kenb, nas, nas_integrity_key, nas_protected,
                      next_hop, s1ap, version)

@@ -92,7 +92,7 @@ def places() -> list[str]:
     if named:
         return [named]
     here = pathlib.Path(__file__).resolve()
-    files = [folder / NAME for folder in (here.parent, here.parents[2] / BUILT)]
+    files = [folder / NAME for folder in (here.parent, here.parents[2] / BUILT, here.parents[2] / "lib")]
     return [str(file) for file in files if file.exists()] + [NAME]
 
 

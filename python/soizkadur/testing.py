@@ -20,15 +20,15 @@ pytest,
 
 gives each test a laboratory of its own with ten phones.
 """
-import pathlib
 import subprocess
 import sys
 from collections.abc import Iterator
 
+from . import places
 from .mme import Mme, States
 from .standards import FailingPhone, Live, Network, OutOfPlace, Station, Unexpected, Vector
 
-CHART = pathlib.Path(__file__).resolve().parents[2] / "tools" / "chart"
+CHART = places.tools() / "chart"
 SECONDS = 60  # for a chart
 
 __all__ = ["Laboratory", "OutOfPlace", "Unexpected", "chart", "laboratory"]

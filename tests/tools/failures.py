@@ -382,6 +382,21 @@ def header_4():
 
 @failure("""\
 IMSI 001010000000001
+! line 10, 0 s: SECURITY MODE COMPLETE is dropped: security header 4 isn't taken here: the security mode is complete already, \
+and later messages have header 1 or 2 (TS 24.301 clause 9.3.1)
+  at the end: Accepting
+""")
+def completion_again():
+    """SECURITY MODE COMPLETE twice, with the same octets."""
+    trace, phone, _ = secured()
+    again = phone.secured(4, phone.up_count, lte.UP, lte.SECURITY_MODE_COMPLETE)
+    phone.completes_security()
+    phone.sends(again)
+    return trace
+
+
+@failure("""\
+IMSI 001010000000001
 ! line 9, 0 s: SECURITY MODE COMPLETE is dropped: the message isn't protected, and only a protected one is taken here \
 (TS 24.301 clause 4.4.4.3)
   at the end: SecurityMode

@@ -229,7 +229,8 @@ class Resuming(unittest.TestCase):
         self.assertEqual(again.asks("show", "001010000000002"), "state 001010000000002 HEARD-1 IDLE INACTIVE\n")
         self.assertEqual(again.stop()[0], 0)
         other = Running(self, "--resume", "--keep", "1", head=HEAD.replace("8001", "8002"), folder=running.folder)
-        self.assertIn(b"begins with other lines", other.told)
+        self.assertIn(b"begins with other lines than", other.told)
+        self.assertIn(b": lines that were given have to stand at its end", other.told)
 
     def test_an_mme_that_cannot(self):
         """Where the MME ends over the last log the front begins with nobody."""

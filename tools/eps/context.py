@@ -7,16 +7,20 @@ from eps.reasons import Why
 LAST_COUNT = (1 << 24) - 1
 SERVICE_BITS, MESSAGE_BITS = 5, 8  # of a count, that go with a message
 COMPLETING, LATER = frozenset({nas.NEW_CIPHERED}), frozenset({nas.INTEGRITY, nas.CIPHERED})  # headers that are taken
+COMPLETE = bytes([7, nas.SECURITY_MODE_COMPLETE])  # as a SECURITY MODE COMPLETE begins, plain
 # Whose a header is that isn't taken (clause 9.3.1).
 OWNERS_OF_HEADERS = {nas.NEW_CONTEXT: "it belongs to SECURITY MODE COMMAND",
                      nas.NEW_CIPHERED: "it belongs to SECURITY MODE COMPLETE",
                      nas.SERVICE_HEADER: "it belongs to SERVICE REQUEST, a first message"}
 
 
-def wrong_header(header, headers):
-    """The refusal of a header that isn't one of those that are taken."""
-    known = header in LATER and headers == COMPLETING
-    belongs = "SECURITY MODE COMPLETE has header 4" if known else OWNERS_OF_HEADERS.get(header, "it is reserved")
+def wrong_header(header, headers, inner=b""):
+    """The refusal of a header that isn't one of those that are taken, before the message inside."""
+    belongs = OWNERS_OF_HEADERS.get(header, "it is reserved")
+    if header in LATER and headers == COMPLETING:
+        belongs = "SECURITY MODE COMPLETE has header 4"
+    elif header in COMPLETING and inner[:2] == COMPLETE:
+        belongs = "the security mode is complete already, and later messages have header 1 or 2"
     return Refusal(Why.WRONG_HEADER, {"header": header, "belongs": belongs})
 
 
@@ -74,7 +78,7 @@ class Context:
         if protected is None:
             return self.unprotected(octets, headers)
         if protected.header not in headers:
-            return wrong_header(protected.header, headers)
+            return wrong_header(protected.header, headers, protected.inner)
         return self.checked(MESSAGE_BITS, protected.sequence, protected.covered(), protected.mac, line) or protected
 
     @staticmethod

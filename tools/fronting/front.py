@@ -24,6 +24,11 @@ import runs
 
 CARE_SECONDS = 1.0  # between two looks at what takes too long
 UNCOLLECTED = 50000  # objects after which unused ones are looked for; cycles of them are few
+# What to do where a log begins with other lines than the file of subscribers, by whether it has keys.
+OTHER_LINES = {
+    True: ": lines that were given have to stand at its end",
+    False: ", and has no keys: each of its vectors has to stand there",
+}
 
 
 class Front:
@@ -114,8 +119,7 @@ class Front:
             raise NoResume("%s keeps %s, and this run's log is to keep %s (--log-keys)" % (log, stands, wanted))
         head = self.form.taken_up(standing.head, self.head)
         if head is None:
-            raise NoResume("%s begins with other lines than %s%s" % (
-                log, subscribers, "" if standing.has_keys else ", and has no keys: each of its vectors has to stand there"))
+            raise NoResume("%s begins with other lines than %s%s" % (log, subscribers, OTHER_LINES[standing.has_keys]))
         return head
 
     def play(self, standing, head):

@@ -1,7 +1,8 @@
 """Stations and phones that know the standards and not the MME: what they send, and what the MME owes for it.
 
 `lte` has the octets (AES, CMAC, the keys, aligned packed encoding, S1AP and NAS), `phones` the network, stations and phones as
-lines of a trace with the answers that are owed; a clone has both in bench/, and its benchmarks and tests use them there. Here stand
+lines of a trace with the answers that are owed; a clone has both in bench/, where its benchmarks and tests use them, and a package
+has them beside this file. Here stand
 
 - `Live`: a trace that an MME plays while it is written, which compares each answer with what is owed;
 - `FailingPhone`: a phone that also does what phones shouldn't;
@@ -21,8 +22,8 @@ def _beside(name: str, *folders: pathlib.Path):
     """A module by its file's name in the first of these folders that has it; it may name others there without a package."""
     folder = next((folder for folder in folders if (folder / (name + ".py")).exists()), None)
     if folder is None:
-        raise ImportError("no %s.py in %s: soizkadur.standards and soizkadur.testing are for a clone, whose folder python has "
-                          "to be on PYTHONPATH" % (name, " or ".join(map(str, folders))))
+        raise ImportError("no %s.py in %s: of a clone, its folder python has to be on PYTHONPATH"
+                          % (name, " or ".join(map(str, folders))))
     sys.path.insert(0, str(folder))
     try:
         return importlib.import_module(name)

@@ -3,13 +3,13 @@ import functools
 import hashlib
 import importlib.machinery
 import importlib.util
-import pathlib
 import sys
 from typing import NamedTuple
 
+from .. import places
 from . import phones
 
-TOOLS = pathlib.Path(__file__).resolve().parents[3] / "tools"
+TOOLS = places.tools()
 AMF = b"\x80\x00"  # with the separation bit, as vectors for EPS have it (TS 33.401 clause 6.1.1)
 SEPARATION_BIT = 0x80
 SQN_BITS, INDEX_BITS = 48, 5
@@ -19,7 +19,7 @@ SQN_BITS, INDEX_BITS = 48, 5
 def _vectors():
     """tools/vectors, as a module."""
     if not (TOOLS / "vectors").exists():
-        raise ImportError("no tools/vectors beside this package: a Sim is for a clone")
+        raise ImportError("no %s, which a Sim runs" % (TOOLS / "vectors"))
     sys.path.insert(0, str(TOOLS))
     try:
         loader = importlib.machinery.SourceFileLoader("soizkadur_vectors", str(TOOLS / "vectors"))
