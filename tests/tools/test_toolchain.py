@@ -9,7 +9,9 @@ import subprocess
 import sys
 import tempfile
 import threading
+import time
 import unittest
+import unittest.mock
 
 import tools
 
@@ -33,6 +35,18 @@ import toolchain
 toolchain.WHO_GETS_THEM = pathlib.Path(%r)
 subprocess.run([sys.executable, "-c", %r], check=True, env={**os.environ, **toolchain.asking_for_huge_pages()})
 """
+# Says what what it starts is given, where names of the module are others.
+GIVEN = """
+import os, pathlib, subprocess, sys, tempfile
+sys.path.insert(0, %r)
+import toolchain
+for name, value in %r.items():
+    setattr(toolchain, name, type(getattr(toolchain, name))(value))
+toolchain.make_provers_quicker()
+folder = os.environ.get(toolchain.TEMPORARY, tempfile.gettempdir())
+print(os.environ[toolchain.PURGE_DELAY], folder, tempfile.gettempdir(), os.path.isdir(folder))
+"""
+LOOKS, BETWEEN_LOOKS = 100, 0.05  # for what goes a moment later, in seconds
 
 
 def plain():
@@ -170,6 +184,39 @@ class Command(unittest.TestCase):
     def test_huge_pages(self):
         self.assertEqual(self.asks("always [madvise] never\n"), "True\n")
         self.assertEqual(self.asks("always madvise [never]\n"), "False\n")
+
+    def given(self, **changed):
+        """What a process has of a prover's environment, where these names of the module are others: what it keeps of freed memory, its
+        temporary folder, and whether that is there; and whether the folder is gone with the process that made it."""
+        script = GIVEN % (str(SCRIPT.parent), {name: str(value) for name, value in changed.items()})
+        environment = {name: value for name, value in os.environ.items() if name not in (toolchain.PURGE_DELAY, toolchain.TEMPORARY)}
+        done = self.ran(sys.executable, "-B", "-c", script, env=environment)
+        self.assertEqual((done.returncode, done.stderr), (0, ""))
+        delay, folder, own, is_there = done.stdout.split()
+        self.assertEqual((delay, is_there), (toolchain.NEVER, "True"))
+        for _ in range(LOOKS):
+            if folder == own or not os.path.exists(folder):
+                return folder, own
+            time.sleep(BETWEEN_LOOKS)
+        return self.fail(f"{folder} is still there")
+
+    def test_files_in_memory(self):
+        with tempfile.TemporaryDirectory() as room:
+            folder, own = self.given(IN_MEMORY=room, ENOUGH=0)
+            self.assertEqual(os.listdir(room), [])
+        self.assertEqual(os.path.dirname(folder), room)
+        self.assertNotEqual(folder, own)
+
+    def test_too_little_memory(self):
+        folder, own = self.given(ENOUGH=1 << 60)
+        self.assertEqual(folder, own)
+
+    def test_what_is_set_stays(self):
+        with tempfile.TemporaryDirectory() as room:
+            before = {toolchain.PURGE_DELAY: "5", toolchain.TEMPORARY: room}
+            with unittest.mock.patch.dict(os.environ, before):
+                told = toolchain.for_provers()
+        self.assertEqual((told[toolchain.PURGE_DELAY], toolchain.TEMPORARY in told), ("5", False))
 
 
 if __name__ == "__main__":

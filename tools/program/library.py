@@ -57,7 +57,7 @@ Cflags: -I${includedir}
 def compiled(rt, crate, archive):
     """Checks `mme_c` and compiles it to an archive, over the libraries below it."""
     ran([*rt.rtlib.guarded(), rt.rtlib.RATTLE, "build", *kept.words_of(crate), "--toolchain", "%s/toolchain" % rt.KIT, "--backend",
-         "llvm", "-o", archive], "%s isn't proved, or doesn't compile" % CRATE, crate.folder, **toolchain.asking_for_huge_pages())
+         "llvm", "-o", archive], "%s isn't proved, or doesn't compile" % CRATE, crate.folder, **toolchain.for_provers())
 
 
 def compile_over_built(archive):

@@ -10,7 +10,8 @@ made and doesn't change, and within one sum the text of each crate once. `rt ci`
 toolchain's own compiler; here it is compiled by both at once. Every answer is the one that `rt` gives.
 
 What proves is started with huge_pages.c, where there is a C compiler for it and the system gives huge pages to those that ask: the
-prover is a seventh quicker so, and does nothing else.
+prover is a seventh quicker so, and does nothing else. It keeps the memory that it has freed until it ends, and its own files in
+memory, where there is enough of it: a twentieth less of the processor's time.
 """
 import concurrent.futures
 import contextlib
@@ -38,6 +39,11 @@ HUGE_PAGES = pathlib.Path(__file__).resolve().parent / "huge_pages.c"
 # The file in which Linux says who gets huge pages, and its word for those that ask.
 WHO_GETS_THEM, WHO_ASKS = pathlib.Path("/sys/kernel/mm/transparent_hugepage/enabled"), "[madvise]"
 PRELOAD = "LD_PRELOAD"
+# How long the prover's allocator (mimalloc) waits before it gives back memory that was freed, and the word for ever.
+PURGE_DELAY, NEVER = "MIMALLOC_PURGE_DELAY", "-1"
+# A file system in memory, where temporary files go, and the octets that are to be free there and in memory at all: a prover keeps
+# some 100 MB there while it runs.
+IN_MEMORY, TEMPORARY, ENOUGH = pathlib.Path("/dev/shm"), "TMPDIR", 8 << 30
 # What `rt` calls the toolchain's own compiler, beside LLVM.
 OWN_COMPILER = "rattle"
 
@@ -128,6 +134,43 @@ def asking_for_huge_pages():
     return {}
 
 
+def free_memory():
+    """The octets of memory that are free; none where the system doesn't say."""
+    with contextlib.suppress(OSError, ValueError, IndexError):
+        words = pathlib.Path("/proc/meminfo").read_text(encoding="utf-8").split()
+        return int(words[words.index("MemAvailable:") + 1]) << 10
+    return 0
+
+
+@functools.lru_cache(maxsize=None)
+def folder_in_memory():
+    """A folder in memory for the provers' files, which is gone once this process has ended, however it ends; none where there is too
+    little memory."""
+    with contextlib.suppress(OSError):
+        seen = os.statvfs(IN_MEMORY)
+        if min(seen.f_bavail * seen.f_frsize, free_memory()) < ENOUGH:
+            return None
+        folder = tempfile.mkdtemp(prefix="provers-", dir=IN_MEMORY)
+        # (its standard input ends with this process)
+        subprocess.Popen(["sh", "-c", 'read _; rm -rf "$0"', folder], stdin=os.pipe()[0], stdout=subprocess.DEVNULL,
+                         stderr=subprocess.DEVNULL, start_new_session=True)
+        return folder
+    return None
+
+
+def for_provers():
+    """What the environment of a prover has more, so that it takes less of the processor's time; what is set there already stays."""
+    more = {**asking_for_huge_pages(), PURGE_DELAY: os.environ.get(PURGE_DELAY, NEVER)}
+    folder = None if TEMPORARY in os.environ else folder_in_memory()
+    return {**more, TEMPORARY: folder} if folder else more
+
+
+def make_provers_quicker():
+    """Has the provers that this process starts take less of the processor's time. Its own temporary files stay where they would be."""
+    tempfile.gettempdir()
+    os.environ.update(for_provers())
+
+
 def path():
     """The toolchain's command."""
     found = shutil.which("rt")
@@ -167,7 +210,7 @@ def main(words):
     if not is_python(found):
         os.execv(found, [found, *words])
     if words[:1] and words[0] in PROVING:
-        os.environ.update(asking_for_huge_pages())
+        make_provers_quicker()
     return module().main(words)
 
 
