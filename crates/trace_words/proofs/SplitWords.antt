@@ -28,6 +28,14 @@ first_word rest at first =
     (sym (take-append-drop at rest) ∙ ap (λ v. take at rest ++ v) (drop_more rest at 0 first.0.high))
     ∙ slice_split_at (λ c. c == 32) (take at rest) (get_or rest at 0) (drop (at + 1) rest) (spaceless rest at first) first.1
 
+-- a text with one space is two words
+pub two_parts : (line : List ℕ) (at : ℕ) → IsFirstByte (is_byte 32) line (Some at)
+    → IsFirstByte (is_byte 32) (take (length line - (at + 1)) (drop (at + 1) line)) None
+    → slice_split (λ c. c == 32) line ≡ take at line ∷ take (length line - (at + 1)) (drop (at + 1) line) ∷ []
+two_parts line at first none =
+    let field : IsFirstByte (is_byte 32) (drop (at + 1) line) None = rw take_rest at none in
+    rw take_rest (first_word line at first ∙ ap (λ ws. take at line ∷ ws) (last_word (drop (at + 1) line) field))
+
 -- `parts` are the words that were split off and those of the rest: so they are when the rest's first word is split off too
 pub one_more : (rest : List ℕ) (at : ℕ) (words more : List (Bor (List ℕ))) (word : Bor (List ℕ)) (parts : List (List ℕ))
     → IsFirstByte (is_byte 32) rest (Some at)

@@ -1,6 +1,6 @@
 //! One line of a trace.
 
-ghost use Rattle.std.specs.Prelude.{◌≡◌, ◌⊎◌, ◌==◌, map, IfOk, IfSome, Ok, Err};
+ghost use Rattle.std.specs.Prelude.{◌≡◌, ◌⊎◌, ◌==◌, ◌∷◌, [], map, IfOk, IfSome, Ok, Err};
 ghost use Rattle.std.specs.List.{slice_split};
 ghost use Rattle.std.specs.Result.{result_map_both};
 ghost use Rattle.trace_words.specs.Trace.{line_of, mme_of, sub_of, vec_of, read_mme, read_sub, read_vec, read_up, read_lost, read_in, read_tick, read_data, read_cancel, read_show, read_event, read_words};
@@ -95,9 +95,24 @@ fn good_in(alloc: Global, line: &[u8]) -> Result<Option<(StationNumber, TraceOct
 fn parse_any(alloc: Global, line: &[u8]) -> Result<Line, TraceFault>
     ensures { (result ≡ Err TraceFault.NoMemory) ⊎ (result ≡ read_words (slice_split (λ c. c == 32) line.now)) }
 {
+    if let Some((word, field)) = two_words(line) {
+        return parse_words(alloc, &[word, field]);
+    }
     match split_words(alloc, line) {
         Ok(words) => parse_words(alloc, words.as_slice()),
         Err(_) => Err(TraceFault::NoMemory),
+    }
+}
+
+/// The two words of a line that has no more, as a notice, a tick or a question has; they need no list.
+fn two_words(line: &[u8]) -> Option<(&[u8], &[u8])>
+    ensures { IfSome result (λ words. slice_split (λ c. c == 32) line.now ≡ words.0.now ∷ words.1.now ∷ []) }
+{
+    let at = memchr(b' ', line)?;
+    let field = &line[at + 1..];
+    match memchr(b' ', field) {
+        Some(_) => None,
+        None => Some((&line[..at], field)),
     }
 }
 
