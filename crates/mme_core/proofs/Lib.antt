@@ -20,3 +20,4 @@ pub mod Taken
 pub mod Ticks
 pub mod Placing
 pub mod Quiet
+pub mod Taking

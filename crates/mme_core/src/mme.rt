@@ -23,7 +23,7 @@ ghost use Rattle.mme_core.specs.GuardedRuns.{IsGuardedRun};
 ghost use Rattle.mme_core.specs.Kept.{IsKnownTimed};
 ghost use Rattle.mme_core.specs.Faults.{HasEachFault};
 ghost use Rattle.mme_core.specs.Quiet.{IsQuiet};
-ghost use Rattle.mme_core.specs.Ready.{IsRefused, LeadsTo, ready_sight, ready_world};
+ghost use Rattle.mme_core.specs.Ready.{IsRefused, LeadsTo, TakesEvent, ready_sight, ready_world};
 ghost use Rattle.mme_answering.specs.Short.{AreShort};
 ghost use Rattle.mme_core.specs.World.{clock_after, event_fault, events_taken, fresh_world, is_message, replies, replies_given, reply, slot_named, strangers_in, world_of, world_after, world_run};
 
@@ -310,13 +310,7 @@ impl Mme {
     #[inline(never)]
     fn step_message(&mut self, event: &Event<'_>) -> Result<Outs, StepFault>
         requires { is_message event.now ≡ true }
-        ensures reply { IfOk result (λ outs. reply self.old event.now ≡ Ok outs) }
-        ensures after { OnOk result (self.new ≡ world_after self.old event.now) }
-        ensures order { IfOk result (λ outs. AreInOrder outs) }
-        ensures short { IfOk result (λ outs. AreShort outs) }
-        ensures fault { IfSome (event_fault self.old.sight event.now) (λ fault. result ≡ Err fault) }
-        ensures refused { IfErr result (λ fault. fault ≢ NoMemory → reply self.old event.now ≡ Err fault) }
-        ensures err { OnErr result (self.new ≡ self.old) }
+        ensures { TakesEvent self.old event.now result self.new }
     {
         let ready = self.ready_for_message(event)?;
         self.take(ready)
@@ -326,13 +320,7 @@ impl Mme {
     #[inline(never)]
     fn step_without_message(&mut self, event: &Event<'_>) -> Result<Outs, StepFault>
         requires { is_message event.now ≡ false }
-        ensures reply { IfOk result (λ outs. reply self.old event.now ≡ Ok outs) }
-        ensures after { OnOk result (self.new ≡ world_after self.old event.now) }
-        ensures order { IfOk result (λ outs. AreInOrder outs) }
-        ensures short { IfOk result (λ outs. AreShort outs) }
-        ensures fault { IfSome (event_fault self.old.sight event.now) (λ fault. result ≡ Err fault) }
-        ensures refused { IfErr result (λ fault. fault ≢ NoMemory → reply self.old event.now ≡ Err fault) }
-        ensures err { OnErr result (self.new ≡ self.old) }
+        ensures { TakesEvent self.old event.now result self.new }
     {
         let ready = self.ready_without_message(event)?;
         self.take(ready)

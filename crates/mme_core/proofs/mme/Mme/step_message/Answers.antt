@@ -1,11 +1,8 @@
-use Rattle.std.proofs.Common.{◌≡◌, List, Option, None, Err, sym, ◌∙◌, ap, subst}
-use Rattle.std.proofs.lemmas.Result.{IfOk-weaker, on_ok_weaker}
-use Rattle.std.specs.Prelude.{IfSome}
-use Rattle.mme_answering.specs.declared.out.Out.{Out}
-use Rattle.mme_core.specs.declared.event.StepFault.{StepFault}
-use Rattle.mme_core.specs.Projection.{AreInOrder}
-use Rattle.mme_core.specs.Ready.{LeadsTo, ready_world}
-use Rattle.mme_core.specs.World.{World, reply_of}
+use Rattle.std.proofs.Common.{sym, subst}
+use Rattle.std.proofs.lemmas.Result.{err_from_is_err_and}
+use Rattle.mme_core.specs.Ready.{LeadsTo}
+use Rattle.mme_core.specs.World.{World}
+use Rattle.mme_core.proofs.Taking.{refuses, takes}
 use Rattle.mme_core.proofs.mme.Mme.step_message.Goals as goal
 
 pub take-requires : goal.take-requires
@@ -15,21 +12,14 @@ take-requires c =
       subst (λ (v : World). LeadsTo v e c.in_ok-ready.ready) (sym c.in_ok-ready.ensures.same) c.in_ok-ready.ensures.leads,
     )
 
-pub returns-clause-reply : goal.returns-clause-reply
-returns-clause-reply c =
-    IfOk-weaker c.take.result _ _
-    (λ outs is. c.in_ok-ready.ensures.leads.sends ∙ ap (λ (os : List Out). reply_of None os) (sym is)) c.take.ensures.outs
+pub returns : goal.returns
+returns c =
+    let ready = c.in_ok-ready.ensures in
+    let taken = c.take.ensures in
+    takes c.args.self.now _ c.args.event.now c.in_ok-ready.ready c.take.result _ ready.same ready.leads taken.after taken.outs taken.short
+    taken.memory taken.err
 
-pub returns-clause-after : goal.returns-clause-after
-returns-clause-after c =
-    let done = c.in_ok-ready.ensures in
-    on_ok_weaker c.take.result (λ h. h ∙ ap (λ (v : World). ready_world c.in_ok-ready.ready v) done.same ∙ done.leads.after)
-    c.take.ensures.after
-
-pub returns-clause-order : goal.returns-clause-order
-returns-clause-order c =
-    IfOk-weaker c.take.result _ _ (λ outs is. subst AreInOrder (sym is) c.in_ok-ready.ensures.leads.order) c.take.ensures.outs
-
-pub returns-clause-fault : goal.returns-clause-fault
-returns-clause-fault c =
-    subst (λ (o : Option StepFault). IfSome o (λ fault. c.take.result ≡ Err fault)) (sym c.in_ok-ready.ensures.leads.accepted) tt
+pub returns-in_err-ready : goal.returns-in_err-ready
+returns-in_err-ready c =
+    let fault = err_from_is_err_and c.from_residual.result c.from_residual.ensures.1 in
+    rw (fault.1, fault.2) (refuses c.args.self.now _ c.args.event.now _ c.in_err-ready.ensures.refused c.in_err-ready.ensures.same)
