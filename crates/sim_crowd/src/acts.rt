@@ -1,199 +1,145 @@
 //! What a phone does, through its station.
 
-use crate::acted::Acted;
-use crate::crowd::Crowd;
-use crate::site::Connection;
-use enb_sim::{PhoneAct, StationAct};
-use identity_slots::StationNumber;
-use s1ap_elements::{STmsi, UeIdPair};
-use sim_words::RadioPlace;
-use std::alloc::AllocError;
+ghost use Rattle.std.specs.Prelude.{◌≡◌, IfOk, OnOk, OnErr};
+ghost use Rattle.sim_crowd.specs.Acting.{asking, beginning, come_to, deafening, entering, expecting, going, lying, outcome, resting, sent_on, speaking, switching, updating};
+ghost use Rattle.sim_crowd.specs.Refused.{StopsArriving, StopsGoing, StopsSpeaking};
+ghost use Rattle.sim_crowd.specs.Crowds.{arrived, at_one, current, joined};
 
-// A phone's NAS message, and the S-TMSI that goes beside it.
-#[derive(Drop)]
-struct FirstWords {
-    nas: Vec<u8>,
-    s_tmsi: Option<STmsi>,
-}
+use crate::acted::{Acted, Done, OrRefused, Sent};
+use crate::crowd::Crowd;
+use crate::phones::FirstWords;
+use crate::whereabouts::{Connection, Standing, is_same_place};
+use enb_sim::{PhoneAct, StationAct};
+use s1ap_elements::UeIdPair;
+use sim_words::RadioPlace;
 
 impl Crowd {
-    /// The phone with this association.
-    pub(crate) fn phone_with(&self, connection: &Connection) -> Option<usize> {
-        let site = self.sites.get(connection.station)?;
-        site.phone_with(&connection.pair)
-    }
-
-    // Whether a phone has this association.
-    fn is_served(&self, phone: usize, connection: &Connection) -> bool {
-        match self.sites.get(connection.station) {
-            Some(site) => site.serves(phone, &connection.pair),
-            None => false,
+    // A phone has this association alone, and is there.
+    fn settle(&mut self, phone: usize, connection: &Connection)
+        ensures { self.new ≡ at_one phone connection.now self.old }
+    {
+        let standing = self.phones.standing(phone);
+        if connection.is_in(&standing.connection) {
+            return;
         }
+        self.stations.part(phone, connection, standing.connection);
+        self.stations.part(phone, connection, standing.awaited);
+        self.stations
+            .depart(phone, &connection.place(), standing.place);
+        self.phones.stand(phone, Standing::of(connection));
     }
 
-    // Whether a station takes what phones send.
-    fn is_ready(&self, station: StationNumber) -> bool {
-        match self.sites.get(station) {
-            Some(site) => site.station.is_ready(),
-            None => false,
-        }
+    /// A phone has this association from now on, and no other. Refused, all is as it was.
+    pub(crate) fn connect(&mut self, phone: usize, connection: &Connection) -> OrRefused<()>
+        ensures ok { OnOk result (self.new ≡ joined phone connection.now self.old) }
+        ensures err { OnErr result (self.new ≡ self.old) }
+    {
+        self.stations.connect(phone, connection)?;
+        self.settle(phone, connection);
+        Ok(())
     }
 
-    // The association of a phone, while it has one.
-    fn connection(&mut self, phone: usize) -> Result<Option<Connection>, AllocError> {
-        let Some(handset) = self.phones.get(phone) else {
-            return Ok(None);
-        };
-        let (connection, awaited) = (handset.connection, handset.awaited);
-        if let Some(moved) = awaited {
-            if self.is_served(phone, &moved) {
-                self.connect(phone, moved)?;
-                return Ok(Some(moved));
+    // The association of a phone, while it has one: that to which its path was moved, from now on. Refused, all is as it was.
+    fn connection(&mut self, phone: usize) -> OrRefused<Option<Connection>>
+        ensures known { IfOk result (λ k. k ≡ current phone self.old) }
+        ensures ok { OnOk result (self.new ≡ arrived phone self.old) }
+        ensures err { OnErr result (self.new ≡ self.old) }
+    {
+        let standing = self.phones.standing(phone);
+        match self.stations.served(phone, standing.awaited) {
+            Some(moved) => {
+                self.connect(phone, &moved)?;
+                Ok(Some(moved))
             }
-        }
-        match connection {
-            Some(known) if self.is_served(phone, &known) => Ok(Some(known)),
-            _ => Ok(None),
+            None => Ok(self.stations.served(phone, standing.connection)),
         }
     }
 
-    // A phone hasn't this association, if that was one.
-    fn disconnect(&mut self, phone: usize, connection: Option<Connection>) {
-        if let Some(connection) = connection {
-            if let Some(site) = self.sites.get_mut(connection.station) {
-                site.disconnect(phone, &connection.pair);
-            }
-        }
-    }
-
-    // A phone was there and is there no more.
-    fn leave(&mut self, phone: usize, place: &RadioPlace) {
-        if let Some(site) = self.sites.get_mut(place.station) {
-            site.leave(phone, place.enb_ue_id);
-        }
-    }
-
-    /// A phone has this association from now on, and no other.
-    pub(crate) fn connect(
-        &mut self,
-        phone: usize,
-        connection: Connection,
-    ) -> Result<(), AllocError> {
-        let Some(handset) = self.phones.get_mut(phone) else {
-            return Ok(());
+    // A phone comes to a place by this act. Refused, all is as it was.
+    fn come(&mut self, phone: usize, place: RadioPlace, act: PhoneAct) -> OrRefused<()>
+        ensures ok { OnOk result (self.new ≡ come_to phone place act self.old) }
+        ensures err { OnErr result (self.new ≡ self.old) }
+    {
+        let standing = self.phones.standing(phone);
+        self.stations.come(phone, &place, act)?;
+        self.stations.depart(phone, &place, standing.place);
+        let here = Standing {
+            place: Some(place),
+            ..standing
         };
-        if handset.connection != Some(connection) {
-            let (was, awaited) = (handset.connection, handset.awaited);
-            handset.connection = Some(connection);
-            handset.awaited = None;
-            self.disconnect(phone, was);
-            self.disconnect(phone, awaited);
-            self.move_to(phone, connection.place());
-        }
-        self.know(phone, &connection)
+        self.phones.stand(phone, here);
+        Ok(())
     }
 
-    // A phone's messages come by this association.
-    fn know(&mut self, phone: usize, connection: &Connection) -> Result<(), AllocError> {
-        match self.sites.get_mut(connection.station) {
-            Some(site) => site.connect(phone, &connection.pair),
-            None => Ok(()),
-        }
+    // A phone begins with these words at a place, by INITIAL UE MESSAGE. Refused, all is as it was.
+    #[tactic(auto, unfolding(enb_sim::specs::View::act_octets))]
+    fn begin(&mut self, phone: usize, place: RadioPlace, act: PhoneAct, words: &FirstWords) -> Done
+        ensures ok { IfOk result (λ a. outcome a self.new ≡ beginning phone place act words.now self.old) }
+        ensures err { OnErr result (self.new ≡ self.old) }
+    {
+        let sent = self.stations.send(
+            place.station,
+            &StationAct::Initial {
+                enb_ue_id: place.enb_ue_id,
+                nas: &words.nas,
+                s_tmsi: words.s_tmsi,
+            },
+        )?;
+        self.come(phone, place, act)?;
+        Ok(Acted::by(sent))
     }
 
-    // A phone is at this place now.
-    fn move_to(&mut self, phone: usize, place: RadioPlace) {
-        if let Some(was) = self.last_place(phone) {
-            if was == place {
-                return;
-            }
-            self.leave(phone, &was);
-        }
-        if let Some(handset) = self.phones.get_mut(phone) {
-            handset.place = Some(place);
-        }
-    }
-
-    // What a phone says by an act, if it can be done.
-    fn first_words(
-        &mut self,
-        phone: usize,
-        act: PhoneAct,
-    ) -> Result<Option<FirstWords>, AllocError> {
-        let Some(handset) = self.phones.get_mut(phone) else {
-            return Ok(None);
-        };
-        let speaker = handset.phone();
-        let Some(nas) = speaker.act(act)? else {
-            return Ok(None);
-        };
-        let s_tmsi = match act {
-            PhoneAct::Service => speaker.s_tmsi(),
-            _ => None,
-        };
-        Ok(Some(FirstWords { nas, s_tmsi }))
-    }
-
-    /// A phone begins to speak at a place, by INITIAL UE MESSAGE.
-    pub(crate) fn enter(
-        &mut self,
-        phone: usize,
-        place: RadioPlace,
-        act: PhoneAct,
-    ) -> Result<Acted, AllocError> {
-        if !self.is_ready(place.station) {
+    /// A phone begins to speak at a place, if its station is set up.
+    #[tactic(auto, unfolding(crate::specs::Acting::entering))]
+    pub(crate) fn enter(&mut self, phone: usize, place: RadioPlace, act: PhoneAct) -> Done
+        ensures ok { IfOk result (λ a. outcome a self.new ≡ entering phone place act self.old) }
+        ensures err { OnErr result (StopsSpeaking phone act self.old self.new) }
+    {
+        if !self.stations.is_set_up(place.station) {
             return Ok(Acted::Skipped);
         }
-        let Some(words) = self.first_words(phone, act)? else {
-            return Ok(Acted::Skipped);
-        };
-        self.move_to(phone, place);
-        let Some(site) = self.sites.get_mut(place.station) else {
-            return Ok(Acted::Skipped);
-        };
-        site.come(phone, &place, act)?;
-        let octets = site.station.act(&StationAct::Initial {
-            enb_ue_id: place.enb_ue_id,
-            nas: &words.nas,
-            s_tmsi: words.s_tmsi,
-        })?;
-        Ok(Acted::by(place.station, octets))
+        match self.phones.act(phone, act)? {
+            Some(words) => self.begin(phone, place, act, &words),
+            None => Ok(Acted::Skipped),
+        }
     }
 
-    /// Sends a phone's message by UPLINK NAS TRANSPORT.
-    pub(crate) fn send(
-        &mut self,
-        connection: &Connection,
-        nas: &[u8],
-    ) -> Result<Acted, AllocError> {
-        let Some(site) = self.sites.get_mut(connection.station) else {
-            return Ok(Acted::Skipped);
-        };
-        let octets = site.station.act(&StationAct::Uplink {
-            mme_ue_id: connection.pair.mme_ue_id,
-            enb_ue_id: connection.pair.enb_ue_id,
-            nas,
-        })?;
-        Ok(Acted::by(connection.station, octets))
+    /// Sends a phone's message by UPLINK NAS TRANSPORT, if its station serves the association.
+    #[tactic(auto, unfolding(enb_sim::specs::View::act_octets))]
+    pub(crate) fn send(&mut self, connection: &Connection, nas: &[u8]) -> Sent
+        ensures sent { IfOk result (λ u. u ≡ sent_on connection.now nas.now self.old) }
+        ensures same { self.new ≡ self.old }
+    {
+        self.stations.send(
+            connection.station,
+            &StationAct::Uplink {
+                mme_ue_id: connection.pair.mme_ue_id,
+                enb_ue_id: connection.pair.enb_ue_id,
+                nas,
+            },
+        )
     }
 
     // A phone that has an association speaks by it.
-    fn speak(
-        &mut self,
-        phone: usize,
-        connection: &Connection,
-        act: PhoneAct,
-    ) -> Result<Acted, AllocError> {
-        match self.first_words(phone, act)? {
-            Some(words) => self.send(connection, &words.nas),
+    #[tactic(auto, unfolding(crate::specs::Acting::speaking))]
+    fn speak(&mut self, phone: usize, connection: &Connection, act: PhoneAct) -> Done
+        ensures ok { IfOk result (λ a. outcome a self.new ≡ speaking phone connection.now act self.old) }
+        ensures err { OnErr result (StopsSpeaking phone act self.old self.new) }
+    {
+        match self.phones.act(phone, act)? {
+            Some(words) => Ok(Acted::by(self.send(connection, &words.nas)?)),
             None => Ok(Acted::Skipped),
         }
     }
 
     /// A phone updates its tracking area at a place.
-    pub(crate) fn update(&mut self, phone: usize, place: RadioPlace) -> Result<Acted, AllocError> {
+    #[tactic(auto, unfolding(crate::specs::Acting::updating))]
+    pub(crate) fn update(&mut self, phone: usize, place: RadioPlace) -> Done
+        ensures ok { IfOk result (λ a. outcome a self.new ≡ updating phone place self.old) }
+        ensures err { OnErr result (StopsGoing phone PhoneAct.Tau self.old self.new) }
+    {
         match self.connection(phone)? {
-            Some(connection) if connection.is_at(&place) => {
+            Some(connection) if is_same_place(&connection.place(), &place) => {
                 self.speak(phone, &connection, PhoneAct::Tau)
             }
             _ => self.enter(phone, place, PhoneAct::Tau),
@@ -201,80 +147,104 @@ impl Crowd {
     }
 
     /// A phone's path moves to a place: it has the association there once the MME has moved it.
-    pub(crate) fn switch(&mut self, phone: usize, place: RadioPlace) -> Result<Acted, AllocError> {
-        let Some(connection) = self.connection(phone)? else {
-            return Ok(Acted::Skipped);
-        };
-        let pair = UeIdPair {
-            mme_ue_id: connection.pair.mme_ue_id,
-            enb_ue_id: place.enb_ue_id,
-        };
-        let station = place.station;
-        self.ask_for_path(phone, &Connection { station, pair })
-    }
-
-    // A phone's new station asks for its path.
-    fn ask_for_path(&mut self, phone: usize, moved: &Connection) -> Result<Acted, AllocError> {
-        let Some(site) = self.sites.get_mut(moved.station) else {
-            return Ok(Acted::Skipped);
-        };
-        let octets = site.station.act(&StationAct::Switch {
-            mme_ue_id: moved.pair.mme_ue_id,
-            enb_ue_id: moved.pair.enb_ue_id,
-        })?;
-        if octets.is_some() {
-            self.expect_path(phone, *moved)?;
-        }
-        Ok(Acted::by(moved.station, octets))
-    }
-
-    // A phone has this association once the MME has moved its path.
-    fn expect_path(&mut self, phone: usize, moved: Connection) -> Result<(), AllocError> {
-        let Some(handset) = self.phones.get_mut(phone) else {
-            return Ok(());
-        };
-        if handset.connection == Some(moved) {
-            return Ok(());
-        }
-        let awaited = handset.awaited;
-        handset.awaited = Some(moved);
-        self.disconnect(phone, awaited);
-        self.know(phone, &moved)
-    }
-
-    /// A phone speaks where it is: by its association, or else at its last place.
-    pub(crate) fn go(&mut self, phone: usize, act: PhoneAct) -> Result<Acted, AllocError> {
-        if let Some(connection) = self.connection(phone)? {
-            return self.speak(phone, &connection, act);
-        }
-        match self.last_place(phone) {
-            Some(place) => self.enter(phone, place, act),
+    #[tactic(auto, unfolding(crate::specs::Acting::switching))]
+    pub(crate) fn switch(&mut self, phone: usize, place: RadioPlace) -> Done
+        ensures ok { IfOk result (λ a. outcome a self.new ≡ switching phone place self.old) }
+        ensures err { OnErr result (StopsArriving phone self.old self.new) }
+    {
+        match self.connection(phone)? {
+            Some(connection) => {
+                let station = place.station;
+                let pair = UeIdPair {
+                    mme_ue_id: connection.pair.mme_ue_id,
+                    enb_ue_id: place.enb_ue_id,
+                };
+                self.ask_for_path(phone, &Connection { station, pair })
+            }
             None => Ok(Acted::Skipped),
         }
     }
 
-    // Where a phone was last.
-    fn last_place(&self, phone: usize) -> Option<RadioPlace> {
-        self.phones.get(phone)?.place
+    // A phone's new station asks for its path. Refused, all is as it was.
+    #[tactic(auto, unfolding(crate::specs::Acting::asking, enb_sim::specs::View::act_octets))]
+    fn ask_for_path(&mut self, phone: usize, moved: &Connection) -> Done
+        ensures ok { IfOk result (λ a. outcome a self.new ≡ asking phone moved.now self.old) }
+        ensures err { OnErr result (self.new ≡ self.old) }
+    {
+        let sent = self.stations.send(
+            moved.station,
+            &StationAct::Switch {
+                mme_ue_id: moved.pair.mme_ue_id,
+                enb_ue_id: moved.pair.enb_ue_id,
+            },
+        );
+        match sent? {
+            Some(uplink) => {
+                self.expect_path(phone, moved)?;
+                Ok(Acted::Sends(uplink))
+            }
+            None => Ok(Acted::Skipped),
+        }
+    }
+
+    // A phone has this association once the MME has moved its path. Refused, all is as it was.
+    fn expect_path(&mut self, phone: usize, moved: &Connection) -> OrRefused<()>
+        ensures ok { OnOk result (self.new ≡ expecting phone moved.now self.old) }
+        ensures err { OnErr result (self.new ≡ self.old) }
+    {
+        let standing = self.phones.standing(phone);
+        if moved.is_in(&standing.connection) {
+            return Ok(());
+        }
+        self.stations.connect(phone, moved)?;
+        self.stations.part(phone, moved, standing.awaited);
+        let awaiting = Standing {
+            awaited: Some(*moved),
+            ..standing
+        };
+        self.phones.stand(phone, awaiting);
+        Ok(())
+    }
+
+    /// A phone speaks where it is: by its association, or else at its last place.
+    #[tactic(auto, unfolding(crate::specs::Acting::going))]
+    pub(crate) fn go(&mut self, phone: usize, act: PhoneAct) -> Done
+        ensures ok { IfOk result (λ a. outcome a self.new ≡ going phone act self.old) }
+        ensures err { OnErr result (StopsGoing phone act self.old self.new) }
+    {
+        match self.connection(phone)? {
+            Some(connection) => self.speak(phone, &connection, act),
+            None => match self.phones.standing(phone).place {
+                Some(place) => self.enter(phone, place, act),
+                None => Ok(Acted::Skipped),
+            },
+        }
     }
 
     /// A phone's station asks for its release.
-    pub(crate) fn rest(&mut self, phone: usize) -> Result<Acted, AllocError> {
+    #[tactic(auto, unfolding(enb_sim::specs::View::act_octets))]
+    pub(crate) fn rest(&mut self, phone: usize) -> Done
+        ensures ok { IfOk result (λ a. outcome a self.new ≡ resting phone self.old) }
+        ensures err { OnErr result (StopsArriving phone self.old self.new) }
+    {
         let Some(connection) = self.connection(phone)? else {
             return Ok(Acted::Skipped);
         };
-        let Some(site) = self.sites.get_mut(connection.station) else {
-            return Ok(Acted::Skipped);
-        };
-        let octets = site.station.act(&StationAct::Release {
-            mme_ue_id: connection.pair.mme_ue_id,
-            enb_ue_id: connection.pair.enb_ue_id,
-        })?;
-        Ok(Acted::by(connection.station, octets))
+        let sent = self.stations.send(
+            connection.station,
+            &StationAct::Release {
+                mme_ue_id: connection.pair.mme_ue_id,
+                enb_ue_id: connection.pair.enb_ue_id,
+            },
+        );
+        Ok(Acted::by(sent?))
     }
 
     /// A phone sends what no honest one would, by its association.
-    pub(crate) fn lie(&mut self, phone: usize, act: PhoneAct) -> Result<Acted, AllocError> {
+    pub(crate) fn lie(&mut self, phone: usize, act: PhoneAct) -> Done
+        ensures ok { IfOk result (λ a. outcome a self.new ≡ lying phone act self.old) }
+        ensures err { OnErr result (StopsGoing phone act self.old self.new) }
+    {
         match self.connection(phone)? {
             Some(connection) => self.speak(phone, &connection, act),
             None => Ok(Acted::Skipped),
@@ -282,13 +252,10 @@ impl Crowd {
     }
 
     /// A phone answers nothing from now on.
-    pub(crate) fn deafen(&mut self, phone: usize) -> Acted {
-        match self.phones.get_mut(phone) {
-            Some(handset) => {
-                handset.phone().deafen();
-                Acted::Silent
-            }
-            None => Acted::Skipped,
-        }
+    pub(crate) fn deafen(&mut self, phone: usize) -> Acted
+        ensures { outcome result self.new ≡ deafening phone self.old }
+    {
+        self.phones.deafen(phone);
+        Acted::Silent
     }
 }

@@ -1,187 +1,168 @@
 //! The stations and phones.
 
+ghost use Rattle.std.specs.Prelude.{◌≡◌, ◌++◌, IfOk, OnOk, OnErr, Ok, None, is_some};
+ghost use Rattle.sim_crowd.specs.declared.acted.Acted.TheVariants.{Skipped};
+ghost use Rattle.sim_crowd.specs.Acting.{acting, acting_there, adding_station, outcome, setting_up};
+ghost use Rattle.sim_crowd.specs.Crowds.{empty_crowd, in_network, with_phone_for, with_station_left, with_vector_given};
+ghost use Rattle.sim_crowd.specs.Refused.{StopsActing, StopsDelivering, StopsThere};
+ghost use Rattle.sim_crowd.specs.Hearing.{delivering};
+ghost use Rattle.sim_crowd.specs.Phones.{phone_named};
+ghost use Rattle.sim_crowd.specs.Stations.{site_of};
+
 use crate::acted::{Acted, Uplink};
+use crate::hearing::push_answer;
 use crate::phones::Phones;
-use crate::site::{Connection, Site, Sites};
-use enb_sim::{Delivery, PhoneAct, PhoneNas, StationAct};
+use crate::stations::Stations;
+use enb_sim::PhoneAct;
 use identity_slots::{StationNumber, Vector};
 use nas_elements::Imsi;
-use s1ap_elements::UeIdPair;
-use s1ap_messages::{Pdu, S1apFault, decode};
 use sim_words::{PhoneWord, RadioPlace, RadioWord, StationLine};
 use std::alloc::{AllocError, Global};
 
-/// The stations and phones of a script.
+/// The stations and phones of a script, and the network of the stations to come.
 #[derive(Drop)]
 pub struct Crowd {
-    alloc: Global,
     plmn: [u8; 3],
-    pub(crate) sites: Sites,
+    pub(crate) stations: Stations,
     pub(crate) phones: Phones,
 }
 
 impl Crowd {
     /// Nobody.
-    pub fn new(alloc: Global) -> Crowd {
+    pub fn new(alloc: Global) -> Crowd
+        ensures { result ≡ empty_crowd }
+    {
         Crowd {
-            alloc,
             plmn: [0; 3],
-            sites: Sites::new(alloc),
+            stations: Stations::new(alloc),
             phones: Phones::new(alloc),
         }
     }
 
     /// The network of the stations to come, as S1AP packs its digits.
-    pub fn set_network(&mut self, plmn: [u8; 3]) {
+    pub fn set_network(&mut self, plmn: [u8; 3])
+        ensures { self.new ≡ in_network plmn self.old }
+    {
         self.plmn = plmn;
     }
 
-    /// There is a phone for this subscriber.
-    pub fn add_phone(&mut self, imsi: Imsi) -> Result<(), AllocError> {
+    /// There is a phone for this subscriber. Where there was one all is as it was. Refused for want of memory alone, and then all
+    /// is as it was, too.
+    pub fn add_phone(&mut self, imsi: Imsi) -> Result<(), AllocError>
+        ensures ok { OnOk result (self.new ≡ with_phone_for imsi self.old) }
+        ensures err { OnErr result (self.new ≡ self.old) }
+    {
         self.phones.add(imsi)
     }
 
     /// The phone of that subscriber has one vector more, if there is such a phone. One that has done something before makes no
-    /// use of it.
-    pub fn give_vector(&mut self, imsi: Imsi, vector: Vector) -> Result<(), AllocError> {
+    /// use of it. Refused for want of memory alone, and then all is as it was.
+    pub fn give_vector(&mut self, imsi: Imsi, vector: Vector) -> Result<(), AllocError>
+        ensures ok { OnOk result (self.new ≡ with_vector_given imsi vector self.old) }
+        ensures err { OnErr result (self.new ≡ self.old) }
+    {
         self.phones.give(imsi, vector)
     }
 
-    /// There is such a station: Skipped where one of that number was there, else Silent.
-    pub fn add_station(&mut self, line: StationLine) -> Result<Acted, AllocError> {
-        let added = self.sites.add(Site::new(self.alloc, self.plmn, &line))?;
-        if added {
-            Ok(Acted::Silent)
-        } else {
-            Ok(Acted::Skipped)
+    /// There is such a station: Skipped where one of that number was there, else Silent. Refused for want of memory alone, and then
+    /// all is as it was.
+    pub fn add_station(&mut self, line: StationLine) -> Result<Acted, AllocError>
+        ensures ok { IfOk result (λ a. outcome a self.new ≡ adding_station line self.old) }
+        ensures err { OnErr result (self.new ≡ self.old) }
+    {
+        match self.stations.add(self.plmn, &line) {
+            Ok(true) => Ok(Acted::Silent),
+            Ok(false) => Ok(Acted::Skipped),
+            Err(fault) => Err(fault),
         }
     }
 
     /// Whether there is a station of that number.
-    pub fn has_station(&self, station: StationNumber) -> bool {
-        self.sites.get(station).is_some()
+    pub fn has_station(&self, station: StationNumber) -> bool
+        ensures { result ≡ is_some (site_of station self.now.stations) }
+    {
+        self.stations.has(station)
     }
 
-    /// The station asks to be set up: Skipped where there is none.
-    pub fn set_up(&mut self, station: StationNumber) -> Result<Acted, AllocError> {
-        let Some(site) = self.sites.get_mut(station) else {
-            return Ok(Acted::Skipped);
-        };
-        let octets = site.station.act(&StationAct::SetUp)?;
-        site.clear();
-        Ok(Acted::by(station, octets))
+    /// The station asks to be set up: Skipped where there is none. Refused for want of memory alone, and then all is as it was.
+    pub fn set_up(&mut self, station: StationNumber) -> Result<Acted, AllocError>
+        ensures ok { IfOk result (λ a. outcome a self.new ≡ setting_up station self.old) }
+        ensures err { OnErr result (self.new ≡ self.old) }
+    {
+        Ok(Acted::by(self.stations.set_up(station)?))
     }
 
     /// The station's connection is lost.
-    pub fn lose(&mut self, station: StationNumber) {
-        if let Some(site) = self.sites.get_mut(station) {
-            site.station.down();
-            site.clear();
-        }
+    pub fn lose(&mut self, station: StationNumber)
+        ensures { self.new ≡ with_station_left station self.old }
+    {
+        self.stations.lose(station);
     }
 
-    /// A phone does this at a station, by a number.
+    /// A phone does this at a station, by a number: Skipped where there is no such phone, or it can't be done. Refused as `act`.
     pub fn act_there(
         &mut self,
         word: RadioWord,
         imsi: Imsi,
         place: RadioPlace,
-    ) -> Result<Acted, AllocError> {
-        let Some(phone) = self.phones.find(imsi) else {
-            return Ok(Acted::Skipped);
-        };
-        match word {
-            RadioWord::Attach => self.enter(phone, place, PhoneAct::Attach),
-            RadioWord::Info => self.enter(phone, place, PhoneAct::Info),
-            RadioWord::Foreign => self.enter(phone, place, PhoneAct::Foreign),
-            RadioWord::Service => self.enter(phone, place, PhoneAct::Service),
-            RadioWord::Tau => self.update(phone, place),
-            RadioWord::Switch => self.switch(phone, place),
+    ) -> Result<Acted, AllocError>
+        ensures ok { IfOk result (λ a. outcome a self.new ≡ acting_there word imsi place self.old) }
+        ensures unknown { phone_named imsi self.old.phones ≡ None → result ≡ Ok Skipped }
+        ensures err { OnErr result (StopsThere word (phone_named imsi self.old.phones) self.old self.new) }
+    {
+        match self.phones.find(imsi) {
+            Some(phone) => match word {
+                RadioWord::Attach => self.enter(phone, place, PhoneAct::Attach),
+                RadioWord::Info => self.enter(phone, place, PhoneAct::Info),
+                RadioWord::Foreign => self.enter(phone, place, PhoneAct::Foreign),
+                RadioWord::Service => self.enter(phone, place, PhoneAct::Service),
+                RadioWord::Tau => self.update(phone, place),
+                RadioWord::Switch => self.switch(phone, place),
+            },
+            None => Ok(Acted::Skipped),
         }
     }
 
-    /// A phone does this where it is.
-    pub fn act(&mut self, word: PhoneWord, imsi: Imsi) -> Result<Acted, AllocError> {
-        let Some(phone) = self.phones.find(imsi) else {
-            return Ok(Acted::Skipped);
-        };
-        match word {
-            PhoneWord::Detach => self.go(phone, PhoneAct::Detach),
-            PhoneWord::Off => self.go(phone, PhoneAct::Off),
-            PhoneWord::Idle => self.rest(phone),
-            PhoneWord::Deaf => Ok(self.deafen(phone)),
-            PhoneWord::Replay => self.lie(phone, PhoneAct::Replay),
-            PhoneWord::Forge => self.lie(phone, PhoneAct::Forge),
+    /// A phone does this where it is: Skipped where there is no such phone, or it can't be done. Refused for want of memory alone:
+    /// the phone may have spoken then, and where its path was moved it may have its new association, but nothing else changed.
+    pub fn act(&mut self, word: PhoneWord, imsi: Imsi) -> Result<Acted, AllocError>
+        ensures ok { IfOk result (λ a. outcome a self.new ≡ acting word imsi self.old) }
+        ensures unknown { phone_named imsi self.old.phones ≡ None → result ≡ Ok Skipped }
+        ensures err { OnErr result (StopsActing word (phone_named imsi self.old.phones) self.old self.new) }
+    {
+        match self.phones.find(imsi) {
+            Some(phone) => match word {
+                PhoneWord::Detach => self.go(phone, PhoneAct::Detach),
+                PhoneWord::Off => self.go(phone, PhoneAct::Off),
+                PhoneWord::Idle => self.rest(phone),
+                PhoneWord::Deaf => Ok(self.deafen(phone)),
+                PhoneWord::Replay => self.lie(phone, PhoneAct::Replay),
+                PhoneWord::Forge => self.lie(phone, PhoneAct::Forge),
+            },
+            None => Ok(Acted::Skipped),
         }
     }
 
-    /// Hands a message of the MME to its station; what station and phone answer is appended to the queue, in that order.
+    /// Hands a message of the MME to its station; what station and phone answer is appended to the queue, in that order. Refused
+    /// for want of memory alone: nothing is appended then, but the station and the phone may have taken the message.
     pub fn deliver(
         &mut self,
         station: StationNumber,
         octets: &[u8],
         queue: &mut Vec<Uplink>,
-    ) -> Result<(), AllocError> {
-        let Some(site) = self.sites.get_mut(station) else {
+    ) -> Result<(), AllocError>
+        ensures ok { OnOk result (self.new ≡ (delivering station octets.now self.old).crowd) }
+        ensures sent { OnOk result (queue.new.items ≡ queue.old.items ++ (delivering station octets.now self.old).sent) }
+        ensures unsent { OnErr result (queue.new.items ≡ queue.old.items) }
+        ensures err { OnErr result (StopsDelivering station octets.now self.old self.new) }
+    {
+        if !self.stations.has(station) {
             return Ok(());
-        };
-        let Delivery {
-            octets: answer,
-            nas,
-        } = site.station.deliver(octets)?;
-        if let Some(octets) = answer {
-            queue.push(Uplink { station, octets })?;
         }
-        match nas {
-            Some(message) => self.hand_over(station, message, queue),
-            None => self.notice(station, octets),
-        }
-    }
-
-    // A message without NAS may give a phone an association, too: a context, or a path that was moved.
-    fn notice(&mut self, station: StationNumber, octets: &[u8]) -> Result<(), AllocError> {
-        let (mme_ue_id, enb_ue_id) = match decode(self.alloc, octets) {
-            Ok(Pdu::InitialContextSetupRequest(message)) => (message.mme_ue_id, message.enb_ue_id),
-            Ok(Pdu::PathSwitchRequestAcknowledge(message)) => (
-                message.mme_ue_id,
-                message.enb_ue_id,
-            ),
-            Err(S1apFault::NoMemory) => return Err(AllocError),
-            Ok(_) | Err(_) => return Ok(()),
-        };
-        let pair = UeIdPair {
-            mme_ue_id,
-            enb_ue_id,
-        };
-        let connection = Connection { station, pair };
-        match self.phone_with(&connection) {
-            Some(phone) => self.connect(phone, connection),
-            None => Ok(()),
-        }
-    }
-
-    // Hands a NAS message to its phone.
-    fn hand_over(
-        &mut self,
-        station: StationNumber,
-        message: PhoneNas<'_>,
-        queue: &mut Vec<Uplink>,
-    ) -> Result<(), AllocError> {
-        let pair = message.pair;
-        let connection = Connection { station, pair };
-        let Some(phone) = self.phone_with(&connection) else {
-            return Ok(());
-        };
-        self.connect(phone, connection)?;
-        let Some(handset) = self.phones.get_mut(phone) else {
-            return Ok(());
-        };
-        let Some(nas) = handset.phone().deliver(message.nas)? else {
-            return Ok(());
-        };
-        if let Acted::Sends(uplink) = self.send(&connection, &nas)? {
-            queue.push(uplink)?;
-        }
+        queue.reserve(2)?;
+        let (of_station, of_phone) = self.react(station, octets)?;
+        push_answer(queue, of_station);
+        push_answer(queue, of_phone);
         Ok(())
     }
 }

@@ -8,9 +8,12 @@
 mod acted;
 mod acts;
 mod crowd;
-mod list;
+mod hearing;
+mod index;
 mod phones;
 mod site;
+mod stations;
+mod whereabouts;
 
 pub use acted::{Acted, Uplink};
 pub use crowd::Crowd;
