@@ -192,9 +192,12 @@ class Lanes(unittest.TestCase):
         self.assertEqual(self.jobs(), set())
 
     def test_of_the_toolchain(self):
-        rt = toolchain.module()
-        if list(inspect.signature(plain().in_lanes).parameters) == ["tasks"]:
-            self.assertEqual(rt.in_lanes({("one", "proof"): ([], 1, 1.0, lambda given, jobs: jobs > 0)}), {("one", "proof"): True})
+        """The toolchain's own lanes run so in the form that is known here, and in another form they are as they were."""
+        own, quick = getattr(plain(), "in_lanes", None), getattr(toolchain.module(), "in_lanes", None)
+        is_known = own is not None and list(inspect.signature(own).parameters) == ["tasks"]
+        self.assertEqual(hasattr(quick, "__wrapped__"), is_known)
+        if is_known:
+            self.assertEqual(quick({("one", "proof"): ([], 1, 1.0, lambda given, jobs: jobs > 0)}), {("one", "proof"): True})
 
 
 class Command(unittest.TestCase):
