@@ -11,7 +11,7 @@ use Rattle.mme_types.specs.declared.event.UeMessage.{UeMessage}
 use Rattle.mme_types.specs.declared.connection.Connection.{Connection}
 use Rattle.mme_types.specs.declared.connection.RadioKeys.{RadioKeys}
 use Rattle.mme_types.specs.Listed.{ToReset, is_listed}
-use Rattle.mme_pdus.specs.Pdus.{error_indication, path_switch_acknowledge, path_switch_failure}
+use Rattle.mme_types.specs.Pdus.{error_indication, path_switch_acknowledge, path_switch_failure}
 use Rattle.emm_state.specs.declared.draft.Draft.{Draft}
 use Rattle.emm_state.specs.declared.solo.Context.{Context}
 use Rattle.emm_state.specs.declared.solo.Repeat.{Repeat}

@@ -20,7 +20,7 @@ use Rattle.identity_slots.specs.Ids.{id_of_slot, next_counter}
 use Rattle.mme_types.specs.declared.octets.Mark.{Mark}
 use Rattle.mme_types.specs.declared.connection.Connection.{Connection}
 use Rattle.mme_types.specs.Answers.{answer_of}
-use Rattle.mme_pdus.specs.Pdus.{context_setup, downlink, release_command}
+use Rattle.mme_types.specs.Pdus.{context_setup, downlink, release_command}
 use Rattle.emm_state.specs.declared.draft.Draft.{Draft}
 use Rattle.emm_state.specs.declared.draft.Sealed.{Sealed}
 use Rattle.emm_state.specs.declared.setting.Setting.{Setting}

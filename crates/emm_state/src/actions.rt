@@ -15,7 +15,7 @@ use crate::solo::{Context, Countdown, NasTimer, Phase, Protection, Repeat};
 use eps_keys::Kenb;
 use esm_machine::Bearer;
 use identity_slots::{AssociationId, Slot};
-use mme_pdus::{context_setup, downlink, release_command};
+use mme_types::{context_setup, downlink, release_command};
 use mme_types::s1ap::S1apPdu;
 use mme_types::s1ap::elements::{Cause, EnbUeId, NasCause};
 use mme_types::{Answer, Connection, Mark, NasOctets, SentOctets, StationNumber};

@@ -2,4 +2,4 @@ pub mod Causes
 pub mod Hearing
 pub mod Messages
 -- the S1AP messages
-pub use Rattle.mme_pdus.specs.Pdus
+pub use Rattle.mme_types.specs.Pdus

@@ -1,6 +1,6 @@
 -- The NAS messages that the machine sends.
 use Rattle.std.specs.Prelude.{ℕ, Bool, List, [], ◌∷◌, slice_index, Option, Some, None, if◌then◌else◌}
-use Rattle.mme_pdus.specs.s1ap_elements.declared.phone.Tai.{Tai}
+use Rattle.mme_types.specs.s1ap_elements.declared.phone.Tai.{Tai}
 use Rattle.nas_elements.specs.Capability.{replayed}
 use Rattle.nas_elements.specs.Identities.{guti_octets, plmn_from_s1ap, tai_list_octets}
 use Rattle.nas_elements.specs.declared.identity.Guti.{Guti}
@@ -8,7 +8,7 @@ use Rattle.nas_elements.specs.declared.identity.TaiList.{TaiList}
 use Rattle.nas_messages.specs.declared.emm_types.Emm.TheVariants as emm
 use Rattle.nas_messages.specs.Messages.{encoded_emm}
 use Rattle.nas_elements.specs.Timers.{t3412_octet}
-use Rattle.mme_pdus.specs.mme_types.declared.network.Network.{Network}
+use Rattle.mme_types.specs.declared.network.Network.{Network}
 use Rattle.mme_signalling.specs.declared.cause.EmmCause.{EmmCause}
 use Rattle.mme_signalling.specs.declared.cause.EmmCause.TheVariants.{CsDomainNotAvailable}
 use Rattle.mme_signalling.specs.declared.messages.Grant.{Grant}

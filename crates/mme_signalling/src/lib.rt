@@ -13,7 +13,7 @@ pub use messages::{
     authentication_request, detach_accept, emm_status, identity_request, network_detach,
     security_mode_command, service_reject, update_accept, update_reject,
 };
-pub use mme_pdus::{
+pub use mme_types::{
     cause_of_request, context_setup, downlink, error_indication, paging, path_switch_acknowledge,
     path_switch_failure, release_command,
 };

@@ -8,8 +8,8 @@ ghost use Rattle.mme_signalling.specs.Messages.{attach_accept, attach_reject, au
 
 use crate::cause::EmmCause;
 use identity_slots::Tmsi;
-use mme_pdus::types::Network;
-use mme_pdus::types::s1ap::elements::Tai;
+use mme_types::Network;
+use mme_types::s1ap::elements::Tai;
 use nas_elements::{Guti, Plmn, TaiList, UeCapability};
 use nas_messages::{
     AttachAccept, AttachReject, AuthenticationRequest, Emm, EmmMessage, Lent, SecurityModeCommand,

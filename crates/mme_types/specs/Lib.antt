@@ -3,6 +3,7 @@ pub mod Stations
 pub mod Answers
 pub mod Listed
 pub mod Events
+pub mod Pdus
 -- crates below, passed on with all of their definitions
 pub use Rattle.s1ap_pdus.specs as s1ap_pdus
 pub use Rattle.s1ap_pdus.specs.per_streams as per_streams

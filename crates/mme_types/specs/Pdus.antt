@@ -1,21 +1,21 @@
 -- The S1AP messages that the machine sends.
 use Rattle.std.specs.Prelude.{ℕ, ◌+◌, ◌*◌, ◌-◌, ◌/◌, ◌%◌, ◌==◌, Bool, true, false, if◌then◌else◌, List, [], ◌∷◌, slice_index, Option, Some}
 use Rattle.std.specs.Int.{w32, to_be_bytes}
-use Rattle.mme_types.specs.per_streams.Bits.{octet_bits}
-use Rattle.mme_types.specs.s1ap_elements.declared.bearer.Qos.{Qos}
-use Rattle.mme_types.specs.s1ap_causes.declared.cause.Cause.{Cause}
-use Rattle.mme_types.specs.s1ap_causes.declared.cause.Cause.TheVariants as causes
-use Rattle.mme_types.specs.s1ap_causes.declared.cause.RadioNetworkCause.TheVariants as radio
-use Rattle.mme_types.specs.s1ap_causes.declared.cause.TransportCause.TheVariants as transport
-use Rattle.mme_types.specs.s1ap_causes.declared.cause.NasCause.TheVariants as nas
-use Rattle.mme_types.specs.s1ap_causes.declared.cause.ProtocolCause.TheVariants as protocol
-use Rattle.mme_types.specs.s1ap_causes.declared.cause.MiscCause.TheVariants as misc
-use Rattle.mme_types.specs.s1ap_elements.declared.phone.CnDomain.TheVariants.{Ps}
-use Rattle.mme_types.specs.s1ap_elements.declared.phone.Tai.{Tai}
-use Rattle.mme_types.specs.s1ap_elements.declared.phone.UePagingId.TheVariants.{STmsi}
-use Rattle.mme_types.specs.s1ap_elements.declared.phone.UeS1apIds.TheVariants.{Pair}
-use Rattle.mme_types.specs.s1ap_pdus.declared.pdu.Pdu.{Pdu}
-use Rattle.mme_types.specs.s1ap_pdus.declared.pdu.Pdu.TheVariants as pdu
+use Rattle.s1ap_pdus.specs.per_streams.Bits.{octet_bits}
+use Rattle.s1ap_pdus.specs.s1ap_elements.declared.bearer.Qos.{Qos}
+use Rattle.s1ap_pdus.specs.s1ap_causes.declared.cause.Cause.{Cause}
+use Rattle.s1ap_pdus.specs.s1ap_causes.declared.cause.Cause.TheVariants as causes
+use Rattle.s1ap_pdus.specs.s1ap_causes.declared.cause.RadioNetworkCause.TheVariants as radio
+use Rattle.s1ap_pdus.specs.s1ap_causes.declared.cause.TransportCause.TheVariants as transport
+use Rattle.s1ap_pdus.specs.s1ap_causes.declared.cause.NasCause.TheVariants as nas
+use Rattle.s1ap_pdus.specs.s1ap_causes.declared.cause.ProtocolCause.TheVariants as protocol
+use Rattle.s1ap_pdus.specs.s1ap_causes.declared.cause.MiscCause.TheVariants as misc
+use Rattle.s1ap_pdus.specs.s1ap_elements.declared.phone.CnDomain.TheVariants.{Ps}
+use Rattle.s1ap_pdus.specs.s1ap_elements.declared.phone.Tai.{Tai}
+use Rattle.s1ap_pdus.specs.s1ap_elements.declared.phone.UePagingId.TheVariants.{STmsi}
+use Rattle.s1ap_pdus.specs.s1ap_elements.declared.phone.UeS1apIds.TheVariants.{Pair}
+use Rattle.s1ap_pdus.specs.declared.pdu.Pdu.{Pdu}
+use Rattle.s1ap_pdus.specs.declared.pdu.Pdu.TheVariants as pdu
 use Rattle.nas_elements.specs.Digits.{imsi_text}
 use Rattle.nas_elements.specs.Codes.{default_bearer}
 use Rattle.identity_slots.specs.declared.profile.Profile.{Profile}

@@ -1,6 +1,6 @@
 use Rattle.std.proofs.Common.{◌≡◌, ◌<◌, ◌%◌, drop}
-use Rattle.mme_pdus.specs.Pdus.{number_from}
-use Rattle.mme_pdus.proofs.pdus.number_of.Given as goal
+use Rattle.mme_types.specs.Pdus.{number_from}
+use Rattle.mme_types.proofs.pdus.number_of.Given as goal
 
 abbrev pub invariant-loop-digit : goal.invariant-loop-digit
 invariant-loop-digit l =

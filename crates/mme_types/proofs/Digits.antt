@@ -1,6 +1,6 @@
 -- Digits as a number, modulo 1024.
 use Rattle.std.proofs.Common.{suc, ◌≡◌, ℕ, ◌+◌, ◌*◌, ◌-◌, ◌%◌, ◌<◌, List, [], ◌∷◌, length, get_or, drop, arith, add-one, drop-cons}
-use Rattle.mme_pdus.specs.Pdus.{number_from}
+use Rattle.mme_types.specs.Pdus.{number_from}
 
 -- only the remainder of what stands before matters
 pub same_remainder : (v w : ℕ) (cs : List ℕ) → v % 1024 ≡ w % 1024 → number_from v cs % 1024 ≡ number_from w cs % 1024

@@ -1,7 +1,7 @@
 use Rattle.std.proofs.Common.{◌≡◌, ◌+◌, ◌*◌, ◌-◌, ◌%◌, sym, ap, ◌∙◌, arith, get_or, drop}
-use Rattle.mme_pdus.specs.Pdus.{number_from}
-use Rattle.mme_pdus.proofs.Digits.{digit_more}
-use Rattle.mme_pdus.proofs.pdus.number_of.Goals as goal
+use Rattle.mme_types.specs.Pdus.{number_from}
+use Rattle.mme_types.proofs.Digits.{digit_more}
+use Rattle.mme_types.proofs.pdus.number_of.Goals as goal
 
 pub loop-digit-preserved : goal.loop-digit-preserved
 loop-digit-preserved c =

@@ -1,23 +1,24 @@
 //! The S1AP messages that the machine sends.
 
 ghost use Rattle.std.specs.Prelude.{◌≡◌, ◌<◌, ◌≤◌, ◌%◌, ◌∷◌, [], IfOk, option_map};
-ghost use Rattle.mme_types.specs.s1ap_pdus.Pdus.{lists};
-ghost use Rattle.mme_pdus.specs.Pdus.{algorithm_bits, cause_of_request, context_setup, downlink, error_indication, index_bits, is_extended, number_from, paging, path_switch_acknowledge, path_switch_failure, qos, release_command, ue_index};
+ghost use Rattle.s1ap_pdus.specs.Pdus.{lists};
+ghost use Rattle.mme_types.specs.Pdus.{algorithm_bits, cause_of_request, context_setup, downlink, error_indication, index_bits, is_extended, number_from, paging, path_switch_acknowledge, path_switch_failure, qos, release_command, ue_index};
 
+use crate::connection::Connection;
+use crate::network::Network;
 use eps_keys::{Kenb, NextHop};
 use identity_slots::{AssociationId, Profile, Tmsi};
-use mme_types::s1ap::elements::{
+use nas_elements::{Imsi, UeCapability, codes};
+use s1ap_pdus::elements::{
     Address, Ambr, Arp, BitField, Cause, CnDomain, EnbUeId, ErabId, ErabToBeSetup, Items, Listed,
     MiscCause, MmeUeId, NasCause, Octets, ProtocolCause, Qos, RadioNetworkCause, STmsi,
     SecurityCapabilities, SecurityContext, Tai, TaiItem, TransportCause, UeIdPair, UeIndex,
     UePagingId, UeS1apIds, Whole,
 };
-use mme_types::s1ap::{
+use s1ap_pdus::{
     DownlinkNasTransport, ErrorIndication, InitialContextSetupRequest, Paging,
     PathSwitchRequestAcknowledge, PathSwitchRequestFailure, Pdu, S1apPdu, UeContextReleaseCommand,
 };
-use mme_types::{Connection, Network};
-use nas_elements::{Imsi, UeCapability, codes};
 use std::alloc::{AllocError, Global};
 
 // An association's id as S1AP has it.
