@@ -16,7 +16,7 @@ use Rattle.stranger_machine.specs.declared.table.Known.{Known}
 use Rattle.stranger_machine.specs.Machine.{Begins as BeginsInput, Receives, stranger_step}
 use Rattle.stranger_machine.specs.Table.{known_id, stranger_at}
 use Rattle.stranger_machine.specs.Laws as laws
-use Rattle.subscriber_table.specs.Table.{each_after, subscriber_after}
+use Rattle.mme_owners.specs.Subscribers.{each_after, subscriber_after}
 use Rattle.mme_routing.specs.Destinations.{Destination, input_for, item_at, strangers_left}
 use Rattle.mme_routing.specs.Destinations as to
 use Rattle.laws_apart.specs.Alone.{IsMadeIf, IsOwn, WaitsMade}

@@ -11,8 +11,8 @@ use Rattle.stranger_machine.specs.declared.state.Stranger.{Stranger}
 use Rattle.stranger_machine.specs.declared.state.Stranger.TheVariants.{Waiting, Held}
 use Rattle.stranger_machine.specs.declared.table.Known.{Known}
 use Rattle.stranger_machine.specs.Table.{known_id, stranger_at}
-use Rattle.subscriber_table.specs.Table.{each_after}
-pub use Rattle.subscriber_table.specs.Touched.{Has}
+use Rattle.mme_owners.specs.Subscribers.{each_after}
+pub use Rattle.mme_owners.specs.Touched.{Has}
 use Rattle.mme_routing.specs.Destinations.{Destination, item_at, strangers_left}
 use Rattle.laws_apart.specs.Alone.{IsOfStranger, IsOwn, WaitsMade}
 use Rattle.laws_apart.specs.Goes.{GoesMade}

@@ -9,7 +9,7 @@ use Rattle.stranger_machine.specs.declared.table.Known.{Known}
 use Rattle.stranger_machine.specs.declared.turn.Notice.{Notice}
 use Rattle.stranger_machine.specs.Machine.{Begins, Receives, notes, stranger_step}
 use Rattle.stranger_machine.specs.Table.{stranger_at}
-use Rattle.subscriber_table.specs.Table.{each_after, subscriber_step}
+use Rattle.mme_owners.specs.Subscribers.{each_after, subscriber_step}
 use Rattle.mme_routing.specs.Destinations.{Destination}
 use Rattle.mme_routing.specs.Destinations as to
 use Rattle.mme_answering.specs.declared.out.Owner.{Owner}

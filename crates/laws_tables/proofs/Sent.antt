@@ -5,8 +5,8 @@ use Rattle.emm_machine.specs.Laws.{still_stays}
 use Rattle.emm_machine.specs.Still.{still}
 use Rattle.emm_machine.specs.SubscriberView.{SubscriberView}
 use Rattle.emm_state.specs.declared.draft.Draft.{Draft}
-use Rattle.subscriber_table.specs.Laws.{all_give_as_due, all_give_as_touched, quiet_sent}
-use Rattle.subscriber_table.specs.Table.{subscriber_step}
+use Rattle.mme_owners.specs.SubscriberLaws.{all_give_as_due, all_give_as_touched, quiet_sent}
+use Rattle.mme_owners.specs.Subscribers.{subscriber_step}
 use Rattle.laws_tables.specs.Subscribers.{AllSendAsDue, AllSendAsTouched, sent_at}
 
 pub all_send_as_due : AllSendAsDue

@@ -6,7 +6,7 @@ use Rattle.std.proofs.lemmas.List.{append-nil}
 use Rattle.mme_types.specs.Events.{Item, Nothing}
 use Rattle.emm_machine.specs.SubscriberView.{SubscriberView}
 use Rattle.mme_routing.specs.Destinations.{for_one}
-use Rattle.subscriber_table.specs.Table.{each_after, subscriber_after, subscriber_step}
+use Rattle.mme_owners.specs.Subscribers.{each_after, subscriber_after, subscriber_step}
 use Rattle.mme_answering.specs.Laws.{at_nothing, item_other, stays}
 use Rattle.mme_answering.specs.Sending.{each_sent, slot_out}
 

@@ -11,9 +11,9 @@ use Rattle.stranger_machine.specs.declared.table.Known.{Known}
 use Rattle.stranger_machine.specs.Machine.{begins, receives, stranger_step}
 use Rattle.stranger_machine.specs.Table.{stranger_at}
 use Rattle.stranger_machine.specs.Turns.{Turn}
-use Rattle.subscriber_table.specs.Laws.{some_give}
-use Rattle.subscriber_table.specs.SteppedView.{SteppedView}
-use Rattle.subscriber_table.specs.Table.{slots_stepped, IsCounting, IsStepped}
+use Rattle.mme_owners.specs.SubscriberLaws.{some_give}
+use Rattle.mme_owners.specs.SteppedView.{SteppedView}
+use Rattle.mme_owners.specs.Subscribers.{slots_stepped, IsCounting, IsStepped}
 use Rattle.mme_routing.specs.Destinations.{Destination, for_one}
 use Rattle.mme_routing.specs.Destinations as to
 use Rattle.mme_answering.specs.declared.out.Out.{Out}

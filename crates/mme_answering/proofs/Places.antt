@@ -8,9 +8,9 @@ use Rattle.emm_machine.specs.SubscriberView.{SubscriberView}
 use Rattle.sorted_list.specs.Ordered.{Every}
 use Rattle.stranger_machine.specs.declared.turn.Notice.{Notice}
 use Rattle.stranger_machine.specs.declared.turn.Notice.TheVariants.{Gone, Listed, Tick}
-use Rattle.subscriber_table.specs.SteppedView.{SteppedView}
-use Rattle.subscriber_table.specs.Table.{IsCounting, IsStepped}
-use Rattle.subscriber_table.specs.Touched.{KeepsPlace}
+use Rattle.mme_owners.specs.SteppedView.{SteppedView}
+use Rattle.mme_owners.specs.Subscribers.{IsCounting, IsStepped}
+use Rattle.mme_owners.specs.Touched.{KeepsPlace}
 use Rattle.mme_answering.specs.declared.prepared.Prepared.{Prepared}
 use Rattle.mme_answering.specs.Settled.{AreFit, IsApart}
 use Rattle.stranger_machine.specs.declared.table.Known.{Known}

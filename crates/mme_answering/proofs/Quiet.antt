@@ -7,9 +7,9 @@ use Rattle.stranger_machine.specs.declared.table.Known.{Known}
 use Rattle.stranger_machine.specs.declared.turn.Notice.TheVariants as notices
 use Rattle.stranger_machine.specs.Table.{known_id}
 use Rattle.stranger_table.specs.Laws.{some_known_give}
-use Rattle.subscriber_table.specs.Laws.{some_give}
+use Rattle.mme_owners.specs.SubscriberLaws.{some_give}
 use Rattle.mme_timers.specs.Waiting.{due_ids}
-use Rattle.subscriber_table.specs.Table.{due_slots, each_after, one_less}
+use Rattle.mme_owners.specs.Subscribers.{due_slots, each_after, one_less}
 use Rattle.mme_routing.specs.Destinations.{for_all}
 use Rattle.mme_answering.specs.Settled.{item_sent, known_sent}
 use Rattle.mme_answering.specs.Sending.{each_known, each_sent}

@@ -2,7 +2,7 @@
 use Rattle.std.proofs.Common.{◌≤◌, ℕ, List, length, ap, arith}
 use Rattle.emm_machine.specs.SubscriberView.{SubscriberView}
 use Rattle.stranger_machine.specs.declared.table.Known.{Known}
-use Rattle.subscriber_table.specs.Laws.{due_few}
+use Rattle.mme_owners.specs.SubscriberLaws.{due_few}
 use Rattle.mme_answering.specs.declared.prepared.Prepared.{Prepared}
 use Rattle.mme_answering.specs.declared.prepared.Prepared.TheVariants as prepared
 use Rattle.mme_answering.specs.Settled.{IsFor, steps_of}

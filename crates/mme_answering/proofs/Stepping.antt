@@ -11,11 +11,11 @@ use Rattle.emm_machine.specs.SubscriberView.{SubscriberView}
 use Rattle.emm_machine.specs.Ticks.{countdowns}
 use Rattle.emm_machine.specs.TickLaws.{running_timed}
 use Rattle.sorted_list.specs.Ordered.{Every}
-use Rattle.subscriber_table.specs.SteppedView.{SteppedView}
-use Rattle.subscriber_table.specs.Laws.{all_give_as_due, all_give_as_touched, each_gives, quiet_sent, some_give, tick_is_of_all, timed_in_range, touched_below, touched_few, touched_is_of_all}
+use Rattle.mme_owners.specs.SteppedView.{SteppedView}
+use Rattle.mme_owners.specs.SubscriberLaws.{all_give_as_due, all_give_as_touched, each_gives, quiet_sent, some_give, tick_is_of_all, timed_in_range, touched_below, touched_few, touched_is_of_all}
 use Rattle.mme_timers.specs.Running.{is_due}
-use Rattle.subscriber_table.specs.Table.{IsCounting, IsStepped, due_slots, each_after, slots_stepped, step_at, subscriber_step, tick_settled}
-use Rattle.subscriber_table.specs.Touched.{touched_slots}
+use Rattle.mme_owners.specs.Subscribers.{IsCounting, IsStepped, due_slots, each_after, slots_stepped, step_at, subscriber_step, tick_settled}
+use Rattle.mme_owners.specs.Touched.{touched_slots}
 use Rattle.laws_ends.specs.Clocked.{ClockedRuns, IsClocked, StaysClocked}
 use Rattle.mme_answering.specs.InUse.{AreInUse}
 use Rattle.mme_answering.specs.Settled.{AreFit, in_state, item_sent, sent_at, solo_at, with_solo, with_stepped}

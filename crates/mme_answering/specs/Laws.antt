@@ -10,8 +10,8 @@ use Rattle.emm_state.specs.Actions.{untouched}
 use Rattle.mme_types.specs.Events.{Item, Nothing}
 use Rattle.emm_machine.specs.Steps.{row, solo_step}
 use Rattle.emm_machine.specs.SubscriberView.{SubscriberView}
-use Rattle.subscriber_table.specs.SteppedView.{SteppedView}
-use Rattle.subscriber_table.specs.Table.{one_less, subscriber_after, tick_settled}
+use Rattle.mme_owners.specs.SteppedView.{SteppedView}
+use Rattle.mme_owners.specs.Subscribers.{one_less, subscriber_after, tick_settled}
 use Rattle.mme_routing.specs.Destinations.{for_one}
 use Rattle.mme_answering.specs.declared.prepared.Prepared.{Prepared}
 use Rattle.mme_answering.specs.declared.prepared.Prepared.TheVariants as prepared

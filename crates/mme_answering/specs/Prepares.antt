@@ -7,9 +7,9 @@ use Rattle.sorted_list.specs.Ordered.{Every}
 use Rattle.stranger_machine.specs.declared.table.Known.{Known}
 use Rattle.stranger_machine.specs.Table.{stranger_at, with_stranger}
 use Rattle.stranger_machine.specs.Turns.{Turn}
-use Rattle.subscriber_table.specs.SteppedView.{SteppedView}
-use Rattle.subscriber_table.specs.Laws.{some_give}
-use Rattle.subscriber_table.specs.Table.{each_after, slots_stepped, IsCounting, IsStepped}
+use Rattle.mme_owners.specs.SteppedView.{SteppedView}
+use Rattle.mme_owners.specs.SubscriberLaws.{some_give}
+use Rattle.mme_owners.specs.Subscribers.{each_after, slots_stepped, IsCounting, IsStepped}
 use Rattle.mme_routing.specs.Destinations.{Destination, if_called, item_at, strangers_left}
 use Rattle.mme_answering.specs.declared.out.Out.{Out}
 use Rattle.mme_answering.specs.declared.prepared.Prepared.{Prepared}

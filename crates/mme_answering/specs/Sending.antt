@@ -4,7 +4,7 @@ use Rattle.identity_slots.specs.declared.profile.Profile.{Profile}
 use Rattle.mme_types.specs.declared.octets.Answer.{Answer}
 use Rattle.mme_types.specs.Events.{Item}
 use Rattle.emm_machine.specs.SubscriberView.{SubscriberView}
-use Rattle.subscriber_table.specs.Table.{subscriber_step}
+use Rattle.mme_owners.specs.Subscribers.{subscriber_step}
 use Rattle.stranger_machine.specs.declared.table.Known.{Known}
 use Rattle.stranger_machine.specs.declared.turn.Notice.{Notice}
 use Rattle.stranger_machine.specs.Machine.{Input, Begins, Receives, notes, stranger_step}

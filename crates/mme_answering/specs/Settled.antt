@@ -13,9 +13,9 @@ use Rattle.stranger_machine.specs.Machine.{is_of_station, notes}
 use Rattle.stranger_machine.specs.Table.{noted, stranger_at, with_stranger}
 use Rattle.stranger_machine.specs.Turns.{after_of}
 use Rattle.mme_timers.specs.Waiting.{due_ids}
-use Rattle.subscriber_table.specs.SteppedView.{SteppedView}
-use Rattle.subscriber_table.specs.Touched.{KeepsPlace}
-use Rattle.subscriber_table.specs.Table.{IsCounting, due_slots, slots_stepped, step_at, subscriber_step, tick_settled}
+use Rattle.mme_owners.specs.SteppedView.{SteppedView}
+use Rattle.mme_owners.specs.Touched.{KeepsPlace}
+use Rattle.mme_owners.specs.Subscribers.{IsCounting, due_slots, slots_stepped, step_at, subscriber_step, tick_settled}
 use Rattle.mme_owners.specs.Owners.{IsWaitAfter}
 use Rattle.mme_owners.specs.Placed.{AreApart}
 pub use Rattle.mme_owners.specs.Owners.{with_one, IsFit, IsFitIf}
@@ -26,7 +26,7 @@ use Rattle.mme_routing.specs.declared.destination.Destination.{Destination as De
 use Rattle.mme_routing.specs.declared.destination.Destination.TheVariants as code
 use Rattle.mme_routing.specs.Destinations.{Destination, Everyone}
 use Rattle.mme_answering.specs.Sending.{slot_out, stranger_out}
-pub use Rattle.subscriber_table.specs.Table.{in_state, with_solo, with_stepped}
+pub use Rattle.mme_owners.specs.Subscribers.{in_state, with_solo, with_stepped}
 
 -- the subscribers, as they were prepared
 abbrev pub settled_subscribers : Prepared → List SubscriberView → List SubscriberView

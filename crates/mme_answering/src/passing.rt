@@ -6,7 +6,7 @@ ghost use Rattle.mme_owners.specs.Owners.{NobodyIsDue};
 ghost use Rattle.mme_routing.specs.Destinations.{for_all};
 ghost use Rattle.stranger_machine.specs.declared.turn.Notice.TheVariants as notices;
 ghost use Rattle.stranger_machine.specs.Table.{noted};
-ghost use Rattle.subscriber_table.specs.Table.{each_after};
+ghost use Rattle.mme_owners.specs.Subscribers.{each_after};
 ghost use Rattle.mme_answering.specs.Sending.{each_known, each_sent};
 
 use mme_owners::Owners;

@@ -2,7 +2,7 @@
 
 use identity_slots::AssociationId;
 use stranger_machine::{After, Notice};
-use subscriber_table::Stepped;
+use mme_owners::Stepped;
 
 /// What is to become of those whom an event goes to.
 #[derive(Drop)]

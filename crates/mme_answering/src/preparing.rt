@@ -14,8 +14,8 @@ ghost use Rattle.stranger_machine.specs.Machine.{is_of_station};
 ghost use Rattle.stranger_machine.specs.Table.{stranger_at};
 ghost use Rattle.stranger_machine.specs.Turns.{call_of, turn_of};
 ghost use Rattle.mme_timers.specs.Waiting.{due_ids};
-ghost use Rattle.subscriber_table.specs.Table.{IsCounting, due_slots};
-ghost use Rattle.subscriber_table.specs.Touched.{touched_slots};
+ghost use Rattle.mme_owners.specs.Subscribers.{IsCounting, due_slots};
+ghost use Rattle.mme_owners.specs.Touched.{touched_slots};
 ghost use Rattle.mme_routing.specs.Destinations.{Beginner as BeginnerInSpecs, Everyone, Stranger as StrangerInSpecs, for_one, if_called, item_of_notice};
 ghost use Rattle.mme_routing.specs.Seen.{destination_of};
 ghost use Rattle.mme_answering.specs.declared.prepared.Prepared.TheVariants.{Everyone as EveryoneInCode};
@@ -29,14 +29,13 @@ use crate::sending::{send_all, send_due};
 use identity_slots::{AssociationId, Provision, Slot};
 use laws_connections::connections_come_so;
 use laws_ends::clocks_are_kept;
-use mme_owners::{Due, Owners};
+use mme_owners::{Due, Owners, Stepped, Subscribers};
 use mme_routing::Destination;
 use mme_types::{EnbWorld, Entry, SoloEvent, StationNumber, UeMessage};
 use s1ap_elements::AssociationToReset;
 use std::alloc::{AllocError, Global};
 use stranger_machine::{Call, Notice, Turn, begins, receives};
 use stranger_table::Strangers;
-use subscriber_table::{Stepped, Subscribers};
 
 // A subscriber's step, on a copy: its state after it; what it sends stands after what is sent so far.
 fn prepare_step(

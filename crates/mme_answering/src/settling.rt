@@ -10,18 +10,17 @@ ghost use Rattle.stranger_machine.specs.Machine.{is_of_station};
 ghost use Rattle.stranger_machine.specs.Table.{noted, stranger_at, with_stranger};
 ghost use Rattle.stranger_machine.specs.Turns.{after_of};
 ghost use Rattle.mme_timers.specs.Waiting.{due_ids};
-ghost use Rattle.subscriber_table.specs.Table.{due_slots, slots_stepped, tick_settled, with_stepped, IsCounting};
-ghost use Rattle.subscriber_table.specs.Touched.{KeepsPlace};
+ghost use Rattle.mme_owners.specs.Subscribers.{due_slots, slots_stepped, tick_settled, with_stepped, IsCounting};
+ghost use Rattle.mme_owners.specs.Touched.{KeepsPlace};
 ghost use Rattle.mme_owners.specs.Owners.{with_one, IsFitIf, IsWaitAfter};
 ghost use Rattle.mme_owners.specs.Placed.{AreApart};
 ghost use Rattle.mme_answering.specs.Settled.{AreFit, IsApart, IsFor, IsWaiting, MayPass, settled_clock, settled_strangers, settled_subscribers, starts_of, steps_of};
 
 use crate::prepared::Prepared;
 use identity_slots::AssociationId;
-use mme_owners::Owners;
+use mme_owners::{Owners, Stepped};
 use std::alloc::AllocError;
 use stranger_machine::{After, Notice};
-use subscriber_table::Stepped;
 
 // For T3470 of how many strangers room is made.
 fn starts_of(prepared: &Prepared) -> usize

@@ -15,7 +15,7 @@ use Rattle.stranger_machine.specs.Table.{known_id, stranger_at}
 use Rattle.mme_timers.specs.Waiting.{wait_of}
 use Rattle.mme_owners.specs.Owners.{IsStart, IsWaitAfter}
 use Rattle.mme_owners.specs.Placed.{place_if, AreApart}
-use Rattle.subscriber_table.specs.SteppedView.{SteppedView}
+use Rattle.mme_owners.specs.SteppedView.{SteppedView}
 use Rattle.mme_answering.specs.declared.prepared.Prepared.{Prepared}
 use Rattle.mme_answering.specs.declared.prepared.Prepared.TheVariants as prepared
 use Rattle.mme_answering.specs.Settled.{IsWaiting, settled_strangers, settled_subscribers}

@@ -28,7 +28,7 @@ use Rattle.mme_owners.specs.Owners.{OwnersView}
 use Rattle.mme_routing.specs.Destinations.{Destination, item_at, strangers_left}
 use Rattle.mme_routing.specs.Destinations as to
 use Rattle.mme_routing.specs.Outcomes.{Outcome, begins_anew, goes_to, outcome_of}
-pub use Rattle.subscriber_table.specs.Table.{each_after, subscriber_after, subscriber_step}
+pub use Rattle.mme_owners.specs.Subscribers.{each_after, subscriber_after, subscriber_step}
 pub use Rattle.mme_answering.specs.Sending.{each_known, each_sent, input_sent, owner_out, slot_out, stranger_out, strangers_sent}
 
 -- ---- what is refused

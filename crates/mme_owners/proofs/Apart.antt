@@ -16,11 +16,11 @@ use Rattle.stranger_machine.specs.declared.state.Stranger.TheVariants.{Waiting, 
 use Rattle.stranger_machine.specs.declared.table.Known.{Known}
 use Rattle.stranger_machine.specs.Laws.{with_at}
 use Rattle.stranger_machine.specs.Table.{known_id, stranger_at, with_stranger}
-use Rattle.subscriber_table.specs.Changed.{changed_at}
-use Rattle.subscriber_table.specs.Laws.{with_solo_is}
-use Rattle.subscriber_table.specs.SteppedView.{SteppedView}
-use Rattle.subscriber_table.specs.Table.{in_state, with_solo}
-use Rattle.subscriber_table.specs.Touched.{all_whereabouts, Has}
+use Rattle.mme_owners.specs.Changed.{changed_at}
+use Rattle.mme_owners.specs.SubscriberLaws.{with_solo_is}
+use Rattle.mme_owners.specs.SteppedView.{SteppedView}
+use Rattle.mme_owners.specs.Subscribers.{in_state, with_solo}
+use Rattle.mme_owners.specs.Touched.{all_whereabouts, Has}
 use Rattle.mme_owners.specs.Owners.{with_one, IsFitIf, IsFreeIf}
 use Rattle.mme_owners.specs.Placed.{place_at, place_if, place_in_state, AreApart, IsOn, NoneWaitsIf}
 use Rattle.mme_owners.proofs.Touching.{has_at}

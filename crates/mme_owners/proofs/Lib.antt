@@ -5,3 +5,4 @@ mod Places
 mod Ticked
 mod Touching
 mod Unchanged
+mod Waking

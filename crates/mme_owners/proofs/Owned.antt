@@ -24,9 +24,9 @@ use Rattle.mme_timers.specs.SlotLaws.{AreBefore, both_retimed_is, both_retimed_j
 use Rattle.mme_timers.specs.WaitLaws.{changed_joined, due_ids_joined, due_owners, due_slots_joined, is_wait_at, stopped_joined, waits_before, waits_put, waits_without}
 use Rattle.mme_timers.specs.Waiting.{AreWaits, IsWait, due_ids, wait_at, wait_changed, wait_of, wait_stopped, waits_of}
 use Rattle.stranger_table.specs.Table.{StrangerTable}
-use Rattle.subscriber_table.specs.SteppedView.{SteppedView}
-use Rattle.subscriber_table.specs.Laws.{with_solo_is}
-use Rattle.subscriber_table.specs.Table.{SubscriberTable, all_countdowns, countdowns_at, due_slots, in_state, with_solo, with_stepped}
+use Rattle.mme_owners.specs.SteppedView.{SteppedView}
+use Rattle.mme_owners.specs.SubscriberLaws.{with_solo_is}
+use Rattle.mme_owners.specs.Subscribers.{SubscriberTable, all_countdowns, countdowns_at, due_slots, in_state, with_solo, with_stepped}
 use Rattle.mme_owners.specs.Owners.{AreRecords, IsStart, NobodyIsDue, all_retimed, countdowns_of}
 
 -- ---- the countdowns of subscribers

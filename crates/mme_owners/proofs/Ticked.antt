@@ -17,11 +17,11 @@ use Rattle.mme_timers.specs.Running.{both_left_by_tick, is_due, left_by_tick, ru
 use Rattle.mme_timers.specs.SlotLaws.{aged_is, both_retimed_is, changed_length, over_from}
 use Rattle.mme_timers.specs.WaitLaws.{are_waits_ticked, restarted_joined, waits_before, waits_ticked}
 use Rattle.mme_timers.specs.Waiting.{AreWaits, due_ids, restarted, waits_of}
-use Rattle.subscriber_table.specs.SteppedView.{SteppedView}
-use Rattle.subscriber_table.specs.Changed.{cleared}
-use Rattle.subscriber_table.specs.Laws.{due_below, due_no, with_solo_is}
-use Rattle.subscriber_table.specs.Matching.{AreOff, Match, cleared_all, match_changed}
-use Rattle.subscriber_table.specs.Table.{all_countdowns, due_slots, in_state, one_less, slots_stepped, tick_settled, with_solo, with_stepped}
+use Rattle.mme_owners.specs.SteppedView.{SteppedView}
+use Rattle.mme_owners.specs.Changed.{cleared}
+use Rattle.mme_owners.specs.SubscriberLaws.{due_below, due_no, with_solo_is}
+use Rattle.mme_owners.specs.Matching.{AreOff, Match, cleared_all, match_changed}
+use Rattle.mme_owners.specs.Subscribers.{all_countdowns, due_slots, in_state, one_less, slots_stepped, tick_settled, with_solo, with_stepped}
 use Rattle.mme_owners.specs.Owners.{all_retimed, countdowns_of}
 use Rattle.mme_owners.proofs.Owned.{countdowns_length, retimed_joined}
 

@@ -15,11 +15,11 @@ use Rattle.emm_machine.specs.Still.{is_elsewhere, is_unlisted, pages}
 use Rattle.emm_machine.specs.SubscriberView.{SubscriberView}
 use Rattle.emm_machine.specs.Ticks.{solo_aged}
 use Rattle.sorted_list.specs.Ordered.{Every}
-use Rattle.subscriber_table.specs.SteppedView.{SteppedView}
-use Rattle.subscriber_table.specs.Changed.{changed_at}
-use Rattle.subscriber_table.specs.Laws.{due_below, where_map, with_solo_is}
-use Rattle.subscriber_table.specs.Table.{due_slots, in_state, one_less, slots_stepped, tick_settled, with_solo, with_stepped}
-use Rattle.subscriber_table.specs.Touched.{all_whereabouts, touched_slots, whereabouts, with_whereabouts, Has, IsFreeFor, KeepsConnection, KeepsPlace}
+use Rattle.mme_owners.specs.SteppedView.{SteppedView}
+use Rattle.mme_owners.specs.Changed.{changed_at}
+use Rattle.mme_owners.specs.SubscriberLaws.{due_below, where_map, with_solo_is}
+use Rattle.mme_owners.specs.Subscribers.{due_slots, in_state, one_less, slots_stepped, tick_settled, with_solo, with_stepped}
+use Rattle.mme_owners.specs.Touched.{all_whereabouts, touched_slots, whereabouts, with_whereabouts, Has, IsFreeFor, KeepsConnection, KeepsPlace}
 
 -- ---- where the phones are
 

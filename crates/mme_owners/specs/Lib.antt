@@ -1,2 +1,9 @@
 pub mod Owners
 pub mod Placed
+pub mod Subscribers
+pub mod SubscriberLaws
+pub mod SteppedView
+pub mod Records
+pub mod Changed
+pub mod Matching
+pub mod Touched

@@ -9,9 +9,9 @@ use Rattle.timer_queue.specs.Countdowns.{Countdown, Countdowns}
 use Rattle.mme_timers.specs.Running.{both_retimed, running_from}
 use Rattle.mme_timers.specs.Waiting.{AreWaits, due_ids, wait_of, waits_of}
 use Rattle.stranger_table.specs.Table.{StrangerTable}
-use Rattle.subscriber_table.specs.SteppedView.{SteppedView}
-use Rattle.subscriber_table.specs.Table.{SubscriberTable, all_countdowns, due_slots, with_solo, IsCounting}
-use Rattle.subscriber_table.specs.Touched.{IsFreeFor}
+use Rattle.mme_owners.specs.SteppedView.{SteppedView}
+use Rattle.mme_owners.specs.Subscribers.{SubscriberTable, all_countdowns, due_slots, with_solo, IsCounting}
+use Rattle.mme_owners.specs.Touched.{IsFreeFor}
 
 pub record OwnersView : Type 0 where
   pub clock : ℕ

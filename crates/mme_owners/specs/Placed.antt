@@ -10,8 +10,8 @@ use Rattle.stranger_machine.specs.declared.table.Known.{Known}
 use Rattle.stranger_machine.specs.Table.{stranger_at}
 use Rattle.stranger_machine.specs.Turns.{place_of}
 use Rattle.mme_timers.specs.Waiting.{wait_at}
-use Rattle.subscriber_table.specs.SteppedView.{SteppedView}
-use Rattle.subscriber_table.specs.Touched.{all_whereabouts, Has}
+use Rattle.mme_owners.specs.SteppedView.{SteppedView}
+use Rattle.mme_owners.specs.Touched.{all_whereabouts, Has}
 
 -- where the stranger with an id is, if it waits
 abbrev pub place_in_state : ℕ → Stranger → Option Connection

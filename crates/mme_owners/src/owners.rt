@@ -13,13 +13,14 @@ ghost use Rattle.stranger_machine.specs.Table.{known_id, noted, stranger_at, wit
 ghost use Rattle.stranger_machine.specs.Turns.{after_of};
 ghost use Rattle.stranger_machine.specs.declared.turn.Notice.TheVariants.{Tick};
 ghost use Rattle.mme_timers.specs.Waiting.{due_ids};
-ghost use Rattle.subscriber_table.specs.Table.{due_slots, one_less, slots_stepped, tick_settled, with_solo, with_stepped, AreCounting, IsCounting};
-ghost use Rattle.subscriber_table.specs.Touched.{all_whereabouts, touched_slots, whereabouts, KeepsPlace};
+ghost use Rattle.mme_owners.specs.Subscribers.{due_slots, one_less, slots_stepped, tick_settled, with_solo, with_stepped, AreCounting, IsCounting};
+ghost use Rattle.mme_owners.specs.Touched.{all_whereabouts, touched_slots, whereabouts, KeepsPlace};
 ghost use Rattle.mme_owners.specs.Owners.{with_one, IsFitIf, IsFreeIf, IsWaitAfter, NobodyIsDue};
 ghost use Rattle.mme_owners.specs.Placed.{AreApart, IsOn, NoneWaitsIf};
 
 use crate::placing::{leave, place, place_all, place_of};
 use crate::records::Records;
+use crate::stepped::Stepped;
 use emm_machine::{States, Subscriber};
 use identity_slots::{AssociationId, Slot, station_in};
 use mme_associations::Connections;
@@ -29,7 +30,6 @@ use s1ap_elements::AssociationToReset;
 use std::alloc::{AllocError, Global};
 use std::marker::Model;
 use stranger_machine::{After, Notice};
-use subscriber_table::Stepped;
 
 /// Strangers and subscribers, the queue of their countdowns, and the map of their associations; a contract sees the clock, each
 /// stranger and each subscriber as it is now, and for how many countdowns and changes of associations there is room.

@@ -4,16 +4,16 @@ ghost use Rattle.std.specs.Prelude.{◌≡◌, ◌+◌, ◌<◌, ◌≤◌, ℕ,
 ghost use Rattle.emm_machine.specs.Still.{pages};
 ghost use Rattle.sorted_list.specs.Ordered.{Every};
 ghost use Rattle.mme_associations.specs.Whereabouts.{waits_at, IsFree, NoneWaits};
-ghost use Rattle.subscriber_table.specs.Touched.{whereabouts, with_whereabouts, KeepsConnection};
+ghost use Rattle.mme_owners.specs.Touched.{whereabouts, with_whereabouts, KeepsConnection};
 ghost use Rattle.mme_owners.specs.Placed.{place_in_state, still_there};
 
 use crate::records::Records;
+use crate::stepped::Stepped;
 use emm_state::{Repeat, Solo};
 use identity_slots::{AssociationId, Slot};
 use mme_associations::{Connections, Whereabouts};
 use mme_types::Connection;
 use stranger_machine::Stranger;
-use subscriber_table::Stepped;
 
 // ---- subscribers
 

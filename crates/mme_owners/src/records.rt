@@ -9,10 +9,12 @@ ghost use Rattle.sorted_list.specs.Ordered.{Every, Rising, put, without};
 ghost use Rattle.stranger_machine.specs.Table.{known_id, noted};
 ghost use Rattle.stranger_machine.specs.declared.turn.Notice.TheVariants.{Tick};
 ghost use Rattle.mme_timers.specs.Waiting.{due_ids, wait_at, wait_of};
-ghost use Rattle.subscriber_table.specs.Table.{due_slots, one_less, slots_stepped, tick_settled, with_solo, with_stepped, AreCounting, IsCounting};
+ghost use Rattle.mme_owners.specs.Subscribers.{due_slots, one_less, slots_stepped, tick_settled, with_solo, with_stepped, AreCounting, IsCounting};
 ghost use Rattle.mme_owners.specs.Owners.{IsStart, NobodyIsDue};
 
 use crate::retiming::{restart, retime_all};
+use crate::stepped::Stepped;
+use crate::subscribers::Subscribers;
 use emm_machine::{States, Subscriber};
 use identity_slots::{AssociationId, Slot};
 use mme_associations::Connections;
@@ -21,7 +23,6 @@ use std::alloc::{AllocError, Global};
 use std::marker::Model;
 use stranger_machine::Stranger;
 use stranger_table::Strangers;
-use subscriber_table::{Stepped, Subscribers};
 use timer_queue::Timers;
 
 /// Strangers and subscribers, and the queue of their countdowns; a contract sees the clock, each stranger and each subscriber as it

@@ -1,4 +1,4 @@
-use Rattle.subscriber_table.specs.Laws as table
+use Rattle.mme_owners.specs.SubscriberLaws as table
 use Rattle.laws_tables.proofs.Sent.{all_send_as_due}
 use Rattle.laws_tables.proofs.laws.tick_is_of_all.Goals as goal
 

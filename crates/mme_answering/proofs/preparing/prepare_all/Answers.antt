@@ -1,8 +1,8 @@
 use Rattle.std.proofs.Common.{◌<◌, ◌++◌, List, length, sym, ◌∙◌, ap, refl, subst}
 use Rattle.std.proofs.lemmas.Result.{IfOk-weaker}
 use Rattle.sorted_list.specs.Ordered.{Every}
-use Rattle.subscriber_table.specs.Laws.{some_give, touched_below}
-use Rattle.subscriber_table.specs.Table.{IsStepped}
+use Rattle.mme_owners.specs.SubscriberLaws.{some_give, touched_below}
+use Rattle.mme_owners.specs.Subscribers.{IsStepped}
 use Rattle.mme_routing.specs.Destinations.{for_all, item_of_notice}
 use Rattle.mme_answering.specs.declared.out.Out.{Out}
 use Rattle.mme_answering.specs.Settled.{item_sent}

@@ -1,9 +1,9 @@
 use Rattle.std.proofs.Common.{◌≡◌, ◌<◌, ◌++◌, drop, length}
 use Rattle.mme_types.specs.Events.{item_of}
 use Rattle.sorted_list.specs.Ordered.{Every}
-use Rattle.subscriber_table.specs.SteppedView.{SteppedView}
-use Rattle.subscriber_table.specs.Laws.{some_give}
-use Rattle.subscriber_table.specs.Table.{IsCounting, IsStepped, slots_stepped}
+use Rattle.mme_owners.specs.SteppedView.{SteppedView}
+use Rattle.mme_owners.specs.SubscriberLaws.{some_give}
+use Rattle.mme_owners.specs.Subscribers.{IsCounting, IsStepped, slots_stepped}
 use Rattle.mme_answering.specs.Settled.{item_sent}
 use Rattle.mme_answering.proofs.preparing.prepare_each.Given as goal
 

@@ -1,8 +1,8 @@
 use Rattle.std.proofs.Common.{sym, subst}
 use Rattle.mme_types.specs.Events.{item_of}
 use Rattle.emm_state.specs.declared.draft.Draft.{Draft}
-use Rattle.subscriber_table.specs.SteppedView.{SteppedView}
-use Rattle.subscriber_table.specs.Table.{IsCounting}
+use Rattle.mme_owners.specs.SteppedView.{SteppedView}
+use Rattle.mme_owners.specs.Subscribers.{IsCounting}
 use Rattle.mme_answering.proofs.Stepping.{counting_at}
 use Rattle.mme_answering.proofs.preparing.prepare_step.Goals as goal
 

@@ -3,8 +3,8 @@ use Rattle.std.proofs.lemmas.List.{append_assoc}
 use Rattle.mme_types.specs.Events.{Tick}
 use Rattle.sorted_list.specs.Ordered.{Every}
 use Rattle.stranger_machine.specs.declared.turn.Notice.TheVariants as notices
-use Rattle.subscriber_table.specs.Laws.{due_below, some_give}
-use Rattle.subscriber_table.specs.Table.{IsStepped}
+use Rattle.mme_owners.specs.SubscriberLaws.{due_below, some_give}
+use Rattle.mme_owners.specs.Subscribers.{IsStepped}
 use Rattle.mme_routing.specs.Destinations.{for_all}
 use Rattle.mme_answering.specs.Settled.{item_sent}
 use Rattle.mme_answering.specs.Sending.{each_known, each_sent}

@@ -1,7 +1,7 @@
 use Rattle.std.proofs.Common.{ap}
 use Rattle.emm_machine.specs.SubscriberView.{SubscriberView}
 use Rattle.emm_machine.specs.Ticks.{countdowns}
-use Rattle.subscriber_table.specs.Touched.{whereabouts}
+use Rattle.mme_owners.specs.Touched.{whereabouts}
 use Rattle.mme_core.proofs.provisioning.push_fresh.Goals as goal
 
 pub push-requires-clause-off : goal.push-requires-clause-off

@@ -2,8 +2,8 @@ use Rattle.std.proofs.Common.{◌≡◌, ◌<◌, Option, length, sym, ◌∙◌
 use Rattle.std.specs.Prelude.{slice_set}
 use Rattle.mme_associations.specs.Whereabouts.{IsFree, NoneWaits}
 use Rattle.emm_state.specs.declared.solo.Solo.{Solo}
-use Rattle.subscriber_table.specs.SteppedView.{SteppedView}
-use Rattle.subscriber_table.specs.Touched.{all_whereabouts, whereabouts, IsFreeFor}
+use Rattle.mme_owners.specs.SteppedView.{SteppedView}
+use Rattle.mme_owners.specs.Touched.{all_whereabouts, whereabouts, IsFreeFor}
 use Rattle.mme_owners.specs.Owners.{with_one, IsFit, IsFitIf, IsFreeIf}
 use Rattle.mme_owners.specs.Placed.{NoneWaitsIf}
 use Rattle.mme_owners.proofs.Touching.{free_there, settled_there, there_length}

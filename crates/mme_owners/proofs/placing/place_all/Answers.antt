@@ -4,8 +4,8 @@ use Rattle.std.proofs.lemmas.List.{drop_more, length-set}
 use Rattle.mme_associations.specs.Whereabouts.{IsFree, NoneWaits}
 use Rattle.emm_state.specs.declared.solo.Solo.{Solo}
 use Rattle.sorted_list.specs.Ordered.{Every}
-use Rattle.subscriber_table.specs.SteppedView.{SteppedView}
-use Rattle.subscriber_table.specs.Touched.{whereabouts, with_whereabouts, KeepsConnection}
+use Rattle.mme_owners.specs.SteppedView.{SteppedView}
+use Rattle.mme_owners.specs.Touched.{whereabouts, with_whereabouts, KeepsConnection}
 use Rattle.mme_owners.proofs.Touching.{AreKept, free_kept, kept_set}
 use Rattle.mme_owners.proofs.placing.place_all.Goals as goal
 

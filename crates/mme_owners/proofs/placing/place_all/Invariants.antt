@@ -1,8 +1,8 @@
 use Rattle.std.proofs.Common.{◌≡◌, ◌<◌, ◌≤◌, ◌+◌, ℕ, drop, length}
 use Rattle.mme_associations.specs.Whereabouts.{waits_at, AreApart}
 use Rattle.sorted_list.specs.Ordered.{Every}
-use Rattle.subscriber_table.specs.SteppedView.{SteppedView}
-use Rattle.subscriber_table.specs.Touched.{with_whereabouts, KeepsConnection}
+use Rattle.mme_owners.specs.SteppedView.{SteppedView}
+use Rattle.mme_owners.specs.Touched.{with_whereabouts, KeepsConnection}
 use Rattle.mme_owners.proofs.Touching.{AreKept}
 use Rattle.mme_owners.proofs.placing.place_all.Given as goal
 

@@ -2,8 +2,8 @@ use Rattle.std.proofs.Common.{◌≡◌, ◌+◌, ◌∷◌, drop, length, sym, 
 use Rattle.std.proofs.lemmas.List.{drop_more}
 use Rattle.sorted_list.specs.Ordered.{Every}
 use Rattle.mme_timers.specs.Running.{AreInRange, both_retimed}
-use Rattle.subscriber_table.specs.SteppedView.{SteppedView}
-use Rattle.subscriber_table.specs.Table.{IsCounting}
+use Rattle.mme_owners.specs.SteppedView.{SteppedView}
+use Rattle.mme_owners.specs.Subscribers.{IsCounting}
 use Rattle.mme_owners.specs.Owners.{all_retimed}
 use Rattle.mme_owners.proofs.retiming.retime_all.Goals as goal
 

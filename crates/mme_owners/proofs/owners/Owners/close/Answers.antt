@@ -1,5 +1,5 @@
 use Rattle.std.proofs.Common.{None, sym, ◌∙◌, ap}
-use Rattle.subscriber_table.specs.Touched.{all_whereabouts}
+use Rattle.mme_owners.specs.Touched.{all_whereabouts}
 use Rattle.mme_owners.specs.Placed.{place_at}
 use Rattle.mme_owners.proofs.Apart.{waits_left}
 use Rattle.mme_owners.proofs.owners.Owners.close.Goals as goal

@@ -1,7 +1,7 @@
 use Rattle.std.proofs.Common.{◌≡◌, ◌∙◌, ap, subst, IfOk}
 use Rattle.mme_types.specs.Events.{StationGone}
 use Rattle.mme_associations.specs.Whereabouts.{is_concerned, slots_where}
-use Rattle.subscriber_table.specs.Touched.{touched_slots}
+use Rattle.mme_owners.specs.Touched.{touched_slots}
 use Rattle.mme_owners.specs.Owners.{OwnersView}
 use Rattle.mme_owners.proofs.Touching.{concerned_is}
 use Rattle.mme_owners.proofs.owners.Owners.concerned.Goals as goal

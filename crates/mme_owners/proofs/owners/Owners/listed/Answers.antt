@@ -1,7 +1,7 @@
 use Rattle.std.proofs.Common.{◌≡◌, ◌∙◌, ap, subst, IfOk}
 use Rattle.mme_types.specs.Events.{ConnectionsGone}
 use Rattle.mme_associations.specs.Whereabouts.{is_meant, slots_where}
-use Rattle.subscriber_table.specs.Touched.{touched_slots}
+use Rattle.mme_owners.specs.Touched.{touched_slots}
 use Rattle.mme_owners.specs.Owners.{OwnersView}
 use Rattle.mme_owners.proofs.Touching.{listed_is}
 use Rattle.mme_owners.proofs.owners.Owners.listed.Goals as goal

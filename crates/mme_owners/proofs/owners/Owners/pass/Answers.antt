@@ -1,7 +1,7 @@
 use Rattle.std.proofs.Common.{[], sym, ◌∙◌, ap, subst}
 use Rattle.stranger_machine.specs.declared.turn.Notice.TheVariants.{Tick}
 use Rattle.stranger_machine.specs.Table.{noted}
-use Rattle.subscriber_table.specs.Touched.{all_whereabouts}
+use Rattle.mme_owners.specs.Touched.{all_whereabouts}
 use Rattle.mme_owners.specs.Owners.{NobodyIsDue, OwnersView}
 use Rattle.mme_owners.specs.Placed.{place_at, still_there}
 use Rattle.mme_owners.proofs.Places.{still_noted}

@@ -1,7 +1,7 @@
 use Rattle.std.proofs.Common.{◌<◌, length, Some, sym, ◌∙◌, ap, subst}
 use Rattle.mme_owners.specs.Owners.{OwnersView}
 use Rattle.mme_owners.specs.Placed.{place_at, AreApart}
-use Rattle.subscriber_table.specs.Table.{with_solo}
+use Rattle.mme_owners.specs.Subscribers.{with_solo}
 use Rattle.mme_owners.proofs.Apart.{alone_one, free_one}
 use Rattle.mme_owners.proofs.owners.Owners.settle.Goals as goal
 

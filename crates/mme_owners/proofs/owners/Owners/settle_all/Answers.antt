@@ -1,7 +1,7 @@
 use Rattle.std.proofs.Common.{◌<◌, length, sym, ◌∙◌, ap, subst}
 use Rattle.sorted_list.specs.Ordered.{Every}
-use Rattle.subscriber_table.specs.SteppedView.{SteppedView}
-use Rattle.subscriber_table.specs.Touched.{all_whereabouts, with_whereabouts, KeepsConnection, KeepsPlace}
+use Rattle.mme_owners.specs.SteppedView.{SteppedView}
+use Rattle.mme_owners.specs.Touched.{all_whereabouts, with_whereabouts, KeepsConnection, KeepsPlace}
 use Rattle.mme_owners.specs.Owners.{OwnersView}
 use Rattle.mme_owners.specs.Placed.{place_at}
 use Rattle.mme_owners.proofs.Touching.{keeps_there, slots_below, stepped_there}

@@ -1,8 +1,8 @@
 use Rattle.std.proofs.Common.{◌<◌, length, sym, ◌∙◌, ap, subst}
 use Rattle.sorted_list.specs.Ordered.{Every}
-use Rattle.subscriber_table.specs.SteppedView.{SteppedView}
-use Rattle.subscriber_table.specs.Table.{due_slots}
-use Rattle.subscriber_table.specs.Touched.{all_whereabouts, with_whereabouts, KeepsConnection, KeepsPlace}
+use Rattle.mme_owners.specs.SteppedView.{SteppedView}
+use Rattle.mme_owners.specs.Subscribers.{due_slots}
+use Rattle.mme_owners.specs.Touched.{all_whereabouts, with_whereabouts, KeepsConnection, KeepsPlace}
 use Rattle.mme_timers.specs.Waiting.{due_ids}
 use Rattle.mme_owners.specs.Owners.{OwnersView}
 use Rattle.mme_owners.specs.Placed.{place_at, still_there}

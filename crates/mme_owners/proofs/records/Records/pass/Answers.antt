@@ -5,8 +5,8 @@ use Rattle.stranger_machine.specs.Table.{noted}
 use Rattle.timer_queue.specs.Countdowns.{aged}
 use Rattle.mme_timers.specs.WaitLaws.{are_waits_ticked}
 use Rattle.mme_timers.specs.Waiting.{AreWaits, due_ids, restarted}
-use Rattle.subscriber_table.specs.SteppedView.{SteppedView}
-use Rattle.subscriber_table.specs.Table.{IsCounting, one_less, slots_stepped, tick_settled}
+use Rattle.mme_owners.specs.SteppedView.{SteppedView}
+use Rattle.mme_owners.specs.Subscribers.{IsCounting, one_less, slots_stepped, tick_settled}
 use Rattle.mme_owners.specs.Owners.{NobodyIsDue, RecordsView, countdowns_of}
 use Rattle.mme_owners.proofs.Ticked.{ticked}
 use Rattle.mme_owners.proofs.records.Records.pass.Goals as goal

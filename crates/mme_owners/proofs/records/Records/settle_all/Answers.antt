@@ -1,7 +1,7 @@
 use Rattle.std.proofs.Common.{◌<◌, length, sym, ◌∙◌, ap, subst}
 use Rattle.sorted_list.specs.Ordered.{Every}
-use Rattle.subscriber_table.specs.SteppedView.{SteppedView}
-use Rattle.subscriber_table.specs.Table.{IsCounting}
+use Rattle.mme_owners.specs.SteppedView.{SteppedView}
+use Rattle.mme_owners.specs.Subscribers.{IsCounting}
 use Rattle.mme_owners.specs.Owners.{RecordsView, all_retimed, countdowns_of}
 use Rattle.mme_owners.proofs.Owned.{all_settled}
 use Rattle.mme_owners.proofs.records.Records.settle_all.Goals as goal

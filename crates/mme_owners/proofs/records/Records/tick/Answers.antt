@@ -3,8 +3,8 @@ use Rattle.sorted_list.specs.Ordered.{Every}
 use Rattle.timer_queue.specs.Countdowns.{aged}
 use Rattle.mme_timers.specs.WaitLaws.{are_waits_ticked}
 use Rattle.mme_timers.specs.Waiting.{AreWaits, due_ids, restarted}
-use Rattle.subscriber_table.specs.SteppedView.{SteppedView}
-use Rattle.subscriber_table.specs.Table.{IsCounting, due_slots, tick_settled}
+use Rattle.mme_owners.specs.SteppedView.{SteppedView}
+use Rattle.mme_owners.specs.Subscribers.{IsCounting, due_slots, tick_settled}
 use Rattle.mme_owners.specs.Owners.{RecordsView, all_retimed, countdowns_of}
 use Rattle.mme_owners.proofs.Ticked.{ticked}
 use Rattle.mme_owners.proofs.records.Records.tick.Goals as goal

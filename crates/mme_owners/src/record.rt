@@ -1,0 +1,53 @@
+//! Subscribers as they were when they were last touched.
+
+ghost use Rattle.std.specs.Prelude.{◌≡◌};
+ghost use Rattle.emm_machine.specs.Ticks.{countdowns};
+ghost use Rattle.mme_owners.specs.Records.{renewed, view_at, woken, IsFresh};
+
+use emm_machine::Subscriber;
+use emm_state::Draft;
+
+/// A subscriber as it was when the clock was `touched`.
+#[derive(Drop)]
+pub(crate) struct Record {
+    pub subscriber: Subscriber,
+    pub touched: u64,
+}
+
+impl Record {
+    /// The subscriber is as it is now; takes no memory.
+    pub fn wake(&mut self, clock: u64)
+        requires { IsFresh clock self.old }
+        ensures { self.new ≡ woken clock self.old }
+    {
+        self.subscriber.pass(clock - self.touched);
+        self.touched = clock;
+    }
+
+    /// The state is that of this step now; answers the box of the one before, with its state. Takes no memory.
+    pub fn renew(&mut self, clock: u64, draft: Box<Draft>) -> Box<Draft>
+        ensures state { self.new ≡ renewed clock draft.value.solo self.old }
+        ensures spare { result.value.solo ≡ self.old.subscriber.solo }
+    {
+        self.touched = clock;
+        self.subscriber.settle(draft)
+    }
+
+    /// The state is that of this step now; answers the countdowns that it had until now, and the box of the step before, with the
+    /// state as it was until now. Takes no memory.
+    pub fn replace(
+        &mut self,
+        clock: u64,
+        draft: Box<Draft>,
+    ) -> ((Option<u64>, Option<u64>), Box<Draft>)
+        requires { IsFresh clock self.old }
+        ensures state { self.new ≡ renewed clock draft.value.solo self.old }
+        ensures before { result.0 ≡ countdowns (view_at clock self.old).solo }
+        ensures spare { result.1.value.solo ≡ (view_at clock self.old).solo }
+    {
+        self.wake(clock);
+        let before = self.subscriber.countdowns();
+        let spare = self.renew(clock, draft);
+        (before, spare)
+    }
+}

@@ -1,0 +1,199 @@
+//! Subscribers by slot, each asleep until something is for it.
+
+ghost use Rattle.std.specs.Prelude.{◌≡◌, ◌+◌, ◌<◌, ◌≤◌, ◌^◌, ◌++◌, ◌∷◌, [], length, slice_get, IfOk, OnErr, OnOk, Some, None, option_map};
+ghost use Rattle.identity_slots.specs.Ids.{slots};
+ghost use Rattle.mme_types.specs.Events.{item_of};
+ghost use Rattle.mme_associations.specs.Whereabouts.{nowhere};
+ghost use Rattle.emm_machine.specs.Ticks.{countdowns};
+ghost use Rattle.emm_machine.specs.Words.{states_of};
+ghost use Rattle.sorted_list.specs.Ordered.{Every};
+ghost use Rattle.mme_owners.specs.Changed.{changed_at};
+ghost use Rattle.mme_owners.specs.Records.{renewed, views, with_records, IsSubscriberTable};
+ghost use Rattle.mme_owners.specs.Subscribers.{countdowns_at, due_slots, slots_stepped, step_at, tick_settled, with_solo, with_stepped, AreCounting, IsCounting};
+
+use crate::record::Record;
+use crate::stepped::Stepped;
+use emm_machine::{States, Subscriber};
+use emm_state::Draft;
+use identity_slots::Slot;
+use mme_associations::Connections;
+use mme_types::{EnbWorld, SoloEvent};
+use std::alloc::{AllocError, Global};
+use std::marker::Model;
+
+// One has a new state; answers the countdowns that it had until now. The box of the step before is the spare one.
+fn settle_one(
+    records: &mut Vec<Record>,
+    clock: u64,
+    spare: &mut Option<Box<Draft>>,
+    stepped: Stepped,
+) -> (Option<u64>, Option<u64>)
+    requires table { IsSubscriberTable clock records.old.items }
+    requires slot { stepped.slot < length records.old.items }
+    ensures records { records.new.items ≡ changed_at stepped.slot (renewed clock stepped.solo) records.old.items }
+    ensures before { countdowns_at stepped.slot (views clock records.old.items) ≡ Some result }
+{
+    let slot = stepped.slot();
+    let place = slot.get() as usize;
+    let (before, kept) = records[place].replace(clock, stepped.into_draft());
+    *spare = Some(kept);
+    before
+}
+
+// One who was due has a new state.
+fn settle_due(records: &mut Vec<Record>, clock: u64, due: Stepped)
+    requires { due.slot < length records.old.items }
+    ensures { records.new.items ≡ changed_at due.slot (renewed clock due.solo) records.old.items }
+{
+    let slot = due.slot();
+    let place = slot.get() as usize;
+    records[place].renew(clock, due.into_draft());
+}
+
+// Each who was due has the state that it was prepared for.
+fn settle_all(records: &mut Vec<Record>, clock: u64, stepped: Vec<Stepped>)
+    requires { Every (λ x. x.slot < length records.old.items) stepped.items }
+    ensures { records.new.items ≡ with_records clock stepped.items records.old.items }
+{
+    for one in stepped {
+        settle_due(records, clock, one);
+    }
+}
+
+/// Subscribers by slot; a contract sees the clock, by which the table tells what its own are now, and each subscriber as it is now.
+#[derive(Drop)]
+pub struct Subscribers {
+    records: Vec<Record>,
+    clock: u64,
+    // the box of a step that another has replaced, for the next one; what it has means nothing
+    spare: Option<Box<Draft>>,
+}
+
+impl Model for Subscribers {
+    ghost use Rattle.mme_owners.specs.Subscribers.{SubscriberTable};
+
+    ghost Value = { SubscriberTable };
+
+    ghost use Rattle.mme_owners.specs.Records.{views, IsSubscriberTable};
+
+    ghost view = { λ t. record { clock = t.clock; subscribers = views t.clock t.records.items } };
+
+    ghost invariant = { λ t. IsSubscriberTable t.clock t.records.items };
+}
+
+impl Subscribers {
+    /// Nobody, at this clock.
+    pub fn new(alloc: Global, clock: u64) -> Subscribers
+        ensures clock { result.clock ≡ clock }
+        ensures subscribers { result.subscribers ≡ [] }
+    {
+        Subscribers {
+            records: Vec::new(alloc),
+            clock,
+            spare: None,
+        }
+    }
+
+    /// A subscriber of whom no countdown runs has the next slot, and so has its phone, which is nowhere. Refused, all is as it was.
+    pub fn push(
+        &mut self,
+        subscriber: Subscriber,
+        connections: &mut Connections,
+    ) -> Result<(), AllocError>
+        requires slots { length self.old.subscribers < slots }
+        requires off { countdowns subscriber.solo ≡ (None, None) }
+        requires many { length connections.old.whereabouts ≡ length self.old.subscribers }
+        ensures clock { self.new.clock ≡ self.old.clock }
+        ensures ok { OnOk result (self.new.subscribers ≡ self.old.subscribers ++ subscriber ∷ []) }
+        ensures phone { OnOk result (connections.new.whereabouts ≡ connections.old.whereabouts ++ nowhere ∷ []) }
+        ensures phone_strangers { connections.new.associations ≡ connections.old.associations }
+        ensures phone_room { connections.new.room ≡ connections.old.room }
+        ensures err { OnErr result (self.new ≡ self.old) }
+        ensures same { OnErr result (connections.new ≡ connections.old) }
+    {
+        let touched = self.clock;
+        self.records.reserve(1)?;
+        connections.push()?;
+        self.records.push_reserved(Record {
+            subscriber,
+            touched,
+        });
+        Ok(())
+    }
+
+    /// How many there are. Each countdown that runs has from 1 to 3480 ticks left.
+    pub fn len(&self) -> usize
+        ensures value { result ≡ length self.now.subscribers }
+        ensures few { length self.now.subscribers ≤ slots }
+        ensures counting { AreCounting self.now.subscribers }
+    {
+        self.records.len()
+    }
+
+    /// The states of a slot, if it is somebody's; takes no memory.
+    pub fn states(&self, slot: Slot) -> Option<States>
+        ensures { result ≡ option_map (λ w. states_of w.solo) (slice_get self.now.subscribers slot) }
+    {
+        let place = slot.get() as usize;
+        if place >= self.records.len() {
+            return None;
+        }
+        Some(self.records[place].subscriber.states())
+    }
+
+    /// What an event would leave and send for a slot; nothing changes.
+    pub fn prepare(
+        &mut self,
+        slot: Slot,
+        event: &SoloEvent,
+        world: &EnbWorld,
+    ) -> Result<Box<Draft>, AllocError>
+        requires { slot < length self.old.subscribers }
+        ensures step { IfOk result (λ d. step_at slot (item_of event.now world.now) self.old.subscribers ≡ Some d.value) }
+        ensures same { self.new ≡ self.old }
+    {
+        let clock = self.clock;
+        let place = slot.get() as usize;
+        self.records[place].wake(clock);
+        let spare = self.spare.take();
+        self.records[place].subscriber.prepare(spare, event, world)
+    }
+
+    /// The state of a slot is the one that was prepared; answers the countdowns that it had until now. Takes no memory.
+    pub fn settle(&mut self, stepped: Stepped) -> (Option<u64>, Option<u64>)
+        requires slot { stepped.slot < length self.old.subscribers }
+        requires counting { IsCounting stepped.solo }
+        ensures clock { self.new.clock ≡ self.old.clock }
+        ensures subscribers { self.new.subscribers ≡ with_solo stepped.slot stepped.solo self.old.subscribers }
+        ensures before { countdowns_at stepped.slot self.old.subscribers ≡ Some result }
+    {
+        let spare = &mut self.spare;
+        settle_one(&mut self.records, self.clock, spare, stepped)
+    }
+
+    /// The states of slots are those that were prepared, one after the other. Takes no memory.
+    pub fn settle_all(&mut self, stepped: Vec<Stepped>)
+        requires slots { Every (λ x. x.slot < length self.old.subscribers) stepped.items }
+        requires counting { Every (λ x. IsCounting x.solo) stepped.items }
+        ensures clock { self.new.clock ≡ self.old.clock }
+        ensures subscribers { self.new.subscribers ≡ with_stepped stepped.items self.old.subscribers }
+    {
+        for one in stepped {
+            self.settle(one);
+        }
+    }
+
+    /// One tick: those who are due have the state that was prepared, all others have a tick less. Only those who are due are
+    /// touched. Takes no memory.
+    pub fn tick(&mut self, stepped: Vec<Stepped>)
+        requires clock { self.old.clock < 2 ^ 62 }
+        requires due { slots_stepped stepped.items ≡ due_slots self.old.subscribers }
+        requires counting { Every (λ x. IsCounting x.solo) stepped.items }
+        ensures clock { self.new.clock ≡ self.old.clock + 1 }
+        ensures subscribers { self.new.subscribers ≡ tick_settled stepped.items self.old.subscribers }
+    {
+        let next = self.clock + 1;
+        settle_all(&mut self.records, next, stepped);
+        self.clock = next;
+    }
+}
