@@ -15,7 +15,7 @@ import s1ap
 del sys.path[0]
 
 KINDS = ("initiating", "successful", "unsuccessful")
-MACHINES = ("mme_pdus", "mme_signalling", "emm_state", "emm_attach", "emm_uplink", "emm_association", "emm_network", "emm_machine",
+MACHINES = ("mme_types", "mme_signalling", "emm_state", "emm_attach", "emm_uplink", "emm_association", "emm_network", "emm_machine",
             "stranger_machine", "mme_naming", "mme_routing")
 
 
@@ -351,7 +351,7 @@ def nas_senders():
 
 def nas_clauses():
     """The clauses of messages, by the name, as the comments of the code have them."""
-    text = "".join(map(texts_of, ("nas_messages", "mme_signalling", "mme_pdus")))
+    text = "".join(map(texts_of, ("nas_messages", "mme_signalling", "mme_types")))
     found = {}
     line = r"/// ([A-Z][A-Z ]+[A-Z])\b(?:[^()\n]|\n *///)*\(TS 24\.301 clause (8\.[23]\.[\d.]*\d)\)"
     for name, clause in re.findall(line, text):
@@ -410,10 +410,10 @@ BELOW = {"octets of a string or an open type"}  # the code has the first that is
 CONSTANTS = {
     "RelativeMMECapacity": ("mme_routing/src/answers.rt", r"GREATEST_CAPACITY: u64 = (\d+);"),
     "E-RAB ID": ("nas_elements/specs/Codes.antt", r"default_bearer = (\d+)"),
-    "QCI": ("mme_pdus/specs/Pdus.antt", r"qci = (\d+);"),
-    "priority level": ("mme_pdus/specs/Pdus.antt", r"priority = (\d+);"),
-    "pre-emption capability": ("mme_pdus/specs/Pdus.antt", r"capability = (\d+);"),
-    "pre-emption vulnerability": ("mme_pdus/specs/Pdus.antt", r"vulnerability = (\d+) "),
+    "QCI": ("mme_types/specs/Pdus.antt", r"qci = (\d+);"),
+    "priority level": ("mme_types/specs/Pdus.antt", r"priority = (\d+);"),
+    "pre-emption capability": ("mme_types/specs/Pdus.antt", r"capability = (\d+);"),
+    "pre-emption vulnerability": ("mme_types/specs/Pdus.antt", r"vulnerability = (\d+) "),
     "EPS bearer identity": ("nas_elements/src/codes.rt", r"DEFAULT_BEARER: u8 = (\d+)"),
 }
 HEX_CONSTANTS = {"T3412": ("nas_elements/src/timers.rt", r"T3412_OCTET: u8 = (0x\w+);")}
