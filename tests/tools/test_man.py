@@ -53,7 +53,8 @@ class Manuals(unittest.TestCase):
     def test_documents(self):
         """Each row of README.md's tables and of docs/SCRIPTS.md's words is there."""
         for page, document, heading, least in (("mme-trace.5", "README.md", "A trace", 15),
-                                               ("mme.1", "README.md", "How it ends", 4),
+                                               *((name, "README.md", "How it ends", 4)
+                                                 for name in ("mme.1", "mme-trace.5", "mme-script.5")),
                                                ("mme-script.5", "docs/SCRIPTS.md", "Lines", 20)):
             rows = self.rows(document, heading)
             self.assertGreaterEqual(len(rows), least)

@@ -13,7 +13,7 @@ ghost use Rattle.emm_state.specs.declared.solo.Context.{Context};
 
 use emm_state::{
     Asked, Context, Draft, NasTimer, Phase, Protection, Repeat, Setting, SharedKasme, StepStop,
-    ksi_of,
+    ksi_of, or_stop,
 };
 use eps_keys::{Kasme, Kenb, same_octets};
 use esm_machine::Requested;
@@ -221,7 +221,7 @@ fn response(draft: &mut Draft, alloc: Global, setting: &Setting, res: &[u8]) -> 
     if same_octets(res, vector.xres.as_slice()) {
         authenticated(draft, alloc, place, vector)
     } else {
-        Ok(not_authenticated(draft, alloc)?)
+        or_stop(not_authenticated(draft, alloc))
     }
 }
 
@@ -289,10 +289,10 @@ fn authenticating(
 {
     match message {
         Heard::AuthenticationResponse { res } => response(draft, alloc, setting, res),
-        Heard::AuthenticationFailure { cause } => Ok(failure(draft, alloc, setting, *cause)?),
-        Heard::DetachRequest { switch_off } => Ok(detach_plainly(draft, alloc, *switch_off)?),
+        Heard::AuthenticationFailure { cause } => or_stop(failure(draft, alloc, setting, *cause)),
+        Heard::DetachRequest { switch_off } => or_stop(detach_plainly(draft, alloc, *switch_off)),
         Heard::Unasked => Ok(()),
-        Heard::Unreadable(fault) => Ok(status_plainly(draft, alloc, cause_of_fault(*fault))?),
+        Heard::Unreadable(fault) => or_stop(status_plainly(draft, alloc, cause_of_fault(*fault))),
         Heard::AttachRequest {
             combined: _,
             capability: _,
@@ -305,7 +305,7 @@ fn authenticating(
         | Heard::AttachComplete { esm: _ }
         | Heard::TrackingAreaUpdateComplete
         | Heard::DetachAccept
-        | Heard::Other => Ok(status_plainly(draft, alloc, Some(EmmCause::NotCompatible))?),
+        | Heard::Other => or_stop(status_plainly(draft, alloc, Some(EmmCause::NotCompatible))),
     }
 }
 
@@ -439,7 +439,7 @@ pub fn in_security_mode(
     ensures { Does result draft.new (in_security_mode setting.now nas.now draft.old) }
 {
     match &mut draft.solo.context {
-        None => Ok(not_secured(draft, alloc, nas)?),
+        None => or_stop(not_secured(draft, alloc, nas)),
         Some(context) => {
             match context.accept(nas, &[SecurityHeader::NewContextCiphered]) {
                 Ok((mark, message)) => {
@@ -450,7 +450,7 @@ pub fn in_security_mode(
                         Ok(())
                     }
                 }
-                Err(_) => Ok(not_secured(draft, alloc, nas)?),
+                Err(_) => or_stop(not_secured(draft, alloc, nas)),
             }
         }
     }

@@ -5,7 +5,7 @@ ghost use Rattle.emm_state.specs.Does.{Does};
 ghost use Rattle.mme_types.specs.Events.{message_lists};
 
 use emm_association::{has_connection_id, has_pair, indicate, path_switch};
-use emm_state::{Draft, Setting, StepStop};
+use emm_state::{Draft, Setting, StepStop, or_stop};
 use emm_uplink::uplink;
 use mme_signalling::cause_of_request;
 use mme_types::{UeBody, UeMessage};
@@ -23,13 +23,13 @@ fn on_connection(
 {
     match message.body {
         UeBody::Uplink { nas, tai } => uplink(draft, alloc, setting, tai, nas),
-        UeBody::UeContextReleaseRequest { cause } => Ok(draft.fall(
+        UeBody::UeContextReleaseRequest { cause } => or_stop(draft.fall(
             alloc,
             cause_of_request(cause),
-        )?),
+        )),
         UeBody::InitialContextSetupFailure => {
             let unspecified = Cause::RadioNetwork(RadioNetworkCause::Unspecified);
-            Ok(draft.fall(alloc, unspecified)?)
+            or_stop(draft.fall(alloc, unspecified))
         }
         UeBody::UeContextReleaseComplete | UeBody::PathSwitch | UeBody::Notice => Ok(()),
     }
@@ -45,17 +45,17 @@ fn checked(
     ensures { Does result draft.new (checked setting.now (message_lists message.now) draft.old) }
 {
     if !has_connection_id(draft, message) {
-        return Ok(indicate(draft, alloc, RadioNetworkCause::UnknownMmeUeS1apId, message)?);
+        return or_stop(indicate(draft, alloc, RadioNetworkCause::UnknownMmeUeS1apId, message));
     }
     if has_pair(draft, message) {
         on_connection(draft, alloc, setting, message)
     } else {
-        Ok(indicate(
+        or_stop(indicate(
             draft,
             alloc,
             RadioNetworkCause::UnknownPairUeS1apId,
             message,
-        )?)
+        ))
     }
 }
 
@@ -72,7 +72,7 @@ pub(crate) fn message_of(
 {
     match message.body {
         UeBody::UeContextReleaseComplete => Ok(()),
-        UeBody::PathSwitch => Ok(path_switch(draft, alloc, message)?),
+        UeBody::PathSwitch => or_stop(path_switch(draft, alloc, message)),
         UeBody::Uplink { nas: _, tai: _ }
         | UeBody::UeContextReleaseRequest { cause: _ }
         | UeBody::InitialContextSetupFailure

@@ -11,7 +11,7 @@ use crate::messages::message_of;
 use crate::passing::age;
 use emm_association::{connections_gone, displaced, station_gone};
 use emm_network::{cancelled, data_waits, tick};
-use emm_state::{Asked, Counter, Draft, Phase, Repeat, Setting, Solo, StepStop};
+use emm_state::{Asked, Counter, Draft, Phase, Repeat, Setting, Solo, StepStop, or_stop};
 use emm_uplink::{claim, initial};
 use esm_machine::{Bearer, BearerState};
 use identity_slots::{Profile, Slot, Vectors};
@@ -104,7 +104,7 @@ fn row(
     match event {
         SoloEvent::Nothing => Ok(()),
         SoloEvent::Initial(entry) => initial(draft, alloc, setting, entry),
-        SoloEvent::Claim(id, entry) => Ok(claim(draft, alloc, setting, *id, entry)?),
+        SoloEvent::Claim(id, entry) => or_stop(claim(draft, alloc, setting, *id, entry)),
         SoloEvent::Message(message) => message_of(draft, alloc, setting, message),
         SoloEvent::Displaced(id) => {
             displaced(draft, *id);
@@ -119,7 +119,7 @@ fn row(
             Ok(())
         }
         SoloEvent::Tick => tick(draft, alloc, setting),
-        SoloEvent::Data => Ok(data_waits(draft, alloc, setting, world)?),
+        SoloEvent::Data => or_stop(data_waits(draft, alloc, setting, world)),
         SoloEvent::Cancel => cancelled(draft, alloc),
     }
 }

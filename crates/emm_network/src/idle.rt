@@ -7,7 +7,7 @@ ghost use Rattle.emm_state.specs.Does.{Does};
 ghost use Rattle.emm_network.specs.Idle.{again, cancelled, covers, data_waits, detach_phone, dropped, emit_each, expired, given_up, listening, listens, lower, lowered, may_page, page, paged, procedure_ticks, reachable_ticks_out, restarted, some_covers, tick};
 
 use emm_state::{
-    Countdown, Draft, NasTimer, Phase, Protection, Repeat, Setting, Stations, StepStop,
+    Countdown, Draft, NasTimer, Phase, Protection, Repeat, Setting, Stations, StepStop, or_stop,
 };
 use mme_signalling::{network_detach, paging};
 use mme_types::{EnbWorld, StationNumber, StationState, is_broadcast};
@@ -159,11 +159,11 @@ fn again(
     ensures { Does result draft.new (again repeat.now setting.now draft.old) }
 {
     match repeat {
-        Repeat::Nas(Protection::Plain, nas) => Ok(draft.send(alloc, nas.as_slice())?),
+        Repeat::Nas(Protection::Plain, nas) => or_stop(draft.send(alloc, nas.as_slice())),
         Repeat::Nas(Protection::Under(header), nas) => {
             draft.protect(alloc, *header, nas.as_slice())
         }
-        Repeat::Paging(stations) => Ok(page(draft, alloc, setting, stations)?),
+        Repeat::Paging(stations) => or_stop(page(draft, alloc, setting, stations)),
     }
 }
 
@@ -177,7 +177,7 @@ fn expired(
     ensures { Does result draft.new (expired countdown setting.now draft.old) }
 {
     if countdown.repeats == 0 {
-        return Ok(given_up(draft, alloc, countdown.timer)?);
+        return or_stop(given_up(draft, alloc, countdown.timer));
     }
     let repeat = match &draft.solo.repeat {
         Some(repeat) => repeat.copy(alloc)?,
@@ -256,7 +256,7 @@ pub fn cancelled(draft: &mut Draft, alloc: Global) -> Result<(), StepStop>
         }
         Phase::Updating => detach_phone(draft, alloc),
         Phase::Authenticating | Phase::SecurityMode | Phase::EsmInformation | Phase::Accepting =>
-            Ok(dropped(draft, alloc)?),
+            or_stop(dropped(draft, alloc)),
         Phase::Deregistered | Phase::Detaching => Ok(()),
     }
 }

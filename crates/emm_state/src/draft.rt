@@ -1,6 +1,7 @@
 //! A step under way.
 
-ghost use Rattle.std.specs.Prelude.{◌≡◌, IfOk, OnOk};
+ghost use Rattle.std.specs.Prelude.{◌≡◌, IfErr, IfOk, IsErr, IsOk, OnErr, OnOk};
+ghost use Rattle.emm_state.specs.declared.draft.StepStop.TheVariants.{NoMemory};
 ghost use Rattle.emm_state.specs.Actions.{untouched};
 
 use crate::solo::{Repeat, Solo};
@@ -78,6 +79,18 @@ impl From<AllocError> for StepStop {
 
     fn from(_e: AllocError) -> StepStop {
         StepStop::NoMemory
+    }
+}
+
+/// What was done, or that it stopped since memory was refused.
+pub fn or_stop(done: Result<(), AllocError>) -> Result<(), StepStop>
+    ensures ok { OnOk result (IsOk done) }
+    ensures err { OnErr result (IsErr done) }
+    ensures memory { IfErr result (λ stop. stop ≡ NoMemory) }
+{
+    match done {
+        Ok(()) => Ok(()),
+        Err(_) => Err(StepStop::NoMemory),
     }
 }
 

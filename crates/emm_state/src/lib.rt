@@ -8,7 +8,7 @@ mod setting;
 mod solo;
 
 pub use actions::is_registered;
-pub use draft::{Draft, Sealed, StepStop};
+pub use draft::{Draft, Sealed, StepStop, or_stop};
 pub use nas_elements::timers;
 pub use setting::Setting;
 pub use solo::{

@@ -13,7 +13,7 @@ ghost use Rattle.mme_types.specs.Events.{entry_lists};
 use emm_attach::{
     accept, attach, detach_plainly, given_tmsi, in_authenticating, in_security_mode, keyed,
 };
-use emm_state::{Draft, NasTimer, Phase, Setting, StepStop, is_registered};
+use emm_state::{Draft, NasTimer, Phase, Setting, StepStop, is_registered, or_stop};
 use esm_machine::Reaction;
 use identity_slots::AssociationId;
 use mme_signalling::{
@@ -166,11 +166,11 @@ fn initial_update(
     ensures { Does result draft.new (initial_update setting.now (entry_lists entry.now) combined draft.old) }
 {
     if !is_registered(draft.solo.phase) {
-        return Ok(refuse_update(draft, alloc, setting, entry, EmmCause::ImplicitlyDetached)?);
+        return or_stop(refuse_update(draft, alloc, setting, entry, EmmCause::ImplicitlyDetached));
     }
     let refusal = EmmCause::IdentityNotDerived;
     match &mut draft.solo.context {
-        None => Ok(refuse_update(draft, alloc, setting, entry, refusal)?),
+        None => or_stop(refuse_update(draft, alloc, setting, entry, refusal)),
         Some(context) => {
             match context.accept(entry.nas, &IN_USE) {
                 Ok((mark, _)) => {
@@ -178,7 +178,7 @@ fn initial_update(
                     draft.connect(alloc, setting.slot, entry.station, entry.enb_ue_id)?;
                     update(draft, alloc, setting, entry.tai, combined, true)
                 }
-                Err(_) => Ok(refuse_update(draft, alloc, setting, entry, refusal)?),
+                Err(_) => or_stop(refuse_update(draft, alloc, setting, entry, refusal)),
             }
         }
     }
@@ -224,10 +224,10 @@ fn initial_detach(
     let (slot, station, enb_ue_id) = (setting.slot, entry.station, entry.enb_ue_id);
     if draft.solo.phase.is(Phase::Deregistered) {
         draft.connect(alloc, slot, station, enb_ue_id)?;
-        return Ok(detach_plainly(draft, alloc, switch_off)?);
+        return or_stop(detach_plainly(draft, alloc, switch_off));
     }
     match &mut draft.solo.context {
-        None => Ok(draft.turn_away(alloc, slot, station, enb_ue_id)?),
+        None => or_stop(draft.turn_away(alloc, slot, station, enb_ue_id)),
         Some(context) => {
             match context.accept(entry.nas, &IN_USE) {
                 Ok((mark, _)) => {
@@ -235,7 +235,7 @@ fn initial_detach(
                     draft.connect(alloc, slot, station, enb_ue_id)?;
                     detach(draft, alloc, switch_off)
                 }
-                Err(_) => Ok(draft.turn_away(alloc, slot, station, enb_ue_id)?),
+                Err(_) => or_stop(draft.turn_away(alloc, slot, station, enb_ue_id)),
             }
         }
     }
@@ -258,7 +258,7 @@ fn entered(
             esm,
         } => {
             draft.connect(alloc, setting.slot, entry.station, entry.enb_ue_id)?;
-            Ok(attach(
+            or_stop(attach(
                 draft,
                 alloc,
                 setting,
@@ -266,9 +266,9 @@ fn entered(
                 *capability,
                 esm,
                 entry.tai,
-            )?)
+            ))
         }
-        Heard::ServiceRequest { octets } => Ok(service(draft, alloc, setting, entry, octets)?),
+        Heard::ServiceRequest { octets } => or_stop(service(draft, alloc, setting, entry, octets)),
         Heard::TrackingAreaUpdateRequest { combined } => initial_update(
             draft, alloc, setting, entry, *combined,
         ),
@@ -426,10 +426,10 @@ fn inner_emm(
     let phase = draft.solo.phase;
     match message {
         Heard::AttachComplete { esm } if phase.is(Phase::Accepting) => {
-            Ok(attach_completed(draft, alloc, esm)?)
+            or_stop(attach_completed(draft, alloc, esm))
         }
         Heard::TrackingAreaUpdateComplete if phase.is(Phase::Updating) => {
-            Ok(update_completed(draft, alloc)?)
+            or_stop(update_completed(draft, alloc))
         }
         Heard::TrackingAreaUpdateRequest { combined } if phase.is(Phase::Registered) => {
             update(draft, alloc, setting, tai, *combined, false)

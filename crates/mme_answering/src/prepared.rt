@@ -1,8 +1,8 @@
 //! What an event leads to, before it is taken.
 
 use identity_slots::AssociationId;
-use stranger_machine::{After, Notice};
 use mme_owners::Stepped;
+use stranger_machine::{After, Notice};
 
 /// What is to become of those whom an event goes to.
 #[derive(Drop)]

@@ -134,11 +134,15 @@ pub fn settle(owners: &mut Owners, prepared: Prepared) -> Result<(), AllocError>
 {
     // (that there are no more of them than slots)
     let _ = owners.len();
-    reserve(owners, starts_of(&prepared), steps_of(&prepared))?;
+    if let Err(fault) = reserve(owners, starts_of(&prepared), steps_of(&prepared)) {
+        // (where the scope ended it, each part of it would be ended here)
+        drop(prepared);
+        return Err(fault);
+    }
     match prepared {
         Prepared::Nobody => {}
         Prepared::Subscriber(called) => owners.settle(called),
-        Prepared::Stranger(id, after, called) => settle_turn(owners, id, after, called)?,
+        Prepared::Stranger(id, after, called) => return settle_turn(owners, id, after, called),
         Prepared::Everyone(notice, stepped) => settle_noticed(owners, notice, stepped),
         Prepared::Tick(due, stepped) => tick(owners, due, stepped),
     }

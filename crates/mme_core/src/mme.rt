@@ -30,7 +30,7 @@ ghost use Rattle.mme_core.specs.World.{clock_after, event_fault, events_taken, f
 use crate::config::Config;
 use crate::event::{Event, StepFault};
 use crate::laws::{ids_are_apart, worlds_are_kept};
-use crate::provisioning::fresh_owners;
+use crate::provisioning::begin;
 use crate::station::{settle_station, station_outs};
 use emm_machine::{
     States, accepted_counts_are_fresh, sent_counts_are_fresh, vector_makes_one_context,
@@ -44,7 +44,7 @@ use laws_apart::{associations_are_a_map, no_two_share_an_id};
 use laws_ends::{clocks_are_kept, silent_phones_end};
 use mme_answering::{Outs, Prepared, pass, prepare, settle};
 use mme_owners::Owners;
-use mme_routing::{Destination, Outcome, outcome_of, setup_response};
+use mme_routing::{Destination, Outcome, outcome_of};
 use mme_types::{EnbWorld, SentOctets, StationNumber, StationState};
 use nas_elements::Imsi;
 use std::alloc::{AllocError, Global};
@@ -127,22 +127,29 @@ impl Mme {
         worlds_are_kept();
         ids_are_apart();
         let mut provision = provision;
-        let stations = EnbWorld::new(alloc)?;
-        let owners = fresh_owners(alloc, &config.network, &mut provision)?;
-        let setup_response = setup_response(alloc, &config.network)?;
-        let clock = config.clock;
-        let surroundings = Surroundings {
-            config,
-            clock,
-            stations,
-            provision,
-            setup_response,
-            alloc,
-        };
-        Ok(Mme {
-            surroundings,
-            owners,
-        })
+        match begin(alloc, &config.network, &mut provision) {
+            Ok(begun) => {
+                let clock = config.clock;
+                let surroundings = Surroundings {
+                    config,
+                    clock,
+                    stations: begun.stations,
+                    provision,
+                    setup_response: begun.setup_response,
+                    alloc,
+                };
+                Ok(Mme {
+                    surroundings,
+                    owners: begun.owners,
+                })
+            }
+            Err(fault) => {
+                // (where the scope ended them, each part of them would be ended here)
+                drop(provision);
+                drop(config);
+                Err(fault)
+            }
+        }
     }
 
     /// The slot of an IMSI, if it is provisioned. Takes no memory.

@@ -1,14 +1,18 @@
-//! The subscribers of a provisioning, and no strangers.
+//! What an MME begins with: its stations, the subscribers of a provisioning, and no strangers.
 
 ghost use Rattle.std.specs.Prelude.{◌≡◌, ◌<◌, ◌≤◌, ◌++◌, ◌∷◌, [], length, IfOk, OnOk};
 ghost use Rattle.identity_slots.specs.Ids.{slots};
+ghost use Rattle.s1ap_pdus.specs.Pdus.{encoded};
+ghost use Rattle.mme_types.specs.Stations.{no_stations};
+ghost use Rattle.mme_routing.specs.Outcomes.{setup_response};
 ghost use Rattle.emm_machine.specs.Words.{fresh_solo};
 ghost use Rattle.mme_core.specs.World.{fresh_subscribers};
 
 use emm_machine::Subscriber;
 use identity_slots::{Profile, Provision, Slot, Vectors};
 use mme_owners::Owners;
-use mme_types::{Network, SharedNetwork};
+use mme_routing::setup_response;
+use mme_types::{EnbWorld, Network, SentOctets, SharedNetwork};
 use std::alloc::{AllocError, Global};
 
 /// The slot of a place.
@@ -77,4 +81,37 @@ pub(crate) fn fresh_owners(
         }
     }
     Ok(owners)
+}
+
+/// What an MME begins with beside its configuration and who is provisioned.
+#[derive(Drop)]
+pub(crate) struct Begun {
+    pub(crate) stations: EnbWorld,
+    pub(crate) setup_response: Option<SentOctets>,
+    pub(crate) owners: Owners,
+}
+
+/// All stations are down, S1 SETUP RESPONSE has its octets, and nobody was seen; vectors are taken out of the provisioning.
+pub(crate) fn begin(
+    alloc: Global,
+    network: &Network,
+    provision: &mut Provision,
+) -> Result<Begun, AllocError>
+    ensures stations { IfOk result (λ b. b.stations ≡ no_stations) }
+    ensures response { IfOk result (λ b. b.setup_response ≡ encoded (setup_response network.now)) }
+    ensures clock { IfOk result (λ b. b.owners.clock ≡ 0) }
+    ensures strangers { IfOk result (λ b. b.owners.strangers ≡ []) }
+    ensures value { IfOk result
+        (λ b. b.owners.subscribers ≡ fresh_subscribers network.now 0 provision.old.profiles provision.old.vectors) }
+    ensures few { OnOk result (length provision.old.profiles ≤ slots) }
+    ensures profiles { OnOk result (provision.new.profiles ≡ provision.old.profiles) }
+{
+    let stations = EnbWorld::new(alloc)?;
+    let setup_response = setup_response(alloc, network)?;
+    let owners = fresh_owners(alloc, network, provision)?;
+    Ok(Begun {
+        stations,
+        setup_response,
+        owners,
+    })
 }

@@ -54,11 +54,12 @@ pub fn start(
     }
 }
 
-/// Gets as far as that. What was there is let go, which is done here alone: no caller has to let go of each kind of it.
+/// Gets as far as that, and what was there is dropped.
 fn reach(progress: &mut Progress, next: Progress)
     ensures { progress.new ≡ next }
 {
-    *progress = next;
+    // (an assignment would end each part of what was there, which a proof pays for)
+    drop(mem::replace(progress, next));
 }
 
 /// Provisions a subscriber. Order where that hasn't begun or is over, Provision where the subscriber is refused, and NoMemory
@@ -140,8 +141,12 @@ fn set_out(alloc: Global, progress: &mut Progress, number: u64) -> Result<(), Pl
     ensures fault { IfErr (running progress.old) (λ fault. result ≡ Err (PlayFault.Trace number fault)) }
     ensures err { IfErr result (λ fault. fault ≢ PlayFault.NoMemory → progress.new ≡ progress.old) }
 {
-    let Progress::Provisioning(config, provision) = mem::replace(progress, Progress::Nothing) else {
-        return Err(PlayFault::Trace(number, TraceFault::Order));
+    let (config, provision) = match mem::replace(progress, Progress::Nothing) {
+        Progress::Provisioning(config, provision) => (config, provision),
+        other => {
+            drop(other);
+            return Err(PlayFault::Trace(number, TraceFault::Order));
+        }
     };
     match Mme::new(alloc, config, provision) {
         Ok(mme) => {

@@ -6,14 +6,16 @@ use Rattle.mme_core.proofs.mme.Mme.new.Goals as goal
 
 pub invariant_of-result : goal.invariant_of-result
 invariant_of-result c =
-    let made = c.in_ok-owners.ensures in
-    let is = begun_world c.args.config c.args.provision c.in_ok-stations.stations c.fresh_owners.new.provision.profiles c.in_ok-owners.owners c.in_ok-stations.ensures made.profiles made.strangers made.value in (
+    let made = c.in-Ok.ensures in
+    let begun = c.in-Ok.begun in
+    let is = begun_world c.args.config c.args.provision begun.stations c.begin.new.provision.profiles begun.owners made.stations made.profiles made.strangers made.value in (
       omega (arith, made.clock),
       subst IsKept (sym is) (c.worlds_are_kept.ensures.begins c.args.config c.args.provision),
       subst AreApart (sym is) (c.ids_are_apart.ensures.begins _ _ _ made.few),
     )
 
-pub returns : goal.returns
-returns c =
-    let made = c.in_ok-owners.ensures in
-    begun_world c.args.config c.args.provision c.in_ok-stations.stations c.fresh_owners.new.provision.profiles c.in_ok-owners.owners c.in_ok-stations.ensures made.profiles made.strangers made.value
+pub returns-in-Ok : goal.returns-in-Ok
+returns-in-Ok c =
+    let made = c.in-Ok.ensures in
+    let begun = c.in-Ok.begun in
+    begun_world c.args.config c.args.provision begun.stations c.begin.new.provision.profiles begun.owners made.stations made.profiles made.strangers made.value
