@@ -7,8 +7,10 @@ ghost use Rattle.mme_types.specs.Events.{message_lists};
 use emm_state::{Context, Draft, Repeat, is_registered};
 use eps_keys::{Kasme, NextHop};
 use identity_slots::AssociationId;
-use mme_types::{error_indication, path_switch_acknowledge, path_switch_failure};
-use mme_types::{Connection, RadioKeys, StationNumber, UeMessage, is_listed};
+use mme_types::{
+    Connection, RadioKeys, StationNumber, UeMessage, error_indication, is_listed,
+    path_switch_acknowledge, path_switch_failure,
+};
 use s1ap_elements::{AssociationToReset, Cause, ProtocolCause, RadioNetworkCause};
 use std::alloc::{AllocError, Global};
 

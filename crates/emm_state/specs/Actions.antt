@@ -186,6 +186,15 @@ sealed_under header nas d x =
 unfoldable pub seal : SecurityHeader → List ℕ → Draft → Option (Sealed × Draft)
 seal header nas d = option_map_or (sealed_under header nas d) d.solo.context (Some (record { form = []; under = None }, d))
 
+-- a context whose next downlink count is this one
+abbrev pub counting_from : ℕ → Context → Context
+counting_from count x = record x { security = record x.security { down_next = count } }
+
+-- as before the message with this mark was sealed: its count is the next one again
+unfoldable pub unsealed : Option Mark → Draft → Draft
+unsealed None d = d
+unsealed (Some mark) d = option_map_or (λ x. with_context (counting_from mark.count x) d) d.solo.context d
+
 -- NAS to the phone, protected
 unfoldable pub protect : SecurityHeader → List ℕ → Draft → Option Draft
 protect header nas d = do

@@ -1,11 +1,11 @@
 //! The actions of a step.
 
-ghost use Rattle.std.specs.Prelude.{◌≡◌, ◌<◌, ◌^◌, IfOk, OnErr, OnOk, Some, None, option_map};
+ghost use Rattle.std.specs.Prelude.{◌≡◌, ◌≢◌, ◌<◌, ◌^◌, IfOk, IsErrOf, OnErr, OnOk, Some, None, option_map};
 ghost use Rattle.mme_types.specs.s1ap_pdus.Pdus.{encoded, lists};
 ghost use Rattle.mme_types.specs.s1ap_causes.declared.cause.Cause.TheVariants as causes;
 ghost use Rattle.mme_types.specs.s1ap_causes.declared.cause.NasCause.TheVariants as nas_causes;
 ghost use Rattle.nas_security.specs.Accepting.{accepted, last_after};
-ghost use Rattle.emm_state.specs.Actions.{connect, connect_on, association_counted, disconnected, emit, ended, fall, is_registered, leave_old, lost, mac_of, next_id, protect, protect_and_await, refuse, release, resting, seal, sealed_under, seen_accepted, send, set_up, set_up_with, start, turn_away, wipe, with_context};
+ghost use Rattle.emm_state.specs.Actions.{connect, connect_on, association_counted, counting_from, disconnected, emit, ended, fall, is_registered, leave_old, lost, mac_of, next_id, protect, protect_and_await, refuse, release, resting, seal, sealed_under, seen_accepted, send, set_up, set_up_with, start, turn_away, unsealed, wipe, with_context};
 ghost use Rattle.emm_state.specs.Does.{Does, Makes};
 ghost use Rattle.emm_state.specs.declared.draft.Draft.{Draft};
 
@@ -15,12 +15,14 @@ use crate::solo::{Context, Countdown, NasTimer, Phase, Protection, Repeat};
 use eps_keys::Kenb;
 use esm_machine::Bearer;
 use identity_slots::{AssociationId, Slot};
-use mme_types::{context_setup, downlink, release_command};
 use mme_types::s1ap::S1apPdu;
 use mme_types::s1ap::elements::{Cause, EnbUeId, NasCause};
-use mme_types::{Answer, Connection, Mark, NasOctets, SentOctets, StationNumber};
+use mme_types::{
+    Answer, Connection, Mark, NasOctets, SentOctets, StationNumber, context_setup, downlink,
+    release_command,
+};
 use nas_messages::{SecurityHeader, timers};
-use nas_security::SecurityFault;
+use nas_security::{SecurityContext, SecurityFault};
 use std::alloc::{AllocError, Global};
 
 // The cause of an association that ends as it should.
@@ -72,7 +74,9 @@ impl Context {
         header: SecurityHeader,
         nas: &[u8],
     ) -> Result<Sealed, StepStop>
-        ensures { (d : Draft) → Makes result (with_context self.new d) (sealed_under header nas.now d self.old) }
+        ensures does { (d : Draft) → Makes result (with_context self.new d) (sealed_under header nas.now d self.old) }
+        ensures due { (d : Draft) → IsErrOf result StepStop.NoMemory → sealed_under header nas.now d self.old ≢ None }
+        ensures err { OnErr result (self.new ≡ self.old) }
     {
         let under = Mark {
             place: self.place,
@@ -86,6 +90,19 @@ impl Context {
             Err(SecurityFault::NoMemory) => Err(StepStop::NoMemory),
             Err(_) => Err(StepStop::Spent),
         }
+    }
+
+    // The next downlink count is this one, whatever it was.
+    fn count_from(&mut self, count: u32)
+        ensures { self.new ≡ counting_from count self.old }
+    {
+        let security = &self.security;
+        self.security = SecurityContext::new(
+            *security.integrity(),
+            security.ksi(),
+            count,
+            security.up_last(),
+        );
     }
 }
 
@@ -128,6 +145,30 @@ impl Draft {
         ensures err { OnErr result (self.new ≡ self.old) }
     {
         self.emit_lent(alloc, station, &message, under)
+    }
+
+    // Two messages to one station, or neither.
+    #[tactic(auto, unfolding(crate::specs::Actions::emit))]
+    fn emit_both(
+        &mut self,
+        alloc: Global,
+        station: StationNumber,
+        first: S1apPdu,
+        second: S1apPdu,
+    ) -> Result<(), AllocError>
+        ensures after { OnOk result (self.new
+            ≡ emit station (lists second.entry) None (emit station (lists first.entry) None self.old)) }
+        ensures err { OnErr result (self.new ≡ self.old) }
+    {
+        let count = self.sent.as_slice().len();
+        let unwritten = self.unwritten;
+        self.emit(alloc, station, first, None)?;
+        let emitted = self.emit(alloc, station, second, None);
+        if emitted.is_err() {
+            self.sent.truncate(count);
+            self.unwritten = unwritten;
+        }
+        emitted
     }
 
     /// NAS to the phone, plain, in DOWNLINK NAS TRANSPORT.
@@ -314,7 +355,7 @@ impl Draft {
     }
 
     /// A phone's request is refused by a plain message and a release, on an association of its own; all else stays.
-    #[tactic(auto, unfolding(crate::specs::Actions::refuse))]
+    #[tactic(auto, unfolding(crate::specs::Actions::refuse, crate::specs::Actions::emit, crate::specs::Actions::association_counted))]
     pub fn refuse(
         &mut self,
         alloc: Global,
@@ -323,9 +364,10 @@ impl Draft {
         enb_ue_id: EnbUeId,
         nas: &[u8],
     ) -> Result<(), AllocError>
-        ensures { OnOk result (self.new ≡ refuse slot station enb_ue_id nas.now self.old) }
+        ensures after { OnOk result (self.new ≡ refuse slot station enb_ue_id nas.now self.old) }
+        ensures err { OnErr result (self.new ≡ self.old) }
     {
-        let id = self.next_id(slot);
+        let (id, counter) = self.solo.associations.association(slot);
         let message = downlink(
             Connection {
                 id,
@@ -334,9 +376,10 @@ impl Draft {
             },
             nas,
         );
-        self.emit(alloc, station, message, None)?;
         let released = release_command(id, enb_ue_id, normal_release());
-        self.emit(alloc, station, released, None)
+        self.emit_both(alloc, station, message, released)?;
+        self.solo.associations = counter;
+        Ok(())
     }
 
     /// The timer's countdown runs, and what is sent again is kept.
@@ -360,7 +403,9 @@ impl Draft {
         header: SecurityHeader,
         nas: &[u8],
     ) -> Result<Sealed, StepStop>
-        ensures { Makes result self.new (seal header nas.now self.old) }
+        ensures does { Makes result self.new (seal header nas.now self.old) }
+        ensures due { IsErrOf result StepStop.NoMemory → seal header nas.now self.old ≢ None }
+        ensures err { OnErr result (self.new ≡ self.old) }
     {
         match &mut self.solo.context {
             Some(context) => context.seal(alloc, header, nas),
@@ -371,24 +416,41 @@ impl Draft {
         }
     }
 
-    /// NAS to the phone, protected, in DOWNLINK NAS TRANSPORT.
-    #[tactic(auto, unfolding(crate::specs::Actions::protect))]
+    // What was sealed isn't sent: the count that it is under is the next one again.
+    #[tactic(auto, unfolding(crate::specs::Actions::unsealed))]
+    #[inline(never)]
+    fn unseal(&mut self, under: Option<Mark>)
+        ensures { self.new ≡ unsealed under self.old }
+    {
+        if let (Some(context), Some(mark)) = (&mut self.solo.context, under) {
+            context.count_from(mark.count);
+        }
+    }
+
+    /// NAS to the phone, protected, in DOWNLINK NAS TRANSPORT. Whether the counts are spent is looked at first, and a call that is
+    /// refused spends none.
+    #[tactic(auto, using(crate::proofs::Unsealing::unsealed_after), unfolding(crate::specs::Actions::protect))]
     pub fn protect(
         &mut self,
         alloc: Global,
         header: SecurityHeader,
         nas: &[u8],
     ) -> Result<(), StepStop>
-        ensures { Does result self.new (protect header nas.now self.old) }
+        ensures does { Does result self.new (protect header nas.now self.old) }
+        ensures due { IsErrOf result StepStop.NoMemory → protect header nas.now self.old ≢ None }
+        ensures err { OnErr result (self.new ≡ self.old) }
     {
-        let sealed = self.seal(alloc, header, nas)?;
+        let Sealed { form, under } = self.seal(alloc, header, nas)?;
         let Some(connection) = self.solo.connection else {
             return Ok(());
         };
-        let Sealed { form, under } = sealed;
         let station = connection.station;
         let message = downlink(connection, form.as_slice());
-        self.emit(alloc, station, message, under)?;
+        let sent = self.emit(alloc, station, message, under);
+        if sent.is_err() {
+            self.unseal(under);
+            return Err(StepStop::NoMemory);
+        }
         Ok(())
     }
 
@@ -400,7 +462,9 @@ impl Draft {
         header: SecurityHeader,
         nas: Vec<u8>,
     ) -> Result<(), StepStop>
-        ensures { Does result self.new (protect_and_await timer header nas.items self.old) }
+        ensures does { Does result self.new (protect_and_await timer header nas.items self.old) }
+        ensures due { IsErrOf result StepStop.NoMemory → protect_and_await timer header nas.items self.old ≢ None }
+        ensures err { OnErr result (self.new ≡ self.old) }
     {
         self.protect(alloc, header, nas.as_slice())?;
         let repeat = Repeat::Nas(Protection::Under(header), NasOctets::new(nas));
@@ -451,8 +515,8 @@ impl Draft {
         self.set_up(alloc, setting, kenb, None, None)
     }
 
-    /// INITIAL CONTEXT SETUP REQUEST with a NAS message that is protected here.
-    #[tactic(auto, unfolding(crate::specs::Actions::set_up_with))]
+    /// INITIAL CONTEXT SETUP REQUEST with a NAS message that is protected here, and refused as by [`Draft::protect`].
+    #[tactic(auto, using(crate::proofs::Unsealing::unsealed_after), unfolding(crate::specs::Actions::set_up_with))]
     pub fn set_up_with(
         &mut self,
         alloc: Global,
@@ -460,14 +524,20 @@ impl Draft {
         kenb: Kenb,
         nas: &[u8],
     ) -> Result<(), StepStop>
-        ensures { Does result self.new (set_up_with setting.now kenb nas.now self.old) }
+        ensures does { Does result self.new (set_up_with setting.now kenb nas.now self.old) }
+        ensures due { IsErrOf result StepStop.NoMemory → set_up_with setting.now kenb nas.now self.old ≢ None }
+        ensures err { OnErr result (self.new ≡ self.old) }
     {
         let Sealed { form, under } = self.seal(
             alloc,
             SecurityHeader::IntegrityProtectedCiphered,
             nas,
         )?;
-        self.set_up(alloc, setting, kenb, Some(form.as_slice()), under)?;
+        let sent = self.set_up(alloc, setting, kenb, Some(form.as_slice()), under);
+        if sent.is_err() {
+            self.unseal(under);
+            return Err(StepStop::NoMemory);
+        }
         Ok(())
     }
 }

@@ -1,6 +1,6 @@
 //! Octets of messages on the heap, and the messages that a step sends; contracts see lists.
 
-ghost use Rattle.std.specs.Prelude.{◌≡◌, ◌≤◌, ◌++◌, ◌∷◌, [], ℕ, List, drop, length, slice_get, IfOk, OnOk, OnErr};
+ghost use Rattle.std.specs.Prelude.{◌≡◌, ◌≤◌, ◌++◌, ◌∷◌, [], ℕ, List, drop, length, take, slice_get, IfOk, OnOk, OnErr};
 ghost use Rattle.s1ap_pdus.specs.Pdus.{encoded, lists, longest};
 
 use identity_slots::StationNumber;
@@ -165,6 +165,13 @@ impl Answers {
             return None;
         }
         Some(self.items.remove(0))
+    }
+
+    /// Keeps the first `count` messages, and the room for the others.
+    pub fn truncate(&mut self, count: usize)
+        ensures { self.new ≡ take count self.old }
+    {
+        self.items.truncate(count);
     }
 
     /// Nothing any more; the room for what there was stays.
