@@ -2,6 +2,7 @@ pub mod Calling
 pub mod Stepping
 pub mod Parts
 pub mod Room
+pub mod Sent
 pub mod Short
 pub mod Known
 pub mod Places

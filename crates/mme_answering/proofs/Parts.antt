@@ -20,6 +20,7 @@ use Rattle.mme_answering.specs.declared.out.Out.{Out}
 use Rattle.mme_answering.specs.declared.prepared.Prepared.{Prepared}
 use Rattle.mme_answering.specs.declared.prepared.Prepared.TheVariants as prepared
 use Rattle.mme_answering.specs.Prepares.{Prepares, PreparesEach, PreparesOne, PreparesTurn}
+use Rattle.mme_answering.specs.Sending.{event_sent, turn_sent, SendsSome}
 use Rattle.mme_answering.specs.Settled.{item_sent}
 
 -- the turn of the stranger that begins with a message
@@ -54,6 +55,19 @@ received ps m ks ws before after p t is h =
       passing = own.passing (to.Stranger m);
     }
 
+-- and where memory is refused
+pub begun_some : (ps : List Profile) (id : ℕ) (m : Entry (List ℕ)) (ks : List Known) (ws : List SubscriberView)
+    (before after : List Out) (t : Turn) → t ≡ begins id (stranger_at id ks) m → SendsSome (turn_sent id t ws) before after
+    → SendsSome (event_sent ps (to.Beginner id m) ks ws) before after
+unfolding stranger_step
+begun_some ps id m ks ws before after t is h = subst (λ (u : Turn). SendsSome (turn_sent id u ws) before after) is h
+
+pub received_some : (ps : List Profile) (m : UeMessage (List ℕ)) (ks : List Known) (ws : List SubscriberView)
+    (before after : List Out) (t : Turn) → t ≡ receives ps (stranger_at m.mme_ue_id ks) m
+    → SendsSome (turn_sent m.mme_ue_id t ws) before after → SendsSome (event_sent ps (to.Stranger m) ks ws) before after
+unfolding stranger_step
+received_some ps m ks ws before after t is h = subst (λ (u : Turn). SendsSome (turn_sent m.mme_ue_id u ws) before after) is h
+
 -- the step of the subscriber with a slot
 pub stepped : (ps : List Profile) (slot : ℕ) (item : Item) (ks : List Known) (ws : List SubscriberView) (before after : List Out)
     (o : Option SteppedView) (x : SteppedView) → o ≡ Some x → PreparesOne (for_one slot item) ws before after o
@@ -78,6 +92,12 @@ pub prepares_there : (ps : List Profile) (d : Destination) (ks ls : List Known) 
 prepares_there ps d ks ls ws vs before after p strangers subscribers h =
     subst (λ (xs : List Known). Prepares ps d xs vs before after p) strangers
     (subst (λ (ys : List SubscriberView). Prepares ps d ks ys before after p) subscribers h)
+
+pub sends_there : (ps : List Profile) (d : Destination) (ks ls : List Known) (ws vs : List SubscriberView) (before after : List Out)
+    → ks ≡ ls → ws ≡ vs → SendsSome (event_sent ps d ks ws) before after → SendsSome (event_sent ps d ls vs) before after
+sends_there ps d ks ls ws vs before after strangers subscribers h =
+    subst (λ (xs : List Known). SendsSome (event_sent ps d xs vs) before after) strangers
+    (subst (λ (ys : List SubscriberView). SendsSome (event_sent ps d ks ys) before after) subscribers h)
 
 -- the steps of some, where nobody is left
 pub all_done : (item : Item) (called rest : List ℕ) (ws : List SubscriberView) (before after : List Out) (xs : List SteppedView)

@@ -1,5 +1,7 @@
 -- A step that was prepared, of one and of some.
-use Rattle.std.proofs.Common.{◌≡◌, ℕ, zero, suc, ◌+◌, ◌<◌, ◌≤◌, List, [], ◌∷◌, ◌++◌, length, map, true, false, Option, Some, None, refl, sym, subst, ◌∙◌, ap, arith}
+use Rattle.std.proofs.Common.{◌≡◌, ℕ, zero, suc, ◌+◌, ◌<◌, ◌≤◌, List, [], ◌∷◌, ◌++◌, length, map, true, false, Option, Some, None, refl, sym, subst, ◌∙◌, ap, arith, inl, inr}
+use Rattle.std.proofs.lemmas.List.{append_assoc, append_cancel_right}
+use Rattle.std.proofs.lemmas.Option.{slice_get_cases}
 use Rattle.std.specs.Prelude.{slice_get, slice_set, option_map}
 use Rattle.std.specs.Option.{option_map_or}
 use Rattle.emm_state.specs.declared.solo.Solo.{Solo}
@@ -20,8 +22,10 @@ use Rattle.laws_ends.specs.Clocked.{ClockedRuns, IsClocked, StaysClocked}
 use Rattle.mme_answering.specs.InUse.{AreInUse}
 use Rattle.mme_answering.specs.Settled.{AreFit, in_state, item_sent, sent_at, solo_at, with_solo, with_stepped}
 use Rattle.mme_routing.specs.Destinations.{for_all, for_one}
+use Rattle.mme_answering.specs.declared.out.Out.{Out}
 use Rattle.mme_answering.specs.Sending.{each_sent, slot_out}
-use Rattle.mme_answering.proofs.Calling.{after_call, sends_call}
+use Rattle.mme_answering.proofs.Sent.{SentBut}
+use Rattle.mme_answering.proofs.Calling.{after_call, call_past, sends_call}
 
 -- ---- a step that was prepared
 
@@ -76,11 +80,54 @@ called_after slot item ws s h = stepped_at item s (slice_get ws slot) h (λ w at
     ap (λ (o : Option SubscriberView). option_map_or (λ v. slice_set ws slot (in_state s v)) o ws) at
     ∙ ap (λ (t : Solo). slice_set ws slot (in_state t w)) (sym is) ∙ after_call slot item ws w at)
 
-pub called_sends : (slot : ℕ) (item : Item) (ws : List SubscriberView) (s : Solo) → solo_at slot item ws ≡ Some s
+-- what the subscriber with a slot sends, if anybody has it, is what all send
+pub called_sends : (slot : ℕ) (item : Item) (ws : List SubscriberView)
     → sent_at slot item ws ≡ each_sent (for_one slot item) 0 ws
-called_sends slot item ws s h = stepped_at item s (slice_get ws slot) h (λ w at is.
-    ap (λ (o : Option SubscriberView). option_map_or (λ v. map (slot_out slot) (subscriber_step v item).sent) o []) at
-    ∙ sends_call slot item ws w at)
+called_sends slot item ws =
+    elim (slice_get_cases ws slot).1 [
+      | inl there ↦
+          ap (λ (o : Option SubscriberView). option_map_or (item_sent item slot) o []) there.2
+          ∙ sends_call slot item ws there.0 there.2
+      | inr past ↦
+          ap (λ (o : Option SubscriberView). option_map_or (item_sent item slot) o []) past.1
+          ∙ sym (call_past slot item ws past.0).1
+    ]
+
+draft_sends : (slot : ℕ) (item : Item) (o : Option SubscriberView) (d : Draft)
+    → option_map (λ w. subscriber_step w item) o ≡ Some d → map (slot_out slot) d.sent ≡ option_map_or (item_sent item slot) o []
+draft_sends slot item None d h = absurd (cc)
+draft_sends slot item (Some w) d h =
+    let is : subscriber_step w item ≡ d = cc in
+    ap (λ (e : Draft). map (slot_out slot) e.sent) (sym is)
+
+pub step_sends : (slot : ℕ) (item : Item) (ws : List SubscriberView) (d : Draft) → step_at slot item ws ≡ Some d
+    → map (slot_out slot) d.sent ≡ sent_at slot item ws
+step_sends slot item ws d h = draft_sends slot item (slice_get ws slot) d h
+
+-- ---- some one after the other
+
+some_parts : (g : ℕ → SubscriberView → List Out) (done rest : List ℕ) (ws : List SubscriberView)
+    → some_give g (done ++ rest) ws ≡ some_give g done ws ++ some_give g rest ws
+some_parts g [] rest ws = refl
+some_parts g (k ∷ done) rest ws =
+    ap (λ (os : List Out). option_map_or (g k) (slice_get ws k) [] ++ os) (some_parts g done rest ws)
+    ∙ sym (append_assoc (option_map_or (g k) (slice_get ws k) []) (some_give g done ws) (some_give g rest ws))
+
+-- where those who are left would send the others
+pub sent_so_far : (item : Item) (called done rest : List ℕ) (ws : List SubscriberView) (before after : List Out)
+    → done ++ rest ≡ called
+    → after ++ some_give (item_sent item) rest ws ≡ before ++ some_give (item_sent item) called ws
+    → SentBut (some_give (item_sent item) rest ws) (some_give (item_sent item) called ws) before after
+sent_so_far item called done rest ws before after slots sends =
+    let first = some_give (item_sent item) done ws in
+    let left = some_give (item_sent item) rest ws in
+    let all : some_give (item_sent item) called ws ≡ first ++ left =
+    ap (λ ks. some_give (item_sent item) ks ws) (sym slots) ∙ some_parts (item_sent item) done rest ws in (
+      first,
+      all,
+      append_cancel_right after (before ++ first) left
+          (sends ∙ ap (λ (os : List Out). before ++ os) all ∙ sym (append_assoc before first left)),
+    )
 
 -- ---- what some do is what all do: at a tick those who are due, at a notice of a station those whom it touches
 

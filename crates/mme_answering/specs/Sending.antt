@@ -1,5 +1,5 @@
 -- What strangers and subscribers send at an event, as messages of its output.
-use Rattle.std.specs.Prelude.{ℕ, ◌+◌, List, [], ◌∷◌, ◌++◌, map, Some}
+use Rattle.std.specs.Prelude.{◌≡◌, ℕ, ◌+◌, List, [], ◌∷◌, ◌++◌, map, Some}
 use Rattle.identity_slots.specs.declared.profile.Profile.{Profile}
 use Rattle.mme_types.specs.declared.octets.Answer.{Answer}
 use Rattle.mme_types.specs.Events.{Item}
@@ -9,7 +9,8 @@ use Rattle.stranger_machine.specs.declared.table.Known.{Known}
 use Rattle.stranger_machine.specs.declared.turn.Notice.{Notice}
 use Rattle.stranger_machine.specs.Machine.{Input, Begins, Receives, notes, stranger_step}
 use Rattle.stranger_machine.specs.Table.{stranger_at}
-use Rattle.mme_routing.specs.Destinations.{Destination}
+use Rattle.stranger_machine.specs.Turns.{Turn}
+use Rattle.mme_routing.specs.Destinations.{Destination, if_called, item_at}
 use Rattle.mme_routing.specs.Destinations as to
 use Rattle.mme_answering.specs.declared.out.Out.{Out}
 use Rattle.mme_answering.specs.declared.out.Owner.{Owner}
@@ -49,3 +50,17 @@ slot_out slot a = owner_out (Subscriber slot) a
 abbrev pub each_sent : (ℕ → Item) → ℕ → List SubscriberView → List Out
 each_sent items n [] = []
 each_sent items n (w ∷ ws) = map (slot_out n) (subscriber_step w (items n)).sent ++ each_sent items (n + 1) ws
+
+-- ---- both
+
+-- what a stranger sends in a turn, and then the subscriber whom it calls
+abbrev pub turn_sent : ℕ → Turn → List SubscriberView → List Out
+turn_sent id t ws = map (stranger_out id) t.sent ++ each_sent (if_called t.call) 0 ws
+
+-- what strangers send, and then subscribers
+abbrev pub event_sent : List Profile → Destination → List Known → List SubscriberView → List Out
+event_sent ps d ks ws = strangers_sent ps d ks ++ each_sent (item_at d ps (λ id. stranger_at id ks)) 0 ws
+
+-- of messages that were to be sent the first ones were, after what was sent so far, and the others weren't
+abbrev pub SendsSome : List Out → List Out → List Out → Type 0
+SendsSome all before after = (sent : List Out) × (others : List Out) × (all ≡ sent ++ others) × (after ≡ before ++ sent)

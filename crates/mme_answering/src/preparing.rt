@@ -2,7 +2,7 @@
 //!
 //! A call that isn't one of each step stands out of line (`inline(never)`), so that a step doesn't clear its locals.
 
-ghost use Rattle.std.specs.Prelude.{◌≡◌, ◌<◌, ◌++◌, List, length, IfOk, OnOk, Some, false, true};
+ghost use Rattle.std.specs.Prelude.{◌≡◌, ◌<◌, ◌++◌, List, length, IfOk, OnOk, OnErr, Some, false, true};
 ghost use Rattle.identity_slots.specs.declared.profile.Profile.{Profile};
 ghost use Rattle.mme_types.specs.declared.stations.StationState.{StationState};
 ghost use Rattle.mme_types.specs.Events.{entry_lists, item_of, message_lists};
@@ -14,6 +14,7 @@ ghost use Rattle.stranger_machine.specs.Machine.{is_of_station};
 ghost use Rattle.stranger_machine.specs.Table.{stranger_at};
 ghost use Rattle.stranger_machine.specs.Turns.{call_of, turn_of};
 ghost use Rattle.mme_timers.specs.Waiting.{due_ids};
+ghost use Rattle.mme_owners.specs.SubscriberLaws.{some_give};
 ghost use Rattle.mme_owners.specs.Subscribers.{IsCounting, due_slots};
 ghost use Rattle.mme_owners.specs.Touched.{touched_slots};
 ghost use Rattle.mme_routing.specs.Destinations.{Beginner as BeginnerInSpecs, Everyone, Stranger as StrangerInSpecs, for_one, if_called, item_of_notice};
@@ -21,7 +22,8 @@ ghost use Rattle.mme_routing.specs.Seen.{destination_of};
 ghost use Rattle.mme_answering.specs.declared.prepared.Prepared.TheVariants.{Everyone as EveryoneInCode};
 ghost use Rattle.mme_answering.specs.InUse.{AreInUse};
 ghost use Rattle.mme_answering.specs.Prepares.{Prepares, PreparesEach, PreparesOne, PreparesTurn};
-ghost use Rattle.mme_answering.specs.Settled.{is_own, sent_at, solo_at};
+ghost use Rattle.mme_answering.specs.Sending.{each_sent, event_sent, turn_sent, SendsSome};
+ghost use Rattle.mme_answering.specs.Settled.{is_own, item_sent, sent_at, solo_at};
 
 use crate::out::{Outs, Owner};
 use crate::prepared::Prepared;
@@ -38,6 +40,7 @@ use stranger_machine::{Call, Notice, Turn, begins, receives};
 use stranger_table::Strangers;
 
 // A subscriber's step, on a copy: its state after it; what it sends stands after what is sent so far.
+#[tactic(auto, using(crate::proofs::Sent::sends_none))]
 fn prepare_step(
     alloc: Global,
     subscribers: &mut Subscribers,
@@ -52,6 +55,8 @@ fn prepare_step(
     ensures after { IfOk result (λ x. solo_at slot (item_of event.now stations.now) subscribers.old.subscribers ≡ Some x.solo) }
     ensures counting { IfOk result (λ x. IsCounting x.solo) }
     ensures sends { OnOk result (outs.new ≡ outs.old ++ sent_at slot (item_of event.now stations.now) subscribers.old.subscribers) }
+    ensures err { OnErr result
+        (SendsSome (sent_at slot (item_of event.now stations.now) subscribers.old.subscribers) outs.old outs.new) }
     ensures same { subscribers.new ≡ subscribers.old }
 {
     clocks_are_kept();
@@ -74,6 +79,8 @@ fn prepare_each(
     requires in_use { AreInUse subscribers.old.subscribers }
     ensures prepares { IfOk result
         (λ xs. PreparesEach (item_of event.now stations.now) called.now subscribers.old.subscribers outs.old outs.new xs.items) }
+    ensures err { OnErr result (SendsSome
+        (some_give (item_sent (item_of event.now stations.now)) called.now subscribers.old.subscribers) outs.old outs.new) }
     ensures same { subscribers.new ≡ subscribers.old }
 {
     let mut stepped = Vec::new(alloc);
@@ -96,6 +103,8 @@ fn prepare_one(
     requires { AreInUse subscribers.old.subscribers }
     ensures prepares { IfOk result
         (λ x. PreparesOne (for_one slot (item_of event.now stations.now)) subscribers.old.subscribers outs.old outs.new x) }
+    ensures err { OnErr result
+        (SendsSome (each_sent (for_one slot (item_of event.now stations.now)) 0 subscribers.old.subscribers) outs.old outs.new) }
     ensures same { subscribers.new ≡ subscribers.old }
 {
     let place = slot.get() as usize;
@@ -118,6 +127,8 @@ fn prepare_called(
     requires { AreInUse subscribers.old.subscribers }
     ensures prepares { IfOk result
         (λ x. PreparesOne (if_called (call_of stations.now call.now)) subscribers.old.subscribers outs.old outs.new x) }
+    ensures err { OnErr result
+        (SendsSome (each_sent (if_called (call_of stations.now call.now)) 0 subscribers.old.subscribers) outs.old outs.new) }
     ensures same { subscribers.new ≡ subscribers.old }
 {
     match call {
@@ -143,6 +154,9 @@ fn prepare_turn(
     ensures prepares { IfOk result
         (λ p. (ks : List Known) → PreparesTurn id (turn_of stations.now (stranger_at id ks) turn.entry)
         ks subscribers.old.subscribers outs.old outs.new p) }
+    ensures err { OnErr result
+        ((ks : List Known) → SendsSome (turn_sent id (turn_of stations.now (stranger_at id ks) turn.entry)
+        subscribers.old.subscribers) outs.old outs.new) }
     ensures same { subscribers.new ≡ subscribers.old }
 {
     let Turn {
@@ -173,6 +187,9 @@ fn prepare_tick(
     ensures prepares { IfOk result
         (λ p. (ps : List Profile) → Prepares ps (Everyone notices.Tick)
         strangers.now.strangers subscribers.old.subscribers outs.old outs.new p) }
+    ensures err { OnErr result
+        ((ps : List Profile) → SendsSome (event_sent ps (Everyone notices.Tick)
+        strangers.now.strangers subscribers.old.subscribers) outs.old outs.new) }
     ensures same { subscribers.new ≡ subscribers.old }
 {
     connections_come_so();
@@ -241,6 +258,9 @@ fn prepare_all(
     ensures prepares { IfOk result
         (λ xs. (ps : List Profile) (ks : List Known) → Prepares ps (Everyone notice.now)
         ks subscribers.old.subscribers outs.old outs.new (EveryoneInCode notice.now xs)) }
+    ensures err { OnErr result
+        ((ps : List Profile) (ks : List Known) → SendsSome (event_sent ps (Everyone notice.now)
+        ks subscribers.old.subscribers) outs.old outs.new) }
     ensures same { subscribers.new ≡ subscribers.old }
 {
     connections_come_so();
@@ -249,6 +269,7 @@ fn prepare_all(
 }
 
 // What is to become of the stranger who begins with a message.
+#[tactic(auto, using(crate::proofs::Sent::sends_none))]
 #[inline(never)]
 fn prepare_beginner(
     alloc: Global,
@@ -263,6 +284,9 @@ fn prepare_beginner(
     ensures prepares { IfOk result
         (λ p. (ps : List Profile) → Prepares ps (BeginnerInSpecs id (entry_lists entry.now))
         strangers.now.strangers subscribers.old.subscribers outs.old outs.new p) }
+    ensures err { OnErr result
+        ((ps : List Profile) → SendsSome (event_sent ps (BeginnerInSpecs id (entry_lists entry.now))
+        strangers.now.strangers subscribers.old.subscribers) outs.old outs.new) }
     ensures same { subscribers.new ≡ subscribers.old }
 {
     let turn = begins(alloc, id, strangers.find(id), entry)?;
@@ -270,6 +294,7 @@ fn prepare_beginner(
 }
 
 // What is to become of the stranger whom a message is for.
+#[tactic(auto, using(crate::proofs::Sent::sends_none))]
 #[inline(never)]
 fn prepare_stranger(
     alloc: Global,
@@ -284,6 +309,9 @@ fn prepare_stranger(
     ensures prepares { IfOk result
         (λ p. Prepares provision.now.profiles (StrangerInSpecs (message_lists message.now))
         strangers.now.strangers subscribers.old.subscribers outs.old outs.new p) }
+    ensures err { OnErr result
+        (SendsSome (event_sent provision.now.profiles (StrangerInSpecs (message_lists message.now))
+        strangers.now.strangers subscribers.old.subscribers) outs.old outs.new) }
     ensures same { subscribers.new ≡ subscribers.old }
 {
     let id = message.mme_ue_id;
@@ -306,6 +334,9 @@ fn prepare_own<'a>(
     ensures prepares { IfOk result
         (λ p. Prepares provision.now.profiles (destination_of stations.now destination.now)
         strangers.entry.now.strangers subscribers.old.subscribers outs.old outs.new p) }
+    ensures err { OnErr result
+        (SendsSome (event_sent provision.now.profiles (destination_of stations.now destination.now)
+        strangers.entry.now.strangers subscribers.old.subscribers) outs.old outs.new) }
     ensures same { subscribers.new ≡ subscribers.old }
 {
     match destination {
@@ -335,6 +366,7 @@ fn prepare_own<'a>(
 }
 
 // What is to become of all at a tick.
+#[tactic(auto, using(crate::proofs::Sent::sends_none))]
 #[inline(never)]
 fn prepare_due(
     alloc: Global,
@@ -348,6 +380,9 @@ fn prepare_due(
     ensures prepares { IfOk result
         (λ p. (ps : List Profile) → Prepares ps (Everyone notices.Tick)
         owners.old.strangers owners.old.subscribers outs.old outs.new p) }
+    ensures err { OnErr result
+        ((ps : List Profile) → SendsSome (event_sent ps (Everyone notices.Tick)
+        owners.old.strangers owners.old.subscribers) outs.old outs.new) }
     ensures same { owners.new ≡ owners.old }
 {
     let due = owners.due()?;
@@ -357,6 +392,7 @@ fn prepare_due(
 }
 
 // What is to become of all, where an event goes to everyone.
+#[tactic(auto, using(crate::proofs::Sent::sends_none))]
 #[inline(never)]
 fn prepare_everyone<'a>(
     alloc: Global,
@@ -370,6 +406,9 @@ fn prepare_everyone<'a>(
     ensures prepares { IfOk result
         (λ p. (ps : List Profile) → Prepares ps (destination_of stations.now destination.entry)
         owners.old.strangers owners.old.subscribers outs.old outs.new p) }
+    ensures err { OnErr result
+        ((ps : List Profile) → SendsSome (event_sent ps (destination_of stations.now destination.entry)
+        owners.old.strangers owners.old.subscribers) outs.old outs.new) }
     ensures same { owners.new ≡ owners.old }
 {
     match destination {
@@ -397,7 +436,8 @@ fn is_own(destination: &Destination<'_>) -> bool
     }
 }
 
-/// What is to become of those whom an event goes to, worked out on copies; what they send stands after what is sent so far.
+/// What is to become of those whom an event goes to, worked out on copies; what they send stands after what is sent so far, or the
+/// first of it, where this is refused.
 pub fn prepare<'a>(
     alloc: Global,
     provision: &Provision,
@@ -410,6 +450,9 @@ pub fn prepare<'a>(
     ensures prepares { IfOk result
         (λ p. Prepares provision.now.profiles (destination_of stations.now destination.entry)
         owners.old.strangers owners.old.subscribers outs.old outs.new p) }
+    ensures err { OnErr result
+        (SendsSome (event_sent provision.now.profiles (destination_of stations.now destination.entry)
+        owners.old.strangers owners.old.subscribers) outs.old outs.new) }
     ensures same { owners.new ≡ owners.old }
 {
     if !is_own(&destination) {

@@ -1,6 +1,6 @@
 //! What owners send, after what is sent so far.
 
-ghost use Rattle.std.specs.Prelude.{◌≡◌, ◌++◌, ◌∷◌, [], map, OnOk};
+ghost use Rattle.std.specs.Prelude.{◌≡◌, ◌++◌, ◌∷◌, [], map, OnOk, OnErr};
 ghost use Rattle.std.specs.Option.{option_map_or};
 ghost use Rattle.sorted_list.specs.Ordered.{at};
 ghost use Rattle.stranger_machine.specs.Table.{known_id};
@@ -8,7 +8,7 @@ ghost use Rattle.stranger_machine.specs.declared.turn.Notice.TheVariants.{Tick};
 ghost use Rattle.mme_timers.specs.Waiting.{due_ids};
 ghost use Rattle.stranger_table.specs.Laws.{some_known_give};
 ghost use Rattle.mme_answering.specs.Settled.{known_sent};
-ghost use Rattle.mme_answering.specs.Sending.{each_known, owner_out};
+ghost use Rattle.mme_answering.specs.Sending.{each_known, owner_out, SendsSome};
 
 use crate::out::{Out, Outs, Owner};
 use identity_slots::AssociationId;
@@ -19,7 +19,8 @@ use stranger_table::Strangers;
 
 // One answer more, as it is sent for an owner.
 fn send_answer(outs: &mut Outs, owner: &Owner, answer: Answer) -> Result<(), AllocError>
-    ensures { OnOk result (outs.new ≡ outs.old ++ owner_out owner.now answer ∷ []) }
+    ensures sent { OnOk result (outs.new ≡ outs.old ++ owner_out owner.now answer ∷ []) }
+    ensures err { OnErr result (outs.new ≡ outs.old) }
 {
     let Answer {
         station,
@@ -33,10 +34,12 @@ fn send_answer(outs: &mut Outs, owner: &Owner, answer: Answer) -> Result<(), All
     })
 }
 
-/// What an owner's machine sends, after what is sent so far; its octets are moved, and the room for the answers stays.
+/// What an owner's machine sends, after what is sent so far, or the first of it, where this is refused; its octets are moved, and
+/// the room for the answers stays.
 pub fn send_all(outs: &mut Outs, owner: Owner, answers: &mut Answers) -> Result<(), AllocError>
     ensures sent { OnOk result (outs.new ≡ outs.old ++ map (owner_out owner) answers.old) }
     ensures emptied { OnOk result (answers.new ≡ []) }
+    ensures err { OnErr result (SendsSome (map (owner_out owner) answers.old) outs.old outs.new) }
 {
     while let Some(answer) = answers.take_first() {
         send_answer(outs, &owner, answer)?;
@@ -45,13 +48,17 @@ pub fn send_all(outs: &mut Outs, owner: Owner, answers: &mut Answers) -> Result<
 }
 
 // What the stranger with an id sends at a tick, unless it is closed.
+#[tactic(auto, using(crate::proofs::Sent::sends_none))]
 fn send_one(
     alloc: Global,
     strangers: &Strangers,
     id: AssociationId,
     outs: &mut Outs,
 ) -> Result<(), AllocError>
-    ensures { OnOk result (outs.new ≡ outs.old ++ option_map_or (known_sent Tick) (at known_id id strangers.now.strangers) []) }
+    ensures sent { OnOk result
+        (outs.new ≡ outs.old ++ option_map_or (known_sent Tick) (at known_id id strangers.now.strangers) []) }
+    ensures err { OnErr result
+        (SendsSome (option_map_or (known_sent Tick) (at known_id id strangers.now.strangers) []) outs.old outs.new) }
 {
     let Some(known) = strangers.find(id) else {
         return Ok(());
@@ -67,7 +74,9 @@ fn send_some(
     ids: &[AssociationId],
     outs: &mut Outs,
 ) -> Result<(), AllocError>
-    ensures { OnOk result (outs.new ≡ outs.old ++ some_known_give (known_sent Tick) ids.now strangers.now.strangers) }
+    ensures sent { OnOk result (outs.new ≡ outs.old ++ some_known_give (known_sent Tick) ids.now strangers.now.strangers) }
+    ensures err { OnErr result
+        (SendsSome (some_known_give (known_sent Tick) ids.now strangers.now.strangers) outs.old outs.new) }
 {
     for id in ids {
         send_one(alloc, strangers, *id, outs)?;
@@ -84,7 +93,8 @@ pub(crate) fn send_due(
     outs: &mut Outs,
 ) -> Result<(), AllocError>
     requires { due.now ≡ due_ids strangers.now.strangers }
-    ensures { OnOk result (outs.new ≡ outs.old ++ each_known Tick strangers.now.strangers) }
+    ensures sent { OnOk result (outs.new ≡ outs.old ++ each_known Tick strangers.now.strangers) }
+    ensures err { OnErr result (SendsSome (each_known Tick strangers.now.strangers) outs.old outs.new) }
 {
     // (that their ids rise)
     let _ = strangers.clock();

@@ -76,6 +76,35 @@ ends_fault r f front count i s total lt h so_far =
     let one : with_front front (times r (count - i) s) ≡ Err f = rw (k, h) refl in
     sym so_far ∙ one
 
+-- how many bits are left, where some octets were begun
+pub bits_left : (octets : List ℕ) (begun left current : ℕ)
+    → length (bits left current ++ octet_bits (drop begun octets)) ≡ left + 8 * (length octets - begun)
+bits_left octets begun left current =
+    omega (
+      arith,
+      length-append (bits left current) (octet_bits (drop begun octets)),
+      length-bits left current,
+      length-octet_bits (drop begun octets),
+      length-drop begun octets,
+    )
+
+-- octets of which too few are left
+pub too_few : (n : ℕ) (s : Place) → length s.rest < 8 * n → whole_octets_at n s ≡ Err Truncated
+unfolding whole_octets_at
+too_few n s few = rw (short (8 * n) s few) refl
+
+-- a number of which all bits are left
+pub all_there : (k : ℕ) (s : Place) (f : PerFault) → k ≤ length s.rest → number_bits_at k s ≡ Err f → ⊥
+all_there k s f room e = let read = rw (taken k s room) at e in absurd cc
+
+pub left_after : (k : ℕ) (s : Place) (n : ℕ) (t : Place) → k ≤ length s.rest → number_bits_at k s ≡ Ok (n, t)
+    → length t.rest ≡ length s.rest - k
+left_after k s n t room e =
+    let last : ℕ × Place = (n, t) in
+    let made : ℕ × Place = (value (take k s.rest), record { at = s.at + k; rest = drop k s.rest }) in
+    let same : okay made ≡ okay last = rw (taken k s room) at e in
+    sym (ap (λ (x : ℕ × Place). length x.1.rest) (ok_is made last same)) ∙ length-drop k s.rest
+
 pub bits_below : (k : ℕ) (s : Place) (n : ℕ) (t : Place) → number_bits_at k s ≡ Ok (n, t) → n < 2 ^ k
 unfolding take_at
 bits_below k s n t e =

@@ -1,6 +1,6 @@
 //! Reading bits from octets.
 
-ghost use Rattle.std.specs.Prelude.{true, eqb, ◌↔◌, ◌≡◌, ◌%◌, ◌+◌, ◌-◌, ◌*◌, ◌^◌, ◌<◌, ◌≤◌, ◌++◌, ◌∷◌, length, drop, take};
+ghost use Rattle.std.specs.Prelude.{true, eqb, ◌↔◌, ◌≡◌, ◌%◌, ◌+◌, ◌-◌, ◌*◌, ◌^◌, ◌<◌, ◌≤◌, ◌++◌, ◌∷◌, length, drop, take, IsOk, OnErr};
 ghost use Rattle.per_streams.specs.Bits.{TakesPart, Place, Answers, start, bits, value, octet_bits, align_at, bit_at, number_bits_at, aligned_octets_at, whole_octets_at, IsBytes, end_at};
 
 use crate::fault::PerFault;
@@ -166,22 +166,28 @@ impl<'a> BitReader<'a> {
         self.begun == self.octets.len()
     }
 
-    /// Fills octets from the next bits, not aligned; nothing is said of them where this is refused.
+    /// Fills octets from the next bits, not aligned; refused, they are as they were.
     #[inline(always)]
     pub fn fill(&mut self, out: &mut [u8]) -> Result<(), PerFault>
-        ensures { Answers (λ _. out.new) result self.new (whole_octets_at (length out.old) self.old) }
+        ensures reads { Answers (λ _. out.new) result self.new (whole_octets_at (length out.old) self.old) }
+        ensures err { OnErr result (out.new ≡ out.old) }
     {
         if self.left == 0 {
             let octets = self.whole_octets(out.len())?;
             out.copy_from_slice(octets);
             return Ok(());
         }
+        if self.octets.len() - self.begun < out.len() {
+            return Err(PerFault::Truncated);
+        }
         self.fill_each(out)
     }
 
-    // where the last octet is not read to its end
+    // where the last octet is not read to its end, and bits enough are left
     fn fill_each(&mut self, out: &mut [u8]) -> Result<(), PerFault>
-        ensures { Answers (λ _. out.new) result self.new (whole_octets_at (length out.old) self.old) }
+        requires { 8 * length out.old ≤ length self.old.rest }
+        ensures reads { Answers (λ _. out.new) result self.new (whole_octets_at (length out.old) self.old) }
+        ensures ok { IsOk result }
     {
         for octet in out {
             *octet = self.take_bits(8)? as u8;

@@ -1,6 +1,6 @@
 //! The elements of a message, in any order.
 
-ghost use Rattle.std.specs.Prelude.{◌≡◌, ◌≤◌, option_map};
+ghost use Rattle.std.specs.Prelude.{◌≡◌, ◌≤◌, OnErr, option_map};
 ghost use Rattle.per_streams.specs.Bits.{Place, Answers};
 ghost use Rattle.per_numbers.specs.Reading.{number_at};
 ghost use Rattle.per_numbers.specs.Writing.{Wrote};
@@ -29,15 +29,16 @@ const CSG_ID: u16 = 127;
 
 const CSG_ID_LIST: u16 = 128;
 
-/// An element of a row.
+/// An element of a row; refused, what was read of the row is as it was.
 pub fn fill<'a, T: Element<'a>>(
     alloc: Global,
     id: u16,
     slot: &mut Option<T>,
     reader: &mut BitReader<'a>,
 ) -> Result<(), S1apFault>
-    ensures { Reads result (option_map T.view slot.new, reader.new)
+    ensures reads { Reads result (option_map T.view slot.new, reader.new)
         (fill_slot T.format id (option_map T.view slot.old) reader.old) }
+    ensures err { OnErr result (option_map T.view slot.new ≡ option_map T.view slot.old) }
 {
     if slot.is_some() {
         return Err(S1apFault::RepeatedElement(id));

@@ -1,6 +1,6 @@
 //! A message by its rows: read from octets, and written.
 
-ghost use Rattle.std.specs.Prelude.{◌≡◌, ◌≤◌, ◌+◌};
+ghost use Rattle.std.specs.Prelude.{◌≡◌, ◌≤◌, ◌+◌, OnErr};
 ghost use Rattle.per_bits.specs.Reading.{GivesWhole};
 ghost use Rattle.per_numbers.specs.Writing.{Wrote};
 ghost use Rattle.s1ap_rows.specs.Rows.{Rows, Slots, Kept, row_count, no_slots};
@@ -37,9 +37,10 @@ pub trait Message<'a>: Drop {
     fn none() -> Self
         ensures { slots result ≡ no_slots rows };
 
-    /// Takes one more element, after its id.
+    /// Takes one more element, after its id; refused, the rows are as they were.
     fn put(&mut self, alloc: Global, id: u16, reader: &mut BitReader<'a>) -> Result<(), S1apFault>
-        ensures { Reads result (slots self.new, reader.new) (put_at rows id (slots self.old) reader.old) };
+        ensures reads { Reads result (slots self.new, reader.new) (put_at rows id (slots self.old) reader.old) }
+        ensures err { OnErr result (slots self.new ≡ slots self.old) };
 
     /// What the message has of what was read, or the first element that must stand and does not.
     fn elements(self) -> Result<Self::Elements, S1apFault>

@@ -1,6 +1,6 @@
 //! Rows as types: a table of rows is a type, and what was read of them a value of it.
 
-ghost use Rattle.std.specs.Prelude.{◌≡◌, option_map};
+ghost use Rattle.std.specs.Prelude.{◌≡◌, OnErr, option_map};
 ghost use Rattle.s1ap_rows.specs.Criticalities.{criticality_named};
 ghost use Rattle.s1ap_rows.specs.Rows.{ie, end, needed, optional, unkept, Presence};
 ghost use Rattle.s1ap_rows.specs.Reading.{put_at};
@@ -60,7 +60,7 @@ pub type FiveRows<A, B, C, D, E> = Row<A, FourRows<B, C, D, E>>;
 /// A table of six rows.
 pub type SixRows<A, B, C, D, E, F> = Row<A, FiveRows<B, C, D, E, F>>;
 
-// An element of this row or of those after it, whatever its criticality and presence.
+// An element of this row or of those after it, whatever its criticality and presence; refused, they are as they were.
 fn put_row<'a, const ID: u16, T: Element<'a>, R: Message<'a>>(
     alloc: Global,
     id: u16,
@@ -68,8 +68,10 @@ fn put_row<'a, const ID: u16, T: Element<'a>, R: Message<'a>>(
     others: &mut R,
     reader: &mut BitReader<'a>,
 ) -> Result<(), S1apFault>
-    ensures { (c : Criticality) (p : Presence) → Reads result ((option_map T.view value.new, R.slots others.new), reader.new)
+    ensures reads { (c : Criticality) (p : Presence) → Reads result ((option_map T.view value.new, R.slots others.new), reader.new)
         (put_at (ie ID c p T.format R.rows) id (option_map T.view value.old, R.slots others.old) reader.old) }
+    ensures element { OnErr result (option_map T.view value.new ≡ option_map T.view value.old) }
+    ensures others { OnErr result (R.slots others.new ≡ R.slots others.old) }
 {
     if id == ID {
         fill(alloc, id, value, reader)

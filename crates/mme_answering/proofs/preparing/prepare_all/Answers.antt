@@ -1,5 +1,5 @@
 use Rattle.std.proofs.Common.{◌<◌, ◌++◌, List, length, sym, ◌∙◌, ap, refl, subst}
-use Rattle.std.proofs.lemmas.Result.{IfOk-weaker}
+use Rattle.std.proofs.lemmas.Result.{IfOk-weaker, on_err_weaker}
 use Rattle.sorted_list.specs.Ordered.{Every}
 use Rattle.mme_owners.specs.SubscriberLaws.{some_give, touched_below}
 use Rattle.mme_owners.specs.Subscribers.{IsStepped}
@@ -9,6 +9,7 @@ use Rattle.mme_answering.specs.Settled.{item_sent}
 use Rattle.mme_answering.specs.Sending.{each_sent}
 use Rattle.mme_answering.proofs.Known.{none_known}
 use Rattle.mme_answering.proofs.Places.{keep_all}
+use Rattle.mme_answering.proofs.Sent.{sends_same}
 use Rattle.mme_answering.proofs.Stepping.{touched_fit, touched_send, touches_all}
 use Rattle.mme_answering.proofs.preparing.prepare_all.Goals as goal
 
@@ -40,3 +41,15 @@ returns-clause-prepares c =
       fits = (fit.0, fit.1, c.requires.station, keep_all c.connections_come_so.ensures notice ws xs.items each);
       passing = tt;
     }) c.prepare_each.ensures.prepares
+
+pub returns-clause-err : goal.returns-clause-err
+returns-clause-err c =
+    let ws = c.args.subscribers.now.subscribers in
+    let notice = c.args.notice.now in
+    let item = item_of_notice notice in
+    let own = each_sent (for_all item) 0 ws in
+    let touched = c.as_slice-called.ensures.value ∙ c.requires.touched in
+    let all = ap (λ i. some_give (item_sent i) c.as_slice-called.result.now ws) c.requires.event
+    ∙ ap (λ slots. some_give (item_sent item) slots ws) touched ∙ touched_send item ws in
+    on_err_weaker c.prepare_each.result (λ h ps ks. sends_same _ _ _ _
+    (all ∙ ap (λ (os : List Out). os ++ own) (sym (none_known notice ks c.requires.station))) h) c.prepare_each.ensures.err

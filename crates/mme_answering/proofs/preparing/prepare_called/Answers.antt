@@ -15,3 +15,6 @@ returns-in-None-clause-prepares c =
       subscribers = sym (after_nothing 0 _ ws (λ m le. refl));
       fits = tt;
     })
+
+pub returns-in-Some-clause-err : goal.returns-in-Some-clause-err
+returns-in-Some-clause-err c = rw c.in-Some.is c.prepare_one.ensures.err

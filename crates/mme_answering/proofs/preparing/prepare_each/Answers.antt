@@ -1,7 +1,13 @@
-use Rattle.std.proofs.Common.{drop, arith}
-use Rattle.std.proofs.lemmas.List.{drop_all}
+use Rattle.std.proofs.Common.{ℕ, ◌≡◌, ◌+◌, ◌∷◌, ◌++◌, drop, arith, sym, subst, ◌∙◌, ap}
+use Rattle.std.proofs.lemmas.List.{drop_all, drop_more}
+use Rattle.std.proofs.lemmas.Result.{err_from_is_err_and}
+use Rattle.mme_owners.specs.SubscriberLaws.{some_give}
+use Rattle.mme_owners.specs.Subscribers.{slots_stepped, SubscriberTable}
 use Rattle.mme_types.specs.Events.{item_of}
+use Rattle.mme_answering.specs.Settled.{item_sent, sent_at}
 use Rattle.mme_answering.proofs.Parts.{all_done}
+use Rattle.mme_answering.proofs.Sent.{SentBut, more_sent, sends_but, sends_same, some_sent}
+use Rattle.mme_answering.proofs.Stepping.{sent_so_far}
 use Rattle.mme_answering.proofs.preparing.prepare_each.Goals as goal
 
 pub returns-clause-prepares : goal.returns-clause-prepares
@@ -11,3 +17,45 @@ returns-clause-prepares c =
     let slots = c.args.called.now in
     all_done (item_of c.args.event.now c.args.stations.now) slots (drop l.slot-index slots) c.args.subscribers.now.subscribers c.args.outs.now l.outs l.stepped.items
     (drop_all l.slot-index slots (let t = c.loop-slot-test.false in omega (arith, t))) now.slots now.stepped now.counting now.sends
+
+pub returns-in_err-one-clause-err : goal.returns-in_err-one-clause-err
+returns-in_err-one-clause-err c =
+    let l = c.loop-slot in
+    let item = item_of c.args.event.now c.args.stations.now in
+    let ws = c.args.subscribers.now.subscribers in
+    let slots = c.args.called.now in
+    let slot = c.slot-item.result in
+    let left = drop (l.slot-index + 1) slots in
+    let all = some_give (item_sent item) slots ws in
+    let rest : drop l.slot-index slots ≡ slot ∷ left =
+    drop_more slots l.slot-index slot c.loop-slot-test.true ∙ ap (λ (x : ℕ). x ∷ left) (sym c.slot-item.is) in
+    let so_far = sent_so_far item slots (slots_stepped l.stepped.items) (drop l.slot-index slots) ws c.args.outs.now l.outs
+    l.invariant.slots l.invariant.sends in
+    let before = subst (λ xs. SentBut (some_give (item_sent item) xs ws) all c.args.outs.now l.outs) rest so_far in
+    let own = ap (λ (s : SubscriberTable). sent_at slot item s.subscribers) l.invariant.same in
+    let p = err_from_is_err_and c.from_residual.result c.from_residual.ensures.1 in
+    rw p.1
+    (some_sent (sent_at slot item ws) (some_give (item_sent item) left ws) all c.args.outs.now l.outs c.prepare_step.new.outs before
+    (sends_same _ _ _ _ own c.in_err-one.ensures.err))
+
+pub returns-in_err-push-clause-err : goal.returns-in_err-push-clause-err
+returns-in_err-push-clause-err c =
+    let l = c.loop-slot in
+    let item = item_of c.args.event.now c.args.stations.now in
+    let ws = c.args.subscribers.now.subscribers in
+    let slots = c.args.called.now in
+    let slot = c.slot-item.result in
+    let left = drop (l.slot-index + 1) slots in
+    let all = some_give (item_sent item) slots ws in
+    let rest : drop l.slot-index slots ≡ slot ∷ left =
+    drop_more slots l.slot-index slot c.loop-slot-test.true ∙ ap (λ (x : ℕ). x ∷ left) (sym c.slot-item.is) in
+    let so_far = sent_so_far item slots (slots_stepped l.stepped.items) (drop l.slot-index slots) ws c.args.outs.now l.outs
+    l.invariant.slots l.invariant.sends in
+    let before = subst (λ xs. SentBut (some_give (item_sent item) xs ws) all c.args.outs.now l.outs) rest so_far in
+    let own = ap (λ (s : SubscriberTable). sent_at slot item s.subscribers) l.invariant.same in
+    let one = c.in_ok-one.ensures.sends ∙ ap (λ os. l.outs ++ os) own in
+    let p = err_from_is_err_and c.from_residual-in_err-push.result c.from_residual-in_err-push.ensures.1 in
+    rw p.1
+    (sends_but (some_give (item_sent item) left ws) all c.args.outs.now c.prepare_step.new.outs
+    (more_sent (sent_at slot item ws) (some_give (item_sent item) left ws) all c.args.outs.now l.outs c.prepare_step.new.outs
+    before one))

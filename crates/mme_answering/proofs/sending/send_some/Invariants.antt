@@ -2,10 +2,15 @@ use Rattle.std.proofs.Common.{◌≡◌, ◌++◌, drop}
 use Rattle.stranger_machine.specs.declared.turn.Notice.TheVariants.{Tick}
 use Rattle.stranger_table.specs.Laws.{some_known_give}
 use Rattle.mme_answering.specs.Settled.{known_sent}
+use Rattle.mme_answering.proofs.Sent.{SentBut}
 use Rattle.mme_answering.proofs.sending.send_some.Given as goal
 
 -- what those send who are left is to come
 abbrev pub invariant-loop-id : goal.invariant-loop-id
 invariant-loop-id l =
-    l.outs ++ some_known_give (known_sent Tick) (drop l.id-index l.ids) l.strangers.strangers
-    ≡ l.fn.outs ++ some_known_give (known_sent Tick) l.ids l.strangers.strangers
+    let all = some_known_give (known_sent Tick) l.ids l.strangers.strangers in
+    let rest = some_known_give (known_sent Tick) (drop l.id-index l.ids) l.strangers.strangers in
+    record {
+      sends : l.outs ++ rest ≡ l.fn.outs ++ all;
+      some : SentBut rest all l.fn.outs l.outs;
+    }

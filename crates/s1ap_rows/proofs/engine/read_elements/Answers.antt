@@ -19,14 +19,14 @@ returns-in_err-put g c =
     rw (p.1, p.2)
     (ends_put c.in_err-put.field-0.0 rs c.args.count c.loop.counter (g.M.Message.slots c.loop.message) c.loop.reader _ _
     (elements_at rs c.args.count (g.M.Message.slots c.args.message.now) c.args.reader.now) c.loop-test.true c.in_ok-id.ensures
-    c.in_err-put.ensures c.loop.invariant)
+    c.in_err-put.ensures.reads c.loop.invariant)
 
 pub loop-preserved : goal.loop-preserved
 loop-preserved g c =
     let rs = g.M.Message.rows in
     goes_on rs c.args.count c.loop.counter (g.M.Message.slots c.loop.message) c.loop.reader _ _ (g.M.Message.slots c.put.new.self) _
     (elements_at rs c.args.count (g.M.Message.slots c.args.message.now) c.args.reader.now) c.loop-test.true c.in_ok-id.ensures
-    c.in_ok-put.ensures c.loop.invariant
+    c.in_ok-put.ensures.reads c.loop.invariant
 
 pub returns : goal.returns
 returns g c =

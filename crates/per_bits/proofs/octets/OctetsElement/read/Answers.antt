@@ -6,5 +6,5 @@ use Rattle.per_bits.proofs.octets.OctetsElement.read.Goals as goal
 
 pub invariant_of-result : goal.invariant_of-result
 invariant_of-result g c =
-    let k = (exact_whole_octets _).takes _ _ _ c.in_ok-fill.ensures in
+    let k = (exact_whole_octets _).takes _ _ _ c.in_ok-fill.ensures.reads in
     octets_fit g.row.N c.fill.new.out (k.spelled.0 ∙ length-replicate g.row.N _) k.spelled.1
