@@ -7,14 +7,14 @@ use Rattle.sim_crowd.specs.declared.crowd.Crowd.{Crowd}
 use Rattle.sim_crowd.specs.declared.whereabouts.Connection.{Connection}
 use Rattle.sim_crowd.specs.declared.whereabouts.Standing.{Standing}
 use Rattle.sim_crowd.specs.Sites.{left_site, with_phone}
-use Rattle.sim_crowd.specs.Stations.{changed_site, departed, no_stations, parted, served, with_station}
+use Rattle.sim_crowd.specs.Stations.{changed_site, departed, parted, served, with_station}
 use Rattle.sim_crowd.specs.Handsets.{with_standing}
-use Rattle.sim_crowd.specs.Phones.{changed_handset, no_phones, standing_of, with_handset, with_vector_for}
+use Rattle.sim_crowd.specs.Phones.{changed_handset, standing_of, with_handset, with_vector_for}
 use Rattle.sim_crowd.specs.Whereabouts.{is_connection, place_with, standing_with}
 
 -- nobody, in a network whose digits are zeros
 abbrev pub empty_crowd : Crowd
-empty_crowd = record { plmn = 0 ∷ 0 ∷ 0 ∷ []; stations = no_stations; phones = no_phones }
+empty_crowd = record { plmn = 0 ∷ 0 ∷ 0 ∷ []; stations = []; phones = [] }
 
 -- the stations to come are of this network
 abbrev pub in_network : List ℕ → Crowd → Crowd

@@ -8,8 +8,9 @@ use Rattle.sim_phone.specs.View.{PhoneView, acted, hearing, new_phone, short_ide
 use Rattle.sim_crowd.specs.declared.whereabouts.Standing.{Standing}
 use Rattle.sim_crowd.specs.Whereabouts.{standing_nowhere}
 
--- a phone, whether it was asked to do something, and where it is
+-- a phone with its IMSI, whether it was asked to do something, and where it is
 pub record HandsetView : Type 0 where
+  pub imsi : List ℕ
   pub phone : PhoneView
   pub used : Bool  -- whether it was asked to do something; it takes no vector more then
   pub standing : Standing
@@ -21,7 +22,7 @@ made_phone imsi vectors (Some p) = p
 
 -- a phone that has no vector and was nowhere yet
 abbrev pub new_handset : List ℕ → HandsetView
-new_handset imsi = record { phone = new_phone imsi []; used = false; standing = standing_nowhere }
+new_handset imsi = record { imsi = imsi; phone = new_phone imsi []; used = false; standing = standing_nowhere }
 
 -- one vector more, after the others
 abbrev pub with_vector_more : Vector → HandsetView → HandsetView

@@ -1,4 +1,5 @@
--- A station, and which phones are there: a phone is known by its place among the phones.
+-- A station, and which phones are there: a phone is known by its place among the phones. Who came with which eNB UE id, and whose
+-- an association is, follows from nothing else in the model, so a site keeps these entries themselves.
 use Rattle.std.specs.Prelude.{ℕ, ◌&&◌, ◌==◌, ◌/◌, ◌%◌, ◌^◌, Bool, true, false, if◌then◌else◌, List, [], ◌∷◌, Option}
 use Rattle.nas_elements.specs.Identities.{first_of}
 use Rattle.identity_slots.specs.Ids.{stranger_id}

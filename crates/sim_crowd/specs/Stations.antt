@@ -1,5 +1,5 @@
--- The stations of a script.
-use Rattle.std.specs.Prelude.{ℕ, ◌++◌, Bool, true, false, is_some, length, if◌then◌else◌, List, [], ◌∷◌, Option, Some, None, option_map}
+-- The stations of a script, in the order in which they were added.
+use Rattle.std.specs.Prelude.{◌≡◌, ℕ, ◌++◌, ◌==◌, Bool, true, false, is_some, find, position, if◌then◌else◌, List, [], ◌∷◌, Option, Some, None, option_map}
 use Rattle.s1ap_elements.specs.declared.phone.UeIdPair.{UeIdPair}
 use Rattle.enb_sim.specs.declared.station.StationAct.{StationAct}
 use Rattle.enb_sim.specs.declared.station.StationAct.TheVariants.{SetUp}
@@ -10,37 +10,35 @@ use Rattle.sim_words.specs.declared.act.StationLine.{StationLine}
 use Rattle.sim_crowd.specs.declared.index.Entry.{Entry}
 use Rattle.sim_crowd.specs.declared.site.Site.{Site}
 use Rattle.sim_crowd.specs.declared.whereabouts.Connection.{Connection}
-use Rattle.sim_crowd.specs.Index.{place_under, put_under}
-use Rattle.sim_crowd.specs.Items.{changed_item, item_of}
+use Rattle.sim_crowd.specs.Index.{place_under}
+use Rattle.sim_crowd.specs.Items.{changed_item}
 use Rattle.sim_crowd.specs.Sites.{new_site, phone_with, serves, without_comer, without_phone}
 use Rattle.sim_crowd.specs.Uplinks.{UplinkView}
 use Rattle.sim_crowd.specs.Whereabouts.{same_connection, same_place}
 
--- the stations in the order in which they were added, and the place of each under its number
-pub record StationTable : Type 0 where
-  pub sites : List Site
-  pub numbers : List Entry
-
--- no station
-abbrev pub no_stations : StationTable
-no_stations = record { sites = []; numbers = [] }
+-- the station has this number
+abbrev pub has_number : ℕ → Site → Bool
+has_number n s = s.station.profile.number == n
 
 -- the station of a number, if there is one
-abbrev pub site_of : ℕ → StationTable → Option Site
-site_of n t = item_of (place_under n t.numbers) t.sites
+abbrev pub site_of : ℕ → List Site → Option Site
+site_of n sites = find (has_number n) sites
+
+-- the place of that station
+abbrev pub place_of_site : ℕ → List Site → Option ℕ
+place_of_site n sites = position (has_number n) sites
+
+-- an index has the place of each station under its number
+abbrev pub IsStationIndex : List Entry → List Site → Type 0
+IsStationIndex index sites = (n : ℕ) → place_under n index ≡ place_of_site n sites
 
 -- the station of a number is changed so, if there is one
-abbrev pub changed_site : ℕ → (Site → Site) → StationTable → StationTable
-changed_site n f t = record t { sites = changed_item (place_under n t.numbers) f t.sites }
+abbrev pub changed_site : ℕ → (Site → Site) → List Site → List Site
+changed_site n f sites = changed_item (place_of_site n sites) f sites
 
 -- a station more, unless there is one of its number
-abbrev pub with_station : List ℕ → StationLine → StationTable → StationTable
-with_station plmn line t =
-    if is_some (site_of line.station t) then t
-    else record {
-      sites = t.sites ++ new_site plmn line ∷ [];
-      numbers = put_under line.station (length t.sites) t.numbers;
-    }
+abbrev pub with_station : List ℕ → StationLine → List Site → List Site
+with_station plmn line sites = if is_some (site_of line.station sites) then sites else sites ++ new_site plmn line ∷ []
 
 -- ---- what is known of a station that may be none
 
@@ -54,17 +52,17 @@ abbrev pub phone_in : UeIdPair → Option Site → Option ℕ
 phone_in pair None = None
 phone_in pair (Some s) = phone_with pair s
 
-abbrev pub phone_by : Connection → StationTable → Option ℕ
-phone_by k t = phone_in k.pair (site_of k.station t)
+abbrev pub phone_by : Connection → List Site → Option ℕ
+phone_by k sites = phone_in k.pair (site_of k.station sites)
 
 abbrev pub serves_in : ℕ → UeIdPair → Option Site → Bool
 serves_in phone pair None = false
 serves_in phone pair (Some s) = serves phone pair s
 
 -- an association that a phone knows, if its station serves the phone by it
-abbrev pub served : ℕ → Option Connection → StationTable → Option Connection
-served phone None t = None
-served phone (Some k) t = if serves_in phone k.pair (site_of k.station t) then Some k else None
+abbrev pub served : ℕ → Option Connection → List Site → Option Connection
+served phone None sites = None
+served phone (Some k) sites = if serves_in phone k.pair (site_of k.station sites) then Some k else None
 
 -- ---- what is sent
 
@@ -77,8 +75,8 @@ abbrev pub uplink_by : ℕ → Option (List ℕ) → Option UplinkView
 uplink_by n octets = option_map (λ os. record { station = n; octets = os }) octets
 
 -- the message of a station, if it sends one
-abbrev pub sent_by : ℕ → (StationView → Option (List ℕ)) → StationTable → Option UplinkView
-sent_by n octets t = uplink_by n (octets_in octets (site_of n t))
+abbrev pub sent_by : ℕ → (StationView → Option (List ℕ)) → List Site → Option UplinkView
+sent_by n octets sites = uplink_by n (octets_in octets (site_of n sites))
 
 -- an act that leaves the station as it is
 abbrev pub is_quiet : StationAct → Bool
@@ -88,16 +86,16 @@ is_quiet _ = true
 -- ---- who is where
 
 -- an old association isn't the phone's, unless it is the one that it keeps
-abbrev pub parted : ℕ → Connection → Option Connection → StationTable → StationTable
-parted phone kept None t = t
-parted phone kept (Some old) t =
-    if same_connection old kept then t else changed_site old.station (without_phone phone old.pair) t
+abbrev pub parted : ℕ → Connection → Option Connection → List Site → List Site
+parted phone kept None sites = sites
+parted phone kept (Some old) sites =
+    if same_connection old kept then sites else changed_site old.station (without_phone phone old.pair) sites
 
 -- the phone isn't where it was, unless it is there
-abbrev pub departed : ℕ → RadioPlace → Option RadioPlace → StationTable → StationTable
-departed phone place None t = t
-departed phone place (Some was) t =
-    if same_place was place then t else changed_site was.station (without_comer phone was.enb_ue_id) t
+abbrev pub departed : ℕ → RadioPlace → Option RadioPlace → List Site → List Site
+departed phone place None sites = sites
+departed phone place (Some was) sites =
+    if same_place was place then sites else changed_site was.station (without_comer phone was.enb_ue_id) sites
 
 -- ---- what comes of the MME's octets
 
@@ -114,5 +112,5 @@ abbrev pub told_in : List ℕ → Option Site → Told
 told_in os None = record { octets = None; nas = None }
 told_in os (Some s) = record { octets = (delivered os s.station).octets; nas = (delivered os s.station).nas }
 
-abbrev pub told_at : ℕ → List ℕ → StationTable → Told
-told_at n os t = told_in os (site_of n t)
+abbrev pub told_at : ℕ → List ℕ → List Site → Told
+told_at n os sites = told_in os (site_of n sites)

@@ -1,6 +1,6 @@
 //! Places in a list by a key of each.
 
-ghost use Rattle.std.specs.Prelude.{◌≡◌, [], OnOk, OnErr};
+ghost use Rattle.std.specs.Prelude.{◌≡◌, ℕ, ◌==◌, [], OnOk, OnErr, Some, if◌then◌else◌};
 ghost use Rattle.sim_crowd.specs.Index.{entry_key, free_under, place_under, put_under, taken_under};
 
 use sorted_list::{Keyed, SortedList};
@@ -57,6 +57,7 @@ impl Index {
     /// The place stands under the key from now on. Refused, all is as it was.
     pub(crate) fn put(&mut self, key: u128, place: usize) -> Result<(), AllocError>
         ensures ok { OnOk result (self.new ≡ put_under key place self.old) }
+        ensures found { OnOk result ((k : ℕ) → place_under k self.new ≡ (if key == k then Some place else place_under k self.old)) }
         ensures err { OnErr result (self.new ≡ self.old) }
     {
         self.entries.reserve(1)?;

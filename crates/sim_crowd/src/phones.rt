@@ -1,16 +1,17 @@
 //! The phones, and where each is.
 
-ghost use Rattle.std.specs.Prelude.{◌≡◌, IfOk, OnOk, OnErr, option_map};
+ghost use Rattle.std.specs.Prelude.{◌≡◌, ◌<◌, [], IfOk, IfSome, List, OnOk, OnErr, is_some, length, option_map, true};
+ghost use Rattle.nas_elements.specs.Digits.{is_imsi};
 ghost use Rattle.identity_slots.specs.Provisioned.{imsi_number};
 ghost use Rattle.sim_phone.specs.View.{acted, hearing};
-ghost use Rattle.sim_crowd.specs.Handsets.{in_use, new_handset, s_tmsi_beside, with_act, with_deafness, with_heard, with_standing, with_vector_more, words_by};
-ghost use Rattle.sim_crowd.specs.Phones.{answer_of, changed_handset, no_phones, phone_named, standing_of, with_handset, with_vector_for, words_of};
+ghost use Rattle.sim_crowd.specs.Handsets.{HandsetView, in_use, made_phone, new_handset, s_tmsi_beside, with_act, with_deafness, with_heard, with_standing, with_vector_more, words_by};
+ghost use Rattle.sim_crowd.specs.Phones.{IsPhoneIndex, answer_of, changed_handset, phone_named, standing_of, with_handset, with_vector_for, words_of};
 
 use crate::acted::OrRefused;
 use crate::index::Index;
 use crate::whereabouts::Standing;
 use enb_sim::{Phone, PhoneAct};
-use identity_slots::Vector;
+use identity_slots::{Vector, imsis_apart};
 use nas_elements::Imsi;
 use s1ap_elements::STmsi;
 use std::alloc::Global;
@@ -70,12 +71,10 @@ pub(crate) struct Handset {
 }
 
 impl Model for Handset {
-    ghost use Rattle.std.specs.Prelude.{is_some};
-    ghost use Rattle.sim_crowd.specs.Handsets.{HandsetView, made_phone};
-
     ghost Value = { HandsetView };
 
     ghost view = { λ h. record {
+      imsi = h.imsi;
       phone = made_phone h.imsi h.vectors.items h.phone;
       used = is_some h.phone;
       standing = h.standing;
@@ -101,18 +100,16 @@ impl Handset {
         ensures ok { OnOk result (self.new ≡ with_vector_more vector self.old) }
         ensures err { OnErr result (self.new ≡ self.old) }
     {
-        match &self.phone {
-            Some(_) => Ok(()),
-            None => {
-                self.vectors.push(vector)?;
-                Ok(())
-            }
+        if self.phone.is_none() {
+            self.vectors.push(vector)?;
         }
+        Ok(())
     }
 
     // The phone, made of its vectors where it wasn't needed before.
     fn take_phone(&mut self) -> Phone
         ensures phone { result ≡ self.old.phone }
+        ensures imsi { self.new.imsi ≡ self.old.imsi }
         ensures standing { self.new.standing ≡ self.old.standing }
     {
         match mem::replace(&mut self.phone, None) {
@@ -167,7 +164,8 @@ impl Handset {
 
 /// The key of an IMSI: its eight octets as a number.
 fn imsi_key(imsi: Imsi) -> u128
-    ensures { result ≡ imsi_number imsi }
+    ensures value { result ≡ imsi_number imsi }
+    ensures imsi { is_imsi imsi ≡ true }
 {
     u128::from(u64::from_be_bytes(imsi.octets()))
 }
@@ -181,17 +179,17 @@ pub(crate) struct Phones {
 }
 
 impl Model for Phones {
-    ghost use Rattle.sim_crowd.specs.Phones.{PhoneTable};
+    ghost Value = { List HandsetView };
 
-    ghost Value = { PhoneTable };
+    ghost view = { λ p. p.handsets.items };
 
-    ghost view = { λ p. record { handsets = p.handsets.items; imsis = p.imsis } };
+    ghost invariant = { λ p. IsPhoneIndex p.imsis p.handsets.items };
 }
 
 impl Phones {
     /// Nobody.
     pub(crate) fn new(alloc: Global) -> Phones
-        ensures { result ≡ no_phones }
+        ensures { result ≡ [] }
     {
         Phones {
             alloc,
@@ -202,7 +200,8 @@ impl Phones {
 
     /// The place of the phone with this IMSI.
     pub(crate) fn find(&self, imsi: Imsi) -> Option<usize>
-        ensures { result ≡ phone_named imsi self.now }
+        ensures place { result ≡ phone_named imsi self.now }
+        ensures bound { IfSome result (λ phone. phone < length self.now) }
     {
         self.imsis.get(imsi_key(imsi))
     }
@@ -225,6 +224,8 @@ impl Phones {
         if self.find(imsi).is_some() {
             return Ok(());
         }
+        // No other IMSI has its key.
+        imsis_apart();
         let phone = self.handsets.len();
         self.handsets.reserve(1)?;
         self.imsis.put(imsi_key(imsi), phone)?;
@@ -239,8 +240,8 @@ impl Phones {
         ensures err { OnErr result (self.new ≡ self.old) }
     {
         match self.find(imsi) {
-            Some(phone) if phone < self.handsets.len() => self.handsets[phone].give(vector),
-            _ => Ok(()),
+            Some(phone) => self.handsets[phone].give(vector),
+            None => Ok(()),
         }
     }
 

@@ -1,13 +1,13 @@
 //! The stations.
 
-ghost use Rattle.std.specs.Prelude.{◌≡◌, ◌<◌, IfOk, IfSome, IfNone, OnOk, OnErr, Some, None, true, is_some, length, not, option_map};
+ghost use Rattle.std.specs.Prelude.{◌≡◌, ◌<◌, [], IfOk, IfSome, OnOk, OnErr, true, is_some, length, not, option_map};
 ghost use Rattle.enb_sim.specs.View.{act_octets};
 ghost use Rattle.sim_crowd.specs.Acting.{setup_octets};
 ghost use Rattle.s1ap_pdus.specs.Pdus.{decoded};
 ghost use Rattle.sim_crowd.specs.Hearing.{given_pair};
-ghost use Rattle.sim_crowd.specs.Index.{place_under};
+ghost use Rattle.sim_crowd.specs.Items.{item_of};
 ghost use Rattle.sim_crowd.specs.Sites.{hearing_site, left_site, with_comer, with_phone, without_comer, without_phone};
-ghost use Rattle.sim_crowd.specs.Stations.{changed_site, departed, is_quiet, is_set_up, no_stations, parted, phone_by, seen_told, sent_by, served, site_of, told_at, with_station};
+ghost use Rattle.sim_crowd.specs.Stations.{changed_site, departed, is_quiet, is_set_up, parted, phone_by, place_of_site, seen_told, sent_by, served, site_of, told_at, with_station};
 
 use crate::acted::{OrRefused, Sent, Uplink};
 use crate::index::Index;
@@ -30,17 +30,21 @@ pub(crate) struct Stations {
 }
 
 impl Model for Stations {
-    ghost use Rattle.sim_crowd.specs.Stations.{StationTable};
+    ghost use Rattle.std.specs.Prelude.{List};
+    ghost use Rattle.sim_crowd.specs.declared.site.Site.{Site};
+    ghost use Rattle.sim_crowd.specs.Stations.{IsStationIndex};
 
-    ghost Value = { StationTable };
+    ghost Value = { List Site };
 
-    ghost view = { λ s. record { sites = s.sites.items; numbers = s.numbers } };
+    ghost view = { λ s. s.sites.items };
+
+    ghost invariant = { λ s. IsStationIndex s.numbers s.sites.items };
 }
 
 impl Stations {
     /// No station.
     pub(crate) fn new(alloc: Global) -> Stations
-        ensures { result ≡ no_stations }
+        ensures { result ≡ [] }
     {
         Stations {
             alloc,
@@ -72,20 +76,16 @@ impl Stations {
     fn get(&self, station: StationNumber) -> Option<&Site>
         ensures { option_map (λ s. s.now) result ≡ site_of station self.entry.now }
     {
-        let place = self.numbers.get(u128::from(station.get()))?;
-        self.sites.as_slice().get(place)
+        self.sites.as_slice().get(self.place_of(station)?)
     }
 
     // The place of the station of that number.
     fn place_of(&self, station: StationNumber) -> Option<usize>
-        ensures found { IfSome result (λ place. place_under station self.now.numbers ≡ Some place) }
-        ensures bound { IfSome result (λ place. place < length self.now.sites) }
-        ensures none { IfNone result (site_of station self.now ≡ None) }
+        ensures place { result ≡ place_of_site station self.now }
+        ensures bound { IfSome result (λ place. place < length self.now) }
+        ensures site { item_of result self.now ≡ site_of station self.now }
     {
-        match self.numbers.get(u128::from(station.get())) {
-            Some(place) if place < self.sites.len() => Some(place),
-            _ => None,
-        }
+        self.numbers.get(u128::from(station.get()))
     }
 
     /// Whether there is a station of that number.

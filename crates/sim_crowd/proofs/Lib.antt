@@ -1,0 +1,4 @@
+pub mod Places
+pub mod Entries
+pub mod Numbers
+pub mod Indexes
