@@ -1,3 +1,4 @@
 pub mod Events
+pub mod Faults
 -- crates below, passed on with all of their definitions
 pub use Rattle.sim_printing.specs as sim_printing

@@ -1,6 +1,9 @@
 //! What stations and phones do.
 
-ghost use Rattle.std.specs.Prelude.{◌≡◌, [], OnOk};
+ghost use Rattle.std.specs.Prelude.{◌≡◌, ◌≢◌, [], true, OnOk, IfErr};
+ghost use Rattle.std.specs.Result.{result_err};
+ghost use Rattle.trace_progress.specs.Effects.{running};
+ghost use Rattle.sim_lines.specs.Faults.{AnswersFault};
 ghost use Rattle.sim_printing.specs.Printed.{IsBegun, PrintsOn, PrintsScriptLine};
 
 use crate::script::Script;
@@ -22,16 +25,19 @@ pub(crate) fn play_act_line(
     act: ScriptAct,
     out: &mut Vec<u8>,
 ) -> Result<(), PlayFault>
-    ensures { PrintsScriptLine number [] script.old.progress out.old.items result script.new.progress out.new.items }
+    ensures printed { PrintsScriptLine number [] script.old.progress out.old.items result script.new.progress out.new.items }
+    ensures fault { AnswersFault (result_err (running script.old.progress)) result }
+    ensures acted { OnOk result (script.new.acted ≡ true) }
+    ensures err { IfErr result (λ fault. fault ≢ PlayFault.NoMemory → script.new ≡ script.old) }
 {
     if !is_begun(&script.progress) {
         return Err(PlayFault::Trace(number, TraceFault::Order));
     }
+    let Ok(()) = play_act(alloc, script, act, out) else {
+        return Err(PlayFault::NoMemory);
+    };
     script.acted = true;
-    match play_act(alloc, script, act, out) {
-        Ok(()) => Ok(()),
-        Err(_) => Err(PlayFault::NoMemory),
-    }
+    Ok(())
 }
 
 /// What an act does.

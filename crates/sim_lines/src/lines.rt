@@ -1,10 +1,11 @@
 //! The lines that a script shares with a trace.
 
-ghost use Rattle.std.specs.Prelude.{◌≡◌, [], OnOk};
+ghost use Rattle.std.specs.Prelude.{◌≡◌, ◌≢◌, ◌||◌, [], true, OnOk, IfErr};
 ghost use Rattle.sim_words.specs.Kept.{kept_line};
 ghost use Rattle.trace_words.specs.declared.line.Line.TheVariants.{Mme, Sub, Vec, Data, Cancel, Show};
 ghost use Rattle.sim_printing.specs.Printed.{IsBegun, PrintsOn, PrintsScriptLine, ReadsAs};
 ghost use Rattle.sim_lines.specs.Events.{IsEventLine};
+ghost use Rattle.sim_lines.specs.Faults.{AnswersFault, fault_of_line, is_for_mme};
 
 use crate::acts::play_act;
 use crate::script::Script;
@@ -30,7 +31,11 @@ pub(crate) fn play_trace_line(
     out: &mut Vec<u8>,
 ) -> Result<(), PlayFault>
     requires { ReadsAs line text.now }
-    ensures { PrintsScriptLine number (kept_line line) script.old.progress out.old.items result script.new.progress out.new.items }
+    ensures printed { PrintsScriptLine number
+        (kept_line line) script.old.progress out.old.items result script.new.progress out.new.items }
+    ensures fault { AnswersFault (fault_of_line script.old.acted script.old.progress line) result }
+    ensures acted { OnOk result (script.new.acted ≡ (is_for_mme line || script.old.acted)) }
+    ensures err { IfErr result (λ fault. fault ≢ PlayFault.NoMemory → script.new ≡ script.old) }
 {
     match line {
         Line::Skip => Ok(()),
@@ -58,8 +63,11 @@ fn provide_network(
     out: &mut Vec<u8>,
 ) -> Result<(), PlayFault>
     requires { ReadsAs (Mme network) text.now }
-    ensures { PrintsScriptLine number
+    ensures printed { PrintsScriptLine number
         (kept_line (Mme network)) script.old.progress out.old.items result script.new.progress out.new.items }
+    ensures fault { AnswersFault (fault_of_line script.old.acted script.old.progress (Mme network)) result }
+    ensures acted { OnOk result (script.new.acted ≡ script.old.acted) }
+    ensures err { IfErr result (λ fault. fault ≢ PlayFault.NoMemory → script.new ≡ script.old) }
 {
     if script.acted {
         return Err(PlayFault::Trace(number, TraceFault::Order));
@@ -81,8 +89,11 @@ fn provide_phone(
     out: &mut Vec<u8>,
 ) -> Result<(), PlayFault>
     requires { ReadsAs (Sub profile) text.now }
-    ensures { PrintsScriptLine number
+    ensures printed { PrintsScriptLine number
         (kept_line (Sub profile)) script.old.progress out.old.items result script.new.progress out.new.items }
+    ensures fault { AnswersFault (fault_of_line script.old.acted script.old.progress (Sub profile)) result }
+    ensures acted { OnOk result (script.new.acted ≡ script.old.acted) }
+    ensures err { IfErr result (λ fault. fault ≢ PlayFault.NoMemory → script.new ≡ script.old) }
 {
     if script.acted {
         return Err(PlayFault::Trace(number, TraceFault::Order));
@@ -107,8 +118,11 @@ fn provide_vector(
     out: &mut Vec<u8>,
 ) -> Result<(), PlayFault>
     requires { ReadsAs (Vec imsi vector) text.now }
-    ensures { PrintsScriptLine number
+    ensures printed { PrintsScriptLine number
         (kept_line (Vec imsi vector)) script.old.progress out.old.items result script.new.progress out.new.items }
+    ensures fault { AnswersFault (fault_of_line script.old.acted script.old.progress (Vec imsi vector)) result }
+    ensures acted { OnOk result (script.new.acted ≡ script.old.acted) }
+    ensures err { IfErr result (λ fault. fault ≢ PlayFault.NoMemory → script.new ≡ script.old) }
 {
     if script.acted {
         return Err(PlayFault::Trace(number, TraceFault::Order));
@@ -137,18 +151,22 @@ fn answer_question(
     out: &mut Vec<u8>,
 ) -> Result<(), PlayFault>
     requires { ReadsAs (Show imsi) text.now }
-    ensures { PrintsScriptLine number
+    ensures printed { PrintsScriptLine number
         (kept_line (Show imsi)) script.old.progress out.old.items result script.new.progress out.new.items }
+    ensures fault { AnswersFault (fault_of_line script.old.acted script.old.progress (Show imsi)) result }
+    ensures acted { OnOk result (script.new.acted ≡ true) }
+    ensures err { IfErr result (λ fault. fault ≢ PlayFault.NoMemory → script.new ≡ script.old) }
 {
     if !is_begun(&script.progress) {
         return Err(PlayFault::Trace(number, TraceFault::Order));
     }
-    script.acted = true;
     match play_show(alloc, &mut script.progress, imsi, text, out) {
-        Ok(true) => Ok(()),
-        Ok(false) => Err(PlayFault::Trace(number, TraceFault::Provision)),
-        Err(_) => Err(PlayFault::NoMemory),
+        Ok(true) => {}
+        Ok(false) => return Err(PlayFault::Trace(number, TraceFault::Provision)),
+        Err(_) => return Err(PlayFault::NoMemory),
     }
+    script.acted = true;
+    Ok(())
 }
 
 // ---- events
@@ -163,16 +181,20 @@ fn play_event_line(
 ) -> Result<(), PlayFault>
     requires event { IsEventLine line }
     requires says { ReadsAs line text.now }
-    ensures { PrintsScriptLine number (kept_line line) script.old.progress out.old.items result script.new.progress out.new.items }
+    ensures printed { PrintsScriptLine number
+        (kept_line line) script.old.progress out.old.items result script.new.progress out.new.items }
+    ensures fault { AnswersFault (fault_of_line script.old.acted script.old.progress line) result }
+    ensures acted { OnOk result (script.new.acted ≡ (is_for_mme line || script.old.acted)) }
+    ensures err { IfErr result (λ fault. fault ≢ PlayFault.NoMemory → script.new ≡ script.old) }
 {
     if !is_begun(&script.progress) {
         return Err(PlayFault::Trace(number, TraceFault::Order));
     }
+    let Ok(()) = play_event(alloc, script, line, text, out) else {
+        return Err(PlayFault::NoMemory);
+    };
     script.acted = true;
-    match play_event(alloc, script, line, text, out) {
-        Ok(()) => Ok(()),
-        Err(_) => Err(PlayFault::NoMemory),
-    }
+    Ok(())
 }
 
 /// What comes from outside, and what stations and phones send at that.

@@ -1,10 +1,11 @@
 //! A script, line by line.
 
-ghost use Rattle.std.specs.Prelude.{◌≡◌, ◌∷◌, []};
+ghost use Rattle.std.specs.Prelude.{◌≡◌, ◌≢◌, ◌||◌, ◌∷◌, [], false, OnOk, IfErr};
 ghost use Rattle.sim_words.specs.Kept.{kept_in};
 ghost use Rattle.trace_progress.specs.Text.{breaks};
 ghost use Rattle.trace_progress.specs.declared.progress.Progress.TheVariants.{Nothing};
 ghost use Rattle.sim_printing.specs.Printed.{PrintsScriptLine};
+ghost use Rattle.sim_lines.specs.Faults.{AnswersFault, ends_provisioning, script_fault};
 
 use crate::acts::play_act_line;
 use crate::lines::play_trace_line;
@@ -20,14 +21,15 @@ pub struct Script {
     pub progress: Progress,
     /// The stations and phones.
     pub crowd: Crowd,
-    /// Whether an act, an event or a question has come. Nothing is provisioned from then on.
+    /// Whether an act, an event or a question has come, and was played. Nothing is provisioned from then on.
     pub acted: bool,
 }
 
 impl Script {
     /// A script of which no line has come.
     pub fn new(alloc: Global) -> Script
-        ensures { result.progress ≡ Nothing }
+        ensures progress { result.progress ≡ Nothing }
+        ensures acted { result.acted ≡ false }
     {
         Script {
             progress: Progress::Nothing,
@@ -41,8 +43,8 @@ impl Script {
 /// what stations and phones send at that. At most 64 such messages are played for a line, and for each of its ticks; of the
 /// others only their number is printed. A line that can't be read has its fault. `Order` is the fault of a line that
 /// provisions after an act, an event or a question, and of any other line that says something before `mme`; `Provision` that
-/// of a line that provisions or asks for a subscriber as it may not. At each of these faults nothing is printed. Where memory
-/// is refused the output may end within a line.
+/// of a line that provisions or asks for a subscriber as it may not. At each of these faults nothing is printed, and the script
+/// is as it was. Where memory is refused the output may end within a line.
 pub fn play_script_line(
     alloc: Global,
     script: &mut Script,
@@ -51,8 +53,11 @@ pub fn play_script_line(
     out: &mut Vec<u8>,
 ) -> Result<(), PlayFault>
     requires { breaks text.now ≡ 0 }
-    ensures { PrintsScriptLine number
+    ensures printed { PrintsScriptLine number
         (kept_in (text.now ∷ [])) script.old.progress out.old.items result script.new.progress out.new.items }
+    ensures fault { AnswersFault (script_fault script.old.acted script.old.progress text.now) result }
+    ensures acted { OnOk result (script.new.acted ≡ (ends_provisioning text.now || script.old.acted)) }
+    ensures err { IfErr result (λ fault. fault ≢ PlayFault.NoMemory → script.new ≡ script.old) }
 {
     first_word_tells();
     match parse_script_line(alloc, text) {

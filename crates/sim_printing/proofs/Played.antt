@@ -1,6 +1,7 @@
 -- What an event and a question print.
-use Rattle.std.proofs.Common.{◌≡◌, ◌≢◌, ℕ, List, [], ◌∷◌, ◌++◌, Option, Some, None, Result, Ok, Err, Bor, codes, refl, sym, ap, ◌∙◌, append-nil}
+use Rattle.std.proofs.Common.{◌≡◌, ◌≢◌, ℕ, List, [], ◌∷◌, ◌++◌, Option, Some, Result, Ok, Err, Bor, codes, refl, sym, ap, ◌∙◌, append-nil}
 use Rattle.std.specs.Prelude.{is_ok, IsOk, IfErr}
+use Rattle.std.specs.Result.{result_ok}
 use Rattle.identity_slots.specs.declared.profile.Profile.{Profile}
 use Rattle.identity_slots.specs.declared.profile.Vector.{Vector}
 use Rattle.emm_machine.specs.declared.subscriber.States.{States}
@@ -55,8 +56,7 @@ reply-octets world e octets = refl
 
 pub IfSent-octets : (progress : Progress) (e : ℕ) (octets : Bor (List ℕ)) (sent : Option (List Out))
     → IfSent progress (event.In e octets) sent → IfSent progress (in_event e octets.now) sent
-IfSent-octets progress e octets None h = tt
-IfSent-octets progress e octets (Some s) h = λ world r. reply-octets world e octets ∙ h world r
+IfSent-octets progress e octets sent h = λ world r. h world r ∙ ap result_ok (sym (reply-octets world e octets))
 
 after_run : (progress : Progress) (world : World) (f : World → Effect) → running progress ≡ Ok world
     → (running progress >>= f) ≡ f world
@@ -165,9 +165,10 @@ IsOk-unfaulted number effect (Err met) e due = absurd (cc due)
 -- a line that is refused
 pub PrintsLine-fault : (number : ℕ) (line : Line) (effect : Effect) (old new : Progress) (out : List ℕ) (fault : PlayFault)
     → effect_of old line ≡ effect
-    → Acts number effect (Err fault) new [] → fault ≢ Write → IfErr effect (λ met. refused fault ≡ refused (Trace number met))
+    → Acts number effect (Err fault) new [] → new ≡ old → fault ≢ Write
+    → IfErr effect (λ met. refused fault ≡ refused (Trace number met))
     → PrintsLine number line old out (Err fault) new out
-PrintsLine-fault number line effect old new out (Trace place fault) e acts other due = (e ∙ acts.0, acts.1, refl)
-PrintsLine-fault number line effect old new out NoMemory e acts other due = IsOk-unfaulted number (effect_of old line) effect e due
-PrintsLine-fault number line effect old new out Read e acts other due = absurd acts
-PrintsLine-fault number line effect old new out Write e acts other due = absurd (other refl)
+PrintsLine-fault number line effect old new out (Trace place fault) e acts stays other due = (e ∙ acts.0, acts.1, refl, stays)
+PrintsLine-fault number line effect old new out NoMemory e acts stays other due = IsOk-unfaulted number (effect_of old line) effect e due
+PrintsLine-fault number line effect old new out Read e acts stays other due = absurd acts
+PrintsLine-fault number line effect old new out Write e acts stays other due = absurd (other refl)

@@ -1,16 +1,20 @@
 -- Lines that are written: decimal digits have no LF, a comment says nothing.
-use Rattle.std.proofs.Common.{◌≡◌, ◌≢◌, ℕ, ◌+◌, ◌%◌, ◌^◌, ◌<◌, ◌≤◌, ◌==◌, nat_lt, Bool, true, false, cond, List, [], ◌∷◌, ◌++◌, length, Result, Ok, Err, refl, sym, ap, ◌∙◌, append_assoc, arith}
+use Rattle.std.proofs.Common.{◌≡◌, ◌≢◌, ℕ, ◌+◌, ◌%◌, ◌^◌, ◌<◌, ◌≤◌, ◌==◌, nat_lt, Bool, true, false, cond, List, [], ◌∷◌, ◌++◌, length, Option, Some, None, Result, Ok, Err, refl, sym, ap, ◌∙◌, append_assoc, arith}
+use Rattle.std.specs.Prelude.{is_some, if◌then◌else◌}
+use Rattle.std.specs.Result.{result_err}
 use Rattle.std.specs.Fmt.{decimal}
 use Rattle.std.specs.List.{slice_split}
 use Rattle.std.proofs.lemmas.Fmt.{decimal_by_steps}
 use Rattle.std.proofs.lemmas.Bool.Decides.{nat_tests}
+use Rattle.emm_machine.specs.declared.subscriber.States.{States}
+use Rattle.mme_core.specs.World.{World}
 use Rattle.trace_words.specs.declared.line.Line.{Line}
 use Rattle.trace_words.specs.declared.line.Line.TheVariants.{Skip}
 use Rattle.trace_words.specs.declared.fault.TraceFault.{TraceFault}
-use Rattle.trace_words.specs.declared.fault.TraceFault.TheVariants.{TooLong}
+use Rattle.trace_words.specs.declared.fault.TraceFault.TheVariants.{Provision, TooLong}
 use Rattle.trace_words.specs.Trace.{line_of, is_skipped, read_words, ◌>>=◌}
 use Rattle.trace_progress.specs.declared.progress.Progress.{Progress}
-use Rattle.trace_progress.specs.Effects.{effect_of}
+use Rattle.trace_progress.specs.Effects.{effect_of, states_of_imsi, states_shown}
 use Rattle.trace_progress.specs.Text.{line_effect, lines_of, breaks}
 use Rattle.trace_progress.specs.TextLaws.{breaks-append, lines_of-at, lines_of-nil}
 
@@ -68,3 +72,15 @@ not_skipped text line e other =
     (λ _ e1. tested P (is_skipped text) (Ok Skip) (read_words (slice_split (λ c. c == 32) text)) line e1
     (λ b h. absurd (other (let s : Skip ≡ line = cc h in sym s)))
     (λ b h. b))
+
+-- ---- questions
+
+asked_of : (world : World) (imsi : List ℕ) (states : Option States) (known : Bool) → known ≡ is_some states
+    → result_err (states_shown imsi world states) ≡ (if known then None else Some Provision)
+asked_of world imsi None known e = sym (ap (λ b. if b then None else Some Provision) e)
+asked_of world imsi (Some states) known e = sym (ap (λ b. if b then None else Some Provision) e)
+
+-- the fault is that nobody is provisioned with the IMSI
+pub asked : (world : World) (imsi : List ℕ) (known : Bool) → known ≡ is_some (states_of_imsi imsi world)
+    → result_err (states_shown imsi world (states_of_imsi imsi world)) ≡ (if known then None else Some Provision)
+asked world imsi known e = asked_of world imsi (states_of_imsi imsi world) known e

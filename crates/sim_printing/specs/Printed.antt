@@ -1,5 +1,6 @@
 -- The output of a simulation: a trace whose comments are its answers.
-use Rattle.std.specs.Prelude.{◌≡◌, ℕ, ◌+◌, ◌==◌, ⊤, List, [], ◌∷◌, ◌++◌, Option, Some, None, Result, Ok, Err, IsOk, if◌then◌else◌}
+use Rattle.std.specs.Prelude.{◌≡◌, ℕ, ◌+◌, ◌==◌, ⊤, List, [], ◌∷◌, ◌++◌, Option, Result, Ok, Err, IsOk, if◌then◌else◌}
+use Rattle.std.specs.Result.{result_ok}
 use Rattle.mme_core.specs.World.{World, reply}
 use Rattle.mme_core.specs.declared.event.Event.{Event}
 use Rattle.mme_core.specs.declared.event.Event.TheVariants as event
@@ -59,13 +60,13 @@ abbrev pub PrintsFrom : World → List ℕ → World → List ℕ → List (Resu
 PrintsFrom old before new after kept =
     (progress : Progress) → running progress ≡ Ok old → Prints progress before (Running new) after kept
 
--- what the trace line of that number leaves, which writes nothing: it is printed, or at its fault nothing is, and memory is wanting
--- only where it has none
+-- what the trace line of that number leaves, which writes nothing: it is printed, or at its fault nothing is and the trace stands
+-- where it stood, and memory is wanting only where it has none
 abbrev pub PrintsLine : ℕ → Line → Progress → List ℕ → Result (Unit {0}) PlayFault → Progress → List ℕ → Type 0
 PrintsLine number line old before (Ok _) new after =
     (effect_of old line ≡ Ok (new, [])) × Prints old before new after (kept_line line)
 PrintsLine number line old before (Err (Trace place fault)) new after =
-    (effect_of old line ≡ Err fault) × (place ≡ number) × (after ≡ before)
+    (effect_of old line ≡ Err fault) × (place ≡ number) × (after ≡ before) × (new ≡ old)
 PrintsLine number line old before (Err NoMemory) new after = IsOk (effect_of old line)
 PrintsLine number line old before (Err Read) new after = ⊥
 PrintsLine number line old before (Err Write) new after = ⊥
@@ -104,7 +105,6 @@ event_line event.Tick = Tick 1
 event_line (event.Data imsi) = Data imsi
 event_line (event.Cancel imsi) = Cancel imsi
 
--- what was sent at an event, if anything is told of it, is what the MME sends
+-- what was sent at an event is what the MME sends, and nothing is told of one that it refuses
 abbrev pub IfSent : Progress → Event → Option (List Out) → Type 0
-IfSent old event None = ⊤
-IfSent old event (Some sent) = (world : World) → running old ≡ Ok world → reply world event ≡ Ok sent
+IfSent old event sent = (world : World) → running old ≡ Ok world → sent ≡ result_ok (reply world event)

@@ -1,10 +1,12 @@
 //! Lines that are printed and played, whether the MME runs already or is still to be made of what is provisioned.
 
-ghost use Rattle.std.specs.Prelude.{◌≡◌, ◌++◌, ◌∷◌, [], true, false, Ok, IfErr, IfOk, OnOk, is_some};
-ghost use Rattle.trace_words.specs.declared.line.Line.TheVariants.{Mme, Sub, Vec, Data, Cancel, Show};
+ghost use Rattle.std.specs.Prelude.{◌≡◌, ◌<◌, ◌≤◌, [], true, false, length, Ok, IfOk, OnOk, IsNone, is_some};
+ghost use Rattle.trace_words.specs.declared.line.Line.TheVariants.{Mme, Sub, Vec, In, Data, Cancel, Show};
+ghost use Rattle.trace_words.specs.Trace.{line_text};
 ghost use Rattle.sim_words.specs.Kept.{kept_line};
 ghost use Rattle.mme_core.specs.World.{World};
 ghost use Rattle.mme_core.specs.declared.event.Event.TheVariants as event;
+ghost use Rattle.trace_progress.specs.declared.progress.Progress.TheVariants.{Nothing};
 ghost use Rattle.trace_progress.specs.Effects.{in_event, running, states_of_imsi};
 ghost use Rattle.sim_printing.specs.Printed.{IfSent, IsBegun, PrintsLine, PrintsOn, ReadsAs, event_line};
 
@@ -16,7 +18,7 @@ use mme_types::Network;
 use nas_elements::Imsi;
 use sim_words::first_word_tells;
 use std::alloc::{AllocError, Global};
-use trace_progress::{PlayFault, Progress, add, give, run, start};
+use trace_progress::{PlayFault, Progress, add, give, run, start, states_of_imsi};
 use trace_words::{LONGEST_LINE, write_in, write_lost, write_up};
 
 // ---- provisioning
@@ -96,7 +98,8 @@ pub fn play_vec(
 
 /// Whether there is an MME to speak to: the provisioning has begun.
 pub fn is_begun(progress: &Progress) -> bool
-    ensures { result ≡ true → IsBegun progress.now }
+    ensures begun { result ≡ true → IsBegun progress.now }
+    ensures nothing { result ≡ false → progress.now ≡ Nothing }
 {
     match progress {
         Progress::Nothing => false,
@@ -147,7 +150,11 @@ pub fn play_in(
 ) -> Result<Option<Outs>, AllocError>
     requires { IsBegun progress.old }
     ensures printed { OnOk result (PrintsOn progress.old out.old.items progress.new out.new.items []) }
-    ensures sent { IfOk result (IfSent progress.old (in_event station octets.now)) }
+    ensures sent { IfOk result
+        (λ sent. length (line_text (In station octets.now)) ≤ 40000 → IfSent progress.old (in_event station octets.now) sent) }
+    ensures long { IfOk result (λ sent. 40000 < length (line_text (In station octets.now)) → IsNone sent) }
+    ensures unsent { OnOk result (40000 < length (line_text (In station octets.now))
+        → (progress.new ≡ progress.old) × (out.new.items ≡ out.old.items)) }
 {
     let text = write_in(alloc, station, octets)?;
     if text.len() > LONGEST_LINE {
@@ -229,7 +236,8 @@ fn play_event(
     Ok(sent)
 }
 
-/// Shows a subscriber, as `text` asks. Answers `false`, with nothing printed, where nobody is provisioned with the IMSI.
+/// Shows a subscriber, as `text` asks. Answers `false`, with nothing printed and the progress as it was, where nobody is
+/// provisioned with the IMSI.
 pub fn play_show(
     alloc: Global,
     progress: &mut Progress,
@@ -241,10 +249,13 @@ pub fn play_show(
     requires says { ReadsAs (Show imsi) text.now }
     ensures printed { IfOk result
         (λ known. known ≡ true → PrintsOn progress.old out.old.items progress.new out.new.items (kept_line (Show imsi))) }
-    ensures unknown { IfOk result (λ known. known ≡ false → out.new.items ≡ out.old.items) }
+    ensures unknown { IfOk result (λ known. known ≡ false → (progress.new ≡ progress.old) × (out.new.items ≡ out.old.items)) }
     ensures known { IfOk result
         (λ known. (world : World) → running progress.old ≡ Ok world → known ≡ is_some (states_of_imsi imsi world)) }
 {
+    if !is_provisioned(progress, imsi) {
+        return Ok(false);
+    }
     let Ok(()) = run(alloc, progress, 0) else {
         return Err(AllocError);
     };
@@ -253,4 +264,15 @@ pub fn play_show(
     };
     let known = print_show(alloc, mme, imsi, text, out)?;
     Ok(known)
+}
+
+/// Whether somebody is provisioned with the IMSI, whether the MME runs already or not.
+fn is_provisioned(progress: &Progress, imsi: Imsi) -> bool
+    ensures { (world : World) → running progress.now ≡ Ok world → result ≡ is_some (states_of_imsi imsi world) }
+{
+    match progress {
+        Progress::Nothing => false,
+        Progress::Provisioning(_, provision) => provision.slot_of_imsi(imsi).is_some(),
+        Progress::Running(mme) => states_of_imsi(mme, imsi).is_some(),
+    }
 }

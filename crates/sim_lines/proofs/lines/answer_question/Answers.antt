@@ -1,4 +1,21 @@
+use Rattle.std.proofs.Common.{ap, ◌∙◌, Some, None}
+use Rattle.std.specs.Prelude.{if◌then◌else◌}
+use Rattle.trace_words.specs.declared.fault.TraceFault.TheVariants.{Provision}
+use Rattle.sim_lines.proofs.Faults.{early_show, show_fault}
 use Rattle.sim_lines.proofs.lines.answer_question.Goals as goal
 
-pub returns-in-Ok-true : goal.returns-in-Ok-true
-returns-in-Ok-true c = (c.in-Ok-true.ensures.printed c.in-Ok-true.field-0-test).1
+pub returns-then-not-is_begun-clause-fault : goal.returns-then-not-is_begun-clause-fault
+returns-then-not-is_begun-clause-fault c =
+    early_show c.args.script.now.acted c.args.script.now.progress c.args.imsi (c.is_begun.ensures.nothing c.if-not-is_begun.true)
+
+pub returns-in-Ok-false-clause-fault : goal.returns-in-Ok-false-clause-fault
+returns-in-Ok-false-clause-fault c =
+    show_fault c.args.script.now.acted c.args.script.now.progress c.args.imsi c.in-Ok-false.field-0
+    (c.is_begun.ensures.begun c.if-not-is_begun.false) c.in-Ok-false.ensures.known
+    ∙ ap (λ b. if b then None else Some Provision) c.in-Ok-false.field-0-test
+
+pub returns-clause-fault : goal.returns-clause-fault
+returns-clause-fault c =
+    show_fault c.args.script.now.acted c.args.script.now.progress c.args.imsi c.in-Ok-true.field-0
+    (c.is_begun.ensures.begun c.if-not-is_begun.false) c.in-Ok-true.ensures.known
+    ∙ ap (λ b. if b then None else Some Provision) c.in-Ok-true.field-0-test

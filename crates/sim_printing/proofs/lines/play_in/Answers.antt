@@ -12,4 +12,5 @@ play_event-requires-clause-says c =
     (c.in_ok-text.ensures.read short) c.in_ok-text.ensures.unbroken
 
 pub returns-clause-sent : goal.returns-clause-sent
-returns-clause-sent c = IfSent-octets c.args.progress.now c.args.station c.args.octets c.in_ok-sent.sent c.in_ok-sent.ensures.sent
+returns-clause-sent c = λ _.
+    IfSent-octets c.args.progress.now c.args.station c.args.octets c.in_ok-sent.sent c.in_ok-sent.ensures.sent

@@ -8,7 +8,8 @@ pub returns-in-Err : goal.returns-in-Err
 returns-in-Err c =
     PrintsLine-fault c.args.number (Mme c.args.network)
     (configured c.args.progress.now c.args.network) c.args.progress.now c.start.new.progress c.args.out.now.items c.in-Err.fault
-    (mme_effect c.args.progress.now c.args.network) c.in-Err.ensures.acts c.in-Err.ensures.write c.in-Err.ensures.fault
+    (mme_effect c.args.progress.now c.args.network) c.in-Err.ensures.acts c.in-Err.ensures.err c.in-Err.ensures.write
+    c.in-Err.ensures.fault
 
 pub returns-in-Ok-push_line : goal.returns-in-Ok-push_line
 returns-in-Ok-push_line c =

@@ -8,7 +8,8 @@ pub returns-in-Err : goal.returns-in-Err
 returns-in-Err c =
     PrintsLine-fault c.args.number (Sub c.args.profile)
     (subscriber_added c.args.progress.now c.args.profile) c.args.progress.now c.add.new.progress c.args.out.now.items c.in-Err.fault
-    (sub_effect c.args.progress.now c.args.profile) c.in-Err.ensures.acts c.in-Err.ensures.write c.in-Err.ensures.fault
+    (sub_effect c.args.progress.now c.args.profile) c.in-Err.ensures.acts c.in-Err.ensures.err c.in-Err.ensures.write
+    c.in-Err.ensures.fault
 
 pub returns-in-Ok-push_line : goal.returns-in-Ok-push_line
 returns-in-Ok-push_line c =

@@ -8,7 +8,8 @@ pub returns-in-Err : goal.returns-in-Err
 returns-in-Err c =
     PrintsLine-fault c.args.number (Vec c.args.imsi c.args.vector)
     (vector_given c.args.progress.now c.args.imsi c.args.vector) c.args.progress.now c.give.new.progress c.args.out.now.items c.in-Err.fault
-    (vec_effect c.args.progress.now c.args.imsi c.args.vector) c.in-Err.ensures.acts c.in-Err.ensures.write c.in-Err.ensures.fault
+    (vec_effect c.args.progress.now c.args.imsi c.args.vector) c.in-Err.ensures.acts c.in-Err.ensures.err c.in-Err.ensures.write
+    c.in-Err.ensures.fault
 
 pub returns-in-Ok-push_line : goal.returns-in-Ok-push_line
 returns-in-Ok-push_line c =
