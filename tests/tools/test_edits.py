@@ -1,4 +1,5 @@
-"""What `tests/edits` carries over from a commit without trying it: by names alone, and where edits were only added."""
+"""What `tests/edits` carries over from a commit without trying it, by names alone and where edits were only added; and which function an
+edit changes."""
 import contextlib
 import importlib.machinery
 import importlib.util
@@ -76,6 +77,18 @@ class Edits(unittest.TestCase):
         status, said = self.carried("* count number\n")
         self.assertEqual((status, said[-1]), (1, "edits: to be tried, since more than names has changed: high"))
         self.assertEqual(EDITS.changed(), ["high"])
+
+    def test_function_of_an_edit(self):
+        """It is found in its own module, or else by its type, whose `impl` stands in another one."""
+        text = "impl Draft {\n    pub fn send(&mut self) {\n        one\n    }\n}\n"
+        place = EDITS.place_of(text, text.index("one"), "src/actions.rt")
+        elsewhere, others = "low::draft::Draft::send", ["low::draft::Draft::of", "low::draft::Seal::send"]
+        for names, found in (([*others, elsewhere], elsewhere),
+                             ([elsewhere, "low::actions::Draft::send"], "low::actions::Draft::send"),
+                             ([elsewhere, "low::solo::Draft::send"], None),
+                             (others, None)):
+            with self.subTest(names):
+                self.assertEqual(place.named("low", names), found)
 
 
 if __name__ == "__main__":
