@@ -25,7 +25,7 @@ STAYING = (r"(?:OnErr|IfErr) result.*\.new", r"\w+\.new[.\w]* ≡ .*\.old(?!.*\b
            r"IfOk result \(λ \w+\. IsNone .*\.new ≡ \w+\.old")
 # The clauses that say it in no such form: by a relation, or by the answer.
 SAID_OTHERWISE = {
-    "Station::act": ["err", "station"], "play_script_line": ["the one"],
+    "Station::act": ["err", "station"], "play_script_line": ["printed", "err"],
     "Watched::read": ["bytes", "failed", "ended", "calls"], "Watched::write": ["bytes", "failed", "ended", "calls"],
     "Watched::flush": ["bytes", "failed", "ended", "calls"], "play_mme": ["the one"], "play_sub": ["the one"], "play_vec": ["the one"],
     "print_show": ["unknown"], "play_show": ["unknown"],
