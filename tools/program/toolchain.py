@@ -125,7 +125,7 @@ def longest_chain(waits, cost):
 
 
 def with_two_jobs(task):
-    """A task of `rt ci` whose check gets two jobs, if it would get one: it takes a seventh more of the processor, and ends sooner."""
+    """A task of `rt ci` whose check gets two jobs, if it would get one: it takes more of the processor, and ends sooner."""
     waits, lines, needs, call = task
     return waits, lines, needs * (1 + MEMORY_OF_A_JOB), lambda given, jobs: call(given, max(jobs, 2))
 
