@@ -1,8 +1,6 @@
 """tools/program/toolchain.py: every answer is the one that the toolchain's own `rt` gives, and each is found once."""
-import contextlib
 import importlib.machinery
 import importlib.util
-import inspect
 import io
 import os
 import pathlib
@@ -155,49 +153,6 @@ class Answers(unittest.TestCase):
         self.assertIs(Crate.below, below)
         self.assertEqual(Crate.stamp.__wrapped__(None), "a sum")
         self.assertFalse(hasattr(Crate, "compile_by"))
-
-
-class Lanes(unittest.TestCase):
-    """Over crates of which `low`, `left` and `top` cost most together, each with its proof and its tests."""
-
-    def setUp(self):
-        top = pathlib.Path(self.enterContext(tempfile.TemporaryDirectory()))
-        for name, lines in (("low", 3), ("left", 9), ("right", 2), ("top", 1), ("aside", 8)):
-            source = top / "crates" / name / "src" / "lib.rt"
-            source.parent.mkdir(parents=True)
-            source.write_text("\n" * lines)
-        self.enterContext(contextlib.chdir(top))
-        self.enterContext(unittest.mock.patch.dict(os.environ))
-        os.environ.pop(toolchain.FIXED_JOBS, None)
-
-    def jobs(self):
-        """How many jobs each check gets, where each would get one."""
-        below = {"low": [], "left": ["low"], "right": ["low"], "top": ["low", "left", "right"], "aside": []}
-        tasks = {(name, part): ([(it, toolchain.PROOF) for it in below[name]], 1, 1.0, lambda given, jobs: jobs)
-                 for name in below for part in (toolchain.PROOF, "tests")}
-        run = toolchain.chain_first(lambda given: {task: call({}, 1) for task, (_, _, _, call) in given.items()})
-        return {task for task, jobs in run(tasks).items() if jobs == 2}
-
-    @unittest.mock.patch.object(toolchain, "MANY_PROCESSORS", 1)
-    def test_the_longest_chain_gets_two(self):
-        self.assertEqual(self.jobs(), {(name, toolchain.PROOF) for name in ("low", "left", "top")})
-
-    @unittest.mock.patch.object(toolchain, "MANY_PROCESSORS", 1)
-    def test_what_is_asked_for_stays(self):
-        os.environ[toolchain.FIXED_JOBS] = "1"
-        self.assertEqual(self.jobs(), set())
-
-    @unittest.mock.patch.object(toolchain, "MANY_PROCESSORS", 1 << 20)
-    def test_few_processors(self):
-        self.assertEqual(self.jobs(), set())
-
-    def test_of_the_toolchain(self):
-        """The toolchain's own lanes run so in the form that is known here, and in another form they are as they were."""
-        own, quick = getattr(plain(), "in_lanes", None), getattr(toolchain.module(), "in_lanes", None)
-        is_known = own is not None and list(inspect.signature(own).parameters) == ["tasks"]
-        self.assertEqual(hasattr(quick, "__wrapped__"), is_known)
-        if is_known:
-            self.assertEqual(quick({("one", "proof"): ([], 1, 1.0, lambda given, jobs: jobs > 0)}), {("one", "proof"): True})
 
 
 class Command(unittest.TestCase):

@@ -46,9 +46,6 @@ PURGE_DELAY, NEVER = "MIMALLOC_PURGE_DELAY", "-1"
 IN_MEMORY, TEMPORARY, ENOUGH = pathlib.Path("/dev/shm"), "TMPDIR", 8 << 30
 # What `rt` calls the toolchain's own compiler, beside LLVM.
 OWN_COMPILER = "rattle"
-# What `rt ci` calls the proof of a crate among its tasks, the variable that says how many jobs run at once, what one job more takes
-# of memory by its reckoning, and from how many processors on the longest chain of proofs gets more.
-PROOF, FIXED_JOBS, MEMORY_OF_A_JOB, MANY_PROCESSORS = "proof", "RT_JOBS", 0.6, 4
 
 
 def found_once(below):
@@ -103,46 +100,6 @@ def compiled_at_once(compile_by):
             return compile_by(crate, backend, words, to)
 
     return compiled
-
-
-def lines_of(name):
-    """How many lines of code a crate of this folder's repository has: what its proof costs goes by them, more than by its laws."""
-    return sum(path.read_bytes().count(b"\n") for path in pathlib.Path("crates", name, "src").rglob("*.rt"))
-
-
-def longest_chain(waits, cost):
-    """The tasks that can't begin before one another and cost most together, the first first. `waits` has what each task waits for,
-    and a task after those; `cost` is what one costs."""
-    whole, before = {}, {}
-    for task, others in waits.items():
-        before[task] = max(others, key=whole.get, default=None)
-        whole[task] = cost(task) + whole.get(before[task], 0)
-    chain, task = [], max(whole, key=whole.get, default=None)
-    while task is not None:
-        chain.append(task)
-        task = before[task]
-    return chain[::-1]
-
-
-def with_two_jobs(task):
-    """A task of `rt ci` whose check gets two jobs, if it would get one: it takes more of the processor, and ends sooner."""
-    waits, lines, needs, call = task
-    return waits, lines, needs * (1 + MEMORY_OF_A_JOB), lambda given, jobs: call(given, max(jobs, 2))
-
-
-def chain_first(in_lanes):
-    """`in_lanes`, which runs the tasks of `rt ci` side by side: where there are processors enough, the proofs of the longest chain of
-    crates get two jobs each, since the others wait for them."""
-    @functools.wraps(in_lanes)
-    def run(tasks):
-        proofs = {task: waits for task, (waits, *_) in tasks.items() if task[1] == PROOF}
-        is_known = all(len(task) == 4 for task in tasks.values())
-        if is_known and FIXED_JOBS not in os.environ and len(os.sched_getaffinity(0)) >= MANY_PROCESSORS:
-            for task in longest_chain(proofs, lambda task: lines_of(task[0])):
-                tasks[task] = with_two_jobs(tasks[task])
-        return in_lanes(tasks)
-
-    return run
 
 
 # The methods that are quicker here, with their parameters, and what takes their place.
@@ -236,8 +193,6 @@ def module():
     loader.exec_module(rt)
     for crate in (rt.rtlib.Crate, rt.Crate):
         make_quicker(crate)
-    if list(inspect.signature(getattr(rt, "in_lanes", len)).parameters) == ["tasks"]:
-        rt.in_lanes = chain_first(rt.in_lanes)
     return rt
 
 
