@@ -1,12 +1,17 @@
 -- Messages of which the first were sent.
-use Rattle.std.proofs.Common.{◌≡◌, ◌++◌, List, [], refl, sym, ◌∙◌, ap}
+use Rattle.std.proofs.Common.{◌≡◌, ◌++◌, ◌∷◌, List, [], drop, Some, refl, sym, ◌∙◌, ap}
 use Rattle.std.proofs.lemmas.List.{append-nil, append_assoc}
+use Rattle.std.specs.Prelude.{slice_get}
+use Rattle.mme_types.specs.declared.octets.Answer.{Answer}
 use Rattle.mme_answering.specs.declared.out.Out.{Out}
 use Rattle.mme_answering.specs.Sending.{SendsSome}
 
 -- none of them
 pub sends_none : (all before : List Out) → SendsSome all before before
 sends_none all before = ([], all, refl, sym (append-nil before))
+
+pub sends_still : (all before after : List Out) → after ≡ before → SendsSome all before after
+sends_still all before after still = ([], all, refl, still ∙ sym (append-nil before))
 
 -- of the same messages
 pub sends_same : (all other before after : List Out) → all ≡ other → SendsSome all before after → SendsSome other before after
@@ -60,3 +65,9 @@ some_sent part left all before mid after h some = (
       ∙ sym (append_assoc h.0 some.0 (some.1 ++ left)),
   some.3 ∙ ap (λ os. os ++ some.0) h.2 ∙ append_assoc before h.0 some.0,
 )
+
+-- ---- the first of some answers
+
+pub first_of : (answers : List Answer) (x : Answer) → slice_get answers 0 ≡ Some x → answers ≡ x ∷ drop 1 answers
+first_of [] x is = absurd (cc is)
+first_of (y ∷ ys) x is = cc is

@@ -1,10 +1,11 @@
 //! What an MME sends.
 
-ghost use Rattle.std.specs.Prelude.{◌≡◌, ◌++◌, ◌∷◌, [], OnOk, OnErr};
+ghost use Rattle.std.specs.Prelude.{◌≡◌, ◌++◌, [], map, OnOk, OnErr};
 ghost use Rattle.mme_answering.specs.Short.{AreShort};
 
+use crate::sending::push_each;
 use identity_slots::{AssociationId, Slot};
-use mme_types::{SentOctets, StationNumber};
+use mme_types::{Answers, SentOctets, StationNumber};
 use std::alloc::{AllocError, Global};
 use std::marker::Model;
 
@@ -48,6 +49,8 @@ impl Model for Outs {
 }
 
 impl Outs {
+    ghost use Rattle.mme_answering.specs.Sending.{owner_out};
+
     /// Nothing; takes no memory.
     pub fn new(alloc: Global) -> Outs
         ensures { result ≡ [] }
@@ -57,15 +60,15 @@ impl Outs {
         }
     }
 
-    /// One message more.
-    #[tactic(auto, using(crate::proofs::Short::short_push))]
-    pub fn push(&mut self, out: Out) -> Result<(), AllocError>
-        ensures ok { OnOk result (self.new ≡ self.old ++ out ∷ []) }
+    // What an owner's machine sends; refused, nothing of it is, and nothing is taken out of the answers.
+    pub(crate) fn push_all(&mut self, owner: Owner, answers: &mut Answers) -> Result<(), AllocError>
+        ensures ok { OnOk result (self.new ≡ self.old ++ map (owner_out owner) answers.old) }
+        ensures emptied { OnOk result (answers.new ≡ []) }
         ensures err { OnErr result (self.new ≡ self.old) }
+        ensures kept { OnErr result (answers.new ≡ answers.old) }
     {
-        // The list keeps this of each message.
-        out.octets.is_short();
-        self.items.push(out)?;
+        self.items.reserve(answers.as_slice().len())?;
+        push_each(&mut self.items, &owner, answers);
         Ok(())
     }
 

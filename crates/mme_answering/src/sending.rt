@@ -1,6 +1,7 @@
 //! What owners send, after what is sent so far.
 
-ghost use Rattle.std.specs.Prelude.{◌≡◌, ◌++◌, ◌∷◌, [], map, OnOk, OnErr};
+ghost use Rattle.std.specs.Prelude.{◌≡◌, ◌≤◌, ◌+◌, ◌++◌, [], length, map, vec_len, OnOk, OnErr};
+ghost use Rattle.std.specs.Vec.{vec_capacity};
 ghost use Rattle.std.specs.Option.{option_map_or};
 ghost use Rattle.sorted_list.specs.Ordered.{at};
 ghost use Rattle.stranger_machine.specs.Table.{known_id};
@@ -9,6 +10,7 @@ ghost use Rattle.mme_timers.specs.Waiting.{due_ids};
 ghost use Rattle.stranger_table.specs.Laws.{some_known_give};
 ghost use Rattle.mme_answering.specs.Settled.{known_sent};
 ghost use Rattle.mme_answering.specs.Sending.{each_known, owner_out, SendsSome};
+ghost use Rattle.mme_answering.specs.Short.{AreShort};
 
 use crate::out::{Out, Outs, Owner};
 use identity_slots::AssociationId;
@@ -17,34 +19,47 @@ use std::alloc::{AllocError, Global};
 use stranger_machine::Notice;
 use stranger_table::Strangers;
 
-// One answer more, as it is sent for an owner.
-fn send_answer(outs: &mut Outs, owner: &Owner, answer: Answer) -> Result<(), AllocError>
-    ensures sent { OnOk result (outs.new ≡ outs.old ++ owner_out owner.now answer ∷ []) }
-    ensures err { OnErr result (outs.new ≡ outs.old) }
+// An answer, as it is sent for an owner.
+fn out_of(owner: &Owner, answer: Answer) -> Out
+    ensures { result ≡ owner_out owner.now answer }
 {
     let Answer {
         station,
         octets,
         under: _,
     } = answer;
-    outs.push(Out {
+    Out {
         owner: *owner,
         station,
         octets,
-    })
+    }
 }
 
-/// What an owner's machine sends, after what is sent so far, or the first of it, where this is refused; its octets are moved, and
-/// the room for the answers stays.
+/// Each answer as it is sent for an owner, into room that there is.
+#[tactic(auto, using(crate::proofs::Short::short_push))]
+pub(crate) fn push_each(items: &mut Vec<Out>, owner: &Owner, answers: &mut Answers)
+    requires room { vec_len items.old + length answers.old ≤ vec_capacity items.old }
+    requires short { AreShort items.old.items }
+    ensures sent { items.new.items ≡ items.old.items ++ map (owner_out owner.now) answers.old }
+    ensures emptied { answers.new ≡ [] }
+    ensures short { AreShort items.new.items }
+{
+    while let Some(answer) = answers.take_first() {
+        // The list keeps this of each message.
+        answer.octets.is_short();
+        items.push_reserved(out_of(owner, answer));
+    }
+}
+
+/// What an owner's machine sends, after what is sent so far. Its octets are moved, and the room for the answers stays. Refused,
+/// nothing of it is sent, and the answers stand as they were.
 pub fn send_all(outs: &mut Outs, owner: Owner, answers: &mut Answers) -> Result<(), AllocError>
     ensures sent { OnOk result (outs.new ≡ outs.old ++ map (owner_out owner) answers.old) }
     ensures emptied { OnOk result (answers.new ≡ []) }
-    ensures err { OnErr result (SendsSome (map (owner_out owner) answers.old) outs.old outs.new) }
+    ensures err { OnErr result (outs.new ≡ outs.old) }
+    ensures kept { OnErr result (answers.new ≡ answers.old) }
 {
-    while let Some(answer) = answers.take_first() {
-        send_answer(outs, &owner, answer)?;
-    }
-    Ok(())
+    outs.push_all(owner, answers)
 }
 
 // What the stranger with an id sends at a tick, unless it is closed.

@@ -5,7 +5,7 @@ use Rattle.stranger_machine.specs.Turns.{call_of}
 use Rattle.mme_routing.specs.Destinations.{if_called}
 use Rattle.mme_answering.specs.declared.out.Out.{Out}
 use Rattle.mme_answering.specs.Sending.{each_sent, stranger_out}
-use Rattle.mme_answering.proofs.Sent.{sends_after, sends_of_first}
+use Rattle.mme_answering.proofs.Sent.{sends_after, sends_still}
 use Rattle.mme_answering.proofs.preparing.prepare_turn.Goals as goal
 
 pub returns-clause-prepares : goal.returns-clause-prepares
@@ -25,7 +25,7 @@ returns-clause-prepares c =
 pub returns-in_err-send_all-clause-err : goal.returns-in_err-send_all-clause-err
 returns-in_err-send_all-clause-err c =
     let p = err_from_is_err_and c.from_residual.result c.from_residual.ensures.1 in
-    rw p.1 (λ ks. sends_of_first _ _ _ _ c.in_err-send_all.ensures.err)
+    rw p.1 (λ ks. sends_still _ _ _ c.in_err-send_all.ensures.err)
 
 pub returns-in_err-called-clause-err : goal.returns-in_err-called-clause-err
 returns-in_err-called-clause-err c =

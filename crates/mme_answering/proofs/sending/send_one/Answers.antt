@@ -5,7 +5,7 @@ use Rattle.stranger_machine.specs.Lent.{lent_now}
 use Rattle.mme_answering.specs.declared.out.Out.{Out}
 use Rattle.mme_answering.specs.Sending.{stranger_out}
 use Rattle.mme_answering.proofs.Known.{found_sent, none_sent}
-use Rattle.mme_answering.proofs.Sent.{sends_same}
+use Rattle.mme_answering.proofs.Sent.{sends_still}
 use Rattle.mme_answering.proofs.sending.send_one.Goals as goal
 
 pub returns-in_default-clause-sent : goal.returns-in_default-clause-sent
@@ -23,9 +23,4 @@ returns-clause-sent c =
     (sym (found_sent c.args.id (lent_now c.in-Some.known) ks there))) c.send_all.ensures.sent
 
 pub returns-clause-err : goal.returns-clause-err
-returns-clause-err c =
-    let ks = c.args.strangers.now.strangers in
-    let there = sym c.find.ensures ∙ ap (option_map lent_now) c.in-Some.is in
-    let all = ap (λ sent. map (stranger_out c.args.id) sent) c.in_ok-sent.ensures
-    ∙ sym (found_sent c.args.id (lent_now c.in-Some.known) ks there) in
-    on_err_weaker c.send_all.result (sends_same _ _ _ _ all) c.send_all.ensures.err
+returns-clause-err c = on_err_weaker c.send_all.result (sends_still _ _ _) c.send_all.ensures.err
