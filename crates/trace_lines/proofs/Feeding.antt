@@ -117,23 +117,23 @@ module _ {S : Type 0} (plays : LineRelation S) where
 
   StopsAt-own : (old new : S) (number : ℕ) (lines others : List (List ℕ)) (text written : List ℕ) (fault : PlayFault)
       → lines ≡ text ∷ others → IsOfLine number (Err fault) → plays old number text (Err fault) new written
-      → StopsAt plays old number lines fault written
-  StopsAt-own old new number lines others text written (Trace line fault) e place h = (place, inl (text, others, new, e, h))
-  StopsAt-own old new number lines others text written NoMemory e place h = inr (NoMemory, (text, others, new, e, h))
-  StopsAt-own old new number lines others text written Write e place h = inr (Write, (text, others, new, e, h))
+      → StopsAt plays old number lines fault new written
+  StopsAt-own old new number lines others text written (Trace line fault) e place h = (place, inl (text, others, e, h))
+  StopsAt-own old new number lines others text written NoMemory e place h = inr (text, others, e, h)
+  StopsAt-own old new number lines others text written Write e place h = inr (Write, (text, others, e, h))
   StopsAt-own old new number lines others text written Read e place h = absurd place
 
-  IsCutShort-stop : (old : S) (number : ℕ) (lines : List (List ℕ)) (fault : PlayFault) (written : List ℕ)
-      → StopsAt plays old number lines fault written → IsCutShort plays old number lines written
-  IsCutShort-stop old number lines (Trace line fault) written h =
+  IsCutShort-stop : (old new : S) (number : ℕ) (lines : List (List ℕ)) (fault : PlayFault) (written : List ℕ)
+      → StopsAt plays old number lines fault new written → IsCutShort plays old number lines new written
+  IsCutShort-stop old new number lines (Trace line fault) written h =
       elim h.1 [ inl own ↦ inr (Trace line fault, own) | inr long ↦ inl long.2 ]
-  IsCutShort-stop old number lines NoMemory written h = h
-  IsCutShort-stop old number lines Write written h = h
-  IsCutShort-stop old number lines Read written h = h
+  IsCutShort-stop old new number lines NoMemory written h = elim h [ inl none ↦ inl none | inr own ↦ inr (NoMemory, own) ]
+  IsCutShort-stop old new number lines Write written h = h
+  IsCutShort-stop old new number lines Read written h = inl h
 
-  pub StopsIn-first : (old : S) (number : ℕ) (lines : List (List ℕ)) (fault : PlayFault) (written : List ℕ)
-      → StopsAt plays old number lines fault written → StopsIn plays old number lines fault written
-  StopsIn-first old number lines fault written h =
+  pub StopsIn-first : (old new : S) (number : ℕ) (lines : List (List ℕ)) (fault : PlayFault) (written : List ℕ)
+      → StopsAt plays old number lines fault new written → StopsIn plays old number lines fault new written
+  StopsIn-first old new number lines fault written h =
       let same : number ≡ number + 0 = omega arith in
       record {
         texts = [];
@@ -143,13 +143,13 @@ module _ {S : Type 0} (plays : LineRelation S) where
         after = written;
         parted = refl;
         played = (refl, refl);
-        stops = subst (λ (n : ℕ). StopsAt plays old n lines fault written) same h;
+        stops = subst (λ (n : ℕ). StopsAt plays old n lines fault new written) same h;
         joined = refl;
       }
 
   -- lines that are played, and no further one is
   StopsIn-after : (old new : S) (number : ℕ) (texts rest lines : List (List ℕ)) (written : List ℕ) → lines ≡ texts ++ rest
-      → PlaysAll plays old number texts new written → StopsIn plays old number lines Write written
+      → PlaysAll plays old number texts new written → StopsIn plays old number lines Write new written
   StopsIn-after old new number texts rest lines written e h = record {
     texts = texts;
     rest = rest;
@@ -158,14 +158,14 @@ module _ {S : Type 0} (plays : LineRelation S) where
     after = [];
     parted = e;
     played = h;
-    stops = inl refl;
+    stops = inl (refl, refl);
     joined = sym (append-nil written);
   }
 
   -- the answers couldn't be handed on
-  StopsIn-write : (old : S) (number : ℕ) (lines : List (List ℕ)) (fault : PlayFault) (written : List ℕ)
-      → StopsIn plays old number lines fault written → StopsIn plays old number lines Write written
-  StopsIn-write old number lines fault written h = record {
+  StopsIn-write : (old new : S) (number : ℕ) (lines : List (List ℕ)) (fault : PlayFault) (written : List ℕ)
+      → StopsIn plays old number lines fault new written → StopsIn plays old number lines Write new written
+  StopsIn-write old new number lines fault written h = record {
     texts = h.texts;
     rest = h.rest;
     mid = h.mid;
@@ -173,22 +173,19 @@ module _ {S : Type 0} (plays : LineRelation S) where
     after = h.after;
     parted = h.parted;
     played = h.played;
-    stops = IsCutShort-stop h.mid (number + length h.texts) h.rest fault h.after h.stops;
+    stops = IsCutShort-stop h.mid new (number + length h.texts) h.rest fault h.after h.stops;
     joined = h.joined;
   }
 
   -- ---- all lines, or up to where it stops
 
   -- further lines after some that were played
-  pub PlaysEach-after : (a b : S) (number next : ℕ) (xs rest lines : List (List ℕ)) (s t : List ℕ) (result : Result (Unit {0}) PlayFault)
-      → next ≡ number + length xs → PlaysAll plays a number xs b s → lines ≡ xs ++ rest → PlaysEach plays b next rest result t
-      → PlaysEach plays a number lines result (s ++ t)
-  PlaysEach-after a b number next xs rest lines s t (Ok _) e p l q = (
-    q.0,
-    subst (λ (ls : List (List ℕ)). PlaysAll plays a number ls q.0 (s ++ t)) (sym l)
-        (PlaysAll-then xs rest a b q.0 number next s t e p q.1),
-  )
-  PlaysEach-after a b number next xs rest lines s t (Err fault) e p l q =
+  pub PlaysEach-after : (a b c : S) (number next : ℕ) (xs rest lines : List (List ℕ)) (s t : List ℕ)
+      (result : Result (Unit {0}) PlayFault) → next ≡ number + length xs → PlaysAll plays a number xs b s → lines ≡ xs ++ rest
+      → PlaysEach plays b next rest result c t → PlaysEach plays a number lines result c (s ++ t)
+  PlaysEach-after a b c number next xs rest lines s t (Ok _) e p l q =
+      subst (λ (ls : List (List ℕ)). PlaysAll plays a number ls c (s ++ t)) (sym l) (PlaysAll-then xs rest a b c number next s t e p q)
+  PlaysEach-after a b c number next xs rest lines s t (Err fault) e p l q =
       let same : next + length q.texts ≡ number + length (xs ++ q.texts) = omega (arith, e, length-append xs q.texts) in
       record {
         texts = xs ++ q.texts;
@@ -198,31 +195,30 @@ module _ {S : Type 0} (plays : LineRelation S) where
         after = q.after;
         parted = l ∙ ap (λ ls. xs ++ ls) q.parted ∙ sym (lines_assoc xs q.texts q.rest);
         played = PlaysAll-then xs q.texts a b q.mid number next s q.before e p q.played;
-        stops = subst (λ (n : ℕ). StopsAt plays q.mid n q.rest fault q.after) same q.stops;
+        stops = subst (λ (n : ℕ). StopsAt plays q.mid n q.rest fault c q.after) same q.stops;
         joined = ap (λ v. s ++ v) q.joined ∙ sym (append_assoc s q.before q.after);
       }
 
-  pub PlaysEach-none : (old : S) (number : ℕ) (octets : List ℕ) → octets ≡ [] → PlaysEach plays old number (lines_of octets) (Ok tt) []
+  pub PlaysEach-none : (old : S) (number : ℕ) (octets : List ℕ) → octets ≡ []
+      → PlaysEach plays old number (lines_of octets) (Ok tt) old []
   PlaysEach-none old number octets e =
-      (old, subst (λ (ls : List (List ℕ)). PlaysAll plays old number ls old []) (sym (ap lines_of e ∙ lines_of-nil)) (refl, refl))
+      subst (λ (ls : List (List ℕ)). PlaysAll plays old number ls old []) (sym (ap lines_of e ∙ lines_of-nil)) (refl, refl)
 
   -- a last line, without its LF
   pub PlaysEach-one : (old new : S) (number : ℕ) (text written : List ℕ) (result : Result (Unit {0}) PlayFault) → breaks text ≡ 0
       → 0 < length text → IsOfLine number result → plays old number text result new written
-      → PlaysEach plays old number (lines_of text) result written
-  PlaysEach-one old new number text written (Ok _) none some place h = (
-    new,
-    subst (λ (ls : List (List ℕ)). PlaysAll plays old number ls new written) (sym (lines_of-one text none some))
-        (PlaysAll-one old new number text written h),
-  )
+      → PlaysEach plays old number (lines_of text) result new written
+  PlaysEach-one old new number text written (Ok _) none some place h =
+      subst (λ (ls : List (List ℕ)). PlaysAll plays old number ls new written) (sym (lines_of-one text none some))
+      (PlaysAll-one old new number text written h)
   PlaysEach-one old new number text written (Err fault) none some place h =
-      StopsIn-first old number (lines_of text) fault written
+      StopsIn-first old new number (lines_of text) fault written
       (StopsAt-own old new number (lines_of text) [] text written fault (lines_of-one text none some) place h)
 
-  pub PlaysEach-write : (old : S) (number : ℕ) (lines : List (List ℕ)) (written : List ℕ) (result : Result (Unit {0}) PlayFault)
-      → PlaysEach plays old number lines result written → PlaysEach plays old number lines (Err Write) written
-  PlaysEach-write old number lines written (Ok _) h = StopsIn-after old h.0 number lines [] lines written (sym (lines_nil lines)) h.1
-  PlaysEach-write old number lines written (Err fault) h = StopsIn-write old number lines fault written h
+  pub PlaysEach-write : (old new : S) (number : ℕ) (lines : List (List ℕ)) (written : List ℕ) (result : Result (Unit {0}) PlayFault)
+      → PlaysEach plays old number lines result new written → PlaysEach plays old number lines (Err Write) new written
+  PlaysEach-write old new number lines written (Ok _) h = StopsIn-after old new number lines [] lines written (sym (lines_nil lines)) h
+  PlaysEach-write old new number lines written (Err fault) h = StopsIn-write old new number lines fault written h
 
   -- ---- pieces
 
@@ -247,7 +243,7 @@ module _ {S : Type 0} (plays : LineRelation S) where
     omega (arith, p.4, q.4, length-append p.0 q.0),
   )
   Feeds-then a b c old mid new s t first second (Err fault) p q = (
-    (λ more. PlaysEach-after a b old.number mid.number p.0 (lines_of (mid.octets.items ++ (second ++ more)))
+    (λ more. PlaysEach-after a b c old.number mid.number p.0 (lines_of (mid.octets.items ++ (second ++ more)))
         (lines_of (old.octets.items ++ ((first ++ second) ++ more))) s t (Err fault) p.4 p.1
         (ap (λ v. lines_of (old.octets.items ++ v)) (append_assoc first second more) ∙ p.2.0 (second ++ more)) (q.0 more)),
     IsSeen-le (mid.number + breaks second) (old.number + breaks (first ++ second)) fault
@@ -258,7 +254,7 @@ module _ {S : Type 0} (plays : LineRelation S) where
   pub Feeds-stop : (a b : S) (old new : LineUnderWay) (written first second : List ℕ) (fault : PlayFault)
       → Feeds plays a old first (Err fault) b new written → Feeds plays a old (first ++ second) (Err fault) b new written
   Feeds-stop a b old new written first second fault p = (
-    (λ more. subst (λ (v : List ℕ). StopsIn plays a old.number (lines_of (old.octets.items ++ v)) fault written)
+    (λ more. subst (λ (v : List ℕ). StopsIn plays a old.number (lines_of (old.octets.items ++ v)) fault b written)
         (sym (append_assoc first second more)) (p.0 (second ++ more))),
     IsSeen-le (old.number + breaks first) (old.number + breaks (first ++ second)) fault
         (omega (arith, breaks-append first second)) p.1,
@@ -278,7 +274,7 @@ module _ {S : Type 0} (plays : LineRelation S) where
     tt,
   )
   Feeds-write a b old new written piece (Err fault) p =
-      ((λ more. StopsIn-write a old.number (lines_of (old.octets.items ++ (piece ++ more))) fault written (p.0 more)), tt)
+      ((λ more. StopsIn-write a b old.number (lines_of (old.octets.items ++ (piece ++ more))) fault written (p.0 more)), tt)
 
   -- a line that is done
   pub Feeds-line : (a b : S) (old new : LineUnderWay) (written piece text : List ℕ)
@@ -299,7 +295,7 @@ module _ {S : Type 0} (plays : LineRelation S) where
   Feeds-fault a b old new written piece text fault ends place h = (
     (λ more.
         let lines = lines_of (old.octets.items ++ (piece ++ more)) in
-        StopsIn-first a old.number lines fault written
+        StopsIn-first a b old.number lines fault written
         (StopsAt-own a b old.number lines (lines_of more) text written fault (ends.0 more) place h)),
     IsSeen-own old.number (old.number + breaks piece) fault (omega (arith, ends.1)) place,
   )
@@ -321,11 +317,13 @@ module _ {S : Type 0} (plays : LineRelation S) where
   Feeds-part_fault player old new piece left (Trace line fault) ready h = (
     (λ more.
         let lines = lines_of (old.octets.items ++ (piece ++ more)) in
-        StopsIn-first player old.number lines (Trace line fault) []
-        (h.0, inr (h.1, too_long_by old.octets.items piece more h.2.0 ready.0 h.2.1 h.2.2, refl))),
+        StopsIn-first player player old.number lines (Trace line fault) []
+        (h.0, inr (h.1, too_long_by old.octets.items piece more h.2.0 ready.0 h.2.1 h.2.2, (refl, refl)))),
     inl h.1,
   )
-  Feeds-part_fault player old new piece left NoMemory ready h =
-      ((λ more. StopsIn-first player old.number (lines_of (old.octets.items ++ (piece ++ more))) NoMemory [] (inl refl)), tt)
+  Feeds-part_fault player old new piece left NoMemory ready h = (
+    (λ more. StopsIn-first player player old.number (lines_of (old.octets.items ++ (piece ++ more))) NoMemory [] (inl (refl, refl))),
+    tt,
+  )
   Feeds-part_fault player old new piece left Write ready h = absurd h
   Feeds-part_fault player old new piece left Read ready h = absurd h

@@ -74,7 +74,7 @@ module _ {S : Type 0} (plays : LineRelation S) where
 
     pub PlaysRead-fault : (new : S) (next : LineUnderWay) (ended : Bool) (fault : PlayFault)
         → Feeds plays player line piece (Err fault) new next added
-        → PlaysRead plays first left_old left_new held_old held_new ended (Err fault)
+        → PlaysRead plays first new left_old left_new held_old held_new ended (Err fault)
     PlaysRead-fault new next ended fault fed =
         let read = running.read ++ piece in
         let lines : lines_of read ≡ running.texts ++ lines_of (line.octets.items ++ (piece ++ [])) =
@@ -83,29 +83,30 @@ module _ {S : Type 0} (plays : LineRelation S) where
           running.written ++ added,
           Consumes-then left_old left_mid left_new running.read piece running.consumed consumed,
           Appends-then held_old held_mid held_new running.written added running.appended appended,
-          PlaysEach-after plays first player 1 line.number running.texts (lines_of (line.octets.items ++ (piece ++ [])))
+          PlaysEach-after plays first player new 1 line.number running.texts (lines_of (line.octets.items ++ (piece ++ [])))
               (lines_of read) running.written added (Err fault) running.counted running.played lines (fed.0 []),
           ReadsFarEnough-seen read ended fault
               (IsSeen-le (line.number + breaks piece) (1 + breaks read) fault
               (omega (arith, running.counted, running.ends.1, breaks-append running.read piece)) fed.1),
         )
 
-  module _ (first player : S) (line : LineUnderWay) (left_old left_new held_old held_mid held_new : Option (List ℕ))
+  module _ (first player new : S) (line : LineUnderWay) (left_old left_new held_old held_mid held_new : Option (List ℕ))
       (running : Running plays first left_old left_new held_old held_mid player line) (added : List ℕ)
       (appended : Appends held_mid held_new added) where
     -- the line under way is the last one
-    last_each : (result : Result (Unit {0}) PlayFault) → PlaysEach plays player line.number (lines_of line.octets.items) result added
-        → PlaysEach plays first 1 (lines_of running.read) result (running.written ++ added)
+    last_each : (result : Result (Unit {0}) PlayFault)
+        → PlaysEach plays player line.number (lines_of line.octets.items) result new added
+        → PlaysEach plays first 1 (lines_of running.read) result new (running.written ++ added)
     last_each result each =
         let lines : lines_of running.read ≡ running.texts ++ lines_of line.octets.items =
         ap lines_of (sym (append-nil running.read)) ∙ running.ends.0 []
         ∙ ap (λ v. running.texts ++ lines_of v) (append-nil line.octets.items) in
-        PlaysEach-after plays first player 1 line.number running.texts (lines_of line.octets.items) (lines_of running.read)
+        PlaysEach-after plays first player new 1 line.number running.texts (lines_of line.octets.items) (lines_of running.read)
         running.written added result running.counted running.played lines each
 
     pub PlaysRead-last : (ended : Bool) (result : Result (Unit {0}) PlayFault) → ReadsFarEnough running.read ended result
-        → PlaysEach plays player line.number (lines_of line.octets.items) result added
-        → PlaysRead plays first left_old left_new held_old held_new ended result
+        → PlaysEach plays player line.number (lines_of line.octets.items) result new added
+        → PlaysRead plays first new left_old left_new held_old held_new ended result
     PlaysRead-last ended result reached each = (
       running.read,
       running.written ++ added,
@@ -133,22 +134,22 @@ module _ {S : Type 0} (plays : LineRelation S) where
   }
 
   -- the end of the text
-  pub PlaysRead-end : (first player : S) (line : LineUnderWay) (left_old left_mid left_new held_old held_mid held_new : Option (List ℕ))
+  pub PlaysRead-end : (first player new : S) (line : LineUnderWay) (left_old left_mid left_new held_old held_mid held_new : Option (List ℕ))
       → Running plays first left_old left_mid held_old held_mid player line → Consumes left_mid left_new [] → (added : List ℕ)
       → Appends held_mid held_new added → (ended : Bool) (result : Result (Unit {0}) PlayFault) → ended ≡ true
-      → PlaysEach plays player line.number (lines_of line.octets.items) result added
-      → PlaysRead plays first left_old left_new held_old held_new ended result
-  PlaysRead-end first player line left_old left_mid left_new held_old held_mid held_new running none added appended ended result end each =
+      → PlaysEach plays player line.number (lines_of line.octets.items) result new added
+      → PlaysRead plays first new left_old left_new held_old held_new ended result
+  PlaysRead-end first player new line left_old left_mid left_new held_old held_mid held_new running none added appended ended result end each =
       let idle = Running-idle first player line left_old left_mid left_new held_old held_mid running none in
-      PlaysRead-last first player line left_old left_new held_old held_mid held_new idle added appended ended result
+      PlaysRead-last first player new line left_old left_new held_old held_mid held_new idle added appended ended result
       (ReadsFarEnough-end idle.read ended result end) each
 
   -- a read that failed
   pub PlaysRead-read : (first player : S) (line : LineUnderWay) (left_old left_mid left_new held_old held_new : Option (List ℕ))
       → Running plays first left_old left_mid held_old held_new player line → Keeps left_mid left_new → (ended : Bool)
-      → PlaysRead plays first left_old left_new held_old held_new ended (Err Read)
+      → PlaysRead plays first player left_old left_new held_old held_new ended (Err Read)
   PlaysRead-read first player line left_old left_mid left_new held_old held_new running kept ended =
       let none = Consumes-keeps left_mid left_new kept in
       let idle = Running-idle first player line left_old left_mid left_new held_old held_new running none in
-      PlaysRead-last first player line left_old left_new held_old held_new held_new idle [] (Appends-nil held_new) ended (Err Read) tt
-      (StopsIn-first plays player line.number (lines_of line.octets.items) Read [] (inl refl))
+      PlaysRead-last first player player line left_old left_new held_old held_new held_new idle [] (Appends-nil held_new) ended (Err Read)
+      tt (StopsIn-first plays player player line.number (lines_of line.octets.items) Read [] (refl, refl))

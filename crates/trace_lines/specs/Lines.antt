@@ -1,4 +1,5 @@
--- What is played of the lines of a text, one after another, as `plays` says it of each, and what a run over them reads and writes.
+-- What is played of the lines of a text, one after another, as `plays` says it of each, what is left then, and what a run over them
+-- reads and writes.
 use Rattle.std.specs.Prelude.{◌≡◌, ℕ, ◌+◌, ◌<◌, ◌≤◌, ◌⊎◌, ⊤, Bool, true, List, [], ◌∷◌, ◌++◌, length, take, Option, Result, Ok, Err}
 use Rattle.std.specs.Io.KnownBytes.{Appends, Consumes}
 use Rattle.trace_words.specs.declared.fault.TraceFault.TheVariants.{TooLong}
@@ -17,30 +18,37 @@ PlaysAll {S} plays old number (text ∷ texts) new written =
     (mid : S) × (first : List ℕ) × (others : List ℕ) × plays old number text (Ok tt) mid first
     × PlaysAll plays mid (number + 1) texts new others × (written ≡ first ++ others)
 
--- the first of them is answered with that fault
-abbrev pub HasFault : {S : Type 0} → LineRelation S → S → ℕ → List (List ℕ) → PlayFault → List ℕ → Type 0
-HasFault {S} plays old number lines fault written =
-    (text : List ℕ) × (others : List (List ℕ)) × (new : S) × (lines ≡ text ∷ others) × plays old number text (Err fault) new written
+-- the first of them is answered with that fault, and leaves what a line with that fault does
+abbrev pub HasFault : {S : Type 0} → LineRelation S → S → ℕ → List (List ℕ) → PlayFault → S → List ℕ → Type 0
+HasFault plays old number lines fault new written =
+    (text : List ℕ) × (others : List (List ℕ)) × (lines ≡ text ∷ others) × plays old number text (Err fault) new written
 
 -- the first of them is longer than a line may be
 abbrev pub IsTooLong : List (List ℕ) → Type 0
 IsTooLong lines = (text : List ℕ) × (others : List (List ℕ)) × (lines ≡ text ∷ others) × (40000 < length text)
 
--- nothing is written of them, or what is written of the first at some fault
-abbrev pub IsCutShort : {S : Type 0} → LineRelation S → S → ℕ → List (List ℕ) → List ℕ → Type 0
-IsCutShort plays old number lines written = (written ≡ []) ⊎ ((fault : PlayFault) × HasFault plays old number lines fault written)
+-- none of them is played
+abbrev pub IsUnplayed : {S : Type 0} → S → S → List ℕ → Type 0
+IsUnplayed old new written = (new ≡ old) × (written ≡ [])
 
--- the first of them isn't done: it has that fault or is too long, or else playing is cut short there
-abbrev pub StopsAt : {S : Type 0} → LineRelation S → S → ℕ → List (List ℕ) → PlayFault → List ℕ → Type 0
-StopsAt plays old number lines (Trace line fault) written =
+-- none of them is played, or the first has some fault
+abbrev pub IsCutShort : {S : Type 0} → LineRelation S → S → ℕ → List (List ℕ) → S → List ℕ → Type 0
+IsCutShort plays old number lines new written =
+    IsUnplayed old new written ⊎ ((fault : PlayFault) × HasFault plays old number lines fault new written)
+
+-- the first of them isn't done: it has that fault or is too long, or else playing is cut short there, by a read before it is played
+abbrev pub StopsAt : {S : Type 0} → LineRelation S → S → ℕ → List (List ℕ) → PlayFault → S → List ℕ → Type 0
+StopsAt plays old number lines (Trace line fault) new written =
     (line ≡ number)
-    × (HasFault plays old number lines (Trace line fault) written ⊎ ((fault ≡ TooLong) × IsTooLong lines × (written ≡ [])))
-StopsAt plays old number lines NoMemory written = IsCutShort plays old number lines written
-StopsAt plays old number lines Write written = IsCutShort plays old number lines written
-StopsAt plays old number lines Read written = IsCutShort plays old number lines written
+    × (HasFault plays old number lines (Trace line fault) new written
+    ⊎ ((fault ≡ TooLong) × IsTooLong lines × IsUnplayed old new written))
+StopsAt plays old number lines NoMemory new written =
+    IsUnplayed old new written ⊎ HasFault plays old number lines NoMemory new written
+StopsAt plays old number lines Write new written = IsCutShort plays old number lines new written
+StopsAt plays old number lines Read new written = IsUnplayed old new written
 
 -- some of them are played, and the next one isn't done
-pub record StopsIn {S : Type 0} (plays : LineRelation S) (old : S) (number : ℕ) (lines : List (List ℕ)) (fault : PlayFault) (written : List ℕ) : Type 0 where
+pub record StopsIn {S : Type 0} (plays : LineRelation S) (old : S) (number : ℕ) (lines : List (List ℕ)) (fault : PlayFault) (new : S) (written : List ℕ) : Type 0 where
   pub texts : List (List ℕ)
   pub rest : List (List ℕ)
   pub mid : S
@@ -48,13 +56,13 @@ pub record StopsIn {S : Type 0} (plays : LineRelation S) (old : S) (number : ℕ
   pub after : List ℕ
   pub parted : lines ≡ texts ++ rest
   pub played : PlaysAll plays old number texts mid before
-  pub stops : StopsAt plays mid (number + length texts) rest fault after
+  pub stops : StopsAt plays mid (number + length texts) rest fault new after
   pub joined : written ≡ before ++ after
 
 -- they are played to their end, or up to where a fault stops it
-abbrev pub PlaysEach : {S : Type 0} → LineRelation S → S → ℕ → List (List ℕ) → Result (Unit {0}) PlayFault → List ℕ → Type 0
-PlaysEach {S} plays old number lines (Ok _) written = (new : S) × PlaysAll plays old number lines new written
-PlaysEach plays old number lines (Err fault) written = StopsIn plays old number lines fault written
+abbrev pub PlaysEach : {S : Type 0} → LineRelation S → S → ℕ → List (List ℕ) → Result (Unit {0}) PlayFault → S → List ℕ → Type 0
+PlaysEach plays old number lines (Ok _) new written = PlaysAll plays old number lines new written
+PlaysEach plays old number lines (Err fault) new written = StopsIn plays old number lines fault new written
 
 -- ---- a piece of a text
 
@@ -83,7 +91,7 @@ Feeds plays old line piece (Ok _) new next written =
     × EndsLines line.octets.items piece texts next.octets.items
     × IsReady next.octets.items × (next.number ≡ line.number + length texts)
 Feeds plays old line piece (Err fault) new next written =
-    ((more : List ℕ) → StopsIn plays old line.number (lines_of (line.octets.items ++ (piece ++ more))) fault written)
+    ((more : List ℕ) → StopsIn plays old line.number (lines_of (line.octets.items ++ (piece ++ more))) fault new written)
     × IsSeen (line.number + breaks piece) fault
 
 -- the same of the first octets of a piece, up to the end of the line: how many they are
@@ -103,9 +111,9 @@ ReadsFarEnough read ended (Err Read) = ⊤
 ReadsFarEnough read ended (Err Write) = ⊤
 ReadsFarEnough read ended (Err NoMemory) = ⊤
 
--- what a run read, and wrote of the lines of that text, in the known octets of its reader and its writer
-abbrev pub PlaysRead : {S : Type 0} → LineRelation S → S → Option (List ℕ) → Option (List ℕ) → Option (List ℕ) → Option (List ℕ) → Bool
-    → Result (Unit {0}) PlayFault → Type 0
-PlaysRead plays old left_old left_new held_old held_new ended result =
+-- what a run left, read, and wrote of the lines of that text, in the known octets of its reader and its writer
+abbrev pub PlaysRead : {S : Type 0} → LineRelation S → S → S → Option (List ℕ) → Option (List ℕ) → Option (List ℕ) → Option (List ℕ)
+    → Bool → Result (Unit {0}) PlayFault → Type 0
+PlaysRead plays old new left_old left_new held_old held_new ended result =
     (read : List ℕ) × (written : List ℕ) × Consumes left_old left_new read × Appends held_old held_new written
-    × PlaysEach plays old 1 (lines_of read) result written × ReadsFarEnough read ended result
+    × PlaysEach plays old 1 (lines_of read) result new written × ReadsFarEnough read ended result

@@ -21,14 +21,15 @@ const PIECE: usize = 65_536;
 /// been written is flushed before each read after the first.
 ///
 /// The fault is that of a line, `TooLong` where it has over 40,000 octets; `Read` where a read failed or 2^32 were made; `Write`
-/// where a call of the writer failed; `NoMemory`. The lines before are played then.
+/// where a call of the writer failed; `NoMemory`. Then the lines before are played, and the player is as they left it, or as the
+/// line left it that has a fault.
 pub fn play_lines<P: PlaysLines, R: Read, W: Write>(
     alloc: Global,
     player: &mut P,
     reader: &mut Watched<R>,
     writer: &mut Watched<W>,
 ) -> Result<(), PlayFault>
-    ensures played { PlaysRead P.plays player.old (R.remaining reader.old.inner) (R.remaining reader.new.inner)
+    ensures played { PlaysRead P.plays player.old player.new (R.remaining reader.old.inner) (R.remaining reader.new.inner)
         (W.contents writer.old.inner) (W.contents writer.new.inner) reader.new.ended result }
     ensures end { OnOk result (IsAtEnd (R.remaining reader.new.inner)) }
     ensures read { reader.old.calls ≡ 0 → IsErrOf result PlayFault.Read
@@ -84,7 +85,7 @@ fn last_turn<P: PlaysLines, W: Write>(
     requires ready { IsReady line.old.octets.items }
     requires counted { line.old.number + 1 < 2 ^ 64 }
     ensures finishes { GrowsBy (W.contents writer.old.inner) (W.contents writer.new.inner)
-        (PlaysEach P.plays player.old line.old.number (lines_of line.old.octets.items) result) }
+        (PlaysEach P.plays player.old line.old.number (lines_of line.old.octets.items) result player.new) }
     ensures fault { IsOfLine line.old.number result }
     ensures write_failed { writer.new.failed ≡ failed_after_play writer.old.failed result }
 {

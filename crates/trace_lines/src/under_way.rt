@@ -139,7 +139,7 @@ impl LineUnderWay {
         requires ready { IsReady self.old.octets.items }
         requires counted { self.old.number + 1 < 2 ^ 64 }
         ensures finishes { GrowsBy (W.contents writer.old.inner) (W.contents writer.new.inner)
-            (PlaysEach P.plays player.old self.old.number (lines_of self.old.octets.items) result) }
+            (PlaysEach P.plays player.old self.old.number (lines_of self.old.octets.items) result player.new) }
         ensures fault { IsOfLine self.old.number result }
         ensures write_failed { writer.new.failed ≡ failed_after_play writer.old.failed result }
     {

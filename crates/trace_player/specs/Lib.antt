@@ -1,3 +1,4 @@
 pub mod OctetLaws
 pub mod FrontLaws
+pub mod Leaving
 pub mod Watching

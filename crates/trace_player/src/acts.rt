@@ -1,11 +1,12 @@
 //! What each line of a trace does.
 
-ghost use Rattle.std.specs.Prelude.{◌≡◌, is_ok, IfOk, OnOk};
+ghost use Rattle.std.specs.Prelude.{◌≡◌, ◌≢◌, [], ◌∷◌, replicate, is_ok, IfErr, IfOk, OnOk};
 ghost use Rattle.mme_core.specs.World.{reply};
-ghost use Rattle.trace_progress.specs.Effects.{effect_of, happened, left_by, ticks_passed, shown, states_of_imsi, ticked, states_shown};
+ghost use Rattle.trace_progress.specs.Effects.{effect_of, happened, left_by, running, ticks_passed, shown, states_of_imsi, ticked, states_shown};
 ghost use Rattle.trace_progress.specs.Replies.{reply_text};
-ghost use Rattle.trace_progress.specs.Acts.{Acts, GrowsBy, Puts};
+ghost use Rattle.trace_progress.specs.Acts.{Acts, GrowsBy, Puts, Runs};
 ghost use Rattle.trace_progress.specs.declared.progress.Progress.TheVariants.{Running};
+ghost use Rattle.trace_player.specs.Leaving.{HasTaken, IsUnmade, LeftAtFault, LeftByLine, is_missing};
 ghost use Rattle.trace_player.specs.Watching.{failed_after_play};
 
 use crate::answers::{write_all, write_refusal, write_states};
@@ -21,7 +22,9 @@ use trace_words::{Line, TraceFault};
 /// Does what the line of that number says, and writes its answers. Order or Provision where what came before doesn't allow the
 /// line, and then nothing is written; Write where the writer failed and NoMemory where a growth of memory was refused, and then a
 /// front of its answers is. Takes memory for what is provisioned, for the MME, which the first event or question makes, for what
-/// an event sends, and for an answer that `room` is too small for: the room of the last line, used again.
+/// an event sends, and for an answer that `room` is too small for: the room of the last line, used again. A line's own fault leaves
+/// the progress as it was. At Write and NoMemory the MME has taken the first of the line's events and no other, or nothing is
+/// provisioned any more where there was no memory for the MME.
 #[tactic(auto, unfolding(trace_progress::specs::Effects::effect_of))]
 pub fn act_on_line<W: Write>(
     alloc: Global,
@@ -33,6 +36,7 @@ pub fn act_on_line<W: Write>(
 ) -> Result<(), PlayFault>
     ensures acts { GrowsBy (W.contents writer.old.inner) (W.contents writer.new.inner)
         (Acts number (effect_of progress.old line) result progress.new) }
+    ensures left { IfErr result (λ fault. LeftByLine progress.old line fault progress.new) }
     ensures write_failed { writer.new.failed ≡ failed_after_play writer.old.failed result }
 {
     match line {
@@ -66,6 +70,18 @@ pub fn act_on_line<W: Write>(
     }
 }
 
+/// Makes the MME of what is provisioned, where none runs yet; faults as in `run`.
+fn make_mme(alloc: Global, progress: &mut Progress, number: u64) -> Result<(), PlayFault>
+    ensures runs { Runs number (running progress.old) result progress.new }
+    ensures err { IfErr result (λ fault. fault ≢ PlayFault.NoMemory → progress.new ≡ progress.old) }
+    ensures unmade { IfErr result (λ fault. fault ≡ PlayFault.NoMemory → IsUnmade progress.old progress.new) }
+{
+    match progress {
+        Progress::Running(_) => Ok(()),
+        Progress::Nothing | Progress::Provisioning(_, _) => run(alloc, progress, number),
+    }
+}
+
 /// Plays one event and writes its answers.
 fn play_event<W: Write>(
     alloc: Global,
@@ -77,9 +93,10 @@ fn play_event<W: Write>(
 ) -> Result<(), PlayFault>
     ensures acts { GrowsBy (W.contents writer.old.inner) (W.contents writer.new.inner)
         (Acts number (happened progress.old event.now) result progress.new) }
+    ensures left { IfErr result (λ fault. LeftAtFault (Some (event.now ∷ [])) progress.old fault progress.new) }
     ensures write_failed { writer.new.failed ≡ failed_after_play writer.old.failed result }
 {
-    match run(alloc, progress, number) {
+    match make_mme(alloc, progress, number) {
         Ok(()) => {}
         Err(fault) => return Err(fault),
     }
@@ -103,9 +120,10 @@ fn play_ticks<W: Write>(
 ) -> Result<(), PlayFault>
     ensures acts { GrowsBy (W.contents writer.old.inner) (W.contents writer.new.inner)
         (Acts number (ticks_passed progress.old count) result progress.new) }
+    ensures left { IfErr result (λ fault. LeftAtFault (Some (replicate count Event.Tick)) progress.old fault progress.new) }
     ensures write_failed { writer.new.failed ≡ failed_after_play writer.old.failed result }
 {
-    match run(alloc, progress, number) {
+    match make_mme(alloc, progress, number) {
         Ok(()) => {}
         Err(fault) => return Err(fault),
     }
@@ -115,7 +133,7 @@ fn play_ticks<W: Write>(
     step_ticks(alloc, mme, count, room, writer)
 }
 
-/// Writes the states of the subscriber of that IMSI.
+/// Writes the states of the subscriber of that IMSI. Where nobody has it, no MME is made for the question.
 fn show<W: Write>(
     alloc: Global,
     progress: &mut Progress,
@@ -126,9 +144,13 @@ fn show<W: Write>(
 ) -> Result<(), PlayFault>
     ensures acts { GrowsBy (W.contents writer.old.inner) (W.contents writer.new.inner)
         (Acts number (shown progress.old imsi) result progress.new) }
+    ensures left { IfErr result (λ fault. LeftAtFault (Some []) progress.old fault progress.new) }
     ensures write_failed { writer.new.failed ≡ failed_after_play writer.old.failed result }
 {
-    match run(alloc, progress, number) {
+    if is_missing(progress, imsi) {
+        return Err(PlayFault::Trace(number, TraceFault::Provision));
+    }
+    match make_mme(alloc, progress, number) {
         Ok(()) => {}
         Err(fault) => return Err(fault),
     }
@@ -149,6 +171,7 @@ fn step_event<W: Write>(
     ensures put { GrowsBy (W.contents writer.old.inner) (W.contents writer.new.inner)
         (Puts (reply_text (reply mme.old event.now)) result) }
     ensures after { OnOk result (mme.new ≡ left_by mme.old event.now (reply mme.old event.now)) }
+    ensures left { HasTaken mme.old (event.now ∷ []) mme.new }
     ensures taken { IfOk result (λ taken. taken ≡ is_ok (reply mme.old event.now)) }
     ensures write_failed { writer.new.failed ≡ failed_after_play writer.old.failed result }
 {
@@ -175,6 +198,7 @@ fn step_ticks<W: Write>(
 ) -> Result<(), PlayFault>
     ensures put { GrowsBy (W.contents writer.old.inner) (W.contents writer.new.inner) (Puts (ticked count mme.old).1 result) }
     ensures after { OnOk result (mme.new ≡ (ticked count mme.old).0) }
+    ensures left { HasTaken mme.old (replicate count Event.Tick) mme.new }
     ensures write_failed { writer.new.failed ≡ failed_after_play writer.old.failed result }
 {
     for _tick in 0..count {
@@ -185,6 +209,16 @@ fn step_ticks<W: Write>(
         }
     }
     Ok(())
+}
+
+/// Whether an MME is still to be made, and nobody with that IMSI is provisioned for it.
+fn is_missing(progress: &Progress, imsi: Imsi) -> bool
+    ensures { result ≡ is_missing progress.now imsi }
+{
+    match progress {
+        Progress::Provisioning(_, provision) => provision.slot_of_imsi(imsi).is_none(),
+        Progress::Nothing | Progress::Running(_) => false,
+    }
 }
 
 fn show_states<W: Write>(

@@ -1,5 +1,5 @@
 -- The lines of a trace, played one after another.
-use Rattle.std.proofs.Common.{◌≡◌, ℕ, ◌+◌, ◌<◌, Bool, List, [], ◌∷◌, ◌++◌, length, Some, None, Result, Ok, Err, inl, inr, refl, sym, ap, subst, ◌∙◌, append-nil, arith}
+use Rattle.std.proofs.Common.{◌≡◌, ℕ, ◌+◌, ◌<◌, Bool, List, [], ◌∷◌, ◌++◌, length, Some, None, Result, Ok, Err, IfErr, inl, inr, refl, sym, ap, subst, ◌∙◌, append-nil, arith}
 use Rattle.trace_words.specs.declared.fault.TraceFault.{TraceFault}
 use Rattle.trace_words.specs.declared.fault.TraceFault.TheVariants as fault
 use Rattle.trace_words.specs.declared.fault.TraceFault.TheVariants.{UnknownWord, FieldCount, BadNumber, BadHex, TooLong, Order, Provision}
@@ -17,11 +17,13 @@ use Rattle.trace_progress.specs.TextLaws.{line_of-long, play-cons, play-nil, pre
 use Rattle.trace_lines.specs.OneLine.{IsOfLine}
 use Rattle.trace_lines.specs.Lines.{PlaysAll, IsCutShort, StopsAt, StopsIn, PlaysEach}
 use Rattle.trace_run.specs.declared.player.Player.{Player}
-use Rattle.trace_run.specs.Play.{WritesFor}
+use Rattle.trace_run.specs.Play.{LeftByText, WritesFor}
 
 -- what the trace's player makes of a line
 abbrev pub acts_on : Player → ℕ → List ℕ → Result (Unit {0}) PlayFault → Player → List ℕ → Type 0
-acts_on old number text result new written = Acts number (line_effect old.progress text) result new.progress written
+acts_on old number text result new written =
+    Acts number (line_effect old.progress text) result new.progress written
+    × IfErr result (λ fault. LeftByText old.progress text fault new.progress)
 
 -- ---- where a line's fault is
 
@@ -73,7 +75,7 @@ played_all (text ∷ texts) rest old new number next written e h =
     let others : Progress → Played = λ w. play w (number + 1) (texts ++ rest) in
     let last = play new.progress next rest in
     play-cons old.progress number text (texts ++ rest)
-    ∙ effect_then number (line_effect old.progress text) (Ok (h.0.progress, h.1)) others h.3
+    ∙ effect_then number (line_effect old.progress text) (Ok (h.0.progress, h.1)) others h.3.0
     ∙ ap (prepended h.1) (played_all texts rest h.0 new (number + 1) next h.2 (omega (arith, e)) h.4)
     ∙ prepended-then h.1 h.2 last ∙ ap (λ v. prepended v last) (sym h.5)
 
@@ -94,17 +96,17 @@ ends_at line number written fault n w =
     sym (ap (λ m. played_text written (Some (m, fault))) n ∙ ap (λ v. played_text v (Some (line, fault))) w)
 
 -- a line that has a fault, or is too long
-stopped : (old : Player) (number : ℕ) (lines : List (List ℕ)) (line : ℕ) (fault : TraceFault) (written : List ℕ)
-    → StopsAt acts_on old number lines (Trace line fault) written
+stopped : (old new : Player) (number : ℕ) (lines : List (List ℕ)) (line : ℕ) (fault : TraceFault) (written : List ℕ)
+    → StopsAt acts_on old number lines (Trace line fault) new written
     → play old.progress number lines ≡ played_text written (Some (line, fault))
-stopped old number lines line fault written h = elim h.1 [
+stopped old new number lines line fault written h = elim h.1 [
   | inl own ↦
-      first_line old.progress number lines own.1 own.0 (Err fault) own.3 own.4.0
-      ∙ ends_at number line written fault h.0 own.4.2
+      first_line old.progress number lines own.1 own.0 (Err fault) own.2 own.3.0.0
+      ∙ ends_at number line written fault h.0 own.3.0.2
   | inr long ↦
       first_line old.progress number lines long.1.1 long.1.0 (Err TooLong) long.1.2 (too_long old.progress long.1.0 long.1.3)
       ∙ ap (λ (f : TraceFault). played_text [] (Some (number, f))) (sym long.0)
-      ∙ ends_at number line written fault h.0 long.2
+      ∙ ends_at number line written fault h.0 long.2.1
 ]
 
 -- ---- what is written where it stops
@@ -124,51 +126,52 @@ acts-prefix number effect NoMemory new written h = h
 acts-prefix number effect Write new written h = h
 acts-prefix number effect Read new written h = absurd h
 
-cut-prefix : (old : Player) (number : ℕ) (lines : List (List ℕ)) (written : List ℕ) → IsCutShort acts_on old number lines written
-    → IsPrefix written ((play old.progress number lines).text)
-cut-prefix old number lines written h = elim h [
-  | inl none ↦ none-prefix written ((play old.progress number lines).text) none
+cut-prefix : (old new : Player) (number : ℕ) (lines : List (List ℕ)) (written : List ℕ)
+    → IsCutShort acts_on old number lines new written → IsPrefix written ((play old.progress number lines).text)
+cut-prefix old new number lines written h = elim h [
+  | inl none ↦ none-prefix written ((play old.progress number lines).text) none.1
   | inr own ↦
       let line = own.1 in
       let effect = line_effect old.progress line.0 in
       let rest : Progress → Played = λ w. play w (number + 1) line.1 in
       IsPrefix-of written ((then_play number effect rest).text) ((play old.progress number lines).text)
-      (sym (ap (λ v. v.text) (first_line old.progress number lines line.1 line.0 effect line.3 refl)))
-      (effect-prefix number effect rest written (acts-prefix number effect own.0 line.2.progress written line.4))
+      (sym (ap (λ v. v.text) (first_line old.progress number lines line.1 line.0 effect line.2 refl)))
+      (effect-prefix number effect rest written (acts-prefix number effect own.0 new.progress written line.3.0))
 ]
 
 -- ---- a whole trace
 
-module _ (first : Player) (read written : List ℕ) (start : first.progress ≡ Nothing) where
+module _ (first new : Player) (read written : List ℕ) (start : first.progress ≡ Nothing) where
   begins : played_of read ≡ play first.progress 1 (lines_of read)
   begins = ap (λ w. play w 1 (lines_of read)) (sym start)
 
   -- the lines before the one at which it stops
-  before_stop : (fault : PlayFault) (h : StopsIn acts_on first 1 (lines_of read) fault written)
+  before_stop : (fault : PlayFault) (h : StopsIn acts_on first 1 (lines_of read) fault new written)
       → played_of read ≡ prepended h.before (play h.mid.progress (1 + length h.texts) h.rest)
   before_stop fault h =
       begins ∙ ap (play first.progress 1) h.parted ∙ played_all h.texts h.rest first h.mid 1 (1 + length h.texts) h.before refl h.played
 
-  front_written : (fault : PlayFault) (h : StopsIn acts_on first 1 (lines_of read) fault written)
-      → IsCutShort acts_on h.mid (1 + length h.texts) h.rest h.after → IsPrefix written ((played_of read).text)
+  front_written : (fault : PlayFault) (h : StopsIn acts_on first 1 (lines_of read) fault new written)
+      → IsCutShort acts_on h.mid (1 + length h.texts) h.rest new h.after → IsPrefix written ((played_of read).text)
   front_written fault h cut =
       let rest = play h.mid.progress (1 + length h.texts) h.rest in
-      let front = IsPrefix-after h.before h.after (rest.text) (cut-prefix h.mid (1 + length h.texts) h.rest h.after cut) in
+      let front = IsPrefix-after h.before h.after (rest.text) (cut-prefix h.mid new (1 + length h.texts) h.rest h.after cut) in
       subst (λ (v : List ℕ). IsPrefix v ((played_of read).text)) (sym h.joined)
       (IsPrefix-of (h.before ++ h.after) (h.before ++ rest.text) ((played_of read).text) (sym (ap (λ v. v.text) (before_stop fault h))) front)
 
-  pub WritesFor-each : (result : Result (Unit {0}) PlayFault) → PlaysEach acts_on first 1 (lines_of read) result written
+  pub WritesFor-each : (result : Result (Unit {0}) PlayFault) → PlaysEach acts_on first 1 (lines_of read) result new written
       → WritesFor read written result
   WritesFor-each (Ok _) h =
       let count = 1 + length (lines_of read) in
       let whole : List (List ℕ) = lines_of read in
       begins ∙ ap (play first.progress 1) (sym (append-nil whole))
-      ∙ played_all whole [] first h.0 1 count written refl h.1
-      ∙ ap (prepended written) (play-nil h.0.progress count) ∙ prepended-ends written None
+      ∙ played_all whole [] first new 1 count written refl h
+      ∙ ap (prepended written) (play-nil new.progress count) ∙ prepended-ends written None
   WritesFor-each (Err (Trace line fault)) h =
       before_stop (Trace line fault) h
-      ∙ ap (prepended h.before) (stopped h.mid (1 + length h.texts) h.rest line fault h.after h.stops)
+      ∙ ap (prepended h.before) (stopped h.mid new (1 + length h.texts) h.rest line fault h.after h.stops)
       ∙ ap (λ v. played_text v (Some (line, fault))) (sym h.joined)
-  WritesFor-each (Err NoMemory) h = front_written NoMemory h h.stops
+  WritesFor-each (Err NoMemory) h =
+      front_written NoMemory h (elim h.stops [ inl none ↦ inl none | inr own ↦ inr (NoMemory, own) ])
   WritesFor-each (Err Write) h = front_written Write h h.stops
-  WritesFor-each (Err Read) h = front_written Read h h.stops
+  WritesFor-each (Err Read) h = front_written Read h (inl h.stops)

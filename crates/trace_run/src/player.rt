@@ -1,9 +1,10 @@
 //! The player of a trace.
 
-ghost use Rattle.std.specs.Prelude.{◌≡◌};
+ghost use Rattle.std.specs.Prelude.{◌≡◌, IfErr};
 ghost use Rattle.trace_progress.specs.declared.progress.Progress.TheVariants.{Nothing};
 ghost use Rattle.trace_progress.specs.Text.{line_effect};
 ghost use Rattle.trace_progress.specs.Acts.{Acts};
+ghost use Rattle.trace_run.specs.Play.{LeftByText};
 
 use std::alloc::Global;
 use std::io::Write;
@@ -32,8 +33,10 @@ impl Player {
 }
 
 impl PlaysLines for Player {
-    // A line acts on the MME, and its answers are written.
-    ghost plays = { λ old number text result new written. Acts number (line_effect old.progress text) result new.progress written };
+    // A line acts on the MME, and its answers are written. One that is refused leaves what `LeftByText` says.
+    ghost plays = { λ old number text result new written.
+        Acts number (line_effect old.progress text) result new.progress written
+        × IfErr result (λ fault. LeftByText old.progress text fault new.progress) };
 
     fn play_line<W: Write>(
         &mut self,

@@ -15,6 +15,6 @@ returns-then-is_err-clause-finishes g c =
       finishes.0,
       Appends-same first last (finishes.0 ++ []) finishes.0 (append-nil finishes.0)
           (Appends-then first mid last finishes.0 [] finishes.1 (Appends-keeps mid last c.flush.ensures.bytes)),
-      PlaysEach-write g.P.PlaysLines.plays c.args.player.now line.number (lines_of line.octets.items) finishes.0
+      PlaysEach-write g.P.PlaysLines.plays c.args.player.now c.finish-result.new.player line.number (lines_of line.octets.items) finishes.0
           c.finish-result.result finishes.2,
     )

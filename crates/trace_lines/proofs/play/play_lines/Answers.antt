@@ -27,7 +27,7 @@ returns-then-count-eq0-clause-played g c =
     let turn = c.last_turn.ensures.finishes in
     let end =
     c.in-Ok.ensures.ended ∙ moves_none-some c.loop-turn.reader.ended _ c.in-Ok.count c.if-count-eq0.true (search rules) in
-    PlaysRead-end g.P.PlaysLines.plays c.args.player.now c.loop-turn.player c.loop-turn.line
+    PlaysRead-end g.P.PlaysLines.plays c.args.player.now c.loop-turn.player c.last_turn.new.player c.loop-turn.line
     (left c.args.reader.now.inner) mid last (held c.args.writer.now.inner) (held c.loop-turn.writer.inner)
     (held c.last_turn.new.writer.inner) c.loop-turn.invariant.running none turn.0 turn.1
     c.read.new.self.ended c.last_turn.result end turn.2

@@ -1,8 +1,10 @@
-use Rattle.std.proofs.Common.{refl}
+use Rattle.std.proofs.Common.{refl, sym, ap, ◌∙◌}
 use Rattle.mme_core.specs.declared.event.Event.TheVariants as event
+use Rattle.trace_words.specs.declared.line.Line.TheVariants.{In}
 use Rattle.trace_progress.specs.Effects.{effect_of, happened}
 use Rattle.trace_player.specs.Watching.{failed_after_play-other}
 use Rattle.trace_player.proofs.Heard.{Acts-effect, octets-effect}
+use Rattle.trace_player.proofs.Left.{IfErr-line, IfErr-octets}
 use Rattle.trace_player.proofs.acts.act_on_line.Goals as goal
 
 pub returns-in-In-clause-acts : goal.returns-in-In-clause-acts
@@ -23,3 +25,12 @@ returns-in-Sub-clause-write_failed g c = failed_after_play-other c.args.writer.n
 
 pub returns-in-Vec-clause-write_failed : goal.returns-in-Vec-clause-write_failed
 returns-in-Vec-clause-write_failed g c = failed_after_play-other c.args.writer.now.failed c.give.result c.give.ensures.write
+
+pub returns-in-In-clause-left : goal.returns-in-In-clause-left
+returns-in-In-clause-left g c =
+    let old = c.args.progress.now in
+    let new = c.play_event-in-In.new.progress in
+    let slice = c.as_slice.result in
+    let left = IfErr-octets old new c.in-In.station slice c.play_event-in-In.result c.play_event-in-In.ensures.left in
+    IfErr-line old new (In c.in-In.station slice.now) c.args.line c.play_event-in-In.result
+    (c.in-In.is ∙ ap (λ v. In c.in-In.station v) (sym c.as_slice.ensures)) left

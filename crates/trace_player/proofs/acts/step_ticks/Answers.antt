@@ -1,12 +1,13 @@
-use Rattle.std.proofs.Common.{ℕ, ◌++◌, List, Err, sym, ap, ◌∙◌, arith, Bool}
+use Rattle.std.proofs.Common.{ℕ, ◌++◌, List, [], Err, refl, sym, ap, ◌∙◌, arith, Bool}
 use Rattle.mme_core.specs.World.{World, reply}
 use Rattle.mme_core.specs.declared.event.Event.TheVariants as event
 use Rattle.trace_progress.specs.Replies.{reply_text}
 use Rattle.trace_progress.specs.Effects.{ticked}
-use Rattle.trace_player.specs.OctetLaws.{Appends-then}
+use Rattle.trace_player.specs.OctetLaws.{Appends-nil, Appends-then}
 use Rattle.trace_player.specs.Watching.{failed_after_play}
 use Rattle.trace_player.proofs.Answered.{Puts-after}
-use Rattle.trace_player.proofs.Ticks.{Ticking-tick, Ticking-refused, Ticking-end, Ticking-front}
+use Rattle.trace_player.proofs.Left.{HasTaken-all, HasTaken-ticks, TicksOn-start, TicksOn-tick}
+use Rattle.trace_player.proofs.Ticks.{Ticking-start, Ticking-tick, Ticking-refused, Ticking-end, Ticking-front}
 use Rattle.trace_player.proofs.acts.step_ticks.Goals as goal
 
 pub returns-in-Ok-false-clause-put : goal.returns-in-Ok-false-clause-put
@@ -69,6 +70,8 @@ loop-tick-preserved g c =
       Ticking-tick old mid new c.loop-tick._tick before.0 put.0 before.2
           (sym c.in-Ok-true.ensures.taken ∙ c.in-Ok-true.field-0-test) c.in-Ok-true.ensures.after put.2,
       c.in-Ok-true.ensures.write_failed ∙ before.3,
+      TicksOn-tick old mid new c.loop-tick._tick before.4
+          (sym c.in-Ok-true.ensures.taken ∙ c.in-Ok-true.field-0-test) c.in-Ok-true.ensures.after,
     )
 
 pub returns-clause-put : goal.returns-clause-put
@@ -85,3 +88,20 @@ returns-clause-after g c =
     let before = c.loop-tick.invariant in
     ap (λ (v : World × List ℕ). v.0)
     (sym (Ticking-end c.args.mme.now c.loop-tick.mme c.loop-tick._tick c.args.count before.0 before.2 (omega arith)))
+
+pub returns-in-Ok-false-clause-left : goal.returns-in-Ok-false-clause-left
+returns-in-Ok-false-clause-left g c =
+    HasTaken-ticks c.args.mme.now c.loop-tick.mme c.step_event.new.mme c.loop-tick._tick c.args.count c.loop-tick.invariant.4
+    (omega arith) c.in-Ok-false.ensures.left
+
+pub returns-in-Err-clause-left : goal.returns-in-Err-clause-left
+returns-in-Err-clause-left g c =
+    HasTaken-ticks c.args.mme.now c.loop-tick.mme c.step_event.new.mme c.loop-tick._tick c.args.count c.loop-tick.invariant.4
+    (omega arith) c.in-Err.ensures.left
+
+pub returns-clause-left : goal.returns-clause-left
+returns-clause-left g c =
+    HasTaken-all c.args.mme.now c.loop-tick.mme c.loop-tick._tick c.args.count c.loop-tick.invariant.4 (omega arith)
+
+pub loop-tick-init : goal.loop-tick-init
+loop-tick-init g c = ([], Appends-nil _, Ticking-start c.args.mme.now, refl, TicksOn-start c.args.mme.now)

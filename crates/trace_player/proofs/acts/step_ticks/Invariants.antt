@@ -1,5 +1,6 @@
 use Rattle.std.proofs.Common.{◌≡◌, ℕ, List}
 use Rattle.std.specs.Io.KnownBytes.{Appends}
+use Rattle.trace_player.proofs.Left.{TicksOn}
 use Rattle.trace_player.proofs.Ticks.{Ticking}
 use Rattle.trace_player.proofs.acts.step_ticks.Given as goal
 
@@ -7,3 +8,4 @@ abbrev pub invariant-loop-tick : goal.invariant-loop-tick
 invariant-loop-tick g l =
     (written : List ℕ) × Appends (g.W.Write.contents l.initial.writer.inner) (g.W.Write.contents l.writer.inner) written
     × Ticking l.initial.mme l._tick l.mme written × (l.writer.failed ≡ l.initial.writer.failed)
+    × TicksOn l.initial.mme l._tick l.mme
