@@ -27,10 +27,10 @@ then_left (Running world) f = refl
 pub event_fault : (line : Line) (acted : Bool) (progress : Progress) → IsEventLine line
     → fault_of_line acted progress line ≡ result_err (running progress)
 unfolding effect_of
-event_fault Skip acted progress h = absurd h
-event_fault (Mme network) acted progress h = absurd h
-event_fault (Sub profile) acted progress h = absurd h
-event_fault (Vec imsi vector) acted progress h = absurd h
+event_fault Skip acted progress h = absurd (cc h)
+event_fault (Mme network) acted progress h = absurd (cc h)
+event_fault (Sub profile) acted progress h = absurd (cc h)
+event_fault (Vec imsi vector) acted progress h = absurd (cc h)
 event_fault (Up e) acted progress h = then_left progress _
 event_fault (Lost e) acted progress h = then_left progress _
 event_fault (In e octets) acted progress h = then_left progress _

@@ -1,5 +1,5 @@
 -- The fault of a script's line, by what the lines before it have left, and after which lines nothing is provisioned any more.
-use Rattle.std.specs.Prelude.{◌≡◌, ℕ, ◌&&◌, ⊤, Bool, true, false, List, Option, Some, None, Result, Ok, Err, if◌then◌else◌}
+use Rattle.std.specs.Prelude.{◌≡◌, ℕ, ◌&&◌, ⊤, Bool, true, false, not, List, Option, Some, None, Result, Ok, Err, if◌then◌else◌}
 use Rattle.std.specs.Result.{result_err}
 use Rattle.trace_words.specs.declared.line.Line.{Line}
 use Rattle.trace_words.specs.declared.line.Line.TheVariants.{Skip, Mme, Sub, Vec, Up, Lost, In, Tick, Data, Cancel, Show}
@@ -32,16 +32,7 @@ provisions (Show imsi) = false
 -- an event or a question, which is for the MME that is made of it
 abbrev pub is_for_mme : Line → Bool
 is_for_mme Skip = false
-is_for_mme (Mme network) = false
-is_for_mme (Sub profile) = false
-is_for_mme (Vec imsi vector) = false
-is_for_mme (Up e) = true
-is_for_mme (Lost e) = true
-is_for_mme (In e octets) = true
-is_for_mme (Tick n) = true
-is_for_mme (Data imsi) = true
-is_for_mme (Cancel imsi) = true
-is_for_mme (Show imsi) = true
+is_for_mme line = not (provisions line)
 
 abbrev pub said_for_mme : Result ScriptLine TraceFault → Bool
 said_for_mme (Ok (script.Trace line)) = is_for_mme line

@@ -3,8 +3,9 @@
 ghost use Rattle.std.specs.Prelude.{◌≡◌, ◌≢◌, [], true, OnOk, IfErr};
 ghost use Rattle.std.specs.Result.{result_err};
 ghost use Rattle.trace_progress.specs.Effects.{running};
-ghost use Rattle.sim_lines.specs.Faults.{AnswersFault};
 ghost use Rattle.sim_printing.specs.Printed.{IsBegun, PrintsOn, PrintsScriptLine};
+ghost use Rattle.sim_lines.specs.Faults.{AnswersFault};
+ghost use Rattle.sim_lines.specs.Further.{GoesFurther};
 
 use crate::script::Script;
 use crate::turns::{deliver, play_message, play_queue};
@@ -33,7 +34,9 @@ pub(crate) fn play_act_line(
     if !is_begun(&script.progress) {
         return Err(PlayFault::Trace(number, TraceFault::Order));
     }
+    let before = out.len();
     let Ok(()) = play_act(alloc, script, act, out) else {
+        out.truncate(before);
         return Err(PlayFault::NoMemory);
     };
     script.acted = true;
@@ -48,7 +51,8 @@ pub(crate) fn play_act(
     out: &mut Vec<u8>,
 ) -> Result<(), AllocError>
     requires { IsBegun script.old.progress }
-    ensures { OnOk result (PrintsOn script.old.progress out.old.items script.new.progress out.new.items []) }
+    ensures printed { OnOk result (PrintsOn script.old.progress out.old.items script.new.progress out.new.items []) }
+    ensures goes { GoesFurther script.old.progress out.old.items script.new.progress out.new.items }
 {
     match act {
         ScriptAct::Station(line) => {
@@ -78,7 +82,8 @@ fn play_acted(
     out: &mut Vec<u8>,
 ) -> Result<(), AllocError>
     requires { IsBegun script.old.progress }
-    ensures { OnOk result (PrintsOn script.old.progress out.old.items script.new.progress out.new.items []) }
+    ensures printed { OnOk result (PrintsOn script.old.progress out.old.items script.new.progress out.new.items []) }
+    ensures goes { GoesFurther script.old.progress out.old.items script.new.progress out.new.items }
 {
     match acted {
         Acted::Skipped => {
@@ -101,7 +106,8 @@ fn play_connection(
     out: &mut Vec<u8>,
 ) -> Result<(), AllocError>
     requires { IsBegun script.old.progress }
-    ensures { OnOk result (PrintsOn script.old.progress out.old.items script.new.progress out.new.items []) }
+    ensures printed { OnOk result (PrintsOn script.old.progress out.old.items script.new.progress out.new.items []) }
+    ensures goes { GoesFurther script.old.progress out.old.items script.new.progress out.new.items }
 {
     if !script.crowd.has_station(station) {
         return play_acted(alloc, script, Acted::Skipped, out);
@@ -111,8 +117,7 @@ fn play_connection(
     deliver(&mut script.crowd, sent, &mut queue)?;
     let answered = play_set_up(alloc, script, station, out)?;
     deliver(&mut script.crowd, answered, &mut queue)?;
-    play_queue(alloc, script, queue, out)?;
-    Ok(())
+    play_queue(alloc, script, queue, out)
 }
 
 /// A station asks to be set up: what is sent at that.
@@ -123,7 +128,8 @@ fn play_set_up(
     out: &mut Vec<u8>,
 ) -> Result<Option<Outs>, AllocError>
     requires { IsBegun script.old.progress }
-    ensures { OnOk result (PrintsOn script.old.progress out.old.items script.new.progress out.new.items []) }
+    ensures printed { OnOk result (PrintsOn script.old.progress out.old.items script.new.progress out.new.items []) }
+    ensures goes { GoesFurther script.old.progress out.old.items script.new.progress out.new.items }
 {
     match script.crowd.set_up(station)? {
         Acted::Sends(uplink) => {

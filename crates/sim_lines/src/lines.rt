@@ -6,6 +6,7 @@ ghost use Rattle.trace_words.specs.declared.line.Line.TheVariants.{Mme, Sub, Vec
 ghost use Rattle.sim_printing.specs.Printed.{IsBegun, PrintsOn, PrintsScriptLine, ReadsAs};
 ghost use Rattle.sim_lines.specs.Events.{IsEventLine};
 ghost use Rattle.sim_lines.specs.Faults.{AnswersFault, fault_of_line, is_for_mme};
+ghost use Rattle.sim_lines.specs.Further.{GoesFurther};
 
 use crate::acts::play_act;
 use crate::script::Script;
@@ -99,13 +100,17 @@ fn provide_phone(
         return Err(PlayFault::Trace(number, TraceFault::Order));
     }
     let imsi = profile.imsi;
+    let before = out.len();
     match play_sub(&mut script.progress, number, profile, text, out) {
         Ok(()) => {}
         Err(fault) => return Err(fault),
     }
     match script.crowd.add_phone(imsi) {
         Ok(()) => Ok(()),
-        Err(_) => Err(PlayFault::NoMemory),
+        Err(_) => {
+            out.truncate(before);
+            Err(PlayFault::NoMemory)
+        }
     }
 }
 
@@ -130,13 +135,17 @@ fn provide_vector(
     let Ok(of_phone) = vector.clone() else {
         return Err(PlayFault::NoMemory);
     };
+    let before = out.len();
     match play_vec(&mut script.progress, number, imsi, vector, text, out) {
         Ok(()) => {}
         Err(fault) => return Err(fault),
     }
     match script.crowd.give_vector(imsi, of_phone) {
         Ok(()) => Ok(()),
-        Err(_) => Err(PlayFault::NoMemory),
+        Err(_) => {
+            out.truncate(before);
+            Err(PlayFault::NoMemory)
+        }
     }
 }
 
@@ -190,7 +199,9 @@ fn play_event_line(
     if !is_begun(&script.progress) {
         return Err(PlayFault::Trace(number, TraceFault::Order));
     }
+    let before = out.len();
     let Ok(()) = play_event(alloc, script, line, text, out) else {
+        out.truncate(before);
         return Err(PlayFault::NoMemory);
     };
     script.acted = true;
@@ -208,7 +219,8 @@ fn play_event(
     requires begun { IsBegun script.old.progress }
     requires event { IsEventLine line }
     requires says { ReadsAs line text.now }
-    ensures { OnOk result (PrintsOn script.old.progress out.old.items script.new.progress out.new.items (kept_line line)) }
+    ensures printed { OnOk result (PrintsOn script.old.progress out.old.items script.new.progress out.new.items (kept_line line)) }
+    ensures goes { GoesFurther script.old.progress out.old.items script.new.progress out.new.items }
 {
     match line {
         Line::Up(station) => play_act(alloc, script, ScriptAct::Up(station), out),
@@ -233,12 +245,12 @@ fn play_loss(
     out: &mut Vec<u8>,
 ) -> Result<(), AllocError>
     requires { IsBegun script.old.progress }
-    ensures { OnOk result (PrintsOn script.old.progress out.old.items script.new.progress out.new.items []) }
+    ensures printed { OnOk result (PrintsOn script.old.progress out.old.items script.new.progress out.new.items []) }
+    ensures goes { GoesFurther script.old.progress out.old.items script.new.progress out.new.items }
 {
     let sent = play_lost(alloc, &mut script.progress, station, out)?;
     script.crowd.lose(station);
-    play_answers(alloc, script, sent, out)?;
-    Ok(())
+    play_answers(alloc, script, sent, out)
 }
 
 /// Seconds pass, one after another, up to the first that is refused.
@@ -249,7 +261,8 @@ fn play_ticks(
     out: &mut Vec<u8>,
 ) -> Result<(), AllocError>
     requires { IsBegun script.old.progress }
-    ensures { OnOk result (PrintsOn script.old.progress out.old.items script.new.progress out.new.items []) }
+    ensures printed { OnOk result (PrintsOn script.old.progress out.old.items script.new.progress out.new.items []) }
+    ensures goes { GoesFurther script.old.progress out.old.items script.new.progress out.new.items }
 {
     for _tick in 0..count {
         let sent = play_tick(alloc, &mut script.progress, out)?;
@@ -271,11 +284,12 @@ fn play_waiting(
 ) -> Result<(), AllocError>
     requires begun { IsBegun script.old.progress }
     requires says { ReadsAs (Data imsi) text.now }
-    ensures { OnOk result (PrintsOn script.old.progress out.old.items script.new.progress out.new.items (kept_line (Data imsi))) }
+    ensures printed { OnOk result
+        (PrintsOn script.old.progress out.old.items script.new.progress out.new.items (kept_line (Data imsi))) }
+    ensures goes { GoesFurther script.old.progress out.old.items script.new.progress out.new.items }
 {
     let sent = play_data(alloc, &mut script.progress, imsi, text, out)?;
-    play_answers(alloc, script, sent, out)?;
-    Ok(())
+    play_answers(alloc, script, sent, out)
 }
 
 /// A subscription is withdrawn.
@@ -288,9 +302,10 @@ fn play_withdrawal(
 ) -> Result<(), AllocError>
     requires begun { IsBegun script.old.progress }
     requires says { ReadsAs (Cancel imsi) text.now }
-    ensures { OnOk result (PrintsOn script.old.progress out.old.items script.new.progress out.new.items (kept_line (Cancel imsi))) }
+    ensures printed { OnOk result
+        (PrintsOn script.old.progress out.old.items script.new.progress out.new.items (kept_line (Cancel imsi))) }
+    ensures goes { GoesFurther script.old.progress out.old.items script.new.progress out.new.items }
 {
     let sent = play_cancel(alloc, &mut script.progress, imsi, text, out)?;
-    play_answers(alloc, script, sent, out)?;
-    Ok(())
+    play_answers(alloc, script, sent, out)
 }

@@ -44,7 +44,7 @@ impl Script {
 /// others only their number is printed. A line that can't be read has its fault. `Order` is the fault of a line that
 /// provisions after an act, an event or a question, and of any other line that says something before `mme`; `Provision` that
 /// of a line that provisions or asks for a subscriber as it may not. At each of these faults nothing is printed, and the script
-/// is as it was. Where memory is refused the output may end within a line.
+/// is as it was. Where memory is refused nothing of the line is printed, and the progress is as far as it got with the line.
 pub fn play_script_line(
     alloc: Global,
     script: &mut Script,

@@ -2,6 +2,7 @@
 
 ghost use Rattle.std.specs.Prelude.{◌≡◌, [], OnOk};
 ghost use Rattle.sim_printing.specs.Printed.{IsBegun, PrintsOn};
+ghost use Rattle.sim_lines.specs.Further.{GoesFurther};
 
 use crate::script::Script;
 use identity_slots::StationNumber;
@@ -22,11 +23,11 @@ pub(crate) fn play_message(
     out: &mut Vec<u8>,
 ) -> Result<(), AllocError>
     requires { IsBegun script.old.progress }
-    ensures { OnOk result (PrintsOn script.old.progress out.old.items script.new.progress out.new.items []) }
+    ensures printed { OnOk result (PrintsOn script.old.progress out.old.items script.new.progress out.new.items []) }
+    ensures goes { GoesFurther script.old.progress out.old.items script.new.progress out.new.items }
 {
     let sent = play_in(alloc, &mut script.progress, station, octets, out)?;
-    play_answers(alloc, script, sent, out)?;
-    Ok(())
+    play_answers(alloc, script, sent, out)
 }
 
 /// Delivers what the MME sent, if it sent something, and plays what is answered to it.
@@ -37,12 +38,12 @@ pub(crate) fn play_answers(
     out: &mut Vec<u8>,
 ) -> Result<(), AllocError>
     requires { IsBegun script.old.progress }
-    ensures { OnOk result (PrintsOn script.old.progress out.old.items script.new.progress out.new.items []) }
+    ensures printed { OnOk result (PrintsOn script.old.progress out.old.items script.new.progress out.new.items []) }
+    ensures goes { GoesFurther script.old.progress out.old.items script.new.progress out.new.items }
 {
     let mut queue = Vec::new(alloc);
     deliver(&mut script.crowd, sent, &mut queue)?;
-    play_queue(alloc, script, queue, out)?;
-    Ok(())
+    play_queue(alloc, script, queue, out)
 }
 
 /// Delivers what the MME sent, in order; what is answered comes to the end of the queue.
@@ -69,7 +70,8 @@ pub(crate) fn play_queue(
     out: &mut Vec<u8>,
 ) -> Result<(), AllocError>
     requires { IsBegun script.old.progress }
-    ensures { OnOk result (PrintsOn script.old.progress out.old.items script.new.progress out.new.items []) }
+    ensures printed { OnOk result (PrintsOn script.old.progress out.old.items script.new.progress out.new.items []) }
+    ensures goes { GoesFurther script.old.progress out.old.items script.new.progress out.new.items }
 {
     for turn in 0..MOST_ANSWERS {
         let Some(uplink) = queue.get(turn) else {

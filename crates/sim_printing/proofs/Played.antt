@@ -1,6 +1,6 @@
 -- What an event and a question print.
-use Rattle.std.proofs.Common.{◌≡◌, ◌≢◌, ℕ, List, [], ◌∷◌, ◌++◌, Option, Some, Result, Ok, Err, Bor, codes, refl, sym, ap, ◌∙◌, append-nil}
-use Rattle.std.specs.Prelude.{is_ok, IsOk, IfErr}
+use Rattle.std.proofs.Common.{◌≡◌, ◌≢◌, ℕ, List, [], ◌∷◌, ◌++◌, Option, Some, Result, Ok, Err, Bor, codes, inl, inr, refl, sym, ap, ◌∙◌, append-nil}
+use Rattle.std.specs.Prelude.{is_ok, IsOk, IfErr, OnErr}
 use Rattle.std.specs.Result.{result_ok}
 use Rattle.identity_slots.specs.declared.profile.Profile.{Profile}
 use Rattle.identity_slots.specs.declared.profile.Vector.{Vector}
@@ -25,8 +25,14 @@ use Rattle.trace_progress.specs.declared.progress.Progress.TheVariants.{Running}
 use Rattle.trace_progress.specs.Effects.{Effect, configured, effect_of, event_played, in_event, left, left_by, running, states_of_imsi, states_shown, subscriber_added, tick_then, ticked, vector_given}
 use Rattle.trace_answers.specs.Words.{answers_of, refused_text, states_text}
 use Rattle.trace_progress.specs.Replies.{refusal_number, reply_text}
-use Rattle.sim_printing.specs.Printed.{AddsComments, IfSent, Prints, PrintsFrom, PrintsLine, ReadsAs, event_line}
+use Rattle.sim_printing.specs.Printed.{AddsComments, AfterEvent, IfSent, Prints, PrintsFrom, PrintsLine, ReadsAs, event_line}
+use Rattle.sim_printing.specs.Stopped.{MayHaveTaken, StopsWith}
 use Rattle.sim_printing.specs.PrintLaws.{AddsComments-none, Prints-line}
+
+-- what stands whatever was answered
+pub on_err : {T E P : Type 0} (r : Result T E) → P → OnErr r P
+on_err (Ok x) p = tt
+on_err (Err e) p = p
 
 -- one tick is an event
 one_then : (world : World) (r : Result (List Out) StepFault)
@@ -57,6 +63,16 @@ reply-octets world e octets = refl
 pub IfSent-octets : (progress : Progress) (e : ℕ) (octets : Bor (List ℕ)) (sent : Option (List Out))
     → IfSent progress (event.In e octets) sent → IfSent progress (in_event e octets.now) sent
 IfSent-octets progress e octets sent h = λ world r. h world r ∙ ap result_ok (sym (reply-octets world e octets))
+
+pub AfterEvent-octets : (old new : Progress) (e : ℕ) (octets : Bor (List ℕ)) → AfterEvent old (event.In e octets) new
+    → AfterEvent old (in_event e octets.now) new
+unfolding happens
+AfterEvent-octets old new e octets h = h
+
+pub StopsWith-octets : (old new : Progress) (e : ℕ) (octets : Bor (List ℕ)) → StopsWith (MayHaveTaken (event.In e octets)) old new
+    → StopsWith (MayHaveTaken (in_event e octets.now)) old new
+unfolding happens
+StopsWith-octets old new e octets h = h
 
 after_run : (progress : Progress) (world : World) (f : World → Effect) → running progress ≡ Ok world
     → (running progress >>= f) ≡ f world
@@ -149,9 +165,14 @@ pub Prints-provisioned : FirstWordTells → (old new : Progress) (before after l
 Prints-provisioned law old new before after l line reads some effect e =
     Prints-line law old new before after after l [] line reads some effect e (AddsComments-none after)
 
--- a line that is taken has no fault
-pub IsOk-effect : (effect same : Effect) (done : Progress × List ℕ) → effect ≡ same → same ≡ Ok done → IsOk effect
-IsOk-effect effect same done e h = ap (λ (v : Effect). is_ok v) (e ∙ h)
+-- a line that is taken has no fault, whether memory to print it is wanting or not
+IsOk-effect : (effect : Effect) (done : Progress × List ℕ) → effect ≡ Ok done → IsOk effect
+IsOk-effect effect done e = ap (λ (v : Effect). is_ok v) e
+
+pub PrintsLine-unprinted : (number : ℕ) (line : Line) (old new : Progress) (before after : List ℕ)
+    → effect_of old line ≡ Ok (new, []) → after ≡ before → PrintsLine number line old before (Err NoMemory) new after
+PrintsLine-unprinted number line old new before after effect e =
+    (IsOk-effect (effect_of old line) (new, []) effect, e, inr effect)
 
 abbrev refused : PlayFault → Result (Unit {0}) PlayFault
 refused fault = Err fault
@@ -159,7 +180,7 @@ refused fault = Err fault
 -- nor has one for which memory was wanting, since its fault would have come
 IsOk-unfaulted : (number : ℕ) (effect same : Effect) → effect ≡ same
     → IfErr same (λ met. refused NoMemory ≡ refused (Trace number met)) → IsOk effect
-IsOk-unfaulted number effect (Ok done) e due = IsOk-effect effect (Ok done) done e refl
+IsOk-unfaulted number effect (Ok done) e due = IsOk-effect effect done e
 IsOk-unfaulted number effect (Err met) e due = absurd (cc due)
 
 -- a line that is refused
@@ -169,6 +190,7 @@ pub PrintsLine-fault : (number : ℕ) (line : Line) (effect : Effect) (old new :
     → IfErr effect (λ met. refused fault ≡ refused (Trace number met))
     → PrintsLine number line old out (Err fault) new out
 PrintsLine-fault number line effect old new out (Trace place fault) e acts stays other due = (e ∙ acts.0, acts.1, refl, stays)
-PrintsLine-fault number line effect old new out NoMemory e acts stays other due = IsOk-unfaulted number (effect_of old line) effect e due
+PrintsLine-fault number line effect old new out NoMemory e acts stays other due =
+    (IsOk-unfaulted number (effect_of old line) effect e due, refl, inl stays)
 PrintsLine-fault number line effect old new out Read e acts stays other due = absurd acts
 PrintsLine-fault number line effect old new out Write e acts stays other due = absurd (other refl)

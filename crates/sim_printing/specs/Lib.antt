@@ -1,3 +1,5 @@
 pub mod Printed
+pub mod Stopped
 pub mod LineLaws
 pub mod PrintLaws
+pub mod StopLaws

@@ -18,9 +18,6 @@ use Rattle.sim_printing.specs.LineLaws.{first_line, one_line, one_break, skip_ef
 pub kept_nil : (xs : List (Result Line TraceFault)) → xs ++ [] ≡ xs
 kept_nil xs = append-nil xs
 
-pub kept_assoc : (a b c : List (Result Line TraceFault)) → (a ++ b) ++ c ≡ a ++ (b ++ c)
-kept_assoc a b c = append_assoc a b c
-
 cond_append : (b : Bool) (x : Result Line TraceFault) (xs ys : List (Result Line TraceFault))
     → cond b (x ∷ (xs ++ ys)) (xs ++ ys) ≡ cond b (x ∷ xs) xs ++ ys
 cond_append true x xs ys = refl
@@ -188,32 +185,24 @@ Speaks-line old new l said c line reads some effect comments =
 -- ---- what a call prints
 
 pub Prints-none : (progress : Progress) (out : List ℕ) → Prints progress out progress out []
-Prints-none progress out first s = (s, sym (kept_nil (kept_in (lines_of out))))
+Prints-none progress out = ([], sym (append-nil out), Speaks-nil progress, ap kept_in lines_of-nil)
 
 pub Prints-then : (a b c : Progress) (s t u : List ℕ) (kept : List (Result Line TraceFault)) → Prints a s b t kept
     → Prints b t c u [] → Prints a s c u kept
-Prints-then a b c s t u kept p q first h =
-    let one = p first h in
-    let two = q first one.0 in
-    (two.0, two.1 ∙ kept_nil (kept_in (lines_of t)) ∙ one.1)
-
-Prints-add : (old new : Progress) (before text after : List ℕ) (kept : List (Result Line TraceFault)) → after ≡ before ++ text
-    → Speaks old text new
-    → kept_in (lines_of text) ≡ kept → Prints old before new after kept
-Prints-add old new before text after kept e speaks k first h =
-    let goes : Speaks first (before ++ text) new = Speaks-then first old new before text h speaks in (
-      subst (λ (v : List ℕ). Speaks first v new) (sym e) goes,
-      ap (λ v. kept_in (lines_of v)) e ∙ ap kept_in (h.whole text) ∙ kept_in-append (lines_of before) (lines_of text)
-          ∙ ap (λ v. kept_in (lines_of before) ++ v) k,
-    )
+Prints-then a b c s t u kept p q = (
+  p.0 ++ q.0,
+  q.1 ∙ ap (λ v. v ++ q.0) p.1 ∙ append_assoc s p.0 q.0,
+  Speaks-then a b c p.0 q.0 p.2 q.2,
+  ap kept_in (p.2.whole q.0) ∙ kept_in-append (lines_of p.0) (lines_of q.0) ∙ ap (λ v. v ++ kept_in (lines_of q.0)) p.3
+      ∙ ap (λ v. kept ++ v) q.3 ∙ kept_nil kept,
+)
 
 -- comments that answer nothing leave the trace where it is
 pub Prints-comments : (progress : Progress) (before after : List ℕ) → AddsComments before after []
     → Prints progress before progress after []
-Prints-comments progress before after h =
-    Prints-add progress progress before h.0 after [] h.1 (Speaks-comments progress h.0 h.2) h.2.none_kept
+Prints-comments progress before after h = (h.0, h.1, Speaks-comments progress h.0 h.2, h.2.none_kept)
 
-kept_in-read : FirstWordTells → (text : List ℕ) (line : Line) → line_of text ≡ Ok line → kept_in (text ∷ []) ≡ kept_line line
+pub kept_in-read : FirstWordTells → (text : List ℕ) (line : Line) → line_of text ≡ Ok line → kept_in (text ∷ []) ≡ kept_line line
 kept_in-read law text line e = rw (law text line e, e) refl
 
 -- a line and its answers
@@ -222,9 +211,10 @@ pub Prints-line : FirstWordTells → (old new : Progress) (before mid after l sa
     → effect_of old line ≡ Ok (new, said) → mid ≡ before ++ (l ++ 10 ∷ []) → AddsComments mid after said
     → Prints old before new after (kept_line line)
 Prints-line law old new before mid after l said line reads some effect m adds =
-    let c = adds.0 in
-    Prints-add old new before ((l ++ 10 ∷ []) ++ c) after (kept_line line)
-    (adds.1 ∙ ap (λ v. v ++ c) m ∙ append_assoc before (l ++ 10 ∷ []) c)
-    (Speaks-line old new l said c line reads some effect adds.2)
-    (ap kept_in (first_line l c reads.0) ∙ kept_in-append (l ∷ []) (lines_of c) ∙ ap (λ v. kept_in (l ∷ []) ++ v) adds.2.none_kept
-    ∙ kept_nil (kept_in (l ∷ [])) ∙ kept_in-read law l line reads.1)
+    let c = adds.0 in (
+      (l ++ 10 ∷ []) ++ c,
+      adds.1 ∙ ap (λ v. v ++ c) m ∙ append_assoc before (l ++ 10 ∷ []) c,
+      Speaks-line old new l said c line reads some effect adds.2,
+      ap kept_in (first_line l c reads.0) ∙ kept_in-append (l ∷ []) (lines_of c) ∙ ap (λ v. kept_in (l ∷ []) ++ v) adds.2.none_kept
+          ∙ kept_nil (kept_in (l ∷ [])) ∙ kept_in-read law l line reads.1,
+    )

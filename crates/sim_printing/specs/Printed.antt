@@ -1,5 +1,5 @@
 -- The output of a simulation: a trace whose comments are its answers.
-use Rattle.std.specs.Prelude.{◌≡◌, ℕ, ◌+◌, ◌==◌, ⊤, List, [], ◌∷◌, ◌++◌, Option, Result, Ok, Err, IsOk, if◌then◌else◌}
+use Rattle.std.specs.Prelude.{◌≡◌, ℕ, ◌+◌, ◌==◌, ⊤, ◌⊎◌, List, [], ◌∷◌, ◌++◌, Option, Result, Ok, Err, IsOk, if◌then◌else◌}
 use Rattle.std.specs.Result.{result_ok}
 use Rattle.mme_core.specs.World.{World, reply}
 use Rattle.mme_core.specs.declared.event.Event.{Event}
@@ -14,8 +14,9 @@ use Rattle.trace_progress.specs.declared.fault.PlayFault.{PlayFault}
 use Rattle.trace_progress.specs.declared.fault.PlayFault.TheVariants.{Trace, Read, Write, NoMemory}
 use Rattle.trace_progress.specs.declared.progress.Progress.{Progress}
 use Rattle.trace_progress.specs.declared.progress.Progress.TheVariants.{Nothing, Provisioning, Running}
-use Rattle.trace_progress.specs.Effects.{effect_of, running}
+use Rattle.trace_progress.specs.Effects.{effect_of, left_by, running}
 use Rattle.trace_progress.specs.Text.{prepended, play, lines_of, breaks}
+use Rattle.sim_printing.specs.Stopped.{HasTakenLine, IsFurther}
 
 -- ---- comments
 
@@ -49,25 +50,26 @@ pub record Speaks (old : Progress) (text : List ℕ) (new : Progress) : Type 0 w
   pub plays : (n : ℕ) (more : List ℕ)
       → play old n (lines_of (text ++ more)) ≡ prepended (answers_in (lines_of text)) (play new (n + breaks text) (lines_of more))
 
--- what a call that prints leaves: the output speaks on as it began, wherever that was, with these further kept lines
+-- what a call that prints leaves: the output goes on with whole lines that lead the trace from the one state to the other, and
+-- these are the kept lines among them
 abbrev pub Prints : Progress → List ℕ → Progress → List ℕ → List (Result Line TraceFault) → Type 0
 Prints old before new after kept =
-    (first : Progress) → Speaks first before old
-    → Speaks first after new × (kept_in (lines_of after) ≡ kept_in (lines_of before) ++ kept)
+    (text : List ℕ) × (after ≡ before ++ text) × Speaks old text new × (kept_in (lines_of text) ≡ kept)
 
 -- the same of a call that an MME takes part in, which ran already or is made of what is provisioned
 abbrev pub PrintsFrom : World → List ℕ → World → List ℕ → List (Result Line TraceFault) → Type 0
 PrintsFrom old before new after kept =
     (progress : Progress) → running progress ≡ Ok old → Prints progress before (Running new) after kept
 
--- what the trace line of that number leaves, which writes nothing: it is printed, or at its fault nothing is and the trace stands
--- where it stood, and memory is wanting only where it has none
+-- what the trace line of that number leaves, which writes nothing: it is printed; or at its fault nothing is, and the trace stands
+-- where it stood; or memory is wanting, only where it has no fault: then nothing is printed, and it was taken or not
 abbrev pub PrintsLine : ℕ → Line → Progress → List ℕ → Result (Unit {0}) PlayFault → Progress → List ℕ → Type 0
 PrintsLine number line old before (Ok _) new after =
     (effect_of old line ≡ Ok (new, [])) × Prints old before new after (kept_line line)
 PrintsLine number line old before (Err (Trace place fault)) new after =
     (effect_of old line ≡ Err fault) × (place ≡ number) × (after ≡ before) × (new ≡ old)
-PrintsLine number line old before (Err NoMemory) new after = IsOk (effect_of old line)
+PrintsLine number line old before (Err NoMemory) new after =
+    IsOk (effect_of old line) × (after ≡ before) × ((new ≡ old) ⊎ (effect_of old line ≡ Ok (new, [])))
 PrintsLine number line old before (Err Read) new after = ⊥
 PrintsLine number line old before (Err Write) new after = ⊥
 
@@ -81,12 +83,14 @@ IsBegun (Running world) = ⊤
 abbrev pub PrintsOn : Progress → List ℕ → Progress → List ℕ → List (Result Line TraceFault) → Type 0
 PrintsOn old before new after kept = IsBegun new × Prints old before new after kept
 
--- what the script line of that number leaves: what it stands for is printed, or at its fault nothing is
+-- what the script line of that number leaves: what it stands for is printed, or at its fault nothing is; and where memory is
+-- wanting nothing is printed either, and the trace is as far as it got with the line
 abbrev pub PrintsScriptLine : ℕ → List (Result Line TraceFault) → Progress → List ℕ → Result (Unit {0}) PlayFault → Progress
     → List ℕ → Type 0
 PrintsScriptLine number kept old before (Ok _) new after = Prints old before new after kept
 PrintsScriptLine number kept old before (Err (Trace place fault)) new after = (place ≡ number) × (after ≡ before)
-PrintsScriptLine number kept old before (Err NoMemory) new after = ⊤
+PrintsScriptLine number kept old before (Err NoMemory) new after =
+    (after ≡ before) × (IsFurther old new ⊎ HasTakenLine kept old new)
 PrintsScriptLine number kept old before (Err Read) new after = ⊥
 PrintsScriptLine number kept old before (Err Write) new after = ⊥
 
@@ -108,3 +112,7 @@ event_line (event.Cancel imsi) = Cancel imsi
 -- what was sent at an event is what the MME sends, and nothing is told of one that it refuses
 abbrev pub IfSent : Progress → Event → Option (List Out) → Type 0
 IfSent old event sent = (world : World) → running old ≡ Ok world → sent ≡ result_ok (reply world event)
+
+-- the MME after an event that was answered: one that it refused left it as it was
+abbrev pub AfterEvent : Progress → Event → Progress → Type 0
+AfterEvent old event new = (world : World) → running old ≡ Ok world → new ≡ Running (left_by world event (reply world event))

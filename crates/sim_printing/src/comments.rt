@@ -5,6 +5,7 @@ ghost use Rattle.std.specs.Fmt.{decimal};
 ghost use Rattle.s1ap_pdus.specs.Pdus.{longest};
 ghost use Rattle.trace_answers.specs.Lines.{octets_said};
 ghost use Rattle.trace_answers.specs.Words.{answer_text, answers_of, out_text, refused_text, states_text};
+ghost use Rattle.trace_progress.specs.Acts.{IsPrefix};
 ghost use Rattle.trace_progress.specs.Replies.{refusal_number};
 ghost use Rattle.sim_printing.specs.Printed.{AddsComments};
 
@@ -15,18 +16,34 @@ use sim_words::comments_are_not_kept;
 use std::alloc::{AllocError, Global};
 use trace_answers::{Answer, sent_line, write_answer};
 
-/// Appends a line.
+/// Appends a line. Where memory is refused the output stays.
 pub(crate) fn push_line(text: &[u8], out: &mut Vec<u8>) -> Result<(), AllocError>
-    ensures { OnOk result (out.new.items ≡ out.old.items ++ (text.now ++ 10 ∷ [])) }
+    ensures added { OnOk result (out.new.items ≡ out.old.items ++ (text.now ++ 10 ∷ [])) }
+    ensures err { OnErr result (out.new.items ≡ out.old.items) }
 {
-    out.extend_from_slice(text)?;
-    out.push(b'\n')?;
-    Ok(())
+    push_both(text, b"\n", out)
 }
 
-/// Appends what an event sent.
+/// Appends two texts, one after the other, or neither where memory is refused.
+fn push_both(first: &[u8], second: &[u8], out: &mut Vec<u8>) -> Result<(), AllocError>
+    ensures added { OnOk result (out.new.items ≡ out.old.items ++ (first.now ++ second.now)) }
+    ensures err { OnErr result (out.new.items ≡ out.old.items) }
+{
+    let before = out.len();
+    out.extend_from_slice(first)?;
+    match out.extend_from_slice(second) {
+        Ok(()) => Ok(()),
+        Err(refused) => {
+            out.truncate(before);
+            Err(refused)
+        }
+    }
+}
+
+/// Appends what an event sent, or where memory is refused the first lines of it.
 pub(crate) fn push_answers(alloc: Global, sent: &[Out], out: &mut Vec<u8>) -> Result<(), AllocError>
-    ensures { OnOk result (AddsComments out.old.items out.new.items (answers_of sent.now)) }
+    ensures added { OnOk result (AddsComments out.old.items out.new.items (answers_of sent.now)) }
+    ensures err { OnErr result (IsPrefix out.old.items out.new.items) }
 {
     for message in sent {
         push_sent(alloc, message, out)?;
@@ -35,14 +52,15 @@ pub(crate) fn push_answers(alloc: Global, sent: &[Out], out: &mut Vec<u8>) -> Re
 }
 
 fn push_sent(alloc: Global, message: &Out, out: &mut Vec<u8>) -> Result<(), AllocError>
-    ensures { OnOk result (AddsComments out.old.items out.new.items (out_text message.now)) }
+    ensures added { OnOk result (AddsComments out.old.items out.new.items (out_text message.now)) }
+    ensures err { OnErr result (out.new.items ≡ out.old.items) }
 {
     message.octets.is_short();
     push_answer(alloc, &sent_line(message), out)?;
     Ok(())
 }
 
-/// Appends why an event was refused. Want of memory isn't told: it is handed on.
+/// Appends why an event was refused. Want of memory isn't told: it is handed on, and the output stays.
 pub(crate) fn push_refusal(
     alloc: Global,
     fault: StepFault,
@@ -50,6 +68,7 @@ pub(crate) fn push_refusal(
 ) -> Result<(), AllocError>
     ensures added { OnOk result (AddsComments out.old.items out.new.items (refused_text (refusal_number fault))) }
     ensures memory { OnOk result (fault ≢ StepFault.NoMemory) }
+    ensures err { OnErr result (out.new.items ≡ out.old.items) }
 {
     match fault {
         StepFault::NoMemory => Err(AllocError),
@@ -60,35 +79,30 @@ pub(crate) fn push_refusal(
     }
 }
 
-/// Appends the states of a subscriber.
+/// Appends the states of a subscriber. Where memory is refused the output stays.
 pub(crate) fn push_states(
     alloc: Global,
     imsi: Imsi,
     states: States,
     out: &mut Vec<u8>,
 ) -> Result<(), AllocError>
-    ensures { OnOk result (AddsComments out.old.items out.new.items (states_text imsi states)) }
+    ensures added { OnOk result (AddsComments out.old.items out.new.items (states_text imsi states)) }
+    ensures err { OnErr result (out.new.items ≡ out.old.items) }
 {
     push_answer(alloc, &Answer::State(imsi, states), out)?;
     Ok(())
 }
 
-/// Appends an answer line, as a comment.
+/// Appends an answer line, as a comment. Where memory is refused the output stays.
 fn push_answer(alloc: Global, answer: &Answer<'_>, out: &mut Vec<u8>) -> Result<(), AllocError>
     requires { octets_said answer.now ≤ longest }
-    ensures { OnOk result (AddsComments out.old.items out.new.items (answer_text answer.now)) }
+    ensures added { OnOk result (AddsComments out.old.items out.new.items (answer_text answer.now)) }
+    ensures err { OnErr result (out.new.items ≡ out.old.items) }
 {
     comments_are_not_kept();
     let line = write_answer(Vec::new(alloc), answer)?;
-    push_marked(line.as_slice(), out)?;
+    push_both(b"# ", line.as_slice(), out)?;
     Ok(())
-}
-
-fn push_marked(text: &[u8], out: &mut Vec<u8>) -> Result<(), AllocError>
-    ensures { OnOk result (out.new.items ≡ out.old.items ++ 35 ∷ 32 ∷ text.now) }
-{
-    out.extend_from_slice(b"# ")?;
-    out.extend_from_slice(text)
 }
 
 /// Appends the line `## skipped`, which answers nothing: an act that can't be done. Where memory is refused the output stays.

@@ -1,12 +1,13 @@
 //! Events and questions, each printed as its trace line with its answers after it.
 
-ghost use Rattle.std.specs.Prelude.{◌≡◌, true, false, IfOk, OnOk, is_some};
+ghost use Rattle.std.specs.Prelude.{◌≡◌, true, false, IfOk, OnOk, OnErr, is_some};
 ghost use Rattle.std.specs.Result.{result_ok};
 ghost use Rattle.sim_words.specs.Kept.{kept_line};
 ghost use Rattle.mme_core.specs.World.{reply};
-ghost use Rattle.trace_progress.specs.Effects.{states_of_imsi};
+ghost use Rattle.trace_progress.specs.Effects.{left_by, states_of_imsi};
 ghost use Rattle.trace_words.specs.declared.line.Line.TheVariants.{Show};
 ghost use Rattle.sim_printing.specs.Printed.{PrintsFrom, ReadsAs, event_line};
+ghost use Rattle.sim_printing.specs.Stopped.{MayHaveTaken};
 
 use crate::comments::{push_answers, push_line, push_refusal, push_states};
 use mme_core::{Event, Mme, Outs};
@@ -16,7 +17,8 @@ use std::alloc::{AllocError, Global};
 use trace_progress::states_of_imsi;
 
 /// Plays an event: appends `text`, the line that says it, and then its answers, each after `# `. What is sent, or None where
-/// the event was refused. A refusal leaves the MME as it was; where memory is refused the output may end within a line.
+/// the event was refused, and then the MME is as it was. Where memory is refused nothing is appended; the MME is as it was, or
+/// has taken the event.
 pub fn print_event(
     alloc: Global,
     mme: &mut Mme,
@@ -27,23 +29,33 @@ pub fn print_event(
     requires { ReadsAs (event_line event.now) text.now }
     ensures printed { OnOk result (PrintsFrom mme.old out.old.items mme.new out.new.items (kept_line (event_line event.now))) }
     ensures sent { IfOk result (λ sent. sent ≡ result_ok (reply mme.old event.now)) }
+    ensures after { OnOk result (mme.new ≡ left_by mme.old event.now (reply mme.old event.now)) }
+    ensures taken { OnErr result (MayHaveTaken event.now mme.old mme.new) }
+    ensures err { OnErr result (out.new.items ≡ out.old.items) }
 {
     first_word_tells();
+    let before = out.len();
     push_line(text, out)?;
     match mme.step(event) {
-        Ok(sent) => {
-            push_answers(alloc, sent.as_slice(), out)?;
-            Ok(Some(sent))
-        }
-        Err(fault) => {
-            push_refusal(alloc, fault, out)?;
-            Ok(None)
-        }
+        Ok(sent) => match push_answers(alloc, sent.as_slice(), out) {
+            Ok(()) => Ok(Some(sent)),
+            Err(refused) => {
+                out.truncate(before);
+                Err(refused)
+            }
+        },
+        Err(fault) => match push_refusal(alloc, fault, out) {
+            Ok(()) => Ok(None),
+            Err(refused) => {
+                out.truncate(before);
+                Err(refused)
+            }
+        },
     }
 }
 
 /// Shows a subscriber: appends `text`, the line that asks for it, and then its states after `# `. Answers `false`, with
-/// nothing appended, where nobody is provisioned with the IMSI.
+/// nothing appended, where nobody is provisioned with the IMSI. Nor is anything appended where memory is refused.
 pub fn print_show(
     alloc: Global,
     mme: &Mme,
@@ -56,12 +68,19 @@ pub fn print_show(
     ensures printed { IfOk result
         (λ known. known ≡ true → PrintsFrom mme.now out.old.items mme.now out.new.items (kept_line (Show imsi))) }
     ensures unknown { IfOk result (λ known. known ≡ false → out.new.items ≡ out.old.items) }
+    ensures err { OnErr result (out.new.items ≡ out.old.items) }
 {
     first_word_tells();
     let Some(states) = states_of_imsi(mme, imsi) else {
         return Ok(false);
     };
+    let before = out.len();
     push_line(text, out)?;
-    push_states(alloc, imsi, states, out)?;
-    Ok(true)
+    match push_states(alloc, imsi, states, out) {
+        Ok(()) => Ok(true),
+        Err(refused) => {
+            out.truncate(before);
+            Err(refused)
+        }
+    }
 }

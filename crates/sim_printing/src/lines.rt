@@ -1,14 +1,20 @@
 //! Lines that are printed and played, whether the MME runs already or is still to be made of what is provisioned.
+//!
+//! Where memory is refused nothing is printed. A line that provisions was taken or not. At an event or a question the trace stands
+//! where it stood; or nothing is left of it, where the MME was to be made of what is provisioned; or the MME runs, and has taken
+//! the event or not. An event that the MME refuses leaves it as it was.
 
-ghost use Rattle.std.specs.Prelude.{◌≡◌, ◌<◌, ◌≤◌, [], true, false, length, Ok, IfOk, OnOk, IsNone, is_some};
+ghost use Rattle.std.specs.Prelude.{◌≡◌, ◌<◌, ◌≤◌, [], true, false, length, Ok, IfOk, OnOk, OnErr, IsNone, is_some};
 ghost use Rattle.trace_words.specs.declared.line.Line.TheVariants.{Mme, Sub, Vec, In, Data, Cancel, Show};
 ghost use Rattle.trace_words.specs.Trace.{line_text};
 ghost use Rattle.sim_words.specs.Kept.{kept_line};
 ghost use Rattle.mme_core.specs.World.{World};
 ghost use Rattle.mme_core.specs.declared.event.Event.TheVariants as event;
 ghost use Rattle.trace_progress.specs.declared.progress.Progress.TheVariants.{Nothing};
+ghost use Rattle.trace_progress.specs.Acts.{IsIdle, RunsAs};
 ghost use Rattle.trace_progress.specs.Effects.{in_event, running, states_of_imsi};
-ghost use Rattle.sim_printing.specs.Printed.{IfSent, IsBegun, PrintsLine, PrintsOn, ReadsAs, event_line};
+ghost use Rattle.sim_printing.specs.Printed.{AfterEvent, IfSent, IsBegun, PrintsLine, PrintsOn, ReadsAs, event_line};
+ghost use Rattle.sim_printing.specs.Stopped.{IsUnchanged, MayHaveTaken, StopsWith};
 
 use crate::comments::push_line;
 use crate::events::{print_event, print_show};
@@ -24,7 +30,7 @@ use trace_words::{LONGEST_LINE, write_in, write_lost, write_up};
 // ---- provisioning
 
 /// Begins the provisioning, and appends the line as it was read. A fault is that of the line of that number, and comes whatever
-/// memory there is.
+/// memory there is. Where memory is refused nothing is appended, and the line was taken or not.
 pub fn play_mme(
     alloc: Global,
     progress: &mut Progress,
@@ -48,7 +54,7 @@ pub fn play_mme(
 }
 
 /// Provisions a subscriber, and appends the line as it was read. A fault is that of the line of that number, and comes whatever
-/// memory there is.
+/// memory there is. Where memory is refused nothing is appended, and the line was taken or not.
 pub fn play_sub(
     progress: &mut Progress,
     number: u64,
@@ -71,7 +77,7 @@ pub fn play_sub(
 }
 
 /// Gives a subscriber a vector, and appends the line as it was read. A fault is that of the line of that number, and comes
-/// whatever memory there is.
+/// whatever memory there is. Where memory is refused nothing is appended, and the line was taken or not.
 pub fn play_vec(
     progress: &mut Progress,
     number: u64,
@@ -117,6 +123,9 @@ pub fn play_up(
     requires { IsBegun progress.old }
     ensures printed { OnOk result (PrintsOn progress.old out.old.items progress.new out.new.items []) }
     ensures sent { IfOk result (IfSent progress.old (event.Up station)) }
+    ensures after { OnOk result (AfterEvent progress.old (event.Up station) progress.new) }
+    ensures err { OnErr result (out.new.items ≡ out.old.items) }
+    ensures stops { OnErr result (StopsWith (MayHaveTaken (event.Up station)) progress.old progress.new) }
 {
     let text = write_up(alloc, station)?;
     let sent = play_event(alloc, progress, &Event::Up(station), text.as_bytes(), out)?;
@@ -133,6 +142,9 @@ pub fn play_lost(
     requires { IsBegun progress.old }
     ensures printed { OnOk result (PrintsOn progress.old out.old.items progress.new out.new.items []) }
     ensures sent { IfOk result (IfSent progress.old (event.Lost station)) }
+    ensures after { OnOk result (AfterEvent progress.old (event.Lost station) progress.new) }
+    ensures err { OnErr result (out.new.items ≡ out.old.items) }
+    ensures stops { OnErr result (StopsWith (MayHaveTaken (event.Lost station)) progress.old progress.new) }
 {
     let text = write_lost(alloc, station)?;
     let sent = play_event(alloc, progress, &Event::Lost(station), text.as_bytes(), out)?;
@@ -155,6 +167,10 @@ pub fn play_in(
     ensures long { IfOk result (λ sent. 40000 < length (line_text (In station octets.now)) → IsNone sent) }
     ensures unsent { OnOk result (40000 < length (line_text (In station octets.now))
         → (progress.new ≡ progress.old) × (out.new.items ≡ out.old.items)) }
+    ensures after { OnOk result
+        (length (line_text (In station octets.now)) ≤ 40000 → AfterEvent progress.old (in_event station octets.now) progress.new) }
+    ensures err { OnErr result (out.new.items ≡ out.old.items) }
+    ensures stops { OnErr result (StopsWith (MayHaveTaken (in_event station octets.now)) progress.old progress.new) }
 {
     let text = write_in(alloc, station, octets)?;
     if text.len() > LONGEST_LINE {
@@ -174,6 +190,9 @@ pub fn play_tick(
     requires { IsBegun progress.old }
     ensures printed { OnOk result (PrintsOn progress.old out.old.items progress.new out.new.items []) }
     ensures sent { IfOk result (IfSent progress.old event.Tick) }
+    ensures after { OnOk result (AfterEvent progress.old event.Tick progress.new) }
+    ensures err { OnErr result (out.new.items ≡ out.old.items) }
+    ensures stops { OnErr result (StopsWith (MayHaveTaken event.Tick) progress.old progress.new) }
 {
     let sent = play_event(alloc, progress, &Event::Tick, b"tick 1", out)?;
     Ok(sent)
@@ -191,6 +210,9 @@ pub fn play_data(
     requires says { ReadsAs (Data imsi) text.now }
     ensures printed { OnOk result (PrintsOn progress.old out.old.items progress.new out.new.items (kept_line (Data imsi))) }
     ensures sent { IfOk result (IfSent progress.old (event.Data imsi)) }
+    ensures after { OnOk result (AfterEvent progress.old (event.Data imsi) progress.new) }
+    ensures err { OnErr result (out.new.items ≡ out.old.items) }
+    ensures stops { OnErr result (StopsWith (MayHaveTaken (event.Data imsi)) progress.old progress.new) }
 {
     let sent = play_event(alloc, progress, &Event::Data(imsi), text, out)?;
     Ok(sent)
@@ -208,6 +230,9 @@ pub fn play_cancel(
     requires says { ReadsAs (Cancel imsi) text.now }
     ensures printed { OnOk result (PrintsOn progress.old out.old.items progress.new out.new.items (kept_line (Cancel imsi))) }
     ensures sent { IfOk result (IfSent progress.old (event.Cancel imsi)) }
+    ensures after { OnOk result (AfterEvent progress.old (event.Cancel imsi) progress.new) }
+    ensures err { OnErr result (out.new.items ≡ out.old.items) }
+    ensures stops { OnErr result (StopsWith (MayHaveTaken (event.Cancel imsi)) progress.old progress.new) }
 {
     let sent = play_event(alloc, progress, &Event::Cancel(imsi), text, out)?;
     Ok(sent)
@@ -225,15 +250,31 @@ fn play_event(
     ensures printed { OnOk result
         (PrintsOn progress.old out.old.items progress.new out.new.items (kept_line (event_line event.now))) }
     ensures sent { IfOk result (IfSent progress.old event.now) }
+    ensures after { OnOk result (AfterEvent progress.old event.now progress.new) }
+    ensures err { OnErr result (out.new.items ≡ out.old.items) }
+    ensures stops { OnErr result (StopsWith (MayHaveTaken event.now) progress.old progress.new) }
 {
-    let Ok(()) = run(alloc, progress, 0) else {
-        return Err(AllocError);
-    };
+    set_out(alloc, progress)?;
     let Progress::Running(mme) = progress else {
         return Ok(None);
     };
     let sent = print_event(alloc, mme, event, text, out)?;
     Ok(sent)
+}
+
+/// Makes the MME of what is provisioned, where none runs yet. Where memory is refused nothing is left of what is provisioned.
+fn set_out(alloc: Global, progress: &mut Progress) -> Result<(), AllocError>
+    requires { IsBegun progress.old }
+    ensures runs { OnOk result (RunsAs (running progress.old) progress.new) }
+    ensures err { OnErr result (IsIdle progress.old × (progress.new ≡ Nothing)) }
+{
+    match progress {
+        Progress::Running(_) => Ok(()),
+        Progress::Nothing | Progress::Provisioning(_, _) => match run(alloc, progress, 0) {
+            Ok(()) => Ok(()),
+            Err(_) => Err(AllocError),
+        },
+    }
 }
 
 /// Shows a subscriber, as `text` asks. Answers `false`, with nothing printed and the progress as it was, where nobody is
@@ -252,13 +293,13 @@ pub fn play_show(
     ensures unknown { IfOk result (λ known. known ≡ false → (progress.new ≡ progress.old) × (out.new.items ≡ out.old.items)) }
     ensures known { IfOk result
         (λ known. (world : World) → running progress.old ≡ Ok world → known ≡ is_some (states_of_imsi imsi world)) }
+    ensures err { OnErr result (out.new.items ≡ out.old.items) }
+    ensures stops { OnErr result (StopsWith IsUnchanged progress.old progress.new) }
 {
     if !is_provisioned(progress, imsi) {
         return Ok(false);
     }
-    let Ok(()) = run(alloc, progress, 0) else {
-        return Err(AllocError);
-    };
+    set_out(alloc, progress)?;
     let Progress::Running(mme) = progress else {
         return Ok(false);
     };

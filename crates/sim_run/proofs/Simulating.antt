@@ -41,15 +41,14 @@ kept_none = ap kept_in lines_of-nil
 pub WritesLine-printed : (kept : List (Result Line TraceFault)) (old new : Progress) (before after : List ℕ) → before ≡ []
     → Prints old before new after kept → WritesLine kept old (Ok tt) new after
 WritesLine-printed kept old new before after e prints =
-    let onto_nothing : Prints old [] new after kept = subst (λ (v : List ℕ). Prints old v new after kept) e prints in
-    let got = onto_nothing old (Speaks-nil old) in
-    (got.0, got.1 ∙ ap (λ v. v ++ kept) kept_none)
+    let whole : prints.0 ≡ after = sym (prints.1 ∙ ap (λ v. v ++ prints.0) e) in
+    subst (λ (v : List ℕ). WritesLine kept old (Ok tt) new v) whole (prints.2, prints.3)
 
 -- a fault, at which nothing is written
 pub WritesLine-fault : (number : ℕ) (kept : List (Result Line TraceFault)) (old new : Progress) (before after : List ℕ) (fault : PlayFault)
     → PrintsScriptLine number kept old before (Err fault) new after → WritesLine kept old (Err fault) new []
 WritesLine-fault number kept old new before after (Trace line fault) h = refl
-WritesLine-fault number kept old new before after NoMemory h = tt
+WritesLine-fault number kept old new before after NoMemory h = refl
 WritesLine-fault number kept old new before after Write h = absurd h
 WritesLine-fault number kept old new before after Read h = absurd h
 
@@ -191,16 +190,16 @@ told_by text new speaks =
     ∙ ap (prepended said) (play-nil new (1 + breaks text)) ∙ prepended-ends said None
 
 -- nothing is written of a line that has a fault or is too long
-stopped : (old : ScriptPlayer) (number : ℕ) (lines : List (List ℕ)) (line : ℕ) (fault : TraceFault) (written : List ℕ)
-    → StopsAt writes old number lines (Trace line fault) written → written ≡ []
-stopped old number lines line fault written h = elim h.1 [ inl own ↦ own.4.0 | inr long ↦ long.2 ]
+stopped : (old new : ScriptPlayer) (number : ℕ) (lines : List (List ℕ)) (line : ℕ) (fault : TraceFault) (written : List ℕ)
+    → StopsAt writes old number lines (Trace line fault) new written → written ≡ []
+stopped old new number lines line fault written h = elim h.1 [ inl own ↦ own.3.0 | inr long ↦ long.2.1 ]
 
 -- the line that stops a script has its fault
-stopped_by : (lines passed rest : List (List ℕ)) (said : List ℕ) (player : ScriptPlayer) (line : ℕ) (fault : TraceFault)
+stopped_by : (lines passed rest : List (List ℕ)) (said : List ℕ) (player new : ScriptPlayer) (line : ℕ) (fault : TraceFault)
     (written : List ℕ) → lines ≡ passed ++ rest → Stands passed said player
-    → StopsAt writes player (1 + length passed) rest (Trace line fault) written → Meets lines (length passed) said (Some fault)
-stopped_by lines passed rest said player line fault written e h stops = elim stops.1 [
-  | inl own ↦ met lines passed own.1 own.0 said player (Some fault) (e ∙ ap (λ ls. passed ++ ls) own.3) h own.4.1
+    → StopsAt writes player (1 + length passed) rest (Trace line fault) new written → Meets lines (length passed) said (Some fault)
+stopped_by lines passed rest said player new line fault written e h stops = elim stops.1 [
+  | inl own ↦ met lines passed own.1 own.0 said player (Some fault) (e ∙ ap (λ ls. passed ++ ls) own.2) h own.3.1
   | inr long ↦
       let front = long.1 in
       let is = too_long player.script.acted player.script.progress front.0 front.3 ∙ ap Some (sym long.0) in
@@ -217,27 +216,27 @@ ToldUpTo read fault count written =
     × HaveNoFault (lines_of read) count written
     × Meets (lines_of read) count written (Some fault)
 
-pub SimTells-each : (first : ScriptPlayer) (read written : List ℕ) → first.script.progress ≡ Nothing → first.script.acted ≡ false
-    → (result : Result (Unit {0}) PlayFault) → PlaysEach writes first 1 (lines_of read) result written
+pub SimTells-each : (first new : ScriptPlayer) (read written : List ℕ) → first.script.progress ≡ Nothing → first.script.acted ≡ false
+    → (result : Result (Unit {0}) PlayFault) → PlaysEach writes first 1 (lines_of read) result new written
     → SimTells read written result
-SimTells-each first read written start none (Ok _) h =
+SimTells-each first new read written start none (Ok _) h =
     let lines = lines_of read in
     let begun = begins lines first start none in
-    let all = pass_all lines [] lines [] [] first h.0 1 written (sym (append-nil lines)) begun h.1 in
-    (told_by written h.0.script.progress all.0.speaks, all.0.kept, all.1)
-SimTells-each first read written start none (Err (Trace line fault)) h =
+    let all = pass_all lines [] lines [] [] first new 1 written (sym (append-nil lines)) begun h in
+    (told_by written new.script.progress all.0.speaks, all.0.kept, all.1)
+SimTells-each first new read written start none (Err (Trace line fault)) h =
     let lines = lines_of read in
     let begun = begins lines first start none in
     let all = pass_all lines [] h.texts h.rest [] first h.mid 1 h.before h.parted begun h.played in
-    let nothing = stopped h.mid (1 + length h.texts) h.rest line fault h.after h.stops in
+    let nothing = stopped h.mid new (1 + length h.texts) h.rest line fault h.after h.stops in
     let same : h.before ≡ written = sym (h.joined ∙ ap (λ v. h.before ++ v) nothing ∙ append-nil h.before) in
     let number = h.stops.0 in
     let count : length h.texts ≡ line - 1 = omega (arith, number) in
-    let has = stopped_by lines h.texts h.rest h.before h.mid line fault h.after h.parted all.0 h.stops in
+    let has = stopped_by lines h.texts h.rest h.before h.mid new line fault h.after h.parted all.0 h.stops in
     let kept = all.0.kept ∙ ap kept_in (sym (front_of lines h.texts h.rest h.parted)) in
     let told : ToldUpTo read fault (length h.texts) h.before =
     (told_by h.before h.mid.script.progress all.0.speaks, kept, all.1, has) in
     subst (λ (v : List ℕ). ToldUpTo read fault (line - 1) v) same (subst (λ (n : ℕ). ToldUpTo read fault n h.before) count told)
-SimTells-each first read written start none (Err NoMemory) h = tt
-SimTells-each first read written start none (Err Write) h = tt
-SimTells-each first read written start none (Err Read) h = tt
+SimTells-each first new read written start none (Err NoMemory) h = tt
+SimTells-each first new read written start none (Err Write) h = tt
+SimTells-each first new read written start none (Err Read) h = tt

@@ -16,11 +16,12 @@ use Rattle.sim_lines.specs.sim_printing.Printed.{answers_in, Speaks}
 
 -- ---- one line
 
--- what is written of a line with these kept lines: the trace goes on, or at a fault of the line nothing is written
+-- what is written of a line with these kept lines: the trace goes on; or at a fault of the line nothing is written, and nothing
+-- where memory for it is wanting
 abbrev pub WritesLine : List (Result Line TraceFault) → Progress → Result (Unit {0}) PlayFault → Progress → List ℕ → Type 0
 WritesLine kept old (Ok _) new written = Speaks old written new × (kept_in (lines_of written) ≡ kept)
 WritesLine kept old (Err (Trace line fault)) new written = written ≡ []
-WritesLine kept old (Err NoMemory) new written = ⊤
+WritesLine kept old (Err NoMemory) new written = written ≡ []
 WritesLine kept old (Err Write) new written = ⊤
 WritesLine kept old (Err Read) new written = ⊥
 

@@ -1,10 +1,20 @@
 use Rattle.trace_words.specs.declared.line.Line.TheVariants.{Data}
 use Rattle.sim_words.specs.Kept.{kept_line}
-use Rattle.sim_lines.proofs.Printing.{PrintsOn-then}
+use Rattle.mme_core.specs.declared.event.Event.TheVariants as event
+use Rattle.sim_lines.proofs.Printing.{PrintsOn-on}
+use Rattle.sim_lines.proofs.Further.{played, stopped, then_on}
 use Rattle.sim_lines.proofs.lines.play_waiting.Goals as goal
 
-pub returns : goal.returns
-returns c =
-    PrintsOn-then c.args.script.now.progress c.play_data.new.progress c.play_answers.new.script.progress
+pub returns-in_err-sent-clause-goes : goal.returns-in_err-sent-clause-goes
+returns-in_err-sent-clause-goes c = stopped (event.Data c.args.imsi) c.in_err-sent.ensures.stops c.in_err-sent.ensures.err
+
+pub returns-clause-printed : goal.returns-clause-printed
+returns-clause-printed c =
+    PrintsOn-on c.play_answers.result c.args.script.now.progress c.play_data.new.progress c.play_answers.new.script.progress
     c.args.out.now.items c.play_data.new.out.items c.play_answers.new.out.items
-    (kept_line (Data c.args.imsi)) c.in_ok-sent.ensures.printed c.in_ok-play_answers.ensures
+    (kept_line (Data c.args.imsi)) c.in_ok-sent.ensures.printed c.play_answers.ensures.printed
+
+pub returns-clause-goes : goal.returns-clause-goes
+returns-clause-goes c =
+    then_on (played (event.Data c.args.imsi) (kept_line (Data c.args.imsi)) c.requires.begun c.in_ok-sent.ensures.printed c.in_ok-sent.ensures.after)
+    c.play_answers.ensures.goes

@@ -1,7 +1,7 @@
 use Rattle.std.proofs.Common.{◌≤◌, length, string_bytes, arith}
 use Rattle.trace_words.specs.declared.line.Line.TheVariants.{In}
-use Rattle.sim_printing.specs.PrintLaws.{ReadsAs-text}
-use Rattle.sim_printing.proofs.Played.{IfSent-octets}
+use Rattle.sim_printing.specs.PrintLaws.{Prints-none, ReadsAs-text}
+use Rattle.sim_printing.proofs.Played.{AfterEvent-octets, IfSent-octets, StopsWith-octets, on_err}
 use Rattle.sim_printing.proofs.lines.play_in.Goals as goal
 
 pub play_event-requires-clause-says : goal.play_event-requires-clause-says
@@ -14,3 +14,15 @@ play_event-requires-clause-says c =
 pub returns-clause-sent : goal.returns-clause-sent
 returns-clause-sent c = λ _.
     IfSent-octets c.args.progress.now c.args.station c.args.octets c.in_ok-sent.sent c.in_ok-sent.ensures.sent
+
+pub returns-then-len-gt-LONGEST_LINE-clause-printed : goal.returns-then-len-gt-LONGEST_LINE-clause-printed
+returns-then-len-gt-LONGEST_LINE-clause-printed c = (c.requires, Prints-none c.args.progress.now c.args.out.now.items)
+
+pub returns-clause-after : goal.returns-clause-after
+returns-clause-after c = λ _.
+    AfterEvent-octets c.args.progress.now c.play_event.new.progress c.args.station c.args.octets c.in_ok-sent.ensures.after
+
+pub returns-in_err-sent-clause-stops : goal.returns-in_err-sent-clause-stops
+returns-in_err-sent-clause-stops c =
+    on_err c.from_residual-in_err-sent.result
+    (StopsWith-octets c.args.progress.now c.play_event.new.progress c.args.station c.args.octets c.in_err-sent.ensures.stops)

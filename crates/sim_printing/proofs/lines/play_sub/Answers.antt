@@ -1,7 +1,7 @@
-use Rattle.std.proofs.Common.{[], ◌∙◌}
+use Rattle.std.proofs.Common.{◌∙◌}
 use Rattle.trace_words.specs.declared.line.Line.TheVariants.{Sub}
-use Rattle.trace_progress.specs.Effects.{effect_of, subscriber_added}
-use Rattle.sim_printing.proofs.Played.{sub_effect, IsOk-effect, Prints-provisioned, PrintsLine-fault}
+use Rattle.trace_progress.specs.Effects.{subscriber_added}
+use Rattle.sim_printing.proofs.Played.{sub_effect, Prints-provisioned, PrintsLine-fault, PrintsLine-unprinted}
 use Rattle.sim_printing.proofs.lines.play_sub.Goals as goal
 
 pub returns-in-Err : goal.returns-in-Err
@@ -17,10 +17,10 @@ returns-in-Ok-push_line c =
     let effect = sub_effect c.args.progress.now c.args.profile ∙ c.in-Ok.ensures.acts in (
       effect,
       Prints-provisioned c.first_word_tells.ensures c.args.progress.now c.add.new.progress c.args.out.now.items
-          c.push_line.new.out.items c.args.text.now line c.requires (λ s. cc s) effect c.in-Ok-push_line.ensures,
+          c.push_line.new.out.items c.args.text.now line c.requires (λ s. cc s) effect c.in-Ok-push_line.ensures.added,
     )
 
 pub returns-in-Err-push_line : goal.returns-in-Err-push_line
 returns-in-Err-push_line c =
-    IsOk-effect (effect_of c.args.progress.now (Sub c.args.profile)) (subscriber_added c.args.progress.now c.args.profile)
-    (c.add.new.progress, []) (sub_effect c.args.progress.now c.args.profile) c.in-Ok.ensures.acts
+    PrintsLine-unprinted c.args.number (Sub c.args.profile) c.args.progress.now c.add.new.progress c.args.out.now.items c.push_line.new.out.items
+    (sub_effect c.args.progress.now c.args.profile ∙ c.in-Ok.ensures.acts) c.in-Err-push_line.ensures.err

@@ -1,7 +1,7 @@
-use Rattle.std.proofs.Common.{[], ◌∙◌}
+use Rattle.std.proofs.Common.{◌∙◌}
 use Rattle.trace_words.specs.declared.line.Line.TheVariants.{Vec}
-use Rattle.trace_progress.specs.Effects.{effect_of, vector_given}
-use Rattle.sim_printing.proofs.Played.{vec_effect, IsOk-effect, Prints-provisioned, PrintsLine-fault}
+use Rattle.trace_progress.specs.Effects.{vector_given}
+use Rattle.sim_printing.proofs.Played.{vec_effect, Prints-provisioned, PrintsLine-fault, PrintsLine-unprinted}
 use Rattle.sim_printing.proofs.lines.play_vec.Goals as goal
 
 pub returns-in-Err : goal.returns-in-Err
@@ -17,10 +17,10 @@ returns-in-Ok-push_line c =
     let effect = vec_effect c.args.progress.now c.args.imsi c.args.vector ∙ c.in-Ok.ensures.acts in (
       effect,
       Prints-provisioned c.first_word_tells.ensures c.args.progress.now c.give.new.progress c.args.out.now.items
-          c.push_line.new.out.items c.args.text.now line c.requires (λ s. cc s) effect c.in-Ok-push_line.ensures,
+          c.push_line.new.out.items c.args.text.now line c.requires (λ s. cc s) effect c.in-Ok-push_line.ensures.added,
     )
 
 pub returns-in-Err-push_line : goal.returns-in-Err-push_line
 returns-in-Err-push_line c =
-    IsOk-effect (effect_of c.args.progress.now (Vec c.args.imsi c.args.vector)) (vector_given c.args.progress.now c.args.imsi c.args.vector)
-    (c.give.new.progress, []) (vec_effect c.args.progress.now c.args.imsi c.args.vector) c.in-Ok.ensures.acts
+    PrintsLine-unprinted c.args.number (Vec c.args.imsi c.args.vector) c.args.progress.now c.give.new.progress c.args.out.now.items c.push_line.new.out.items
+    (vec_effect c.args.progress.now c.args.imsi c.args.vector ∙ c.in-Ok.ensures.acts) c.in-Err-push_line.ensures.err

@@ -7,7 +7,7 @@ pub returns-clause-simulated : goal.returns-clause-simulated
 returns-clause-simulated g c =
     let ran = c.play_lines.ensures.played in
     let first = c.new-player.result in
-    (ran.0, ran.1, ran.2, ran.3, SimTells-each first ran.0 ran.1 c.new-player.ensures.progress c.new-player.ensures.acted c.play_lines.result ran.4, ran.5)
+    (ran.0, ran.1, ran.2, ran.3, SimTells-each first c.play_lines.new.player ran.0 ran.1 c.new-player.ensures.progress c.new-player.ensures.acted c.play_lines.result ran.4, ran.5)
 
 pub returns-clause-write : goal.returns-clause-write
 returns-clause-write g c = λ told.

@@ -1,0 +1,14 @@
+use Rattle.std.proofs.Common.{List, Result, subst, sym}
+use Rattle.trace_words.specs.declared.line.Line.{Line}
+use Rattle.trace_words.specs.declared.fault.TraceFault.{TraceFault}
+use Rattle.sim_printing.specs.Printed.{PrintsScriptLine}
+use Rattle.sim_printing.specs.PrintLaws.{kept_in-read}
+use Rattle.sim_lines.proofs.script.play_script_line.Goals as goal
+
+pub returns-in-Ok-Trace-clause-printed : goal.returns-in-Ok-Trace-clause-printed
+returns-in-Ok-Trace-clause-printed c =
+    let done = c.play_trace_line in
+    let read = rw c.in-Ok-Trace.field-0-is at c.in-Ok-Trace.ensures.says in
+    subst (λ (kept : List (Result Line TraceFault)). PrintsScriptLine c.args.number kept c.args.script.now.progress c.args.out.now.items
+    done.result done.new.script.progress done.new.out.items)
+    (sym (kept_in-read c.first_word_tells.ensures c.args.text.now c.in-Ok-Trace.line read)) done.ensures.printed
