@@ -1,6 +1,6 @@
 -- The command line that the program takes.
-use Rattle.std.specs.Prelude.{List, codes, Option, option_map}
-use Rattle.clap.specs.Words.{App, Text, Row, first_of, new_app, new_rule, subcommand_of, with_rule, with_subcommand}
+use Rattle.std.specs.Prelude.{◌≡◌, ◌⊎◌, List, [], codes, Option, Some, option_map}
+use Rattle.clap.specs.Words.{App, Text, Row, Kinds, fault_of, first_of, new_app, new_rule, subcommand_of, with_rule, with_subcommand}
 use Rattle.mme_command.specs.declared.command_line.Choice.{Choice}
 use Rattle.mme_command.specs.declared.command_line.Choice.TheVariants.{Play, Sim}
 
@@ -22,3 +22,13 @@ asked_of words = option_map with_file (subcommand_of mme_app words)
 abbrev pub choice_of : Choice → Text × Option Text
 choice_of (Play file) = (codes "play", option_map (λ s. s.now) file)
 choice_of (Sim file) = (codes "sim", option_map (λ s. s.now) file)
+
+-- what is wrong with the words, as the command line library reads them: nothing where there are no kinds of error
+abbrev pub wrong_in : List Text → Kinds
+wrong_in words = fault_of mme_app words
+
+-- the words ask for something: nothing is wrong with them, and there is a subcommand that the program has
+pub record AskFor (words : List Text) : Type 0 where
+  pub right : wrong_in words ≡ []
+  pub file : Option Text
+  pub known : (asked_of words ≡ Some (codes "play", file)) ⊎ (asked_of words ≡ Some (codes "sim", file))

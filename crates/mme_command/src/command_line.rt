@@ -1,9 +1,10 @@
 //! The command line.
 
-ghost use Rattle.std.specs.Prelude.{◌≡◌, map, option_map, false, IfOk, Some};
-ghost use Rattle.clap.specs.Words.{app_of, subcommand_of, subcommand_rows_of, with_subcommand};
+ghost use Rattle.std.specs.Prelude.{◌≡◌, ◌≢◌, [], map, option_map, codes, false, IfOk, IfErr, OnOk, Some, IsErr};
+ghost use Rattle.clap.specs.Words.{FailsBy, app_of, kind_of, subcommand_name_of, subcommand_of, subcommand_rows_of, with_subcommand};
 ghost use Rattle.clap.specs.declared.builder.command.Command.TheViews.{out-Command as fields_of};
-ghost use Rattle.mme_command.specs.CommandLine.{mme_app, file_app, with_file, asked_of, choice_of};
+ghost use Rattle.clap.specs.declared.error.kind.ErrorKind.TheVariants as kind;
+ghost use Rattle.mme_command.specs.CommandLine.{AskFor, mme_app, file_app, with_file, asked_of, choice_of, wrong_in};
 
 use clap::error::ErrorKind;
 use clap::{Arg, ArgMatches, Command, Error};
@@ -27,9 +28,12 @@ pub enum CommandFault {
     NoMemory,
 }
 
-/// What the words of a command line ask for.
+/// What the words of a command line ask for. Usage only where they ask for nothing that the program does, or for help; NoMemory
+/// where a growth of memory was refused.
 pub fn command<'a>(alloc: Global, words: &'a [&'a str]) -> Result<Choice<'a>, CommandFault>
-    ensures { IfOk result (λ choice. asked_of (map (λ w. w.now) words.entry.now) ≡ Some (choice_of choice)) }
+    ensures asked { IfOk result (λ choice. asked_of (map (λ w. w.now) words.entry.now) ≡ Some (choice_of choice)) }
+    ensures right { OnOk result (wrong_in (map (λ w. w.now) words.entry.now) ≡ []) }
+    ensures due { AskFor (map (λ w. w.now) words.entry.now) → IfErr result (λ fault. fault ≡ CommandFault.NoMemory) }
 {
     match parsed(alloc, words) {
         Ok(choice) => Ok(choice),
@@ -44,7 +48,9 @@ pub fn command<'a>(alloc: Global, words: &'a [&'a str]) -> Result<Choice<'a>, Co
 }
 
 fn parsed<'a>(alloc: Global, words: &'a [&'a str]) -> Result<Choice<'a>, Error>
-    ensures { IfOk result (λ choice. asked_of (map (λ w. w.now) words.entry.now) ≡ Some (choice_of choice)) }
+    ensures asked { IfOk result (λ choice. asked_of (map (λ w. w.now) words.entry.now) ≡ Some (choice_of choice)) }
+    ensures right { OnOk result (wrong_in (map (λ w. w.now) words.entry.now) ≡ []) }
+    ensures due { AskFor (map (λ w. w.now) words.entry.now) → IfErr result (λ e. kind_of e ≡ kind.OutOfMemory) }
 {
     match matched(alloc, words) {
         Ok(matches) => chosen(alloc, &matches),
@@ -54,7 +60,9 @@ fn parsed<'a>(alloc: Global, words: &'a [&'a str]) -> Result<Choice<'a>, Error>
 
 /// What the matches choose.
 fn chosen<'a>(alloc: Global, matches: &ArgMatches<'a>) -> Result<Choice<'a>, Error>
-    ensures { IfOk result (λ choice. option_map with_file (subcommand_rows_of matches.now) ≡ Some (choice_of choice)) }
+    ensures asked { IfOk result (λ choice. option_map with_file (subcommand_rows_of matches.now) ≡ Some (choice_of choice)) }
+    ensures play { IsErr result → subcommand_name_of matches.now ≢ Some (codes "play") }
+    ensures sim { IsErr result → subcommand_name_of matches.now ≢ Some (codes "sim") }
 {
     if let Some(found) = matches.subcommand_matches("play") {
         return Ok(Choice::Play(found.get_str("FILE")));
@@ -74,7 +82,8 @@ fn nothing_chosen(alloc: Global) -> Error {
 }
 
 fn matched<'a>(alloc: Global, words: &'a [&'a str]) -> Result<ArgMatches<'a>, Error>
-    ensures { IfOk result (λ m. subcommand_rows_of m ≡ subcommand_of mme_app (map (λ w. w.now) words.entry.now)) }
+    ensures found { IfOk result (λ m. subcommand_rows_of m ≡ subcommand_of mme_app (map (λ w. w.now) words.entry.now)) }
+    ensures fails { FailsBy (wrong_in (map (λ w. w.now) words.entry.now)) result }
 {
     match mme_command(alloc) {
         Ok(mme) => mme.try_get_matches_from(words),

@@ -32,13 +32,13 @@ of_file m found name file n r f =
     asked (subcommand_rows_of m) name (rows_of (found_of found)) file (named m ∙ n) r
     (sym (first_value-rows (found_of found) (codes "FILE")) ∙ sym f)
 
-pub returns-in-Some : goal.returns-in-Some
-returns-in-Some c =
+pub returns-in-Some-clause-asked : goal.returns-in-Some-clause-asked
+returns-in-Some-clause-asked c =
     let some = c.in-Some in
     of_file c.args.matches.now some.found.now (codes "play") _ (some.ensures.found.0 refl) some.ensures.rows c.get_str.ensures
 
-pub returns-in-Some-subcommand_matches : goal.returns-in-Some-subcommand_matches
-returns-in-Some-subcommand_matches c =
+pub returns-in-Some-subcommand_matches-clause-asked : goal.returns-in-Some-subcommand_matches-clause-asked
+returns-in-Some-subcommand_matches-clause-asked c =
     let some = c.in-Some-subcommand_matches in
     of_file c.args.matches.now some.found.now (codes "sim") _
     (some.ensures.found.0 refl) some.ensures.rows c.get_str-in-Some-subcommand_matches.ensures
