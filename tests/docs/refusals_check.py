@@ -28,11 +28,12 @@ SAID_OTHERWISE = {
     "Station::act": ["err", "station"], "play_script_line": ["printed", "err"],
     "Watched::read": ["bytes", "failed", "ended", "calls"], "Watched::write": ["bytes", "failed", "ended", "calls"],
     "Watched::flush": ["bytes", "failed", "ended", "calls"], "play_mme": ["the one"], "play_sub": ["the one"], "play_vec": ["the one"],
-    "print_show": ["unknown"], "play_show": ["unknown"],
+    "print_show": ["unknown", "err"], "play_show": ["unknown", "err", "stops"], "play_lines": ["played"], "PlaysLines::play_line": ["played"],
     **{"Session::" + call: ["the one"]
        for call in ("play", "begin", "add", "give", "start", "up", "down", "hear", "data_waits", "cancel", "tick")},
 }
-# Objects that aren't used further by intent, by the name of the call; readers and writers of bits are told by their type.
+# Objects that aren't used further by intent, by the name of the call; readers and writers of bits, and a step under way that a call
+# of another crate works on, are told by their type.
 UNUSED = re.compile(r"put_\w+|run_play|run_sim|write_whole")
 
 Function = collections.namedtuple("Function", "result clauses unnamed contract")
@@ -191,7 +192,8 @@ def stays_of(call, function):
     if "&mut " not in function.contract:
         return ["no object"]
     is_coding = re.search(r"&mut Bit(?:Reader|Writer)\b", function.contract) or re.match(r"Bit(?:Reader|Writer)::", call)
-    return ["excepted"] if is_coding or UNUSED.fullmatch(call) else ["not said"]
+    is_step = re.search(r"\bdraft: &mut Draft\b", function.contract)
+    return ["excepted"] if is_coding or is_step or UNUSED.fullmatch(call) else ["not said"]
 
 
 def memory_of(function, is_answer, said):
