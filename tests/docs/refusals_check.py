@@ -126,6 +126,8 @@ class Code:
         names = dict(re.findall(r"^pub(?:\(crate\))? type (\w+)(?:<[^=]*>)? = ((?:Result|Option)<.*>);", whole, re.M))
         self.variants = {enum: re.findall(r"^    (\w+)(?:\(([^)]*)\))?(?: = (\d+))?,", body, re.M)
                          for enum, body in re.findall(r"^pub enum (\w+)[^{]*\{\n(.*?)^\}", whole, re.S | re.M)}
+        # (an error of one kind is a struct without fields)
+        self.variants.update((name, [(name, "", "")]) for name in re.findall(r"^pub struct (\w+);", whole, re.M))
         self.home = {enum: crate for crate, texts in files.items()
                      for text in texts.values() for enum in re.findall(r"^pub enum (\w+)", text, re.M)}
         self.public = {crate: self.public_of(texts, names) for crate, texts in files.items()}

@@ -9,6 +9,7 @@ import signal
 import subprocess
 import sys
 import tempfile
+import time
 import unittest
 
 import tools
@@ -113,6 +114,15 @@ class Lives:
         phone.attaches(self.station, 3)
         self.trace.hear = said
 
+    def is_heard(self, running):
+        """What the phones said last stands in the log: nothing answers ATTACH COMPLETE, so the front may not have heard it yet."""
+        last = [line for line in self.trace.text().splitlines() if line.startswith("in ")][-1]
+        for _ in range(200):
+            if last in running.log.read_text(encoding="utf-8"):
+                return
+            time.sleep(0.05)
+        self.test.fail("the front hasn't heard " + last)
+
     def ends(self, phones, running, kill=False):
         """The run is over, and the phones' station with it."""
         for phone in phones:
@@ -139,6 +149,7 @@ class Lives:
         for number in (11, 12, 13):
             self.first.attaches(self.station, number)
         self.settle()
+        self.is_heard(running)
         self.ends((self.first,), running, kill=True)
         running = self.begin("--resume")
         self.test.assertIn(b"goes on: 1 station was lost", running.told)

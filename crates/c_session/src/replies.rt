@@ -6,6 +6,7 @@ ghost use Rattle.c_session.specs.Kept.{lent};
 use mme_core::{Out, Outs, StepFault};
 use std::alloc::Global;
 use std::marker::Model;
+use std::mem;
 
 /// Where the replies to an event lie. The only reply of most events needs no memory of its own.
 #[derive(Drop)]
@@ -56,6 +57,27 @@ impl Replies {
     {
         Replies {
             room: Room::Each(replies),
+        }
+    }
+
+    /// Others stand in their place, and they are forgotten.
+    pub(crate) fn give_way(&mut self, others: Replies)
+        ensures { self.new ≡ others }
+    {
+        mem::replace(self, others).forget();
+    }
+
+    // Nobody asks for them any more: zeros stand in place of what they sent before it is freed, since some of it carries a key.
+    fn forget(self) {
+        match self.room {
+            Room::One(outs) => outs.forget(),
+            Room::Each(replies) => {
+                for reply in replies {
+                    if let Ok(outs) = reply {
+                        outs.forget();
+                    }
+                }
+            }
         }
     }
 

@@ -173,7 +173,7 @@ impl Session {
         };
         match mme.step(event) {
             Ok(outs) => {
-                self.replies = Replies::one(outs);
+                self.replies.give_way(Replies::one(outs));
                 Ok(())
             }
             Err(fault) => Err(of_step(fault)),

@@ -56,7 +56,7 @@ impl Session {
         };
         match mme.run(events.as_slice()) {
             Ok(replies) => {
-                self.replies = Replies::each(replies);
+                self.replies.give_way(Replies::each(replies));
                 Ok(())
             }
             Err(_) => Err(Refusal::NoMemory),

@@ -38,7 +38,7 @@ fn standing_hop(kasme: &Kasme, radio: &RadioKeys) -> NextHop
 fn hop_after(context: &Context) -> NextHop
     ensures { result ≡ hop_after context.now }
 {
-    let kasme = context.kasme.get();
+    let kasme = &context.kasme;
     kasme.next_hop(&standing_hop(kasme, &context.radio))
 }
 

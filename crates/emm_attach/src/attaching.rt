@@ -12,12 +12,11 @@ ghost use Rattle.emm_state.specs.Does.{Does};
 ghost use Rattle.emm_state.specs.declared.solo.Context.{Context};
 
 use emm_state::{
-    Asked, Context, Draft, NasTimer, Phase, Protection, Repeat, Setting, SharedKasme, StepStop,
-    ksi_of, or_stop,
+    Asked, Context, Draft, NasTimer, Phase, Protection, Repeat, Setting, StepStop, ksi_of, or_stop,
 };
 use eps_keys::{Kasme, Kenb, same_octets};
 use esm_machine::Requested;
-use identity_slots::{Tmsi, Vector};
+use identity_slots::{Tmsi, Vector, VectorSpent};
 use mme_signalling::{
     EmmCause, Grant, Heard, attach_accept, attach_reject, attach_reject_with,
     authentication_reject, authentication_request, cause_of_fault, detach_accept, emm_status, hear,
@@ -114,8 +113,10 @@ fn challenge(draft: &mut Draft, alloc: Global, setting: &Setting) -> Result<(), 
     ensures { OnOk result (draft.new ≡ challenge setting.now draft.old) }
 {
     match setting.vectors.get(draft.solo.next_vector) {
-        Some(vector) => challenged(draft, alloc, vector),
-        None => attach_refused(draft, alloc, EmmCause::NetworkFailure),
+        Ok(Some(vector)) => challenged(draft, alloc, vector),
+        Ok(None) => attach_refused(draft, alloc, EmmCause::NetworkFailure),
+        // (never: the next vector's place doesn't go back)
+        Err(VectorSpent) => Err(AllocError),
     }
 }
 
@@ -161,13 +162,8 @@ pub fn attach(
 }
 
 #[tactic(auto, unfolding(crate::specs::Attaching::new_context))]
-fn new_context(
-    draft: &mut Draft,
-    alloc: Global,
-    place: usize,
-    vector: &Vector,
-) -> Result<(), AllocError>
-    ensures { OnOk result (draft.new ≡ new_context place vector.now draft.old) }
+fn new_context(draft: &mut Draft, place: usize, vector: &Vector)
+    ensures { draft.new ≡ new_context place vector.now draft.old }
 {
     let kasme = Kasme::new(vector.kasme.octets());
     let integrity = Eia2::new(&kasme.nas_integrity_key());
@@ -175,14 +171,13 @@ fn new_context(
     draft.solo.context = Some(Context {
         place,
         security: SecurityContext::new(integrity, ksi_of(place), 0, None),
-        kasme: SharedKasme::new(alloc, kasme)?,
+        kasme,
         radio: RadioKeys {
             kenb: Kenb::new([0; 32]),
             next_hop: None,
             chaining_count: 0,
         },
     });
-    Ok(())
 }
 
 #[tactic(auto, unfolding(crate::specs::Attaching::authenticated))]
@@ -195,7 +190,7 @@ fn authenticated(
     ensures { Does result draft.new (authenticated place vector.now draft.old) }
 {
     let command = security_mode_command(alloc, ksi_of(place), &draft.solo.asked.capability)?;
-    new_context(draft, alloc, place, vector)?;
+    new_context(draft, place, vector);
     draft.protect_and_await(alloc, NasTimer::T3460, SecurityHeader::NewContext, command)
 }
 
@@ -215,13 +210,17 @@ fn response(draft: &mut Draft, alloc: Global, setting: &Setting, res: &[u8]) -> 
     ensures { Does result draft.new (response setting.now res.now draft.old) }
 {
     let place = draft.solo.next_vector.saturating_sub(1);
-    let Some(vector) = setting.vectors.get(place) else {
-        return Ok(());
-    };
-    if same_octets(res, vector.xres.as_slice()) {
-        authenticated(draft, alloc, place, vector)
-    } else {
-        or_stop(not_authenticated(draft, alloc))
+    match setting.vectors.get(place) {
+        Ok(Some(vector)) => {
+            if same_octets(res, vector.xres.as_slice()) {
+                authenticated(draft, alloc, place, vector)
+            } else {
+                or_stop(not_authenticated(draft, alloc))
+            }
+        }
+        Ok(None) => Ok(()),
+        // (never: while it authenticates a phone, its vector isn't spent)
+        Err(VectorSpent) => Err(StepStop::NoMemory),
     }
 }
 
@@ -394,7 +393,7 @@ pub fn keyed(draft: &mut Draft, count: u32) -> Kenb
     match &mut draft.solo.context {
         Some(context) => {
             let place = context.place;
-            let radio = keys_of(context.kasme.get(), count);
+            let radio = keys_of(&context.kasme, count);
             let kenb = radio.kenb.copy();
             context.radio = radio;
             draft.accepted = Some(Mark { place, count });

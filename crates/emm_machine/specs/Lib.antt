@@ -7,6 +7,7 @@ pub mod Ticks
 pub mod TickLaws
 pub mod Freshness
 pub mod Laws
+pub mod Forgetting
 -- what the rows do, for those who stand on the machine alone
 pub use Rattle.emm_uplink.specs.emm_attach.Attaching
 pub use Rattle.emm_association.specs.Connected

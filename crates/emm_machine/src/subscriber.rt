@@ -3,6 +3,7 @@
 ghost use Rattle.std.specs.Prelude.{◌≡◌, IfOk, OnErr, OnOk, length};
 ghost use Rattle.emm_state.specs.Does.{Does};
 ghost use Rattle.mme_types.specs.Events.{item_of};
+ghost use Rattle.emm_machine.specs.Forgetting.{goes_on, left_for, vectors_spent};
 ghost use Rattle.emm_machine.specs.Steps.{row, solo_step, spent};
 ghost use Rattle.emm_machine.specs.Ticks.{AreAbove, countdowns, ticks_after};
 ghost use Rattle.emm_machine.specs.Words.{ecm_of, emm_of, fresh_solo, pages_in, states_of};
@@ -11,7 +12,7 @@ use crate::messages::message_of;
 use crate::passing::age;
 use emm_association::{connections_gone, displaced, station_gone};
 use emm_network::{cancelled, data_waits, tick};
-use emm_state::{Asked, Counter, Draft, Phase, Repeat, Setting, Solo, StepStop, or_stop};
+use emm_state::{Asked, Context, Counter, Draft, Phase, Repeat, Setting, Solo, StepStop, or_stop};
 use emm_uplink::{claim, initial};
 use esm_machine::{Bearer, BearerState};
 use identity_slots::{Profile, Slot, Vectors};
@@ -87,6 +88,30 @@ fn fresh_solo() -> Solo
         repeat: None,
         procedure: None,
         reachable: None,
+    }
+}
+
+// Whether a context goes on as the other one.
+fn goes_on(old: &Option<Context>, new: &Option<Context>) -> bool
+    ensures { result ≡ goes_on old.now new.now }
+{
+    let Some(old) = old else {
+        return true;
+    };
+    match new {
+        Some(new) => old.place == new.place,
+        None => false,
+    }
+}
+
+// How many vectors are spent.
+fn vectors_spent(solo: &Solo) -> usize
+    ensures { result ≡ vectors_spent solo.now }
+{
+    if solo.phase.is(Phase::Authenticating) {
+        solo.next_vector.saturating_sub(1)
+    } else {
+        solo.next_vector
     }
 }
 
@@ -221,13 +246,19 @@ impl Subscriber {
 
     /// The state is that of a step that was prepared, whose box is kept; answers the box that was kept until now, with the state
     /// until now and the room for what is sent. Takes no memory. What was sent is to be taken out before, since it would stay in
-    /// memory with that box.
+    /// memory with that box. What ends with the step leaves no key behind: the secrets of a vector that is spent are overwritten,
+    /// and so are the keys of a context that goes on no longer.
     pub fn settle(&mut self, draft: Box<Draft>) -> Box<Draft>
         ensures state { self.new ≡ record self.old { solo = draft.value.solo } }
-        ensures spare { result.value.solo ≡ self.old.solo }
+        ensures spare { result.value.solo ≡ left_for draft.value.solo self.old.solo }
     {
         let mut spare = mem::replace(&mut self.state, draft);
         mem::swap(&mut spare.sent, &mut self.state.sent);
+        let settled = &self.state.solo;
+        self.setting.vectors.spend_before(vectors_spent(settled));
+        if !goes_on(&spare.solo.context, &settled.context) {
+            spare.solo.forget();
+        }
         spare
     }
 
@@ -241,7 +272,8 @@ impl Subscriber {
     {
         let mut draft = self.prepare(None, event, world)?;
         let sent = mem::replace(&mut draft.sent, Answers::new(self.alloc));
-        self.settle(draft);
+        let mut left = self.settle(draft);
+        left.solo.forget();
         Ok(sent)
     }
 

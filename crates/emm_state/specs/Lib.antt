@@ -3,3 +3,4 @@ pub mod KeySets
 pub mod Phases
 pub mod Does
 pub mod Actions
+pub mod Forgetting

@@ -200,13 +200,13 @@ impl Draft {
         Ok(())
     }
 
-    /// All of the registration is gone; counters and the next vector's place stay.
+    /// All of the registration is gone, and zeros stand where its keys were; counters and the next vector's place stay.
     #[tactic(auto, unfolding(crate::specs::Actions::wipe))]
     pub fn wipe(&mut self)
         ensures { self.new ≡ wipe self.old }
     {
         self.solo.phase = Phase::Deregistered;
-        self.solo.context = None;
+        self.solo.forget();
         self.solo.tmsi = None;
         self.solo.bearer = Bearer::new();
         self.solo.repeat = None;

@@ -45,22 +45,21 @@ impl Draft {
         let repeat = solo.repeat_copy(alloc)?;
         match spare {
             Some(mut draft) => {
-                draft.begin(solo, repeat)?;
+                draft.begin(solo, repeat);
                 Ok(draft)
             }
-            None => Draft::of(alloc, solo.with_repeat(repeat)?),
+            None => Draft::of(alloc, solo.with_repeat(repeat)),
         }
     }
 
     // a step from the same state with this to be sent again, where another step stood, whose room for what is sent stays
-    fn begin(&mut self, solo: &Solo, repeat: Option<Repeat>) -> Result<(), AllocError>
-        ensures { OnOk result (self.new ≡ untouched (record solo.now { repeat = repeat })) }
+    fn begin(&mut self, solo: &Solo, repeat: Option<Repeat>)
+        ensures { self.new ≡ untouched (record solo.now { repeat = repeat }) }
     {
-        self.solo.begin(solo, repeat)?;
+        self.solo.begin(solo, repeat);
         self.sent.clear();
         self.accepted = None;
         self.unwritten = false;
-        Ok(())
     }
 }
 

@@ -12,6 +12,5 @@ pub use draft::{Draft, Sealed, StepStop, or_stop};
 pub use nas_elements::timers;
 pub use setting::Setting;
 pub use solo::{
-    Asked, Context, Countdown, Counter, NasTimer, Phase, Protection, Repeat, SharedKasme, Solo,
-    Stations, ksi_of,
+    Asked, Context, Countdown, Counter, NasTimer, Phase, Protection, Repeat, Solo, Stations, ksi_of,
 };

@@ -1,14 +1,15 @@
 //! What a subscriber's machine keeps.
 
-ghost use Rattle.std.specs.Prelude.{◌≡◌, ◌<◌, ◌==◌, not, filter, IfOk, OnOk};
+ghost use Rattle.std.specs.Prelude.{◌≡◌, ◌<◌, ◌==◌, not, filter, IfOk, None};
 ghost use Rattle.std.specs.List.{list_any};
 ghost use Rattle.identity_slots.specs.Ids.{next_counter, id_of_slot};
 ghost use Rattle.nas_elements.specs.Codes.{no_key_set};
+ghost use Rattle.emm_state.specs.Forgetting.{without_keys};
 ghost use Rattle.emm_state.specs.KeySets.{ksi_of};
 ghost use Rattle.emm_state.specs.Phases.{is};
 ghost use Rattle.emm_state.specs.Timers.{repeats_of, ticks_of};
 
-use eps_keys::Kasme;
+use eps_keys::{IntegrityKey, Kasme, Kenb, NextHop};
 use esm_machine::Bearer;
 use identity_slots::{AssociationId, Slot, Tmsi};
 use mme_types::s1ap::elements::Tai;
@@ -18,7 +19,6 @@ use nas_messages::{SecurityHeader, codes, timers};
 use nas_security::{Eia2, SecurityContext};
 use std::alloc::{AllocError, Global};
 use std::marker::Model;
-use std::rc::Rc;
 
 /// What the machine is about (TS 24.301 clause 5.1.3.4).
 #[derive(Clone, Copy, PartialEq, Eq, Debug)]
@@ -48,54 +48,42 @@ impl Phase {
     }
 }
 
-/// KASME, which all copies of a context share; a contract sees its octets.
-#[derive(Drop)]
-pub struct SharedKasme {
-    kasme: Rc<Kasme>,
-}
-
-impl Model for SharedKasme {
-    ghost use Rattle.std.specs.Prelude.{ℕ, List};
-
-    ghost Value = { List ℕ };
-
-    ghost view = { λ s. s.kasme.value };
-}
-
-impl SharedKasme {
-    /// This KASME, to be shared.
-    pub fn new(alloc: Global, kasme: Kasme) -> Result<SharedKasme, AllocError>
-        ensures { IfOk result (λ s. s ≡ kasme) }
-    {
-        Ok(SharedKasme {
-            kasme: Rc::new(alloc, kasme)?,
-        })
-    }
-
-    /// KASME.
-    pub fn get(&self) -> &Kasme
-        ensures { result.now ≡ self.now }
-    {
-        self.kasme.as_ref()
-    }
-
-    /// The same once more; takes no memory, and is refused where more share it than can be counted.
-    pub(crate) fn copy(&self) -> Result<SharedKasme, AllocError>
-        ensures { IfOk result (λ s. s ≡ self.now) }
-    {
-        Ok(SharedKasme {
-            kasme: self.kasme.clone()?,
-        })
-    }
-}
-
 /// A security context with the place of the vector that it was made of. KeNB is zero until a message's count gave it.
 #[derive(Drop)]
 pub struct Context {
     pub place: usize,
     pub security: SecurityContext<Eia2>,
-    pub kasme: SharedKasme,
+    pub kasme: Kasme,
     pub radio: RadioKeys,
+}
+
+impl Context {
+    // The same once more.
+    fn copy(&self) -> Context
+        ensures { result ≡ self.now }
+    {
+        Context {
+            place: self.place,
+            security: self.security,
+            kasme: self.kasme.copy(),
+            radio: self.radio.copy(),
+        }
+    }
+
+    // Zeros stand in place of its keys. It is out of line, so that it is done also where nobody looks at the context again.
+    #[inline(never)]
+    fn forget(&mut self)
+        ensures { self.new ≡ without_keys self.old }
+    {
+        let nobody = IntegrityKey::new([0; 16]);
+        self.security = SecurityContext::new(Eia2::new(&nobody), 0, 0, None);
+        self.kasme.forget();
+        self.radio = RadioKeys {
+            kenb: Kenb::new([0; 32]),
+            next_hop: Some(NextHop::new([0; 32])),
+            chaining_count: 0,
+        };
+    }
 }
 
 /// The key set identifier of the vector at a place: those of keys go round (TS 24.301 clause 9.9.3.21).
@@ -317,32 +305,33 @@ pub struct Solo {
     pub reachable: Option<u32>,
 }
 
-// A security context, of some 300 octets, is copied where it is to stand.
-fn copy_context(to: &mut Option<Context>, from: &Option<Context>) -> Result<(), AllocError>
-    ensures { OnOk result (to.new ≡ from.now) }
+// A context that ends: its keys are overwritten.
+fn forget(context: &mut Option<Context>)
+    ensures { context.new ≡ None }
+{
+    if let Some(context) = context {
+        context.forget();
+    }
+    *context = None;
+}
+
+// A security context, of some 600 octets, is copied where it is to stand.
+fn copy_context(to: &mut Option<Context>, from: &Option<Context>)
+    ensures { to.new ≡ from.now }
 {
     let Some(from) = from else {
-        *to = None;
-        return Ok(());
+        forget(to);
+        return;
     };
-    let kasme = from.kasme.copy()?;
     match to {
         Some(to) => {
             to.place = from.place;
             to.security = from.security;
-            to.kasme = kasme;
+            to.kasme = from.kasme.copy();
             to.radio = from.radio.copy();
         }
-        None => {
-            *to = Some(Context {
-                place: from.place,
-                security: from.security,
-                kasme,
-                radio: from.radio.copy(),
-            });
-        }
+        None => *to = Some(from.copy()),
     }
-    Ok(())
 }
 
 impl Solo {
@@ -357,12 +346,14 @@ impl Solo {
     }
 
     /// The same state with this to be sent again.
-    pub(crate) fn with_repeat(&self, repeat: Option<Repeat>) -> Result<Solo, AllocError>
-        ensures { IfOk result (λ s. s ≡ record self.now { repeat = repeat }) }
+    pub(crate) fn with_repeat(&self, repeat: Option<Repeat>) -> Solo
+        ensures { result ≡ record self.now { repeat = repeat } }
     {
-        let mut context = None;
-        copy_context(&mut context, &self.context)?;
-        Ok(Solo {
+        let context = match &self.context {
+            Some(context) => Some(context.copy()),
+            None => None,
+        };
+        Solo {
             phase: self.phase,
             connection: self.connection,
             context,
@@ -376,14 +367,14 @@ impl Solo {
             repeat,
             procedure: self.procedure,
             reachable: self.reachable,
-        })
+        }
     }
 
-    /// The same state as another one, with this to be sent again.
-    pub(crate) fn begin(&mut self, other: &Solo, repeat: Option<Repeat>) -> Result<(), AllocError>
-        ensures { OnOk result (self.new ≡ record other.now { repeat = repeat }) }
+    /// The same state as another one, with this to be sent again; takes no memory.
+    pub(crate) fn begin(&mut self, other: &Solo, repeat: Option<Repeat>)
+        ensures { self.new ≡ record other.now { repeat = repeat } }
     {
-        copy_context(&mut self.context, &other.context)?;
+        copy_context(&mut self.context, &other.context);
         self.phase = other.phase;
         self.connection = other.connection;
         self.associations = other.associations;
@@ -396,7 +387,13 @@ impl Solo {
         self.repeat = repeat;
         self.procedure = other.procedure;
         self.reachable = other.reachable;
-        Ok(())
+    }
+
+    /// There is no security context any more, and zeros stand where its keys were; takes no memory.
+    pub fn forget(&mut self)
+        ensures { self.new ≡ record self.old { context = None } }
+    {
+        forget(&mut self.context);
     }
 
     /// The same state once more.
@@ -404,6 +401,6 @@ impl Solo {
         ensures { IfOk result (λ s. s ≡ self.now) }
     {
         let repeat = self.repeat_copy(alloc)?;
-        self.with_repeat(repeat)
+        Ok(self.with_repeat(repeat))
     }
 }

@@ -1,13 +1,13 @@
 //! KASME, and the keys that are derived of it (TS 33.401, annex A), by its masked blocks that are kept hashed.
 
-ghost use Rattle.std.specs.Prelude.{◌≡◌};
+ghost use Rattle.std.specs.Prelude.{◌≡◌, replicate};
 ghost use Rattle.eps_keys.specs.Hmac.{hmac_sha256, kenb, nas_integrity_key, next_hop};
 
 use crate::derive::{
-    block_hashed, kenb_input, last_half, mac_from, nas_integrity_input, next_hop_input,
+    block_hashed, hmac_sha256, kenb_input, last_half, mac_from, nas_integrity_input, next_hop_input,
 };
 use crate::secrets::{IntegrityKey, Kenb, NextHop};
-use sha2::Sha256;
+use sha2::{Digest, Sha256};
 use std::marker::Model;
 
 // A copy of a hasher takes no memory, so it can't fail.
@@ -22,12 +22,14 @@ fn hasher_copy(hasher: &Sha256) -> Sha256
 
 /// KASME, 32 octets, of which every other key comes (TS 33.401 clause 6.2); a contract sees its octets. It is kept with its block
 /// under each of the two masks of HMAC hashed (RFC 2104 section 4), so that a key is derived by two blocks of SHA-256 in place of
-/// four. It is neither copied nor printed nor compared.
+/// four. It is neither copied unsaid nor printed nor compared.
 #[derive(Drop)]
 pub struct Kasme {
     key: [u8; 32],
     inner: Sha256,
     outer: Sha256,
+    // whether the hashers have the blocks; a key that was forgotten has none
+    is_hashed: bool,
 }
 
 impl Model for Kasme {
@@ -51,7 +53,30 @@ impl Kasme {
             key: *key,
             inner: block_hashed(key, 0x36),
             outer: block_hashed(key, 0x5c),
+            is_hashed: true,
         }
+    }
+
+    /// The same key once more, for a copy of the context; takes no memory.
+    pub fn copy(&self) -> Kasme
+        ensures { result ≡ self.now }
+    {
+        Kasme {
+            key: self.key,
+            inner: hasher_copy(&self.inner),
+            outer: hasher_copy(&self.outer),
+            is_hashed: self.is_hashed,
+        }
+    }
+
+    /// Zeros stand in place of the key and of what was hashed of it; takes no memory.
+    pub fn forget(&mut self)
+        ensures { self.new ≡ replicate 32 0 }
+    {
+        self.key = [0; 32];
+        self.inner = Sha256::new();
+        self.outer = Sha256::new();
+        self.is_hashed = false;
     }
 
     // The HMAC of a message under it: from copies of what is hashed.
@@ -59,7 +84,11 @@ impl Kasme {
     fn mac(&self, message: &[u8]) -> [u8; 32]
         ensures { result ≡ hmac_sha256 self.now message.now }
     {
-        mac_from(hasher_copy(&self.inner), hasher_copy(&self.outer), message)
+        if self.is_hashed {
+            mac_from(hasher_copy(&self.inner), hasher_copy(&self.outer), message)
+        } else {
+            hmac_sha256(&self.key, message)
+        }
     }
 
     /// The key of 16 octets for the integrity of NAS messages by 128-EIA2 (TS 33.401, A.7), as [`crate::nas_integrity_key`].

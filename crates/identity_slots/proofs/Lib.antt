@@ -1,2 +1,3 @@
 mod Imsis
 pub mod Places
+pub mod Forgetting

@@ -1,3 +1,4 @@
 pub mod Ids
 pub mod Provisioned
 pub mod Kept
+pub mod Forgetting

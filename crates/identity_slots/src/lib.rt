@@ -7,9 +7,11 @@ mod laws;
 mod profile;
 mod provision;
 mod station;
+mod vectors;
 
 pub use ids::{AssociationId, COUNTERS, Slot, Tmsi, number_in, station_in};
 pub use laws::{imsis_apart, octets_apart};
-pub use profile::{GivenKasme, Profile, Vector, Vectors, Xres};
+pub use profile::{GivenKasme, Profile, Vector, Xres};
 pub use provision::{Provision, ProvisionFault};
 pub use station::StationNumber;
+pub use vectors::{VectorSpent, Vectors};

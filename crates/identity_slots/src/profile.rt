@@ -1,10 +1,11 @@
 //! A subscriber's profile and its authentication vectors.
 
-ghost use Rattle.std.specs.Prelude.{◌≡◌, ◌<◌, ◌≤◌, ◌^◌, ◌++◌, ◌∷◌, [], IfSome, IsSome, OnOk, OnErr, length, option_map, slice_get};
+ghost use Rattle.std.specs.Prelude.{◌≡◌, ◌≤◌, IfSome, IsSome, length, replicate};
+ghost use Rattle.identity_slots.specs.Forgetting.{forgotten};
 
 use arrayvec::ArrayVec;
 use nas_elements::Imsi;
-use std::alloc::{AllocError, Global};
+use std::alloc::AllocError;
 use std::marker::Model;
 
 /// What is provisioned of a subscriber.
@@ -57,6 +58,15 @@ impl Xres {
         ensures long { (4 ≤ length self.now) × (length self.now ≤ 16) }
     {
         self.octets.as_slice()
+    }
+
+    // Nobody's: what stands where one was.
+    fn blank() -> Xres
+        ensures { result ≡ replicate 16 0 }
+    {
+        Xres {
+            octets: ArrayVec::from([0; 16]),
+        }
     }
 }
 
@@ -112,6 +122,16 @@ pub struct Vector {
     pub kasme: GivenKasme,
 }
 
+impl Vector {
+    /// Its secrets are gone: zeros stand in place of XRES and of KASME.
+    pub(crate) fn forget(&mut self)
+        ensures { self.new ≡ forgotten self.old }
+    {
+        self.xres = Xres::blank();
+        self.kasme = GivenKasme::new([0; 32]);
+    }
+}
+
 impl Clone for Vector {
     ghost use Rattle.std.specs.Prelude.{◌≡◌};
 
@@ -123,79 +143,6 @@ impl Clone for Vector {
             autn: self.autn,
             xres: self.xres.clone()?,
             kasme: GivenKasme::new(*self.kasme.octets()),
-        })
-    }
-}
-
-/// The vectors of a subscriber, in the order in which they were given; a contract sees their list.
-#[derive(Drop)]
-pub struct Vectors {
-    items: Vec<Vector>,
-}
-
-impl Model for Vectors {
-    ghost use Rattle.std.specs.Prelude.{List};
-    ghost use Rattle.identity_slots.specs.declared.profile.Vector.{Vector};
-
-    ghost Value = { List Vector };
-
-    ghost view = { λ v. v.items.items };
-}
-
-impl Vectors {
-    pub(crate) fn none(alloc: Global) -> Vectors
-        ensures { result ≡ [] }
-    {
-        Vectors {
-            items: Vec::new(alloc),
-        }
-    }
-
-    /// These vectors.
-    pub fn new(items: Vec<Vector>) -> Vectors
-        ensures { result ≡ items.items }
-    {
-        Vectors { items }
-    }
-
-    /// The vector at a place, from 0, if there is one. Takes no memory.
-    pub fn get(&self, place: usize) -> Option<&Vector>
-        ensures value { option_map (λ v. v.now) result ≡ slice_get self.entry.now place }
-        ensures bound { IsSome result → place < 2 ^ 63 }
-    {
-        self.items.as_slice().get(place)
-    }
-
-    pub(crate) fn len(&self) -> usize
-        ensures { result ≡ length self.now }
-    {
-        self.items.len()
-    }
-
-    pub(crate) fn as_slice(&self) -> &[Vector]
-        ensures { result.now ≡ self.now }
-    {
-        self.items.as_slice()
-    }
-
-    /// Adds a vector, or leaves them as they are.
-    pub(crate) fn push(&mut self, vector: Vector) -> Result<(), AllocError>
-        ensures items { OnOk result (self.new ≡ self.old ++ vector ∷ []) }
-        ensures err { OnErr result (self.new ≡ self.old) }
-    {
-        self.items.push(vector)?;
-        Ok(())
-    }
-}
-
-impl Clone for Vectors {
-    ghost use Rattle.std.specs.Prelude.{◌≡◌};
-
-    ghost is_clone = { λ x y. y ≡ x };
-
-    fn clone(&self) -> Result<Vectors, AllocError> {
-        Ok(Vectors {
-            items: self.items.clone()?,
         })
     }
 }

@@ -10,7 +10,8 @@ ghost use Rattle.identity_slots.specs.declared.provision.ProvisionFault.TheVaria
 ghost use Rattle.identity_slots.specs.Provisioned.{Provisioned, imsi_number, address_number, slot_of_imsi, slot_of_address, slot_of_id, add_fault, with_profile, with_vector, without_vectors, vectors_at, AreDistinct, imsi_key, address_key};
 
 use crate::ids::{AssociationId, COUNTERS, STRANGERS, Slot, Tmsi};
-use crate::profile::{Profile, Vector, Vectors};
+use crate::profile::{Profile, Vector};
+use crate::vectors::{Given, Vectors};
 use nas_elements::Imsi;
 use std::alloc::{AllocError, Global};
 use std::collections::HashMap;
@@ -48,7 +49,7 @@ fn address_number(address: [u8; 4]) -> u32
 /// Makes room for one more in each, or leaves them as they are.
 fn reserve_one(
     profiles: &mut Vec<Profile>,
-    vectors: &mut Vec<Vectors>,
+    vectors: &mut Vec<Given>,
     by_imsi: &mut HashMap<u64, Slot>,
     by_address: &mut HashMap<u32, Slot>,
 ) -> Result<(), AllocError>
@@ -72,7 +73,7 @@ fn reserve_one(
 #[derive(Drop)]
 pub struct Provision {
     profiles: Vec<Profile>,
-    vectors: Vec<Vectors>,
+    vectors: Vec<Given>,
     by_imsi: HashMap<u64, Slot>,
     by_address: HashMap<u32, Slot>,
     alloc: Global,
@@ -193,7 +194,7 @@ impl Provision {
             return Err(ProvisionFault::NoMemory);
         }
         self.profiles.push_reserved(profile);
-        self.vectors.push_reserved(Vectors::none(self.alloc));
+        self.vectors.push_reserved(Given::none(self.alloc));
         let _ = self.by_imsi.insert(imsi, slot);
         let _ = self.by_address.insert(address, slot);
         Ok(slot)
@@ -224,12 +225,12 @@ impl Provision {
         ensures taken { slice_get self.old.vectors slot ≡ Some result }
         ensures left { self.new ≡ without_vectors slot self.old }
     {
-        let none = Vectors::none(self.alloc);
-        mem::replace(&mut self.vectors[slot.get() as usize], none)
+        let none = Given::none(self.alloc);
+        mem::replace(&mut self.vectors[slot.get() as usize], none).into_vectors()
     }
 }
 
-fn push_at(vectors: &mut Vec<Vectors>, at: usize, vector: Vector) -> Result<(), AllocError>
+fn push_at(vectors: &mut Vec<Given>, at: usize, vector: Vector) -> Result<(), AllocError>
     requires { at < vec_len vectors.old }
     ensures items { OnOk result
         (vectors.new.items ≡ slice_set vectors.old.items at (vectors_at at vectors.old.items ++ vector ∷ [])) }

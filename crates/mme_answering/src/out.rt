@@ -79,6 +79,14 @@ impl Outs {
         self.items.as_slice()
     }
 
+    /// They were sent: zeros stand in place of their octets before these are freed, since some carry a key. Takes no memory.
+    pub fn forget(self) {
+        let Outs { mut items } = self;
+        for out in items.iter_mut() {
+            out.octets.forget();
+        }
+    }
+
     /// No message is long.
     pub fn are_short(&self)
         ensures { AreShort self.now }

@@ -1,6 +1,7 @@
 //! Subscribers as they were when they were last touched.
 
 ghost use Rattle.std.specs.Prelude.{◌≡◌};
+ghost use Rattle.emm_machine.specs.Forgetting.{left_for};
 ghost use Rattle.emm_machine.specs.Ticks.{countdowns};
 ghost use Rattle.mme_owners.specs.Records.{renewed, view_at, woken, IsFresh};
 
@@ -24,17 +25,18 @@ impl Record {
         self.touched = clock;
     }
 
-    /// The state is that of this step now; answers the box of the one before, with its state. Takes no memory.
+    /// The state is that of this step now; answers the box of the one before, with its state, but for a context that has ended.
+    /// Takes no memory.
     pub fn renew(&mut self, clock: u64, draft: Box<Draft>) -> Box<Draft>
         ensures state { self.new ≡ renewed clock draft.value.solo self.old }
-        ensures spare { result.value.solo ≡ self.old.subscriber.solo }
+        ensures spare { result.value.solo ≡ left_for draft.value.solo self.old.subscriber.solo }
     {
         self.touched = clock;
         self.subscriber.settle(draft)
     }
 
     /// The state is that of this step now; answers the countdowns that it had until now, and the box of the step before, with the
-    /// state as it was until now. Takes no memory.
+    /// state as it was until now, but for a context that has ended. Takes no memory.
     pub fn replace(
         &mut self,
         clock: u64,
@@ -43,7 +45,7 @@ impl Record {
         requires { IsFresh clock self.old }
         ensures state { self.new ≡ renewed clock draft.value.solo self.old }
         ensures before { result.0 ≡ countdowns (view_at clock self.old).solo }
-        ensures spare { result.1.value.solo ≡ (view_at clock self.old).solo }
+        ensures spare { result.1.value.solo ≡ left_for draft.value.solo (view_at clock self.old).solo }
     {
         self.wake(clock);
         let before = self.subscriber.countdowns();

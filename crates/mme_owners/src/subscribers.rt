@@ -20,6 +20,20 @@ use mme_associations::Connections;
 use mme_types::{EnbWorld, SoloEvent};
 use std::alloc::{AllocError, Global};
 use std::marker::Model;
+use std::mem;
+
+// A box that nobody needs any more: the keys in it are overwritten before it is freed.
+fn free(left: Box<Draft>) {
+    let mut left = left;
+    left.solo.forget();
+}
+
+// This box is the spare one, in place of the one that was.
+fn keep(spare: &mut Option<Box<Draft>>, kept: Box<Draft>) {
+    if let Some(left) = mem::replace(spare, Some(kept)) {
+        free(left);
+    }
+}
 
 // One has a new state; answers the countdowns that it had until now. The box of the step before is the spare one.
 fn settle_one(
@@ -36,7 +50,7 @@ fn settle_one(
     let slot = stepped.slot();
     let place = slot.get() as usize;
     let (before, kept) = records[place].replace(clock, stepped.into_draft());
-    *spare = Some(kept);
+    keep(spare, kept);
     before
 }
 
@@ -47,7 +61,7 @@ fn settle_due(records: &mut Vec<Record>, clock: u64, due: Stepped)
 {
     let slot = due.slot();
     let place = slot.get() as usize;
-    records[place].renew(clock, due.into_draft());
+    free(records[place].renew(clock, due.into_draft()));
 }
 
 // Each who was due has the state that it was prepared for.

@@ -1,6 +1,6 @@
 //! Octets of messages on the heap, and the messages that a step sends; contracts see lists.
 
-ghost use Rattle.std.specs.Prelude.{◌≡◌, ◌≤◌, ◌++◌, ◌∷◌, [], ℕ, List, drop, length, take, slice_get, IfOk, OnOk, OnErr};
+ghost use Rattle.std.specs.Prelude.{◌≡◌, ◌≤◌, ◌++◌, ◌∷◌, [], ℕ, List, drop, length, replicate, take, slice_get, IfOk, OnOk, OnErr};
 ghost use Rattle.s1ap_pdus.specs.Pdus.{encoded, lists, longest};
 
 use identity_slots::StationNumber;
@@ -45,6 +45,14 @@ impl NasOctets {
     }
 }
 
+// Zeros stand in place of all octets. It is out of line, so that it is done also where nobody looks at them again.
+#[inline(never)]
+fn overwrite(octets: &mut Vec<u8>)
+    ensures { octets.new.items ≡ replicate (length octets.old.items) 0 }
+{
+    octets.as_mut_slice().fill(0);
+}
+
 /// The octets of one whole S1AP message, of which there are at most 16,388; a contract sees their list.
 #[derive(Drop)]
 pub struct SentOctets {
@@ -86,6 +94,13 @@ impl SentOctets {
         ensures { length self.now ≤ longest }
     {
         let _ = &self.octets;
+    }
+
+    /// Zeros stand in place of the octets: a message that was sent may carry a key. Takes no memory.
+    pub fn forget(&mut self)
+        ensures { self.new ≡ replicate (length self.old) 0 }
+    {
+        overwrite(&mut self.octets);
     }
 
     /// The same octets once more.

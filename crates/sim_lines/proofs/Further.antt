@@ -1,5 +1,5 @@
 -- How far calls go: by each call that prints, and one after another.
-use Rattle.std.proofs.Common.{◌≡◌, ℕ, ◌<◌, ◌≤◌, List, [], length, take, Result, Ok, Err, inl, inr, refl, sym, subst}
+use Rattle.std.proofs.Common.{◌≡◌, ℕ, ◌<◌, ◌≤◌, List, [], ◌∷◌, length, take, Result, Ok, Err, inl, inr, refl, sym, subst}
 use Rattle.std.proofs.lemmas.Bool.{cases_lt}
 use Rattle.mme_core.specs.declared.event.Event.{Event}
 use Rattle.trace_words.specs.declared.line.Line.{Line}
@@ -8,11 +8,12 @@ use Rattle.trace_words.specs.declared.fault.TraceFault.{TraceFault}
 use Rattle.trace_words.specs.Trace.{line_text}
 use Rattle.sim_words.specs.Kept.{kept_line}
 use Rattle.trace_progress.specs.Effects.{in_event}
+use Rattle.trace_progress.specs.Stopping.{HasTaken, StopsWith}
 use Rattle.trace_progress.specs.declared.fault.PlayFault.{PlayFault}
 use Rattle.trace_progress.specs.declared.fault.PlayFault.TheVariants.{Trace, Read, Write, NoMemory}
 use Rattle.trace_progress.specs.declared.progress.Progress.{Progress}
 use Rattle.sim_printing.specs.Printed.{AddsComments, AfterEvent, IsBegun, PrintsLine, PrintsOn, PrintsScriptLine}
-use Rattle.sim_printing.specs.Stopped.{IsFurther, MayHaveTaken, StopsWith}
+use Rattle.sim_printing.specs.Stopped.{IsFurther}
 use Rattle.sim_printing.specs.StopLaws.{IsFurther-event, IsFurther-same, IsFurther-stopped, IsFurther-then, IsPrefix-cut, IsPrefix-same, IsPrefix-then}
 use Rattle.sim_lines.specs.Further.{GoesFurther}
 
@@ -58,10 +59,10 @@ played_in {old} {new} e octets begun prints h unsent =
     }
 
 -- memory for an event was refused
-pub stopped : {old new : Progress} {before after : List ℕ} (event : Event) → StopsWith (MayHaveTaken event) old new
+pub stopped : {old new : Progress} {before after : List ℕ} (event : Event) → StopsWith (HasTaken (event ∷ [])) old new
     → after ≡ before → GoesFurther old before new after
 stopped {old} {new} {before} {after} event h e =
-    record { trace = IsFurther-stopped event old new h; output = (unprinted {progress = old} e).output }
+    record { trace = IsFurther-stopped (event ∷ []) old new h; output = (unprinted {progress = old} e).output }
 
 -- ---- lines
 

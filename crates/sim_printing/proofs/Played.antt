@@ -23,10 +23,9 @@ use Rattle.trace_progress.specs.Acts.{Acts}
 use Rattle.trace_progress.specs.declared.progress.Progress.{Progress}
 use Rattle.trace_progress.specs.declared.progress.Progress.TheVariants.{Running}
 use Rattle.trace_progress.specs.Effects.{Effect, configured, effect_of, event_played, in_event, left, left_by, running, states_of_imsi, states_shown, subscriber_added, tick_then, ticked, vector_given}
-use Rattle.trace_answers.specs.Words.{answers_of, refused_text, states_text}
-use Rattle.trace_progress.specs.Replies.{refusal_number, reply_text}
+use Rattle.trace_answers.specs.Words.{answers_of, states_text}
+use Rattle.trace_progress.specs.Replies.{reply_text}
 use Rattle.sim_printing.specs.Printed.{AddsComments, AfterEvent, IfSent, Prints, PrintsFrom, PrintsLine, ReadsAs, event_line}
-use Rattle.sim_printing.specs.Stopped.{MayHaveTaken, StopsWith}
 use Rattle.sim_printing.specs.PrintLaws.{AddsComments-none, Prints-line}
 
 -- what stands whatever was answered
@@ -69,11 +68,6 @@ pub AfterEvent-octets : (old new : Progress) (e : ℕ) (octets : Bor (List ℕ))
 unfolding happens
 AfterEvent-octets old new e octets h = h
 
-pub StopsWith-octets : (old new : Progress) (e : ℕ) (octets : Bor (List ℕ)) → StopsWith (MayHaveTaken (event.In e octets)) old new
-    → StopsWith (MayHaveTaken (in_event e octets.now)) old new
-unfolding happens
-StopsWith-octets old new e octets h = h
-
 after_run : (progress : Progress) (world : World) (f : World → Effect) → running progress ≡ Ok world
     → (running progress >>= f) ≡ f world
 after_run progress world f r = ap (λ (v : Result World TraceFault). v >>= f) r
@@ -101,32 +95,15 @@ made : World → List ℕ → Effect
 made world said = Ok (Running world, said)
 
 -- an event by the answer of the MME
-Prints-played : FirstWordTells → (old new : World) (event : Event) (before mid after l said : List ℕ) → ReadsAs (event_line event) l
-    → new ≡ left_by old event (reply old event) → said ≡ reply_text (reply old event) → mid ≡ before ++ (l ++ 10 ∷ [])
-    → AddsComments mid after said
+pub Prints-played : FirstWordTells → (old new : World) (event : Event) (before mid after l : List ℕ) → ReadsAs (event_line event) l
+    → new ≡ left_by old event (reply old event) → mid ≡ before ++ (l ++ 10 ∷ [])
+    → AddsComments mid after (reply_text (reply old event))
     → PrintsFrom old before new after (kept_line (event_line event))
 unfolding made
-Prints-played law old new event before mid after l said reads n s m adds progress r =
+Prints-played law old new event before mid after l reads n m adds progress r =
+    let said = reply_text (reply old event) in
     Prints-line law progress (Running new) before mid after l said (event_line event) reads (event_says event)
-    (event_effect progress old event r ∙ sym (ap (λ w. made w said) n ∙ ap (made (left_by old event (reply old event))) s)) m adds
-
-pub Prints-taken : FirstWordTells → (old new : World) (event : Event) (outs : List Out) (before mid after l : List ℕ)
-    → ReadsAs (event_line event) l
-    → reply old event ≡ Ok outs → new ≡ world_after old event → mid ≡ before ++ (l ++ 10 ∷ [])
-    → AddsComments mid after (answers_of outs)
-    → PrintsFrom old before new after (kept_line (event_line event))
-Prints-taken law old new event outs before mid after l reads r n m adds =
-    Prints-played law old new event before mid after l (answers_of outs) reads (n ∙ ap (left_by old event) (sym r))
-    (ap reply_text (sym r)) m adds
-
-pub Prints-refused : FirstWordTells → (old new : World) (event : Event) (fault : StepFault) (before mid after l : List ℕ)
-    → ReadsAs (event_line event) l
-    → reply old event ≡ Err fault → new ≡ old → mid ≡ before ++ (l ++ 10 ∷ [])
-    → AddsComments mid after (refused_text (refusal_number fault))
-    → PrintsFrom old before new after (kept_line (event_line event))
-Prints-refused law old new event fault before mid after l reads r n m adds =
-    Prints-played law old new event before mid after l (refused_text (refusal_number fault)) reads
-    (n ∙ ap (left_by old event) (sym r)) (ap reply_text (sym r)) m adds
+    (event_effect progress old event r ∙ sym (ap (λ w. made w said) n)) m adds
 
 show_effect : (progress : Progress) (world : World) (imsi : List ℕ) (states : States) → running progress ≡ Ok world
     → states_of_imsi imsi world ≡ Some states

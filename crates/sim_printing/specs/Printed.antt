@@ -1,5 +1,6 @@
 -- The output of a simulation: a trace whose comments are its answers.
-use Rattle.std.specs.Prelude.{◌≡◌, ℕ, ◌+◌, ◌==◌, ⊤, ◌⊎◌, List, [], ◌∷◌, ◌++◌, Option, Result, Ok, Err, IsOk, if◌then◌else◌}
+use Rattle.std.specs.Prelude.{◌≡◌, ℕ, ◌+◌, ◌==◌, ⊤, ◌⊎◌, List, [], ◌∷◌, ◌++◌, Option, Result, Ok, Err, IsOk, if◌then◌else◌, codes}
+use Rattle.std.specs.Fmt.{decimal}
 use Rattle.std.specs.Result.{result_ok}
 use Rattle.mme_core.specs.World.{World, reply}
 use Rattle.mme_core.specs.declared.event.Event.{Event}
@@ -41,6 +42,14 @@ pub record AreComments (text said : List ℕ) : Type 0 where
 -- an output that goes on with comments
 abbrev pub AddsComments : List ℕ → List ℕ → List ℕ → Type 0
 AddsComments before after said = (text : List ℕ) × (after ≡ before ++ text) × AreComments text said
+
+-- the remark that an act can't be done
+abbrev pub skipped_line : List ℕ
+skipped_line = codes "## skipped\n"
+
+-- the remark that so many events were left out
+abbrev pub dropped_line : ℕ → List ℕ
+dropped_line count = codes "## dropped " ++ decimal count ++ codes "\n"
 
 -- ---- lines that are played
 

@@ -1,13 +1,12 @@
 //! Answers and remarks, as comments of the trace that is printed.
 
-ghost use Rattle.std.specs.Prelude.{◌≡◌, ◌≢◌, ◌≤◌, ◌++◌, ◌∷◌, [], OnOk, OnErr, codes};
-ghost use Rattle.std.specs.Fmt.{decimal};
+ghost use Rattle.std.specs.Prelude.{◌≡◌, ◌≢◌, ◌≤◌, ◌++◌, ◌∷◌, [], OnOk, OnErr};
 ghost use Rattle.s1ap_pdus.specs.Pdus.{longest};
 ghost use Rattle.trace_answers.specs.Lines.{octets_said};
 ghost use Rattle.trace_answers.specs.Words.{answer_text, answers_of, out_text, refused_text, states_text};
 ghost use Rattle.trace_progress.specs.Acts.{IsPrefix};
 ghost use Rattle.trace_progress.specs.Replies.{refusal_number};
-ghost use Rattle.sim_printing.specs.Printed.{AddsComments};
+ghost use Rattle.sim_printing.specs.Printed.{AddsComments, dropped_line, skipped_line};
 
 use emm_machine::States;
 use mme_core::{Out, StepFault};
@@ -107,6 +106,7 @@ fn push_answer(alloc: Global, answer: &Answer<'_>, out: &mut Vec<u8>) -> Result<
 
 /// Appends the line `## skipped`, which answers nothing: an act that can't be done. Where memory is refused the output stays.
 pub fn push_skipped(out: &mut Vec<u8>) -> Result<(), AllocError>
+    ensures text { OnOk result (out.new.items ≡ out.old.items ++ skipped_line) }
     ensures added { OnOk result (AddsComments out.old.items out.new.items []) }
     ensures err { OnErr result (out.new.items ≡ out.old.items) }
 {
@@ -117,6 +117,7 @@ pub fn push_skipped(out: &mut Vec<u8>) -> Result<(), AllocError>
 
 /// Appends the line `## dropped N`, which answers nothing: N events were left out. Where memory is refused the output stays.
 pub fn push_dropped(alloc: Global, count: usize, out: &mut Vec<u8>) -> Result<(), AllocError>
+    ensures text { OnOk result (out.new.items ≡ out.old.items ++ dropped_line count) }
     ensures added { OnOk result (AddsComments out.old.items out.new.items []) }
     ensures err { OnErr result (out.new.items ≡ out.old.items) }
 {
@@ -126,7 +127,7 @@ pub fn push_dropped(alloc: Global, count: usize, out: &mut Vec<u8>) -> Result<()
 }
 
 fn push_count(alloc: Global, count: usize, out: &mut Vec<u8>) -> Result<(), AllocError>
-    ensures added { OnOk result (out.new.items ≡ out.old.items ++ (codes "## dropped " ++ decimal count ++ codes "\n")) }
+    ensures text { OnOk result (out.new.items ≡ out.old.items ++ dropped_line count) }
     ensures err { OnErr result (out.new.items ≡ out.old.items) }
 {
     let text = format!(in alloc; "## dropped {count}\n")?;

@@ -1,13 +1,15 @@
 //! Events and questions, each printed as its trace line with its answers after it.
 
-ghost use Rattle.std.specs.Prelude.{◌≡◌, true, false, IfOk, OnOk, OnErr, is_some};
+ghost use Rattle.std.specs.Prelude.{◌≡◌, ◌∷◌, [], true, false, IfOk, OnOk, OnErr, is_some};
 ghost use Rattle.std.specs.Result.{result_ok};
 ghost use Rattle.sim_words.specs.Kept.{kept_line};
 ghost use Rattle.mme_core.specs.World.{reply};
 ghost use Rattle.trace_progress.specs.Effects.{left_by, states_of_imsi};
+ghost use Rattle.trace_progress.specs.Acts.{IsPrefix};
+ghost use Rattle.trace_progress.specs.Replies.{reply_text};
+ghost use Rattle.trace_progress.specs.Stopping.{HasTaken};
 ghost use Rattle.trace_words.specs.declared.line.Line.TheVariants.{Show};
-ghost use Rattle.sim_printing.specs.Printed.{PrintsFrom, ReadsAs, event_line};
-ghost use Rattle.sim_printing.specs.Stopped.{MayHaveTaken};
+ghost use Rattle.sim_printing.specs.Printed.{AddsComments, PrintsFrom, ReadsAs, event_line};
 
 use crate::comments::{push_answers, push_line, push_refusal, push_states};
 use mme_core::{Event, Mme, Outs};
@@ -30,27 +32,43 @@ pub fn print_event(
     ensures printed { OnOk result (PrintsFrom mme.old out.old.items mme.new out.new.items (kept_line (event_line event.now))) }
     ensures sent { IfOk result (λ sent. sent ≡ result_ok (reply mme.old event.now)) }
     ensures after { OnOk result (mme.new ≡ left_by mme.old event.now (reply mme.old event.now)) }
-    ensures taken { OnErr result (MayHaveTaken event.now mme.old mme.new) }
+    ensures taken { OnErr result (HasTaken (event.now ∷ []) mme.old mme.new) }
     ensures err { OnErr result (out.new.items ≡ out.old.items) }
 {
     first_word_tells();
     let before = out.len();
     push_line(text, out)?;
+    match print_reply(alloc, mme, event, out) {
+        Ok(sent) => Ok(sent),
+        Err(refused) => {
+            out.truncate(before);
+            Err(refused)
+        }
+    }
+}
+
+/// Plays an event and appends its answers, or where memory is refused the first of them; else as in `print_event`.
+fn print_reply(
+    alloc: Global,
+    mme: &mut Mme,
+    event: &Event<'_>,
+    out: &mut Vec<u8>,
+) -> Result<Option<Outs>, AllocError>
+    ensures told { OnOk result (AddsComments out.old.items out.new.items (reply_text (reply mme.old event.now))) }
+    ensures sent { IfOk result (λ sent. sent ≡ result_ok (reply mme.old event.now)) }
+    ensures after { OnOk result (mme.new ≡ left_by mme.old event.now (reply mme.old event.now)) }
+    ensures taken { OnErr result (HasTaken (event.now ∷ []) mme.old mme.new) }
+    ensures err { OnErr result (IsPrefix out.old.items out.new.items) }
+{
     match mme.step(event) {
-        Ok(sent) => match push_answers(alloc, sent.as_slice(), out) {
-            Ok(()) => Ok(Some(sent)),
-            Err(refused) => {
-                out.truncate(before);
-                Err(refused)
-            }
-        },
-        Err(fault) => match push_refusal(alloc, fault, out) {
-            Ok(()) => Ok(None),
-            Err(refused) => {
-                out.truncate(before);
-                Err(refused)
-            }
-        },
+        Ok(sent) => {
+            push_answers(alloc, sent.as_slice(), out)?;
+            Ok(Some(sent))
+        }
+        Err(fault) => {
+            push_refusal(alloc, fault, out)?;
+            Ok(None)
+        }
     }
 }
 

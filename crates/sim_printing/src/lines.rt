@@ -4,17 +4,16 @@
 //! where it stood; or nothing is left of it, where the MME was to be made of what is provisioned; or the MME runs, and has taken
 //! the event or not. An event that the MME refuses leaves it as it was.
 
-ghost use Rattle.std.specs.Prelude.{◌≡◌, ◌<◌, ◌≤◌, [], true, false, length, Ok, IfOk, OnOk, OnErr, IsNone, is_some};
+ghost use Rattle.std.specs.Prelude.{◌≡◌, ◌<◌, ◌≤◌, ◌∷◌, [], true, false, length, Ok, IfOk, OnOk, OnErr, IsNone, is_some};
 ghost use Rattle.trace_words.specs.declared.line.Line.TheVariants.{Mme, Sub, Vec, In, Data, Cancel, Show};
 ghost use Rattle.trace_words.specs.Trace.{line_text};
 ghost use Rattle.sim_words.specs.Kept.{kept_line};
 ghost use Rattle.mme_core.specs.World.{World};
 ghost use Rattle.mme_core.specs.declared.event.Event.TheVariants as event;
 ghost use Rattle.trace_progress.specs.declared.progress.Progress.TheVariants.{Nothing};
-ghost use Rattle.trace_progress.specs.Acts.{IsIdle, RunsAs};
 ghost use Rattle.trace_progress.specs.Effects.{in_event, running, states_of_imsi};
+ghost use Rattle.trace_progress.specs.Stopping.{HasTaken, StopsWith};
 ghost use Rattle.sim_printing.specs.Printed.{AfterEvent, IfSent, IsBegun, PrintsLine, PrintsOn, ReadsAs, event_line};
-ghost use Rattle.sim_printing.specs.Stopped.{IsUnchanged, MayHaveTaken, StopsWith};
 
 use crate::comments::push_line;
 use crate::events::{print_event, print_show};
@@ -125,7 +124,7 @@ pub fn play_up(
     ensures sent { IfOk result (IfSent progress.old (event.Up station)) }
     ensures after { OnOk result (AfterEvent progress.old (event.Up station) progress.new) }
     ensures err { OnErr result (out.new.items ≡ out.old.items) }
-    ensures stops { OnErr result (StopsWith (MayHaveTaken (event.Up station)) progress.old progress.new) }
+    ensures stops { OnErr result (StopsWith (HasTaken (event.Up station ∷ [])) progress.old progress.new) }
 {
     let text = write_up(alloc, station)?;
     let sent = play_event(alloc, progress, &Event::Up(station), text.as_bytes(), out)?;
@@ -144,7 +143,7 @@ pub fn play_lost(
     ensures sent { IfOk result (IfSent progress.old (event.Lost station)) }
     ensures after { OnOk result (AfterEvent progress.old (event.Lost station) progress.new) }
     ensures err { OnErr result (out.new.items ≡ out.old.items) }
-    ensures stops { OnErr result (StopsWith (MayHaveTaken (event.Lost station)) progress.old progress.new) }
+    ensures stops { OnErr result (StopsWith (HasTaken (event.Lost station ∷ [])) progress.old progress.new) }
 {
     let text = write_lost(alloc, station)?;
     let sent = play_event(alloc, progress, &Event::Lost(station), text.as_bytes(), out)?;
@@ -170,7 +169,7 @@ pub fn play_in(
     ensures after { OnOk result
         (length (line_text (In station octets.now)) ≤ 40000 → AfterEvent progress.old (in_event station octets.now) progress.new) }
     ensures err { OnErr result (out.new.items ≡ out.old.items) }
-    ensures stops { OnErr result (StopsWith (MayHaveTaken (in_event station octets.now)) progress.old progress.new) }
+    ensures stops { OnErr result (StopsWith (HasTaken (in_event station octets.now ∷ [])) progress.old progress.new) }
 {
     let text = write_in(alloc, station, octets)?;
     if text.len() > LONGEST_LINE {
@@ -192,7 +191,7 @@ pub fn play_tick(
     ensures sent { IfOk result (IfSent progress.old event.Tick) }
     ensures after { OnOk result (AfterEvent progress.old event.Tick progress.new) }
     ensures err { OnErr result (out.new.items ≡ out.old.items) }
-    ensures stops { OnErr result (StopsWith (MayHaveTaken event.Tick) progress.old progress.new) }
+    ensures stops { OnErr result (StopsWith (HasTaken (event.Tick ∷ [])) progress.old progress.new) }
 {
     let sent = play_event(alloc, progress, &Event::Tick, b"tick 1", out)?;
     Ok(sent)
@@ -212,7 +211,7 @@ pub fn play_data(
     ensures sent { IfOk result (IfSent progress.old (event.Data imsi)) }
     ensures after { OnOk result (AfterEvent progress.old (event.Data imsi) progress.new) }
     ensures err { OnErr result (out.new.items ≡ out.old.items) }
-    ensures stops { OnErr result (StopsWith (MayHaveTaken (event.Data imsi)) progress.old progress.new) }
+    ensures stops { OnErr result (StopsWith (HasTaken (event.Data imsi ∷ [])) progress.old progress.new) }
 {
     let sent = play_event(alloc, progress, &Event::Data(imsi), text, out)?;
     Ok(sent)
@@ -232,7 +231,7 @@ pub fn play_cancel(
     ensures sent { IfOk result (IfSent progress.old (event.Cancel imsi)) }
     ensures after { OnOk result (AfterEvent progress.old (event.Cancel imsi) progress.new) }
     ensures err { OnErr result (out.new.items ≡ out.old.items) }
-    ensures stops { OnErr result (StopsWith (MayHaveTaken (event.Cancel imsi)) progress.old progress.new) }
+    ensures stops { OnErr result (StopsWith (HasTaken (event.Cancel imsi ∷ [])) progress.old progress.new) }
 {
     let sent = play_event(alloc, progress, &Event::Cancel(imsi), text, out)?;
     Ok(sent)
@@ -252,29 +251,17 @@ fn play_event(
     ensures sent { IfOk result (IfSent progress.old event.now) }
     ensures after { OnOk result (AfterEvent progress.old event.now progress.new) }
     ensures err { OnErr result (out.new.items ≡ out.old.items) }
-    ensures stops { OnErr result (StopsWith (MayHaveTaken event.now) progress.old progress.new) }
+    ensures stops { OnErr result (StopsWith (HasTaken (event.now ∷ [])) progress.old progress.new) }
 {
-    set_out(alloc, progress)?;
+    match run(alloc, progress, 0) {
+        Ok(()) => {}
+        Err(_) => return Err(AllocError),
+    }
     let Progress::Running(mme) = progress else {
         return Ok(None);
     };
     let sent = print_event(alloc, mme, event, text, out)?;
     Ok(sent)
-}
-
-/// Makes the MME of what is provisioned, where none runs yet. Where memory is refused nothing is left of what is provisioned.
-fn set_out(alloc: Global, progress: &mut Progress) -> Result<(), AllocError>
-    requires { IsBegun progress.old }
-    ensures runs { OnOk result (RunsAs (running progress.old) progress.new) }
-    ensures err { OnErr result (IsIdle progress.old × (progress.new ≡ Nothing)) }
-{
-    match progress {
-        Progress::Running(_) => Ok(()),
-        Progress::Nothing | Progress::Provisioning(_, _) => match run(alloc, progress, 0) {
-            Ok(()) => Ok(()),
-            Err(_) => Err(AllocError),
-        },
-    }
 }
 
 /// Shows a subscriber, as `text` asks. Answers `false`, with nothing printed and the progress as it was, where nobody is
@@ -294,12 +281,15 @@ pub fn play_show(
     ensures known { IfOk result
         (λ known. (world : World) → running progress.old ≡ Ok world → known ≡ is_some (states_of_imsi imsi world)) }
     ensures err { OnErr result (out.new.items ≡ out.old.items) }
-    ensures stops { OnErr result (StopsWith IsUnchanged progress.old progress.new) }
+    ensures stops { OnErr result (StopsWith (HasTaken []) progress.old progress.new) }
 {
     if !is_provisioned(progress, imsi) {
         return Ok(false);
     }
-    set_out(alloc, progress)?;
+    match run(alloc, progress, 0) {
+        Ok(()) => {}
+        Err(_) => return Err(AllocError),
+    }
     let Progress::Running(mme) = progress else {
         return Ok(false);
     };

@@ -47,7 +47,8 @@ pub fn play_lines<P: PlaysLines, R: Read, W: Write>(
             return last_turn(alloc, player, &mut line, writer);
         }
         match one_turn(alloc, player, &mut line, &chunk[..count], writer) {
-            Ok(()) => {}
+            // (the next piece may be shorter, and what a vector says isn't to stay)
+            Ok(()) => chunk[..count].fill(0),
             Err(fault) => return Err(fault),
         }
     }

@@ -174,13 +174,14 @@ impl LineUnderWay {
         }
     }
 
-    /// The line is done, and nothing of the next one has come.
+    /// The line is done, and nothing of the next one has come. What the line said doesn't stay.
     fn next_line(&mut self)
         requires { self.old.number + 1 < 2 ^ 64 }
         ensures number { self.new.number ≡ self.old.number + 1 }
         ensures octets { self.new.octets.items ≡ [] }
     {
         self.number += 1;
+        self.octets.as_mut_slice().fill(0);
         self.octets.clear();
     }
 }

@@ -1,10 +1,11 @@
 -- What is left where a line is refused.
-use Rattle.std.proofs.Common.{◌≡◌, ℕ, zero, suc, ◌+◌, ◌≤◌, true, false, List, [], ◌∷◌, take, replicate, Option, Some, None, Result, Ok, Err, Bor, IfErr, inl, inr, refl, sym, ap, subst, ◌∙◌, arith}
+use Rattle.std.proofs.Common.{◌≡◌, ℕ, suc, ◌+◌, ◌≤◌, true, false, List, [], ◌∷◌, replicate, Option, Some, None, Result, Ok, Err, Bor, IfErr, inl, inr, refl, sym, ap, subst, ◌∙◌, arith}
 use Rattle.std.specs.Prelude.{is_ok, is_some}
+use Rattle.std.proofs.lemmas.Bool.{not-false}
 use Rattle.std.proofs.lemmas.List.{length-replicate, take-replicate}
+use Rattle.identity_slots.specs.Provisioned.{slot_of_imsi}
 use Rattle.emm_machine.specs.declared.subscriber.States.{States}
-use Rattle.mme_core.specs.World.{World, fresh_world, happens, reply, world_after, world_run}
-use Rattle.mme_core.specs.declared.event.Event.{Event}
+use Rattle.mme_core.specs.World.{World, fresh_world, reply, world_after, world_run}
 use Rattle.mme_core.specs.declared.event.Event.TheVariants as event
 use Rattle.mme_core.specs.declared.event.StepFault.{StepFault}
 use Rattle.mme_core.specs.mme_answering.declared.out.Out.{Out}
@@ -16,20 +17,10 @@ use Rattle.trace_progress.specs.declared.progress.Progress.{Progress}
 use Rattle.trace_progress.specs.declared.progress.Progress.TheVariants.{Nothing, Provisioning, Running}
 use Rattle.trace_progress.specs.Effects.{in_event, left_by, running, states_of_imsi, states_shown}
 use Rattle.trace_progress.specs.Acts.{Acts}
-use Rattle.trace_player.specs.Leaving.{HasTaken, LeftAtFault, LeftByLine, RunsOn, is_missing}
-use Rattle.trace_player.proofs.Known.{known_fresh}
-
--- ---- events
-
-pub HasTaken-none : (before after : World) (events : List Event) → after ≡ before → HasTaken before events after
-HasTaken-none before after events e = (0, omega arith, e)
-
--- where octets lie in memory is nothing to the MME
-taken-octets : (w : World) (e : ℕ) (octets : Bor (List ℕ)) (n : ℕ)
-    → world_run w (take n (event.In e octets ∷ [])) ≡ world_run w (take n (in_event e octets.now ∷ []))
-unfolding happens
-taken-octets w e octets zero = refl
-taken-octets w e octets (suc n) = refl
+use Rattle.trace_progress.specs.KnownLaws.{known_fresh}
+use Rattle.trace_progress.specs.Stopping.{HasTaken, RunsOn}
+use Rattle.trace_progress.specs.StoppingLaws.{HasTaken-none, HasTaken-octets, RunsOn-weaker}
+use Rattle.trace_player.specs.Leaving.{LeftAtFault, LeftByLine, is_missing}
 
 -- ---- ticks
 
@@ -53,7 +44,7 @@ TicksOn-tick old mid new done t h e n =
 
 -- and one more, or none
 pub HasTaken-ticks : (old mid new : World) (done count : ℕ) → TicksOn old done mid → done + 1 ≤ count
-    → HasTaken mid (event.Tick ∷ []) new → HasTaken old (replicate count event.Tick) new
+    → HasTaken (event.Tick ∷ []) mid new → HasTaken (replicate count event.Tick) old new
 HasTaken-ticks old mid new done count t few taken =
     let m = taken.0 in
     let one : m ≤ 1 = taken.1 in
@@ -65,7 +56,7 @@ HasTaken-ticks old mid new done count t few taken =
     )
 
 pub HasTaken-all : (old mid : World) (done count : ℕ) → TicksOn old done mid → done ≡ count
-    → HasTaken old (replicate count event.Tick) mid
+    → HasTaken (replicate count event.Tick) old mid
 HasTaken-all old mid done count t all =
     let few : done ≤ count = omega (arith, all) in
     let same : done + 0 ≡ done = omega arith in (
@@ -88,7 +79,8 @@ stays : (old : Progress) (w : World) (imsi : List ℕ) (fault : TraceFault) → 
 stays Nothing w imsi fault there is shown = absurd (cc is)
 stays (Provisioning config p) w imsi fault there is shown =
     let same : fresh_world config p ≡ w = cc is in
-    let some = ap (λ v. is_some (states_of_imsi imsi v)) (sym same) ∙ known_fresh config p imsi there in
+    let some = ap (λ v. is_some (states_of_imsi imsi v)) (sym same) ∙ sym (known_fresh config p imsi)
+    ∙ not-false (is_some (slot_of_imsi imsi p.profiles)) there in
     absurd (known imsi w (states_of_imsi imsi w) fault some shown)
 stays (Running world) w imsi fault there is shown = let same : world ≡ w = cc is in ap Running (sym same)
 
@@ -98,8 +90,8 @@ pub IfErr-shown : (number : ℕ) (old : Progress) (w : World) (imsi written : Li
     → IfErr result (λ fault. LeftAtFault (Some []) old fault (Running w))
 IfErr-shown number old w imsi written (Ok _) there is acts = tt
 IfErr-shown number old w imsi written (Err (Trace line fault)) there is acts = stays old w imsi fault there is acts.0
-IfErr-shown number old w imsi written (Err NoMemory) there is acts = inr (w, w, is, refl, HasTaken-none w w [] refl)
-IfErr-shown number old w imsi written (Err Write) there is acts = (w, w, is, refl, HasTaken-none w w [] refl)
+IfErr-shown number old w imsi written (Err NoMemory) there is acts = inr (w, w, is, refl, HasTaken-none [] w w refl)
+IfErr-shown number old w imsi written (Err Write) there is acts = (w, w, is, refl, HasTaken-none [] w w refl)
 IfErr-shown number old w imsi written (Err Read) there is acts = absurd acts
 
 -- ---- lines
@@ -109,10 +101,10 @@ pub IfErr-line : (old new : Progress) (line same : Line) (result : Result (Unit 
 IfErr-line old new line same result e h =
     let P : Line → Type 0 = λ v. IfErr result (λ fault. LeftByLine old v fault new) in subst P (sym e) h
 
-runs-octets : (old new : Progress) (e : ℕ) (octets : Bor (List ℕ)) → RunsOn old (event.In e octets ∷ []) new
-    → RunsOn old (in_event e octets.now ∷ []) new
-runs-octets old new e octets (before, after, is, runs, (n, few, taken)) =
-    (before, after, is, runs, (n, few, taken ∙ taken-octets before e octets n))
+runs-octets : (old new : Progress) (e : ℕ) (octets : Bor (List ℕ)) → RunsOn (HasTaken (event.In e octets ∷ [])) old new
+    → RunsOn (HasTaken (in_event e octets.now ∷ [])) old new
+runs-octets old new e octets h =
+    RunsOn-weaker (HasTaken (event.In e octets ∷ [])) (HasTaken (in_event e octets.now ∷ [])) (HasTaken-octets e octets) old new h
 
 pub IfErr-octets : (old new : Progress) (e : ℕ) (octets : Bor (List ℕ)) (result : Result (Unit {0}) PlayFault)
     → IfErr result (λ fault. LeftAtFault (Some (event.In e octets ∷ [])) old fault new)

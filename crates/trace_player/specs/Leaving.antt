@@ -1,7 +1,6 @@
 -- What stands of the progress where a line is refused.
-use Rattle.std.specs.Prelude.{◌≡◌, ◌⊎◌, ℕ, ◌≤◌, Bool, false, not, List, [], ◌∷◌, length, replicate, take, Option, Some, None, is_some, Ok}
+use Rattle.std.specs.Prelude.{◌≡◌, ◌⊎◌, ℕ, Bool, false, not, List, [], ◌∷◌, replicate, Option, Some, None, is_some}
 use Rattle.identity_slots.specs.Provisioned.{slot_of_imsi}
-use Rattle.mme_core.specs.World.{World, world_run}
 use Rattle.mme_core.specs.declared.event.Event.{Event}
 use Rattle.mme_core.specs.declared.event.Event.TheVariants as event
 use Rattle.trace_words.specs.declared.line.Line.{Line}
@@ -10,7 +9,9 @@ use Rattle.trace_progress.specs.declared.fault.PlayFault.{PlayFault}
 use Rattle.trace_progress.specs.declared.fault.PlayFault.TheVariants.{Trace, Read, Write, NoMemory}
 use Rattle.trace_progress.specs.declared.progress.Progress.{Progress}
 use Rattle.trace_progress.specs.declared.progress.Progress.TheVariants.{Nothing, Provisioning, Running}
-use Rattle.trace_progress.specs.Effects.{in_event, running}
+use Rattle.trace_progress.specs.Acts.{IsUnmade}
+use Rattle.trace_progress.specs.Effects.{in_event}
+use Rattle.trace_progress.specs.Stopping.{HasTaken, RunsOn}
 
 -- ---- what a line says to an MME
 
@@ -36,28 +37,13 @@ is_missing (Running world) imsi = false
 
 -- ---- what is left
 
--- the MME has taken the first of these events, and no other
-abbrev pub HasTaken : World → List Event → World → Type 0
-HasTaken before events after = (n : ℕ) × (n ≤ length events) × (after ≡ world_run before (take n events))
-
--- the MME that a line speaks to runs, and has taken the first of these events and no other
-abbrev pub RunsOn : Progress → List Event → Progress → Type 0
-RunsOn old events new =
-    (before : World) × (after : World) × (running old ≡ Ok before) × (new ≡ Running after) × HasTaken before events after
-
--- the MME was to be made of what is provisioned and wasn't, and nothing of that is left
-abbrev pub IsUnmade : Progress → Progress → Type 0
-IsUnmade Nothing new = ⊥
-IsUnmade (Provisioning config provisioned) new = new ≡ Nothing
-IsUnmade (Running world) new = ⊥
-
 -- a line that says these events to an MME is refused with that fault: at a fault of its own all is as it was, and so it is where a
 -- line speaks to no MME
 abbrev pub LeftAtFault : Option (List Event) → Progress → PlayFault → Progress → Type 0
 LeftAtFault None old fault new = new ≡ old
 LeftAtFault (Some events) old (Trace line fault) new = new ≡ old
-LeftAtFault (Some events) old NoMemory new = IsUnmade old new ⊎ RunsOn old events new
-LeftAtFault (Some events) old Write new = RunsOn old events new
+LeftAtFault (Some events) old NoMemory new = IsUnmade old new ⊎ RunsOn (HasTaken events) old new
+LeftAtFault (Some events) old Write new = RunsOn (HasTaken events) old new
 LeftAtFault (Some events) old Read new = ⊥
 
 -- a line is refused with that fault

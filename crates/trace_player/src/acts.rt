@@ -1,15 +1,16 @@
 //! What each line of a trace does.
 
-ghost use Rattle.std.specs.Prelude.{◌≡◌, ◌≢◌, [], ◌∷◌, replicate, is_ok, IfErr, IfOk, OnOk};
+ghost use Rattle.std.specs.Prelude.{◌≡◌, [], ◌∷◌, replicate, is_ok, IfErr, IfOk, OnOk};
 ghost use Rattle.mme_core.specs.World.{reply};
-ghost use Rattle.trace_progress.specs.Effects.{effect_of, happened, left_by, running, ticks_passed, shown, states_of_imsi, ticked, states_shown};
+ghost use Rattle.trace_progress.specs.Effects.{effect_of, happened, left_by, ticks_passed, shown, states_of_imsi, ticked, states_shown};
 ghost use Rattle.trace_progress.specs.Replies.{reply_text};
-ghost use Rattle.trace_progress.specs.Acts.{Acts, GrowsBy, Puts, Runs};
+ghost use Rattle.trace_progress.specs.Acts.{Acts, GrowsBy, Puts};
+ghost use Rattle.trace_progress.specs.Stopping.{HasTaken};
 ghost use Rattle.trace_progress.specs.declared.progress.Progress.TheVariants.{Running};
-ghost use Rattle.trace_player.specs.Leaving.{HasTaken, IsUnmade, LeftAtFault, LeftByLine, is_missing};
+ghost use Rattle.trace_player.specs.Leaving.{LeftAtFault, LeftByLine, is_missing};
 ghost use Rattle.trace_player.specs.Watching.{failed_after_play};
 
-use crate::answers::{write_all, write_refusal, write_states};
+use crate::answers::{write_refusal, write_sent, write_states};
 use crate::watched::Watched;
 use emm_machine::States;
 use mme_core::{Event, Mme, StepFault};
@@ -70,18 +71,6 @@ pub fn act_on_line<W: Write>(
     }
 }
 
-/// Makes the MME of what is provisioned, where none runs yet; faults as in `run`.
-fn make_mme(alloc: Global, progress: &mut Progress, number: u64) -> Result<(), PlayFault>
-    ensures runs { Runs number (running progress.old) result progress.new }
-    ensures err { IfErr result (λ fault. fault ≢ PlayFault.NoMemory → progress.new ≡ progress.old) }
-    ensures unmade { IfErr result (λ fault. fault ≡ PlayFault.NoMemory → IsUnmade progress.old progress.new) }
-{
-    match progress {
-        Progress::Running(_) => Ok(()),
-        Progress::Nothing | Progress::Provisioning(_, _) => run(alloc, progress, number),
-    }
-}
-
 /// Plays one event and writes its answers.
 fn play_event<W: Write>(
     alloc: Global,
@@ -96,7 +85,7 @@ fn play_event<W: Write>(
     ensures left { IfErr result (λ fault. LeftAtFault (Some (event.now ∷ [])) progress.old fault progress.new) }
     ensures write_failed { writer.new.failed ≡ failed_after_play writer.old.failed result }
 {
-    match make_mme(alloc, progress, number) {
+    match run(alloc, progress, number) {
         Ok(()) => {}
         Err(fault) => return Err(fault),
     }
@@ -123,7 +112,7 @@ fn play_ticks<W: Write>(
     ensures left { IfErr result (λ fault. LeftAtFault (Some (replicate count Event.Tick)) progress.old fault progress.new) }
     ensures write_failed { writer.new.failed ≡ failed_after_play writer.old.failed result }
 {
-    match make_mme(alloc, progress, number) {
+    match run(alloc, progress, number) {
         Ok(()) => {}
         Err(fault) => return Err(fault),
     }
@@ -150,7 +139,7 @@ fn show<W: Write>(
     if is_missing(progress, imsi) {
         return Err(PlayFault::Trace(number, TraceFault::Provision));
     }
-    match make_mme(alloc, progress, number) {
+    match run(alloc, progress, number) {
         Ok(()) => {}
         Err(fault) => return Err(fault),
     }
@@ -171,12 +160,12 @@ fn step_event<W: Write>(
     ensures put { GrowsBy (W.contents writer.old.inner) (W.contents writer.new.inner)
         (Puts (reply_text (reply mme.old event.now)) result) }
     ensures after { OnOk result (mme.new ≡ left_by mme.old event.now (reply mme.old event.now)) }
-    ensures left { HasTaken mme.old (event.now ∷ []) mme.new }
+    ensures left { HasTaken (event.now ∷ []) mme.old mme.new }
     ensures taken { IfOk result (λ taken. taken ≡ is_ok (reply mme.old event.now)) }
     ensures write_failed { writer.new.failed ≡ failed_after_play writer.old.failed result }
 {
     match mme.step(event) {
-        Ok(outs) => match write_all(alloc, outs.as_slice(), room, writer) {
+        Ok(outs) => match write_sent(alloc, outs, room, writer) {
             Ok(()) => Ok(true),
             Err(fault) => Err(fault),
         },
@@ -198,7 +187,7 @@ fn step_ticks<W: Write>(
 ) -> Result<(), PlayFault>
     ensures put { GrowsBy (W.contents writer.old.inner) (W.contents writer.new.inner) (Puts (ticked count mme.old).1 result) }
     ensures after { OnOk result (mme.new ≡ (ticked count mme.old).0) }
-    ensures left { HasTaken mme.old (replicate count Event.Tick) mme.new }
+    ensures left { HasTaken (replicate count Event.Tick) mme.old mme.new }
     ensures write_failed { writer.new.failed ≡ failed_after_play writer.old.failed result }
 {
     for _tick in 0..count {

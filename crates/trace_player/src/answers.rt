@@ -8,7 +8,7 @@ ghost use Rattle.trace_player.specs.Watching.{failed_after_octets, failed_after_
 
 use crate::watched::Watched;
 use emm_machine::States;
-use mme_core::Out;
+use mme_core::{Out, Outs};
 use nas_elements::Imsi;
 use std::alloc::Global;
 use std::io::Write;
@@ -56,8 +56,23 @@ fn write_one<W: Write>(
     Ok(())
 }
 
+/// Writes the lines of the answers of an event, of which nothing is kept then: some carry a key.
+pub(crate) fn write_sent<W: Write>(
+    alloc: Global,
+    outs: Outs,
+    room: &mut Vec<u8>,
+    writer: &mut Watched<W>,
+) -> Result<(), PlayFault>
+    ensures put { GrowsBy (W.contents writer.old.inner) (W.contents writer.new.inner) (Puts (answers_of outs) result) }
+    ensures write_failed { writer.new.failed ≡ failed_after_play writer.old.failed result }
+{
+    let written = write_all(alloc, outs.as_slice(), room, writer);
+    outs.forget();
+    written
+}
+
 /// Writes the lines of the answers of an event, each in the room of the last line, used again.
-pub(crate) fn write_all<W: Write>(
+fn write_all<W: Write>(
     alloc: Global,
     outs: &[Out],
     room: &mut Vec<u8>,

@@ -58,3 +58,9 @@ Runs line wanted (Err NoMemory) new = new ≡ Nothing
 Runs line wanted (Err Write) new = ⊥
 Runs line wanted (Err Read) new = ⊥
 Runs line wanted (Err (Trace number fault)) new = (wanted ≡ Err fault) × (number ≡ line)
+
+-- the MME was to be made of what is provisioned and wasn't, and nothing of that is left
+abbrev pub IsUnmade : Progress → Progress → Type 0
+IsUnmade Nothing new = ⊥
+IsUnmade (Provisioning config provisioned) new = new ≡ Nothing
+IsUnmade (Running world) new = ⊥

@@ -2,7 +2,10 @@ pub mod Effects
 pub mod Text
 pub mod Faults
 pub mod Acts
+pub mod Stopping
 pub mod TextLaws
+pub mod KnownLaws
+pub mod StoppingLaws
 pub mod Replies
 -- what is written of an event's messages
 pub use Rattle.trace_answers.specs.Words

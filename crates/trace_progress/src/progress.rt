@@ -2,7 +2,7 @@
 
 ghost use Rattle.std.specs.Prelude.{◌≡◌, ◌≢◌, [], Err, IfErr, OnErr};
 ghost use Rattle.trace_progress.specs.Effects.{configured, running, states_of_imsi, subscriber_added, vector_given};
-ghost use Rattle.trace_progress.specs.Acts.{Acts, IsIdle, Runs};
+ghost use Rattle.trace_progress.specs.Acts.{Acts, IsIdle, IsUnmade, Runs};
 ghost use Rattle.trace_progress.specs.Faults.{in_provision};
 
 use crate::fault::PlayFault;
@@ -121,11 +121,12 @@ fn fault_in_provision(line: u64, fault: ProvisionFault) -> PlayFault
 }
 
 /// Makes the MME of what is provisioned, where it doesn't run yet. Order where nothing is, and then the progress is as it was;
-/// NoMemory last, and then nothing is provisioned any more, since `Mme::new` takes what was.
+/// NoMemory last, and only where no MME runs yet: then nothing is provisioned any more, since `Mme::new` takes what was.
 pub fn run(alloc: Global, progress: &mut Progress, number: u64) -> Result<(), PlayFault>
     ensures runs { Runs number (running progress.old) result progress.new }
     ensures fault { IfErr (running progress.old) (λ fault. result ≡ Err (PlayFault.Trace number fault)) }
     ensures err { IfErr result (λ fault. fault ≢ PlayFault.NoMemory → progress.new ≡ progress.old) }
+    ensures unmade { IfErr result (λ fault. fault ≡ PlayFault.NoMemory → IsUnmade progress.old progress.new) }
 {
     match progress {
         Progress::Running(_) => Ok(()),

@@ -1,6 +1,6 @@
 use Rattle.std.proofs.Common.{ap, ◌∙◌}
 use Rattle.std.specs.Prelude.{is_some}
-use Rattle.sim_printing.proofs.Known.{known_running}
+use Rattle.trace_progress.specs.KnownLaws.{known_running}
 use Rattle.sim_printing.proofs.lines.is_provisioned.Goals as goal
 
 pub returns-in-Provisioning : goal.returns-in-Provisioning

@@ -1,7 +1,8 @@
 use Rattle.std.proofs.Common.{◌≤◌, length, string_bytes, arith}
 use Rattle.trace_words.specs.declared.line.Line.TheVariants.{In}
 use Rattle.sim_printing.specs.PrintLaws.{Prints-none, ReadsAs-text}
-use Rattle.sim_printing.proofs.Played.{AfterEvent-octets, IfSent-octets, StopsWith-octets, on_err}
+use Rattle.sim_printing.specs.StopLaws.{StopsWith-octets}
+use Rattle.sim_printing.proofs.Played.{AfterEvent-octets, IfSent-octets, on_err}
 use Rattle.sim_printing.proofs.lines.play_in.Goals as goal
 
 pub play_event-requires-clause-says : goal.play_event-requires-clause-says

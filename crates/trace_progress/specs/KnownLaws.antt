@@ -32,6 +32,7 @@ placed key k n i slot (p ∷ ps) vs network e = by (key p == k) e (λ h. placed 
         let rest = others h in
         let s = rest.1 in (suc rest.0, omega (arith, s), rest.2)
 
+-- somebody has states in a fresh MME exactly if they are provisioned
 pub known_fresh : (config : Config) (p : Provisioned) (imsi : List ℕ)
     → is_some (slot_of_imsi imsi p.profiles) ≡ is_some (states_of_imsi imsi (fresh_world config p))
 unfolding slot_of_imsi
