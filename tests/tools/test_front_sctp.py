@@ -13,7 +13,7 @@ SECONDS = 240  # for all of them; they take under 60 on a machine of their own
 INSIDE = tools.TOP / "tests" / "tools" / "sctp_inside.py"
 
 
-@unittest.skipIf(kernel.missing(), "no user-mode-linux, kmod, iproute2 or lksctp-tools")
+@unittest.skipIf(kernel.missing(), "no user-mode-linux, kmod, iproute2, lksctp-tools or C compiler")
 class Sctp(unittest.TestCase):
     def test_inside(self):
         with tempfile.TemporaryDirectory() as folder:

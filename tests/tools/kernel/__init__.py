@@ -1,11 +1,14 @@
 """A Linux kernel with SCTP as an ordinary process: Debian's user-mode-linux, whose root is the system's own (hostfs), so that what
 is written there is written to its disk. It starts in some four seconds."""
+import os
 import pathlib
 import shutil
 import subprocess
+import tempfile
 
 HERE = pathlib.Path(__file__).resolve().parent
-NEEDED = ("linux", "insmod", "ip", "sctp_darn", "sctp_test")
+WHOLE_STATE = HERE / "whole_state.c"  # without it the kernel stops on processors with AMX
+NEEDED = ("linux", "insmod", "ip", "sctp_darn", "sctp_test", "cc")
 MEMORY = "512M"
 PATH = "/usr/local/sbin:/usr/local/bin:/usr/sbin:/usr/bin:/sbin:/bin"
 
@@ -17,7 +20,11 @@ def missing():
 
 def run(script, seconds):
     """Runs a script of the shell, by its path, under such a kernel; what its console shows."""
-    done = subprocess.run(["linux", "mem=" + MEMORY, "root=/dev/root", "rootfstype=hostfs", "rootflags=/", "rw", "quiet",
-                           "init=%s" % (HERE / "init"), "con=null", "con0=fd:0,fd:1", "run=%s" % script],
-                          stdin=subprocess.DEVNULL, stdout=subprocess.PIPE, stderr=subprocess.STDOUT, timeout=seconds, check=False)
+    with tempfile.TemporaryDirectory() as folder:
+        loaded = os.path.join(folder, "whole_state.so")
+        subprocess.run(["cc", "-O2", "-shared", "-fPIC", "-o", loaded, str(WHOLE_STATE), "-ldl"], check=True)
+        done = subprocess.run(["linux", "mem=" + MEMORY, "root=/dev/root", "rootfstype=hostfs", "rootflags=/", "rw", "quiet",
+                               "init=%s" % (HERE / "init"), "con=null", "con0=fd:0,fd:1", "run=%s" % script],
+                              env=os.environ | {"LD_PRELOAD": loaded}, stdin=subprocess.DEVNULL, stdout=subprocess.PIPE,
+                              stderr=subprocess.STDOUT, timeout=seconds, check=False)
     return done.stdout.decode(errors="replace")
