@@ -136,7 +136,7 @@ class Load:
         return times
 
     def paced(self, rate, seconds):
-        """So many messages a second of all stations together; the times of the answers."""
+        """This rate of messages a second, of all stations together; the times of the answers."""
         begun, sent, times, turn = time.perf_counter(), 0, [], 0
         while (now := time.perf_counter()) < begun + seconds:
             owed = int((now - begun) * rate) - sent

@@ -154,7 +154,7 @@ class Reader:
         self.at += -self.at % 8
 
     def whole(self, count):
-        """So many octets, from the next octet on."""
+        """`count` octets, from the next whole octet on."""
         self.align()
         start, end = self.at // 8, self.at // 8 + count
         if end > len(self.octets):

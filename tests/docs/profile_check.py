@@ -362,8 +362,8 @@ def nas_clauses():
 def skipping():
     """Identifier: the octets of an optional element, identifier and all."""
     text = with_identifiers(text_of("nas_elements/specs/Optionals.antt"))
-    found = {code: str(int(count) + 1) for code, count in re.findall(r"i == 0x(\w\w) then SoMany (\d+)", text)}
-    found["58"] = "%s in ESM" % (int(re.search(r"cause_rule Esm = SoMany (\d+)", text).group(1)) + 1)
+    found = {code: str(int(count) + 1) for code, count in re.findall(r"i == 0x(\w\w) then Fixed (\d+)", text)}
+    found["58"] = "%s in ESM" % (int(re.search(r"cause_rule Esm = Fixed (\d+)", text).group(1)) + 1)
     ends = {low: rule for low, rule in re.findall(r"nat_le 0x(\w\w) i then (\w+)", text)}
     found["%s to ff" % min(ends, key=lambda low: ends[low] != "Itself")] = "1"
     found["78 to 7f"] = {"ByTwo": "two octets of length"}[ends["78"]]

@@ -20,7 +20,7 @@ from words import Failed
 # constant, in whose place another can be set.
 NONE = 1999999999
 LOOK = 0.05  # seconds between two looks
-LAST, MOST_SAID = 4, 400  # of what the toolchain said: so many lines, and so many characters
+LAST, MOST_SAID = 4, 400  # of what the toolchain said: the last lines, and the most characters of them
 
 
 # --- What it is made of ---

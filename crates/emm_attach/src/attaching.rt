@@ -1,9 +1,10 @@
 //! The rows of an attach: its request, authentication and security mode, and its acceptance (TS 24.301 clause 5.5.1).
 
-ghost use Rattle.std.specs.Prelude.{◌≡◌, ◌<◌, ◌^◌, OnOk, Some, None, length, replicate, Ok, Err};
+ghost use Rattle.std.specs.Prelude.{◌≡◌, ◌-◌, ◌<◌, ◌^◌, OnOk, Some, None, length, replicate, Ok, Err};
 ghost use Rattle.nas_security.specs.Accepting.{accepted, seen_acceptance};
 ghost use Rattle.eps_keys.specs.Hmac.{kenb};
 ghost use Rattle.identity_slots.specs.Ids.{id_of_slot, next_counter};
+ghost use Rattle.identity_slots.specs.Spending.{HasFrom};
 ghost use Rattle.esm_machine.specs.Requests.{requested_lists};
 ghost use Rattle.emm_attach.specs.Attaching.{accept, activating, ask_information, asking, attach, attach_by, attach_grant, attach_refused, authenticated, authenticating, challenge, challenged, detach_answered_plainly, detach_plainly, failure, given_tmsi, in_authenticating, in_security_mode, is_complete, is_plain, is_reject, keyed, keys_of, new_context, no_keys, not_authenticated, not_secured, requesting, response, response_to, secured, secured_by, status_plainly, took};
 ghost use Rattle.mme_signalling.specs.Causes.{cause_of_fault};
@@ -16,7 +17,7 @@ use emm_state::{
 };
 use eps_keys::{Kasme, Kenb, same_octets};
 use esm_machine::Requested;
-use identity_slots::{Tmsi, Vector, VectorSpent};
+use identity_slots::{KeptVectors, Tmsi, Vector};
 use mme_signalling::{
     EmmCause, Grant, Heard, attach_accept, attach_reject, attach_reject_with,
     authentication_reject, authentication_request, cause_of_fault, detach_accept, emm_status, hear,
@@ -109,14 +110,18 @@ fn challenged(draft: &mut Draft, alloc: Global, vector: &Vector) -> Result<(), A
 }
 
 #[tactic(auto, unfolding(crate::specs::Attaching::challenge))]
-fn challenge(draft: &mut Draft, alloc: Global, setting: &Setting) -> Result<(), AllocError>
+fn challenge(
+    draft: &mut Draft,
+    alloc: Global,
+    setting: &Setting,
+    vectors: &KeptVectors,
+) -> Result<(), AllocError>
+    requires { HasFrom draft.old.solo.next_vector setting.now.vectors vectors.now }
     ensures { OnOk result (draft.new ≡ challenge setting.now draft.old) }
 {
-    match setting.vectors.get(draft.solo.next_vector) {
-        Ok(Some(vector)) => challenged(draft, alloc, vector),
-        Ok(None) => attach_refused(draft, alloc, EmmCause::NetworkFailure),
-        // (never: the next vector's place doesn't go back)
-        Err(VectorSpent) => Err(AllocError),
+    match vectors.get(draft.solo.next_vector) {
+        Some(vector) => challenged(draft, alloc, vector),
+        None => attach_refused(draft, alloc, EmmCause::NetworkFailure),
     }
 }
 
@@ -138,11 +143,13 @@ pub fn attach(
     draft: &mut Draft,
     alloc: Global,
     setting: &Setting,
+    vectors: &KeptVectors,
     combined: bool,
     capability: UeCapability,
     esm: &[u8],
     tai: Tai,
 ) -> Result<(), AllocError>
+    requires { HasFrom draft.old.solo.next_vector setting.now.vectors vectors.now }
     ensures { OnOk result (draft.new ≡ attach setting.now combined capability esm.now tai draft.old) }
 {
     draft.wipe();
@@ -156,7 +163,7 @@ pub fn attach(
                 return attach_refused(draft, alloc, EmmCause::ProtocolError);
             }
             asking(draft, combined, capability, tai);
-            challenge(draft, alloc, setting)
+            challenge(draft, alloc, setting, vectors)
         }
     }
 }
@@ -206,30 +213,42 @@ fn not_authenticated(draft: &mut Draft, alloc: Global) -> Result<(), AllocError>
 }
 
 #[tactic(auto, unfolding(crate::specs::Attaching::response, crate::specs::Attaching::response_to))]
-fn response(draft: &mut Draft, alloc: Global, setting: &Setting, res: &[u8]) -> Result<(), StepStop>
+fn response(
+    draft: &mut Draft,
+    alloc: Global,
+    setting: &Setting,
+    vectors: &KeptVectors,
+    res: &[u8],
+) -> Result<(), StepStop>
+    requires { HasFrom (draft.old.solo.next_vector - 1) setting.now.vectors vectors.now }
     ensures { Does result draft.new (response setting.now res.now draft.old) }
 {
     let place = draft.solo.next_vector.saturating_sub(1);
-    match setting.vectors.get(place) {
-        Ok(Some(vector)) => {
+    match vectors.get(place) {
+        Some(vector) => {
             if same_octets(res, vector.xres.as_slice()) {
                 authenticated(draft, alloc, place, vector)
             } else {
                 or_stop(not_authenticated(draft, alloc))
             }
         }
-        Ok(None) => Ok(()),
-        // (never: while it authenticates a phone, its vector isn't spent)
-        Err(VectorSpent) => Err(StepStop::NoMemory),
+        None => Ok(()),
     }
 }
 
 #[tactic(auto, unfolding(crate::specs::Attaching::failure))]
-fn failure(draft: &mut Draft, alloc: Global, setting: &Setting, cause: u8) -> Result<(), AllocError>
+fn failure(
+    draft: &mut Draft,
+    alloc: Global,
+    setting: &Setting,
+    vectors: &KeptVectors,
+    cause: u8,
+) -> Result<(), AllocError>
+    requires { HasFrom draft.old.solo.next_vector setting.now.vectors vectors.now }
     ensures { OnOk result (draft.new ≡ failure setting.now cause draft.old) }
 {
     if cause == EmmCause::SynchFailure.code() {
-        challenge(draft, alloc, setting)
+        challenge(draft, alloc, setting, vectors)
     } else {
         not_authenticated(draft, alloc)
     }
@@ -277,18 +296,22 @@ fn status_plainly(
     draft.send(alloc, status.as_slice())
 }
 
-#[tactic(auto, unfolding(crate::specs::Attaching::authenticating))]
+#[tactic(auto, using(identity_slots::specs::SpendingLaws::from_next_place), unfolding(crate::specs::Attaching::authenticating))]
 fn authenticating(
     draft: &mut Draft,
     alloc: Global,
     setting: &Setting,
+    vectors: &KeptVectors,
     message: &Heard<&[u8]>,
 ) -> Result<(), StepStop>
+    requires { HasFrom (draft.old.solo.next_vector - 1) setting.now.vectors vectors.now }
     ensures { Does result draft.new (authenticating setting.now (heard_lists message.now) draft.old) }
 {
     match message {
-        Heard::AuthenticationResponse { res } => response(draft, alloc, setting, res),
-        Heard::AuthenticationFailure { cause } => or_stop(failure(draft, alloc, setting, *cause)),
+        Heard::AuthenticationResponse { res } => response(draft, alloc, setting, vectors, res),
+        Heard::AuthenticationFailure { cause } => {
+            or_stop(failure(draft, alloc, setting, vectors, *cause))
+        }
         Heard::DetachRequest { switch_off } => or_stop(detach_plainly(draft, alloc, *switch_off)),
         Heard::Unasked => Ok(()),
         Heard::Unreadable(fault) => or_stop(status_plainly(draft, alloc, cause_of_fault(*fault))),
@@ -314,13 +337,15 @@ pub fn in_authenticating(
     draft: &mut Draft,
     alloc: Global,
     setting: &Setting,
+    vectors: &KeptVectors,
     nas: &[u8],
 ) -> Result<(), StepStop>
+    requires { HasFrom (draft.old.solo.next_vector - 1) setting.now.vectors vectors.now }
     ensures { Does result draft.new (in_authenticating setting.now nas.now draft.old) }
 {
     if is_plain(nas) {
         let message = hear(nas);
-        authenticating(draft, alloc, setting, &message)
+        authenticating(draft, alloc, setting, vectors, &message)
     } else {
         Ok(())
     }

@@ -40,7 +40,7 @@ use Rattle.emm_uplink.specs.emm_attach.Attaching as attaching
 use Rattle.emm_uplink.specs.emm_attach.Attaching.{counted_up, keyed, took}
 use Rattle.emm_association.specs.Connected as connected
 use Rattle.emm_machine.specs.Messages as messages
-use Rattle.emm_machine.specs.Freshness.{IsInUse, next_place, next_up}
+use Rattle.emm_machine.specs.Freshness.{next_place, next_up}
 use Rattle.mme_signalling.specs.Hearing.{heard}
 use Rattle.mme_types.specs.Events as events
 use Rattle.mme_types.specs.Listed.{ToReset}
@@ -443,14 +443,16 @@ module _ (whole : WholeIsFresh) (short : ShortIsFresh) {b : Solo} where
   unless None f h = h
   unless (Some e) f h = f.fresh e refl
 
-  fresh_untouched : IsInUse b → IsFresh b (untouched b)
-  fresh_untouched h =
-      record { in_use = h; onward = le_refl (next_place b.phase b.next_vector); sent = λ m a. a; accepted = λ m a. a }
+-- a step that has done nothing yet
+fresh_untouched : (b : Solo) → IsFresh b (untouched b)
+fresh_untouched b = record {
+  onward = le_refl (next_place b.phase b.next_vector);
+  used = λ begun. record { in_use = begun; sent = λ m a. a; accepted = λ m a. a };
+}
 
--- from a state in use each step is fresh
-pub fresh_step : WholeIsFresh → ShortIsFresh → (s : Setting) (b : Solo) (item : events.Item) → IsInUse b
-    → IsFresh b (steps.solo_step s b item)
+-- each step is fresh
+pub fresh_step : WholeIsFresh → ShortIsFresh → (s : Setting) (b : Solo) (item : events.Item) → IsFresh b (steps.solo_step s b item)
 unfolding steps.solo_step
-fresh_step whole short s b item h =
-    let u = fresh_untouched whole short h in
+fresh_step whole short s b item =
+    let u = fresh_untouched b in
     unless whole short _ (fresh_row whole short s item u) (fresh_wipe (fresh_fall _ u))

@@ -1,4 +1,4 @@
--- Runs of steps: states stay in use, and what is sent and accepted over a whole run is fresh.
+-- Runs of steps: states stay in use and go back to no vector, and what is sent and accepted over a whole run is fresh.
 use Rattle.std.proofs.Common.{◌≡◌, ℕ, ◌<◌, ◌≤◌, ◌==◌, ◌⊎◌, ◌&&◌, ◌||◌, inl, inr, Bool, true, false, not, nat_lt, cond, List, [], ◌∷◌, ◌++◌, Option, Some, None, option_to_list, append-nil, le_refl, refl, sym, subst, eq-eqb, arith}
 use Rattle.std.specs.Prelude.{if◌then◌else◌}
 use Rattle.std.proofs.lemmas.Bool.Decides.{nat_tests}
@@ -6,7 +6,7 @@ use Rattle.mme_types.specs.declared.octets.Mark.{Mark}
 use Rattle.emm_state.specs.declared.setting.Setting.{Setting}
 use Rattle.emm_state.specs.declared.solo.Context.{Context}
 use Rattle.emm_state.specs.declared.solo.Solo.{Solo}
-use Rattle.emm_machine.specs.Freshness.{AcceptsAhead, AcceptsOnce, IsAhead, IsBefore, IsBelow, IsInUse, IsOfContext, MakesAhead, MakesOnce, SendsAhead, SendsOnce, StaysInUse, accepted_marks, counts_anew, marks_of, next_down, next_place, next_up, place_made, places_made, sent_marks}
+use Rattle.emm_machine.specs.Freshness.{AcceptsAhead, AcceptsOnce, GoesOnward, IsAhead, IsBefore, IsBelow, IsInUse, IsOfContext, MakesAhead, MakesOnce, SendsAhead, SendsOnce, StaysInUse, accepted_marks, counts_anew, marks_of, next_down, next_place, next_up, place_made, places_made, sent_marks}
 use Rattle.mme_types.specs.Events.{Item}
 use Rattle.emm_machine.specs.Steps.{solo_after, solo_step}
 use Rattle.emm_machine.proofs.FreshRows.{ShortIsFresh, WholeIsFresh, fresh_step}
@@ -73,14 +73,17 @@ place_run (Some x) (Some y) ms to low high further under below from sent =
 module _ (whole : WholeIsFresh) (short : ShortIsFresh) where
   pub stays : StaysInUse
   stays s solo [] h = h
-  stays s solo (item ∷ items) h = stays s (solo_step s solo item).solo items (fresh_step whole short s solo item h).in_use
+  stays s solo (item ∷ items) h = stays s (solo_step s solo item).solo items ((fresh_step whole short s solo item).used h).in_use
+
+  pub goes_onward : GoesOnward
+  goes_onward s solo item = (fresh_step whole short s solo item).onward
 
   sends : (s : Setting) (solo : Solo) (items : List Item) → IsInUse solo
       → IsRun IsBefore (IsAhead next_down solo) (IsAhead next_down (solo_after s solo items)) (sent_marks s solo items)
   sends s solo [] h = λ m a. a
   sends s solo (item ∷ items) h =
       let d = solo_step s solo item in
-      let f = fresh_step whole short s solo item h in
+      let f = (fresh_step whole short s solo item).used h in
       run_append IsBefore (IsAhead next_down solo) (IsAhead next_down d.solo) (IsAhead next_down (solo_after s d.solo items))
       (marks_of d.sent) (sent_marks s d.solo items) (rw append-nil at f.sent) (sends s d.solo items f.in_use)
 
@@ -89,7 +92,7 @@ module _ (whole : WholeIsFresh) (short : ShortIsFresh) where
   accepts s solo [] h = λ m a. a
   accepts s solo (item ∷ items) h =
       let d = solo_step s solo item in
-      let f = fresh_step whole short s solo item h in
+      let f = (fresh_step whole short s solo item).used h in
       run_append IsBefore (IsAhead next_up solo) (IsAhead next_up d.solo) (IsAhead next_up (solo_after s d.solo items))
       (option_to_list d.accepted) (accepted_marks s d.solo items) f.accepted (accepts s d.solo items f.in_use)
 
@@ -98,11 +101,12 @@ module _ (whole : WholeIsFresh) (short : ShortIsFresh) where
   makes s solo [] h = λ p q. q
   makes s solo (item ∷ items) h =
       let d = solo_step s solo item in
-      let f = fresh_step whole short s solo item h in
+      let own = fresh_step whole short s solo item in
+      let f = own.used h in
       let from = run_onward IsBefore (IsAhead next_down solo) (IsAhead next_down d.solo) (marks_of d.sent ++ []) f.sent in
       run_append ◌<◌ (IsOpen solo) (IsOpen d.solo) (IsOpen (solo_after s d.solo items))
       (place_made solo.context d.solo.context (marks_of d.sent)) (places_made s d.solo items)
-      (place_run solo.context d.solo.context (marks_of d.sent) (IsAhead next_down d.solo) (next_place solo.phase solo.next_vector) (next_place d.solo.phase d.solo.next_vector) f.onward h.0 f.in_use.0
+      (place_run solo.context d.solo.context (marks_of d.sent) (IsAhead next_down d.solo) (next_place solo.phase solo.next_vector) (next_place d.solo.phase d.solo.next_vector) own.onward h.0 f.in_use.0
       (λ m q. from m (inl q)) (rw append-nil at f.sent))
       (makes s d.solo items f.in_use)
 

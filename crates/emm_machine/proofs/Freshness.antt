@@ -26,12 +26,16 @@ use Rattle.emm_state.specs.Does.{◌>>=◌}
 use Rattle.emm_machine.specs.Freshness.{HasVector, IsAhead, IsBefore, IsBelow, IsInUse, IsOfContext, marks_of, next_down, next_place, next_up}
 use Rattle.emm_machine.proofs.Runs.{IsRun, run_append, run_front, run_narrow, run_onward}
 
--- a step under way that began at a state in use, before a message is sent under the pair
-pub record IsReady (b : Solo) (d : Draft) (under : Option Mark) : Type 0 where
+-- what holds of a step under way that began at a state in use, before a message is sent under the pair
+pub record IsUsed (b : Solo) (d : Draft) (under : Option Mark) : Type 0 where
   pub in_use : IsInUse d.solo
-  pub onward : next_place b.phase b.next_vector ≤ next_place d.solo.phase d.solo.next_vector
   pub sent : IsRun IsBefore (IsAhead next_down b) (IsAhead next_down d.solo) (marks_of d.sent ++ option_to_list under)
   pub accepted : IsRun IsBefore (IsAhead next_up b) (IsAhead next_up d.solo) (option_to_list d.accepted)
+
+-- a step under way: from any state it asks for no vector that was spent, and from one in use it keeps what is above
+pub record IsReady (b : Solo) (d : Draft) (under : Option Mark) : Type 0 where
+  pub onward : next_place b.phase b.next_vector ≤ next_place d.solo.phase d.solo.next_vector
+  pub used : IsInUse b → IsUsed b d under
 
 abbrev pub IsFresh : Solo → Draft → Type 0
 IsFresh b d = IsReady b d None
@@ -92,35 +96,43 @@ module _ {b : Solo} where
   -- what freshness is about stays
   pub quiet : {d e : Draft} {under : Option Mark} → IsReady b d under → kept e ≡ kept d → IsReady b e under
   quiet {d} {e} {under} h same = record {
-    in_use = subst KeptUse (sym same) h.in_use;
     onward = subst (λ (k : Kept). next_place b.phase b.next_vector ≤ next_place k.phase k.next_vector) (sym same) h.onward;
-    sent = subst (λ (k : Kept). IsRun IsBefore (IsAhead next_down b) (KeptAhead next_down k) (marks_of k.sent ++ option_to_list under)) (sym same) h.sent;
-    accepted = subst (λ (k : Kept). IsRun IsBefore (IsAhead next_up b) (KeptAhead next_up k) (option_to_list k.accepted)) (sym same) h.accepted;
+    used = λ begun.
+        let u = h.used begun in
+        record {
+          in_use = subst KeptUse (sym same) u.in_use;
+          sent = subst (λ (k : Kept). IsRun IsBefore (IsAhead next_down b) (KeptAhead next_down k) (marks_of k.sent ++ option_to_list under)) (sym same) u.sent;
+          accepted = subst (λ (k : Kept). IsRun IsBefore (IsAhead next_up b) (KeptAhead next_up k) (option_to_list k.accepted)) (sym same) u.accepted;
+        };
   }
 
   -- nothing is sent or accepted, and what lies ahead lay ahead
-  later : {d e : Draft} → IsFresh b d → e.sent ≡ d.sent → e.accepted ≡ d.accepted → IsInUse e.solo
+  later : {d e : Draft} → IsFresh b d → e.sent ≡ d.sent → e.accepted ≡ d.accepted → (IsInUse d.solo → IsInUse e.solo)
       → next_place d.solo.phase d.solo.next_vector ≤ next_place e.solo.phase e.solo.next_vector
       → ((next : Context → ℕ) (m : Mark) → IsOfContext next e.solo.context m → IsAhead next d.solo m) → IsFresh b e
-  later {d} {e} h same_sent same_accepted used further less =
+  later {d} {e} h same_sent same_accepted stays further less =
       let ahead : (next : Context → ℕ) (m : Mark) → IsAhead next e.solo m → IsAhead next d.solo m =
       λ next m a. elim a [ inl q ↦ less next m q | inr y ↦ inr (omega arith) ] in
       record {
-        in_use = used;
         onward = omega arith;
-        sent =
-            subst (λ (sends : List Answer). IsRun IsBefore (IsAhead next_down b) (IsAhead next_down e.solo) (marks_of sends ++ []))
-            (sym same_sent)
-            (run_narrow IsBefore (IsAhead next_down b) (IsAhead next_down d.solo) (IsAhead next_down e.solo) (marks_of d.sent ++ []) h.sent (ahead next_down));
-        accepted =
-            subst (λ (o : Option Mark). IsRun IsBefore (IsAhead next_up b) (IsAhead next_up e.solo) (option_to_list o))
-            (sym same_accepted)
-            (run_narrow IsBefore (IsAhead next_up b) (IsAhead next_up d.solo) (IsAhead next_up e.solo) (option_to_list d.accepted) h.accepted (ahead next_up));
+        used = λ begun.
+            let u = h.used begun in
+            record {
+              in_use = stays u.in_use;
+              sent =
+                  subst (λ (sends : List Answer). IsRun IsBefore (IsAhead next_down b) (IsAhead next_down e.solo) (marks_of sends ++ []))
+                  (sym same_sent)
+                  (run_narrow IsBefore (IsAhead next_down b) (IsAhead next_down d.solo) (IsAhead next_down e.solo) (marks_of d.sent ++ []) u.sent (ahead next_down));
+              accepted =
+                  subst (λ (o : Option Mark). IsRun IsBefore (IsAhead next_up b) (IsAhead next_up e.solo) (option_to_list o))
+                  (sym same_accepted)
+                  (run_narrow IsBefore (IsAhead next_up b) (IsAhead next_up d.solo) (IsAhead next_up e.solo) (option_to_list d.accepted) u.accepted (ahead next_up));
+            };
       }
 
   pub fresh_wipe : {d : Draft} → IsFresh b d → IsFresh b (wipe d)
   unfolding wipe
-  fresh_wipe {d} h = later h refl refl (tt, tt) (floor_le d.solo.phase d.solo.next_vector) (λ next m q. absurd q)
+  fresh_wipe {d} h = later h refl refl (λ u. (tt, tt)) (floor_le d.solo.phase d.solo.next_vector) (λ next m q. absurd q)
 
   -- in a phase without a challenge
   pub fresh_in : {d : Draft} (phase : Phase) → next_place phase d.solo.next_vector ≡ d.solo.next_vector
@@ -129,7 +141,7 @@ module _ {b : Solo} where
   fresh_in {d} phase next vector h =
       let low = floor_le d.solo.phase d.solo.next_vector in
       later h refl refl
-      (rw next (below_le d.solo.context (next_place d.solo.phase d.solo.next_vector) d.solo.next_vector low h.in_use.0), vector)
+      (λ u. (rw next (below_le d.solo.context (next_place d.solo.phase d.solo.next_vector) d.solo.next_vector low u.0), vector))
       (rw next low) (λ next m q. inl q)
 
   -- a vector is taken
@@ -139,15 +151,14 @@ module _ {b : Solo} where
       let low = floor_le d.solo.phase d.solo.next_vector in
       let place : d.solo.next_vector + 1 - 1 ≡ d.solo.next_vector = omega arith in
       later h refl refl
-      (rw place (below_le d.solo.context (next_place d.solo.phase d.solo.next_vector) d.solo.next_vector low h.in_use.0), omega arith)
+      (λ u. (rw place (below_le d.solo.context (next_place d.solo.phase d.solo.next_vector) d.solo.next_vector low u.0), omega arith))
       (rw place low) (λ next m q. inl q)
 
   -- the vector that was taken last becomes a context
   pub fresh_context : {d : Draft} (x : Context) → d.solo.phase ≡ Authenticating → x.place ≡ d.solo.next_vector - 1 → IsFresh b d
       → IsFresh b (in_phase SecurityMode (having d (Some x)))
   fresh_context {d} x is place h =
-      let taken : 0 < d.solo.next_vector = (rw is at h.in_use).1 in
-      later h refl refl (omega arith, tt) (rw is (omega arith))
+      later h refl refl (λ u. let taken : 0 < d.solo.next_vector = (rw is at u).1 in (omega arith, tt)) (rw is (omega arith))
       (λ next m q. let same : m.place ≡ x.place = q.0 in inr (rw is (omega arith)))
 
   -- ---- sending
@@ -156,19 +167,27 @@ module _ {b : Solo} where
       → IsFresh b (emit station message under d)
   unfolding emit
   fresh_emit {d} {under} station message h = record {
-    in_use = h.in_use;
     onward = h.onward;
-    sent = sent_more (IsAhead next_down b) (IsAhead next_down d.solo) d.sent under station (encoded message) h.sent;
-    accepted = h.accepted;
+    used = λ begun.
+        let u = h.used begun in
+        record {
+          in_use = u.in_use;
+          sent = sent_more (IsAhead next_down b) (IsAhead next_down d.solo) d.sent under station (encoded message) u.sent;
+          accepted = u.accepted;
+        };
   }
 
   -- a pair may also be left out
   pub unsent : {d : Draft} {under : Option Mark} → IsReady b d under → IsFresh b d
   unsent {d} {under} h = record {
-    in_use = h.in_use;
     onward = h.onward;
-    sent = rw append-nil (run_front IsBefore (IsAhead next_down b) (IsAhead next_down d.solo) (marks_of d.sent) (option_to_list under) h.sent);
-    accepted = h.accepted;
+    used = λ begun.
+        let u = h.used begun in
+        record {
+          in_use = u.in_use;
+          sent = rw append-nil (run_front IsBefore (IsAhead next_down b) (IsAhead next_down d.solo) (marks_of d.sent) (option_to_list under) u.sent);
+          accepted = u.accepted;
+        };
   }
 
   -- the context's next downlink count is spent
@@ -177,43 +196,50 @@ module _ {b : Solo} where
   spend d x h =
       let e : Draft = having d (Some (record x { security = record x.security { down_next = x.security.down_next + 1 } })) in
       let k : Mark = record { place = x.place; count = x.security.down_next } in
-      let below : x.place < next_place d.solo.phase d.solo.next_vector = h.in_use.0 in
       record {
-        in_use = h.in_use;
         onward = h.onward;
-        sent =
-            run_append IsBefore (IsAhead next_down b) (IsAhead next_down (having d (Some x)).solo) (IsAhead next_down e.solo)
-            (marks_of d.sent) (k ∷ [])
-            (rw append-nil at h.sent) (
-              inl (refl, le_refl x.security.down_next),
-              λ m a. elim a [
-                | inl q ↦ let up : x.security.down_next + 1 ≤ m.count = q.1 in (inl (q.0, omega arith), inr (sym q.0, omega arith))
-                | inr y ↦ (inr y, inl (omega arith))
-              ],
-            );
-        accepted = h.accepted;
+        used = λ begun.
+            let u = h.used begun in
+            let below : x.place < next_place d.solo.phase d.solo.next_vector = u.in_use.0 in
+            record {
+              in_use = u.in_use;
+              sent =
+                  run_append IsBefore (IsAhead next_down b) (IsAhead next_down (having d (Some x)).solo) (IsAhead next_down e.solo)
+                  (marks_of d.sent) (k ∷ [])
+                  (rw append-nil at u.sent) (
+                    inl (refl, le_refl x.security.down_next),
+                    λ m a. elim a [
+                      | inl q ↦ let up : x.security.down_next + 1 ≤ m.count = q.1 in (inl (q.0, omega arith), inr (sym q.0, omega arith))
+                      | inr y ↦ (inr y, inl (omega arith))
+                    ],
+                  );
+              accepted = u.accepted;
+            };
       }
 
   -- an uplink count above the last one is accepted
   take : (d : Draft) (x : Context) (radio : RadioKeys) (count : ℕ) → next_up x ≤ count → IsFresh b (having d (Some x))
       → IsFresh b (took (record x { radio = radio; security = record x.security { up_last = Some count } }) count d)
   unfolding took
-  take d x radio count high h =
-      let from =
-      run_onward IsBefore (IsAhead next_up b) (IsAhead next_up (having d (Some x)).solo) (option_to_list d.accepted) h.accepted in
-      let below : x.place < next_place d.solo.phase d.solo.next_vector = h.in_use.0 in
-      record {
-        in_use = h.in_use;
-        onward = h.onward;
-        sent = h.sent;
-        accepted = (
-          from (record { place = x.place; count = count }) (inl (refl, high)),
-          λ m a. elim a [
-            | inl q ↦ let up : count + 1 ≤ m.count = q.1 in (from m (inl (q.0, omega arith)), inr (sym q.0, omega arith))
-            | inr y ↦ (from m (inr y), inl (omega arith))
-          ],
-        );
-      }
+  take d x radio count high h = record {
+    onward = h.onward;
+    used = λ begun.
+        let u = h.used begun in
+        let from =
+        run_onward IsBefore (IsAhead next_up b) (IsAhead next_up (having d (Some x)).solo) (option_to_list d.accepted) u.accepted in
+        let below : x.place < next_place d.solo.phase d.solo.next_vector = u.in_use.0 in
+        record {
+          in_use = u.in_use;
+          sent = u.sent;
+          accepted = (
+            from (record { place = x.place; count = count }) (inl (refl, high)),
+            λ m a. elim a [
+              | inl q ↦ let up : count + 1 ≤ m.count = q.1 in (from m (inl (q.0, omega arith)), inr (sym q.0, omega arith))
+              | inr y ↦ (from m (inr y), inl (omega arith))
+            ],
+          );
+        };
+  }
 
   -- the context as it is known to be
   at_context : {d : Draft} {x : Context} → d.solo.context ≡ Some x → IsFresh b d → IsFresh b (having d (Some x))
@@ -231,7 +257,11 @@ module _ {b : Solo} where
   pub fresh_radio : {d : Draft} (x : Context) (radio : RadioKeys) → d.solo.context ≡ Some x → IsFresh b d
       → IsFresh b (having d (Some (record x { radio = radio })))
   fresh_radio {d} x radio is h =
-      let f = at_context is h in record { in_use = f.in_use; onward = f.onward; sent = f.sent; accepted = f.accepted }
+      let f = at_context is h in
+      record {
+        onward = f.onward;
+        used = λ begun. let u = f.used begun in record { in_use = u.in_use; sent = u.sent; accepted = u.accepted };
+      }
 
   -- ---- choices
 

@@ -1,6 +1,6 @@
 -- Freshness over whole runs: the NAS COUNTs that messages are sent and accepted under, each with the place of its vector, and
 -- the vectors that become contexts (TS 24.301 clause 4.4.3, TS 33.401 clause 6.5).
-use Rattle.std.specs.Prelude.{◌≡◌, ℕ, ◌-◌, ◌<◌, ◌≤◌, ◌==◌, ◌⊎◌, ◌&&◌, Bool, not, nat_lt, if◌then◌else◌, List, [], ◌∷◌, ◌++◌, All, AllPairs, flat_map, Option, Some, None, option_to_list}
+use Rattle.std.specs.Prelude.{◌≡◌, ℕ, ◌<◌, ◌≤◌, ◌==◌, ◌⊎◌, ◌&&◌, Bool, not, nat_lt, if◌then◌else◌, List, [], ◌∷◌, ◌++◌, All, AllPairs, flat_map, Option, Some, None, option_to_list}
 use Rattle.std.specs.List.{list_any}
 use Rattle.nas_security.specs.Counts.{first_after}
 use Rattle.mme_types.specs.declared.octets.Answer.{Answer}
@@ -11,6 +11,8 @@ use Rattle.emm_state.specs.declared.solo.Context.{Context}
 use Rattle.emm_state.specs.declared.solo.Phase.{Phase}
 use Rattle.emm_state.specs.declared.solo.Phase.TheVariants.{Authenticating}
 use Rattle.emm_state.specs.declared.solo.Solo.{Solo}
+use Rattle.emm_state.specs.Taking.{IsOnward}
+pub use Rattle.emm_state.specs.Taking.{next_place}
 use Rattle.emm_machine.specs.Steps.{solo_after, solo_answers, solo_step}
 
 -- ---- runs
@@ -47,11 +49,6 @@ places_made s solo (item ∷ items) =
     ++ places_made s (solo_step s solo item).solo items
 
 -- ---- what lies ahead of a state
-
--- the least place of a vector that may yet become a context: while a challenge is out that of its vector, which was taken last
-abbrev pub next_place : Phase → ℕ → ℕ
-next_place Authenticating next = next - 1
-next_place _ next = next
 
 -- the context's next downlink count
 abbrev pub next_down : Context → ℕ
@@ -95,6 +92,10 @@ IsInUse solo = IsBelow solo.context (next_place solo.phase solo.next_vector) × 
 -- a state in use stays so over every run
 abbrev pub StaysInUse : Type 0
 StaysInUse = (s : Setting) (solo : Solo) (items : List Item) → IsInUse solo → IsInUse (solo_after s solo items)
+
+-- from any state no step leaves one that asks for a vector that was spent
+abbrev pub GoesOnward : Type 0
+GoesOnward = (s : Setting) (solo : Solo) (item : Item) → IsOnward solo (solo_step s solo item).solo
 
 -- every pair that is sent under lies ahead of the start
 abbrev pub SendsAhead : Type 0

@@ -7,6 +7,7 @@ use Rattle.emm_state.specs.declared.solo.Countdown.{Countdown}
 use Rattle.emm_state.specs.declared.solo.Repeat.{Repeat}
 use Rattle.emm_state.specs.declared.solo.Solo.{Solo}
 use Rattle.emm_state.specs.Actions.{untouched}
+use Rattle.emm_state.specs.Taking.{vectors_spent}
 use Rattle.emm_network.specs.Idle.{lowered, procedure_ticks, reachable_ticks_out, tick}
 use Rattle.emm_machine.specs.Steps.{row, solo_step}
 use Rattle.emm_machine.specs.Ticks.{AreAbove, AreTimed, IsAbove, IsGoing, IsRunning, IsTimed, both_less, countdowns, less, procedure_less, solo_aged, ticks_after}
@@ -113,6 +114,11 @@ pub above_later : (s : Setting) (n : ℕ) (solo : Solo) → AreAbove n (countdow
 above_later s n solo h later =
     let k : AreAbove 1 (both_less n (countdowns solo)) = rw (countdowns_later s n solo h) at later in
     (above_more n (countdowns solo).0 h.0 k.0, above_more n (countdowns solo).1 h.1 k.1)
+
+-- they spend no vector
+pub spent_aged : (n : ℕ) (solo : Solo) → vectors_spent (solo_aged n solo) ≡ vectors_spent solo
+unfolding solo_aged
+spent_aged n solo = refl
 
 -- ---- countdowns that run
 

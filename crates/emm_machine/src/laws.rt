@@ -1,14 +1,16 @@
 //! Laws of whole runs: each is the contract of a function that does nothing.
 
-ghost use Rattle.emm_machine.specs.Freshness.{AcceptsAhead, AcceptsOnce, IsInUse, MakesAhead, MakesOnce, SendsAhead, SendsOnce, StaysInUse};
+ghost use Rattle.emm_machine.specs.Freshness.{AcceptsAhead, AcceptsOnce, GoesOnward, IsInUse, MakesAhead, MakesOnce, SendsAhead, SendsOnce, StaysInUse};
 ghost use Rattle.emm_machine.specs.Words.{fresh_solo};
 
 use nas_security::accepted_is_fresh;
 
-/// A subscriber who was never seen is in use, and over every run what is in use stays so.
+/// A subscriber who was never seen is in use, and over every run what is in use stays so. No step leaves a state that asks for a
+/// vector that was spent.
 pub fn in_use_is_kept()
     ensures fresh { IsInUse fresh_solo }
     ensures run { StaysInUse }
+    ensures onward { GoesOnward }
 {
     accepted_is_fresh();
 }

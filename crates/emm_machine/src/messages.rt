@@ -2,11 +2,14 @@
 
 ghost use Rattle.emm_machine.specs.Messages.{checked, message_of, on_connection};
 ghost use Rattle.emm_state.specs.Does.{Does};
+ghost use Rattle.emm_state.specs.Taking.{vectors_spent};
+ghost use Rattle.identity_slots.specs.Spending.{HasFrom};
 ghost use Rattle.mme_types.specs.Events.{message_lists};
 
 use emm_association::{has_connection_id, has_pair, indicate, path_switch};
 use emm_state::{Draft, Setting, StepStop, or_stop};
 use emm_uplink::uplink;
+use identity_slots::KeptVectors;
 use mme_signalling::cause_of_request;
 use mme_types::{UeBody, UeMessage};
 use s1ap_elements::{Cause, RadioNetworkCause};
@@ -17,12 +20,14 @@ fn on_connection(
     draft: &mut Draft,
     alloc: Global,
     setting: &Setting,
+    vectors: &KeptVectors,
     message: &UeMessage<&[u8]>,
 ) -> Result<(), StepStop>
+    requires { HasFrom (vectors_spent draft.old.solo) setting.now.vectors vectors.now }
     ensures { Does result draft.new (on_connection (message_lists message.now).body setting.now draft.old) }
 {
     match message.body {
-        UeBody::Uplink { nas, tai } => uplink(draft, alloc, setting, tai, nas),
+        UeBody::Uplink { nas, tai } => uplink(draft, alloc, setting, vectors, tai, nas),
         UeBody::UeContextReleaseRequest { cause } => or_stop(draft.fall(
             alloc,
             cause_of_request(cause),
@@ -40,15 +45,17 @@ fn checked(
     draft: &mut Draft,
     alloc: Global,
     setting: &Setting,
+    vectors: &KeptVectors,
     message: &UeMessage<&[u8]>,
 ) -> Result<(), StepStop>
+    requires { HasFrom (vectors_spent draft.old.solo) setting.now.vectors vectors.now }
     ensures { Does result draft.new (checked setting.now (message_lists message.now) draft.old) }
 {
     if !has_connection_id(draft, message) {
         return or_stop(indicate(draft, alloc, RadioNetworkCause::UnknownMmeUeS1apId, message));
     }
     if has_pair(draft, message) {
-        on_connection(draft, alloc, setting, message)
+        on_connection(draft, alloc, setting, vectors, message)
     } else {
         or_stop(indicate(
             draft,
@@ -65,8 +72,10 @@ pub(crate) fn message_of(
     draft: &mut Draft,
     alloc: Global,
     setting: &Setting,
+    vectors: &KeptVectors,
     message: &UeMessage<&[u8]>,
 ) -> Result<(), StepStop>
+    requires { HasFrom (vectors_spent draft.old.solo) setting.now.vectors vectors.now }
     ensures { Does result draft.new
         (message_of (message_lists message.now).body setting.now (message_lists message.now) draft.old) }
 {
@@ -76,6 +85,6 @@ pub(crate) fn message_of(
         UeBody::Uplink { nas: _, tai: _ }
         | UeBody::UeContextReleaseRequest { cause: _ }
         | UeBody::InitialContextSetupFailure
-        | UeBody::Notice => checked(draft, alloc, setting, message),
+        | UeBody::Notice => checked(draft, alloc, setting, vectors, message),
     }
 }

@@ -1,13 +1,16 @@
 //! One subscriber.
 
-ghost use Rattle.std.specs.Prelude.{◌≡◌, IfOk, OnErr, OnOk, length};
+ghost use Rattle.std.specs.Prelude.{◌≡◌, IfOk, OnErr, OnOk, is_some, length};
 ghost use Rattle.emm_state.specs.Does.{Does};
 ghost use Rattle.mme_types.specs.Events.{item_of};
-ghost use Rattle.emm_machine.specs.Forgetting.{goes_on, left_for, vectors_spent};
+ghost use Rattle.identity_slots.specs.Spending.{HasFrom};
+ghost use Rattle.emm_state.specs.Taking.{vectors_spent, IsOnward};
+ghost use Rattle.emm_machine.specs.Forgetting.{goes_on, left_for};
 ghost use Rattle.emm_machine.specs.Steps.{row, solo_step, spent};
 ghost use Rattle.emm_machine.specs.Ticks.{AreAbove, countdowns, ticks_after};
 ghost use Rattle.emm_machine.specs.Words.{ecm_of, emm_of, fresh_solo, pages_in, states_of};
 
+use crate::laws::in_use_is_kept;
 use crate::messages::message_of;
 use crate::passing::age;
 use emm_association::{connections_gone, displaced, station_gone};
@@ -15,7 +18,7 @@ use emm_network::{cancelled, data_waits, tick};
 use emm_state::{Asked, Context, Counter, Draft, Phase, Repeat, Setting, Solo, StepStop, or_stop};
 use emm_uplink::{claim, initial};
 use esm_machine::{Bearer, BearerState};
-use identity_slots::{Profile, Slot, Vectors};
+use identity_slots::{KeptVectors, Profile, Slot, Vectors};
 use mme_types::{Answers, Connection, EnbWorld, SharedNetwork, SoloEvent, StationNumber};
 use nas_elements::UeCapability;
 use per_bits::Octets;
@@ -108,29 +111,36 @@ fn goes_on(old: &Option<Context>, new: &Option<Context>) -> bool
 fn vectors_spent(solo: &Solo) -> usize
     ensures { result ≡ vectors_spent solo.now }
 {
-    if solo.phase.is(Phase::Authenticating) {
-        solo.next_vector.saturating_sub(1)
-    } else {
-        solo.next_vector
+    match solo.phase {
+        Phase::Authenticating => solo.next_vector.saturating_sub(1),
+        Phase::Deregistered
+        | Phase::SecurityMode
+        | Phase::EsmInformation
+        | Phase::Accepting
+        | Phase::Updating
+        | Phase::Registered
+        | Phase::Detaching => solo.next_vector,
     }
 }
 
 // The row of an event.
-#[tactic(auto, unfolding(crate::specs::Steps::row))]
+#[tactic(auto, using(emm_state::specs::TakingLaws::from_next), unfolding(crate::specs::Steps::row))]
 fn row(
     draft: &mut Draft,
     alloc: Global,
     setting: &Setting,
+    vectors: &KeptVectors,
     event: &SoloEvent,
     world: &EnbWorld,
 ) -> Result<(), StepStop>
+    requires { HasFrom (vectors_spent draft.old.solo) setting.now.vectors vectors.now }
     ensures { Does result draft.new (row setting.now (item_of event.now world.now) draft.old) }
 {
     match event {
         SoloEvent::Nothing => Ok(()),
-        SoloEvent::Initial(entry) => initial(draft, alloc, setting, entry),
-        SoloEvent::Claim(id, entry) => or_stop(claim(draft, alloc, setting, *id, entry)),
-        SoloEvent::Message(message) => message_of(draft, alloc, setting, message),
+        SoloEvent::Initial(entry) => initial(draft, alloc, setting, vectors, entry),
+        SoloEvent::Claim(id, entry) => or_stop(claim(draft, alloc, setting, vectors, *id, entry)),
+        SoloEvent::Message(message) => message_of(draft, alloc, setting, vectors, message),
         SoloEvent::Displaced(id) => {
             displaced(draft, *id);
             Ok(())
@@ -155,14 +165,16 @@ fn drafted(
     alloc: Global,
     spare: Option<Box<Draft>>,
     setting: &Setting,
+    vectors: &KeptVectors,
     solo: &Solo,
     event: &SoloEvent,
     world: &EnbWorld,
 ) -> Result<Box<Draft>, AllocError>
+    requires { HasFrom (vectors_spent solo.now) setting.now.vectors vectors.now }
     ensures { IfOk result (λ d. d.value ≡ solo_step setting.now solo.now (item_of event.now world.now)) }
 {
     let mut draft = Draft::from_state(alloc, spare, solo)?;
-    match row(&mut draft, alloc, setting, event, world) {
+    match row(&mut draft, alloc, setting, vectors, event, world) {
         Ok(()) => Ok(draft),
         Err(StepStop::NoMemory) => Err(AllocError),
         Err(StepStop::Spent) => spent(alloc, solo),
@@ -183,6 +195,8 @@ fn spent(alloc: Global, solo: &Solo) -> Result<Box<Draft>, AllocError>
 #[derive(Drop)]
 pub struct Subscriber {
     setting: Setting,
+    // None is spent that the state may yet ask for.
+    vectors: KeptVectors,
     // The box of the step that was settled last, so that a state is settled where it stands. What the box has beside the state
     // means nothing.
     state: Box<Draft>,
@@ -194,7 +208,12 @@ impl Model for Subscriber {
 
     ghost Value = { SubscriberView };
 
+    ghost use Rattle.emm_state.specs.Taking.{vectors_spent};
+    ghost use Rattle.identity_slots.specs.Spending.{HasFrom};
+
     ghost view = { λ s. record { setting = s.setting; solo = s.state.value.solo } };
+
+    ghost invariant = { λ s. HasFrom (vectors_spent s.state.value.solo) s.setting.vectors s.vectors };
 }
 
 impl Subscriber {
@@ -211,14 +230,16 @@ impl Subscriber {
           solo = fresh_solo;
         }) }
     {
+        let vectors = vectors.into_kept();
         let setting = Setting {
             network: network.clone()?,
             slot,
             profile: *profile,
-            vectors,
+            vectors: vectors.given(),
         };
         Ok(Subscriber {
             setting,
+            vectors,
             state: Draft::of(alloc, fresh_solo())?,
             alloc,
         })
@@ -232,12 +253,15 @@ impl Subscriber {
         event: &SoloEvent,
         world: &EnbWorld,
     ) -> Result<Box<Draft>, AllocError>
-        ensures { IfOk result (λ d. d.value ≡ solo_step self.now.setting self.now.solo (item_of event.now world.now)) }
+        ensures step { IfOk result (λ d. d.value ≡ solo_step self.now.setting self.now.solo (item_of event.now world.now)) }
+        ensures onward { IfOk result (λ d. IsOnward self.now.solo d.value.solo) }
     {
+        in_use_is_kept();
         drafted(
             self.alloc,
             spare,
             &self.setting,
+            &self.vectors,
             &self.state.solo,
             event,
             world,
@@ -246,16 +270,18 @@ impl Subscriber {
 
     /// The state is that of a step that was prepared, whose box is kept; answers the box that was kept until now, with the state
     /// until now and the room for what is sent. Takes no memory. What was sent is to be taken out before, since it would stay in
-    /// memory with that box. What ends with the step leaves no key behind: the secrets of a vector that is spent are overwritten,
-    /// and so are the keys of a context that goes on no longer.
+    /// memory with that box. The secrets of a vector that is spent are overwritten, and so are the keys of a context that goes on
+    /// no longer.
+    #[tactic(auto, using(identity_slots::specs::SpendingLaws::from_spent))]
     pub fn settle(&mut self, draft: Box<Draft>) -> Box<Draft>
+        requires onward { IsOnward self.old.solo draft.value.solo }
         ensures state { self.new ≡ record self.old { solo = draft.value.solo } }
         ensures spare { result.value.solo ≡ left_for draft.value.solo self.old.solo }
     {
         let mut spare = mem::replace(&mut self.state, draft);
         mem::swap(&mut spare.sent, &mut self.state.sent);
         let settled = &self.state.solo;
-        self.setting.vectors.spend_before(vectors_spent(settled));
+        self.vectors.spend_before(vectors_spent(settled));
         if !goes_on(&spare.solo.context, &settled.context) {
             spare.solo.forget();
         }
@@ -278,12 +304,19 @@ impl Subscriber {
     }
 
     /// As many ticks, each of which ends no countdown and so sends nothing; takes no memory.
-    #[tactic(auto, using(crate::specs::TickLaws::ticks_are_aged))]
+    #[tactic(auto, using(crate::specs::TickLaws::ticks_are_aged, crate::specs::TickLaws::spent_aged))]
     pub fn pass(&mut self, ticks: u64)
         requires { AreAbove ticks (countdowns self.old.solo) }
         ensures { self.new ≡ record self.old { solo = ticks_after self.old.setting ticks self.old.solo } }
     {
         age(&mut self.state.solo, ticks);
+    }
+
+    /// Whether the phone has a security context.
+    pub fn has_context(&self) -> bool
+        ensures { result ≡ is_some self.now.solo.context }
+    {
+        self.state.solo.context.is_some()
     }
 
     /// The connection: its association, station and eNB UE S1AP ID.
@@ -340,6 +373,7 @@ impl Subscriber {
     {
         Ok(Subscriber {
             setting: self.setting.clone()?,
+            vectors: self.vectors.clone()?,
             state: Draft::from_state(self.alloc, None, &self.state.solo)?,
             alloc: self.alloc,
         })

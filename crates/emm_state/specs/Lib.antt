@@ -4,3 +4,5 @@ pub mod Phases
 pub mod Does
 pub mod Actions
 pub mod Forgetting
+pub mod Taking
+pub mod TakingLaws

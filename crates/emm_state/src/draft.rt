@@ -48,8 +48,21 @@ impl Draft {
                 draft.begin(solo, repeat);
                 Ok(draft)
             }
-            None => Draft::of(alloc, solo.with_repeat(repeat)),
+            None => Draft::from_nothing(alloc, solo, repeat),
         }
+    }
+
+    // A step from the same state with this to be sent again, in a new box. It is out of line, so that a step in the spare box
+    // doesn't clear its locals.
+    #[inline(never)]
+    fn from_nothing(
+        alloc: Global,
+        solo: &Solo,
+        repeat: Option<Repeat>,
+    ) -> Result<Box<Draft>, AllocError>
+        ensures { IfOk result (λ d. d.value ≡ untouched (record solo.now { repeat = repeat })) }
+    {
+        Draft::of(alloc, solo.with_repeat(repeat))
     }
 
     // a step from the same state with this to be sent again, where another step stood, whose room for what is sent stays

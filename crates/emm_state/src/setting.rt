@@ -1,6 +1,6 @@
 //! What never changes of a subscriber.
 
-use identity_slots::{Profile, Slot, Vectors};
+use identity_slots::{GivenVectors, Profile, Slot};
 use mme_types::SharedNetwork;
 use std::alloc::AllocError;
 
@@ -10,7 +10,8 @@ pub struct Setting {
     pub network: SharedNetwork,
     pub slot: Slot,
     pub profile: Profile,
-    pub vectors: Vectors,
+    /// As they were given.
+    pub vectors: GivenVectors,
 }
 
 impl Clone for Setting {

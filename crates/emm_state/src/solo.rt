@@ -1,6 +1,6 @@
 //! What a subscriber's machine keeps.
 
-ghost use Rattle.std.specs.Prelude.{◌≡◌, ◌<◌, ◌==◌, not, filter, IfOk, None};
+ghost use Rattle.std.specs.Prelude.{◌≡◌, ◌<◌, ◌==◌, not, filter, IfOk, None, Some};
 ghost use Rattle.std.specs.List.{list_any};
 ghost use Rattle.identity_slots.specs.Ids.{next_counter, id_of_slot};
 ghost use Rattle.nas_elements.specs.Codes.{no_key_set};
@@ -9,7 +9,7 @@ ghost use Rattle.emm_state.specs.KeySets.{ksi_of};
 ghost use Rattle.emm_state.specs.Phases.{is};
 ghost use Rattle.emm_state.specs.Timers.{repeats_of, ticks_of};
 
-use eps_keys::{IntegrityKey, Kasme, Kenb, NextHop};
+use eps_keys::{Kasme, Kenb, NextHop};
 use esm_machine::Bearer;
 use identity_slots::{AssociationId, Slot, Tmsi};
 use mme_types::s1ap::elements::Tai;
@@ -75,8 +75,7 @@ impl Context {
     fn forget(&mut self)
         ensures { self.new ≡ without_keys self.old }
     {
-        let nobody = IntegrityKey::new([0; 16]);
-        self.security = SecurityContext::new(Eia2::new(&nobody), 0, 0, None);
+        self.security = SecurityContext::new(Eia2::forgotten(), 0, 0, None);
         self.kasme.forget();
         self.radio = RadioKeys {
             kenb: Kenb::new([0; 32]),
@@ -315,6 +314,15 @@ fn forget(context: &mut Option<Context>)
     *context = None;
 }
 
+// A security context is copied where there is none. It is out of line, so that a step in a box that has one doesn't clear its
+// locals.
+#[inline(never)]
+fn place_context(to: &mut Option<Context>, from: &Context)
+    ensures { to.new ≡ Some from.now }
+{
+    *to = Some(from.copy());
+}
+
 // A security context, of some 600 octets, is copied where it is to stand.
 fn copy_context(to: &mut Option<Context>, from: &Option<Context>)
     ensures { to.new ≡ from.now }
@@ -330,7 +338,7 @@ fn copy_context(to: &mut Option<Context>, from: &Option<Context>)
             to.kasme = from.kasme.copy();
             to.radio = from.radio.copy();
         }
-        None => *to = Some(from.copy()),
+        None => place_context(to, from),
     }
 }
 

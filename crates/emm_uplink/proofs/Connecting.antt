@@ -9,7 +9,7 @@ use Rattle.mme_types.specs.declared.octets.Mark.{Mark}
 use Rattle.mme_signalling.specs.Pdus.{release_command}
 use Rattle.emm_state.specs.declared.draft.Draft.{Draft}
 use Rattle.emm_state.specs.declared.solo.Context.{Context}
-use Rattle.emm_state.specs.Actions.{association_counted, connect, connect_on, emit, is_at, leave_old}
+use Rattle.emm_state.specs.Actions.{association_counted, connect, connect_on, emit, is_at, leave_old, next_id}
 
 -- a step with this context, or none, and what was accepted
 abbrev pub beside : Option Mark → Option Context → Draft → Draft
@@ -50,3 +50,28 @@ pub connect_keeps : (slot station enb_ue_id : ℕ) (c : Option Context) (d : Dra
     → d.solo.context ≡ c → (connect slot station enb_ue_id d).solo.context ≡ c
 connect_keeps slot station enb_ue_id c d h =
     ap (λ (s : Draft). s.solo.context) (connect_beside slot station enb_ue_id d.accepted d.solo.context d) ∙ h
+
+-- ---- nor do its vectors
+
+left_next : (b : Bool) (k : Connection) (d : Draft)
+    → (if b then d else emit k.station (release_command k.id k.enb_ue_id (Nas NormalRelease)) None d).solo.next_vector
+    ≡ d.solo.next_vector
+unfolding emit
+left_next true k d = refl
+left_next false k d = refl
+
+leave_next : (station enb_ue_id : ℕ) (k : Option Connection) (d : Draft)
+    → (option_map_or (λ k. left station enb_ue_id k d) k d).solo.next_vector ≡ d.solo.next_vector
+leave_next station enb_ue_id None d = refl
+leave_next station enb_ue_id (Some k) d = left_next (is_at k station enb_ue_id) k d
+
+-- where the connection is made, the place of the next vector stays
+pub connect_on_next : (id station enb_ue_id : ℕ) (d : Draft)
+    → (connect_on id station enb_ue_id d).solo.next_vector ≡ d.solo.next_vector
+unfolding connect_on leave_old
+connect_on_next id station enb_ue_id d = leave_next station enb_ue_id d.solo.connection d
+
+pub connect_next : (slot station enb_ue_id : ℕ) (d : Draft)
+    → (connect slot station enb_ue_id d).solo.next_vector ≡ d.solo.next_vector
+unfolding connect association_counted
+connect_next slot station enb_ue_id d = connect_on_next (next_id slot d) station enb_ue_id (association_counted d)

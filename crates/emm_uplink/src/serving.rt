@@ -2,9 +2,11 @@
 
 ghost use Rattle.std.specs.Prelude.{◌≡◌, OnOk, Some, None};
 ghost use Rattle.nas_security.specs.Accepting.{short_accepted};
+ghost use Rattle.identity_slots.specs.Spending.{HasFrom};
 ghost use Rattle.emm_state.specs.Actions.{mac_of, refuse};
 ghost use Rattle.mme_signalling.specs.Messages.{service_reject, update_reject};
 ghost use Rattle.emm_state.specs.Does.{Does};
+ghost use Rattle.emm_state.specs.Taking.{vectors_spent};
 ghost use Rattle.emm_state.specs.declared.solo.Context.{Context};
 ghost use Rattle.mme_signalling.specs.Hearing.{heard_lists};
 ghost use Rattle.emm_uplink.specs.Serving.{accepted_by_context, active, attach_completed, claim, claimed, detach, detach_answered, detached_by, entered, in_later, information_came, initial, initial_detach, initial_update, reacted, registered, served, served_by, service, status_protected, inner_message, inner_message_by, inner_emm, inner_esm, update, update_completed, update_grant, updated_by, updating, uplink};
@@ -15,7 +17,7 @@ use emm_attach::{
 };
 use emm_state::{Draft, NasTimer, Phase, Setting, StepStop, is_registered, or_stop};
 use esm_machine::Reaction;
-use identity_slots::AssociationId;
+use identity_slots::{AssociationId, KeptVectors};
 use mme_signalling::{
     EmmCause, Grant, Heard, cause_of_fault, detach_accept, emm_status, hear, initial_octets,
     is_esm, service_reject, update_accept, update_reject,
@@ -241,14 +243,16 @@ fn initial_detach(
     }
 }
 
-#[tactic(auto, unfolding(crate::specs::Serving::entered))]
+#[tactic(auto, using(crate::proofs::Connecting::connect_next), unfolding(crate::specs::Serving::entered))]
 fn entered(
     draft: &mut Draft,
     alloc: Global,
     setting: &Setting,
+    vectors: &KeptVectors,
     entry: &Entry<&[u8]>,
     message: &Heard<&[u8]>,
 ) -> Result<(), StepStop>
+    requires { HasFrom draft.old.solo.next_vector setting.now.vectors vectors.now }
     ensures { Does result draft.new (entered (heard_lists message.now) setting.now (entry_lists entry.now) draft.old) }
 {
     match message {
@@ -262,6 +266,7 @@ fn entered(
                 draft,
                 alloc,
                 setting,
+                vectors,
                 *combined,
                 *capability,
                 esm,
@@ -294,23 +299,27 @@ pub fn initial(
     draft: &mut Draft,
     alloc: Global,
     setting: &Setting,
+    vectors: &KeptVectors,
     entry: &Entry<&[u8]>,
 ) -> Result<(), StepStop>
+    requires { HasFrom draft.old.solo.next_vector setting.now.vectors vectors.now }
     ensures { Does result draft.new (initial setting.now (entry_lists entry.now) draft.old) }
 {
     let message = hear(initial_octets(entry.nas));
-    entered(draft, alloc, setting, entry, &message)
+    entered(draft, alloc, setting, vectors, entry, &message)
 }
 
-#[tactic(auto, unfolding(crate::specs::Serving::claimed))]
+#[tactic(auto, using(crate::proofs::Connecting::connect_on_next), unfolding(crate::specs::Serving::claimed))]
 fn claimed(
     draft: &mut Draft,
     alloc: Global,
     setting: &Setting,
+    vectors: &KeptVectors,
     id: AssociationId,
     entry: &Entry<&[u8]>,
     message: &Heard<&[u8]>,
 ) -> Result<(), AllocError>
+    requires { HasFrom draft.old.solo.next_vector setting.now.vectors vectors.now }
     ensures { OnOk result (draft.new ≡ claimed (heard_lists message.now) setting.now id (entry_lists entry.now) draft.old) }
 {
     match message {
@@ -324,6 +333,7 @@ fn claimed(
                 draft,
                 alloc,
                 setting,
+                vectors,
                 *combined,
                 *capability,
                 esm,
@@ -352,13 +362,15 @@ pub fn claim(
     draft: &mut Draft,
     alloc: Global,
     setting: &Setting,
+    vectors: &KeptVectors,
     id: AssociationId,
     entry: &Entry<&[u8]>,
 ) -> Result<(), AllocError>
+    requires { HasFrom draft.old.solo.next_vector setting.now.vectors vectors.now }
     ensures { OnOk result (draft.new ≡ claim setting.now id (entry_lists entry.now) draft.old) }
 {
     let message = hear(initial_octets(entry.nas));
-    claimed(draft, alloc, setting, id, entry, &message)
+    claimed(draft, alloc, setting, vectors, id, entry, &message)
 }
 
 #[tactic(auto, unfolding(crate::specs::Serving::status_protected))]
@@ -535,19 +547,21 @@ fn in_later(
 
 /// What an UPLINK NAS TRANSPORT of a known phone does, by its phase (TS 24.301 clause 4.4.4.3). Refused where memory is, or where
 /// the context's counts are spent.
-#[tactic(auto, unfolding(crate::specs::Serving::uplink))]
+#[tactic(auto, using(emm_state::specs::TakingLaws::from_challenged), unfolding(crate::specs::Serving::uplink))]
 pub fn uplink(
     draft: &mut Draft,
     alloc: Global,
     setting: &Setting,
+    vectors: &KeptVectors,
     tai: Tai,
     nas: &[u8],
 ) -> Result<(), StepStop>
+    requires { HasFrom (vectors_spent draft.old.solo) setting.now.vectors vectors.now }
     ensures { Does result draft.new (uplink draft.old.solo.phase setting.now tai nas.now draft.old) }
 {
     match draft.solo.phase {
         Phase::Deregistered => Ok(()),
-        Phase::Authenticating => in_authenticating(draft, alloc, setting, nas),
+        Phase::Authenticating => in_authenticating(draft, alloc, setting, vectors, nas),
         Phase::SecurityMode => in_security_mode(draft, alloc, setting, nas),
         Phase::EsmInformation
         | Phase::Accepting

@@ -3,7 +3,7 @@
 //! Between rounds the state is kept moved, each octet as two elements of the field of 16, and so are the round keys, which also
 //! hold the constant of the substitution: no round moves the state there and back.
 
-ghost use Rattle.std.specs.Prelude.{◌≡◌, List, ℕ, map};
+ghost use Rattle.std.specs.Prelude.{◌≡◌, List, ℕ, map, replicate};
 ghost use Rattle.eps_keys.specs.Aes.{aes, last_round, next_key, round, xor_blocks};
 ghost use Rattle.eps_keys.specs.Lanes.{IsOctets, masked, moved, moved_key};
 
@@ -11,6 +11,7 @@ use crate::lanes::{
     FIRST, FIRST_DOUBLED, FIRST_MOVED, SECOND, SECOND_DOUBLED, SECOND_MOVED, look_up, moved, split,
     sub_bytes,
 };
+use crate::zeros::{KEY_1, KEY_2, KEY_3, KEY_4, KEY_5, KEY_6, KEY_7, KEY_8, KEY_9, LAST};
 use std::marker::Model;
 use std::simd::prelude::*;
 
@@ -141,6 +142,25 @@ impl Model for RoundKeys {
 }
 
 impl RoundKeys {
+    /// The key of 16 zeros, for which nothing is computed.
+    pub fn zeros() -> Self
+        ensures { result ≡ replicate 16 0 }
+    {
+        RoundKeys {
+            key: u8x16::splat(0),
+            key_1: u8x16::from_array(KEY_1),
+            key_2: u8x16::from_array(KEY_2),
+            key_3: u8x16::from_array(KEY_3),
+            key_4: u8x16::from_array(KEY_4),
+            key_5: u8x16::from_array(KEY_5),
+            key_6: u8x16::from_array(KEY_6),
+            key_7: u8x16::from_array(KEY_7),
+            key_8: u8x16::from_array(KEY_8),
+            key_9: u8x16::from_array(KEY_9),
+            last: u8x16::from_array(LAST),
+        }
+    }
+
     /// The key, expanded once.
     pub fn new(key: &[u8; 16]) -> Self
         ensures { result ≡ key.now }

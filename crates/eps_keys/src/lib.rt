@@ -16,6 +16,7 @@ mod lanes;
 mod laws;
 mod mac;
 mod secrets;
+mod zeros;
 
 pub use aes::aes_encrypt;
 pub use derive::{hmac_sha256, kenb, nas_integrity_key, next_hop};

@@ -1,8 +1,9 @@
 -- Vectors, the first of which have no secrets any more.
-use Rattle.std.proofs.Common.{◌≡◌, ℕ, zero, suc, ◌+◌, ◌<◌, ◌≤◌, List, [], ◌∷◌, length, get_or, refl, ◌∙◌, ap, subst, arith}
-use Rattle.std.specs.Prelude.{slice_get, slice_set}
+use Rattle.std.proofs.Common.{◌≡◌, ℕ, zero, suc, ◌+◌, ◌<◌, ◌≤◌, List, [], ◌∷◌, length, get_or, refl, sym, ◌∙◌, ap, subst, arith}
+use Rattle.std.specs.Prelude.{min, max, slice_get, slice_set}
 use Rattle.identity_slots.specs.declared.profile.Vector.{Vector}
 use Rattle.identity_slots.specs.Forgetting.{first_forgotten, forgotten}
+use Rattle.identity_slots.specs.Spending.{KeptView, spent_before}
 
 pub first_length : (n : ℕ) (vs : List Vector) → length (first_forgotten n vs) ≡ length vs
 first_length zero vs = refl
@@ -35,3 +36,22 @@ first_next n vs ws v d is lt next =
     ∙ ap (λ us. slice_set us n (forgotten (get_or us n d))) is
     ∙ one_next n vs (get_or (first_forgotten n vs) n d) d long refl
     ∙ ap (λ m. first_forgotten m vs) (suc_is n)
+
+end_there : (spent place count end : ℕ) → spent < end → end ≡ min place count → spent < count
+end_there spent place count end lt ends = omega arith
+
+-- there is one more to be spent
+pub next_there : (place count end spent : ℕ) (given items : List Vector) → items ≡ first_forgotten spent given → spent < end
+    → end ≡ min place count → count ≡ length given → spent < length items
+next_there place count end spent given items is lt ends all =
+    subst (λ m. spent < m) (all ∙ sym (ap length is ∙ first_length spent given)) (end_there spent place count end lt ends)
+
+most_is : (m n end : ℕ) → m ≤ n → n ≤ max m end → end ≤ n → n ≡ max m end
+most_is m n end more most past = omega arith
+
+-- all that are to be spent are
+pub spent_are : (place end spent : ℕ) (given : List Vector) (v : KeptView) → given ≡ v.given → end ≡ min place (length v.given)
+    → v.spent ≤ spent → spent ≤ max v.spent end → end ≤ spent
+    → ◌≡◌ {A = KeptView} (record { given = given; spent = spent }) (spent_before place v)
+spent_are place end spent given v same ends more most past =
+    rw (same, most_is v.spent spent end more most past ∙ ap (max v.spent) ends) refl

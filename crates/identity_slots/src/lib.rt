@@ -14,4 +14,4 @@ pub use laws::{imsis_apart, octets_apart};
 pub use profile::{GivenKasme, Profile, Vector, Xres};
 pub use provision::{Provision, ProvisionFault};
 pub use station::StationNumber;
-pub use vectors::{VectorSpent, Vectors};
+pub use vectors::{GivenVectors, KeptVectors, Vectors};

@@ -11,7 +11,7 @@ ghost use Rattle.identity_slots.specs.Provisioned.{Provisioned, imsi_number, add
 
 use crate::ids::{AssociationId, COUNTERS, STRANGERS, Slot, Tmsi};
 use crate::profile::{Profile, Vector};
-use crate::vectors::{Given, Vectors};
+use crate::vectors::Vectors;
 use nas_elements::Imsi;
 use std::alloc::{AllocError, Global};
 use std::collections::HashMap;
@@ -49,7 +49,7 @@ fn address_number(address: [u8; 4]) -> u32
 /// Makes room for one more in each, or leaves them as they are.
 fn reserve_one(
     profiles: &mut Vec<Profile>,
-    vectors: &mut Vec<Given>,
+    vectors: &mut Vec<Vectors>,
     by_imsi: &mut HashMap<u64, Slot>,
     by_address: &mut HashMap<u32, Slot>,
 ) -> Result<(), AllocError>
@@ -73,7 +73,7 @@ fn reserve_one(
 #[derive(Drop)]
 pub struct Provision {
     profiles: Vec<Profile>,
-    vectors: Vec<Given>,
+    vectors: Vec<Vectors>,
     by_imsi: HashMap<u64, Slot>,
     by_address: HashMap<u32, Slot>,
     alloc: Global,
@@ -194,7 +194,7 @@ impl Provision {
             return Err(ProvisionFault::NoMemory);
         }
         self.profiles.push_reserved(profile);
-        self.vectors.push_reserved(Given::none(self.alloc));
+        self.vectors.push_reserved(Vectors::none(self.alloc));
         let _ = self.by_imsi.insert(imsi, slot);
         let _ = self.by_address.insert(address, slot);
         Ok(slot)
@@ -213,7 +213,7 @@ impl Provision {
         if self.vectors[at].len() >= VECTORS {
             return Err(ProvisionFault::Full);
         }
-        match push_at(&mut self.vectors, at, vector) {
+        match push_at(&mut self.vectors, self.alloc, at, vector) {
             Ok(()) => Ok(()),
             Err(_) => Err(ProvisionFault::NoMemory),
         }
@@ -225,16 +225,21 @@ impl Provision {
         ensures taken { slice_get self.old.vectors slot ≡ Some result }
         ensures left { self.new ≡ without_vectors slot self.old }
     {
-        let none = Given::none(self.alloc);
-        mem::replace(&mut self.vectors[slot.get() as usize], none).into_vectors()
+        let none = Vectors::none(self.alloc);
+        mem::replace(&mut self.vectors[slot.get() as usize], none)
     }
 }
 
-fn push_at(vectors: &mut Vec<Given>, at: usize, vector: Vector) -> Result<(), AllocError>
+fn push_at(
+    vectors: &mut Vec<Vectors>,
+    alloc: Global,
+    at: usize,
+    vector: Vector,
+) -> Result<(), AllocError>
     requires { at < vec_len vectors.old }
     ensures items { OnOk result
         (vectors.new.items ≡ slice_set vectors.old.items at (vectors_at at vectors.old.items ++ vector ∷ [])) }
     ensures err { OnErr result (vectors.new.items ≡ vectors.old.items) }
 {
-    vectors[at].push(vector)
+    vectors[at].push(alloc, vector)
 }

@@ -1,7 +1,8 @@
-//! The authentication vectors of a subscriber: as they are given, and as they are spent.
+//! The authentication vectors of a subscriber: as they are given, and as they are kept until they are spent.
 
 ghost use Rattle.std.specs.Prelude.{◌≡◌, ◌<◌, ◌≤◌, ◌^◌, ◌++◌, ◌∷◌, [], IfOk, IsSome, OnOk, OnErr, length, option_map, slice_get};
 ghost use Rattle.identity_slots.specs.Forgetting.{first_forgotten};
+ghost use Rattle.identity_slots.specs.Spending.{spent_before};
 
 use crate::profile::Vector;
 use history::History;
@@ -50,28 +51,31 @@ fn history_of(vectors: &[Vector]) -> History<Vector>
 
 /// Vectors in the order in which they were given, none of them spent; a contract sees their list.
 #[derive(Drop)]
-pub(crate) struct Given {
+pub struct Vectors {
     items: Vec<Vector>,
-    alloc: Global,
 }
 
-impl Model for Given {
+impl Model for Vectors {
     ghost use Rattle.std.specs.Prelude.{List};
     ghost use Rattle.identity_slots.specs.declared.profile.Vector.{Vector};
 
     ghost Value = { List Vector };
 
-    ghost view = { λ g. g.items.items };
+    ghost view = { λ v. v.items.items };
 }
 
-impl Given {
-    pub(crate) fn none(alloc: Global) -> Given
+impl Vectors {
+    /// These vectors.
+    pub fn new(items: Vec<Vector>) -> Vectors
+        ensures { result ≡ items.items }
+    {
+        Vectors { items }
+    }
+
+    pub(crate) fn none(alloc: Global) -> Vectors
         ensures { result ≡ [] }
     {
-        Given {
-            items: Vec::new(alloc),
-            alloc,
-        }
+        Vectors::new(Vec::new(alloc))
     }
 
     pub(crate) fn len(&self) -> usize
@@ -87,12 +91,12 @@ impl Given {
     }
 
     /// Adds a vector, or leaves them as they are. Where they move, no secret stays where they were.
-    pub(crate) fn push(&mut self, vector: Vector) -> Result<(), AllocError>
+    pub(crate) fn push(&mut self, alloc: Global, vector: Vector) -> Result<(), AllocError>
         ensures items { OnOk result (self.new ≡ self.old ++ vector ∷ []) }
         ensures err { OnErr result (self.new ≡ self.old) }
     {
         if self.items.len() == self.items.capacity() {
-            let room = roomier(self.alloc, self.items.as_slice())?;
+            let room = roomier(alloc, self.items.as_slice())?;
             let mut left = mem::replace(&mut self.items, room);
             forget_all(&mut left);
         }
@@ -100,92 +104,116 @@ impl Given {
         Ok(())
     }
 
-    /// To be spent.
-    pub(crate) fn into_vectors(self) -> Vectors
-        ensures { result ≡ self }
+    /// The same vectors, to be kept until they are spent. Takes no memory.
+    pub fn into_kept(self) -> KeptVectors
+        ensures { result ≡ record { given = self; spent = 0 } }
     {
-        Vectors::new(self.items)
-    }
-}
-
-/// That a vector was spent, and its secrets are gone.
-#[derive(Clone, Copy)]
-pub struct VectorSpent;
-
-/// The vectors of a subscriber, in the order in which they were given; a contract sees their list, also of those that are spent.
-/// Of these XRES and KASME are overwritten, and no call answers them.
-#[derive(Drop)]
-pub struct Vectors {
-    items: Vec<Vector>,
-    // how many are spent: those before this place
-    spent: usize,
-    // all of them as they were given
-    given: History<Vector>,
-}
-
-impl Model for Vectors {
-    ghost use Rattle.std.specs.Prelude.{◌≡◌, List};
-    ghost use Rattle.identity_slots.specs.declared.profile.Vector.{Vector};
-    ghost use Rattle.identity_slots.specs.Forgetting.{first_forgotten};
-
-    ghost Value = { List Vector };
-
-    ghost view = { λ v. v.given.items };
-
-    ghost invariant = { λ v. v.items.items ≡ first_forgotten v.spent v.given.items };
-}
-
-impl Vectors {
-    /// These vectors.
-    pub fn new(items: Vec<Vector>) -> Vectors
-        ensures { result ≡ items.items }
-    {
-        let given = history_of(items.as_slice());
-        Vectors {
-            items,
+        let given = GivenVectors {
+            items: history_of(self.items.as_slice()),
+        };
+        KeptVectors {
+            items: self.items,
             spent: 0,
             given,
         }
     }
+}
 
-    /// The vector at a place, from 0, if there is one; `VectorSpent` where it is spent. Takes no memory.
-    pub fn get(&self, place: usize) -> Result<Option<&Vector>, VectorSpent>
-        ensures value { IfOk result (λ found. option_map (λ v. v.now) found ≡ slice_get self.entry.now place) }
-        ensures bound { IfOk result (λ found. IsSome found → place < 2 ^ 63) }
+/// Vectors as they were given, also those whose secrets are gone: contracts alone see their list, and it takes no memory.
+#[derive(Drop)]
+pub struct GivenVectors {
+    items: History<Vector>,
+}
+
+impl Model for GivenVectors {
+    ghost use Rattle.std.specs.Prelude.{List};
+    ghost use Rattle.identity_slots.specs.declared.profile.Vector.{Vector};
+
+    ghost Value = { List Vector };
+
+    ghost view = { λ g. g.items.items };
+}
+
+impl GivenVectors {
+    // The same once more.
+    fn again(&self) -> GivenVectors
+        ensures { result ≡ self.now }
     {
-        if place < self.spent {
-            return Err(VectorSpent);
+        GivenVectors {
+            items: self.items.again(),
         }
-        Ok(vector_at(self.items.as_slice(), place))
+    }
+}
+
+impl Clone for GivenVectors {
+    ghost use Rattle.std.specs.Prelude.{◌≡◌};
+
+    ghost is_clone = { λ x y. y ≡ x };
+
+    fn clone(&self) -> Result<GivenVectors, AllocError> {
+        Ok(self.again())
+    }
+}
+
+/// The vectors of a subscriber, the first of which are spent: of these XRES and KASME are overwritten, and no call answers them.
+/// A contract sees all as they were given, and how many are spent.
+#[derive(Drop)]
+pub struct KeptVectors {
+    items: Vec<Vector>,
+    // how many are spent: those before this place
+    spent: usize,
+    // all of them as they were given
+    given: GivenVectors,
+}
+
+impl Model for KeptVectors {
+    ghost use Rattle.std.specs.Prelude.{◌≡◌};
+    ghost use Rattle.identity_slots.specs.Forgetting.{first_forgotten};
+    ghost use Rattle.identity_slots.specs.Spending.{KeptView};
+
+    ghost Value = { KeptView };
+
+    ghost view = { λ v. record { given = v.given; spent = v.spent } };
+
+    ghost invariant = { λ v. v.items.items ≡ first_forgotten v.spent v.given };
+}
+
+impl KeptVectors {
+    /// All as they were given.
+    pub fn given(&self) -> GivenVectors
+        ensures { result ≡ self.now.given }
+    {
+        self.given.again()
     }
 
-    /// The vectors before this place are spent, and their secrets are overwritten. What a contract sees stays.
+    /// The vector at a place, from 0, that isn't spent, if there is one. Takes no memory.
+    pub fn get(&self, place: usize) -> Option<&Vector>
+        requires unspent { self.now.spent ≤ place }
+        ensures value { option_map (λ v. v.now) result ≡ slice_get self.entry.now.given place }
+        ensures bound { IsSome result → place < 2 ^ 63 }
+    {
+        vector_at(self.items.as_slice(), place)
+    }
+
+    /// The vectors before a place are spent too, and their secrets are overwritten. Takes no memory.
     pub fn spend_before(&mut self, place: usize)
-        ensures { self.new ≡ self.old }
+        ensures { self.new ≡ spent_before place self.old }
     {
-        for _ in self.spent..place.min(self.items.len()) {
-            self.spend_next();
-        }
-    }
-
-    // One more is spent, if there is one.
-    fn spend_next(&mut self)
-        ensures { self.new ≡ self.old }
-    {
-        if self.spent < self.items.len() {
+        let end = place.min(self.items.len());
+        while self.spent < end {
             self.items[self.spent].forget();
             self.spent += 1;
         }
     }
 }
 
-impl Clone for Vectors {
+impl Clone for KeptVectors {
     ghost use Rattle.std.specs.Prelude.{◌≡◌};
 
     ghost is_clone = { λ x y. y ≡ x };
 
-    fn clone(&self) -> Result<Vectors, AllocError> {
-        Ok(Vectors {
+    fn clone(&self) -> Result<KeptVectors, AllocError> {
+        Ok(KeptVectors {
             items: self.items.clone()?,
             spent: self.spent,
             given: self.given.again(),

@@ -9,7 +9,7 @@ use Rattle.nas_elements.specs.declared.rule.Domain.{Domain}
 use Rattle.nas_elements.specs.declared.rule.Domain.TheVariants.{Emm}
 use Rattle.nas_elements.specs.declared.rule.Element.{Element}
 use Rattle.nas_elements.specs.declared.rule.Rule.{Rule}
-use Rattle.nas_elements.specs.declared.rule.Rule.TheVariants.{Itself, SoMany, ByOctet, ByTwo}
+use Rattle.nas_elements.specs.declared.rule.Rule.TheVariants.{Itself, Fixed, ByOctet, ByTwo}
 use Rattle.nas_elements.specs.Identifiers.{guti_iei}
 use Rattle.nas_elements.specs.Identities.{first_of, guti_from, guti_of}
 use Rattle.nas_elements.specs.Optionals.{AreElements, SpellsBy, first, rule_of}
@@ -72,7 +72,7 @@ by_below : (r : Rule) (i : ℕ) (e : Element (List ℕ)) (tail : List ℕ) → i
 by_below Itself i e tail low h s =
     let one : all_below 256 (i ∷ []) ≡ true = and_from (ltb i 256) true (lt-ltb i 256 low) refl in
     subst (λ (x : Element (List ℕ)). all_below 256 x.octets ≡ true) (sym s.0) one
-by_below (SoMany n) i e tail low h s = below_same tail e.octets s.1 h
+by_below (Fixed n) i e tail low h s = below_same tail e.octets s.1 h
 by_below ByOctet i e tail low h s = below_next (length e.octets) e.octets (below_same tail (length e.octets ∷ e.octets) s.1 h)
 by_below ByTwo i e tail low h s =
     below_next s.2 e.octets (below_next s.1 (s.2 ∷ e.octets) (below_same tail (s.1 ∷ s.2 ∷ e.octets) s.3 h))

@@ -1,5 +1,5 @@
 -- What preparing comes to, by what its parts come to.
-use Rattle.std.proofs.Common.{◌≡◌, ◌++◌, ℕ, List, [], Option, Some, None, refl, sym, ◌∙◌, ap, subst}
+use Rattle.std.proofs.Common.{◌≡◌, ◌++◌, ℕ, List, [], ◌∷◌, Option, Some, None, refl, sym, ◌∙◌, ap, subst}
 use Rattle.std.proofs.lemmas.List.{append-nil}
 use Rattle.identity_slots.specs.declared.profile.Profile.{Profile}
 use Rattle.mme_types.specs.declared.event.Entry.{Entry}
@@ -13,7 +13,7 @@ use Rattle.stranger_machine.specs.Table.{stranger_at}
 use Rattle.stranger_machine.specs.Turns.{Turn}
 use Rattle.mme_owners.specs.SubscriberLaws.{some_give}
 use Rattle.mme_owners.specs.SteppedView.{SteppedView}
-use Rattle.mme_owners.specs.Subscribers.{slots_stepped, IsCounting, IsStepped}
+use Rattle.mme_owners.specs.Subscribers.{slots_stepped, IsCounting, IsOnwardAt, IsStepped}
 use Rattle.mme_routing.specs.Destinations.{Destination, for_one}
 use Rattle.mme_routing.specs.Destinations as to
 use Rattle.mme_answering.specs.declared.out.Out.{Out}
@@ -99,15 +99,20 @@ sends_there ps d ks ls ws vs before after strangers subscribers h =
     subst (λ (xs : List Known). SendsSome (event_sent ps d xs vs) before after) strangers
     (subst (λ (ys : List SubscriberView). SendsSome (event_sent ps d ks ys) before after) subscribers h)
 
+pub every_push : {X : Type 0} (P : X → Type 0) (xs : List X) (x : X) → Every P xs → P x → Every P (xs ++ x ∷ [])
+every_push P [] x h p = (p, tt)
+every_push P (y ∷ ys) x h p = (h.0, every_push P ys x h.1 p)
+
 -- the steps of some, where nobody is left
 pub all_done : (item : Item) (called rest : List ℕ) (ws : List SubscriberView) (before after : List Out) (xs : List SteppedView)
     → rest ≡ [] → slots_stepped xs ++ rest ≡ called → Every (IsStepped item ws) xs
-    → Every (λ (x : SteppedView). IsCounting x.solo) xs
+    → Every (λ (x : SteppedView). IsCounting x.solo) xs → Every (IsOnwardAt ws) xs
     → after ++ some_give (item_sent item) rest ws ≡ before ++ some_give (item_sent item) called ws
     → PreparesEach item called ws before after xs
-all_done item called rest ws before after xs none slots stepped counting sends = record {
+all_done item called rest ws before after xs none slots stepped counting onward sends = record {
   sends = sym (append-nil after) ∙ ap (λ ks. after ++ some_give (item_sent item) ks ws) (sym none) ∙ sends;
   slots = sym (append-nil (slots_stepped xs)) ∙ ap (λ ks. slots_stepped xs ++ ks) (sym none) ∙ slots;
   stepped = stepped;
   counting = counting;
+  onward = onward;
 }

@@ -1,5 +1,5 @@
 -- At a tick, and at what happens to a station, each stays connected as it was or is no longer.
-use Rattle.std.proofs.Common.{◌≡◌, ◌<◌, ℕ, inl, inr, List, [], ◌∷◌, Option, Some, ap, ◌∙◌, sym, subst}
+use Rattle.std.proofs.Common.{◌≡◌, inl, inr, List, [], ◌∷◌, Option, Some, ap, ◌∙◌, sym, subst}
 use Rattle.std.specs.Prelude.{slice_get}
 use Rattle.mme_types.specs.declared.connection.Connection.{Connection}
 use Rattle.emm_state.specs.declared.setting.Setting.{Setting}
@@ -9,10 +9,10 @@ use Rattle.sorted_list.specs.Ordered.{Every}
 use Rattle.stranger_machine.specs.declared.turn.Notice.{Notice}
 use Rattle.stranger_machine.specs.declared.turn.Notice.TheVariants.{Gone, Listed, Tick}
 use Rattle.mme_owners.specs.SteppedView.{SteppedView}
-use Rattle.mme_owners.specs.Subscribers.{IsCounting, IsStepped}
+use Rattle.mme_owners.specs.Subscribers.{IsStepped}
 use Rattle.mme_owners.specs.Touched.{KeepsPlace}
 use Rattle.mme_answering.specs.declared.prepared.Prepared.{Prepared}
-use Rattle.mme_answering.specs.Settled.{AreFit, IsApart}
+use Rattle.mme_answering.specs.Settled.{IsApart, IsFor}
 use Rattle.stranger_machine.specs.declared.table.Known.{Known}
 use Rattle.mme_routing.specs.Destinations.{item_of_notice}
 use Rattle.laws_connections.specs.Comes.{Begins, ComesSo, ConnectionsComeSo, IsClaimed, Moves}
@@ -60,17 +60,15 @@ pub keep_all : ConnectionsComeSo → (notice : Notice) (ws : List SubscriberView
 keep_all come notice ws [] h = tt
 keep_all come notice ws (x ∷ xs) h = (keeps_one come notice ws x h.0, keep_all come notice ws xs h.1)
 
--- ---- what was prepared for each
+-- ---- what was prepared, where strangers and subscribers are as they were
 
-pub slots_fit : (n : ℕ) (xs : List SteppedView) → AreFit n xs → Every (λ (x : SteppedView). x.slot < n) xs
-slots_fit n [] h = tt
-slots_fit n (x ∷ xs) h = (h.0.0, slots_fit n xs h.1)
+pub for_there : {p q : Prepared} {ks ls : List Known} {ws vs : List SubscriberView} → p ≡ q → ls ≡ ks → vs ≡ ws → IsFor p ks ws
+    → IsFor q ls vs
+for_there {p} {q} {ks} {ls} {ws} {vs} is strangers subscribers h =
+    subst (λ (ys : List Known). IsFor q ys vs) (sym strangers)
+    (subst (λ (xs : List SubscriberView). IsFor q ks xs) (sym subscribers) (subst (λ (r : Prepared). IsFor r ks ws) is h))
 
-pub all_counting : (n : ℕ) (xs : List SteppedView) → AreFit n xs → Every (λ (x : SteppedView). IsCounting x.solo) xs
-all_counting n [] h = tt
-all_counting n (x ∷ xs) h = (h.0.1, all_counting n xs h.1)
-
--- with it no two have one id, where strangers and subscribers are as they were
+-- with it no two have one id
 pub apart_there : {p q : Prepared} {ks ls : List Known} {ws vs : List SubscriberView} → p ≡ q → ls ≡ ks → vs ≡ ws → IsApart p ks ws
     → IsApart q ls vs
 apart_there {p} {q} {ks} {ls} {ws} {vs} is strangers subscribers h =

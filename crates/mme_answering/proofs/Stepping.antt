@@ -16,7 +16,7 @@ use Rattle.sorted_list.specs.Ordered.{Every}
 use Rattle.mme_owners.specs.SteppedView.{SteppedView}
 use Rattle.mme_owners.specs.SubscriberLaws.{all_give_as_due, all_give_as_touched, each_gives, quiet_sent, some_give, tick_is_of_all, timed_in_range, touched_below, touched_few, touched_is_of_all}
 use Rattle.mme_timers.specs.Running.{is_due}
-use Rattle.mme_owners.specs.Subscribers.{IsCounting, IsStepped, due_slots, each_after, slots_stepped, step_at, subscriber_step, tick_settled}
+use Rattle.mme_owners.specs.Subscribers.{AreOnward, IsCounting, IsStepped, due_slots, each_after, slots_stepped, step_at, subscriber_step, tick_settled}
 use Rattle.mme_owners.specs.Touched.{touched_slots}
 use Rattle.laws_ends.specs.Clocked.{ClockedRuns, IsClocked, StaysClocked}
 use Rattle.mme_answering.specs.InUse.{AreInUse}
@@ -49,22 +49,22 @@ module _ (kept : StaysClocked) (runs : ClockedRuns) where
 
 -- ---- each is that of a subscriber, and they are as many as before
 
-fit_each : (m : ℕ) (xs : List SteppedView) → Every (λ k. k < m) (slots_stepped xs)
-    → Every (λ (x : SteppedView). IsCounting x.solo) xs → AreFit m xs
-fit_each m [] h k = tt
-fit_each m (x ∷ xs) h k = ((h.0, k.0), fit_each m xs h.1 k.1)
+slot_each : (m : ℕ) (xs : List SteppedView) → Every (λ k. k < m) (slots_stepped xs) → Every (λ (x : SteppedView). x.slot < m) xs
+slot_each m [] h = tt
+slot_each m (x ∷ xs) h = (h.0, slot_each m xs h.1)
 
 pub slots_many : (xs : List SteppedView) → length (slots_stepped xs) ≡ length xs
 slots_many [] = refl
 slots_many (x ∷ xs) = ap suc (slots_many xs)
 
 pub touched_fit : (item : Item) (xs : List SteppedView) (ws : List SubscriberView) → slots_stepped xs ≡ touched_slots item ws
-    → Every (λ (x : SteppedView). IsCounting x.solo) xs
-    → AreFit (length ws) xs × (length xs ≤ length ws)
-touched_fit item xs ws touched k =
+    → Every (λ (x : SteppedView). IsCounting x.solo) xs → AreOnward ws xs
+    → AreFit ws xs × (length xs ≤ length ws)
+touched_fit item xs ws touched k onward =
     let many = slots_many xs in
     let few = subst (λ ks. length ks ≤ length ws) (sym touched) (touched_few item ws) in
-    (fit_each (length ws) xs (subst (Every (λ n. n < length ws)) (sym touched) (touched_below item ws)) k, omega arith)
+    let slots = slot_each (length ws) xs (subst (Every (λ n. n < length ws)) (sym touched) (touched_below item ws)) in
+    ((slots, k, onward), omega arith)
 
 -- ---- one alone is called
 

@@ -1,5 +1,5 @@
 -- What preparing comes to: what is sent, and what becomes of strangers and subscribers.
-use Rattle.std.specs.Prelude.{◌≡◌, ◌++◌, ℕ, List, length, map, Option}
+use Rattle.std.specs.Prelude.{◌≡◌, ◌++◌, ℕ, List, map, Option}
 use Rattle.identity_slots.specs.declared.profile.Profile.{Profile}
 use Rattle.mme_types.specs.Events.{Item}
 use Rattle.emm_machine.specs.SubscriberView.{SubscriberView}
@@ -9,7 +9,7 @@ use Rattle.stranger_machine.specs.Table.{stranger_at, with_stranger}
 use Rattle.stranger_machine.specs.Turns.{Turn}
 use Rattle.mme_owners.specs.SteppedView.{SteppedView}
 use Rattle.mme_owners.specs.SubscriberLaws.{some_give}
-use Rattle.mme_owners.specs.Subscribers.{each_after, slots_stepped, IsCounting, IsStepped}
+use Rattle.mme_owners.specs.Subscribers.{each_after, slots_stepped, IsCounting, IsOnwardAt, IsStepped}
 use Rattle.mme_routing.specs.Destinations.{Destination, if_called, item_at, strangers_left}
 use Rattle.mme_answering.specs.declared.out.Out.{Out}
 use Rattle.mme_answering.specs.declared.prepared.Prepared.{Prepared}
@@ -42,7 +42,7 @@ pub record PreparesTurn (id : ℕ) (t : Turn) (ks : List Known) (ws : List Subsc
 pub record PreparesOne (items : ℕ → Item) (ws : List SubscriberView) (before after : List Out) (x : Option SteppedView) : Type 0 where
   pub sends : after ≡ before ++ each_sent items 0 ws
   pub subscribers : with_one x ws ≡ each_after items 0 ws
-  pub fits : IsFitIf (length ws) x
+  pub fits : IsFitIf ws x
 
 -- for some subscribers, by their slots, that all have an item
 pub record PreparesEach (item : Item) (called : List ℕ) (ws : List SubscriberView) (before after : List Out) (xs : List SteppedView) : Type 0 where
@@ -50,3 +50,4 @@ pub record PreparesEach (item : Item) (called : List ℕ) (ws : List SubscriberV
   pub slots : slots_stepped xs ≡ called
   pub stepped : Every (IsStepped item ws) xs
   pub counting : Every (λ (x : SteppedView). IsCounting x.solo) xs
+  pub onward : Every (IsOnwardAt ws) xs

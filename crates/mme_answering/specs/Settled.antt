@@ -15,7 +15,7 @@ use Rattle.stranger_machine.specs.Turns.{after_of}
 use Rattle.mme_timers.specs.Waiting.{due_ids}
 use Rattle.mme_owners.specs.SteppedView.{SteppedView}
 use Rattle.mme_owners.specs.Touched.{KeepsPlace}
-use Rattle.mme_owners.specs.Subscribers.{IsCounting, due_slots, slots_stepped, step_at, subscriber_step, tick_settled}
+use Rattle.mme_owners.specs.Subscribers.{AreOnward, IsCounting, due_slots, slots_stepped, step_at, subscriber_step, tick_settled}
 use Rattle.mme_owners.specs.Owners.{IsWaitAfter}
 use Rattle.mme_owners.specs.Placed.{AreApart}
 pub use Rattle.mme_owners.specs.Owners.{with_one, IsFit, IsFitIf}
@@ -49,20 +49,22 @@ abbrev pub settled_clock : Prepared → ℕ → ℕ
 settled_clock (prepared.Tick ids xs) clock = clock + 1
 settled_clock _ clock = clock
 
-abbrev pub AreFit : ℕ → List SteppedView → Type 0
-AreFit n xs = Every (IsFit n) xs
+-- each has the slot of a subscriber, each of its countdowns that runs is in time, and it asks for no vector that was spent
+abbrev pub AreFit : List SubscriberView → List SteppedView → Type 0
+AreFit ws xs =
+    Every (λ (x : SteppedView). x.slot < length ws) xs × Every (λ (x : SteppedView). IsCounting x.solo) xs × AreOnward ws xs
 
 -- each is that of a subscriber, at a tick they are those who are due, as the strangers are, and any other notice is that of a
--- station; at both each is connected as it was, or no longer
+-- station; at both each is connected as it was, or no longer; and none asks for a vector that was spent
 abbrev pub IsFor : Prepared → List Known → List SubscriberView → Type 0
 IsFor prepared.Nobody ks ws = Unit {0}
-IsFor (prepared.Subscriber x) ks ws = IsFit (length ws) x
-IsFor (prepared.Stranger id after x) ks ws = IsFitIf (length ws) x
+IsFor (prepared.Subscriber x) ks ws = IsFit ws x
+IsFor (prepared.Stranger id after x) ks ws = IsFitIf ws x
 IsFor (prepared.Everyone notice xs) ks ws =
-    AreFit (length ws) xs.items × (length xs.items ≤ length ws) × (is_of_station notice ≡ true) × Every (KeepsPlace ws) xs.items
+    AreFit ws xs.items × (length xs.items ≤ length ws) × (is_of_station notice ≡ true) × Every (KeepsPlace ws) xs.items
 IsFor (prepared.Tick ids xs) ks ws =
     (slots_stepped xs.items ≡ due_slots ws) × Every (λ (x : SteppedView). IsCounting x.solo) xs.items × Every (KeepsPlace ws) xs.items
-    × (ids.items ≡ due_ids ks)
+    × (ids.items ≡ due_ids ks) × AreOnward ws xs.items
 
 -- with what was prepared no two have one id
 abbrev pub IsApart : Prepared → List Known → List SubscriberView → Type 0

@@ -15,7 +15,7 @@ ghost use Rattle.stranger_machine.specs.Table.{stranger_at};
 ghost use Rattle.stranger_machine.specs.Turns.{call_of, turn_of};
 ghost use Rattle.mme_timers.specs.Waiting.{due_ids};
 ghost use Rattle.mme_owners.specs.SubscriberLaws.{some_give};
-ghost use Rattle.mme_owners.specs.Subscribers.{IsCounting, due_slots};
+ghost use Rattle.mme_owners.specs.Subscribers.{IsCounting, IsOnwardAt, due_slots};
 ghost use Rattle.mme_owners.specs.Touched.{touched_slots};
 ghost use Rattle.mme_routing.specs.Destinations.{Beginner as BeginnerInSpecs, Everyone, Stranger as StrangerInSpecs, for_one, if_called, item_of_notice};
 ghost use Rattle.mme_routing.specs.Seen.{destination_of};
@@ -54,6 +54,7 @@ fn prepare_step(
     ensures slot { IfOk result (λ x. x.slot ≡ slot) }
     ensures after { IfOk result (λ x. solo_at slot (item_of event.now stations.now) subscribers.old.subscribers ≡ Some x.solo) }
     ensures counting { IfOk result (λ x. IsCounting x.solo) }
+    ensures onward { IfOk result (λ x. IsOnwardAt subscribers.old.subscribers x) }
     ensures sends { OnOk result (outs.new ≡ outs.old ++ sent_at slot (item_of event.now stations.now) subscribers.old.subscribers) }
     ensures err { OnErr result
         (SendsSome (sent_at slot (item_of event.now stations.now) subscribers.old.subscribers) outs.old outs.new) }

@@ -10,7 +10,7 @@ ghost use Rattle.stranger_machine.specs.Machine.{is_of_station};
 ghost use Rattle.stranger_machine.specs.Table.{noted, stranger_at, with_stranger};
 ghost use Rattle.stranger_machine.specs.Turns.{after_of};
 ghost use Rattle.mme_timers.specs.Waiting.{due_ids};
-ghost use Rattle.mme_owners.specs.Subscribers.{due_slots, slots_stepped, tick_settled, with_stepped, IsCounting};
+ghost use Rattle.mme_owners.specs.Subscribers.{due_slots, slots_stepped, tick_settled, with_stepped, AreOnward, IsCounting};
 ghost use Rattle.mme_owners.specs.Touched.{KeepsPlace};
 ghost use Rattle.mme_owners.specs.Owners.{with_one, IsFitIf, IsWaitAfter};
 ghost use Rattle.mme_owners.specs.Placed.{AreApart};
@@ -71,7 +71,7 @@ fn settle_turn(
     called: Option<Stepped>,
 ) -> Result<(), AllocError>
     requires wait { IsWaitAfter id after }
-    requires fits { IsFitIf (length owners.old.subscribers) called }
+    requires fits { IsFitIf owners.old.subscribers called }
     requires apart { AreApart (with_stranger id (after_of after (stranger_at id owners.old.strangers)) owners.old.strangers)
         (with_one called owners.old.subscribers) }
     requires room { 3 ≤ owners.old.room }
@@ -89,7 +89,7 @@ fn settle_turn(
 #[inline(never)]
 fn settle_noticed(owners: &mut Owners, notice: Notice, stepped: Vec<Stepped>)
     requires station { is_of_station notice ≡ true }
-    requires fits { AreFit (length owners.old.subscribers) stepped.items }
+    requires fits { AreFit owners.old.subscribers stepped.items }
     requires kept { Every (KeepsPlace owners.old.subscribers) stepped.items }
     requires room { 2 * length stepped.items ≤ owners.old.room }
     requires places { length stepped.items ≤ owners.old.places }
@@ -109,6 +109,7 @@ fn tick(owners: &mut Owners, due: Vec<AssociationId>, stepped: Vec<Stepped>)
     requires slots { slots_stepped stepped.items ≡ due_slots owners.old.subscribers }
     requires kept { Every (KeepsPlace owners.old.subscribers) stepped.items }
     requires counting { Every (λ x. IsCounting x.solo) stepped.items }
+    requires onward { AreOnward owners.old.subscribers stepped.items }
     requires room { length due.items + 2 * length stepped.items ≤ owners.old.room }
     requires places { length stepped.items ≤ owners.old.places }
     ensures clock { owners.new.clock ≡ owners.old.clock + 1 }

@@ -67,14 +67,14 @@ free_by ks ws x i k l false same apart lt is has id =
     apart.two i x.slot l k (has_other ws x i l other has) (has_here ws x k lt is) id
 
 pub free_one : (ks : List Known) (ws : List SubscriberView) (called : Option SteppedView) → AreApart ks (with_one called ws)
-    → IsFitIf (length ws) called → IsFreeIf ws called
+    → IsFitIf ws called → IsFreeIf ws called
 free_one ks ws None apart fits = tt
 free_one ks ws (Some x) apart fits = λ i k l is has id. free_by ks ws x i k l (i == x.slot) refl apart fits.0 is has id
 
 -- ---- and no stranger waits on it
 
 pub alone_one : (ks : List Known) (ws : List SubscriberView) (es : List Association) (called : Option SteppedView)
-    → ((id : ℕ) → waits_at id es ≡ place_at id ks) → AreApart ks (with_one called ws) → IsFitIf (length ws) called
+    → ((id : ℕ) → waits_at id es ≡ place_at id ks) → AreApart ks (with_one called ws) → IsFitIf ws called
     → NoneWaitsIf called es
 alone_one ks ws es None there apart fits = tt
 alone_one ks ws es (Some x) there apart fits = λ k is. there k.id ∙ apart.waiting x.slot k (has_here ws x k fits.0 is)
@@ -92,7 +92,7 @@ place_left id other o ks rising =
 module _ (id : ℕ) (o : Option Stranger) (ks : List Known) (ws : List SubscriberView) (es fs : List Association)
     (called : Option SteppedView) (rising : Rising known_id ks) (there : (other : ℕ) → waits_at other es ≡ place_at other ks)
     (left : (other : ℕ) → waits_at other fs ≡ (if id == other then None else waits_at other es))
-    (apart : AreApart (with_stranger id o ks) (with_one called ws)) (fits : IsFitIf (length ws) called) where
+    (apart : AreApart (with_stranger id o ks) (with_one called ws)) (fits : IsFitIf ws called) where
   none_by : (k : Connection) (b : Bool) → (id == k.id) ≡ b → place_at k.id (with_stranger id o ks) ≡ None
       → cond b None (waits_at k.id es) ≡ None
   none_by k true same none = refl
@@ -102,7 +102,7 @@ module _ (id : ℕ) (o : Option Stranger) (ks : List Known) (ws : List Subscribe
   pub alone_left : NoneWaitsIf called fs
   alone_left = by called fits apart
     where
-      by : (c : Option SteppedView) → IsFitIf (length ws) c → AreApart (with_stranger id o ks) (with_one c ws) → NoneWaitsIf c fs
+      by : (c : Option SteppedView) → IsFitIf ws c → AreApart (with_stranger id o ks) (with_one c ws) → NoneWaitsIf c fs
       by None f h = tt
       by (Some x) f h = λ k is. left k.id ∙ none_by k (id == k.id) refl (h.waiting x.slot k (has_here ws x k f.0 is))
 

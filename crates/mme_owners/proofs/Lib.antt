@@ -1,5 +1,6 @@
 mod Apart
 mod Noting
+mod Onward
 mod Owned
 mod Places
 mod Ticked

@@ -357,3 +357,10 @@ pub set_changed : {X : Type 0} (f : X → X) (xs : List X) (k : ℕ) (x z : X) �
 set_changed f [] k x z lt e g = absurd (omega arith)
 set_changed f (y ∷ ys) zero x z lt e g = ap (λ u. u ∷ ys) (g ∙ ap f e)
 set_changed f (y ∷ ys) (suc k) x z lt e g = ap (λ us. y ∷ us) (set_changed f ys k x z (omega arith) e g)
+
+-- one that was read is woken where it stands
+pub woken_at : (c k : ℕ) (rs : List Record) (r new : Record) → IsSubscriberTable c rs → k < length (views c rs) → r ≡ get_or rs k r
+    → new ≡ woken c r → IsSubscriberTableOf c (set rs k new) (views c rs)
+woken_at c k rs r new t lt e g =
+    let many = views_length c rs in
+    awake c k rs (set rs k new) t (set_changed (woken c) rs k r new (omega arith) e g)

@@ -1,5 +1,5 @@
 -- What a caller sees of the owners, and what always holds of them.
-use Rattle.std.specs.Prelude.{◌≡◌, ℕ, ◌^◌, ◌<◌, ◌≤◌, List, [], ◌∷◌, ◌++◌, Option, Some, None}
+use Rattle.std.specs.Prelude.{◌≡◌, ℕ, ◌^◌, ◌<◌, ◌≤◌, List, [], ◌∷◌, ◌++◌, length, Option, Some, None}
 use Rattle.emm_machine.specs.SubscriberView.{SubscriberView}
 use Rattle.emm_machine.specs.Ticks.{countdowns}
 use Rattle.stranger_machine.specs.declared.table.Known.{Known}
@@ -10,7 +10,7 @@ use Rattle.mme_timers.specs.Running.{both_retimed, running_from}
 use Rattle.mme_timers.specs.Waiting.{AreWaits, due_ids, wait_of, waits_of}
 use Rattle.stranger_table.specs.Table.{StrangerTable}
 use Rattle.mme_owners.specs.SteppedView.{SteppedView}
-use Rattle.mme_owners.specs.Subscribers.{SubscriberTable, all_countdowns, due_slots, with_solo, IsCounting}
+use Rattle.mme_owners.specs.Subscribers.{SubscriberTable, all_countdowns, due_slots, with_solo, IsCounting, IsOnwardAt}
 use Rattle.mme_owners.specs.Touched.{IsFreeFor}
 
 pub record OwnersView : Type 0 where
@@ -48,14 +48,14 @@ abbrev pub with_one : Option SteppedView → List SubscriberView → List Subscr
 with_one None ws = ws
 with_one (Some x) ws = with_solo x.slot x.solo ws
 
--- it has one of the first n slots, and each of its countdowns that runs is in time
-abbrev pub IsFit : ℕ → SteppedView → Type 0
-IsFit n x = (x.slot < n) × IsCounting x.solo
+-- it has the slot of a subscriber, each of its countdowns that runs is in time, and it asks for no vector that was spent
+abbrev pub IsFit : List SubscriberView → SteppedView → Type 0
+IsFit ws x = (x.slot < length ws) × IsCounting x.solo × IsOnwardAt ws x
 
 -- and so the one that was prepared, if one was
-abbrev pub IsFitIf : ℕ → Option SteppedView → Type 0
-IsFitIf n None = Unit {0}
-IsFitIf n (Some x) = IsFit n x
+abbrev pub IsFitIf : List SubscriberView → Option SteppedView → Type 0
+IsFitIf ws None = Unit {0}
+IsFitIf ws (Some x) = IsFit ws x
 
 -- no other slot has the id of the connection that was prepared, if one was
 abbrev pub IsFreeIf : List SubscriberView → Option SteppedView → Type 0

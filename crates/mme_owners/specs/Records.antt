@@ -18,6 +18,10 @@ view_at clock r =
 abbrev pub views : ℕ → List Record → List SubscriberView
 views clock rs = map (view_at clock) rs
 
+-- each as it was when it was last touched
+abbrev pub touched_views : List Record → List SubscriberView
+touched_views rs = map (λ (r : Record). r.subscriber) rs
+
 -- no countdown was met since the record was touched
 pub record IsFresh (clock : ℕ) (r : Record) : Type 0 where
   pub past : r.touched ≤ clock

@@ -21,7 +21,7 @@ use Rattle.mme_owners.specs.SteppedView.{SteppedView}
 use Rattle.mme_owners.specs.Changed.{changed_at, cleared}
 use Rattle.mme_owners.specs.Matching.{AreOff, Match, changed_by_none, cleared_all, match_changed}
 use Rattle.mme_timers.specs.Running.{AreInRange, IsInRange, is_due, is_last}
-use Rattle.mme_owners.specs.Subscribers.{IsStepped, all_countdowns, due_slots, each_after, in_state, one_less, slots_stepped, subscriber_after, subscriber_step, tick_settled, with_solo, with_stepped}
+use Rattle.mme_owners.specs.Subscribers.{AreOnward, IsOnwardAt, IsStepped, all_countdowns, due_slots, each_after, in_state, one_less, slots_stepped, subscriber_after, subscriber_step, tick_settled, with_solo, with_stepped}
 use Rattle.mme_owners.specs.Touched.{touched_slots}
 
 -- ---- countdowns that run in time
@@ -113,6 +113,55 @@ pub with_solo_is : (k : ℕ) (s : Solo) (ws : List SubscriberView) → with_solo
 with_solo_is k s [] = refl
 with_solo_is zero s (w ∷ ws) = refl
 with_solo_is (suc k) s (w ∷ ws) = solo_set k s w ws (slice_get ws k) ∙ ap (λ vs. w ∷ vs) (with_solo_is k s ws)
+
+-- ---- states that ask for no vector that was spent, where the slots rise
+
+-- each is above the one before, and the first at least n
+abbrev AreRisingFrom : ℕ → List ℕ → Type 0
+AreRisingFrom n [] = Unit {0}
+AreRisingFrom n (k ∷ ks) = (n ≤ k) × AreRisingFrom (k + 1) ks
+
+rising_lower : (n : ℕ) (ks : List ℕ) → AreRisingFrom (n + 1) ks → AreRisingFrom n ks
+rising_lower n [] h = tt
+rising_lower n (k ∷ ks) h = let above = h.0 in (omega arith, h.1)
+
+rising_where : {X : Type 0} (p : X → Bool) (n : ℕ) (xs : List X) → AreRisingFrom n (slots_where p n xs)
+rising_where p n [] = tt
+rising_where p n (x ∷ xs) =
+    let rest = rising_where p (n + 1) xs in
+    elim (p x) as (λ b. AreRisingFrom n (cond b (n ∷ slots_where p (n + 1) xs) (slots_where p (n + 1) xs)))
+    [ true ↦ (omega arith, rest) | false ↦ rising_lower n (slots_where p (n + 1) xs) rest ]
+
+changed_before : {X : Type 0} (n k : ℕ) (f : X → X) (xs : List X) → n < k → slice_get (changed_at n f xs) k ≡ slice_get xs k
+changed_before n k f [] lt = refl
+changed_before n zero f (x ∷ xs) lt = absurd (omega arith)
+changed_before zero (suc k) f (x ∷ xs) lt = refl
+changed_before (suc n) (suc k) f (x ∷ xs) lt = changed_before n k f xs (omega arith)
+
+-- those from a slot on are still as they were
+onward_from : (n : ℕ) (ws vs : List SubscriberView) (xs : List SteppedView) → ((k : ℕ) → n ≤ k → slice_get vs k ≡ slice_get ws k)
+    → AreRisingFrom n (slots_stepped xs) → Every (IsOnwardAt ws) xs → AreOnward vs xs
+onward_from n ws vs [] same rising each = tt
+onward_from n ws vs (x ∷ xs) same rising each =
+    let least : n ≤ x.slot = rising.0 in (
+      λ w at. each.0 w (sym (same x.slot least) ∙ at),
+      onward_from (x.slot + 1) ws (with_solo x.slot x.solo vs) xs
+          (λ k above. ap (λ (us : List SubscriberView). slice_get us k) (with_solo_is x.slot x.solo vs)
+          ∙ changed_before x.slot k (in_state x.solo) vs (omega arith) ∙ same k (omega arith)) rising.1 each.1,
+    )
+
+-- of those who are due
+pub due_onward : (xs : List SteppedView) (ws : List SubscriberView) → slots_stepped xs ≡ due_slots ws → Every (IsOnwardAt ws) xs
+    → AreOnward ws xs
+due_onward xs ws due each =
+    onward_from 0 ws ws xs (λ k least. refl) (subst (AreRisingFrom 0) (sym due) (rising_where is_due 0 (all_countdowns ws))) each
+
+-- and of those whom an item touches
+pub touched_onward : (item : Item) (xs : List SteppedView) (ws : List SubscriberView) → slots_stepped xs ≡ touched_slots item ws
+    → Every (IsOnwardAt ws) xs → AreOnward ws xs
+touched_onward item xs ws touched each =
+    onward_from 0 ws ws xs (λ k least. refl)
+    (subst (AreRisingFrom 0) (sym touched) (rising_where (λ (w : SubscriberView). not (still w.solo item)) 0 ws)) each
 
 -- ---- a step of those whom an item touches is a step of all
 

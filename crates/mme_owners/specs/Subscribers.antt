@@ -4,6 +4,7 @@ use Rattle.std.specs.Option.{option_map_or}
 use Rattle.mme_types.specs.Events.{Item}
 use Rattle.emm_state.specs.declared.draft.Draft.{Draft}
 use Rattle.emm_state.specs.declared.solo.Solo.{Solo}
+use Rattle.emm_state.specs.Taking.{IsOnward}
 use Rattle.emm_machine.specs.Steps.{solo_step}
 use Rattle.emm_machine.specs.SubscriberView.{SubscriberView}
 use Rattle.emm_machine.specs.Ticks.{countdowns, solo_aged}
@@ -44,6 +45,15 @@ with_solo n s ws = option_map_or (λ w. slice_set ws n (in_state s w)) (slice_ge
 abbrev pub with_stepped : List SteppedView → List SubscriberView → List SubscriberView
 with_stepped [] ws = ws
 with_stepped (x ∷ xs) ws = with_stepped xs (with_solo x.slot x.solo ws)
+
+-- a state that asks for no vector of its slot's subscriber that was spent
+abbrev pub IsOnwardAt : List SubscriberView → SteppedView → Type 0
+IsOnwardAt ws x = (w : SubscriberView) → slice_get ws x.slot ≡ Some w → IsOnward w.solo x.solo
+
+-- and so each, where they are settled one after the other
+abbrev pub AreOnward : List SubscriberView → List SteppedView → Type 0
+AreOnward ws [] = Unit {0}
+AreOnward ws (x ∷ xs) = IsOnwardAt ws x × AreOnward (with_solo x.slot x.solo ws) xs
 
 -- ---- countdowns
 

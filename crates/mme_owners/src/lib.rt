@@ -14,6 +14,7 @@ mod placing;
 mod record;
 mod records;
 mod retiming;
+mod spare;
 mod stepped;
 mod subscribers;
 

@@ -13,7 +13,7 @@ ghost use Rattle.stranger_machine.specs.Table.{known_id, noted, stranger_at, wit
 ghost use Rattle.stranger_machine.specs.Turns.{after_of};
 ghost use Rattle.stranger_machine.specs.declared.turn.Notice.TheVariants.{Tick};
 ghost use Rattle.mme_timers.specs.Waiting.{due_ids};
-ghost use Rattle.mme_owners.specs.Subscribers.{due_slots, one_less, slots_stepped, tick_settled, with_solo, with_stepped, AreCounting, IsCounting};
+ghost use Rattle.mme_owners.specs.Subscribers.{due_slots, one_less, slots_stepped, tick_settled, with_solo, with_stepped, AreCounting, AreOnward, IsCounting, IsOnwardAt};
 ghost use Rattle.mme_owners.specs.Touched.{all_whereabouts, touched_slots, whereabouts, KeepsPlace};
 ghost use Rattle.mme_owners.specs.Owners.{with_one, IsFitIf, IsFreeIf, IsWaitAfter, NobodyIsDue};
 ghost use Rattle.mme_owners.specs.Placed.{AreApart, IsOn, NoneWaitsIf};
@@ -82,7 +82,7 @@ fn first_id(station: u8) -> u64
 // memory.
 fn settle_called(records: &mut Records, connections: &mut Connections, called: Option<Stepped>)
     requires many { connections.old.whereabouts ≡ all_whereabouts records.old.subscribers }
-    requires fits { IsFitIf (length records.old.subscribers) called }
+    requires fits { IsFitIf records.old.subscribers called }
     requires free { IsFreeIf records.old.subscribers called }
     requires alone { NoneWaitsIf called connections.old.associations }
     requires room { 2 ≤ records.old.room }
@@ -215,6 +215,7 @@ impl Owners {
         requires slot { stepped.slot < length self.old.subscribers }
         requires apart { AreApart self.old.strangers (with_solo stepped.slot stepped.solo self.old.subscribers) }
         requires counting { IsCounting stepped.solo }
+        requires onward { IsOnwardAt self.old.subscribers stepped }
         requires room { 2 ≤ self.old.room }
         requires places { 0 < self.old.places }
         ensures clock { self.new.clock ≡ self.old.clock }
@@ -230,6 +231,7 @@ impl Owners {
         requires slots { Every (λ x. x.slot < length self.old.subscribers) stepped.items }
         requires kept { Every (KeepsPlace self.old.subscribers) stepped.items }
         requires counting { Every (λ x. IsCounting x.solo) stepped.items }
+        requires onward { AreOnward self.old.subscribers stepped.items }
         requires room { 2 * length stepped.items ≤ self.old.room }
         requires places { length stepped.items ≤ self.old.places }
         ensures clock { self.new.clock ≡ self.old.clock }
@@ -251,7 +253,7 @@ impl Owners {
         called: Option<Stepped>,
     ) -> Result<(), AllocError>
         requires wait { IsWaitAfter id after }
-        requires fits { IsFitIf (length self.old.subscribers) called }
+        requires fits { IsFitIf self.old.subscribers called }
         requires apart { AreApart (with_stranger id (after_of after (stranger_at id self.old.strangers)) self.old.strangers)
             (with_one called self.old.subscribers) }
         requires room { 3 ≤ self.old.room }
@@ -355,6 +357,7 @@ impl Owners {
         requires slots { slots_stepped stepped.items ≡ due_slots self.old.subscribers }
         requires kept { Every (KeepsPlace self.old.subscribers) stepped.items }
         requires counting { Every (λ x. IsCounting x.solo) stepped.items }
+        requires onward { AreOnward self.old.subscribers stepped.items }
         requires room { length due.items + 2 * length stepped.items ≤ self.old.room }
         requires places { length stepped.items ≤ self.old.places }
         ensures clock { self.new.clock ≡ self.old.clock + 1 }

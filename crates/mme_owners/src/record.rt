@@ -1,6 +1,7 @@
 //! Subscribers as they were when they were last touched.
 
 ghost use Rattle.std.specs.Prelude.{◌≡◌};
+ghost use Rattle.emm_state.specs.Taking.{IsOnward};
 ghost use Rattle.emm_machine.specs.Forgetting.{left_for};
 ghost use Rattle.emm_machine.specs.Ticks.{countdowns};
 ghost use Rattle.mme_owners.specs.Records.{renewed, view_at, woken, IsFresh};
@@ -28,6 +29,7 @@ impl Record {
     /// The state is that of this step now; answers the box of the one before, with its state, but for a context that has ended.
     /// Takes no memory.
     pub fn renew(&mut self, clock: u64, draft: Box<Draft>) -> Box<Draft>
+        requires { IsOnward self.old.subscriber.solo draft.value.solo }
         ensures state { self.new ≡ renewed clock draft.value.solo self.old }
         ensures spare { result.value.solo ≡ left_for draft.value.solo self.old.subscriber.solo }
     {
@@ -42,7 +44,8 @@ impl Record {
         clock: u64,
         draft: Box<Draft>,
     ) -> ((Option<u64>, Option<u64>), Box<Draft>)
-        requires { IsFresh clock self.old }
+        requires fresh { IsFresh clock self.old }
+        requires onward { IsOnward (view_at clock self.old).solo draft.value.solo }
         ensures state { self.new ≡ renewed clock draft.value.solo self.old }
         ensures before { result.0 ≡ countdowns (view_at clock self.old).solo }
         ensures spare { result.1.value.solo ≡ left_for draft.value.solo (view_at clock self.old).solo }

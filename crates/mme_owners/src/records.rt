@@ -9,7 +9,7 @@ ghost use Rattle.sorted_list.specs.Ordered.{Every, Rising, put, without};
 ghost use Rattle.stranger_machine.specs.Table.{known_id, noted};
 ghost use Rattle.stranger_machine.specs.declared.turn.Notice.TheVariants.{Tick};
 ghost use Rattle.mme_timers.specs.Waiting.{due_ids, wait_at, wait_of};
-ghost use Rattle.mme_owners.specs.Subscribers.{due_slots, one_less, slots_stepped, tick_settled, with_solo, with_stepped, AreCounting, IsCounting};
+ghost use Rattle.mme_owners.specs.Subscribers.{due_slots, one_less, slots_stepped, tick_settled, with_solo, with_stepped, AreCounting, AreOnward, IsCounting, IsOnwardAt};
 ghost use Rattle.mme_owners.specs.Owners.{IsStart, NobodyIsDue};
 
 use crate::retiming::{restart, retime_all};
@@ -166,6 +166,7 @@ impl Records {
     pub(crate) fn settle(&mut self, stepped: Stepped)
         requires slot { stepped.slot < length self.old.subscribers }
         requires counting { IsCounting stepped.solo }
+        requires onward { IsOnwardAt self.old.subscribers stepped }
         requires room { 2 ≤ self.old.room }
         ensures clock { self.new.clock ≡ self.old.clock }
         ensures strangers { self.new.strangers ≡ self.old.strangers }
@@ -183,6 +184,7 @@ impl Records {
     pub(crate) fn settle_all(&mut self, stepped: Vec<Stepped>)
         requires slots { Every (λ x. x.slot < length self.old.subscribers) stepped.items }
         requires counting { Every (λ x. IsCounting x.solo) stepped.items }
+        requires onward { AreOnward self.old.subscribers stepped.items }
         requires room { 2 * length stepped.items ≤ self.old.room }
         ensures clock { self.new.clock ≡ self.old.clock }
         ensures strangers { self.new.strangers ≡ self.old.strangers }
@@ -236,6 +238,7 @@ impl Records {
         requires strangers { due.now ≡ due_ids self.old.strangers }
         requires slots { slots_stepped stepped.items ≡ due_slots self.old.subscribers }
         requires counting { Every (λ x. IsCounting x.solo) stepped.items }
+        requires onward { AreOnward self.old.subscribers stepped.items }
         requires room { length due.now + 2 * length stepped.items ≤ self.old.room }
         ensures clock { self.new.clock ≡ self.old.clock + 1 }
         ensures strangers { self.new.strangers ≡ noted Tick self.old.strangers }

@@ -8,10 +8,11 @@ ghost use Rattle.emm_machine.specs.Ticks.{countdowns};
 ghost use Rattle.emm_machine.specs.Words.{states_of};
 ghost use Rattle.sorted_list.specs.Ordered.{Every};
 ghost use Rattle.mme_owners.specs.Changed.{changed_at};
-ghost use Rattle.mme_owners.specs.Records.{renewed, views, with_records, IsSubscriberTable};
-ghost use Rattle.mme_owners.specs.Subscribers.{countdowns_at, due_slots, slots_stepped, step_at, tick_settled, with_solo, with_stepped, AreCounting, IsCounting};
+ghost use Rattle.mme_owners.specs.Records.{renewed, touched_views, views, with_records, IsSubscriberTable};
+ghost use Rattle.mme_owners.specs.Subscribers.{countdowns_at, due_slots, slots_stepped, step_at, tick_settled, with_solo, with_stepped, AreCounting, AreOnward, IsCounting, IsOnwardAt};
 
 use crate::record::Record;
+use crate::spare::{Spares, free};
 use crate::stepped::Stepped;
 use emm_machine::{States, Subscriber};
 use emm_state::Draft;
@@ -20,43 +21,31 @@ use mme_associations::Connections;
 use mme_types::{EnbWorld, SoloEvent};
 use std::alloc::{AllocError, Global};
 use std::marker::Model;
-use std::mem;
 
-// A box that nobody needs any more: the keys in it are overwritten before it is freed.
-fn free(left: Box<Draft>) {
-    let mut left = left;
-    left.solo.forget();
-}
-
-// This box is the spare one, in place of the one that was.
-fn keep(spare: &mut Option<Box<Draft>>, kept: Box<Draft>) {
-    if let Some(left) = mem::replace(spare, Some(kept)) {
-        free(left);
-    }
-}
-
-// One has a new state; answers the countdowns that it had until now. The box of the step before is the spare one.
+// One has a new state; answers the countdowns that it had until now. The box of the step before is a spare one.
 fn settle_one(
     records: &mut Vec<Record>,
     clock: u64,
-    spare: &mut Option<Box<Draft>>,
+    spares: &mut Spares,
     stepped: Stepped,
 ) -> (Option<u64>, Option<u64>)
     requires table { IsSubscriberTable clock records.old.items }
     requires slot { stepped.slot < length records.old.items }
+    requires onward { IsOnwardAt (views clock records.old.items) stepped }
     ensures records { records.new.items ≡ changed_at stepped.slot (renewed clock stepped.solo) records.old.items }
     ensures before { countdowns_at stepped.slot (views clock records.old.items) ≡ Some result }
 {
     let slot = stepped.slot();
     let place = slot.get() as usize;
     let (before, kept) = records[place].replace(clock, stepped.into_draft());
-    keep(spare, kept);
+    spares.keep(kept);
     before
 }
 
 // One who was due has a new state.
 fn settle_due(records: &mut Vec<Record>, clock: u64, due: Stepped)
-    requires { due.slot < length records.old.items }
+    requires slot { due.slot < length records.old.items }
+    requires onward { IsOnwardAt (touched_views records.old.items) due }
     ensures { records.new.items ≡ changed_at due.slot (renewed clock due.solo) records.old.items }
 {
     let slot = due.slot();
@@ -66,7 +55,8 @@ fn settle_due(records: &mut Vec<Record>, clock: u64, due: Stepped)
 
 // Each who was due has the state that it was prepared for.
 fn settle_all(records: &mut Vec<Record>, clock: u64, stepped: Vec<Stepped>)
-    requires { Every (λ x. x.slot < length records.old.items) stepped.items }
+    requires slots { Every (λ x. x.slot < length records.old.items) stepped.items }
+    requires onward { AreOnward (touched_views records.old.items) stepped.items }
     ensures { records.new.items ≡ with_records clock stepped.items records.old.items }
 {
     for one in stepped {
@@ -79,8 +69,8 @@ fn settle_all(records: &mut Vec<Record>, clock: u64, stepped: Vec<Stepped>)
 pub struct Subscribers {
     records: Vec<Record>,
     clock: u64,
-    // the box of a step that another has replaced, for the next one; what it has means nothing
-    spare: Option<Box<Draft>>,
+    // the boxes of steps that others have replaced, for the next ones; what they have means nothing
+    spares: Spares,
 }
 
 impl Model for Subscribers {
@@ -104,7 +94,7 @@ impl Subscribers {
         Subscribers {
             records: Vec::new(alloc),
             clock,
-            spare: None,
+            spares: Spares::new(),
         }
     }
 
@@ -164,31 +154,35 @@ impl Subscribers {
     ) -> Result<Box<Draft>, AllocError>
         requires { slot < length self.old.subscribers }
         ensures step { IfOk result (λ d. step_at slot (item_of event.now world.now) self.old.subscribers ≡ Some d.value) }
+        ensures onward { IfOk result (λ d. IsOnwardAt self.old.subscribers (record { slot = slot; solo = d.value.solo })) }
         ensures same { self.new ≡ self.old }
     {
         let clock = self.clock;
         let place = slot.get() as usize;
-        self.records[place].wake(clock);
-        let spare = self.spare.take();
-        self.records[place].subscriber.prepare(spare, event, world)
+        let own = &mut self.records[place];
+        own.wake(clock);
+        let spare = self.spares.take(own.subscriber.has_context());
+        own.subscriber.prepare(spare, event, world)
     }
 
     /// The state of a slot is the one that was prepared; answers the countdowns that it had until now. Takes no memory.
     pub fn settle(&mut self, stepped: Stepped) -> (Option<u64>, Option<u64>)
         requires slot { stepped.slot < length self.old.subscribers }
         requires counting { IsCounting stepped.solo }
+        requires onward { IsOnwardAt self.old.subscribers stepped }
         ensures clock { self.new.clock ≡ self.old.clock }
         ensures subscribers { self.new.subscribers ≡ with_solo stepped.slot stepped.solo self.old.subscribers }
         ensures before { countdowns_at stepped.slot self.old.subscribers ≡ Some result }
     {
-        let spare = &mut self.spare;
-        settle_one(&mut self.records, self.clock, spare, stepped)
+        let spares = &mut self.spares;
+        settle_one(&mut self.records, self.clock, spares, stepped)
     }
 
     /// The states of slots are those that were prepared, one after the other. Takes no memory.
     pub fn settle_all(&mut self, stepped: Vec<Stepped>)
         requires slots { Every (λ x. x.slot < length self.old.subscribers) stepped.items }
         requires counting { Every (λ x. IsCounting x.solo) stepped.items }
+        requires onward { AreOnward self.old.subscribers stepped.items }
         ensures clock { self.new.clock ≡ self.old.clock }
         ensures subscribers { self.new.subscribers ≡ with_stepped stepped.items self.old.subscribers }
     {
@@ -203,6 +197,7 @@ impl Subscribers {
         requires clock { self.old.clock < 2 ^ 62 }
         requires due { slots_stepped stepped.items ≡ due_slots self.old.subscribers }
         requires counting { Every (λ x. IsCounting x.solo) stepped.items }
+        requires onward { AreOnward self.old.subscribers stepped.items }
         ensures clock { self.new.clock ≡ self.old.clock + 1 }
         ensures subscribers { self.new.subscribers ≡ tick_settled stepped.items self.old.subscribers }
     {

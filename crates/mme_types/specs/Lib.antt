@@ -1,6 +1,7 @@
 pub mod Network
 pub mod Stations
 pub mod Answers
+pub mod Carrying
 pub mod Listed
 pub mod Events
 pub mod Pdus

@@ -2,9 +2,10 @@
 
 ghost use Rattle.std.specs.Prelude.{◌≡◌, ◌≤◌, ◌++◌, ◌∷◌, [], ℕ, List, drop, length, replicate, take, slice_get, IfOk, OnOk, OnErr};
 ghost use Rattle.s1ap_pdus.specs.Pdus.{encoded, lists, longest};
+ghost use Rattle.mme_types.specs.Carrying.{has_key, may_carry_key, without_key};
 
 use identity_slots::StationNumber;
-use s1ap_pdus::{EncodeFault, S1apPdu, encode};
+use s1ap_pdus::{EncodeFault, MessageType, S1apPdu, encode};
 use std::alloc::{AllocError, Global};
 use std::marker::Model;
 
@@ -42,6 +43,24 @@ impl NasOctets {
         Ok(NasOctets {
             octets: Vec::from_slice(alloc, self.octets.as_slice())?,
         })
+    }
+}
+
+// Whether it is the code of a procedure a message of which has a key.
+fn has_key(code: u8) -> bool
+    ensures { result ≡ has_key code }
+{
+    code == MessageType::InitialContextSetupRequest.code()
+        || code == MessageType::PathSwitchRequestAcknowledge.code()
+}
+
+// Whether these may be the octets of a message that has a key.
+fn may_carry_key(octets: &[u8]) -> bool
+    ensures { result ≡ may_carry_key octets.now }
+{
+    match octets.get(1) {
+        Some(code) => has_key(*code),
+        None => false,
     }
 }
 
@@ -96,11 +115,14 @@ impl SentOctets {
         let _ = &self.octets;
     }
 
-    /// Zeros stand in place of the octets: a message that was sent may carry a key. Takes no memory.
+    /// Zeros stand in place of the octets of a message that may carry a key: of INITIAL CONTEXT SETUP REQUEST, which has KeNB, and of
+    /// PATH SWITCH REQUEST ACKNOWLEDGE, which has NH (TS 36.413 clauses 9.1.4.1 and 9.1.5.9). Takes no memory.
     pub fn forget(&mut self)
-        ensures { self.new ≡ replicate (length self.old) 0 }
+        ensures { self.new ≡ without_key self.old }
     {
-        overwrite(&mut self.octets);
+        if may_carry_key(self.octets.as_slice()) {
+            overwrite(&mut self.octets);
+        }
     }
 
     /// The same octets once more.

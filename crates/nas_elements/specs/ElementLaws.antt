@@ -6,10 +6,10 @@ use Rattle.std.proofs.lemmas.List.{length-append, append-nil}
 use Rattle.nas_elements.specs.declared.rule.Domain.{Domain}
 use Rattle.nas_elements.specs.declared.rule.Element.{Element}
 use Rattle.nas_elements.specs.declared.rule.Rule.{Rule}
-use Rattle.nas_elements.specs.declared.rule.Rule.TheVariants.{Itself, SoMany, ByOctet, ByTwo}
+use Rattle.nas_elements.specs.declared.rule.Rule.TheVariants.{Itself, Fixed, ByOctet, ByTwo}
 use Rattle.nas_elements.specs.Parts.{◌>>=◌, octet_at, fixed_at, short_at, long_at}
 use Rattle.nas_elements.specs.Optionals.{rule_of, SpellsBy, SpellsElement, AreElements, first, by_rule, element_at, parted, elements, elements_in}
-use Rattle.nas_elements.specs.Exact.{Exact, bind_ok, some_is, exact_same, Bind, exact_bind, Nothing, exact_ok, IsOctet, exact_octet, SoMany as IsSoMany, exact_fixed, IsShort, exact_short, IsLong, exact_long}
+use Rattle.nas_elements.specs.Exact.{Exact, bind_ok, some_is, exact_same, Bind, exact_bind, Nothing, exact_ok, IsOctet, exact_octet, Fixed as IsFixed, exact_fixed, IsShort, exact_short, IsLong, exact_long}
 
 abbrev With : ℕ → (List ℕ → List ℕ → Type 0) → Element (List ℕ) → List ℕ → Type 0
 With i S = Bind S (λ xs. Nothing (record { iei = i; octets = xs }))
@@ -46,9 +46,9 @@ exact_has i S r h =
 exact_by : (r : Rule) (i : ℕ) → Exact (SpellsBy r i) (by_rule r i)
 exact_by Itself i = let e = exact_ok {A = Element (List ℕ)} (record { iei = i / 16 * 16; octets = i ∷ [] }) in
     record { again = e.again; takes = e.takes }
-exact_by (SoMany n) i = let e = exact_has i (IsSoMany n) (fixed_at n) (exact_fixed n) in
-    exact_same (Has i (IsSoMany n)) (SpellsBy (SoMany n) i)
-    (λ os. fixed_at n os >>= λ x. Some (record { iei = i; octets = x.0 }, x.1)) (by_rule (SoMany n) i)
+exact_by (Fixed n) i = let e = exact_has i (IsFixed n) (fixed_at n) (exact_fixed n) in
+    exact_same (Has i (IsFixed n)) (SpellsBy (Fixed n) i)
+    (λ os. fixed_at n os >>= λ x. Some (record { iei = i; octets = x.0 }, x.1)) (by_rule (Fixed n) i)
     (λ x os m. (m.0, m.1.0, m.1.1)) (λ x os m. (m.0, (m.1, m.2))) (λ os. refl) e
 exact_by ByOctet i = let e = exact_has i IsShort short_at exact_short in record { again = e.again; takes = e.takes }
 exact_by ByTwo i = let e = exact_has i IsLong long_at exact_long in

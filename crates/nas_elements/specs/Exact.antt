@@ -124,10 +124,10 @@ pub exact_octet : Exact IsOctet octet_at
 unfolding octet_at
 exact_octet = record { again = λ n os rest m. rw m refl; takes = λ os rest n e. octet_takes os rest n e }
 
-abbrev pub SoMany : ℕ → List ℕ → List ℕ → Type 0
-SoMany n xs os = (os ≡ xs) × (length xs ≡ n)
+abbrev pub Fixed : ℕ → List ℕ → List ℕ → Type 0
+Fixed n xs os = (os ≡ xs) × (length xs ≡ n)
 
-pub exact_fixed : (n : ℕ) → Exact (SoMany n) (fixed_at n)
+pub exact_fixed : (n : ℕ) → Exact (Fixed n) (fixed_at n)
 unfolding fixed_at
 exact_fixed n = record {
   again = λ xs os rest m.
@@ -139,27 +139,27 @@ exact_fixed n = record {
       let last : List ℕ × List ℕ = (xs, rest) in
       let g = unless_ok (ltb (length os) n) made last e in
       let len : length (take n os) ≡ n = length-take-le n os (ltb-false _ _ g.0) in
-      subst (λ (y : List ℕ × List ℕ). Takes (SoMany n) os y.0 y.1) g.1
+      subst (λ (y : List ℕ × List ℕ). Takes (Fixed n) os y.0 y.1) g.1
       (record { taken = take n os; parts = sym (take-append-drop n os); spelled = (refl, len) });
 }
 
 abbrev pub IsShort : List ℕ → List ℕ → Type 0
 IsShort xs os = os ≡ length xs ∷ xs
 
-short_to : (xs os : List ℕ) → Bind IsOctet (λ n. SoMany n) xs os → IsShort xs os
+short_to : (xs os : List ℕ) → Bind IsOctet (λ n. Fixed n) xs os → IsShort xs os
 short_to xs os m = m.3 ∙ rw (m.4, m.5.0, m.5.1) refl
 
 pub exact_short : Exact IsShort short_at
 unfolding short_at
-exact_short = exact_same (Bind IsOctet (λ n. SoMany n)) IsShort (λ os. octet_at os >>= λ n. fixed_at n.0 n.1) short_at
+exact_short = exact_same (Bind IsOctet (λ n. Fixed n)) IsShort (λ os. octet_at os >>= λ n. fixed_at n.0 n.1) short_at
     short_to (λ xs os m. (length xs, length xs ∷ [], xs, m, refl, (refl, refl))) (λ os. refl)
-    (exact_bind IsOctet (λ n. SoMany n) octet_at fixed_at exact_octet exact_fixed)
+    (exact_bind IsOctet (λ n. Fixed n) octet_at fixed_at exact_octet exact_fixed)
 
 abbrev pub IsLong : List ℕ → List ℕ → Type 0
 IsLong xs os = (a : ℕ) × (b : ℕ) × (os ≡ a ∷ b ∷ xs) × (a * 256 + b ≡ length xs)
 
 abbrev TwoOctets : List ℕ → List ℕ → Type 0
-TwoOctets = Bind IsOctet (λ a. Bind IsOctet (λ b. SoMany (a * 256 + b)))
+TwoOctets = Bind IsOctet (λ a. Bind IsOctet (λ b. Fixed (a * 256 + b)))
 
 long_to : (xs os : List ℕ) → TwoOctets xs os → IsLong xs os
 long_to xs os m =
@@ -170,9 +170,9 @@ pub exact_long : Exact IsLong long_at
 unfolding long_at
 exact_long = exact_same TwoOctets IsLong (λ os. octet_at os >>= λ a. octet_at a.1 >>= λ b. fixed_at (a.0 * 256 + b.0) b.1) long_at
     long_to (λ xs os m. (m.0, m.0 ∷ [], m.1 ∷ xs, m.2, refl, (m.1, m.1 ∷ [], xs, refl, refl, (refl, sym m.3)))) (λ os. refl)
-    (exact_bind IsOctet (λ a. Bind IsOctet (λ b. SoMany (a * 256 + b))) octet_at
+    (exact_bind IsOctet (λ a. Bind IsOctet (λ b. Fixed (a * 256 + b))) octet_at
     (λ a os. octet_at os >>= λ b. fixed_at (a * 256 + b.0) b.1) exact_octet
-    (λ a. exact_bind IsOctet (λ b. SoMany (a * 256 + b)) octet_at (λ b. fixed_at (a * 256 + b)) exact_octet
+    (λ a. exact_bind IsOctet (λ b. Fixed (a * 256 + b)) octet_at (λ b. fixed_at (a * 256 + b)) exact_octet
     (λ b. exact_fixed (a * 256 + b))))
 
 -- ---- half octets

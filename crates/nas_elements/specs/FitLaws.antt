@@ -8,7 +8,7 @@ use Rattle.nas_elements.specs.declared.rule.Domain.{Domain}
 use Rattle.nas_elements.specs.declared.rule.Domain.TheVariants.{Emm, Esm}
 use Rattle.nas_elements.specs.declared.rule.Element.{Element}
 use Rattle.nas_elements.specs.declared.rule.Rule.{Rule}
-use Rattle.nas_elements.specs.declared.rule.Rule.TheVariants.{Itself, SoMany, ByOctet, ByTwo}
+use Rattle.nas_elements.specs.declared.rule.Rule.TheVariants.{Itself, Fixed, ByOctet, ByTwo}
 use Rattle.nas_elements.specs.Identities.{SpellsGuti, GutiFits, SpellsTaiList}
 use Rattle.nas_elements.specs.Parts.{Half, spare, three, flagged, four, exactly, Content, between, identity, guti, tai_list, label, Part, constant, octet, halves, fixed, lv, long, HalfValue, ContentValue, Value, Values, SpellsHalf, SpellsContent, SpellsPart, SpellsParts, HalfFits, ContentFits, PartFits, Fit}
 use Rattle.nas_elements.specs.Optionals.{cause_rule, rule_of, SpellsBy, SpellsElement, AreElements, first, FitsBy}
@@ -110,16 +110,16 @@ others_not domain i false q e =
     let rest = rw q at e in
     absurd (last_rule (
     not_itself (eqb i 0x58) (cause_rule domain) ByOctet (cause_other domain) (
-    not_itself (eqb i 0x5a) (SoMany 1) _ fixed_other (
-    not_itself (eqb i 0x53) (SoMany 1) _ fixed_other (
-    not_itself (eqb i 0x55) (SoMany 4) _ fixed_other (
-    not_itself (eqb i 0x5c) (SoMany 2) _ fixed_other (
-    not_itself (eqb i 0x52) (SoMany 5) _ fixed_other (
-    not_itself (eqb i 0x19) (SoMany 3) _ fixed_other (
-    not_itself (eqb i 0x13) (SoMany 5) _ fixed_other (
+    not_itself (eqb i 0x5a) (Fixed 1) _ fixed_other (
+    not_itself (eqb i 0x53) (Fixed 1) _ fixed_other (
+    not_itself (eqb i 0x55) (Fixed 4) _ fixed_other (
+    not_itself (eqb i 0x5c) (Fixed 2) _ fixed_other (
+    not_itself (eqb i 0x52) (Fixed 5) _ fixed_other (
+    not_itself (eqb i 0x19) (Fixed 3) _ fixed_other (
+    not_itself (eqb i 0x13) (Fixed 5) _ fixed_other (
     not_itself (leb 0x78 i) ByTwo _ two_other rest))))))))))
   where
-    fixed_other : {n : ℕ} → SoMany n ≡ Itself → ⊥
+    fixed_other : {n : ℕ} → Fixed n ≡ Itself → ⊥
     fixed_other e = absurd cc
 
     two_other : ByTwo ≡ Itself → ⊥
@@ -141,7 +141,7 @@ by_fits domain i e tail Itself q s m =
     let made : FitsBy Itself (i / 16 * 16) (i ∷ []) = (i, refl, refl, high) in
     subst (λ (x : Element (List ℕ)). FitsBy (rule_of domain x.iei) x.iei x.octets) (sym m.0)
     (subst (λ (x : Rule). FitsBy x (i / 16 * 16) (i ∷ [])) (sym (itself domain (i / 16 * 16) place)) made)
-by_fits domain i e tail (SoMany n) q s m = subst (λ (x : Rule). FitsBy x e.iei e.octets) (sym (ap (rule_of domain) m.0 ∙ q)) m.2
+by_fits domain i e tail (Fixed n) q s m = subst (λ (x : Rule). FitsBy x e.iei e.octets) (sym (ap (rule_of domain) m.0 ∙ q)) m.2
 by_fits domain i e tail ByOctet q s m =
     let whole : Small (length e.octets ∷ e.octets) = subst Small m.1 s in
     subst (λ (x : Rule). FitsBy x e.iei e.octets) (sym (ap (rule_of domain) m.0 ∙ q)) whole.0

@@ -4,7 +4,7 @@ use Rattle.std.proofs.lemmas.Bool.{eq-eqb, eqb-true, ne_eqb, le-leb, lt-leb}
 use Rattle.nas_elements.specs.declared.rule.Domain.{Domain}
 use Rattle.nas_elements.specs.declared.rule.Element.{Element}
 use Rattle.nas_elements.specs.declared.rule.Rule.{Rule}
-use Rattle.nas_elements.specs.declared.rule.Rule.TheVariants.{Itself, SoMany, ByOctet, ByTwo}
+use Rattle.nas_elements.specs.declared.rule.Rule.TheVariants.{Itself, Fixed, ByOctet, ByTwo}
 use Rattle.nas_elements.specs.Parts.{Half, spare, three, flagged, four, exactly, Content, between, identity, guti, tai_list, label, Part, constant, octet, halves, fixed, lv, long, HalfValue, ContentValue, Value, Values, SpellsHalf, SpellsContent, SpellsPart, SpellsParts, write_half, write_content, write_part, write_parts, HalfFits, ContentFits, PartFits, Fit, short, wide}
 use Rattle.nas_elements.specs.Optionals.{rule_of, SpellsBy, SpellsElement, AreElements, first, write_by, FitsBy}
 use Rattle.nas_elements.specs.Rows.{Row, Keep, element, flag, iei_of, KeepValue, kept_from, as_written, is_sound, Kept, firsts, RowValue, SpellsRow, write_optional, write_kept, write_row, OptionalFits, KeptFit, contains, are_distinct, RowFits}
@@ -86,7 +86,7 @@ by_rule_written domain i os Itself e f =
     let n = f.0 in
     let same : element_of i os ≡ record { iei = n / 16 * 16; octets = n ∷ [] } = rw (f.1, f.2) refl in
     (n, [], f.1, subst (λ (r : Rule). SpellsBy r n (element_of i os) []) (sym (itself domain n f.3)) (same, refl))
-by_rule_written domain i os (SoMany n) e f =
+by_rule_written domain i os (Fixed n) e f =
     (i, os, refl, subst (λ (r : Rule). SpellsBy r i (element_of i os) os) (sym e) (refl, refl, f))
 by_rule_written domain i os ByOctet e f =
     (i, short os, refl, subst (λ (r : Rule). SpellsBy r i (element_of i os) (short os)) (sym e) (refl, refl))

@@ -18,7 +18,7 @@ fn cause_rule(domain: Domain) -> Rule
 {
     match domain {
         Domain::Emm => Rule::ByOctet,
-        Domain::Esm => Rule::SoMany(1),
+        Domain::Esm => Rule::Fixed(1),
     }
 }
 
@@ -33,25 +33,25 @@ fn rule_of(domain: Domain, iei: u8) -> Rule
         return Rule::ByTwo;
     }
     if iei == identifier::OLD_LOCATION_AREA {
-        return Rule::SoMany(5);
+        return Rule::Fixed(5);
     }
     if iei == identifier::OLD_P_TMSI_SIGNATURE {
-        return Rule::SoMany(3);
+        return Rule::Fixed(3);
     }
     if iei == identifier::LAST_VISITED_TAI {
-        return Rule::SoMany(5);
+        return Rule::Fixed(5);
     }
     if iei == identifier::DRX_PARAMETER {
-        return Rule::SoMany(2);
+        return Rule::Fixed(2);
     }
     if iei == identifier::NONCE {
-        return Rule::SoMany(4);
+        return Rule::Fixed(4);
     }
     if iei == identifier::EMM_CAUSE {
-        return Rule::SoMany(1);
+        return Rule::Fixed(1);
     }
     if iei == identifier::T3412_VALUE {
-        return Rule::SoMany(1);
+        return Rule::Fixed(1);
     }
     if iei == identifier::ESM_CAUSE {
         return cause_rule(domain);
@@ -74,7 +74,7 @@ pub fn element_at(domain: Domain, octets: &[u8]) -> Option<(Element<&[u8]>, &[u8
                 };
                 Some((element, rest))
             }
-            Rule::SoMany(count) => {
+            Rule::Fixed(count) => {
                 let (content, rest) = fixed_at(count, rest)?;
                 let element = Element {
                     iei: *iei,
@@ -196,7 +196,7 @@ fn put_by(out: &mut Vec<u8>, rule: Rule, iei: u8, octets: &[u8]) -> Result<(), A
 {
     match rule {
         Rule::Itself => put_fixed(out, octets),
-        Rule::SoMany(_) => {
+        Rule::Fixed(_) => {
             put_octet(out, iei)?;
             put_fixed(out, octets)
         }

@@ -19,7 +19,7 @@ pub fn octet_at(octets: &[u8]) -> Option<(u8, &[u8])>
     }
 }
 
-/// So many octets.
+/// The first `count` octets, and what follows them.
 #[tactic(auto, unfolding(crate::specs::Parts::fixed_at))]
 pub fn fixed_at(count: usize, octets: &[u8]) -> Option<(&[u8], &[u8])>
     ensures { at (λ s. s.now) result ≡ fixed_at count octets.now }

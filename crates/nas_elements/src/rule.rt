@@ -12,8 +12,8 @@ pub enum Domain {
 pub enum Rule {
     /// None: the octet itself is the element.
     Itself,
-    /// So many, without a length.
-    SoMany(usize),
+    /// As many as this, without a length.
+    Fixed(usize),
     /// As many as one octet says.
     ByOctet,
     /// As many as two octets say.

@@ -1,6 +1,6 @@
 //! The integrity algorithm of a context.
 
-ghost use Rattle.std.specs.Prelude.{◌≡◌};
+ghost use Rattle.std.specs.Prelude.{◌≡◌, replicate};
 ghost use Rattle.nas_security.specs.Context.{Mac};
 
 use eps_keys::{DirectionBit, IntegrityKey, MacKey};
@@ -40,6 +40,15 @@ impl Eia2 {
     {
         Eia2 {
             key: MacKey::new(key.octets()),
+        }
+    }
+
+    /// The algorithm under a key of 16 zeros, which stands where a key was forgotten; nothing is expanded for it.
+    pub fn forgotten() -> Self
+        ensures { result ≡ replicate 16 0 }
+    {
+        Eia2 {
+            key: MacKey::zeros(),
         }
     }
 }

@@ -47,7 +47,7 @@ AddsComments before after said = (text : List ℕ) × (after ≡ before ++ text)
 abbrev pub skipped_line : List ℕ
 skipped_line = codes "## skipped\n"
 
--- the remark that so many events were left out
+-- the remark that `count` events were left out
 abbrev pub dropped_line : ℕ → List ℕ
 dropped_line count = codes "## dropped " ++ decimal count ++ codes "\n"
 

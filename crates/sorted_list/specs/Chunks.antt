@@ -61,7 +61,7 @@ module _ {X : Type 0} where
   IsPairedTo (suc (suc i)) (c ∷ []) = Unit {0}
   IsPairedTo (suc (suc i)) (c ∷ (d ∷ cs)) = (128 < length c + length d) × IsPairedTo (suc i) (d ∷ cs)
 
--- So many more elements, at any keys, need no more chunks than `total`, where `used` chunks of this weight are there: each
+-- `more` elements more, at any keys, need no more chunks than `total`, where `used` chunks of this weight are there: each
 -- element a chunk at most, and no more chunks than the weight then allows.
 abbrev pub IsEnough : ℕ → ℕ → ℕ → ℕ → Type 0
 IsEnough more weight used total = min (128 * (used + more)) (weight + more - 128) ≤ 128 * total

@@ -137,7 +137,7 @@ pub fn octets(alloc: Global, text: &[u8]) -> Result<TraceOctets, TraceFault>
     }
 }
 
-/// So many octets in hex, no more and no fewer, else BadHex.
+/// `N` octets in hex, no more and no fewer, else BadHex.
 pub fn sized_octets<const N: usize>(text: &[u8]) -> Result<[u8; N], TraceFault>
     requires { N < 2 ^ 32 }
     ensures { result ≡ sized_of N text.now }

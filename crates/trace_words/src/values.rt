@@ -57,7 +57,7 @@ impl TraceTicks {
     }
 }
 
-/// So many octets of a message lie in the value itself, as most messages do; more lie in memory of their own.
+/// The most octets of a message that lie in the value itself, as those of most messages do; more lie in memory of their own.
 const USUAL_OCTETS: usize = 96;
 
 /// Where the octets of a message lie.

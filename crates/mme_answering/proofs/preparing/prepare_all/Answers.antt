@@ -1,7 +1,7 @@
 use Rattle.std.proofs.Common.{◌<◌, ◌++◌, List, length, sym, ◌∙◌, ap, refl, subst}
 use Rattle.std.proofs.lemmas.Result.{IfOk-weaker, on_err_weaker}
 use Rattle.sorted_list.specs.Ordered.{Every}
-use Rattle.mme_owners.specs.SubscriberLaws.{some_give, touched_below}
+use Rattle.mme_owners.specs.SubscriberLaws.{some_give, touched_below, touched_onward}
 use Rattle.mme_owners.specs.Subscribers.{IsStepped}
 use Rattle.mme_routing.specs.Destinations.{for_all, item_of_notice}
 use Rattle.mme_answering.specs.declared.out.Out.{Out}
@@ -29,7 +29,9 @@ returns-clause-prepares c =
     let due = c.as_slice-called.ensures.value ∙ c.requires.touched in
     IfOk-weaker c.prepare_each.result _ _ (λ xs done ps ks.
     let each : Every (IsStepped item ws) xs.items = subst (λ i. Every (IsStepped i ws) xs.items) c.requires.event done.stepped in
-    let fit = touched_fit item xs.items ws (done.slots ∙ due) done.counting in
+    let fit =
+    touched_fit item xs.items ws (done.slots ∙ due) done.counting
+    (touched_onward item xs.items ws (done.slots ∙ due) done.onward) in
     record {
       sends =
           done.sends ∙ ap (λ i. outs ++ some_give (item_sent i) c.as_slice-called.result.now ws) c.requires.event

@@ -3,7 +3,7 @@ use Rattle.mme_types.specs.Events.{item_of}
 use Rattle.sorted_list.specs.Ordered.{Every}
 use Rattle.mme_owners.specs.SteppedView.{SteppedView}
 use Rattle.mme_owners.specs.SubscriberLaws.{some_give}
-use Rattle.mme_owners.specs.Subscribers.{IsCounting, IsStepped, slots_stepped}
+use Rattle.mme_owners.specs.Subscribers.{IsCounting, IsOnwardAt, IsStepped, slots_stepped}
 use Rattle.mme_answering.specs.Settled.{item_sent}
 use Rattle.mme_answering.proofs.preparing.prepare_each.Given as goal
 
@@ -19,5 +19,6 @@ invariant-loop-slot l =
       slots : slots_stepped l.stepped.items ++ rest ≡ l.called;
       stepped : Every (IsStepped item ws) l.stepped.items;
       counting : Every (λ (x : SteppedView). IsCounting x.solo) l.stepped.items;
+      onward : Every (IsOnwardAt ws) l.stepped.items;
       sends : l.outs ++ some_give (item_sent item) rest ws ≡ l.fn.outs ++ some_give (item_sent item) l.called ws;
     }

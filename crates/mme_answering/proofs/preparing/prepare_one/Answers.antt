@@ -28,7 +28,11 @@ returns-clause-prepares c =
     record {
       sends = done.sends ∙ ap (λ os. c.args.outs.now ++ os) (called_sends c.args.slot item ws);
       subscribers = ap (λ n. with_solo n one.solo ws) done.slot ∙ called_after c.args.slot item ws one.solo done.after;
-      fits = (omega (arith, done.slot, c.if-place-len.false, c.len.ensures.value, c.get-place.ensures.value), done.counting);
+      fits = (
+        omega (arith, done.slot, c.if-place-len.false, c.len.ensures.value, c.get-place.ensures.value),
+        done.counting,
+        done.onward,
+      );
     }
 
 pub returns-in_err-one-clause-err : goal.returns-in_err-one-clause-err

@@ -4,7 +4,7 @@ use Rattle.std.proofs.lemmas.Result.{err_from_is_err_and}
 use Rattle.mme_types.specs.Events.{Tick}
 use Rattle.sorted_list.specs.Ordered.{Every}
 use Rattle.stranger_machine.specs.declared.turn.Notice.TheVariants as notices
-use Rattle.mme_owners.specs.SubscriberLaws.{due_below, some_give}
+use Rattle.mme_owners.specs.SubscriberLaws.{due_below, due_onward, some_give}
 use Rattle.mme_owners.specs.Subscribers.{IsStepped}
 use Rattle.mme_routing.specs.Destinations.{for_all}
 use Rattle.mme_answering.specs.Settled.{item_sent}
@@ -42,7 +42,13 @@ returns-clause-prepares c =
           ∙ append_assoc outs others own;
       strangers = refl;
       subscribers = ticks_all xs ws (done.slots ∙ due) each;
-      fits = (done.slots ∙ due, done.counting, keep_all c.connections_come_so.ensures notices.Tick ws xs each, c.requires.due_strangers);
+      fits = (
+        done.slots ∙ due,
+        done.counting,
+        keep_all c.connections_come_so.ensures notices.Tick ws xs each,
+        c.requires.due_strangers,
+        due_onward xs ws (done.slots ∙ due) done.onward,
+      );
       passing = refl;
     }
 

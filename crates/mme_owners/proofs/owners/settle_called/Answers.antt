@@ -13,7 +13,7 @@ pub place-requires-clause-within : goal.place-requires-clause-within
 place-requires-clause-within c =
     let ws = c.args.records.now.subscribers in
     let cs = c.args.connections.now.whereabouts in
-    let fit : IsFit (length ws) c.in-Some.stepped = subst (IsFitIf (length ws)) c.in-Some.is c.requires.fits in
+    let fit : IsFit ws c.in-Some.stepped = subst (IsFitIf ws) c.in-Some.is c.requires.fits in
     let many : length ws ≡ length cs = sym (ap length c.requires.many ∙ there_length ws) in
     subst (λ m. m < length cs) (sym c.slot.ensures) (subst (λ n. c.in-Some.stepped.slot < n) many fit.0)
 
@@ -36,14 +36,20 @@ place-requires-clause-alone c =
 pub settle-requires-clause-slot : goal.settle-requires-clause-slot
 settle-requires-clause-slot c =
     let ws = c.args.records.now.subscribers in
-    let fit : IsFit (length ws) c.in-Some.stepped = subst (IsFitIf (length ws)) c.in-Some.is c.requires.fits in
+    let fit : IsFit ws c.in-Some.stepped = subst (IsFitIf ws) c.in-Some.is c.requires.fits in
     fit.0
 
 pub settle-requires-clause-counting : goal.settle-requires-clause-counting
 settle-requires-clause-counting c =
     let ws = c.args.records.now.subscribers in
-    let fit : IsFit (length ws) c.in-Some.stepped = subst (IsFitIf (length ws)) c.in-Some.is c.requires.fits in
+    let fit : IsFit ws c.in-Some.stepped = subst (IsFitIf ws) c.in-Some.is c.requires.fits in
     fit.1
+
+pub settle-requires-clause-onward : goal.settle-requires-clause-onward
+settle-requires-clause-onward c =
+    let ws = c.args.records.now.subscribers in
+    let fit : IsFit ws c.in-Some.stepped = subst (IsFitIf ws) c.in-Some.is c.requires.fits in
+    fit.2
 
 pub returns-in-Some-clause-subscribers : goal.returns-in-Some-clause-subscribers
 returns-in-Some-clause-subscribers c =

@@ -1,6 +1,7 @@
 use Rattle.std.proofs.Common.{◌<◌, length, sym, ◌∙◌, ap, subst}
 use Rattle.sorted_list.specs.Ordered.{Every}
 use Rattle.mme_owners.specs.SteppedView.{SteppedView}
+use Rattle.mme_owners.specs.Subscribers.{AreOnward}
 use Rattle.mme_owners.specs.Touched.{all_whereabouts, with_whereabouts, KeepsConnection, KeepsPlace}
 use Rattle.mme_owners.specs.Owners.{OwnersView}
 use Rattle.mme_owners.specs.Placed.{place_at}
@@ -25,6 +26,10 @@ pub settle_all-requires-clause-slots : goal.settle_all-requires-clause-slots
 settle_all-requires-clause-slots c =
     subst (λ (v : OwnersView). Every (λ (x : SteppedView). x.slot < length v.subscribers) c.args.stepped.items) (sym c.self.view_is)
     c.requires.slots
+
+pub settle_all-requires-clause-onward : goal.settle_all-requires-clause-onward
+settle_all-requires-clause-onward c =
+    subst (λ (v : OwnersView). AreOnward v.subscribers c.args.stepped.items) (sym c.self.view_is) c.requires.onward
 
 pub invariant_of-self : goal.invariant_of-self
 invariant_of-self c =

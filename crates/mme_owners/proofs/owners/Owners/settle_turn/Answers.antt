@@ -1,4 +1,4 @@
-use Rattle.std.proofs.Common.{List, Option, length, sym, ◌∙◌, ap, subst}
+use Rattle.std.proofs.Common.{List, Option, sym, ◌∙◌, ap, subst}
 use Rattle.std.specs.Prelude.{◌==◌, if◌then◌else◌, IsSome, Some}
 use Rattle.mme_associations.specs.Whereabouts.{waits_at}
 use Rattle.emm_machine.specs.SubscriberView.{SubscriberView}
@@ -20,7 +20,7 @@ settle_called-requires-clause-free c =
     let id = c.args.id in
     let called = c.args.called in
     let ks = c.self.inside.records.strangers in
-    let fits = subst (λ (v : OwnersView). IsFitIf (length v.subscribers) called) (sym c.self.view_is) c.requires.fits in
+    let fits = subst (λ (v : OwnersView). IsFitIf v.subscribers called) (sym c.self.view_is) c.requires.fits in
     let apart =
     subst (λ (v : OwnersView). AreApart (with_stranger id (after_of c.args.after (stranger_at id v.strangers)) v.strangers) (with_one called v.subscribers)) (sym c.self.view_is) c.requires.apart in
     free_one (with_stranger id (after_of c.args.after (stranger_at id ks)) ks) c.self.inside.records.subscribers called apart fits
@@ -31,7 +31,7 @@ settle_called-requires-clause-alone c =
     let called = c.args.called in
     let ks = c.self.inside.records.strangers in
     let ws = c.self.inside.records.subscribers in
-    let fits = subst (λ (v : OwnersView). IsFitIf (length v.subscribers) called) (sym c.self.view_is) c.requires.fits in
+    let fits = subst (λ (v : OwnersView). IsFitIf v.subscribers called) (sym c.self.view_is) c.requires.fits in
     let apart =
     subst (λ (v : OwnersView). AreApart (with_stranger id (after_of c.args.after (stranger_at id v.strangers)) v.strangers) (with_one called v.subscribers)) (sym c.self.view_is) c.requires.apart in
     let same =
@@ -58,7 +58,7 @@ settle_called-requires-in-Closed-clause-free c =
     let ws = c.self-in-Closed.inside.records.subscribers in
     let left = ap (λ (v : OwnersView). v.strangers) c.self-in-Closed.view_is ∙ c.close.ensures.strangers in
     let same = ap (λ (v : OwnersView). v.subscribers) c.self-in-Closed.view_is ∙ c.close.ensures.subscribers in
-    let fits = subst (λ (vs : List SubscriberView). IsFitIf (length vs) called) (sym same) c.requires.fits in
+    let fits = subst (λ (vs : List SubscriberView). IsFitIf vs called) (sym same) c.requires.fits in
     let after = ap (λ (a : After). with_stranger id (after_of a (stranger_at id c.args.self.now.strangers)) c.args.self.now.strangers) c.in-Closed.is in
     let apart =
     subst (λ (vs : List SubscriberView). AreApart ks (with_one called vs)) (sym same)
@@ -73,7 +73,7 @@ settle_called-requires-in-Closed-clause-alone c =
     let ws = c.self-in-Closed.inside.records.subscribers in
     let left = ap (λ (v : OwnersView). v.strangers) c.self-in-Closed.view_is ∙ c.close.ensures.strangers in
     let same = ap (λ (v : OwnersView). v.subscribers) c.self-in-Closed.view_is ∙ c.close.ensures.subscribers in
-    let fits = subst (λ (vs : List SubscriberView). IsFitIf (length vs) called) (sym same) c.requires.fits in
+    let fits = subst (λ (vs : List SubscriberView). IsFitIf vs called) (sym same) c.requires.fits in
     let after = ap (λ (a : After). with_stranger id (after_of a (stranger_at id c.args.self.now.strangers)) c.args.self.now.strangers) c.in-Closed.is in
     let apart =
     subst (λ (vs : List SubscriberView). AreApart ks (with_one called vs)) (sym same)
@@ -88,7 +88,7 @@ settle_called-requires-in-Is-clause-free c =
     let called = c.args.called in
     let ks = c.args.self.now.strangers in
     let same = c.in_ok-put-in-Is.ensures.subscribers ∙ ap (λ (v : OwnersView). v.subscribers) c.self.view_is in
-    let fits = subst (λ (vs : List SubscriberView). IsFitIf (length vs) called) (sym same) c.requires.fits in
+    let fits = subst (λ (vs : List SubscriberView). IsFitIf vs called) (sym same) c.requires.fits in
     let apart =
     subst (λ (vs : List SubscriberView). AreApart (with_stranger id (after_of c.args.after (stranger_at id ks)) ks) (with_one called vs)) (sym same) c.requires.apart in
     free_one (with_stranger id (after_of c.args.after (stranger_at id ks)) ks) c.put.new.self.subscribers called apart fits
@@ -100,7 +100,7 @@ settle_called-requires-in-Is-clause-alone c =
     let s = c.in-Is.stranger in
     let ks = c.self.inside.records.strangers in
     let ws = c.self.inside.records.subscribers in
-    let fits = subst (λ (v : OwnersView). IsFitIf (length v.subscribers) called) (sym c.self.view_is) c.requires.fits in
+    let fits = subst (λ (v : OwnersView). IsFitIf v.subscribers called) (sym c.self.view_is) c.requires.fits in
     let apart =
     subst (λ (a : After). AreApart (with_stranger id (after_of a (stranger_at id ks)) ks) (with_one called ws)) c.in-Is.is
     (subst (λ (v : OwnersView). AreApart (with_stranger id (after_of c.args.after (stranger_at id v.strangers)) v.strangers) (with_one called v.subscribers)) (sym c.self.view_is) c.requires.apart) in

@@ -1,7 +1,7 @@
 use Rattle.std.proofs.Common.{◌<◌, length, sym, ◌∙◌, ap, subst}
 use Rattle.sorted_list.specs.Ordered.{Every}
 use Rattle.mme_owners.specs.SteppedView.{SteppedView}
-use Rattle.mme_owners.specs.Subscribers.{due_slots}
+use Rattle.mme_owners.specs.Subscribers.{AreOnward, due_slots}
 use Rattle.mme_owners.specs.Touched.{all_whereabouts, with_whereabouts, KeepsConnection, KeepsPlace}
 use Rattle.mme_timers.specs.Waiting.{due_ids}
 use Rattle.mme_owners.specs.Owners.{OwnersView}
@@ -22,6 +22,10 @@ place_all-requires-clause-places c =
     let kept = subst (λ (v : OwnersView). Every (KeepsPlace v.subscribers) xs) (sym c.self.view_is) c.requires.kept in
     subst (Every (KeepsConnection c.self.inside.connections.whereabouts)) (sym c.as_slice.ensures.value)
     (keeps_there xs c.self.inside.records.subscribers c.self.inside.connections.whereabouts c.self.invariant.phones kept)
+
+pub tick-requires-clause-onward : goal.tick-requires-clause-onward
+tick-requires-clause-onward c =
+    subst (λ (v : OwnersView). AreOnward v.subscribers c.args.stepped.items) (sym c.self.view_is) c.requires.onward
 
 pub invariant_of-self : goal.invariant_of-self
 invariant_of-self c =

@@ -6,7 +6,7 @@ use Rattle.timer_queue.specs.Countdowns.{aged}
 use Rattle.mme_timers.specs.WaitLaws.{are_waits_ticked}
 use Rattle.mme_timers.specs.Waiting.{AreWaits, due_ids, restarted}
 use Rattle.mme_owners.specs.SteppedView.{SteppedView}
-use Rattle.mme_owners.specs.Subscribers.{IsCounting, one_less, slots_stepped, tick_settled}
+use Rattle.mme_owners.specs.Subscribers.{AreOnward, IsCounting, one_less, slots_stepped, tick_settled}
 use Rattle.mme_owners.specs.Owners.{NobodyIsDue, RecordsView, countdowns_of}
 use Rattle.mme_owners.proofs.Ticked.{ticked}
 use Rattle.mme_owners.proofs.records.Records.pass.Goals as goal
@@ -24,6 +24,9 @@ tick-requires-2-clause-due c =
 pub tick-requires-2-clause-counting : goal.tick-requires-2-clause-counting
 tick-requires-2-clause-counting c =
     subst (Every (λ (x : SteppedView). IsCounting x.solo)) (sym c.new.ensures.items) tt
+
+pub tick-requires-2-clause-onward : goal.tick-requires-2-clause-onward
+tick-requires-2-clause-onward c = subst (AreOnward c.self.inside.subscribers.subscribers) (sym c.new.ensures.items) tt
 
 pub invariant_of-self : goal.invariant_of-self
 invariant_of-self c =

@@ -1,5 +1,6 @@
 use Rattle.std.proofs.Common.{◌<◌, length, sym, ◌∙◌, ap, subst}
 use Rattle.mme_timers.specs.Running.{AreInRange, AreQueued, both_retimed}
+use Rattle.mme_owners.specs.Subscribers.{IsOnwardAt}
 use Rattle.mme_owners.specs.Owners.{RecordsView, countdowns_of}
 use Rattle.mme_owners.proofs.Owned.{known_at, settled}
 use Rattle.mme_owners.proofs.records.Records.settle.Goals as goal
@@ -7,6 +8,10 @@ use Rattle.mme_owners.proofs.records.Records.settle.Goals as goal
 pub settle-before-requires-clause-slot : goal.settle-before-requires-clause-slot
 settle-before-requires-clause-slot c =
     subst (λ (v : RecordsView). c.args.stepped.slot < length v.subscribers) (sym c.self.view_is) c.requires.slot
+
+pub settle-before-requires-clause-onward : goal.settle-before-requires-clause-onward
+settle-before-requires-clause-onward c =
+    subst (λ (v : RecordsView). IsOnwardAt v.subscribers c.args.stepped) (sym c.self.view_is) c.requires.onward
 
 pub retime-requires-clause-range : goal.retime-requires-clause-range
 retime-requires-clause-range c = subst AreInRange (sym c.countdowns-left.ensures) c.requires.counting

@@ -1,7 +1,7 @@
 use Rattle.std.proofs.Common.{◌<◌, length, sym, ◌∙◌, ap, subst}
 use Rattle.sorted_list.specs.Ordered.{Every}
 use Rattle.mme_owners.specs.SteppedView.{SteppedView}
-use Rattle.mme_owners.specs.Subscribers.{IsCounting}
+use Rattle.mme_owners.specs.Subscribers.{AreOnward, IsCounting}
 use Rattle.mme_owners.specs.Owners.{RecordsView, all_retimed, countdowns_of}
 use Rattle.mme_owners.proofs.Owned.{all_settled}
 use Rattle.mme_owners.proofs.records.Records.settle_all.Goals as goal
@@ -14,6 +14,10 @@ pub settle_all-requires-clause-slots : goal.settle_all-requires-clause-slots
 settle_all-requires-clause-slots c =
     subst (λ (v : RecordsView). Every (λ (x : SteppedView). x.slot < length v.subscribers) c.args.stepped.items) (sym c.self.view_is)
     c.requires.slots
+
+pub settle_all-requires-clause-onward : goal.settle_all-requires-clause-onward
+settle_all-requires-clause-onward c =
+    subst (λ (v : RecordsView). AreOnward v.subscribers c.args.stepped.items) (sym c.self.view_is) c.requires.onward
 
 pub invariant_of-self : goal.invariant_of-self
 invariant_of-self c =

@@ -4,7 +4,7 @@ use Rattle.timer_queue.specs.Countdowns.{aged}
 use Rattle.mme_timers.specs.WaitLaws.{are_waits_ticked}
 use Rattle.mme_timers.specs.Waiting.{AreWaits, due_ids, restarted}
 use Rattle.mme_owners.specs.SteppedView.{SteppedView}
-use Rattle.mme_owners.specs.Subscribers.{IsCounting, due_slots, tick_settled}
+use Rattle.mme_owners.specs.Subscribers.{AreOnward, IsCounting, due_slots, tick_settled}
 use Rattle.mme_owners.specs.Owners.{RecordsView, all_retimed, countdowns_of}
 use Rattle.mme_owners.proofs.Ticked.{ticked}
 use Rattle.mme_owners.proofs.records.Records.tick.Goals as goal
@@ -23,6 +23,10 @@ retime_all-requires-clause-counting c =
 
 pub tick-requires-2-clause-due : goal.tick-requires-2-clause-due
 tick-requires-2-clause-due c = c.requires.slots ∙ ap (λ (v : RecordsView). due_slots v.subscribers) (sym c.self.view_is)
+
+pub tick-requires-2-clause-onward : goal.tick-requires-2-clause-onward
+tick-requires-2-clause-onward c =
+    subst (λ (v : RecordsView). AreOnward v.subscribers c.args.stepped.items) (sym c.self.view_is) c.requires.onward
 
 pub invariant_of-self : goal.invariant_of-self
 invariant_of-self c =

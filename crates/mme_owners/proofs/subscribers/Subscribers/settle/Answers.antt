@@ -1,6 +1,6 @@
-use Rattle.std.proofs.Common.{sym, ◌∙◌, ap, arith, length}
+use Rattle.std.proofs.Common.{sym, ◌∙◌, ap, subst, arith, length}
 use Rattle.mme_owners.specs.Records.{views}
-use Rattle.mme_owners.specs.Subscribers.{SubscriberTable, countdowns_at, with_solo}
+use Rattle.mme_owners.specs.Subscribers.{IsOnwardAt, SubscriberTable, countdowns_at, with_solo}
 use Rattle.mme_owners.proofs.Waking.{IsSubscriberTableOf, settled, views_length}
 use Rattle.mme_owners.proofs.subscribers.Subscribers.settle.Goals as goal
 
@@ -10,6 +10,10 @@ settle_one-requires-clause-slot c =
     let same = views_length c.self.inside.clock c.self.inside.records.items in
     let lt = c.requires.slot in
     omega arith
+
+pub settle_one-requires-clause-onward : goal.settle_one-requires-clause-onward
+settle_one-requires-clause-onward c =
+    subst (λ (v : SubscriberTable). IsOnwardAt v.subscribers c.args.stepped) (sym c.self.view_is) c.requires.onward
 
 table : (c : goal.After-settle_one)
     → IsSubscriberTableOf c.self.inside.clock c.settle_one.new.records.items
