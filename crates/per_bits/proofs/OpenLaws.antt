@@ -124,6 +124,14 @@ pub record StandsAfter (w : List Bool → Result (List Bool) PerFault) (old coun
   pub put : w one ≡ Ok whole
   pub ends : counted ≡ whole ++ pad (length whole)
 
+-- the place of an octet that was just left
+pub place_before : (front one : List Bool) (octets : ℕ) → one ≡ front ++ bits 8 0 → octets ≡ length one / 8
+    → octets - 1 ≡ length front / 8
+place_before front one octets left at =
+    let size : length one ≡ length front + 8 = ap length left ∙ length-append front (bits 8 0)
+    ∙ ap (λ n. length front + n) (length-bits 8 0) in
+    omega (arith, at, size)
+
 -- such a value, with what stands before it written out
 record Parts (w : List Bool → Result (List Bool) PerFault) (p : Placed w) (old counted : List Bool) (place : ℕ) : Type 0 where
   size : length (old ++ pad (length old)) ≡ 8 * place

@@ -29,7 +29,7 @@ pub use name::Enumerated;
 pub use octets::Octets;
 pub use open::{
     count_after, put_length, read_complete, read_open, take_length, take_open, take_small_number,
-    write_complete, write_open,
+    write_complete, write_counted, write_open,
 };
 pub use per_numbers::{Whole, offset_of, put_number};
 pub use per_streams::{BitReader, BitWriter, PerError, PerFault};

@@ -1,7 +1,7 @@
 //! Lengths without a bound, and open types.
 
-ghost use Rattle.std.specs.Prelude.{◌≡◌, ◌<◌, ◌^◌, ◌≤◌, ◌+◌, ◌*◌, length, map, IfOk};
-ghost use Rattle.per_streams.specs.Bits.{Answers, Gives, length_at, open_at, number_bits_at};
+ghost use Rattle.std.specs.Prelude.{◌≡◌, ◌<◌, ◌^◌, ◌≤◌, ◌+◌, ◌*◌, ◌++◌, Bool, List, length, map, IfOk};
+ghost use Rattle.per_streams.specs.Bits.{Answers, Gives, bits, length_at, open_at, number_bits_at, pad};
 ghost use Rattle.per_bits.specs.Formats.{open_type};
 ghost use Rattle.per_bits.specs.Reading.{read_at, whole_at, small_number_at, complete_at, GivesWhole, inside_at};
 ghost use Rattle.per_bits.specs.Spelling.{length_octets};
@@ -124,8 +124,22 @@ pub fn write_open<'a, T: Element<'a>>(
     ensures { Wrote result writer.new (write_at (open_type T.format) (T.view value.now) writer.old) }
 {
     writer.align()?;
-    let place = writer.octets();
     writer.put_octet(0)?;
+    write_counted::<T>(alloc, value, writer)
+}
+
+/// Writes a value as an open type after the octet that was left for its length, which may become two (X.691 clause 11.2).
+#[inline(always)]
+pub fn write_counted<'a, T: Element<'a>>(
+    alloc: Global,
+    value: &T,
+    writer: &mut BitWriter,
+) -> Result<(), PerError>
+    requires { (out : List Bool) × (writer.old ≡ (out ++ pad (length out)) ++ bits 8 0) }
+    ensures { (out : List Bool) → writer.old ≡ (out ++ pad (length out)) ++ bits 8 0
+        → Wrote result writer.new (write_at (open_type T.format) (T.view value.now) out) }
+{
+    let place = writer.octets() - 1;
     value.write(alloc, writer)?;
     writer.align()?;
     count_after(place, writer)

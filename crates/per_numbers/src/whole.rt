@@ -135,8 +135,7 @@ fn put_two(number: u64, writer: &mut BitWriter) -> Result<(), PerError>
     requires { number < 2 ^ 16 }
     ensures { Wrote result writer.new (Ok (writer.old ++ bits 16 number)) }
 {
-    writer.put_octet((number / 256) as u8)?;
-    writer.put_octet((number % 256) as u8)?;
+    writer.put_octets(&[(number / 256) as u8, (number % 256) as u8])?;
     Ok(())
 }
 
@@ -146,8 +145,8 @@ fn put_three(number: u64, writer: &mut BitWriter) -> Result<(), PerError>
     requires { number < 2 ^ 24 }
     ensures { Wrote result writer.new (Ok (writer.old ++ bits 24 number)) }
 {
-    put_two(number / 256, writer)?;
-    writer.put_octet((number % 256) as u8)?;
+    let high = number / 256;
+    writer.put_octets(&[(high / 256) as u8, (high % 256) as u8, (number % 256) as u8])?;
     Ok(())
 }
 
@@ -157,8 +156,15 @@ fn put_four(number: u64, writer: &mut BitWriter) -> Result<(), PerError>
     requires { number < 2 ^ 32 }
     ensures { Wrote result writer.new (Ok (writer.old ++ bits 32 number)) }
 {
-    put_two(number / 65536, writer)?;
-    put_two(number % 65536, writer)
+    let high = number / 65536;
+    let low = number % 65536;
+    writer.put_octets(&[
+        (high / 256) as u8,
+        (high % 256) as u8,
+        (low / 256) as u8,
+        (low % 256) as u8,
+    ])?;
+    Ok(())
 }
 
 /// The number of bits for numbers up to one below 256.
@@ -219,6 +225,20 @@ fn octets_as_number(count: u8, reader: &mut BitReader) -> Result<u64, PerFault>
 
 #[inline(always)]
 fn two_octets(reader: &mut BitReader) -> Result<u64, PerFault>
+    ensures exact { Answers (λ n. n) result reader.new (number_bits_at 16 reader.old) }
+    ensures within { IfOk result (λ n. n < 65536) }
+{
+    if let Some(octets) = reader.next_two() {
+        reader.pass_two();
+        let [high, low] = octets;
+        return Ok(u64::from(high) * 256 + u64::from(low));
+    }
+    two_apart(reader)
+}
+
+// where they aren't whole octets, or too few are left; out of line, as it would make every read of a number large
+#[inline(never)]
+fn two_apart(reader: &mut BitReader) -> Result<u64, PerFault>
     ensures exact { Answers (λ n. n) result reader.new (number_bits_at 16 reader.old) }
     ensures within { IfOk result (λ n. n < 65536) }
 {

@@ -7,4 +7,5 @@ pub mod Exact
 pub mod OctetLaws
 pub mod Times
 pub mod WholeOctets
+pub mod TwoOctets
 pub mod PlaceLaws

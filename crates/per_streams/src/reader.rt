@@ -1,6 +1,7 @@
 //! Reading bits from octets.
 
-ghost use Rattle.std.specs.Prelude.{true, eqb, ◌↔◌, ◌≡◌, ◌%◌, ◌+◌, ◌-◌, ◌*◌, ◌^◌, ◌<◌, ◌≤◌, ◌++◌, ◌∷◌, length, drop, take, IsOk, OnErr};
+ghost use Rattle.std.specs.Prelude.{true, eqb, ◌↔◌, ◌≡◌, ◌%◌, ◌+◌, ◌-◌, ◌*◌, ◌^◌, ◌<◌, ◌≤◌, ◌++◌, ◌∷◌, length, drop, take, IsOk, OnErr, IsSome};
+ghost use Rattle.per_streams.specs.TwoOctets.{two_at, past_two};
 ghost use Rattle.per_streams.specs.Bits.{TakesPart, Place, Answers, start, bits, value, octet_bits, align_at, bit_at, number_bits_at, aligned_octets_at, whole_octets_at, IsBytes, end_at};
 
 use crate::fault::PerFault;
@@ -193,6 +194,26 @@ impl<'a> BitReader<'a> {
             *octet = self.take_bits(8)? as u8;
         }
         Ok(())
+    }
+
+    /// The next two octets, where the place is at an octet and two are left; nothing is taken.
+    #[inline(always)]
+    pub fn next_two(&self) -> Option<[u8; 2]>
+        ensures { result ≡ two_at self.now }
+    {
+        if self.left != 0 || self.octets.len() - self.begun < 2 {
+            return None;
+        }
+        Some([self.octets[self.begun], self.octets[self.begun + 1]])
+    }
+
+    /// Past the next two octets, where the place is at an octet and two are left.
+    #[inline(always)]
+    pub fn pass_two(&mut self)
+        requires { IsSome (two_at self.old) }
+        ensures { self.new ≡ past_two self.old }
+    {
+        self.begun += 2;
     }
 
     // at an octet

@@ -48,25 +48,19 @@ fn read_message<'a>(alloc: Global, message_type: MessageType, octets: &'a [u8]) 
     }
 }
 
-#[tactic(auto, using(s1ap_rows::specs::Criticalities::named_again), unfolding(s1ap_pdus::specs::Typed::decode_typed))]
-fn read_pdu<'a>(alloc: Global, octets: &'a [u8]) -> Decoded<'a>
-    ensures { Answers (λ m. typed (lists m)) result (decode_typed octets.now) }
-{
-    let frame = read_frame(octets)?;
-    match message_type_of(frame.kind, frame.code, frame.criticality) {
-        Ok(message_type) => read_message(alloc, message_type, frame.octets),
-        Err(fault) => Err(fault),
-    }
-}
-
 /// The message that the octets spell, or their first fault (TS 36.413 clause 9.1).
 ///
 /// The octets are lent to the message. The frame's faults come first, then an unknown procedure, then
 /// those of the elements from the left, and a missing element last. NoMemory stands where a growth was
 /// refused. Criticalities are not compared.
+#[tactic(auto, using(s1ap_rows::specs::Criticalities::named_again, crate::proofs::Naming::answers_named), unfolding(s1ap_pdus::specs::Typed::decode_typed))]
 pub fn decode<'a>(alloc: Global, octets: &'a [u8]) -> Result<S1apPdu<'a>, S1apFault>
     ensures { Answers lists result (decoded octets.now) }
 {
     named_again();
-    read_pdu(alloc, octets)
+    let frame = read_frame(octets)?;
+    match message_type_of(frame.kind, frame.code, frame.criticality) {
+        Ok(message_type) => read_message(alloc, message_type, frame.octets),
+        Err(fault) => Err(fault),
+    }
 }

@@ -1,3 +1,6 @@
 pub mod Gathering
 pub mod WritableLaws
 pub mod InPlace
+pub mod Heads
+pub mod Marked
+pub mod Fronts

@@ -1,7 +1,7 @@
 -- Writing a message: its rows in their order.
-use Rattle.std.specs.Prelude.{ℕ, ◌+◌, Bool, false, List, [], ◌∷◌, ◌++◌, Option, Some, None, Result, Ok}
+use Rattle.std.specs.Prelude.{ℕ, ◌+◌, Bool, false, List, [], ◌∷◌, ◌++◌, length, Option, Some, None, Result, Ok}
 use Rattle.per_streams.specs.declared.fault.PerFault.{PerFault}
-use Rattle.per_streams.specs.Bits.{◌>>=◌}
+use Rattle.per_streams.specs.Bits.{◌>>=◌, bits, pad}
 use Rattle.per_bits.specs.Formats.{Format, Value, open_type}
 use Rattle.per_bits.specs.Writing.{write_at, write_string, write_whole}
 use Rattle.per_numbers.specs.Writing.{write_number}
@@ -64,6 +64,12 @@ write_pdu kind code c rs v = do
   write_whole (write_frame kind code c) os
 
 -- ---- the same where it is to stand
+
+-- what stands before the elements of a message: its head, an octet for its length, and how many elements there are
+abbrev pub write_front : ℕ → ℕ → ℕ → ℕ → Result (List Bool) PerFault
+write_front kind code c count = do
+  head ← write_head kind code c []
+  write_number 0 65535 count (((head ++ pad (length head)) ++ bits 8 0) ++ false ∷ [])
 
 -- the octets of a message after their length
 abbrev pub write_content : (rs : Rows) → Kept rs → List Bool → Result (List Bool) PerFault

@@ -1,12 +1,12 @@
 //! The elements of a message, in any order.
 
-ghost use Rattle.std.specs.Prelude.{◌≡◌, ◌≤◌, OnErr, option_map};
+ghost use Rattle.std.specs.Prelude.{true, ◌↔◌, ◌≡◌, ◌%◌, ◌/◌, ◌≤◌, OnErr, option_map};
 ghost use Rattle.per_streams.specs.Bits.{Place, Answers};
 ghost use Rattle.per_numbers.specs.Reading.{number_at};
 ghost use Rattle.per_numbers.specs.Writing.{Wrote};
 ghost use Rattle.s1ap_rows.specs.Criticalities.{criticality_number};
 ghost use Rattle.s1ap_rows.specs.Spelling.{may_skip};
-ghost use Rattle.s1ap_rows.specs.Reading.{pass_at, fill_slot, elements_at, fill_at};
+ghost use Rattle.s1ap_rows.specs.Reading.{marked_at, pass_at, fill_slot, elements_at, fill_at};
 ghost use Rattle.s1ap_rows.specs.Writing.{write_element, write_some, one_if};
 ghost use Rattle.s1ap_rows.specs.Answers.{Reads};
 
@@ -14,10 +14,13 @@ use crate::criticality::{Criticality, take_criticality};
 use crate::fault::S1apFault;
 use crate::message::Message;
 use per_bits::{
-    BitReader, BitWriter, Element, GREATEST_ID, LAST_CRITICALITY, PerError, PerFault, offset_of,
-    put_number, read_complete, skip_additions, take_open, write_open,
+    BitReader, BitWriter, Element, GREATEST_ID, PerError, PerFault, offset_of, read_complete,
+    skip_additions, take_open, write_counted,
 };
 use std::alloc::Global;
+
+// A length below 128 is one octet (X.691 clause 11.9).
+const SHORT_END: u8 = 128;
 
 /// The most elements of a message (TS 36.413 clause 9.3.7).
 pub const MOST_ELEMENTS: u64 = 65535;
@@ -43,11 +46,44 @@ pub fn fill<'a, T: Element<'a>>(
     if slot.is_some() {
         return Err(S1apFault::RepeatedElement(id));
     }
-    take_criticality(reader)?;
-    let octets = take_open(reader)?;
+    let (_, octets) = take_marked(reader)?;
     let value = read_complete::<T>(alloc, octets)?;
     *slot = Some(value);
     Ok(())
+}
+
+// The criticality of an element and the octets of its value; mostly two octets stand before these, the second their count.
+#[inline(always)]
+fn take_marked<'a>(reader: &mut BitReader<'a>) -> Result<(Criticality, &'a [u8]), PerFault>
+    ensures { Answers (λ p. (criticality_number p.0, p.1.now)) result reader.new (marked_at reader.old) }
+{
+    if let Some(head) = reader.next_two() {
+        let [mark, count] = head;
+        if is_mark(mark) && count < SHORT_END {
+            reader.pass_two();
+            let octets = reader.take_octets(count as usize)?;
+            return Ok((Criticality::named(mark / 64), octets));
+        }
+    }
+    take_mark_apart(reader)
+}
+
+// whether an octet has a criticality in its first two bits, and then zero bits
+#[inline(always)]
+fn is_mark(octet: u8) -> bool
+    ensures { (result ≡ true) ↔ ((octet % 64 ≡ 0) × (octet / 64 ≤ 2)) }
+{
+    octet % 64 == 0 && octet / 64 <= 2
+}
+
+// where the head is any other; out of line, as it would make every read of an element large
+#[inline(never)]
+fn take_mark_apart<'a>(reader: &mut BitReader<'a>) -> Result<(Criticality, &'a [u8]), PerFault>
+    ensures { Answers (λ p. (criticality_number p.0, p.1.now)) result reader.new (marked_at reader.old) }
+{
+    let criticality = take_criticality(reader)?;
+    let octets = take_open(reader)?;
+    Ok((criticality, octets))
 }
 
 // Whether an element of no row is passed over.
@@ -114,7 +150,7 @@ pub fn fill_message<'a, M: Message<'a>>(
     Ok(())
 }
 
-/// Writes an element of a row.
+/// Writes an element of a row: its id, its criticality, and its value as an open type (TS 36.413 clause 9.3.7).
 pub fn put_element<'a, T: Element<'a>>(
     alloc: Global,
     id: u16,
@@ -124,9 +160,15 @@ pub fn put_element<'a, T: Element<'a>>(
 ) -> Result<(), PerError>
     ensures { Wrote result writer.new (write_element id criticality T.format (T.view value.now) writer.old) }
 {
-    put_number(0, GREATEST_ID, id as u64, writer)?;
-    put_number(0, LAST_CRITICALITY, criticality.number() as u64, writer)?;
-    write_open::<T>(alloc, value, writer)
+    writer.align()?;
+    // the criticality has two bits of its octet; the last octet is for the length of the value
+    writer.put_octets(&[
+        (id / 256) as u8,
+        (id % 256) as u8,
+        criticality.number() * 64,
+        0,
+    ])?;
+    write_counted::<T>(alloc, value, writer)
 }
 
 /// Writes an element of a row, where there is one.

@@ -5,19 +5,19 @@ ghost use Rattle.per_bits.specs.Reading.{GivesWhole};
 ghost use Rattle.per_numbers.specs.Writing.{Wrote};
 ghost use Rattle.s1ap_rows.specs.Rows.{Rows, Slots, Kept, row_count, no_slots};
 ghost use Rattle.s1ap_rows.specs.Reading.{put_at, kept_of, message_at};
-ghost use Rattle.s1ap_rows.specs.Writing.{count_of, write_rows, write_message, write_content, write_pdu};
+ghost use Rattle.s1ap_rows.specs.Writing.{count_of, write_rows, write_pdu};
 ghost use Rattle.s1ap_rows.specs.Criticalities.{criticality_number};
 ghost use Rattle.s1ap_rows.specs.Answers.{Answers, Reads, WantsNoMemory};
 
 use crate::criticality::Criticality;
-use crate::engine::{MOST_ELEMENTS, fill_message};
+use crate::engine::fill_message;
 use crate::fault::S1apFault;
-use crate::frame::{LONGEST_HEAD, put_head};
-use per_bits::{BitReader, BitWriter, PerError, count_after, put_number};
+use crate::frame::{LENGTH_PLACE, LONGEST_HEAD, put_front};
+use per_bits::{BitReader, BitWriter, PerError, count_after};
 use std::alloc::Global;
 
 // The octets for which a message has room at once; most are shorter, and a longer one grows.
-const SHORT_MESSAGE: usize = 128;
+const SHORT_MESSAGE: usize = 256;
 
 /// The rows of a message that is read. A value of this type is what was read of each row so far.
 pub trait Message<'a>: Drop {
@@ -81,38 +81,6 @@ pub fn read_message<'a, M: Message<'a>>(
     message.elements()
 }
 
-// A message: how many elements there are, and id, criticality and value of each.
-fn put_message<'a, W: Written<'a>>(
-    alloc: Global,
-    elements: &W::Lent,
-    writer: &mut BitWriter,
-) -> Result<(), PerError>
-    requires { row_count W.rows ≤ 65535 }
-    ensures { Wrote result writer.new (write_message W.rows (W.lent elements.now) writer.old) }
-{
-    let count = W::count(elements, 0);
-    writer.put_bit(false)?;
-    put_number(0, MOST_ELEMENTS, count, writer)?;
-    W::write(alloc, elements, writer)
-}
-
-// The octets of a message after their length, written where they stand: an octet is left for the length, which may become two.
-fn put_content<'a, W: Written<'a>>(
-    alloc: Global,
-    elements: &W::Lent,
-    writer: &mut BitWriter,
-) -> Result<(), PerError>
-    requires { row_count W.rows ≤ 65535 }
-    ensures { Wrote result writer.new (write_content W.rows (W.lent elements.now) writer.old) }
-{
-    writer.align()?;
-    let place = writer.octets();
-    writer.put_octet(0)?;
-    put_message::<W>(alloc, elements, writer)?;
-    writer.align()?;
-    count_after(place, writer)
-}
-
 /// The octets of a message in its frame (TS 36.413 clause 9.3): kind, code and criticality, then as an open type how many
 /// elements there are, and id, criticality and value of each.
 ///
@@ -128,7 +96,10 @@ pub fn write_pdu<'a, W: Written<'a>>(
     ensures { GivesWhole (λ v. v.items) result (write_pdu kind code (criticality_number criticality) W.rows (W.lent elements.now)) }
 {
     let mut writer = BitWriter::with_room(alloc, SHORT_MESSAGE + LONGEST_HEAD)?;
-    put_head(kind, code, criticality, &mut writer)?;
-    put_content::<W>(alloc, elements, &mut writer)?;
+    let count = W::count(elements, 0);
+    put_front(kind, code, criticality, count as u16, &mut writer)?;
+    W::write(alloc, elements, &mut writer)?;
+    writer.align()?;
+    count_after(LENGTH_PLACE, &mut writer)?;
     writer.finish()
 }

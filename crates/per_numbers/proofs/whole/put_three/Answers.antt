@@ -1,11 +1,8 @@
-use Rattle.std.proofs.Common.{◌++◌, ◌/◌, ◌%◌, ◌∙◌, Ok, ap, sym, arith, append_assoc}
-use Rattle.per_streams.specs.Bits.{bits, ◌>>=◌}
-use Rattle.per_streams.specs.PartLaws.{bits-split}
+use Rattle.std.proofs.Common.{Bool, List, ◌++◌, Ok, sym, ap, ◌∙◌}
+use Rattle.per_numbers.proofs.Octets.{three_octets}
 use Rattle.per_numbers.proofs.whole.put_three.Goals as goal
 
 pub returns : goal.returns
 returns c =
-    let parts = (bits-split 24 16 c.args.number (omega arith) c.requires).0 in
-    let high = ap (λ r. r >>= λ out. Ok (out ++ bits 8 (c.args.number % 256))) c.in_ok-put_two.ensures in
-    rw (parts, sym (append_assoc c.args.writer.now (bits 16 (c.args.number / 256)) (bits 8 (c.args.number % 256))))
-    (high ∙ ap Ok (sym c.in_ok-put_octet.ensures.ok))
+    ap (λ (l : List Bool). Ok (c.args.writer.now ++ l)) (sym (three_octets c.args.number c.requires))
+    ∙ ap (λ (l : List Bool). Ok l) (sym c.in_ok-put_octets.ensures.ok)

@@ -1,3 +1,4 @@
+-- What the values of rows answer, the message answers.
 use Rattle.std.proofs.Common.{◌≡◌, ℕ, List, Result, Ok, Err, ap, ◌∙◌}
 use Rattle.std.specs.Borrow.{Bor}
 use Rattle.s1ap_rows.specs.declared.fault.S1apFault.{S1apFault}
@@ -7,10 +8,9 @@ use Rattle.s1ap_rows.specs.Reading.{◌>>>◌}
 use Rattle.s1ap_pdus.specs.declared.pdu.Pdu.{Pdu}
 use Rattle.s1ap_pdus.specs.Typed.{Typed, decode_typed}
 use Rattle.s1ap_pdus.specs.Pdus.{decoded, lists, named, typed}
-use Rattle.s1ap_messages.proofs.decoding.decode.Goals as goal
 
 -- the values of a message's rows give the message again
-abbrev NamedAgain : Type 0
+abbrev pub NamedAgain : Type 0
 NamedAgain = (m : Pdu (List ℕ)) → named (typed m).0 (typed m).1 ≡ m
 
 abbrev named_of : Result Typed S1apFault → Result (Pdu (List ℕ)) S1apFault
@@ -24,11 +24,8 @@ failed (faults.MissingElement f) r h = ap named_of h
 failed (faults.RepeatedElement f) r h = ap named_of h
 failed (faults.RefusedElement f) r h = ap named_of h
 
-answers_named : NamedAgain → (result : Result (Pdu (Bor (List ℕ))) S1apFault) (os : List ℕ)
+pub answers_named : NamedAgain → (result : Result (Pdu (Bor (List ℕ))) S1apFault) (os : List ℕ)
     → Answers (λ m. typed (lists m)) result (decode_typed os) → Answers lists result (decoded os)
 unfolding decoded
 answers_named again (Ok m) os h = ap named_of h ∙ ap (λ x. Ok x) (again (lists m))
 answers_named again (Err f) os h = failed f (decode_typed os) h
-
-pub returns : goal.returns
-returns c = answers_named c.named_again.ensures c.read_pdu.result c.args.octets.now c.read_pdu.ensures
