@@ -1,6 +1,9 @@
 -- What follows from the definitions: an item that is still leaves a subscriber as it is, and nothing is sent.
-use Rattle.std.proofs.Common.{◌≡◌, ℕ, ◌==◌, ◌&&◌, Bool, true, false, not, if◌then◌else◌, Option, Some, None, is_some, refl}
+use Rattle.std.proofs.Common.{◌≡◌, ℕ, ◌==◌, ◌&&◌, Bool, true, false, not, if◌then◌else◌, List, Option, Some, None, is_some, refl}
 use Rattle.mme_types.specs.declared.connection.Connection.{Connection}
+use Rattle.mme_types.specs.declared.event.UeBody.{UeBody}
+use Rattle.mme_types.specs.declared.event.UeBody.TheVariants.{Uplink, UeContextReleaseRequest, UeContextReleaseComplete, InitialContextSetupFailure, PathSwitch, Notice}
+use Rattle.mme_types.specs.declared.event.UeMessage.{UeMessage}
 use Rattle.mme_types.specs.Events.{Item, Nothing, Initial, Claim, Message, Displaced, StationGone, ConnectionsGone, Tick, Data, Cancel}
 use Rattle.mme_types.specs.Listed.{ToReset, is_listed}
 use Rattle.emm_state.specs.declared.draft.Draft.{Draft}
@@ -10,10 +13,11 @@ use Rattle.emm_state.specs.declared.solo.Repeat.{Repeat}
 use Rattle.emm_state.specs.declared.solo.Repeat.TheVariants as repeats
 use Rattle.emm_state.specs.declared.solo.Solo.{Solo}
 use Rattle.emm_state.specs.Actions.{lost, untouched}
-use Rattle.emm_association.specs.Connected.{connections_gone, station_gone, strike}
+use Rattle.emm_association.specs.Connected.{connections_gone, has_connection_id, has_pair, station_gone, strike}
 use Rattle.emm_network.specs.Idle.{lowered, procedure_ticks, reachable_ticks_out, tick}
+use Rattle.emm_machine.specs.Messages.{checked, message_of, on_connection}
 use Rattle.emm_machine.specs.Steps.{row, solo_step}
-use Rattle.emm_machine.specs.Still.{is_elsewhere, is_unlisted, pages, still}
+use Rattle.emm_machine.specs.Still.{is_elsewhere, is_idle, is_unlisted, pages, still}
 
 abbrev counting : Option Countdown → Option ℕ → Solo → Solo
 counting procedure reachable solo = record solo { procedure = procedure; reachable = reachable }
@@ -59,6 +63,23 @@ still_listed s solo e items None h = refl
 still_listed s solo e items (Some k) h =
     not_lost (k.station == e && is_listed k.id k.enb_ue_id items) (untouched (connected (Some k) solo)) h
 
+both_true : (a b : Bool) → (a && b) ≡ true → (a ≡ true) × (b ≡ true)
+both_true true true h = (refl, refl)
+both_true true false h = cc
+both_true false b h = cc
+
+-- the message isn't acted on
+still_message : (s : Setting) (solo : Solo) (m : UeMessage (List ℕ)) (body : UeBody (List ℕ)) → m.body ≡ body
+    → is_idle body m solo ≡ true → solo_step s solo (Message m) ≡ untouched solo
+unfolding solo_step row message_of checked on_connection
+still_message s solo m UeContextReleaseComplete e h = rw e refl
+still_message s solo m Notice e h =
+    let on = both_true (has_connection_id m (untouched solo)) (has_pair m (untouched solo)) h in rw (e, on.0, on.1) refl
+still_message s solo m (Uplink nas tai) e h = cc
+still_message s solo m (UeContextReleaseRequest cause) e h = cc
+still_message s solo m InitialContextSetupFailure e h = cc
+still_message s solo m PathSwitch e h = cc
+
 pub still_stays : (s : Setting) (solo : Solo) (item : Item) → still solo item ≡ true → solo_step s solo item ≡ untouched solo
 unfolding solo_step row
 still_stays s solo Nothing h = refl
@@ -67,7 +88,7 @@ still_stays s solo (StationGone e) h = still_gone s solo e solo.connection solo.
 still_stays s solo (ConnectionsGone e items) h = still_listed s solo e items solo.connection h
 still_stays s solo (Initial m) h = cc
 still_stays s solo (Claim id m) h = cc
-still_stays s solo (Message m) h = cc
+still_stays s solo (Message m) h = still_message s solo m m.body refl h
 still_stays s solo (Displaced id) h = cc
 still_stays s solo (Data stations) h = cc
 still_stays s solo Cancel h = cc

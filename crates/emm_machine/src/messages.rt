@@ -1,6 +1,8 @@
 //! A message with the subscriber's id (TS 36.413 clauses 8.3, 8.4.4 and 8.6).
 
+ghost use Rattle.std.specs.Prelude.{◌≡◌};
 ghost use Rattle.emm_machine.specs.Messages.{checked, message_of, on_connection};
+ghost use Rattle.emm_machine.specs.Still.{is_idle};
 ghost use Rattle.emm_state.specs.Does.{Does};
 ghost use Rattle.emm_state.specs.Taking.{vectors_spent};
 ghost use Rattle.identity_slots.specs.Spending.{HasFrom};
@@ -63,6 +65,20 @@ fn checked(
             RadioNetworkCause::UnknownPairUeS1apId,
             message,
         ))
+    }
+}
+
+/// Whether a message isn't acted on: UE CONTEXT RELEASE COMPLETE, and a notice on the connection.
+pub(crate) fn is_idle(draft: &Draft, message: &UeMessage<&[u8]>) -> bool
+    ensures { result ≡ is_idle (message_lists message.now).body (message_lists message.now) draft.now.solo }
+{
+    match message.body {
+        UeBody::UeContextReleaseComplete => true,
+        UeBody::Notice => has_connection_id(draft, message) && has_pair(draft, message),
+        UeBody::Uplink { nas: _, tai: _ }
+        | UeBody::UeContextReleaseRequest { cause: _ }
+        | UeBody::InitialContextSetupFailure
+        | UeBody::PathSwitch => false,
     }
 }
 

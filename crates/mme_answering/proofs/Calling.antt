@@ -1,9 +1,12 @@
 -- A call of one and of nobody.
-use Rattle.std.proofs.Common.{◌≡◌, ◌≢◌, ℕ, suc, zero, ◌+◌, ◌≤◌, List, [], ◌∷◌, ◌++◌, length, set, map, Some, refl, sym, ◌∙◌, ap, arith}
-use Rattle.std.specs.Prelude.{slice_get}
+use Rattle.std.proofs.Common.{◌≡◌, ◌≢◌, ℕ, suc, zero, ◌+◌, ◌≤◌, List, [], ◌∷◌, ◌++◌, length, set, map, true, Option, Some, None, refl, sym, ◌∙◌, ap, arith}
+use Rattle.std.specs.Prelude.{slice_get, option_map}
 use Rattle.std.proofs.lemmas.Bool.Decides.{nat_tests}
 use Rattle.std.proofs.lemmas.List.{append-nil}
 use Rattle.mme_types.specs.Events.{Item, Nothing}
+use Rattle.emm_state.specs.Actions.{untouched}
+use Rattle.emm_machine.specs.Laws.{still_stays}
+use Rattle.emm_machine.specs.Still.{still}
 use Rattle.emm_machine.specs.SubscriberView.{SubscriberView}
 use Rattle.mme_routing.specs.Destinations.{for_one}
 use Rattle.mme_owners.specs.Subscribers.{each_after, subscriber_after, subscriber_step}
@@ -105,3 +108,28 @@ past_after slot n items (w ∷ ws) le only =
 pub call_past : (slot : ℕ) (item : Item) (ws : List SubscriberView) → length ws ≤ slot
     → (each_after (for_one slot item) 0 ws ≡ ws) × (each_sent (for_one slot item) 0 ws ≡ [])
 call_past slot item ws le = past_after slot 0 (for_one slot item) ws (omega arith) (λ m ne. item_other slot m item ne)
+
+-- what is there is put there
+set_own : (ws : List SubscriberView) (k : ℕ) (w : SubscriberView) → slice_get ws k ≡ Some w → set ws k w ≡ ws
+set_own [] k w h = refl
+set_own (x ∷ ws) zero w h =
+    let here : x ≡ w = cc in ap (λ y. y ∷ ws) (sym here)
+set_own (x ∷ ws) (suc k) w h = ap (λ vs. x ∷ vs) (set_own ws k w h)
+
+-- a slot whose subscriber is as it was, and sends nothing
+still_if : (slot : ℕ) (item : Item) (ws : List SubscriberView) (o : Option SubscriberView) → slice_get ws slot ≡ o
+    → option_map (λ w. still w.solo item) o ≡ Some true
+    → (each_after (for_one slot item) 0 ws ≡ ws) × (each_sent (for_one slot item) 0 ws ≡ [])
+still_if slot item ws None at h = cc
+still_if slot item ws (Some w) at h =
+    let none : still w.solo item ≡ true = cc in
+    let stays : subscriber_step w item ≡ untouched w.solo = still_stays w.setting w.solo item none in (
+      sym (after_call slot item ws w at) ∙ ap (λ d. set ws slot (record { setting = w.setting; solo = d.solo })) stays
+          ∙ set_own ws slot w at,
+      sym (sends_call slot item ws w at) ∙ ap (λ d. map (slot_out slot) d.sent) stays,
+    )
+
+pub call_still : (slot : ℕ) (item : Item) (ws : List SubscriberView)
+    → option_map (λ w. still w.solo item) (slice_get ws slot) ≡ Some true
+    → (each_after (for_one slot item) 0 ws ≡ ws) × (each_sent (for_one slot item) 0 ws ≡ [])
+call_still slot item ws h = still_if slot item ws (slice_get ws slot) refl h

@@ -2,11 +2,12 @@
 //!
 //! A call that isn't one of each step stands out of line (`inline(never)`), so that a step doesn't clear its locals.
 
-ghost use Rattle.std.specs.Prelude.{◌≡◌, ◌<◌, ◌++◌, List, length, IfOk, OnOk, OnErr, Some, false, true};
+ghost use Rattle.std.specs.Prelude.{◌≡◌, ◌<◌, ◌++◌, List, length, option_map, slice_get, IfOk, OnOk, OnErr, Some, false, true};
 ghost use Rattle.identity_slots.specs.declared.profile.Profile.{Profile};
 ghost use Rattle.mme_types.specs.declared.stations.StationState.{StationState};
 ghost use Rattle.mme_types.specs.Events.{entry_lists, item_of, message_lists};
 ghost use Rattle.mme_types.specs.Events as items;
+ghost use Rattle.emm_machine.specs.Still.{still};
 ghost use Rattle.sorted_list.specs.Ordered.{Every};
 ghost use Rattle.stranger_machine.specs.declared.table.Known.{Known};
 ghost use Rattle.stranger_machine.specs.declared.turn.Notice.TheVariants as notices;
@@ -92,7 +93,19 @@ fn prepare_each(
     Ok(stepped)
 }
 
-// The step of one, if its slot is provisioned.
+// Whether a look at a slot's subscriber tells that an event leaves it as it is and that nothing is sent.
+fn is_still(subscribers: &Subscribers, slot: Slot, event: &SoloEvent) -> bool
+    requires { slot < length subscribers.now.subscribers }
+    ensures { (stations : List StationState) → result ≡ true
+        → option_map (λ w. still w.solo (item_of event.now stations)) (slice_get subscribers.now.subscribers slot) ≡ Some true }
+{
+    match event {
+        SoloEvent::Message(message) => subscribers.is_still(slot, message),
+        _ => false,
+    }
+}
+
+// The step of one, if its slot is provisioned and the event may do something.
 fn prepare_one(
     alloc: Global,
     subscribers: &mut Subscribers,
@@ -110,6 +123,9 @@ fn prepare_one(
 {
     let place = slot.get() as usize;
     if place >= subscribers.len() {
+        return Ok(None);
+    }
+    if is_still(subscribers, slot, event) {
         return Ok(None);
     }
     let one = prepare_step(alloc, subscribers, slot, event, stations, outs)?;

@@ -2,8 +2,9 @@
 
 ghost use Rattle.std.specs.Prelude.{◌≡◌, ◌+◌, ◌<◌, ◌≤◌, ◌^◌, ◌++◌, ◌∷◌, [], length, slice_get, IfOk, OnErr, OnOk, Some, None, option_map};
 ghost use Rattle.identity_slots.specs.Ids.{slots};
-ghost use Rattle.mme_types.specs.Events.{item_of};
+ghost use Rattle.mme_types.specs.Events.{Message, item_of, message_lists};
 ghost use Rattle.mme_associations.specs.Whereabouts.{nowhere};
+ghost use Rattle.emm_machine.specs.Still.{still};
 ghost use Rattle.emm_machine.specs.Ticks.{countdowns};
 ghost use Rattle.emm_machine.specs.Words.{states_of};
 ghost use Rattle.sorted_list.specs.Ordered.{Every};
@@ -18,7 +19,7 @@ use emm_machine::{States, Subscriber};
 use emm_state::Draft;
 use identity_slots::Slot;
 use mme_associations::Connections;
-use mme_types::{EnbWorld, SoloEvent};
+use mme_types::{EnbWorld, SoloEvent, UeMessage};
 use std::alloc::{AllocError, Global};
 use std::marker::Model;
 
@@ -143,6 +144,16 @@ impl Subscribers {
             return None;
         }
         Some(self.records[place].subscriber.states())
+    }
+
+    /// Whether a message leaves a slot's subscriber as it is and nothing is sent for it, by a look at the connection; takes no memory.
+    pub fn is_still(&self, slot: Slot, message: &UeMessage<&[u8]>) -> bool
+        requires { slot < length self.now.subscribers }
+        ensures { option_map (λ w. still w.solo (Message (message_lists message.now))) (slice_get self.now.subscribers slot)
+            ≡ Some result }
+    {
+        let place = slot.get() as usize;
+        self.records[place].subscriber.is_still(message)
     }
 
     /// What an event would leave and send for a slot; nothing changes.
