@@ -22,7 +22,7 @@ _mme() {
         _mme_words "play sim --explain --prove --library --version --help" "$current"
     elif [ "$COMP_CWORD" = "$at" ]; then
         _mme_words "play sim" "$current"
-    elif [ "${COMP_WORDS[at]}" = --prove ]; then
+    elif [ "${COMP_WORDS[at]}" = --prove ] || [ "${COMP_WORDS[at]}" = --library ]; then
         _mme_words "x86-64 x86-64-v2 x86-64-v3" "$current"
     elif [ "${COMP_WORDS[at]}" = play ] || [ "${COMP_WORDS[at]}" = sim ]; then
         _mme_files "$current"

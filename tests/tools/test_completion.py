@@ -25,7 +25,8 @@ class Completion(unittest.TestCase):
         """Every word of the script's help, and files where it takes one."""
         self.assertEqual(offered("_mme", "mme", ""), sorted(["play", "sim", "--explain", "--prove", "--library", "--version", "--help"]))
         self.assertEqual(offered("_mme", "mme", "--p"), ["--prove"])
-        self.assertEqual(offered("_mme", "mme", "--prove", "x86-64-"), ["x86-64-v2", "x86-64-v3"])
+        for word in ("--prove", "--library"):
+            self.assertEqual(offered("_mme", "mme", word, "x86-64-"), ["x86-64-v2", "x86-64-v3"])
         self.assertEqual(offered("_mme", "mme", "--explain", ""), ["play", "sim"])
         self.assertEqual(offered("_mme", "mme", "play", "examples/attach.t"), ["examples/attach.trace"])
         self.assertEqual(offered("_mme", "mme", "--explain", "sim", "examples/laz"), [])

@@ -110,10 +110,12 @@ class Proving(unittest.TestCase):
 
     def test_words_refused(self):
         """Before anything is proved."""
-        for words in (["bogus"], ["x86-64-v4"], ["--help"], ["x86-64", "x86-64"], [""]):
-            status, printed, told = self.ran("--prove", *words)
-            self.assertEqual((status, printed, told.count("\n")), (2, "", 1), told)
-            self.assertTrue(told.startswith("mme: --prove takes "), told)
+        for words in (["bogus"], ["x86-64-v4"], ["x86-64", "x86-64"], [""]):
+            for word in ("--prove", "--library"):
+                status, printed, told = self.ran(word, *words)
+                self.assertEqual((status, printed, told.count("\n")), (2, "", 1), told)
+                self.assertTrue(told.startswith("mme: %s takes " % word), told)
+        self.assertEqual(self.ran("--prove", "--help")[0], 2)
         self.assertEqual((self.room / "calls").read_text(), "")
 
     def test_not_proved(self):

@@ -1,14 +1,15 @@
 #!/usr/bin/env python3
-"""Proves the crates below the library for C and builds the library: `./mme --library`.
+"""Proves the crates below the library for C and builds the library: `./mme --library [PROCESSOR]`.
 
-    library.py                  what `./mme --library` does: where this machine keeps that `rt ci` proved this text, whole, the
+    library.py [PROCESSOR]      what `./mme --library` does: where this machine keeps that `rt ci` proved this text, whole, the
                                 library is built over what is kept; else each crate is proved in turn, with a line for each
-    library.py --built FOLDER   builds it in a folder over the libraries that stand built here, as `rt ci` leaves them: the crate
+    library.py --built FOLDER [PROCESSOR]
+                                builds it in a folder over the libraries that stand built here, as `rt ci` leaves them: the crate
                                 `mme_c` is checked and compiled, the crates below it are not
 
 The library is the archive libsoizkadur.a and the shared object libsoizkadur.so.1, each whole but for the C library, with
-soizkadur.h and soizkadur.pc. Only the functions of soizkadur.h are visible in them. Beside the archive stands the record of what it
-was made of (record.py).
+soizkadur.h and soizkadur.pc. Only the functions of soizkadur.h are visible in them. Both say which processor they need, so that the
+system's loader refuses a program with them on another. Beside the archive stands the record of what it was made of (record.py).
 """
 import argparse
 import os
@@ -37,6 +38,9 @@ PREFIX = "soizkadur_"
 # The C code of the toolchain that the library's heap is: malloc, realloc and free.
 SHIM = pathlib.Path("c") / "liblibc_c.a"
 FUNCTION = re.compile(r"^[a-z]\w* (soizkadur_\w+)\(", re.MULTILINE)
+# What the linker calls a processor that it names otherwise, and the line of `readelf` that says what processors a file needs.
+OF_LINKER = {"x86-64": "x86-64-baseline"}
+NEEDED = re.compile(r"x86 ISA needed: (.+)$", re.MULTILINE)
 # What any shared object asks of the linker's own start files, where it is there.
 WEAK = {"_ITM_deregisterTMCloneTable", "_ITM_registerTMCloneTable", "__cxa_finalize", "__gmon_start__"}
 PC = """\
@@ -54,13 +58,14 @@ Cflags: -I${includedir}
 # --- The archive, compiled ---
 
 
-def compiled(rt, crate, archive):
+def compiled(rt, crate, archive, processor):
     """Checks `mme_c` and compiles it to an archive, over the libraries below it."""
-    ran([*rt.rtlib.guarded(), rt.rtlib.RATTLE, "build", *kept.words_of(crate), "--toolchain", "%s/toolchain" % rt.KIT, "--backend",
-         "llvm", "-o", archive], "%s isn't proved, or doesn't compile" % CRATE, crate.folder, **toolchain.for_provers())
+    ran([*rt.rtlib.guarded(), rt.rtlib.RATTLE, "build", *kept.words_of(crate), *prove.compiled_for(processor), "--toolchain",
+         "%s/toolchain" % rt.KIT, "--backend", "llvm", "-o", archive], "%s isn't proved, or doesn't compile" % CRATE, crate.folder,
+        **toolchain.for_provers())
 
 
-def compile_over_built(archive):
+def compile_over_built(archive, processor):
     """Compiles `mme_c` over the libraries below it that stand built: `rt ci` leaves them with statements and code, as it needs them
     for a program."""
     rt = toolchain.module()
@@ -71,10 +76,10 @@ def compile_over_built(archive):
     missing = [one.name for one in crate.below() if not os.path.isdir(one.rlib)]
     if missing:
         raise Failed("the libraries below %s aren't built: %s" % (CRATE, record.listed(missing)))
-    compiled(rt, crate, archive)
+    compiled(rt, crate, archive, processor)
 
 
-def compile_over_kept(archive):
+def compile_over_kept(archive, processor):
     """Compiles `mme_c` over the libraries that this machine keeps of `rt ci`; whether it keeps all of them, and that `mme_c` is
     proved."""
     rt = toolchain.module()
@@ -85,7 +90,7 @@ def compile_over_kept(archive):
         crate = kept.crate_over_kept(rt, room, CRATE)
         if crate is None:
             return False
-        compiled(rt, crate, archive)
+        compiled(rt, crate, archive, processor)
     return True
 
 
@@ -97,12 +102,13 @@ def functions():
     return sorted(FUNCTION.findall(HEADER.read_text(encoding="utf-8")))
 
 
-def link_archive(compiled, folder, room):
-    """One object of the compiled crate and the toolchain's C code, in which the header's functions alone are visible."""
+def link_archive(compiled, folder, room, processor):
+    """One object of the compiled crate and the toolchain's C code, in which the header's functions alone are visible, and which says
+    what processor it needs: what is linked with it says the same."""
     whole, names = room / "whole.o", room / "names"
     names.write_text("".join("%s\n" % name for name in functions()), encoding="utf-8")
-    ran(["ld", "-r", "-o", whole, "--whole-archive", compiled, "--no-whole-archive", record.kit() / SHIM],
-        "the archive can't be linked")
+    ran(["ld", "-r", "-z", OF_LINKER.get(processor, processor), "-o", whole, "--whole-archive", compiled, "--no-whole-archive",
+         record.kit() / SHIM], "the archive can't be linked")
     ran(["objcopy", "--keep-global-symbols=%s" % names, whole, room / "soizkadur.o"], "the archive's names can't be hidden")
     (folder / ARCHIVE).unlink(missing_ok=True)
     ran(["ar", "rcsD", folder / ARCHIVE, room / "soizkadur.o"], "the archive can't be written")
@@ -125,14 +131,23 @@ def names_in(file, *flags):
     return [line.split()[-1] for line in lines if line and not line.endswith(":")]
 
 
-def look_at(folder):
-    """Fails where what is visible isn't the header's functions, or something is missing that the C library doesn't have."""
+def processors_of(file):
+    """What processors a file needs, as it says itself."""
+    lines = NEEDED.findall(ran(["readelf", "-n", file], "%s can't be read" % file.name))
+    return {name for line in lines for name in line.split(", ")}
+
+
+def look_at(folder, processor):
+    """Fails where what is visible isn't the header's functions, something is missing that the C library doesn't have, or a file
+    doesn't say what processor it needs."""
     wanted = functions()
     for file, flags in ((ARCHIVE, ["--defined-only", "-g"]), (SHARED, ["--defined-only", "-D"])):
         found = sorted(name.partition("@")[0] for name in names_in(folder / file, *flags))
         if found != wanted:
             others = ", ".join(sorted(set(found) ^ set(wanted))[:8])
             raise Failed("the names in %s aren't those of soizkadur.h: %s" % (file, others))
+        if OF_LINKER.get(processor, processor) not in processors_of(folder / file):
+            raise Failed("%s doesn't say that it needs %s" % (file, processor))
     foreign = [name for name in names_in(folder / SHARED, "--undefined-only", "-D") if "@GLIBC" not in name and name not in WEAK]
     if foreign:
         raise Failed("%s needs more than the C library: %s" % (SHARED, ", ".join(foreign[:8])))
@@ -140,30 +155,31 @@ def look_at(folder):
         raise Failed("%s isn't position independent" % SHARED)
 
 
-def link(compiled, folder):
-    """The library in a folder, of the compiled archive; returns the folder."""
+def link(compiled, folder, processor=None):
+    """The library in a folder, of the archive that was compiled for a processor, or for the default one; returns the folder."""
+    processor = processor or record.DEFAULT_PROCESSOR
     folder = pathlib.Path(folder)
     folder.mkdir(parents=True, exist_ok=True)
     record.path_of(folder / ARCHIVE).unlink(missing_ok=True)
     with tempfile.TemporaryDirectory() as room:
-        link_archive(compiled, folder, pathlib.Path(room))
+        link_archive(compiled, folder, pathlib.Path(room), processor)
         link_shared(folder, pathlib.Path(room))
     shutil.copy(HEADER, folder)
     version = (record.TOP / "VERSION").read_text(encoding="utf-8").strip()
     (folder / "soizkadur.pc").write_text(PC % version, encoding="utf-8")
-    look_at(folder)
+    look_at(folder, processor)
     return folder
 
 
 # --- What a test or a package asks for ---
 
 
-def build_over_built(folder):
+def build_over_built(folder, processor=None):
     """The library in a folder, over the crates' libraries that stand built here, as after `rt ci`; returns the folder."""
     with tempfile.TemporaryDirectory() as room:
         archive = pathlib.Path(room, "lib%s.a" % CRATE)
-        compile_over_built(archive)
-        return link(archive, folder)
+        compile_over_built(archive, processor)
+        return link(archive, folder, processor)
 
 
 def fresh(folder=FOLDER):
@@ -180,43 +196,43 @@ def fresh(folder=FOLDER):
 # --- ./mme --library ---
 
 
-def prove_each(begun):
+def prove_each(begun, processor):
     """Proves each crate below the library and the library's own; returns its archive."""
     crates = record.crates_of(CRATE)
     for at, name in enumerate(crates, 1):
         what = "%s, %d of %d" % (name, at, len(crates))
         say("proving %s, %d s so far" % (what, time.monotonic() - begun))
         try:
-            prove.made(name, toolchain.command("lib"))
+            prove.made(name, toolchain.command("lib", *(prove.compiled_for(processor) if name == CRATE else [])))
         except children.Stopped as stopped:
             raise Failed("stopped while proving %s; what was proved before it is kept" % what, stopped.status) from None
     return record.TOP / "crates" / CRATE / "out" / ("lib%s.a" % CRATE)
 
 
-def prove_and_build(begun):
+def prove_and_build(begun, processor):
     """Has the crates below the library proved, and builds it."""
     before = {"crates": record.digests_of_crates(CRATE), "toolchain": record.toolchain()}
     record.path_of(FOLDER / ARCHIVE).unlink(missing_ok=True)
     with tempfile.TemporaryDirectory() as room:
         archive = pathlib.Path(room, "lib%s.a" % CRATE)
-        if compile_over_kept(archive):
+        if compile_over_kept(archive, processor):
             say("%d crates are kept: `rt ci` proved this text on this machine" % len(before["crates"]))
         else:
-            archive = prove_each(begun)
-        link(archive, FOLDER)
+            archive = prove_each(begun, processor)
+        link(archive, FOLDER, processor)
     if record.digests_of_crates(CRATE) != before["crates"]:
         raise Failed("the crates changed while they were proved: ./mme --library once more")
-    record.write(FOLDER / ARCHIVE, before["crates"], before["toolchain"])
+    record.write(FOLDER / ARCHIVE, before["crates"], before["toolchain"], processor or record.DEFAULT_PROCESSOR)
 
 
-def library(begun):
+def library(begun, processor):
     """What `./mme --library` does."""
     if not record.has_sources():
         raise Failed("no sources here: --library is for a clone of the repository")
     if record.kit() is None:
         raise Failed("no toolchain on the path: --library needs `rt`")
     children.catch_signals()
-    prove_and_build(begun)
+    prove_and_build(begun, processor)
     say("proved and built in %d s: %s and %s in %s" % (time.monotonic() - begun, ARCHIVE, SHARED, FOLDER))
 
 
@@ -226,12 +242,11 @@ def main(given):
     words, others = parser.parse_known_args(given)
 
     def work(begun):
-        if others:
-            raise Failed("--library takes no word, and not %s" % others[0], BAD_WORDS)
+        processor = prove.processor_of("--library", others)
         if words.built:
-            say("built in %s" % build_over_built(words.built))
+            say("built in %s" % build_over_built(words.built, processor))
         else:
-            library(begun)
+            library(begun, processor)
 
     return prove.status_of(work)
 

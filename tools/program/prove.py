@@ -24,13 +24,18 @@ PROGRAM = record.TOP / "crates" / record.NAME / "out" / record.NAME
 MADE = ("", ".o", ".stamp", record.END)  # the ends of the names of what a build writes
 
 
-def processor_of(given):
-    """The processor that the words name, or None where they name none."""
+def processor_of(word, given):
+    """The processor that the words after `--prove` or `--library` name, or None where they name none."""
     if len(given) > 1:
-        raise Failed("--prove takes one processor at the most", BAD_WORDS)
+        raise Failed("%s takes one processor at the most" % word, BAD_WORDS)
     if given and given[0] not in PROCESSORS:
-        raise Failed("--prove takes %s or %s, and not %s" % (", ".join(PROCESSORS[:-1]), PROCESSORS[-1], given[0]), BAD_WORDS)
+        raise Failed("%s takes %s or %s, and not %s" % (word, ", ".join(PROCESSORS[:-1]), PROCESSORS[-1], given[0]), BAD_WORDS)
     return given[0] if given else None
+
+
+def compiled_for(processor):
+    """What the toolchain is told of the processor, if one is named."""
+    return ["--cpu=" + processor] if processor else []
 
 
 @contextlib.contextmanager
@@ -63,7 +68,7 @@ def asked_of(name, processor):
     """What the toolchain is asked for a crate."""
     if name != record.NAME:
         return toolchain.command("lib")
-    return toolchain.command("run", *(["--cpu=" + processor] if processor else []), "--", "play")
+    return toolchain.command("run", *compiled_for(processor), "--", "play")
 
 
 def made(name, words):
@@ -115,7 +120,7 @@ def status_of(work):
 
 def main(given):
     def work(begun):
-        processor = processor_of(given)
+        processor = processor_of("--prove", given)
         if not record.has_sources():
             raise Failed("no sources here: --prove is for a clone of the repository")
         if record.kit() is None:
