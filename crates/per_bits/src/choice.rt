@@ -9,7 +9,7 @@ ghost use Rattle.per_numbers.specs.Writing.{write_number, Wrote};
 ghost use Rattle.per_bits.specs.Sequences.{write_alternative};
 
 use crate::element::Element;
-use per_numbers::{offset_of, put_number};
+use per_numbers::{offset_of, put_root};
 use per_streams::{BitReader, BitWriter, PerError, PerFault};
 use std::alloc::Global;
 
@@ -32,8 +32,7 @@ pub fn take_choice(last: u64, reader: &mut BitReader) -> Result<u64, PerFault>
 pub fn put_choice(last: u64, index: u64, writer: &mut BitWriter) -> Result<(), PerError>
     ensures { Wrote result writer.new (write_number 0 last index (writer.old ++ false ∷ [])) }
 {
-    writer.put_bit(false)?;
-    put_number(0, last, index, writer)
+    put_root(last, index, writer)
 }
 
 /// Writes an alternative of a CHOICE, the last of which has index `last`: its index, and its value.

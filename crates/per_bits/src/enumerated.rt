@@ -12,7 +12,7 @@ ghost use Rattle.per_bits.specs.Names.{view_of_name, IsName};
 use crate::element::Element;
 use crate::name::Enumerated;
 use crate::open::take_small_number;
-use per_numbers::{offset_of, put_number};
+use per_numbers::{offset_of, put_root};
 use per_streams::{BitReader, BitWriter, PerError, PerFault};
 use std::alloc::Global;
 
@@ -43,10 +43,7 @@ impl<'a, const LAST: u64> Element<'a> for Enumerated<LAST> {
 
     fn write(&self, _alloc: Global, writer: &mut BitWriter) -> Result<(), PerError> {
         match self {
-            Enumerated::Root(number) => {
-                writer.put_bit(false)?;
-                put_number(0, LAST, *number, writer)
-            }
+            Enumerated::Root(number) => put_root(LAST, *number, writer),
             Enumerated::Extended(_) => Err(PerError::Fault(PerFault::Range)),
         }
     }

@@ -154,12 +154,12 @@ pub fn count_after(place: usize, writer: &mut BitWriter) -> Result<(), PerError>
     ensures { Wrote result writer.new (count_after place writer.old) }
 {
     let length = writer.octets() - place - 1;
-    if LONG_END <= length {
-        return Err(PerError::Fault(PerFault::Range));
-    }
     if length < SHORT_END {
         writer.set_octet(place, length as u8);
         return Ok(());
+    }
+    if LONG_END <= length {
+        return Err(PerError::Fault(PerFault::Range));
     }
     writer.set_octet(place, LONG_FIRST + (length / 256) as u8);
     writer.insert_octet(place + 1, (length % 256) as u8)

@@ -36,13 +36,13 @@ pub fn take_three_flags(reader: &mut BitReader) -> Result<(bool, bool, bool), Pe
 }
 
 /// Writes the presence bits of a SEQUENCE: nothing of later releases.
+#[tactic(auto, unfolding(per_streams::specs::Bits::bits))]
 #[inline(always)]
 pub fn put_flags(writer: &mut BitWriter) -> Result<(), PerError>
     ensures ok { OnOk result (writer.new ≡ writer.old ++ false ∷ false ∷ []) }
     ensures memory { OnErr result (result ≡ Err NoMemory) }
 {
-    writer.put_bit(false)?;
-    writer.put_bit(false)
+    writer.put_bits(2, 0)
 }
 
 /// Writes the presence bits of a SEQUENCE with one optional part.
@@ -51,9 +51,7 @@ pub fn put_three_flags(present: bool, writer: &mut BitWriter) -> Result<(), PerE
     ensures ok { OnOk result (writer.new ≡ writer.old ++ false ∷ present ∷ false ∷ []) }
     ensures memory { OnErr result (result ≡ Err NoMemory) }
 {
-    writer.put_bit(false)?;
-    writer.put_bit(present)?;
-    writer.put_bit(false)
+    writer.put_bits(3, 2 * present as u64)
 }
 
 /// Reads past what later releases added to a SEQUENCE: its iE-Extensions, and what stands after its parts.
@@ -80,6 +78,7 @@ pub fn read_pair<'a, A: Element<'a>, B: Element<'a>>(
 }
 
 /// A SEQUENCE of two parts.
+#[inline(always)]
 pub fn read_two<'a, A: Element<'a>, B: Element<'a>>(
     alloc: Global,
     reader: &mut BitReader<'a>,

@@ -23,6 +23,7 @@ pub const LAST_CRITICALITY: u64 = 2;
 const MOST_EXTENSIONS: u64 = 65535;
 
 /// Reads past the extension additions of a SEQUENCE, where its extension bit was 1; takes no memory.
+#[inline(always)]
 pub fn skip_additions(extended: bool, reader: &mut BitReader) -> Result<(), PerFault>
     ensures { Answers (λ _. tt) result reader.new (skipped_at extended additions_at reader.old) }
 {
@@ -33,7 +34,9 @@ pub fn skip_additions(extended: bool, reader: &mut BitReader) -> Result<(), PerF
     Ok(())
 }
 
+// out of line, as mostly there are none
 #[tactic(auto, unfolding(crate::specs::Reading::additions_at))]
+#[inline(never)]
 fn pass_additions(reader: &mut BitReader) -> Result<(), PerFault>
     ensures { Answers (λ _. tt) result reader.new (skipped_at true additions_at reader.old) }
 {
@@ -63,6 +66,7 @@ fn pass_strings(count: u64, reader: &mut BitReader) -> Result<(), PerFault>
 }
 
 /// Reads past iE-Extensions, where they stand; takes no memory.
+#[inline(always)]
 pub fn skip_extensions(present: bool, reader: &mut BitReader) -> Result<(), PerFault>
     ensures { Answers (λ _. tt) result reader.new (skipped_at present (read_at extensions) reader.old) }
 {
@@ -73,7 +77,9 @@ pub fn skip_extensions(present: bool, reader: &mut BitReader) -> Result<(), PerF
     Ok(())
 }
 
+// out of line, as mostly there are none
 #[tactic(auto, unfolding(per_numbers::specs::Reading::number_at))]
+#[inline(never)]
 fn pass_extensions(reader: &mut BitReader) -> Result<(), PerFault>
     ensures { Answers (λ _. tt) result reader.new (skipped_at true (read_at extensions) reader.old) }
 {

@@ -3,4 +3,4 @@
 
 mod whole;
 
-pub use whole::{Whole, offset_of, put_number};
+pub use whole::{Whole, offset_of, put_number, put_root};

@@ -1,7 +1,7 @@
 //! Whole numbers in a range.
 
-ghost use Rattle.std.specs.Prelude.{ℕ, ◌↔◌, IsSome, IfSome, ◌≡◌, ◌≤◌, ◌<◌, ◌^◌, ◌*◌, ◌-◌, ◌+◌, ◌++◌, length, Ok, IfOk};
-ghost use Rattle.per_streams.specs.Bits.{Answers, bits, pad, number_bits_at};
+ghost use Rattle.std.specs.Prelude.{ℕ, true, ◌↔◌, IsSome, IfSome, ◌≡◌, ◌≤◌, ◌<◌, ◌^◌, ◌*◌, ◌-◌, ◌+◌, ◌++◌, ◌∷◌, [], false, length, Ok, IfOk};
+ghost use Rattle.per_streams.specs.Bits.{Answers, bits, pad};
 ghost use Rattle.per_numbers.specs.Reading.{number_at, offset_at, small_at, aligned_small_at, large_at};
 ghost use Rattle.per_numbers.specs.Numbers.{width_of, octets_for, offset_bits};
 ghost use Rattle.per_numbers.specs.Writing.{write_number, Wrote};
@@ -78,6 +78,22 @@ pub fn put_number(lo: u64, hi: u64, number: u64, writer: &mut BitWriter) -> Resu
     put_offset(hi - lo, number - lo, writer)
 }
 
+/// Writes a number of the root of an extensible type, 0 to `last`, after a zero bit which says that it is one; one above is Range.
+#[inline(always)]
+pub fn put_root(last: u64, number: u64, writer: &mut BitWriter) -> Result<(), PerError>
+    ensures { Wrote result writer.new (write_number 0 last number (writer.old ++ false ∷ [])) }
+{
+    if last >= 128 {
+        writer.put_bit(false)?;
+        return put_number(0, last, number, writer);
+    }
+    if number > last {
+        return Err(PerError::Fault(PerFault::Range));
+    }
+    writer.put_bits(1 + width(last), number)?;
+    Ok(())
+}
+
 /// Writes the offset of a number in a range whose last offset is `span`.
 #[tactic(auto, unfolding(crate::specs::Numbers::offset_bits))]
 #[inline(always)]
@@ -88,82 +104,147 @@ fn put_offset(span: u64, offset: u64, writer: &mut BitWriter) -> Result<(), PerE
     if span < 255 {
         writer.put_bits(width(span), offset)
     } else if span < 256 {
-        put_in_octets(1, offset, writer)
+        put_one(offset, writer)
     } else if span < 65536 {
-        put_in_octets(2, offset, writer)
+        put_two(offset, writer)
     } else {
-        let most = (octets_of(span) - 1) as u64;
-        let count = octets_of(offset);
-        writer.put_bits(width(most), (count - 1) as u64)?;
-        put_in_octets(count, offset, writer)
+        put_counted(width((octets_of(span) - 1) as u64), offset, writer)
     }
 }
 
-/// Writes a number in `count` octets from the next octet on; what takes more than two stands out of line, as it would make
-/// every write of a number large.
+/// Writes a number in one octet, from the next octet on.
 #[inline(always)]
-fn put_in_octets(count: u8, number: u64, writer: &mut BitWriter) -> Result<(), PerError>
-    requires count { count ≤ 8 }
-    requires fits { number < 2 ^ (8 * count) }
-    ensures { Wrote result writer.new (Ok (writer.old ++ (pad (length writer.old) ++ bits (8 * count) number))) }
+fn put_one(number: u64, writer: &mut BitWriter) -> Result<(), PerError>
+    requires { number < 2 ^ 8 }
+    ensures { Wrote result writer.new (Ok (writer.old ++ (pad (length writer.old) ++ bits 8 number))) }
 {
     writer.align()?;
-    match count {
-        1 => writer.put_octet(number as u8),
-        2 => put_two(number, writer),
-        _ => put_more(count, number, writer),
-    }
+    writer.put_octet(number as u8)
 }
 
-/// Writes a number in `count` octets, after the bits so far.
-#[inline(never)]
-fn put_more(count: u8, number: u64, writer: &mut BitWriter) -> Result<(), PerError>
-    requires count { count ≤ 8 }
-    requires fits { number < 2 ^ (8 * count) }
-    ensures { Wrote result writer.new (Ok (writer.old ++ bits (8 * count) number)) }
-{
-    match count {
-        3 => put_three(number, writer),
-        4 => put_four(number, writer),
-        _ => writer.put_bits(8 * count, number),
-    }
-}
-
-/// Writes a number in two octets, after the bits so far.
+/// Writes a number in two octets, from the next octet on.
 #[inline(always)]
 fn put_two(number: u64, writer: &mut BitWriter) -> Result<(), PerError>
     requires { number < 2 ^ 16 }
-    ensures { Wrote result writer.new (Ok (writer.old ++ bits 16 number)) }
+    ensures { Wrote result writer.new (Ok (writer.old ++ (pad (length writer.old) ++ bits 16 number))) }
 {
+    writer.align()?;
     writer.put_octets(&[(number / 256) as u8, (number % 256) as u8])?;
     Ok(())
 }
 
-/// Writes a number in three octets, after the bits so far.
-#[inline(always)]
-fn put_three(number: u64, writer: &mut BitWriter) -> Result<(), PerError>
-    requires { number < 2 ^ 24 }
-    ensures { Wrote result writer.new (Ok (writer.old ++ bits 24 number)) }
+/// Writes how many octets a number has, in `wide` bits, and then these from the next octet on; out of line, as it would make
+/// every write of a number large.
+#[inline(never)]
+fn put_counted(wide: u8, number: u64, writer: &mut BitWriter) -> Result<(), PerError>
+    requires some { 0 < wide }
+    requires wide { wide ≤ 8 }
+    requires fits { octets_for number - 1 < 2 ^ wide }
+    ensures { Wrote result writer.new (Ok (writer.old ++ (bits wide (octets_for number - 1)
+        ++ (pad (length writer.old + length (bits wide (octets_for number - 1))) ++ bits (8 * octets_for number) number)))) }
 {
-    let high = number / 256;
-    writer.put_octets(&[(high / 256) as u8, (high % 256) as u8, (number % 256) as u8])?;
+    let count = octets_of(number);
+    match count {
+        1 => put_counted_one(wide, number, writer),
+        2 => put_counted_two(wide, number, writer),
+        3 => put_counted_three(wide, number, writer),
+        4 => put_counted_four(wide, number, writer),
+        _ => put_counted_bits(wide, count, number, writer),
+    }
+}
+
+/// Writes in `wide` bits that a number has one octet, and then it from the next octet on.
+#[inline(always)]
+fn put_counted_one(wide: u8, number: u64, writer: &mut BitWriter) -> Result<(), PerError>
+    requires some { 0 < wide }
+    requires wide { wide ≤ 8 }
+    requires fits { number < 2 ^ 8 }
+    ensures { Wrote result writer.new (Ok (writer.old ++ (bits wide 0
+        ++ (pad (length writer.old + length (bits wide 0)) ++ bits 8 number)))) }
+{
+    let head = writer.fill_octet(wide, 0)?;
+    writer.put_whole(&[head, number as u8])?;
     Ok(())
 }
 
-/// Writes a number in four octets, after the bits so far.
+/// Writes in `wide` bits that a number has two octets, and then these from the next octet on.
 #[inline(always)]
-fn put_four(number: u64, writer: &mut BitWriter) -> Result<(), PerError>
-    requires { number < 2 ^ 32 }
-    ensures { Wrote result writer.new (Ok (writer.old ++ bits 32 number)) }
+fn put_counted_two(wide: u8, number: u64, writer: &mut BitWriter) -> Result<(), PerError>
+    requires some { 0 < wide }
+    requires wide { wide ≤ 8 }
+    requires few { 1 < 2 ^ wide }
+    requires fits { number < 2 ^ 16 }
+    ensures { Wrote result writer.new (Ok (writer.old ++ (bits wide 1
+        ++ (pad (length writer.old + length (bits wide 1)) ++ bits 16 number)))) }
+{
+    let head = writer.fill_octet(wide, 1)?;
+    writer.put_whole(&[head, (number / 256) as u8, (number % 256) as u8])?;
+    Ok(())
+}
+
+/// Writes in `wide` bits that a number has three octets, and then these from the next octet on.
+#[inline(always)]
+fn put_counted_three(wide: u8, number: u64, writer: &mut BitWriter) -> Result<(), PerError>
+    requires some { 0 < wide }
+    requires wide { wide ≤ 8 }
+    requires few { 2 < 2 ^ wide }
+    requires fits { number < 2 ^ 24 }
+    ensures { Wrote result writer.new (Ok (writer.old ++ (bits wide 2
+        ++ (pad (length writer.old + length (bits wide 2)) ++ bits 24 number)))) }
+{
+    let high = number / 256;
+    let head = writer.fill_octet(wide, 2)?;
+    writer.put_whole(&[
+        head,
+        (high / 256) as u8,
+        (high % 256) as u8,
+        (number % 256) as u8,
+    ])?;
+    Ok(())
+}
+
+/// Writes in `wide` bits that a number has four octets, and then these from the next octet on.
+#[inline(always)]
+fn put_counted_four(wide: u8, number: u64, writer: &mut BitWriter) -> Result<(), PerError>
+    requires some { 0 < wide }
+    requires wide { wide ≤ 8 }
+    requires few { 3 < 2 ^ wide }
+    requires fits { number < 2 ^ 32 }
+    ensures { Wrote result writer.new (Ok (writer.old ++ (bits wide 3
+        ++ (pad (length writer.old + length (bits wide 3)) ++ bits 32 number)))) }
 {
     let high = number / 65536;
     let low = number % 65536;
-    writer.put_octets(&[
+    let head = writer.fill_octet(wide, 3)?;
+    writer.put_whole(&[
+        head,
         (high / 256) as u8,
         (high % 256) as u8,
         (low / 256) as u8,
         (low % 256) as u8,
     ])?;
+    Ok(())
+}
+
+/// Writes in `wide` bits that a number has `count` octets, and then these from the next octet on.
+#[inline(never)]
+fn put_counted_bits(
+    wide: u8,
+    count: u8,
+    number: u64,
+    writer: &mut BitWriter,
+) -> Result<(), PerError>
+    requires wide { wide ≤ 8 }
+    requires few { count - 1 < 2 ^ wide }
+    requires some { 0 < count }
+    requires count { count ≤ 8 }
+    requires fits { number < 2 ^ (8 * count) }
+    ensures { Wrote result writer.new (Ok (writer.old ++ (bits wide (count - 1)
+        ++ (pad (length writer.old + length (bits wide (count - 1))) ++ bits (8 * count) number)))) }
+{
+    writer.put_bits(wide, (count - 1) as u64)?;
+    writer.align()?;
+    writer.put_bits(8 * count, number)?;
     Ok(())
 }
 
@@ -197,74 +278,6 @@ fn width(most: u64) -> u8
     }
 }
 
-// a number of `bits` bits; two octets are taken one by one, as they mostly are whole octets
-#[inline(always)]
-fn number_of(bits: u8, reader: &mut BitReader) -> Result<u64, PerFault>
-    requires { bits ≤ 64 }
-    ensures { Answers (λ n. n) result reader.new (number_bits_at bits reader.old) }
-{
-    match bits {
-        16 => two_octets(reader),
-        _ => reader.take_bits(bits),
-    }
-}
-
-// a number in `count` octets; out of line, as it would make every read of a number large
-#[inline(never)]
-fn octets_as_number(count: u8, reader: &mut BitReader) -> Result<u64, PerFault>
-    requires { count ≤ 8 }
-    ensures { Answers (λ n. n) result reader.new (number_bits_at (8 * count) reader.old) }
-{
-    match count {
-        2 => two_octets(reader),
-        3 => three_octets(reader),
-        4 => four_octets(reader),
-        _ => reader.take_bits(8 * count),
-    }
-}
-
-#[inline(always)]
-fn two_octets(reader: &mut BitReader) -> Result<u64, PerFault>
-    ensures exact { Answers (λ n. n) result reader.new (number_bits_at 16 reader.old) }
-    ensures within { IfOk result (λ n. n < 65536) }
-{
-    if let Some(octets) = reader.next_two() {
-        reader.pass_two();
-        let [high, low] = octets;
-        return Ok(u64::from(high) * 256 + u64::from(low));
-    }
-    two_apart(reader)
-}
-
-// where they aren't whole octets, or too few are left; out of line, as it would make every read of a number large
-#[inline(never)]
-fn two_apart(reader: &mut BitReader) -> Result<u64, PerFault>
-    ensures exact { Answers (λ n. n) result reader.new (number_bits_at 16 reader.old) }
-    ensures within { IfOk result (λ n. n < 65536) }
-{
-    let high = reader.take_bits(8)?;
-    let low = reader.take_bits(8)?;
-    Ok(high * 256 + low)
-}
-
-#[inline(always)]
-fn three_octets(reader: &mut BitReader) -> Result<u64, PerFault>
-    ensures { Answers (λ n. n) result reader.new (number_bits_at 24 reader.old) }
-{
-    let high = two_octets(reader)?;
-    let low = reader.take_bits(8)?;
-    Ok(high * 256 + low)
-}
-
-#[inline(always)]
-fn four_octets(reader: &mut BitReader) -> Result<u64, PerFault>
-    ensures { Answers (λ n. n) result reader.new (number_bits_at 32 reader.old) }
-{
-    let high = two_octets(reader)?;
-    let low = two_octets(reader)?;
-    Ok(high * 65536 + low)
-}
-
 #[tactic(auto, unfolding(crate::specs::Reading::small_at))]
 #[inline(always)]
 fn small(span: u64, bits: u8, reader: &mut BitReader) -> Result<u64, PerFault>
@@ -272,7 +285,7 @@ fn small(span: u64, bits: u8, reader: &mut BitReader) -> Result<u64, PerFault>
     ensures exact { Answers (λ n. n) result reader.new (small_at span bits reader.old) }
     ensures within { IfOk result (λ n. n ≤ span) }
 {
-    let offset = number_of(bits, reader)?;
+    let offset = reader.take_bits(bits)?;
     if offset <= span {
         Ok(offset)
     } else {
@@ -280,15 +293,21 @@ fn small(span: u64, bits: u8, reader: &mut BitReader) -> Result<u64, PerFault>
     }
 }
 
-// a number in `bits` bits from the next octet on
+// a number in `octets` octets, from the next octet on
+#[tactic(auto, unfolding(crate::specs::Reading::small_at))]
 #[inline(always)]
-fn aligned(span: u64, bits: u8, reader: &mut BitReader) -> Result<u64, PerFault>
-    requires { bits ≤ 64 }
-    ensures exact { Answers (λ n. n) result reader.new (aligned_small_at span bits reader.old) }
+fn aligned(span: u64, octets: u8, reader: &mut BitReader) -> Result<u64, PerFault>
+    requires { octets ≤ 8 }
+    ensures exact { Answers (λ n. n) result reader.new (aligned_small_at span (8 * octets) reader.old) }
     ensures within { IfOk result (λ n. n ≤ span) }
 {
     reader.align()?;
-    small(span, bits, reader)
+    let offset = reader.number_here(octets)?;
+    if offset <= span {
+        Ok(offset)
+    } else {
+        Err(PerFault::Range)
+    }
 }
 
 /// Reads the offset of a number in a range whose last offset is `span` (X.691 clause 11.5); takes no memory.
@@ -301,9 +320,9 @@ pub fn offset_of(span: u64, reader: &mut BitReader) -> Result<u64, PerFault>
     if span < 255 {
         small(span, width(span), reader)
     } else if span < 256 {
-        aligned(span, 8, reader)
+        aligned(span, 1, reader)
     } else if span < 65536 {
-        aligned(span, 16, reader)
+        aligned(span, 2, reader)
     } else {
         large(span, reader)
     }
@@ -315,6 +334,7 @@ fn octets_of(n: u64) -> u8
     ensures exact { result ≡ octets_for n }
     ensures some { 1 ≤ result }
     ensures most { result ≤ 8 }
+    ensures fits { n < 2 ^ (8 * result) }
 {
     if n < 1 << 8 {
         1
@@ -335,6 +355,17 @@ fn octets_of(n: u64) -> u8
     }
 }
 
+// whether a number of `count` octets needs them all
+#[inline(always)]
+fn is_fewest(count: u8, n: u64) -> bool
+    requires some { 1 ≤ count }
+    requires most { count ≤ 8 }
+    requires fits { n < 2 ^ (8 * count) }
+    ensures { (result ≡ true) ↔ (octets_for n ≡ count) }
+{
+    count == 1 || n >= 1u64 << (8 * (count - 1))
+}
+
 #[tactic(auto, unfolding(crate::specs::Reading::large_at))]
 #[inline(always)]
 fn large(span: u64, reader: &mut BitReader) -> Result<u64, PerFault>
@@ -344,11 +375,11 @@ fn large(span: u64, reader: &mut BitReader) -> Result<u64, PerFault>
     let most = (octets_of(span) - 1) as u64;
     let count = small(most, width(most), reader)?;
     reader.align()?;
-    let offset = octets_as_number(count as u8 + 1, reader)?;
+    let offset = reader.number_here(count as u8 + 1)?;
     if offset > span {
         return Err(PerFault::Range);
     }
-    if octets_of(offset) as u64 != count + 1 {
+    if !is_fewest(count as u8 + 1, offset) {
         return Err(PerFault::NotFewest);
     }
     Ok(offset)

@@ -1,5 +1,5 @@
 -- Bits in two parts: the number of both is that of the first, and after it that of the second.
-use Rattle.std.proofs.Common.{◌≡◌, ℕ, zero, suc, ◌+◌, ◌-◌, ◌*◌, ◌/◌, ◌^◌, ◌%◌, ◌<◌, ◌≤◌, Bool, true, false, eqb, List, [], ◌∷◌, ◌++◌, length, take, drop, get_or, Result, Ok, Err, refl, sym, ap, subst, ◌∙◌, arith, append_assoc, inl, inr}
+use Rattle.std.proofs.Common.{◌≡◌, ℕ, zero, suc, ◌+◌, ◌-◌, ◌*◌, ◌/◌, ◌^◌, ◌%◌, ◌<◌, ◌≤◌, Bool, true, false, eqb, List, [], ◌∷◌, ◌++◌, length, take, drop, get_or, replicate, Result, Ok, Err, refl, sym, ap, subst, ◌∙◌, arith, append_assoc, inl, inr}
 use Rattle.std.proofs.lemmas.Bool.{lt-ltb, le-ltb, cases_lt}
 use Rattle.std.proofs.lemmas.List.{length-append, length-drop, drop-drop, drop-take, take-take, take-append-drop, length-take-le, drop_more, append-nil, flat_map_more}
 use Rattle.std.proofs.lemmas.List.{take_at as take_front, drop_at as drop_front}
@@ -9,8 +9,8 @@ use Rattle.std.proofs.lemmas.Nat.{pow_pos, pow-add, mul-add-lt, shr_below}
 use Rattle.std.proofs.Math.Nat.{add-mul, div-add-mod, mod-lt}
 use Rattle.per_streams.specs.declared.fault.PerFault.{PerFault}
 use Rattle.per_streams.specs.declared.fault.PerFault.TheVariants.{Truncated}
-use Rattle.per_streams.specs.Bits.{value, bits, octet_bits, Place, ◌>>=◌, take_at, number_bits_at, IsBytes}
-use Rattle.per_streams.specs.BitLaws.{value-bits, bits-value, length-bits}
+use Rattle.per_streams.specs.Bits.{value, bits, octet_bits, padding, pad, Place, ◌>>=◌, take_at, number_bits_at, IsBytes}
+use Rattle.per_streams.specs.BitLaws.{value-bits, bits-value, bits-zero, length-bits, length-octet_bits}
 
 pub value-append : (xs ys : List Bool) → value (xs ++ ys) ≡ value xs * 2 ^ length ys + value ys
 unfolding value
@@ -189,37 +189,67 @@ fresh_octet octets begun current left e lt bytes =
 
 -- ---- writing
 
-pub joined_fits : (used some current part : ℕ) → used + some ≤ 8 → current < 2 ^ used → part < 2 ^ some
-    → (current * 2 ^ some + part < 2 ^ (used + some)) × (current * 2 ^ some + part < 256)
-joined_fits used some current part room lt below =
+pub joined_fits : (used some current part : ℕ) → used < 8 → some ≤ 8 → current < 2 ^ used → part < 2 ^ some
+    → (current * 2 ^ some + part < 2 ^ (used + some)) × (current * 2 ^ some + part < 65536)
+joined_fits used some current part few most lt below =
     let k : current * 2 ^ some + part < 2 ^ some * 2 ^ used = mul-add-lt current (2 ^ some) part (2 ^ used) lt below in
     let both : 2 ^ some * 2 ^ used ≡ 2 ^ (used + some) = sym (pow-add 2 some used) ∙ ap (λ j. 2 ^ j) (omega arith) in
     let fits : current * 2 ^ some + part < 2 ^ (used + some) = subst (λ m. current * 2 ^ some + part < m) both k in
-    let most : 2 ^ (used + some) ≤ 2 ^ 8 = pow_mono {i = used + some} {j = 8} room in
+    let most : 2 ^ (used + some) ≤ 2 ^ 16 = pow_mono {i = used + some} {j = 16} (omega (arith, few, most)) in
     (fits, omega (arith, fits, most))
 
 -- the bits all stand in the last octet
 pub put_inside : (octets : List ℕ) (used current count number joined : ℕ)
     → bits (used + count) joined ≡ bits used current ++ bits count number
-    → (octet_bits octets ++ bits (used + count) joined) ++ bits 0 0 ≡ (octet_bits octets ++ bits used current) ++ bits count number
-unfolding bits
+    → octet_bits octets ++ bits (used + count) joined ≡ (octet_bits octets ++ bits used current) ++ bits count number
 put_inside octets used current count number joined e =
-    append-nil (octet_bits octets ++ bits (used + count) joined) ∙ ap (λ (l : List Bool). octet_bits octets ++ l) e
+    ap (λ (l : List Bool). octet_bits octets ++ l) e
     ∙ sym (append_assoc (octet_bits octets) (bits used current) (bits count number))
 
--- the last octet is full
-pub put_full : (octets : List ℕ) (used current count number room part rest joined : ℕ) → used + room ≡ 8
-    → bits (used + room) joined ≡ bits used current ++ bits room part
-    → bits count number ≡ bits room part ++ bits (count - room) rest
-    → (octet_bits (octets ++ joined ∷ []) ++ bits 0 0) ++ bits (count - room) rest
+-- the last octet is full, and the bits after it are begun
+pub put_full : (octets : List ℕ) (used current count number joined octet rest : ℕ)
+    → bits (used + count) joined ≡ bits used current ++ bits count number
+    → bits (used + count) joined ≡ bits 8 octet ++ bits (used + count - 8) rest
+    → octet_bits (octets ++ octet ∷ []) ++ bits (used + count - 8) rest
     ≡ (octet_bits octets ++ bits used current) ++ bits count number
+put_full octets used current count number joined octet rest e parts =
+    rw (sym (flat_map_more (bits 8) [] octets octet))
+    (append_assoc (octet_bits octets) (bits 8 octet) (bits (used + count - 8) rest)
+    ∙ ap (λ (l : List Bool). octet_bits octets ++ l) (sym parts)
+    ∙ put_inside octets used current count number joined e)
+
+-- a number with zero bits after it
+pub filled_fits : (used number : ℕ) → used ≤ 8 → number < 2 ^ used
+    → (number * 2 ^ (8 - used) < 256) × (bits 8 (number * 2 ^ (8 - used)) ≡ bits used number ++ bits (8 - used) 0)
+filled_fits used number le lt =
+    let k : number * 2 ^ (8 - used) + 0 < 2 ^ (8 - used) * 2 ^ used =
+    mul-add-lt number (2 ^ (8 - used)) 0 (2 ^ used) lt (pow_pos (8 - used)) in
+    let sum : used + (8 - used) ≡ 8 = omega (arith, le) in
+    let back : (8 - used) + used ≡ 8 = omega (arith, le) in
+    let both : 2 ^ (8 - used) * 2 ^ used ≡ 2 ^ 8 = sym (pow-add 2 (8 - used) used) ∙ ap (λ j. 2 ^ j) back in
+    let below : number * 2 ^ (8 - used) + 0 < 256 = subst (λ m. number * 2 ^ (8 - used) + 0 < m) both k in
+    let none : number * 2 ^ (8 - used) ≡ number * 2 ^ (8 - used) + 0 = omega arith in (
+      omega (arith, below),
+      ap (λ j. bits j (number * 2 ^ (8 - used))) (sym sum) ∙ ap (bits (used + (8 - used))) none
+          ∙ bits-join used (8 - used) number 0 lt (pow_pos (8 - used)),
+    )
+
+-- the octet in which some bits end
+pub put_filled : (octets : List ℕ) (used number octet at : ℕ) (text : List Bool) → 0 < used → used ≤ 8 → length text ≡ at
+    → octet_bits octets ++ bits used number ≡ text
+    → bits 8 octet ≡ bits used number ++ bits (8 - used) 0
+    → (octet_bits octets ++ bits 0 0) ++ bits 8 octet ≡ text ++ pad at
 unfolding bits
-put_full octets used current count number room part rest joined eight e parts =
-    let octet : bits 8 joined ≡ bits used current ++ bits room part = ap (λ k. bits k joined) (sym eight) ∙ e in
-    let text : octet_bits (octets ++ joined ∷ []) ++ [] ≡ octet_bits octets ++ (bits used current ++ bits room part) =
-    append-nil (octet_bits (octets ++ joined ∷ [])) ∙ sym (flat_map_more (bits 8) [] octets joined)
-    ∙ ap (λ (l : List Bool). octet_bits octets ++ l) octet in
-    rw (text, parts) (simp append_assoc)
+put_filled octets used number octet at text some le size e f =
+    let l = ap length e in
+    let gap : padding at ≡ 8 - used =
+    omega
+    (arith, l, size, some, le, length-append (octet_bits octets) (bits used number), length-octet_bits octets, length-bits used number) in
+    let zeros : bits (8 - used) 0 ≡ pad at = bits-zero (8 - used) ∙ ap (λ k. replicate k false) (sym gap) in
+    ap (λ (l : List Bool). l ++ bits 8 octet) (append-nil (octet_bits octets))
+    ∙ ap (λ (l : List Bool). octet_bits octets ++ l) f
+    ∙ sym (append_assoc (octet_bits octets) (bits used number) (bits (8 - used) 0))
+    ∙ ap (λ (l : List Bool). l ++ bits (8 - used) 0) e ∙ ap (λ (l : List Bool). text ++ l) zeros
 
 -- octets after whole octets
 pub put_whole : (octets more : List ℕ) (used current : ℕ) → used ≡ 0
@@ -227,26 +257,6 @@ pub put_whole : (octets more : List ℕ) (used current : ℕ) → used ≡ 0
 unfolding bits
 put_whole octets more used current none =
     rw (none, append-nil (octet_bits (octets ++ more)), append-nil (octet_bits octets)) (flat_map-append (bits 8) octets more)
-
--- a whole octet after whole octets
-pub put_eight : (octets : List ℕ) (used current count number octet rest : ℕ) → used ≡ 0
-    → bits count number ≡ bits 8 octet ++ bits (count - 8) rest
-    → (octet_bits (octets ++ octet ∷ []) ++ bits used current) ++ bits (count - 8) rest
-    ≡ (octet_bits octets ++ bits used current) ++ bits count number
-put_eight octets used current count number octet rest none parts =
-    rw (put_whole octets (octet ∷ []) used current none, parts) (simp (append_assoc, append-nil))
-
--- the last octet is filled up with zeros
-pub put_last : (octets : List ℕ) (used current joined : ℕ) → used < 8
-    → bits (used + (8 - used)) joined ≡ bits used current ++ bits (8 - used) 0
-    → octet_bits (octets ++ joined ∷ []) ++ bits 0 0 ≡ (octet_bits octets ++ bits used current) ++ bits (8 - used) 0
-unfolding bits
-put_last octets used current joined few e =
-    let eight : used + (8 - used) ≡ 8 = omega arith in
-    let octet : bits 8 joined ≡ bits used current ++ bits (8 - used) 0 = ap (λ k. bits k joined) (sym eight) ∙ e in
-    append-nil (octet_bits (octets ++ joined ∷ [])) ∙ sym (flat_map_more (bits 8) [] octets joined)
-    ∙ ap (λ (l : List Bool). octet_bits octets ++ l) octet
-    ∙ sym (append_assoc (octet_bits octets) (bits used current) (bits (8 - used) 0))
 
 pub put_more : (now after whole : List Bool) (k n m p : ℕ) → after ++ bits m p ≡ now ++ bits k n → now ++ bits k n ≡ whole
     → after ++ bits m p ≡ whole

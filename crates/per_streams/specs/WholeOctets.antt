@@ -1,6 +1,6 @@
 -- Octets one after the other are the octets at once.
-use Rattle.std.proofs.Common.{◌≡◌, ℕ, zero, suc, ◌-◌, ◌+◌, ◌*◌, ◌/◌, ◌^◌, ◌<◌, ◌≤◌, Bool, true, false, cond, ltb, eqb, ◌&&◌, List, [], ◌∷◌, ◌++◌, length, take, drop, Result, Ok, Err, refl, sym, ap, subst, ◌∙◌, append_assoc, arith, inl, inr}
-use Rattle.std.proofs.lemmas.Bool.{lt-ltb, cases_lt, ltb-false, eq-eqb, and_from}
+use Rattle.std.proofs.Common.{◌≡◌, ℕ, zero, suc, ◌-◌, ◌+◌, ◌*◌, ◌/◌, ◌^◌, ◌%◌, ◌<◌, ◌≤◌, Bool, true, false, cond, ltb, eqb, ◌&&◌, List, [], ◌∷◌, ◌++◌, length, take, drop, Result, Ok, Err, refl, sym, ap, subst, ◌∙◌, append_assoc, arith, inl, inr}
+use Rattle.std.proofs.lemmas.Bool.{lt-ltb, le-ltb, cases_lt, ltb-false, eq-eqb, and_from}
 use Rattle.per_streams.specs.Octet.{all_below}
 use Rattle.std.proofs.lemmas.List.{length-drop, drop-take, drop-drop, take-take, length-take-le, length-append, length-replicate, append-nil, take-append-drop}
 use Rattle.per_streams.specs.declared.fault.PerFault.{PerFault}
@@ -9,7 +9,7 @@ use Rattle.per_streams.specs.Bits.{padded, bits, octet_bits, padding, pad, value
 use Rattle.per_streams.specs.Each.{times}
 use Rattle.per_streams.specs.Exact.{exact_take}
 use Rattle.per_streams.specs.OctetLaws.{exact_whole_octets}
-use Rattle.per_streams.specs.PartLaws.{taken, short}
+use Rattle.per_streams.specs.PartLaws.{taken, short, bits-split, front_part}
 use Rattle.per_streams.specs.Times.{with_front}
 use Rattle.per_streams.specs.BitLaws.{bind_ok, unless_ok, okay, ok_is, value_below, bits-value, length-bits, length-octet_bits, octets-back}
 
@@ -307,3 +307,63 @@ eight_fault front left s f total le e so_far =
     let sum : 8 + (left - 8) ≡ left = omega arith in
     let none : take_at left s ≡ Err f = ap (λ k. take_at k s) (sym sum) ∙ take-parts 8 (left - 8) s ∙ rw (field_err 8 s f e) refl in
     sym so_far ∙ ap (with_front front) none
+
+-- ---- octets from an octet on
+
+pub whole_here : (n : ℕ) (s : Place) → s.at % 8 ≡ 0 → aligned_octets_at n s ≡ whole_octets_at n s
+unfolding aligned_octets_at align_at take_at value
+whole_here n s e =
+    let none : padding s.at ≡ 0 = omega arith in
+    let at : s.at + 0 ≡ s.at = omega arith in
+    rw (none, le-ltb (length s.rest) 0 (omega arith), at) refl
+
+-- ---- a number in whole octets, and the last bits of it left
+
+pub octets_number : (q : ℕ) (s t : Place) (os : List ℕ) → whole_octets_at q s ≡ Ok (os, t)
+    → number_bits_at (8 * q) s ≡ Ok (value (octet_bits os), t)
+octets_number q s t os e = rw (octets_taken q s t os e).0 refl
+
+taken_err : (k : ℕ) (s : Place) (f : PerFault) → take_at k s ≡ Err f → (length s.rest < k) × (f ≡ Truncated)
+taken_err k s f e = elim (cases_lt (length s.rest) k) [
+  | inl few ↦ (few, let both = rw (short k s few) at e in cc)
+  | inr room ↦ let read = rw (taken k s room) at e in absurd cc
+]
+
+pub octets_no_number : (q : ℕ) (s : Place) (f : PerFault) → whole_octets_at q s ≡ Err f → number_bits_at (8 * q) s ≡ Err f
+octets_no_number q s f e = rw (octets_failed q s f e) refl
+
+-- octets are left, but too few for some bits
+pub octets_short : (count : ℕ) (s : Place) (f : PerFault) → length s.rest % 8 ≡ 0 → number_bits_at (8 * ((count + 7) / 8)) s ≡ Err f
+    → number_bits_at count s ≡ Err f
+octets_short count s f whole e =
+    let octets : ℕ = (count + 7) / 8 in
+    let k = taken_err (8 * octets) s f (field_err (8 * octets) s f e) in
+    let few = k.0 in
+    rw (short count s (omega (arith, whole, few)), k.1) refl
+
+-- where a number ends
+pub number_ends : (k n : ℕ) (s t : Place) → number_bits_at k s ≡ Ok (n, t) → t.at ≡ s.at + k
+number_ends k n s t e =
+    let took = (exact_take k).takes s t (bits k n) (field_ok k s n t e) in
+    let size = ap length took.spelled.0 in
+    let at = took.at in
+    omega (arith, at, size, length-bits k n)
+
+pub left_back : (whole count n : ℕ) (s t : Place) → count ≤ whole → number_bits_at whole s ≡ Ok (n, t)
+    → number_bits_at count s
+    ≡ Ok (
+      n / 2 ^ (whole - count),
+      record { at = t.at - (whole - count); rest = bits (whole - count) (n % 2 ^ (whole - count)) ++ t.rest },
+    )
+left_back whole count n s t le e =
+    let more : ℕ = whole - count in
+    let took = (exact_take whole).takes s t (bits whole n) (field_ok whole s n t e) in
+    let split = bits-split whole count n le (bits_below whole s n t e) in
+    let high : List Bool = bits count (n / 2 ^ more) in
+    let low : List Bool = bits more (n % 2 ^ more) in
+    let text : s.rest ≡ high ++ (low ++ t.rest) =
+    took.parts ∙ ap (λ (l : List Bool). l ++ t.rest) (took.spelled.0 ∙ split.0) ∙ append_assoc high low t.rest in
+    let size = ap length took.spelled.0 in
+    let at = took.at in
+    let place : s.at + count ≡ t.at - more = omega (arith, at, size, length-bits whole n, le) in
+    front_part count (n / 2 ^ more) s.at (t.at - more) s.rest (low ++ t.rest) split.1 text place

@@ -75,6 +75,9 @@ impl<'a> BitReader<'a> {
             let (_, part) = self.take_part(count)?;
             return Ok(u64::from(part));
         }
+        if self.left == 0 {
+            return self.take_from_octets(count);
+        }
         self.take_parts(count)
     }
 
@@ -84,6 +87,34 @@ impl<'a> BitReader<'a> {
         ensures { (result ≡ true) ↔ ((0 < count) × (count ≤ 8 - self.now.at % 8)) }
     {
         0 < count && (count <= self.left || self.left == 0 && count <= 8)
+    }
+
+    // at an octet: reads as many octets as hold `count` bits, and leaves the bits of the last of them that are more
+    #[inline(always)]
+    fn take_from_octets(&mut self, count: u8) -> Result<u64, PerFault>
+        requires most { count ≤ 64 }
+        requires whole { self.old.at % 8 ≡ 0 }
+        requires octets { length self.old.rest % 8 ≡ 0 }
+        ensures { Answers (λ n. n) result self.new (number_bits_at count self.old) }
+    {
+        let octets = (count + 7) / 8;
+        let number = self.number_here(octets)?;
+        let more = 8 * octets - count;
+        self.leave(more, (number % (1u64 << more)) as u8);
+        Ok(number >> more)
+    }
+
+    // at an octet: the last `count` bits of the octet before it, as a number, are still to be read
+    #[inline(always)]
+    fn leave(&mut self, count: u8, number: u8)
+        requires whole { self.old.at % 8 ≡ 0 }
+        requires few { count < 8 }
+        requires before { count ≤ self.old.at }
+        requires fits { number < 2 ^ count }
+        ensures { self.new ≡ record { at = self.old.at - count; rest = bits count number ++ self.old.rest } }
+    {
+        self.current = number;
+        self.left = count;
     }
 
     fn take_parts(&mut self, count: u8) -> Result<u64, PerFault>
@@ -144,7 +175,7 @@ impl<'a> BitReader<'a> {
         ensures { Answers (λ s. s.now) result self.new (aligned_octets_at count self.old) }
     {
         self.align()?;
-        self.whole_octets(count)
+        self.octets_here(count)
     }
 
     /// The end of a complete encoding: zero up to the next octet, else Padding, and nothing after it, else Trailing.
@@ -174,7 +205,7 @@ impl<'a> BitReader<'a> {
         ensures err { OnErr result (out.new ≡ out.old) }
     {
         if self.left == 0 {
-            let octets = self.whole_octets(out.len())?;
+            let octets = self.octets_here(out.len())?;
             out.copy_from_slice(octets);
             return Ok(());
         }
@@ -216,8 +247,9 @@ impl<'a> BitReader<'a> {
         self.begun += 2;
     }
 
-    // at an octet
-    fn whole_octets(&mut self, count: usize) -> Result<&'a [u8], PerFault>
+    /// `count` octets, where the place is at an octet, lent by the encoding; fewer left is Truncated.
+    #[inline(always)]
+    pub fn octets_here(&mut self, count: usize) -> Result<&'a [u8], PerFault>
         requires { self.old.at % 8 ≡ 0 }
         ensures { Answers (λ s. s.now) result self.new (whole_octets_at count self.old) }
     {
@@ -227,6 +259,17 @@ impl<'a> BitReader<'a> {
         }
         self.begun += count;
         Ok(&rest[..count])
+    }
+
+    /// The number that `count` octets stand for, the first of them the highest, where the place is at an octet; at most 8.
+    #[inline(always)]
+    pub fn number_here(&mut self, count: u8) -> Result<u64, PerFault>
+        requires most { count ≤ 8 }
+        requires whole { self.old.at % 8 ≡ 0 }
+        ensures { Answers (λ n. n) result self.new (number_bits_at (8 * count) self.old) }
+    {
+        let octets = self.octets_here(count as usize)?;
+        Ok(number_of_octets(octets))
     }
 }
 
@@ -263,4 +306,17 @@ fn with_part(number: u64, some: u8, part: u8) -> u64
     ensures { result ≡ number * 2 ^ some + part }
 {
     number * (1u64 << some) + part as u64
+}
+
+/// The number that at most eight octets stand for, the first of them the highest.
+#[inline(always)]
+fn number_of_octets(octets: &[u8]) -> u64
+    requires { length octets.now ≤ 8 }
+    ensures { result ≡ value (octet_bits octets.now) }
+{
+    let mut number = 0u64;
+    for octet in octets {
+        number = number * 256 + u64::from(*octet);
+    }
+    number
 }

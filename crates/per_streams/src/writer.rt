@@ -81,15 +81,63 @@ impl BitWriter {
         ensures ok { OnOk result (self.new ≡ self.old ++ bits count number) }
         ensures memory { OnErr result (result ≡ Err NoMemory) }
     {
-        if count < 8 - self.used {
-            self.current = joined(self.current, self.used, number as u8, count);
-            self.used += count;
-            return Ok(());
+        if count <= 8 {
+            return self.put_few(count, number as u8);
+        }
+        if count <= 16 {
+            let (first, others) = split_number(number, count, 8);
+            self.put_few(8, first)?;
+            return self.put_few(count - 8, others as u8);
         }
         self.put_parts(count, number)
     }
 
-    // a number part by part, each up to the end of an octet
+    // a number of eight bits at most: the octet that is begun, and where it becomes full, the next
+    #[inline(always)]
+    fn put_few(&mut self, count: u8, number: u8) -> Result<(), PerError>
+        requires count { count ≤ 8 }
+        requires fits { number < 2 ^ count }
+        ensures ok { OnOk result (self.new ≡ self.old ++ bits count number) }
+        ensures memory { OnErr result (result ≡ Err NoMemory) }
+    {
+        let used = self.used + count;
+        let both = joined(self.current, self.used, number, count);
+        if used < 8 {
+            self.current = both as u8;
+            self.used = used;
+            return Ok(());
+        }
+        let (octet, rest) = split_number(both as u64, used, 8);
+        self.octets.push(octet)?;
+        self.current = rest as u8;
+        self.used = used - 8;
+        Ok(())
+    }
+
+    /// The octet in which a number in `count` bits ends, filled up with zero bits, for the caller to write; what stands in the
+    /// octets before it is written.
+    #[inline(always)]
+    pub fn fill_octet(&mut self, count: u8, number: u8) -> Result<u8, PerError>
+        requires some { 0 < count }
+        requires count { count ≤ 8 }
+        requires fits { number < 2 ^ count }
+        ensures ok { IfOk result (λ octet. self.new ++ bits 8 octet ≡ (self.old ++ bits count number) ++ pad (length self.old + count)) }
+        ensures whole { IfOk result (λ _. length self.new % 8 ≡ 0) }
+        ensures memory { OnErr result (result ≡ Err NoMemory) }
+    {
+        let used = self.used + count;
+        let both = joined(self.current, self.used, number, count);
+        self.current = 0;
+        self.used = 0;
+        if used <= 8 {
+            return Ok(filled(both, used));
+        }
+        let (octet, last) = split_number(both as u64, used, 8);
+        self.octets.push(octet)?;
+        Ok(filled(last as u16, used - 8))
+    }
+
+    // a number of more than sixteen bits, eight at a time
     fn put_parts(&mut self, count: u8, number: u64) -> Result<(), PerError>
         requires count { count ≤ 64 }
         requires fits { number < 2 ^ count }
@@ -98,41 +146,13 @@ impl BitWriter {
     {
         let mut rest = number;
         let mut wanted = count;
-        while wanted > 0 {
-            let (left, lower) = self.put_part(wanted, rest)?;
-            wanted = left;
+        while wanted > 8 {
+            let (part, lower) = split_number(rest, wanted, 8);
+            self.put_few(8, part)?;
+            wanted -= 8;
             rest = lower;
         }
-        Ok(())
-    }
-
-    // the first of a number's bits, up to the end of an octet: how many are left, and the number that they stand for
-    fn put_part(&mut self, count: u8, number: u64) -> Result<(u8, u64), PerError>
-        requires some { 0 < count }
-        requires count { count ≤ 64 }
-        requires fits { number < 2 ^ count }
-        ensures put { IfOk result (λ p. self.new ++ bits p.0 p.1 ≡ self.old ++ bits count number) }
-        ensures less { IfOk result (λ p. p.0 < count) }
-        ensures fits { IfOk result (λ p. p.1 < 2 ^ p.0) }
-        ensures memory { OnErr result (result ≡ Err NoMemory) }
-    {
-        if self.used == 0 && count >= 8 {
-            let (octet, rest) = split_number(number, count, 8);
-            self.octets.push(octet)?;
-            return Ok((count - 8, rest));
-        }
-        let room = 8 - self.used;
-        if count < room {
-            self.current = joined(self.current, self.used, number as u8, count);
-            self.used += count;
-            return Ok((0, 0));
-        }
-        let (part, rest) = split_number(number, count, room);
-        let octet = joined(self.current, self.used, part, room);
-        self.octets.push(octet)?;
-        self.current = 0;
-        self.used = 0;
-        Ok((count - room, rest))
+        self.put_few(wanted, rest as u8)
     }
 }
 
@@ -147,10 +167,7 @@ impl BitWriter {
         if used == 0 {
             return Ok(());
         }
-        self.octets.push(joined(self.current, used, 0, 8 - used))?;
-        self.current = 0;
-        self.used = 0;
-        Ok(())
+        self.put_few(8 - used, 0)
     }
 
     /// One octet, after the bits so far.
@@ -173,13 +190,25 @@ impl BitWriter {
         ensures memory { OnErr result (result ≡ Err NoMemory) }
     {
         if self.used == 0 {
-            self.octets.extend_from_slice(octets)?;
-            return Ok(());
+            return self.put_whole(octets);
         }
         self.put_each(octets)
     }
 
-    // octets where the last octet is not full
+    /// Octets, where the place is at an octet.
+    #[inline(always)]
+    pub fn put_whole(&mut self, octets: &[u8]) -> Result<(), PerError>
+        requires { length self.old % 8 ≡ 0 }
+        ensures ok { OnOk result (self.new ≡ self.old ++ octet_bits octets.now) }
+        ensures memory { OnErr result (result ≡ Err NoMemory) }
+    {
+        self.octets.extend_from_slice(octets)?;
+        Ok(())
+    }
+
+    // octets where the last octet is not full; cold, as the octets of a message mostly stand at an octet
+    #[cold]
+    #[inline(never)]
     fn put_each(&mut self, octets: &[u8]) -> Result<(), PerError>
         ensures ok { OnOk result (self.new ≡ self.old ++ octet_bits octets.now) }
         ensures memory { OnErr result (result ≡ Err NoMemory) }
@@ -193,6 +222,7 @@ impl BitWriter {
 
 impl BitWriter {
     /// The octets, the last of them filled up with zero bits.
+    #[inline(always)]
     pub fn finish(mut self) -> Result<Vec<u8>, PerError>
         ensures ok { IfOk result (λ v. v.items ≡ padded self) }
         ensures memory { OnErr result (result ≡ Err NoMemory) }
@@ -240,14 +270,26 @@ fn with_bit(current: u8, used: u8, bit: bool) -> u8
 }
 
 /// A number of `used` bits and after it one of `some` bits, as one number.
-fn joined(current: u8, used: u8, part: u8, some: u8) -> u8
-    requires room { used + some ≤ 8 }
+#[inline(always)]
+fn joined(current: u8, used: u8, part: u8, some: u8) -> u16
+    requires used { used < 8 }
+    requires some { some ≤ 8 }
     requires fits { current < 2 ^ used }
     requires part { part < 2 ^ some }
     ensures bits { bits (used + some) result ≡ bits used current ++ bits some part }
     ensures fits { result < 2 ^ (used + some) }
 {
-    (current as u16 * (1u16 << some) + part as u16) as u8
+    current as u16 * (1u16 << some) + part as u16
+}
+
+/// A number of `used` bits and after it zero bits, as an octet.
+#[inline(always)]
+fn filled(number: u16, used: u8) -> u8
+    requires used { used ≤ 8 }
+    requires fits { number < 2 ^ used }
+    ensures { bits 8 result ≡ bits used number ++ bits (8 - used) 0 }
+{
+    (number * (1u16 << (8 - used))) as u8
 }
 
 /// The first bits of a number of `left` bits, and the others, each as a number.

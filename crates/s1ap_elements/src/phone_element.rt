@@ -26,6 +26,8 @@ impl<'a> Element<'a> for Tai {
 
     ghost view = { typed_tai };
 
+    // inlined, as it is an element of most messages
+    #[inline(always)]
     fn read(alloc: Global, reader: &mut BitReader<'a>) -> Result<Self, PerError> {
         match read_two::<Plmn, Tac>(alloc, reader) {
             Ok((plmn, tac)) => Ok(Tai { plmn, tac }),

@@ -17,7 +17,7 @@ use Rattle.per_bits.proofs.WrittenLaws.{put_if}
 use Rattle.s1ap_rows.specs.declared.criticality.Criticality.{Criticality}
 use Rattle.s1ap_rows.specs.Criticalities.{criticality_number}
 use Rattle.s1ap_rows.specs.Rows.{Rows, ie, end, needed, optional, unkept, Kept}
-use Rattle.s1ap_rows.specs.Writing.{write_element, count_of, write_rows, write_message, write_frame, write_front, write_pdu, write_head, write_content}
+use Rattle.s1ap_rows.specs.Writing.{write_element, count_of, write_rows, write_message, write_frame, write_front, write_pdu, write_head}
 use Rattle.s1ap_rows.proofs.Fronts.{front_written, head_of, head_octets, head_refused, head_written}
 
 abbrev Out : Type 0
@@ -25,6 +25,12 @@ Out = Result (List Bool) PerFault
 
 abbrev Whole : Type 0
 Whole = Result (List ℕ) PerFault
+
+-- the octets of a message after their length
+abbrev write_content : (rs : Rows) → Kept rs → List Bool → Out
+write_content rs v out = do
+  os ← write_whole (write_message rs) v
+  write_string os out
 
 -- ---- what is written is the same wherever an octet is begun
 

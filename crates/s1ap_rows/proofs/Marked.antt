@@ -1,8 +1,8 @@
--- The criticality of an element and the octets of its value, where two octets stand before these.
-use Rattle.std.proofs.Common.{◌≡◌, ℕ, zero, suc, ◌+◌, ◌-◌, ◌*◌, ◌/◌, ◌%◌, ◌^◌, ◌<◌, ◌≤◌, Bool, false, List, ◌++◌, length, drop, replicate, Ok, refl, sym, ap, ◌∙◌, append_assoc, arith}
+-- The octets of an element's value, where its criticality and their count are the two octets before them.
+use Rattle.std.proofs.Common.{◌≡◌, ℕ, ◌+◌, ◌-◌, ◌*◌, ◌/◌, ◌%◌, ◌^◌, ◌<◌, ◌≤◌, Bool, false, List, ◌++◌, length, drop, replicate, Ok, refl, sym, ap, ◌∙◌, append_assoc, arith}
 use Rattle.std.proofs.lemmas.Bool.{lt-ltb}
 use Rattle.std.proofs.lemmas.List.{append-nil, length-append, length-replicate}
-use Rattle.per_streams.specs.Bits.{Place, ◌>>=◌, bits, octet_bits, pad, padding, length_at, open_at, aligned_octets_at}
+use Rattle.per_streams.specs.Bits.{Place, bits, octet_bits, pad, padding, length_at, open_at, aligned_octets_at}
 use Rattle.per_streams.specs.BitLaws.{bits-zero, length-bits}
 use Rattle.per_streams.specs.PartLaws.{bits-join}
 use Rattle.per_streams.specs.TwoOctets.{past_two, Stand}
@@ -10,14 +10,7 @@ use Rattle.per_numbers.specs.Numbers.{offset_bits, width_of, whole}
 use Rattle.per_numbers.specs.Reading.{number_at}
 use Rattle.per_bits.specs.Spelling.{length_octets}
 use Rattle.per_bits.specs.FormatLaws.{exact_number, exact_length}
-use Rattle.s1ap_rows.specs.Criticalities.{criticality_number, criticality_named}
 use Rattle.s1ap_rows.specs.Reading.{marked_at}
-
-pub number_again : (k : ℕ) → k ≤ 2 → criticality_number (criticality_named k) ≡ k
-number_again zero few = refl
-number_again (suc zero) few = refl
-number_again (suc (suc zero)) few = refl
-number_again (suc (suc (suc k))) few = absurd (omega (arith, few))
 
 two_bits : (k at : ℕ) → bits 2 k ≡ whole 0 2 k at
 unfolding offset_bits width_of
@@ -27,7 +20,7 @@ one_octet : (n : ℕ) → n < 128 → octet_bits (length_octets n) ≡ bits 8 n
 one_octet n few = rw (lt-ltb n 128 few) (append-nil (bits 8 n))
 
 pub marked_is : (mark count : ℕ) (s : Place) → Stand mark count s → mark % 64 ≡ 0 → mark / 64 ≤ 2 → count < 128
-    → marked_at s ≡ (aligned_octets_at count (past_two s) >>= λ os. Ok ((mark / 64, os.0), os.1))
+    → marked_at s ≡ aligned_octets_at count (past_two s)
 unfolding open_at
 marked_is mark count s h zeros few short =
     let k : ℕ = mark / 64 in

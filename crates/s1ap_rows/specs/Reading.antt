@@ -22,12 +22,11 @@ abbrev pub syntax_of : {A : Type 0} → Result A PerFault → Result A S1apFault
 syntax_of (Ok x) = Ok x
 syntax_of (Err e) = Err (Syntax e)
 
--- an element after its id: its criticality, and the octets of its value
-abbrev pub marked_at : Place → Result ((ℕ × List ℕ) × Place) PerFault
+-- the octets of an element's value, after its id: its criticality stands before them, and says nothing of a row's element
+abbrev pub marked_at : Place → Result (List ℕ × Place) PerFault
 marked_at s = do
   criticality ← number_at 0 2 s
-  os ← open_at criticality.1
-  Ok ((criticality.0, os.0), os.1)
+  open_at criticality.1
 
 -- an element of no row, after its id
 abbrev pub pass_at : ℕ → Place → Result (Unit {0} × Place) S1apFault

@@ -70,9 +70,3 @@ abbrev pub write_front : ℕ → ℕ → ℕ → ℕ → Result (List Bool) PerF
 write_front kind code c count = do
   head ← write_head kind code c []
   write_number 0 65535 count (((head ++ pad (length head)) ++ bits 8 0) ++ false ∷ [])
-
--- the octets of a message after their length
-abbrev pub write_content : (rs : Rows) → Kept rs → List Bool → Result (List Bool) PerFault
-write_content rs v out = do
-  os ← write_whole (write_message rs) v
-  write_string os out

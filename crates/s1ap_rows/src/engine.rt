@@ -33,7 +33,23 @@ const CSG_ID: u16 = 127;
 const CSG_ID_LIST: u16 = 128;
 
 /// An element of a row; refused, what was read of the row is as it was.
+// inlined, so that the place of its answer is cleared only where the element is the row's
+#[inline(always)]
 pub fn fill<'a, T: Element<'a>>(
+    alloc: Global,
+    id: u16,
+    slot: &mut Option<T>,
+    reader: &mut BitReader<'a>,
+) -> Result<(), S1apFault>
+    ensures reads { Reads result (option_map T.view slot.new, reader.new)
+        (fill_slot T.format id (option_map T.view slot.old) reader.old) }
+    ensures err { OnErr result (option_map T.view slot.new ≡ option_map T.view slot.old) }
+{
+    fill_slot(alloc, id, slot, reader)
+}
+
+// the element, read where there is none so far
+fn fill_slot<'a, T: Element<'a>>(
     alloc: Global,
     id: u16,
     slot: &mut Option<T>,
@@ -46,23 +62,22 @@ pub fn fill<'a, T: Element<'a>>(
     if slot.is_some() {
         return Err(S1apFault::RepeatedElement(id));
     }
-    let (_, octets) = take_marked(reader)?;
+    let octets = take_marked(reader)?;
     let value = read_complete::<T>(alloc, octets)?;
     *slot = Some(value);
     Ok(())
 }
 
-// The criticality of an element and the octets of its value; mostly two octets stand before these, the second their count.
+// The octets of an element's value, after its criticality; mostly two octets stand before these, the second their count.
 #[inline(always)]
-fn take_marked<'a>(reader: &mut BitReader<'a>) -> Result<(Criticality, &'a [u8]), PerFault>
-    ensures { Answers (λ p. (criticality_number p.0, p.1.now)) result reader.new (marked_at reader.old) }
+fn take_marked<'a>(reader: &mut BitReader<'a>) -> Result<&'a [u8], PerFault>
+    ensures { Answers (λ os. os.now) result reader.new (marked_at reader.old) }
 {
     if let Some(head) = reader.next_two() {
         let [mark, count] = head;
         if is_mark(mark) && count < SHORT_END {
             reader.pass_two();
-            let octets = reader.take_octets(count as usize)?;
-            return Ok((Criticality::named(mark / 64), octets));
+            return reader.octets_here(count as usize);
         }
     }
     take_mark_apart(reader)
@@ -76,14 +91,21 @@ fn is_mark(octet: u8) -> bool
     octet % 64 == 0 && octet / 64 <= 2
 }
 
-// where the head is any other; out of line, as it would make every read of an element large
-#[inline(never)]
-fn take_mark_apart<'a>(reader: &mut BitReader<'a>) -> Result<(Criticality, &'a [u8]), PerFault>
-    ensures { Answers (λ p. (criticality_number p.0, p.1.now)) result reader.new (marked_at reader.old) }
+// where the head is any other; a function between, since the place of a call's answer is cleared where its caller begins
+#[inline(always)]
+fn take_mark_apart<'a>(reader: &mut BitReader<'a>) -> Result<&'a [u8], PerFault>
+    ensures { Answers (λ os. os.now) result reader.new (marked_at reader.old) }
 {
-    let criticality = take_criticality(reader)?;
-    let octets = take_open(reader)?;
-    Ok((criticality, octets))
+    take_any_mark(reader)
+}
+
+// out of line, as it would make every read of an element large
+#[inline(never)]
+fn take_any_mark<'a>(reader: &mut BitReader<'a>) -> Result<&'a [u8], PerFault>
+    ensures { Answers (λ os. os.now) result reader.new (marked_at reader.old) }
+{
+    take_criticality(reader)?;
+    take_open(reader)
 }
 
 // Whether an element of no row is passed over.

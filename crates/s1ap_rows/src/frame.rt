@@ -68,6 +68,7 @@ pub fn read_frame<'a>(octets: &'a [u8]) -> Result<Frame<'a>, PerFault>
 /// for the length of what follows it, and how many elements there are.
 ///
 /// Range for a kind above 2.
+#[inline(always)]
 pub fn put_front(
     kind: u8,
     code: u8,

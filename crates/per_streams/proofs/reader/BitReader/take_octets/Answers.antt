@@ -10,9 +10,9 @@ returns-in_err-align c =
     let p = err_from_is_err_and c.from_residual.result c.from_residual.ensures.1 in
     rw (p.1, p.2, c.in_err-align.ensures) refl
 
-pub whole_octets-requires : goal.whole_octets-requires
-whole_octets-requires c = aligned_at _ _ c.in_ok-align.ensures
+pub octets_here-requires : goal.octets_here-requires
+octets_here-requires c = aligned_at _ _ c.in_ok-align.ensures
 
 pub returns : goal.returns
 unfolding aligned_octets_at
-returns c = rw c.in_ok-align.ensures c.whole_octets.ensures
+returns c = rw c.in_ok-align.ensures c.octets_here.ensures

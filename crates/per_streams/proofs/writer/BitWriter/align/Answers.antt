@@ -1,7 +1,5 @@
-use Rattle.std.proofs.Common.{◌++◌, ap, List, Bool, arith, length}
-use Rattle.per_streams.specs.Bits.{pad}
+use Rattle.std.proofs.Common.{arith}
 use Rattle.per_streams.specs.BitLaws.{no_pad, pad_here}
-use Rattle.per_streams.specs.PartLaws.{put_last}
 use Rattle.per_streams.proofs.writer.BitWriter.align.Goals as goal
 
 pub returns-then-used-eq0-clause-ok : goal.returns-then-used-eq0-clause-ok
@@ -15,9 +13,4 @@ returns-clause-ok c =
     let f = c.if-used-eq0.false in
     let padding_is =
     pad_here c.args.self.now w.octets.items w.used w.current c.self.view_is c.self.invariant.0 (omega (arith, f)) in
-    rw (
-      c.in_ok-push.ensures.items,
-      put_last w.octets.items w.used w.current c.joined.result c.self.invariant.0 c.joined.ensures.bits,
-      padding_is,
-    )
-    (ap (λ (l : List Bool). l ++ pad (length c.args.self.now)) c.self.view_is)
+    rw (← padding_is) c.put_few.ensures.ok
