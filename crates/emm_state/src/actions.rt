@@ -132,8 +132,23 @@ impl Draft {
         })
     }
 
-    /// The same of a message that goes to one station, and ends here.
+    // The same, out of line.
     #[inline(never)]
+    fn emit_from(
+        &mut self,
+        alloc: Global,
+        station: StationNumber,
+        message: &S1apPdu,
+        under: Option<Mark>,
+    ) -> Result<(), AllocError>
+        ensures after { OnOk result (self.new ≡ emit station (lists message.now) under self.old) }
+        ensures err { OnErr result (self.new ≡ self.old) }
+    {
+        self.emit_lent(alloc, station, message, under)
+    }
+
+    /// The same of a message that goes to one station, and ends here. It is inlined, so that the message isn't moved.
+    #[inline(always)]
     pub fn emit(
         &mut self,
         alloc: Global,
@@ -144,7 +159,7 @@ impl Draft {
         ensures after { OnOk result (self.new ≡ emit station (lists message.entry) under self.old) }
         ensures err { OnErr result (self.new ≡ self.old) }
     {
-        self.emit_lent(alloc, station, &message, under)
+        self.emit_from(alloc, station, &message, under)
     }
 
     // Two messages to one station, or neither.

@@ -58,18 +58,6 @@ pub struct Context {
 }
 
 impl Context {
-    // The same once more.
-    fn copy(&self) -> Context
-        ensures { result ≡ self.now }
-    {
-        Context {
-            place: self.place,
-            security: self.security,
-            kasme: self.kasme.copy(),
-            radio: self.radio.copy(),
-        }
-    }
-
     // Zeros stand in place of its keys. It is out of line, so that it is done also where nobody looks at the context again.
     #[inline(never)]
     fn forget(&mut self)
@@ -308,10 +296,10 @@ pub struct Solo {
 fn forget(context: &mut Option<Context>)
     ensures { context.new ≡ None }
 {
-    if let Some(context) = context {
-        context.forget();
+    if let Some(ending) = context {
+        ending.forget();
+        *context = None;
     }
-    *context = None;
 }
 
 // A security context is copied where there is none. It is out of line, so that a step in a box that has one doesn't clear its
@@ -320,7 +308,12 @@ fn forget(context: &mut Option<Context>)
 fn place_context(to: &mut Option<Context>, from: &Context)
     ensures { to.new ≡ Some from.now }
 {
-    *to = Some(from.copy());
+    *to = Some(Context {
+        place: from.place,
+        security: from.security,
+        kasme: from.kasme.copy(),
+        radio: from.radio.copy(),
+    });
 }
 
 // A security context, of some 600 octets, is copied where it is to stand.
@@ -335,7 +328,7 @@ fn copy_context(to: &mut Option<Context>, from: &Option<Context>)
         Some(to) => {
             to.place = from.place;
             to.security = from.security;
-            to.kasme = from.kasme.copy();
+            to.kasme.copy_from(&from.kasme);
             to.radio = from.radio.copy();
         }
         None => place_context(to, from),
@@ -357,10 +350,10 @@ impl Solo {
     pub(crate) fn with_repeat(&self, repeat: Option<Repeat>) -> Solo
         ensures { result ≡ record self.now { repeat = repeat } }
     {
-        let context = match &self.context {
-            Some(context) => Some(context.copy()),
-            None => None,
-        };
+        let mut context = None;
+        if let Some(from) = &self.context {
+            place_context(&mut context, from);
+        }
         Solo {
             phase: self.phase,
             connection: self.connection,

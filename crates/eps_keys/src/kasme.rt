@@ -20,6 +20,14 @@ fn hasher_copy(hasher: &Sha256) -> Sha256
     }
 }
 
+// A copy of a hasher stands where another hasher stood. No temporary is moved there, as a returned copy is.
+#[inline(always)]
+fn place_hasher(to: &mut Sha256, from: &Sha256)
+    ensures { to.new ≡ from.now }
+{
+    let _ = to.clone_from(from);
+}
+
 /// KASME, 32 octets, of which every other key comes (TS 33.401 clause 6.2); a contract sees its octets. It is kept with its block
 /// under each of the two masks of HMAC hashed (RFC 2104 section 4), so that a key is derived by two blocks of SHA-256 in place of
 /// four. It is neither copied unsaid nor printed nor compared.
@@ -69,6 +77,16 @@ impl Kasme {
         }
     }
 
+    /// It is the same key as another one, which is copied where this one stands; takes no memory.
+    pub fn copy_from(&mut self, other: &Kasme)
+        ensures { self.new ≡ other.now }
+    {
+        self.key = other.key;
+        place_hasher(&mut self.inner, &other.inner);
+        place_hasher(&mut self.outer, &other.outer);
+        self.is_hashed = other.is_hashed;
+    }
+
     /// Zeros stand in place of the key and of what was hashed of it; takes no memory.
     pub fn forget(&mut self)
         ensures { self.new ≡ replicate 32 0 }
@@ -79,13 +97,13 @@ impl Kasme {
         self.is_hashed = false;
     }
 
-    // The HMAC of a message under it: from copies of what is hashed.
+    // The HMAC of a message under it: from what is hashed.
     #[tactic(auto, unfolding(crate::specs::Hmac::hmac_sha256))]
     fn mac(&self, message: &[u8]) -> [u8; 32]
         ensures { result ≡ hmac_sha256 self.now message.now }
     {
         if self.is_hashed {
-            mac_from(hasher_copy(&self.inner), hasher_copy(&self.outer), message)
+            mac_from(&self.inner, &self.outer, message)
         } else {
             hmac_sha256(&self.key, message)
         }
