@@ -60,6 +60,21 @@ impl Replies {
         }
     }
 
+    /// The reply to an event that was taken stands in their place. Where they were such a reply too, what it sent is answered, and else
+    /// they are forgotten.
+    pub(crate) fn exchange(&mut self, outs: Outs) -> Option<Outs>
+        ensures { self.new ≡ Ok outs ∷ [] }
+    {
+        let before = mem::replace(self, Replies::one(outs));
+        match before.room {
+            Room::One(sent) => Some(sent),
+            Room::Each(replies) => {
+                forget_each(replies);
+                None
+            }
+        }
+    }
+
     /// Others stand in their place, and they are forgotten.
     pub(crate) fn give_way(&mut self, others: Replies)
         ensures { self.new ≡ others }
@@ -71,13 +86,7 @@ impl Replies {
     fn forget(self) {
         match self.room {
             Room::One(outs) => outs.forget(),
-            Room::Each(replies) => {
-                for reply in replies {
-                    if let Ok(outs) = reply {
-                        outs.forget();
-                    }
-                }
-            }
+            Room::Each(replies) => forget_each(replies),
         }
     }
 
@@ -107,6 +116,15 @@ impl Replies {
                 Some(reply) => Some(lent_reply(reply)),
                 None => None,
             },
+        }
+    }
+}
+
+// Nobody asks for them any more.
+fn forget_each(replies: Vec<Result<Outs, StepFault>>) {
+    for reply in replies {
+        if let Ok(outs) = reply {
+            outs.forget();
         }
     }
 }

@@ -173,7 +173,9 @@ impl Session {
         };
         match mme.step(event) {
             Ok(outs) => {
-                self.replies.give_way(Replies::one(outs));
+                if let Some(before) = self.replies.exchange(outs) {
+                    mme.take_back(before);
+                }
                 Ok(())
             }
             Err(fault) => Err(of_step(fault)),

@@ -26,7 +26,7 @@ pages None = false
 pages (Some (repeats.Nas protection nas)) = false
 pages (Some (repeats.Paging es)) = true
 
--- a message that is never acted on, and one that isn't on the connection
+-- UE CONTEXT RELEASE COMPLETE, and on the connection what a station only tells
 abbrev pub is_idle : UeBody (List ℕ) → UeMessage (List ℕ) → Solo → Bool
 is_idle UeContextReleaseComplete m solo = true
 is_idle Notice m solo = has_connection_id m (untouched solo) && has_pair m (untouched solo)

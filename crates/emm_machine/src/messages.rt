@@ -68,7 +68,7 @@ fn checked(
     }
 }
 
-/// Whether a message isn't acted on: UE CONTEXT RELEASE COMPLETE, and a notice on the connection.
+/// Whether a message is UE CONTEXT RELEASE COMPLETE or, on the connection, what a station only tells.
 pub(crate) fn is_idle(draft: &Draft, message: &UeMessage<&[u8]>) -> bool
     ensures { result ≡ is_idle (message_lists message.now).body (message_lists message.now) draft.now.solo }
 {

@@ -312,6 +312,9 @@ impl Subscriber {
         requires { AreAbove ticks (countdowns self.old.solo) }
         ensures { self.new ≡ record self.old { solo = ticks_after self.old.setting ticks self.old.solo } }
     {
+        if ticks == 0 {
+            return;
+        }
         age(&mut self.state.solo, ticks);
     }
 

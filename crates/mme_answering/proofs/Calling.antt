@@ -3,7 +3,8 @@ use Rattle.std.proofs.Common.{◌≡◌, ◌≢◌, ℕ, suc, zero, ◌+◌, ◌
 use Rattle.std.specs.Prelude.{slice_get, option_map}
 use Rattle.std.proofs.lemmas.Bool.Decides.{nat_tests}
 use Rattle.std.proofs.lemmas.List.{append-nil}
-use Rattle.mme_types.specs.Events.{Item, Nothing}
+use Rattle.mme_types.specs.Events.{Item, Message, Nothing}
+use Rattle.mme_answering.specs.Settled.{is_seen_still}
 use Rattle.emm_state.specs.Actions.{untouched}
 use Rattle.emm_machine.specs.Laws.{still_stays}
 use Rattle.emm_machine.specs.Still.{still}
@@ -116,13 +117,18 @@ set_own (x ∷ ws) zero w h =
     let here : x ≡ w = cc in ap (λ y. y ∷ ws) (sym here)
 set_own (x ∷ ws) (suc k) w h = ap (λ vs. x ∷ vs) (set_own ws k w h)
 
+-- what a look tells is so
+seen_is_still : (item : Item) (w : SubscriberView) → is_seen_still item w ≡ true → still w.solo item ≡ true
+seen_is_still (Message m) w h = h
+seen_is_still _ w h = cc
+
 -- a slot whose subscriber is as it was, and sends nothing
 still_if : (slot : ℕ) (item : Item) (ws : List SubscriberView) (o : Option SubscriberView) → slice_get ws slot ≡ o
-    → option_map (λ w. still w.solo item) o ≡ Some true
+    → option_map (is_seen_still item) o ≡ Some true
     → (each_after (for_one slot item) 0 ws ≡ ws) × (each_sent (for_one slot item) 0 ws ≡ [])
 still_if slot item ws None at h = cc
 still_if slot item ws (Some w) at h =
-    let none : still w.solo item ≡ true = cc in
+    let none : still w.solo item ≡ true = seen_is_still item w cc in
     let stays : subscriber_step w item ≡ untouched w.solo = still_stays w.setting w.solo item none in (
       sym (after_call slot item ws w at) ∙ ap (λ d. set ws slot (record { setting = w.setting; solo = d.solo })) stays
           ∙ set_own ws slot w at,
@@ -130,6 +136,6 @@ still_if slot item ws (Some w) at h =
     )
 
 pub call_still : (slot : ℕ) (item : Item) (ws : List SubscriberView)
-    → option_map (λ w. still w.solo item) (slice_get ws slot) ≡ Some true
+    → option_map (is_seen_still item) (slice_get ws slot) ≡ Some true
     → (each_after (for_one slot item) 0 ws ≡ ws) × (each_sent (for_one slot item) 0 ws ≡ [])
 call_still slot item ws h = still_if slot item ws (slice_get ws slot) refl h

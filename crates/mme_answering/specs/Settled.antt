@@ -3,7 +3,8 @@ use Rattle.std.specs.Prelude.{◌≡◌, ◌+◌, ◌<◌, ◌≤◌, ◌^◌, �
 use Rattle.std.specs.Option.{option_map_or}
 use Rattle.emm_state.specs.declared.draft.Draft.{Draft}
 use Rattle.emm_state.specs.declared.solo.Solo.{Solo}
-use Rattle.mme_types.specs.Events.{Item}
+use Rattle.mme_types.specs.Events.{Item, Message}
+use Rattle.emm_machine.specs.Still.{still}
 use Rattle.emm_machine.specs.SubscriberView.{SubscriberView}
 use Rattle.sorted_list.specs.Ordered.{Every}
 use Rattle.stranger_machine.specs.declared.table.Known.{Known}
@@ -118,6 +119,11 @@ solo_at slot item ws = option_map (λ (d : Draft). d.solo) (step_at slot item ws
 
 abbrev pub sent_at : ℕ → Item → List SubscriberView → List Out
 sent_at slot item ws = option_map_or (λ w. map (slot_out slot) (subscriber_step w item).sent) (slice_get ws slot) []
+
+-- whether a look at a subscriber tells that an item leaves it as it is, and that nothing is sent: a message alone is looked at
+abbrev pub is_seen_still : Item → SubscriberView → Bool
+is_seen_still (Message m) w = still w.solo (Message m)
+is_seen_still _ w = false
 
 -- what a slot's subscriber sends at an item
 abbrev pub item_sent : Item → ℕ → SubscriberView → List Out

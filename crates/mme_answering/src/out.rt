@@ -87,6 +87,16 @@ impl Outs {
         }
     }
 
+    /// The same, and the room for as many messages stays. Takes no memory.
+    pub fn clear(&mut self)
+        ensures { self.new ≡ [] }
+    {
+        for out in self.items.iter_mut() {
+            out.octets.forget();
+        }
+        self.items.clear();
+    }
+
     /// No message is long.
     pub fn are_short(&self)
         ensures { AreShort self.now }

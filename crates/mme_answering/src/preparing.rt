@@ -7,7 +7,6 @@ ghost use Rattle.identity_slots.specs.declared.profile.Profile.{Profile};
 ghost use Rattle.mme_types.specs.declared.stations.StationState.{StationState};
 ghost use Rattle.mme_types.specs.Events.{entry_lists, item_of, message_lists};
 ghost use Rattle.mme_types.specs.Events as items;
-ghost use Rattle.emm_machine.specs.Still.{still};
 ghost use Rattle.sorted_list.specs.Ordered.{Every};
 ghost use Rattle.stranger_machine.specs.declared.table.Known.{Known};
 ghost use Rattle.stranger_machine.specs.declared.turn.Notice.TheVariants as notices;
@@ -24,7 +23,7 @@ ghost use Rattle.mme_answering.specs.declared.prepared.Prepared.TheVariants.{Eve
 ghost use Rattle.mme_answering.specs.InUse.{AreInUse};
 ghost use Rattle.mme_answering.specs.Prepares.{Prepares, PreparesEach, PreparesOne, PreparesTurn};
 ghost use Rattle.mme_answering.specs.Sending.{each_sent, event_sent, turn_sent, SendsSome};
-ghost use Rattle.mme_answering.specs.Settled.{is_own, item_sent, sent_at, solo_at};
+ghost use Rattle.mme_answering.specs.Settled.{is_own, is_seen_still, item_sent, sent_at, solo_at};
 
 use crate::out::{Outs, Owner};
 use crate::prepared::Prepared;
@@ -93,11 +92,11 @@ fn prepare_each(
     Ok(stepped)
 }
 
-// Whether a look at a slot's subscriber tells that an event leaves it as it is and that nothing is sent.
+// Whether a look at a slot's subscriber tells that an event leaves it as it is and that nothing is sent: a message alone is looked at.
 fn is_still(subscribers: &Subscribers, slot: Slot, event: &SoloEvent) -> bool
     requires { slot < length subscribers.now.subscribers }
-    ensures { (stations : List StationState) → result ≡ true
-        → option_map (λ w. still w.solo (item_of event.now stations)) (slice_get subscribers.now.subscribers slot) ≡ Some true }
+    ensures { (stations : List StationState) → option_map (is_seen_still (item_of event.now stations))
+        (slice_get subscribers.now.subscribers slot) ≡ Some result }
 {
     match event {
         SoloEvent::Message(message) => subscribers.is_still(slot, message),
@@ -336,52 +335,6 @@ fn prepare_stranger(
     prepare_turn(alloc, subscribers, id, turn, stations, outs)
 }
 
-// What is to become of those whom an event goes to that isn't for everyone.
-fn prepare_own<'a>(
-    alloc: Global,
-    provision: &Provision,
-    strangers: &'a Strangers,
-    subscribers: &mut Subscribers,
-    stations: &EnbWorld,
-    destination: &Destination<'a>,
-    outs: &mut Outs,
-) -> Result<Prepared, AllocError>
-    requires own { is_own destination.now ≡ true }
-    requires in_use { AreInUse subscribers.old.subscribers }
-    ensures prepares { IfOk result
-        (λ p. Prepares provision.now.profiles (destination_of stations.now destination.now)
-        strangers.entry.now.strangers subscribers.old.subscribers outs.old outs.new p) }
-    ensures err { OnErr result
-        (SendsSome (event_sent provision.now.profiles (destination_of stations.now destination.now)
-        strangers.entry.now.strangers subscribers.old.subscribers) outs.old outs.new) }
-    ensures same { subscribers.new ≡ subscribers.old }
-{
-    match destination {
-        Destination::Nobody => Ok(Prepared::Nobody),
-        Destination::Subscriber(slot, event) => {
-            match prepare_one(alloc, subscribers, *slot, event, stations, outs)? {
-                Some(stepped) => Ok(Prepared::Subscriber(stepped)),
-                None => Ok(Prepared::Nobody),
-            }
-        }
-        Destination::Beginner(id, entry) => {
-            prepare_beginner(alloc, strangers, subscribers, *id, entry, stations, outs)
-        }
-        Destination::Stranger(message) => {
-            prepare_stranger(
-                alloc,
-                provision,
-                strangers,
-                subscribers,
-                message,
-                stations,
-                outs,
-            )
-        }
-        Destination::Everyone(_) => unreachable!(),
-    }
-}
-
 // What is to become of all at a tick.
 #[tactic(auto, using(crate::proofs::Sent::sends_none))]
 #[inline(never)]
@@ -443,16 +396,6 @@ fn prepare_everyone<'a>(
     }
 }
 
-// Whether it isn't for everyone.
-fn is_own(destination: &Destination<'_>) -> bool
-    ensures { result ≡ is_own destination.now }
-{
-    match destination {
-        Destination::Everyone(_) => false,
-        _ => true,
-    }
-}
-
 /// What is to become of those whom an event goes to, worked out on copies; what they send stands after what is sent so far, or the
 /// first of it, where this is refused.
 pub fn prepare<'a>(
@@ -472,18 +415,30 @@ pub fn prepare<'a>(
         owners.old.strangers owners.old.subscribers) outs.old outs.new) }
     ensures same { owners.new ≡ owners.old }
 {
-    if !is_own(&destination) {
-        return prepare_everyone(alloc, owners, stations, destination, outs);
-    }
     let strangers = &owners.records.strangers;
     let subscribers = &mut owners.records.subscribers;
-    prepare_own(
-        alloc,
-        provision,
-        strangers,
-        subscribers,
-        stations,
-        &destination,
-        outs,
-    )
+    match destination {
+        Destination::Nobody => Ok(Prepared::Nobody),
+        Destination::Subscriber(slot, event) => {
+            match prepare_one(alloc, subscribers, slot, &event, stations, outs)? {
+                Some(stepped) => Ok(Prepared::Subscriber(stepped)),
+                None => Ok(Prepared::Nobody),
+            }
+        }
+        Destination::Beginner(id, entry) => {
+            prepare_beginner(alloc, strangers, subscribers, id, &entry, stations, outs)
+        }
+        Destination::Stranger(message) => {
+            prepare_stranger(
+                alloc,
+                provision,
+                strangers,
+                subscribers,
+                &message,
+                stations,
+                outs,
+            )
+        }
+        everyone => prepare_everyone(alloc, owners, stations, everyone, outs),
+    }
 }

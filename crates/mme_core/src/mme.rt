@@ -49,6 +49,7 @@ use mme_types::{EnbWorld, SentOctets, StationNumber, StationState};
 use nas_elements::Imsi;
 use std::alloc::{AllocError, Global};
 use std::marker::Model;
+use std::mem;
 
 /// The last tick of the clock.
 const LAST_TICK: u64 = 1 << 62;
@@ -85,6 +86,8 @@ impl Model for Surroundings {
 pub struct Mme {
     surroundings: Surroundings,
     owners: Owners,
+    // room for what is sent next; what it has means nothing
+    room: Outs,
 }
 
 impl Model for Mme {
@@ -141,6 +144,7 @@ impl Mme {
                 Ok(Mme {
                     surroundings,
                     owners: begun.owners,
+                    room: Outs::new(alloc),
                 })
             }
             Err(fault) => {
@@ -265,6 +269,27 @@ impl Mme {
         Ok(replies)
     }
 
+    /// What an event sent is given back, and its room is used again: zeros stand in place of its octets before these are freed, since
+    /// some carry a key. Takes no memory.
+    pub fn take_back(&mut self, sent: Outs)
+        ensures { self.new ≡ self.old }
+    {
+        let mut sent = sent;
+        sent.clear();
+        self.room = sent;
+    }
+
+    // Room for what is sent.
+    fn take_room(&mut self) -> Outs
+        ensures none { result ≡ [] }
+        ensures same { self.new ≡ self.old }
+    {
+        let nothing = Outs::new(self.surroundings.alloc);
+        let mut room = mem::replace(&mut self.room, nothing);
+        room.clear();
+        room
+    }
+
     // Whether an event is a tick that isn't refused, and that ends nobody's countdown.
     fn is_quiet(&self, event: &Event<'_>) -> bool
         ensures { result ≡ true → IsQuiet self.now event.now }
@@ -299,7 +324,9 @@ impl Mme {
         ensures refused { IfErr result (λ fault. IsRefused self.old event.now fault) }
         ensures same { self.new ≡ self.old }
     {
-        self.surroundings.ready_for_message(&mut self.owners, event)
+        let outs = self.take_room();
+        self.surroundings
+            .ready_for_message(&mut self.owners, event, outs)
     }
 
     // What an event that is no message leads to, on copies.
@@ -309,8 +336,9 @@ impl Mme {
         ensures refused { IfErr result (λ fault. IsRefused self.old event.now fault) }
         ensures same { self.new ≡ self.old }
     {
+        let outs = self.take_room();
         self.surroundings
-            .ready_without_message(&mut self.owners, event)
+            .ready_without_message(&mut self.owners, event, outs)
     }
 
     // A message. Out of line, so that no other event clears its locals.
@@ -451,36 +479,16 @@ impl Surroundings {
         }
     }
 
-    // What is to become of those whom an event goes to, on copies; what they send stands after what is sent so far.
-    fn prepared<'a>(
-        &'a self,
-        owners: &mut Owners,
-        destination: Destination<'a>,
-        outs: &mut Outs,
-    ) -> Result<Prepared, AllocError>
-        requires { AreInUse owners.old.subscribers }
-        ensures prepares { IfOk result
-            (λ p. Prepares self.entry.now.profiles (destination_of self.entry.now.stations destination.entry)
-            owners.old.strangers owners.old.subscribers outs.old outs.new p) }
-        ensures same { owners.new ≡ owners.old }
-    {
-        prepare(
-            self.alloc,
-            &self.provision,
-            owners,
-            &self.stations,
-            destination,
-            outs,
-        )
-    }
-
-    // What an event that is no message leads to, on copies: nothing is sent for its station.
+    // What an event that is no message leads to, on copies: nothing is sent for its station. What is sent stands in the room that is
+    // given.
     fn ready_without_message(
         &self,
         owners: &mut Owners,
         event: &Event<'_>,
+        outs: Outs,
     ) -> Result<Ready, StepFault>
         requires other { is_message event.now ≡ false }
+        requires none { outs ≡ [] }
         requires rising { Rising known_id owners.old.strangers }
         requires in_use { AreInUse owners.old.subscribers }
         ensures leads { IfOk result (λ r. LeadsTo (world_of self.now owners.old) event.now r) }
@@ -496,8 +504,16 @@ impl Surroundings {
             state: event.state(),
             clock: self.clock_after(event),
         };
-        let mut outs = Outs::new(self.alloc);
-        let prepared = self.prepared(owners, event.destination(&named), &mut outs)?;
+        let mut outs = outs;
+        let destination = event.destination(&named);
+        let prepared = prepare(
+            self.alloc,
+            &self.provision,
+            owners,
+            &self.stations,
+            destination,
+            &mut outs,
+        )?;
         Ok(Ready {
             moves,
             prepared,
@@ -505,13 +521,15 @@ impl Surroundings {
         })
     }
 
-    // What a message leads to, on copies.
+    // What a message leads to, on copies. What is sent stands in the room that is given.
     fn ready_for_message<'a>(
         &'a self,
         owners: &mut Owners,
         event: &'a Event<'_>,
+        outs: Outs,
     ) -> Result<Ready, StepFault>
         requires message { is_message event.now ≡ true }
+        requires none { outs ≡ [] }
         requires rising { Rising known_id owners.old.strangers }
         requires in_use { AreInUse owners.old.subscribers }
         ensures leads { IfOk result (λ r. LeadsTo (world_of self.entry.now owners.old) event.entry.now r) }
@@ -535,8 +553,15 @@ impl Surroundings {
             state,
             clock,
         };
-        let mut outs = station_outs(self.alloc, moves.station, sent)?;
-        let prepared = self.prepared(owners, destination, &mut outs)?;
+        let mut outs = station_outs(outs, moves.station, sent)?;
+        let prepared = prepare(
+            self.alloc,
+            &self.provision,
+            owners,
+            &self.stations,
+            destination,
+            &mut outs,
+        )?;
         Ok(Ready {
             moves,
             prepared,

@@ -23,6 +23,7 @@ fn retime_one(timers: &mut Timers, slot: u32, kind: Kind, before: Option<u64>, l
         return;
     }
     match left {
+        Some(left) if before.is_none() => timers.start_stopped(owner, kind, left),
         Some(left) => timers.start_reserved(owner, kind, left),
         None => timers.stop(owner, kind),
     }

@@ -137,6 +137,43 @@ pub gone_after : (old new : ℕ) (timer : Timer) (running left : List Countdown)
 gone_after old new timer running left before queue h i was is s =
     gone new timer running queue i (subst (Rising countdown_rank) was (rising_running old before h)) (is ∙ s)
 
+none_left : (o : Option Countdown) → option_map (λ (c : Countdown). c.ticks) o ≡ None → o ≡ None
+none_left None h = refl
+none_left (Some c) h = absurd (cc)
+
+-- what does not run is as if it was stopped
+pub off_is_stopped : (timer : Timer) (running : List Countdown) → ticks_left timer.owner timer.kind running ≡ None
+    → running ≡ stopped timer.owner timer.kind running
+off_is_stopped timer running h =
+    sym (without_absent countdown_rank (rank timer) running (none_left (at countdown_rank (rank timer) running) h))
+
+pub off_is_gone : (clock : ℕ) (timer : Timer) (running : List Countdown) (queue : List Deadline) → IsQueue queue
+    → running_at clock queue ≡ running → ticks_left timer.owner timer.kind running ≡ None → at name (rank timer) queue ≡ None
+off_is_gone clock timer running queue h is off =
+    gone_after clock clock timer running running queue queue h h is is (off_is_stopped timer running off)
+
+-- a timer that is started anew was stopped first
+pub started_again : (timer : Timer) (ticks : ℕ) (running : List Countdown) → Rising countdown_rank running
+    → started timer.owner timer.kind ticks (stopped timer.owner timer.kind running)
+    ≡ started timer.owner timer.kind ticks running
+started_again timer ticks running r =
+    let c : Countdown = record { timer = timer; ticks = ticks } in
+    let rest : List Countdown = without countdown_rank (rank timer) running in
+    let w = at-without countdown_rank (rank timer) (rank timer) running r in
+    let none : at countdown_rank (rank timer) rest ≡ None = grind (arith, nat_tests) in
+    put_is_add countdown_rank c rest (rising-without countdown_rank (rank timer) running r)
+    ∙ ap (add countdown_rank c) (without_absent countdown_rank (rank timer) rest none)
+    ∙ sym (put_is_add countdown_rank c running r)
+
+-- a timer that was stopped doesn't run
+pub stopped_is_off : (timer : Timer) (running : List Countdown) → Rising countdown_rank running
+    → ticks_left timer.owner timer.kind (stopped timer.owner timer.kind running) ≡ None
+stopped_is_off timer running r =
+    let rest : List Countdown = without countdown_rank (rank timer) running in
+    let w = at-without countdown_rank (rank timer) (rank timer) running r in
+    let none : at countdown_rank (rank timer) rest ≡ None = grind (arith, nat_tests) in
+    ap (option_map (λ (c : Countdown). c.ticks)) none
+
 apart_by : (a b c d : ℕ) → b < 2 ^ 64 → d < 2 ^ 64 → a * 2 ^ 64 + b ≡ c * 2 ^ 64 + d → b ≡ d
 apart_by a b c d p q e = omega arith
 

@@ -1,7 +1,7 @@
 //! Countdowns of owners in ticks, and what each tick ends: a map from (owner, kind) to a countdown.
 //!
 //! A caller that must not fail halfway makes room by `reserve` first, and then changes the timers by `start_reserved`,
-//! `stop` and `pass`, which take no memory.
+//! `start_stopped`, `stop` and `pass`, which take no memory.
 #![tactic(auto)]
 
 mod laws;

@@ -1,6 +1,6 @@
 //! Timers as two lists of what runs: a queue in the order of the deadlines, and an index in the order of the timers.
 
-ghost use Rattle.std.specs.Prelude.{◌≡◌, ℕ, ◌+◌, ◌*◌, ◌<◌, ◌≤◌, ◌^◌, ◌↔◌, List, [], IfOk, IsOk, IsErr, OnOk, OnErr, Option, Err, false};
+ghost use Rattle.std.specs.Prelude.{◌≡◌, ℕ, ◌+◌, ◌*◌, ◌<◌, ◌≤◌, ◌^◌, ◌↔◌, List, [], IfOk, IsOk, IsErr, OnOk, OnErr, Option, Err, None, false};
 ghost use Rattle.timer_queue.specs.declared.queue.TickFault.TheVariants.{ClockSpent, NoMemory};
 ghost use Rattle.sorted_list.specs.Ordered.{Rising, Every};
 ghost use Rattle.timer_queue.specs.Countdowns.{Countdowns, countdown_rank, ticks_left, started, stopped, due_of, aged};
@@ -213,8 +213,22 @@ impl Timers {
         ensures running { self.new.running ≡ started owner kind ticks self.old.running }
         ensures room { self.old.room ≤ self.new.room + 1 }
     {
-        let deadline = self.clock + ticks;
+        // (that they stand in order)
+        let _ = self.clock();
         self.stop(owner, kind);
+        self.start_stopped(owner, kind, ticks);
+    }
+
+    /// Starts a timer of 1 to 3480 ticks that doesn't run, where there is room. Takes no memory.
+    pub fn start_stopped(&mut self, owner: TimerOwner, kind: Kind, ticks: u64)
+        requires ticks { (1 ≤ ticks) × (ticks ≤ 3480) }
+        requires off { ticks_left owner kind self.old.running ≡ None }
+        requires room { 0 < self.old.room }
+        ensures clock { self.new.clock ≡ self.old.clock }
+        ensures running { self.new.running ≡ started owner kind ticks self.old.running }
+        ensures room { self.old.room ≤ self.new.room + 1 }
+    {
+        let deadline = self.clock + ticks;
         let timer = Timer { owner, kind };
         self.queue.insert_reserved(Deadline { deadline, timer });
         self.index.insert_reserved(RunningTimer { timer, deadline });

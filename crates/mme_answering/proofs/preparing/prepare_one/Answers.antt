@@ -1,4 +1,4 @@
-use Rattle.std.proofs.Common.{◌++◌, arith, sym, ◌∙◌, ap}
+use Rattle.std.proofs.Common.{◌++◌, Some, arith, sym, ◌∙◌, ap}
 use Rattle.std.proofs.lemmas.List.{append-nil}
 use Rattle.std.proofs.lemmas.Result.{err_from_is_err_and}
 use Rattle.mme_types.specs.Events.{item_of}
@@ -23,7 +23,7 @@ pub returns-then-is_still-clause-prepares : goal.returns-then-is_still-clause-pr
 returns-then-is_still-clause-prepares c =
     let ws = c.args.subscribers.now.subscribers in
     let item = item_of c.args.event.now c.args.stations.now in
-    let stays = call_still c.args.slot item ws (c.is_still.ensures c.args.stations.now c.if-is_still.true) in
+    let stays = call_still c.args.slot item ws (c.is_still.ensures c.args.stations.now ∙ ap (λ b. Some b) c.if-is_still.true) in
     record {
       sends = sym (ap (λ os. c.args.outs.now ++ os) stays.1 ∙ append-nil c.args.outs.now);
       subscribers = sym stays.0;

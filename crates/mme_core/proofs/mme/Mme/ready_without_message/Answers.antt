@@ -1,8 +1,8 @@
-use Rattle.std.proofs.Common.{IfOk, subst}
+use Rattle.std.proofs.Common.{IfOk, subst, ◌∙◌}
 use Rattle.mme_core.specs.Ready.{LeadsTo}
 use Rattle.mme_core.specs.World.{World}
 use Rattle.mme_core.proofs.mme.Mme.ready_without_message.Goals as goal
 
 pub returns-clause-leads : goal.returns-clause-leads
 returns-clause-leads c =
-    subst (λ (v : World). IfOk c.ready_without_message.result (λ r. LeadsTo v c.args.event.now r)) c.self.view_is c.ready_without_message.ensures.leads
+    subst (λ (v : World). IfOk c.ready_without_message.result (λ r. LeadsTo v c.args.event.now r)) (c.self.view_is ∙ c.take_room-outs.ensures.same) c.ready_without_message.ensures.leads
