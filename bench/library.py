@@ -1,14 +1,15 @@
 #!/usr/bin/env python3
 """Times a phone's day through the libraries for C and for Python, beside `mme play` of the same events.
 
-    library.py FOLDER [--program MME] [--count N ..] [--rounds N]
+    library.py FOLDER .. [--program MME ..] [--count N ..] [--rounds N]
     library.py FOLDER --steps PROGRAM [--count N ..] [--rounds N]
 
 FOLDER has libsoizkadur.a, libsoizkadur.so.1 and soizkadur.h, as `./mme --library` leaves them in crates/mme_c/out/library. A day is
 attach, release, service request, release, a tracking area update from idle, detach (measure.py, `days`). Through the library for C
 an event is a call with its octets and a copy of each message that it sends (library.c), in Python the same (`receive`) or a line of
 a trace (`line`); through `mme play` it is lines of text, and what the program takes to start and to be provisioned is taken off.
-Times are of one processor, the best of the rounds. Ends with 1 where an answer is wrong.
+Times are of one processor, the best of the rounds; with several folders or programs all are run in turn, so that they meet the same
+machine, and Python goes over the first folder. Ends with 1 where an answer is wrong.
 
 With --steps an event through the library for C is set beside one that `Mme::step` alone hears, by PROGRAM, which is built of
 steps.rt.txt (programs.py). In each round both programs run, one after the other, and each has ten rounds of its own.
@@ -94,6 +95,24 @@ def through_python(folder, trace, rounds, by_lines):
     return best, right
 
 
+def in_turn(programs, benches, bench, traces, rounds):
+    """The seconds of the days through each library for C and by `mme play` of each program, all in turn, and whether the libraries
+    send what is owed."""
+    base, trace = traces
+    best, right = {}, True
+    for _ in range(rounds):
+        for folder, program in programs.items():
+            took, is_right = through_library(program, bench, trace, EACH)
+            best["the library in %s" % folder], right = min(best.get("the library in %s" % folder, took), took), right and is_right
+        for one in benches:
+            least, most = one.best([base.text(), trace.text()], 1)
+            for what, took in ((one, least), ((one, "days"), most)):
+                best[what] = min(best.get(what, took), took)
+    for one in benches:
+        best["mme play of %s" % one.program] = best.pop((one, "days")) - best.pop(one)
+    return best, right
+
+
 def beside_steps(program, steps, bench, trace, rounds):
     """The seconds that the events of a trace take through the library for C and by `Mme::step` alone, both in turn, and whether
     both send what is owed."""
@@ -120,32 +139,32 @@ def print_steps(program, steps, bench, counts):
 
 def main():
     parser = argparse.ArgumentParser(description=__doc__, formatter_class=argparse.RawDescriptionHelpFormatter)
-    parser.add_argument("folder", metavar="FOLDER")
-    parser.add_argument("--program", metavar="MME", default=measure.PROGRAM)
+    parser.add_argument("folders", metavar="FOLDER", nargs="+")
+    parser.add_argument("--program", metavar="MME", nargs="+", default=[measure.PROGRAM])
     parser.add_argument("--steps", metavar="PROGRAM")
     parser.add_argument("--count", type=int, nargs="+", default=[measure.FEW, measure.MANY])
     parser.add_argument("--rounds", type=int, default=10)
     given = parser.parse_args()
-    bench, wrong = measure.Bench(given.program, given.rounds), 0
+    benches, wrong = [measure.Bench(program, given.rounds) for program in given.program], 0
+    bench = benches[0]
     with tempfile.TemporaryDirectory() as room:
-        program = built(given.folder, room)
+        programs = {folder: built(folder, pathlib.Path(tempfile.mkdtemp(dir=room))) for folder in given.folders}
         if given.steps:
-            return 1 if print_steps(program, given.steps, bench, given.count) else 0
+            return 1 if print_steps(programs[given.folders[0]], given.steps, bench, given.count) else 0
         for count in given.count:
-            base, trace = days_of(count)
-            bench.checked("%d days" % count, trace)
-            least, most = bench.best([base.text(), trace.text()], max(given.rounds, 2000 // count))
-            through, right = through_library(program, bench, trace, max(given.rounds, 2000 // count))
-            calls, right_calls = through_python(given.folder, trace, given.rounds, False)
-            lines, right_lines = through_python(given.folder, trace, given.rounds, True)
-            wrong += not (right and right_calls and right_lines)
-            events = events_in(trace)
-            for what, seconds in (("the library", through), ("calls in Python", calls), ("lines in Python", lines),
-                                  ("mme play", most - least)):
+            traces = days_of(count)
+            for one in benches:
+                one.checked("%d days" % count, traces[1])
+            best, right = in_turn(programs, benches, bench, traces, max(given.rounds, 2000 // count))
+            for what, by_lines in (("calls in Python", False), ("lines in Python", True)):
+                best[what], is_right = through_python(given.folders[0], traces[1], given.rounds, by_lines)
+                right = right and is_right
+            wrong += not right
+            for what, seconds in best.items():
                 print("%d phones, a day by %s: %.1f us, %.0f a second; %.0f events a second" % (
-                    count, what, seconds / count * 1e6, count / seconds, events / seconds))
-            print("the libraries' messages: %s" % ("WRONG" if wrong else "as owed"), flush=True)
-    return 1 if wrong or bench.wrong else 0
+                    count, what, seconds / count * 1e6, count / seconds, events_in(traces[1]) / seconds))
+            print("the libraries' messages: %s" % ("as owed" if right else "WRONG"), flush=True)
+    return 1 if wrong or any(one.wrong for one in benches) else 0
 
 
 if __name__ == "__main__":
