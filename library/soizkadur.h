@@ -18,7 +18,7 @@
  *     }
  *     soizkadur_free(&mme);
  *
- * soizkadur_up is the connection alone: the first message of a station is S1 SETUP REQUEST, and until it is taken no other is. One
+ * soizkadur_up is the connection alone: the first message of a station is S1 SETUP REQUEST, and no other is taken before it. One
  * that fits the line `mme 001 01 8001 01 ..`, of the macro eNB 1 with tracking area 1:
  *
  *     0011001f000003003b00080000f11000000010004000070000004000f1100089400140
@@ -26,23 +26,23 @@
  * WHAT IS SPOKEN. S1AP (TS 36.413) and EPS NAS (TS 24.301) of Release 8, in a profile: set-up and reset of stations, attach,
  * authentication, security mode, service request, paging, tracking area update, path switch, release and detach, with one default
  * bearer for each phone. Integrity is by 128-EIA2, which a phone has to offer, and ciphering is null. The elements of a message are
- * taken in any order. Octets that spell no message of the profile are answered, if at all, by ERROR INDICATION with the cause and
- * without Criticality Diagnostics, where they are an S1 SETUP REQUEST too. docs/PROFILE.md has each message and element.
+ * taken in any order. Octets that spell no message of the profile, those of an S1 SETUP REQUEST included, are answered, if at all,
+ * by ERROR INDICATION with the cause and without Criticality Diagnostics. docs/PROFILE.md has each message and element.
  *
  * To compile and link: cc -I FOLDER test.c FOLDER/libsoizkadur.a, or with the shared object
  * cc -I FOLDER test.c -L FOLDER -lsoizkadur -Wl,-rpath,FOLDER.
  *
- * Each call does what is written over it: this is proved, for every handle and all arguments that are as below, at every outcome of
- * every allocation (crates/mme_c/src has the contracts). Proved too: no call reads or writes outside what it is given or owns, none
+ * Each call does what is written over it: this is proved, for every handle and all arguments that keep the rules below, whichever
+ * allocations fail (crates/mme_c/src has the contracts). Proved too: no call reads or writes outside what it is given or owns, none
  * overflows, and each returns. No call takes a lock, blocks, reads a file or a clock, or keeps a pointer that it is given.
  *
  * A call that is refused answers why, a number of `enum soizkadur_refusal`; then what the handle holds, and all that the call would
  * write, is as it was. Where a call departs from this, it is said there. Of several causes the first counts: an empty handle
- * (or, of soizkadur_new, one that isn't), then the arguments from the left, then the others.
+ * (for soizkadur_new, one that isn't empty), then the arguments from the left, then the others.
  *
  * WHAT THE CALLER HAS TO UPHOLD. Nothing checks it.
  *
- * - A handle begins as SOIZKADUR_EMPTY (all zero), which is an initializer and, in C, no value to assign. Its word is the
+ * - A handle begins as SOIZKADUR_EMPTY (all zero), which in C can initialize it and can't be assigned to it. Its word is the
  *   library's: the caller doesn't read, write or compare it.
  * - A handle isn't copied. One that is moved (memcpy, realloc, return by value) is used at its new place alone; a copy would be
  *   freed twice.
@@ -106,7 +106,7 @@ enum soizkadur_refusal {
     SOIZKADUR_NO_ROOM = 24,   /* the buffer is too small for the message */
     SOIZKADUR_LOST = 25,      /* memory ran out while the MME was made of what was provisioned, of which nothing is left */
 
-    /* of octets that are no S1AP message (TS 36.413); less 30, the numbers of the first fault from the left. No call says at which
+    /* octets that are no S1AP message (TS 36.413): 30 and the number of the first fault from the left. No call says at which
      * octet or in which element it is: a message that is written by hand is best tried element by element */
     SOIZKADUR_S1AP_SYNTAX = 31,            /* they spell nothing at some place (X.691) */
     SOIZKADUR_S1AP_UNKNOWN_PROCEDURE = 32, /* a procedure that isn't of the profile */
@@ -161,8 +161,9 @@ uint32_t soizkadur_new(soizkadur_mme *mme, const uint8_t *lines, size_t length, 
 /* Plays one line of a trace, given without its LF: provisioning, an event, or a question. So all lines of a log, one after another
  * from an empty handle, do what the program does with the log. A comment or an empty line does nothing.
  * The first line of an event or a question starts the MME, also where it is then refused. The replies to the line of an event are
- * had as those of the event's call; `tick N` is as soizkadur_tick. `show` answers whether somebody is provisioned with the IMSI;
- * the states are had by soizkadur_states.
+ * had as those of the event's call: `up STATION`, `lost STATION`, `in STATION OCTETS` (in hex), `tick`, `tick N` as soizkadur_tick,
+ * `data IMSI` and `cancel IMSI`. `show IMSI` answers whether somebody is provisioned with the IMSI; the states are had by
+ * soizkadur_states.
  * An empty handle holds after a line that was taken what the line made; after one that was refused it is empty.
  * Refused: NOT_UP to PROVISION; LOST, and then nothing is provisioned any more. NO_MEMORY may stand in place of another refusal. */
 uint32_t soizkadur_line(soizkadur_mme *mme, const uint8_t *line, size_t length);
@@ -193,13 +194,13 @@ uint32_t soizkadur_give(soizkadur_mme *mme, const uint8_t *imsi, size_t imsi_len
                         const uint8_t *autn, size_t autn_length, const uint8_t *xres, size_t xres_length, const uint8_t *kasme,
                         size_t kasme_length);
 
-/* Starts the MME of what is provisioned. Where it runs already, nothing changes and the answer is 0.
+/* Starts an MME with what is provisioned. Where it runs already, nothing changes and the answer is 0.
  * Refused: NO_MME for an empty handle, ORDER where nothing is provisioned; LOST, and then nothing is provisioned any more. */
 uint32_t soizkadur_start(soizkadur_mme *mme);
 
 /* ---- events. Each answers 0, and then its reply is what the MME sends at it; or it is refused: NO_MME, NO_MEMORY, or as is said.
  *      A refused event leaves the MME, and the replies of the last event that was taken, as they were.
- *      NO_MEMORY is the answer to no event that would be refused for another cause. */
+ *      An event that is to be refused for another cause is refused for that cause, whatever memory there is. */
 
 /* A station connects: its transport alone, so nothing is sent. Refused: BAD_NUMBER for a station above 127, ALREADY_UP. */
 uint32_t soizkadur_up(soizkadur_mme *mme, uint8_t station);
@@ -256,8 +257,9 @@ uint32_t soizkadur_out(soizkadur_mme *mme, size_t reply, size_t index, soizkadur
 
 /* ---- questions, and the end */
 
-/* A phone whose RES is wrong is DEREGISTERED, and INACTIVE, from the event on at which AUTHENTICATION REJECT is sent: these states,
- * too, don't wait for UE CONTEXT RELEASE COMPLETE. */
+/* A phone that attaches is COMMON_PROCEDURE_INITIATED and CONNECTED while it is challenged. If its RES is wrong, the event that
+ * sends AUTHENTICATION REJECT also sends UE CONTEXT RELEASE COMMAND (cause nas, authentication-failure), and the phone is at once
+ * DEREGISTERED, IDLE and INACTIVE: no state waits for UE CONTEXT RELEASE COMPLETE. */
 enum soizkadur_emm_state { /* TS 24.301 clause 5.1.3 */
     SOIZKADUR_DEREGISTERED = 0,
     SOIZKADUR_COMMON_PROCEDURE_INITIATED = 1,
@@ -333,7 +335,7 @@ typedef struct soizkadur_s1ap_message {
 } soizkadur_s1ap_message;
 
 /* The S1AP message that these octets spell (TS 36.413 clause 9), by its kind and its ids. Refused: S1AP_SYNTAX to
- * S1AP_REFUSED_ELEMENT, the first fault from the left and a missing element last; NO_MEMORY. */
+ * S1AP_REFUSED_ELEMENT, the first fault from the left, and a missing element after all others; NO_MEMORY. */
 uint32_t soizkadur_s1ap(const uint8_t *octets, size_t length, soizkadur_s1ap_message *message);
 
 /* The direction of a NAS message. */
@@ -369,7 +371,7 @@ enum soizkadur_emm_message {
     SOIZKADUR_EMM_SERVICE_REQUEST = 0xc7
 };
 
-/* The plain EMM message that these octets are, if `direction` sends them: `kind` is of `enum soizkadur_emm_message`.
+/* The plain EMM message that these octets spell where they are sent in this direction: `kind` is of `enum soizkadur_emm_message`.
  * Refused: BAD_NUMBER (direction), NAS_TOO_SHORT to NAS_OPTIONAL_PART. */
 uint32_t soizkadur_nas(const uint8_t *octets, size_t length, uint32_t direction, uint32_t *kind);
 

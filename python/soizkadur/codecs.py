@@ -62,7 +62,7 @@ class EmmMessage(enum.IntEnum):
 
 
 class Direction(enum.IntEnum):
-    """Who sends a NAS message."""
+    """Who sends a NAS message: the phone (UPLINK) or the network (DOWNLINK)."""
 
     UPLINK = 0
     DOWNLINK = 1

@@ -24,11 +24,14 @@ _OWNERS = {owner.value: owner for owner in Owner}
 
 
 class Out(NamedTuple):
-    """A message that the MME sends to a station."""
+    """A message that the MME sends to a station.
+
+    `number` is its owner's: the station, the subscriber's slot, or of a stranger 2^31 + its station * 2^24 + its eNB UE S1AP ID.
+    `station` is the one that it is sent to."""
 
     owner: Owner
-    number: int  # the owner's: a station, a slot, or of a stranger 2^31 + its station * 2^24 + its eNB UE S1AP ID
-    station: int  # that it is sent to
+    number: int
+    station: int
     octets: bytes
 
     def __str__(self) -> str:
@@ -65,7 +68,8 @@ class EsmState(enum.IntEnum):
 
 
 class States(NamedTuple):
-    """A subscriber's states."""
+    """A subscriber's states. No state waits for UE CONTEXT RELEASE COMPLETE: at the event that sends AUTHENTICATION REJECT a phone
+    is DEREGISTERED, IDLE and INACTIVE."""
 
     emm: EmmState
     ecm: EcmState
@@ -102,7 +106,9 @@ class Mme:
 
     @classmethod
     def from_lines(cls, lines: str | bytes | Iterable[str | bytes]) -> Self:
-        """An MME of the provisioning lines of a trace (README.md, "A trace"), started.
+        """An MME of the provisioning lines of a trace, started: `mme COUNTRY NETWORK GROUP CODE APN DOWN UP` first and once,
+        `sub IMSI ADDRESS GATEWAY TUNNEL`, and below it `vec IMSI RAND AUTN XRES KASME`; octets, addresses and ids are in hex
+        (README.md, "A trace").
 
         Refused: UNKNOWN_WORD to PROVISION, with the line's number; NO_MEMORY or LOST."""
         if not isinstance(lines, (str, bytes)):
@@ -127,7 +133,7 @@ class Mme:
         check(self._call(name, *given))
 
     def close(self) -> None:
-        """Frees what the MME has; it is then as one that was just made. Once more does no harm."""
+        """Frees what the MME has and leaves it empty, as after `Mme()`. Closing it twice does no harm."""
         self._call("free")
 
     def __enter__(self) -> Self:
@@ -152,7 +158,8 @@ class Mme:
     # --- Provisioning ---
 
     def provision(self, plmn: bytes, group: int, code: int, apn: str, down: int, up: int) -> None:
-        """Begins the provisioning. `plmn` is the network in 3 octets (TS 36.413 clause 9.2.3.8); `down` and `up` are bits a second.
+        """Begins the provisioning. `plmn` is the network in 3 octets (TS 36.413 clause 9.2.3.8); `group` has 16 bits and `code` 8;
+        `down` and `up` are bits a second, 1 to 10^10.
 
         Refused: BAD_OCTETS, BAD_NUMBER, ORDER, NO_MEMORY."""
         name = _octets(apn)
@@ -167,7 +174,8 @@ class Mme:
         self._take("add", digits, len(digits), within(address, 32), within(gateway, 32), within(teid, 32))
 
     def give(self, imsi: str, rand: bytes, autn: bytes, xres: bytes, kasme: bytes) -> None:
-        """Gives a subscriber one more authentication vector (TS 33.401 clause 6.1.2).
+        """Gives a subscriber one more authentication vector (TS 33.401 clause 6.1.2): RAND and AUTN of 16 octets, XRES of 4 to 16,
+        KASME of 32.
 
         Refused: NO_MME, BAD_NUMBER, BAD_OCTETS, ORDER, PROVISION, NO_MEMORY."""
         given: list[bytes | int] = []
@@ -176,7 +184,7 @@ class Mme:
         self._take("give", *given)
 
     def start(self) -> None:
-        """Starts the MME of what is provisioned; one that runs goes on. Refused: NO_MME, ORDER, LOST."""
+        """Starts an MME with what is provisioned; if it runs already, nothing changes. Refused: NO_MME, ORDER, LOST."""
         self._take("start")
 
     # --- Events ---
@@ -192,7 +200,7 @@ class Mme:
         return self._messages(0)
 
     def receive(self, station: int, octets: bytes) -> list[Out]:
-        """A station sends one whole S1AP message. Refused: NO_MME, BAD_NUMBER, NOT_UP, NO_MEMORY."""
+        """A station sends one whole S1AP message. `in_` is the same call. Refused: NO_MME, BAD_NUMBER, NOT_UP, NO_MEMORY."""
         self._take("in", within(station, 8), octets, len(octets))
         return self._messages(0)
 
@@ -200,7 +208,7 @@ class Mme:
 
     def tick(self, seconds: int = 1) -> list[Reply]:
         """Seconds pass, 1 to 1000000. There is a reply for each: what is sent at it, or why it was refused (CLOCK_SPENT,
-        NO_MEMORY), and then it changed nothing. Refused whole: NO_MME, BAD_NUMBER, NO_MEMORY."""
+        NO_MEMORY), and then it changed nothing. The call is refused as a whole: NO_MME, BAD_NUMBER, NO_MEMORY."""
         self._take("tick", within(seconds, 32))
         return self.replies()
 
@@ -219,7 +227,9 @@ class Mme:
     # --- Lines ---
 
     def line(self, text: str | bytes) -> list[Out]:
-        """Plays one line of a trace, without its LF. What is sent at it, if it is an event's; of `tick N` that of all ticks.
+        """Plays one line of a trace, without its LF: a provisioning line, `up STATION`, `lost STATION`, `in STATION OCTETS` (in
+        hex), `tick`, `tick N`, `data IMSI`, `cancel IMSI` or `show IMSI`. What is sent at it, if it is an event; of `tick N` that
+        of all ticks.
 
         Refused: NOT_UP to PROVISION, LOST."""
         given = _octets(text)

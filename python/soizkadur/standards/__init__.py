@@ -22,8 +22,8 @@ def _beside(name: str, *folders: pathlib.Path):
     """A module by its file's name in the first of these folders that has it; it may name others there without a package."""
     folder = next((folder for folder in folders if (folder / (name + ".py")).exists()), None)
     if folder is None:
-        raise ImportError("no %s.py in %s: of a clone, its folder python has to be on PYTHONPATH"
-                          % (name, " or ".join(map(str, folders))))
+        raise ImportError("no %s.py in %s: this copy of the package isn't whole; take the whole package, or put the folder python "
+                          "of a clone on PYTHONPATH" % (name, " or ".join(map(str, folders))))
     sys.path.insert(0, str(folder))
     try:
         return importlib.import_module(name)
