@@ -1,154 +1,180 @@
-"""Looks up each call of the public surface at its path: the front crates with their types, calls and faults.
+"""Compares the public surface that surface.txt lists with the code: what a caller of the front crates may rely on.
 
-`SURFACE` has of each front crate what a caller may rely on: free functions, types with their methods, and the variants of its
-enums, faults in the order of their numbers. A name is there if the crate declares it or passes it on by `pub use`, from whatever
-crate below; a method if a public `impl` of the type, or a trait that the type meets, has it.
+A name is there if the crate declares it or passes it on by `pub use`, from whatever crate below. A method is there if a public
+`impl` of the type has it, or a trait, with these types of its parameters and this result. Of the list itself: what takes the
+allocator takes it first and may answer want of memory, and no method takes it whose type keeps it; each form that is a decision has
+its call in docs/DECISIONS.md; and each type of the elements of S1AP is listed.
 """
-import pathlib
+import functools
 import re
 
+import signatures
 import tables
 
 CRATES = tables.TOP / "crates"
-READ_AND_WRITE = ("read", "write")
-ELEMENTS = ("MmeUeId EnbUeId Ambr GlobalEnbId SupportedTas ServedGummeis PagingDrx Tai EutranCgi STmsi UePagingId RrcCause "
-            "SecurityCapabilities SecurityKey SecurityContext UeIndex CnDomain UeS1apIds ResetType Cause").split()
-
-# Of each front crate: its functions, its types with their methods, and its enums with their variants.
-SURFACE = {
-    "per_bits": (
-        "take_length put_length take_open put_open skip_additions",
-        {"BitReader": "new take_bits align take_octets end", "BitWriter": "new put_bits align put_octets finish",
-         "Whole": "try_new get read write", "Octets": "read write as_slice", "BitField": "read write bit",
-         "Items": "try_new get len read write"},
-        {"PerFault": "Truncated Padding Range NotFewest Fragmented Trailing Alternative", "PerError": "Fault NoMemory"}),
-    "s1ap_elements": ("", {name: "read write" for name in ELEMENTS}, {}),
-    "s1ap_messages": (
-        "decode encode", {"S1apPdu": ""},
-        {"S1apFault": "Syntax UnknownProcedure MissingElement RepeatedElement RefusedElement NoMemory",
-         "EncodeFault": "NotWritable NoMemory"}),
-    "nas_elements": (
-        "", {"Imsi": "try_from_digits read", "Guti": "read write", "MobileIdentity": "read write", "Plmn": "read write from_s1ap",
-             "UeCapability": "read", "TaiList": "read write", "Optional": "read"},
-        {"NasFault": "TooShort Mandatory UnknownType OptionalPart NoMemory"}),
-    "nas_messages": (
-        "decode_emm decode_esm encode_emm encode_esm split_protected join_protected",
-        {"EmmMessage": "", "EsmMessage": "", "Protected": "", "Direction": ""}, {}),
-    "eps_keys": ("aes_encrypt cmac eia2 hmac_sha256 nas_integrity_key kenb next_hop", {}, {}),
-    "nas_security": (
-        "", {"Integrity": "mac", "Eia2": "", "SecurityContext": "new protect accept accept_short"},
-        {"SecurityFault": "BadMac CountSpent WrongHeader NoMemory"}),
-    "identity_slots": (
-        "", {"Provision": "new add give len profile vectors slot_of_imsi slot_of_tmsi", "Profile": "", "Vector": "",
-             "AssociationId": "after of_stranger", "Tmsi": "after"},
-        {"ProvisionFault": "RepeatedImsi RepeatedAddress Full NoMemory"}),
-    "emm_machine": (
-        "", {"Subscriber": "new step copy states connection pages_at countdowns pass", "EnbWorld": "", "Network": "", "Answers": "",
-             "States": ""},
-        {"SoloEvent": "Nothing Initial Claim Message Displaced StationGone ConnectionsGone Tick Data Cancel"}),
-    "esm_machine": ("", {"Bearer": "new on_request on_information on_accept on_disconnect state"}, {}),
-    "timer_queue": ("", {"Timers": "new start stop left tick copy", "Expiry": ""}, {"TickFault": "ClockSpent NoMemory"}),
-    "association_table": (
-        "", {"Associations": "new open find move_to close close_station close_listed copy"},
-        {"OpenFault": "Taken NoMemory", "MoveFault": "Unknown NoMemory"}),
-    "mme_core": (
-        "", {"Mme": "new step run states", "Config": "", "Out": "", "Outs": ""},
-        {"Event": "Up Lost In Tick Data Cancel", "StepFault": "NotUp AlreadyUp ClockSpent NoMemory UnknownImsi"}),
-    "enb_sim": (
-        "", {"Station": "new act deliver down holds", "Phone": "new act deliver deafen s_tmsi"},
-        {"StationAct": "SetUp Initial Uplink Switch Release",
-         "PhoneAct": "Attach Info Foreign Service Tau Detach Off Replay Forge"}),
-    "trace_text": (
-        "parse_line parse_script_line write_line write_answer", {"Line": "", "Answer": ""},
-        {"TraceFault": "UnknownWord FieldCount BadNumber BadHex TooLong Order Provision NoMemory"}),
-    "mme_main": (
-        "command run_play run_sim", {"Watched": "new"},
-        {"Choice": "Play Sim", "CommandFault": "Usage NoMemory", "PlayFault": "Trace Read Write NoMemory"}),
-}
+LIST = "tests/docs/surface.txt"
+DECISIONS, FORMS = "docs/DECISIONS.md", "Forms of calls"
+ELEMENTS = "s1ap_elements"  # the crate whose every type is an element
+ELEMENT = "Element"  # the trait of elements
+GENERIC = "per_bits"  # the crate of the trait and of the types that elements are aliases of
+DECIDED = "* "
+CALL = re.compile(r"([\w:]+)(?:<.*?>)?\((.*?)\)(?: -> (.*))?")
 
 
-def sources(crate):
-    return [file.read_text(encoding="utf-8") for file in sorted((CRATES / crate / "src").rglob("*.rt"))]
+@functools.cache
+def declared(crate):
+    """What a crate's code declares."""
+    return signatures.Declared([file.read_text(encoding="utf-8") for file in sorted((CRATES / crate / "src").rglob("*.rt"))])
 
 
+@functools.cache
 def passed_on(crate):
-    """What a crate's root passes on: each name with the path that it comes from."""
+    """What a crate's root passes on: each name with the crate that it comes from, which may be itself."""
     root = (CRATES / crate / "src" / "lib.rt").read_text(encoding="utf-8")
-    found = {}
+    found = dict.fromkeys(re.findall(r"^pub (?:const )?(?:fn|struct|enum|trait|type) (\w+)", root, re.M), crate)
+    own = set(re.findall(r"^(?:pub )?mod (\w+);", root, re.M))
     for path, names in re.findall(r"^pub use ([\w:]+)::(\{[^}]*\}|\w+);", root, re.M):
+        below = path.split("::")[0]
         for name in re.findall(r"\w+", names):
-            found[name] = path.split("::")[0]
+            found[name] = crate if below in own else below
     return found
 
 
 def home_of(crate, name):
-    """The crate that declares a public name of a crate, or None."""
+    """The crate that declares what another one hands out under a name, or None."""
     while True:
-        if any(re.search(rf"^pub (?:const )?(?:fn|struct|enum|trait|type) {name}\b", text, re.M) for text in sources(crate)):
-            return crate
-        crate = passed_on(crate).get(name)
-        if crate is None or not (CRATES / crate).is_dir():
+        below = passed_on(crate).get(name)
+        if below is None:
             return None
+        if below == crate:
+            code = declared(crate)
+            return crate if name in code.lines or name in code.kinds or name in code.aliases else None
+        crate = below
 
 
 def meant(crate, name):
-    """The type that a name stands for, through the aliases of its crate."""
-    for text in sources(crate):
-        alias = re.search(rf"^pub type {name}(?:<[^=]*>)? = (\w+)", text, re.M)
-        if alias:
-            return alias[1]
-    return name
+    """The type that a name stands for, through the aliases of its crate, and the types within that alias."""
+    meaning = declared(crate).aliases.get(name)
+    if meaning is None:
+        return name, []
+    first, *within = re.findall(r"\b[A-Z]\w*[a-z]\w*", meaning)
+    return first, within
 
 
-def has_method(crate, name, method):
-    """Whether a public impl of the type, its trait, or a trait that it meets has the method."""
-    everywhere = [text for below in (crate, "per_bits", "per_numbers") for text in sources(below)]
-    kinds = {name, meant(crate, name)}
-    for text in everywhere:
-        for head, body in re.findall(r"^(?:pub )?((?:impl|trait)\b[^{]*)\{(.*?)^\}", text, re.M | re.S):
-            if not kinds & set(re.findall(r"\w+", head.split(" for ")[-1])):
-                continue
-            if re.search(rf"\bfn {method}\b", body):
-                return True
-            if " for " in head and method in READ_AND_WRITE and "Element" in head:
-                return True
-    return False
+def lines_of(crate, name):
+    """The lines of the code of what a crate hands out under a name, in that name."""
+    home = home_of(crate, name)
+    if home is None:
+        return set()
+    kind = meant(home, name)[0]
+    found = set()
+    for below in {home, home_of(home, kind) or home, crate, GENERIC}:
+        found |= declared(below).lines.get(kind, set())
+    return {re.sub(rf"\b{kind}\b", name, line) for line in found}
 
 
-def variants_of(crate, name):
-    for text in sources(crate):
-        body = re.search(rf"^pub enum {name}(?:<[^{{]*)? \{{\n(.*?)^\}}", text, re.M | re.S)
-        if body:
-            return re.findall(r"^    (\w+)\b", re.sub(r"^    (?:///|//|#\[).*$", "", body[1], flags=re.M), re.M)
-    return []
+def is_element(crate, name):
+    """Whether a type that a crate hands out has the reading and writing of an element, and so has each type within its alias."""
+    home = home_of(crate, name)
+    if home is None:
+        return False
+    kind, within = meant(home, name)
+    return (any(ELEMENT in declared(place).traits.get(kind, ()) for place in (home, ELEMENTS, GENERIC))
+            and all(is_element(ELEMENTS, part) or is_element(GENERIC, part) for part in within))
 
 
-def faults_of(crate, functions, types, enums):
-    """What of a crate's surface isn't there."""
-    for name in functions.split():
-        if home_of(crate, name) is None:
-            yield f"{crate}::{name} isn't there"
-    for name, methods in types.items():
-        home = home_of(crate, name)
-        if home is None:
-            yield f"{crate}::{name} isn't there"
+def listed():
+    """The crates of the list, each with its lines, and the lines that are decisions."""
+    found, crate = {}, None
+    for line in tables.text(LIST).split("\n"):
+        if line.startswith("#") or not line.strip():
             continue
-        for method in methods.split():
-            if not has_method(home, name, method):
-                yield f"{crate}::{name}::{method} isn't there"
-    for name, wanted in enums.items():
-        home = home_of(crate, name)
-        found = variants_of(home, name) if home else []
-        if found != wanted.split():
-            yield f"{crate}::{name} has the variants {' '.join(found) or 'of no enum'}, and not {wanted}"
+        if not line.startswith(" "):
+            crate = line
+            found[crate] = []
+            continue
+        if line.startswith(2 * signatures.MARGIN):
+            found[crate][-1] += " " + line.strip()
+        else:
+            found[crate].append(line.strip())
+    decided = [line[len(DECIDED):] for lines in found.values() for line in lines if line.startswith(DECIDED)]
+    return {crate: [line.removeprefix(DECIDED) for line in lines] for crate, lines in found.items()}, decided
 
 
-def checked(words):
-    """How many crates have their surface, and how many haven't; each fault is printed."""
-    passed = failed = 0
-    for crate, parts in SURFACE.items():
-        faults = list(faults_of(crate, *parts)) if (CRATES / crate).is_dir() else [f"there is no crate {crate}"]
-        for fault in faults:
-            print(f"FAILED surface: {fault}")
-        passed, failed = passed + (not faults), failed + bool(faults)
-    return passed, failed
+def name_of(line):
+    """The name that a line of the list is of."""
+    return re.match(r"(?:(?:enum|struct|type|element) )?(\w+)", line)[1]
+
+
+def front_of(line):
+    """A line up to its parameters, variants or fields."""
+    return re.split(r"[(<{]", line)[0]
+
+
+def fault_of(crate, line):
+    """What the code has in place of a line of the list, or None."""
+    name = name_of(line)
+    if line.startswith("element "):
+        return None if is_element(crate, name) else "isn't an element there"
+    if home_of(crate, name) is None:
+        return "isn't there"
+    if line.startswith("type "):
+        return None
+    found = lines_of(crate, name)
+    if line in found:
+        return None
+    others = sorted(other for other in found if front_of(other) == front_of(line))
+    return "is in the code `%s`, and in the list `%s`" % ("`, `".join(others), line) if others else "isn't there: `%s`" % line
+
+
+def of_memory(lines):
+    """What is wrong with how the list's calls take the allocator."""
+    with_memory = {name_of(line) for line in lines if line.startswith("enum ") and "NoMemory" in line} | {"AllocError"}
+    keepers = {name_of(line) for line in lines if "::new(Global" in line}
+    for line in lines:
+        call = CALL.fullmatch(line)
+        taken = signatures.parts(call[2]) if call else []
+        if "Global" not in taken:
+            continue
+        if taken.index("Global") != (taken[0].endswith("self")):
+            yield "%s takes the allocator, but not first" % call[1]
+        if taken[0].endswith("self") and name_of(line) in keepers:
+            yield "%s takes the allocator, which its type keeps" % call[1]
+        result = call[3] or ""
+        is_maker = call[1].endswith("::new") and result == name_of(line)
+        if not is_maker and not (result.startswith("Result<") and re.search(r"(\w+)>$", result)[1] in with_memory):
+            yield "%s takes the allocator, and can't answer want of memory" % call[1]
+
+
+def without_reason(decided):
+    """The decisions whose call docs/DECISIONS.md doesn't name."""
+    reasons = re.search(r"^## %s$(.*?)(?=^## |\Z)" % FORMS, tables.text(DECISIONS), re.M | re.S)
+    for line in decided:
+        call = CALL.fullmatch(line)[1]
+        if not reasons or "`%s`" % call not in reasons[1]:
+            yield "%s is a decision, and %s doesn't name it under %r" % (call, DECISIONS, FORMS)
+
+
+def unlisted(lines):
+    """The types of the elements of S1AP that the list hasn't."""
+    root = passed_on(ELEMENTS)
+    known = {name_of(line) for line in lines}
+    return sorted(name for name, below in root.items()
+                  if below != GENERIC and re.search(r"^[A-Z]\w*[a-z]", name) and name not in known)
+
+
+def checked(_words=()):
+    """How many crates have their surface, and how many haven't; each fault is printed. The list itself counts as one."""
+    crates, decided = listed()
+    told = [*of_memory([line for lines in crates.values() for line in lines]), *without_reason(decided)]
+    told += ["%s::%s isn't in the list" % (ELEMENTS, name) for name in unlisted(crates.get(ELEMENTS, []))]
+    failed = bool(told)
+    for crate, lines in crates.items():
+        faults = ["there is no crate " + crate]
+        if (CRATES / crate).is_dir():
+            faults = ["%s::%s %s" % (crate, name_of(line), fault) for line in lines for fault in [fault_of(crate, line)] if fault]
+        told += faults
+        failed += bool(faults)
+    for fault in told:
+        print("FAILED surface: " + fault)
+    return len(crates) + 1 - failed, failed

@@ -1,5 +1,5 @@
-"""What `tests/edits` carries over from a commit without trying it, by names alone and where edits were only added; and which function an
-edit changes."""
+"""What `tests/edits` carries over from a commit without trying it, by names alone and where edits were only added; which function an
+edit changes; and what it makes of a check's words where a proof file doesn't fit the edit."""
 import contextlib
 import importlib.machinery
 import importlib.util
@@ -7,6 +7,7 @@ import io
 import pathlib
 import subprocess
 import tempfile
+import types
 import unittest
 from unittest import mock
 
@@ -89,6 +90,119 @@ class Edits(unittest.TestCase):
                              (others, None)):
             with self.subTest(names):
                 self.assertEqual(place.named("low", names), found)
+
+
+# What a check of one function printed, in its own words and cut short: where its answers name a branch that the edit took away, where
+# an answer fits and proves nothing, and where goals are open.
+BY_NAME = """\
+./proofs/reader/BitReader/align/Answers.antt:4:29: error: `returns-then-self-ne0`: `goal.returns-then-self-ne0`: module `Rattle.low.proofs.\
+reader.BitReader.align.Goals` has no `returns-then-self-ne0` that can be named from here (names in it that begin alike: `returns`)
+./proofs/reader/BitReader/align/Answers.antt:11:92: error: `returns`: record `Rattle.low.proofs.reader.BitReader.align.Lts.After-self2` has \
+no field `if-self-ne0` (nearest: .if-self-eq1, .self)
+  the fields that can be named here are `before`, `self-1`, `if-self-eq1`, `self`, `args`
+./proofs/reader/BitReader/align/Answers.antt:11:5: note: `rw` rewrote the goal (in `returns`)
+"""
+BY_TYPE = """\
+./proofs/reader/BitReader/align/Answers.antt:6:6: error: `returns-then-self-ne0`: computed as far as they go, the two types differ only \
+where one has `Truncated`
+  (expected) and the other has `Padding` (found)
+"""
+OPEN_RETURNS = """\
+note: src/reader.rt:167:13: it is not proved that what the function ensures holds when it returns (`returns-then-self-eq1`)
+"""
+OPEN_INVARIANT = """\
+note: src/reader.rt:162:5: it is not proved that the `invariant` of the struct's `impl Model` holds of its fields where it is next used \
+whole (`invariant_of-self`); `search` gave up at one of its limits
+"""
+ALIGN, NOT_PROVED, PROVED = "low::reader::BitReader::align", "not proved\nonly=1 proved=0\n", "proved\nonly=1 proved=1\n"
+ANSWERS = """\
+use Rattle.low.specs.Bits.{octet_bits}
+
+pub returns-then-self-ne0 : goal.returns-then-self-ne0
+returns-then-self-ne0 c =
+    let i = c.self.invariant in
+    align_other i.1 c.if-self-ne0.true
+
+same-self : goal.same-self
+same-self c = refl
+
+pub returns : goal.returns
+returns c =
+    align_zero c.if-self-ne0.false
+"""
+
+
+class Fitting(unittest.TestCase):
+    """A function with a proof file, and a check that says these words in turn."""
+
+    def setUp(self):
+        self.top = pathlib.Path(self.enterContext(tempfile.TemporaryDirectory()))
+        answers = "proofs/reader/BitReader/align/Answers.antt"
+        for file, text in (("src/reader.rt", "impl BitReader {\n    fn align(&mut self) {\n        if one {\n    }\n}\n"),
+                           (answers, ANSWERS), ("edits/first.edit", EDIT.replace("lib", "reader"))):
+            (self.top / file).parent.mkdir(parents=True, exist_ok=True)
+            (self.top / file).write_text(text)
+        self.edit, self.tried = str(self.top / "edits" / "first.edit"), []
+
+    def trial(self, *words):
+        """The edits of the crate, with a toolchain that says these words."""
+        said = iter(words)
+
+        def checked(crate, texts, flags, kept):
+            self.tried.append((dict(texts), flags))
+            return types.SimpleNamespace(stdout=next(said), returncode=1)
+
+        rt = types.SimpleNamespace(checked=checked, REFUSED="", AT_LIMIT="", unread=lambda line, texts: False,
+                                   edited=lambda text, folder: ({"src/reader.rt": "an edited text"}, None))
+        return EDITS.Trial(rt, types.SimpleNamespace(name="low", folder=str(self.top)), None, None, None)
+
+    def fitted(self, *words):
+        trial = self.trial(*words)
+        return trial.try_fitted(self.edit, trial.with_proof_files(self.edit))
+
+    def test_first_check(self):
+        """That answers name what isn't there is no refusal by the contract, whatever else stays open for it."""
+        for said, is_by_contract in ((BY_NAME, False), (BY_NAME + OPEN_RETURNS, False), (BY_TYPE, True), (BY_NAME + BY_TYPE, True),
+                                     (OPEN_INVARIANT, True), (BY_NAME.replace("/align/", "/end/"), True)):
+            self.assertEqual(EDITS.is_by_contract(said, ALIGN), is_by_contract, said)
+
+    def test_batch(self):
+        """In a check of several edits such a one is left to be tried alone."""
+        ended = "logic=not-proved\n"
+        for said, is_left in ((BY_NAME + OPEN_RETURNS, True), (BY_TYPE, False)):
+            trial = self.trial("%sfn %s: not proved\n%s" % (said, ALIGN, ended))
+            trial.notes, trial.free = mock.Mock(), ["a copy"]
+            refused, left = trial.try_batch([(self.edit, EDITS.place_of_edit(trial.crate, self.edit))])
+            self.assertEqual((left, len(refused)), ([self.edit] if is_left else [], int(not is_left)))
+
+    def test_without_what_does_not_fit(self):
+        """The second check has the answers that fit alone, and is of the function alone."""
+        self.fitted("%sfn %s: %s" % (BY_NAME, ALIGN, NOT_PROVED), "fn %s: %s" % (ALIGN, PROVED))
+        texts, flags = self.tried[1]
+        kept = "use Rattle.low.specs.Bits.{octet_bits}\n\nsame-self : goal.same-self\nsame-self c = refl\n\n"
+        self.assertEqual(texts, {"src/reader.rt": "an edited text", "proofs/reader/BitReader/align/Answers.antt": kept})
+        self.assertEqual(flags[-2:], ["--only", "reader::BitReader::align"])
+
+    def test_a_check_that_does_not_end(self):
+        """What was said before a check broke off is no refusal."""
+        for words in ([""], [OPEN_RETURNS], ["%sfn %s: %s" % (BY_NAME, ALIGN, NOT_PROVED), OPEN_INVARIANT]):
+            self.assertIsNone(self.fitted(*words)[0], words)
+
+    def test_verdicts(self):
+        """Refused by an answer that fits, or by a goal of another kind than the answers that are left out; proved; or not told."""
+        for said, refused, told in (
+                ([BY_NAME + OPEN_RETURNS, OPEN_RETURNS], None,
+                 "no verdict: proofs of %s name what it took away: returns, returns-then-self-ne0;" % ALIGN),
+                ([BY_NAME + OPEN_RETURNS, OPEN_RETURNS + OPEN_INVARIANT], True,
+                 "refused, as it must be, by the proof of %s (invariant_of-self)" % ALIGN),
+                ([BY_NAME, BY_TYPE.replace("returns-then-self-ne0", "same-self")], True, "refused, as it must be"),
+                ([BY_TYPE], True, "refused, as it must be"), ([OPEN_RETURNS], True, "refused, as it must be"),
+                ([BY_NAME, None], False, "NOT REFUSED: %s is proved with this edit" % ALIGN)):
+            with self.subTest(told=told):
+                words = ["%sfn %s: %s" % ((each, ALIGN, NOT_PROVED) if each else ("", ALIGN, PROVED)) for each in said]
+                verdict, text = self.fitted(*words)
+                self.assertEqual(verdict, refused, text)
+                self.assertIn("edit low/first.edit: " + told, text)
 
 
 if __name__ == "__main__":
