@@ -18,6 +18,13 @@ abbrev pub replies_in : Room → List Reply
 replies_in (One outs) = Ok outs ∷ []
 replies_in (Each replies) = replies.items
 
+-- what the only reply sent; none where there are several, or where that event was refused
+abbrev pub only_sent : List Reply → Option (List Out)
+only_sent [] = None
+only_sent (Ok outs ∷ []) = Some outs
+only_sent (Err fault ∷ []) = None
+only_sent (first ∷ second ∷ others) = None
+
 -- a reply that is lent
 abbrev pub lent : Result (Bor (List Out)) StepFault → Reply
 lent (Ok outs) = Ok outs.now

@@ -13,6 +13,7 @@ use Rattle.trace_words.specs.declared.fault.TraceFault.{TraceFault}
 use Rattle.trace_words.specs.Trace.{line_of}
 use Rattle.trace_progress.specs.declared.progress.Progress.{Progress}
 use Rattle.trace_progress.specs.declared.progress.Progress.TheVariants.{Nothing, Provisioning, Running}
+use Rattle.trace_progress.specs.Acts.{IsIdle}
 use Rattle.trace_progress.specs.Effects.{Effect, configured, in_event, running, states_of_imsi, subscriber_added, vector_given}
 use Rattle.c_session.specs.declared.refusal.Refusal.{Refusal}
 use Rattle.c_session.specs.declared.refusal.Refusal.TheVariants as refusals
@@ -67,10 +68,14 @@ started s = of_field (running s.progress) >>= (λ world. Ok (with_world s world)
 abbrev pub lost : Session → Session
 lost s = record { progress = Nothing; replies = s.replies }
 
+-- memory ran out while the MME was made: none ran before
+abbrev pub IsLost : Session → Session → Type 0
+IsLost old new = IsIdle old.progress × (new ≡ lost old)
+
 -- what the start leaves
 abbrev pub Starts : Result Session Refusal → Session → Result (Unit {0}) Refusal → Session → Type 0
 Starts (Ok after) old (Ok _) new = new ≡ after
-Starts (Ok after) old (Err refusal) new = (refusal ≡ refusals.Lost) × (new ≡ lost old)
+Starts (Ok after) old (Err refusal) new = (refusal ≡ refusals.Lost) × IsLost old new
 Starts (Err fault) old (Ok _) new = ⊥
 Starts (Err fault) old (Err refusal) new = (refusal ≡ fault) × (new ≡ old)
 
@@ -139,10 +144,10 @@ asked s (Some states) = Ok s
 abbrev pub shown : Session → List ℕ → Result Session Refusal
 shown s imsi = world_in s.progress >>= (λ world. asked s (states_of_imsi imsi world))
 
--- what follows once the MME runs, or why it doesn't run
+-- what follows once the MME runs, or why it doesn't run; an MME that runs isn't lost
 abbrev pub OnceStarted : Result Session Refusal → (Session → Result (Unit {0}) Refusal → Session → Type 0) → Session
     → Result (Unit {0}) Refusal → Session → Type 0
-OnceStarted (Ok s) P old result new = P s result new ⊎ ((result ≡ Err refusals.Lost) × (new ≡ lost old))
+OnceStarted (Ok s) P old result new = P s result new ⊎ ((result ≡ Err refusals.Lost) × IsLost old new)
 OnceStarted (Err fault) P old result new = (result ≡ Err fault) × (new ≡ old)
 
 -- what a line of a trace leaves

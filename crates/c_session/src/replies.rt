@@ -1,7 +1,7 @@
 //! The replies to an event.
 
 ghost use Rattle.std.specs.Prelude.{◌≡◌, [], ◌∷◌, length, option_map, slice_get, Ok};
-ghost use Rattle.c_session.specs.Kept.{lent};
+ghost use Rattle.c_session.specs.Kept.{lent, only_sent};
 
 use mme_core::{Out, Outs, StepFault};
 use std::alloc::Global;
@@ -60,18 +60,16 @@ impl Replies {
         }
     }
 
-    /// The reply to an event that was taken stands in their place. Where they were such a reply too, what it sent is answered, and else
-    /// they are forgotten.
+    /// The reply to an event that was taken stands in their place. Where they were one such reply too, what it sent is answered, so
+    /// that its room can be used again, and else they are forgotten.
     pub(crate) fn exchange(&mut self, outs: Outs) -> Option<Outs>
-        ensures { self.new ≡ Ok outs ∷ [] }
+        ensures stands { self.new ≡ Ok outs ∷ [] }
+        ensures before { result ≡ only_sent self.old }
     {
         let before = mem::replace(self, Replies::one(outs));
         match before.room {
             Room::One(sent) => Some(sent),
-            Room::Each(replies) => {
-                forget_each(replies);
-                None
-            }
+            Room::Each(replies) => only_sent(replies),
         }
     }
 
@@ -117,6 +115,22 @@ impl Replies {
                 None => None,
             },
         }
+    }
+}
+
+// What the only reply sent, if there is one alone, to an event that was taken; else they are forgotten.
+fn only_sent(replies: Vec<Result<Outs, StepFault>>) -> Option<Outs>
+    ensures { result ≡ only_sent replies.items }
+{
+    let mut replies = replies;
+    if replies.len() == 1 {
+        match replies.pop() {
+            Some(Ok(outs)) => Some(outs),
+            Some(Err(_)) | None => None,
+        }
+    } else {
+        forget_each(replies);
+        None
     }
 }
 

@@ -1,6 +1,6 @@
 -- The rows of an attach (TS 24.301 clause 5.5.1): its request, authentication and security mode, and its acceptance.
 -- A row goes from a step under way to the step with the row done; none where a downlink count is spent.
-use Rattle.std.specs.Prelude.{ℕ, ◌+◌, ◌-◌, ◌%◌, ◌==◌, Bool, true, false, if◌then◌else◌, List, [], ◌∷◌, replicate, slice_get, Option, Some, None, Ok, Err}
+use Rattle.std.specs.Prelude.{ℕ, ◌+◌, ◌-◌, ◌==◌, Bool, true, false, if◌then◌else◌, List, [], ◌∷◌, replicate, slice_get, Option, Some, None, Ok, Err}
 use Rattle.std.specs.Option.{option_map_or}
 use Rattle.s1ap_causes.specs.declared.cause.Cause.TheVariants.{Nas}
 use Rattle.s1ap_causes.specs.declared.cause.NasCause.TheVariants.{AuthenticationFailure, Detach, NormalRelease, Unspecified}

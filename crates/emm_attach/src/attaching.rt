@@ -1,6 +1,6 @@
 //! The rows of an attach: its request, authentication and security mode, and its acceptance (TS 24.301 clause 5.5.1).
 
-ghost use Rattle.std.specs.Prelude.{◌≡◌, ◌-◌, ◌<◌, ◌^◌, OnOk, Some, None, length, replicate, Ok, Err};
+ghost use Rattle.std.specs.Prelude.{◌≡◌, ◌-◌, ◌<◌, ◌^◌, IsSome, OnOk, Some, None, length, Ok, Err};
 ghost use Rattle.nas_security.specs.Accepting.{accepted, seen_acceptance};
 ghost use Rattle.eps_keys.specs.Hmac.{kenb};
 ghost use Rattle.identity_slots.specs.Ids.{id_of_slot, next_counter};
@@ -408,12 +408,11 @@ fn ask_information(draft: &mut Draft, alloc: Global) -> Result<(), StepStop>
 }
 
 /// An uplink message was accepted under the count by the context that stands, and the radio keys follow from it; KeNB is returned.
-/// Where no context stands, nothing changes, and zeros are returned.
 #[tactic(auto, unfolding(crate::specs::Attaching::keyed, crate::specs::Attaching::took))]
 pub fn keyed(draft: &mut Draft, count: u32) -> Kenb
+    requires { IsSome draft.old.solo.context }
     ensures kenb { (x : Context) → draft.old.solo.context ≡ Some x → result ≡ kenb x.kasme count }
     ensures keyed { (x : Context) → draft.old.solo.context ≡ Some x → draft.new ≡ keyed x count draft.old }
-    ensures none { draft.old.solo.context ≡ None → (result ≡ replicate 32 0) × (draft.new ≡ draft.old) }
 {
     match &mut draft.solo.context {
         Some(context) => {
@@ -424,13 +423,14 @@ pub fn keyed(draft: &mut Draft, count: u32) -> Kenb
             draft.accepted = Some(Mark { place, count });
             kenb
         }
-        None => Kenb::new([0; 32]),
+        None => unreachable!(),
     }
 }
 
 // SECURITY MODE COMPLETE, accepted by the context that stands.
 #[tactic(auto, unfolding(crate::specs::Attaching::secured, crate::specs::Attaching::keyed, crate::specs::Attaching::took))]
 fn secured(draft: &mut Draft, alloc: Global, setting: &Setting, count: u32) -> Result<(), StepStop>
+    requires { IsSome draft.old.solo.context }
     ensures { (x : Context) → draft.old.solo.context ≡ Some x → Does result draft.new (secured setting.now x count draft.old) }
 {
     let kenb = keyed(draft, count);

@@ -1,5 +1,6 @@
 -- What follows from the definitions: an item that is still leaves a subscriber as it is, and nothing is sent.
 use Rattle.std.proofs.Common.{◌≡◌, ℕ, ◌==◌, ◌&&◌, Bool, true, false, not, if◌then◌else◌, List, Option, Some, None, is_some, refl}
+use Rattle.nas_elements.specs.Exact.{both_true}
 use Rattle.mme_types.specs.declared.connection.Connection.{Connection}
 use Rattle.mme_types.specs.declared.event.UeBody.{UeBody}
 use Rattle.mme_types.specs.declared.event.UeBody.TheVariants.{Uplink, UeContextReleaseRequest, UeContextReleaseComplete, InitialContextSetupFailure, PathSwitch, Notice}
@@ -62,11 +63,6 @@ unfolding solo_step row connections_gone
 still_listed s solo e items None h = refl
 still_listed s solo e items (Some k) h =
     not_lost (k.station == e && is_listed k.id k.enb_ue_id items) (untouched (connected (Some k) solo)) h
-
-both_true : (a b : Bool) → (a && b) ≡ true → (a ≡ true) × (b ≡ true)
-both_true true true h = (refl, refl)
-both_true true false h = cc
-both_true false b h = cc
 
 -- the message isn't acted on
 still_message : (s : Setting) (solo : Solo) (m : UeMessage (List ℕ)) (body : UeBody (List ℕ)) → m.body ≡ body

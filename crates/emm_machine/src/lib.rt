@@ -5,13 +5,20 @@
 //! `solo_step` in `specs/`, a function on values; where memory is refused nothing changes.
 #![tactic(auto)]
 
+mod alone;
 mod laws;
 mod messages;
 mod passing;
 mod subscriber;
 
+pub use identity_slots::{
+    AssociationId, GivenKasme, Profile, Slot, StationNumber, Vector, Vectors, Xres,
+};
 pub use laws::{
     accepted_counts_are_fresh, in_use_is_kept, sent_counts_are_fresh, vector_makes_one_context,
 };
-pub use mme_types::{Answers, EnbWorld, Network, SoloEvent};
+pub use mme_types::{
+    AggregateBitRate, Answers, Apn, Connection, EnbWorld, Entry, Network, SharedNetwork, SoloEvent,
+    StationState, UeMessage,
+};
 pub use subscriber::{EcmState, EmmState, States, Subscriber};

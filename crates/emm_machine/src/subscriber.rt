@@ -198,7 +198,7 @@ fn spent(alloc: Global, solo: &Solo) -> Result<Box<Draft>, AllocError>
 #[derive(Drop)]
 pub struct Subscriber {
     setting: Setting,
-    // None is spent that the state may yet ask for.
+    // Those are spent that the state asks for no more, and no others.
     vectors: KeptVectors,
     // The box of the step that was settled last, so that a state is settled where it stands. What the box has beside the state
     // means nothing.
@@ -211,12 +211,11 @@ impl Model for Subscriber {
 
     ghost Value = { SubscriberView };
 
-    ghost use Rattle.emm_state.specs.Taking.{vectors_spent};
-    ghost use Rattle.identity_slots.specs.Spending.{HasFrom};
+    ghost use Rattle.emm_machine.specs.Forgetting.{AreSpentFor};
 
     ghost view = { λ s. record { setting = s.setting; solo = s.state.value.solo } };
 
-    ghost invariant = { λ s. HasFrom (vectors_spent s.state.value.solo) s.setting.vectors s.vectors };
+    ghost invariant = { λ s. AreSpentFor s.setting.vectors s.state.value.solo s.vectors };
 }
 
 impl Subscriber {
@@ -250,6 +249,7 @@ impl Subscriber {
 
     /// What an event would leave and send, in a box, so that it stands in one place until it is settled: in the spare one, where
     /// there is one. Nothing changes.
+    #[tactic(auto, using(crate::proofs::Spending::are_unspent))]
     pub fn prepare(
         &self,
         spare: Option<Box<Draft>>,
@@ -275,7 +275,7 @@ impl Subscriber {
     /// until now and the room for what is sent. Takes no memory. What was sent is to be taken out before, since it would stay in
     /// memory with that box. The secrets of a vector that is spent are overwritten, and so are the keys of a context that goes on
     /// no longer.
-    #[tactic(auto, using(identity_slots::specs::SpendingLaws::from_spent))]
+    #[tactic(auto, using(crate::proofs::Spending::are_spent_on))]
     pub fn settle(&mut self, draft: Box<Draft>) -> Box<Draft>
         requires onward { IsOnward self.old.solo draft.value.solo }
         ensures state { self.new ≡ record self.old { solo = draft.value.solo } }

@@ -1,6 +1,6 @@
 //! The rows of a phone that is known: its INITIAL UE MESSAGEs, and its protected messages.
 
-ghost use Rattle.std.specs.Prelude.{◌≡◌, OnOk, Some, None};
+ghost use Rattle.std.specs.Prelude.{◌≡◌, OnOk, Some, None, IsSome};
 ghost use Rattle.nas_security.specs.Accepting.{short_accepted};
 ghost use Rattle.identity_slots.specs.Spending.{HasFrom};
 ghost use Rattle.emm_state.specs.Actions.{mac_of, refuse};
@@ -91,6 +91,7 @@ fn serve(
     entry: &Entry<&[u8]>,
     count: u32,
 ) -> Result<(), AllocError>
+    requires { IsSome draft.old.solo.context }
     ensures { (x : Context) → draft.old.solo.context ≡ Some x
         → OnOk result (draft.new ≡ served setting.now x (entry_lists entry.now) count draft.old) }
 {

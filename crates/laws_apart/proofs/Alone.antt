@@ -7,7 +7,7 @@ use Rattle.mme_types.specs.Events as events
 use Rattle.emm_state.specs.declared.setting.Setting.{Setting}
 use Rattle.emm_state.specs.declared.solo.Solo.{Solo}
 use Rattle.emm_machine.specs.Steps as steps
-use Rattle.laws_connections.specs.Comes.{Begins, ComesSo, ConnectionsComeSo, IsClaimed, Moves}
+use Rattle.laws_subscriber.specs.Comes.{Begins, ComesSo, ConnectionsComeSo, IsClaimed, Moves}
 use Rattle.laws_apart.specs.Alone.{ClaimsMade, IdsStayMade, IsMade, IsMadeIf, IsOfStranger, IsOwn}
 
 -- a number of this slot is of this slot

@@ -21,7 +21,7 @@ use Rattle.mme_routing.specs.Destinations.{Destination, input_for, item_at, stra
 use Rattle.mme_routing.specs.Destinations as to
 use Rattle.laws_apart.specs.Alone.{IsMadeIf, IsOwn, WaitsMade}
 use Rattle.laws_apart.specs.Apart.{BeginsApart, Has, IdsApart, IsApart, NoTwoShare, NoneHasWaiting, StaysApart, by_id}
-use Rattle.laws_connections.specs.Comes.{ComesSo, ConnectionsComeSo}
+use Rattle.laws_subscriber.specs.Comes.{ComesSo, ConnectionsComeSo}
 use Rattle.laws_apart.specs.Goes.{GoesMade}
 use Rattle.laws_apart.proofs.Alone.{begun_made, moved_made, own_low, stranger_high}
 use Rattle.laws_apart.proofs.Turning.{claimed_held, stays_held, waits_stay_made}

@@ -11,7 +11,7 @@ use Rattle.mme_routing.specs.Destinations.{Destination, input_for, item_at}
 use Rattle.mme_routing.specs.Destinations as to
 use Rattle.mme_routing.specs.Outcomes.{outcome_of}
 use Rattle.laws_apart.specs.Alone.{ClaimsMade, IsOfStranger, WaitsMade}
-use Rattle.laws_connections.specs.Comes.{entered_on}
+use Rattle.laws_subscriber.specs.Comes.{entered_on}
 
 -- an item that claims nobody
 abbrev pub ClaimsNone : Item → Type 0

@@ -5,8 +5,8 @@ ghost use Rattle.laws_apart.specs.Goes.{ItemClaimsMade, OctetsGoMade, WaitsStayM
 ghost use Rattle.laws_apart.specs.Apart.{BeginsApart, NoTwoShare, NoneHasWaiting, StaysApart};
 ghost use Rattle.laws_apart.specs.Associations.{EachIdOnce, FoundExactly};
 
-use laws_connections::connections_come_so;
-use laws_s1ap::decoded_is_in_range;
+use laws_codecs::decoded_is_in_range;
+use laws_subscriber::connections_come_so;
 
 /// A connection's id is the slot's own, or that of a stranger at its station and number, and over every list of items it stays so,
 /// where each stranger that is claimed has such an id.

@@ -15,7 +15,7 @@ use Rattle.mme_answering.specs.declared.prepared.Prepared.{Prepared}
 use Rattle.mme_answering.specs.Settled.{IsApart, IsFor}
 use Rattle.stranger_machine.specs.declared.table.Known.{Known}
 use Rattle.mme_routing.specs.Destinations.{item_of_notice}
-use Rattle.laws_connections.specs.Comes.{Begins, ComesSo, ConnectionsComeSo, IsClaimed, Moves}
+use Rattle.laws_subscriber.specs.Comes.{Begins, ComesSo, ConnectionsComeSo, IsClaimed, Moves}
 use Rattle.mme_answering.proofs.Stepping.{stepped_at}
 
 -- a notice begins, claims and moves nothing

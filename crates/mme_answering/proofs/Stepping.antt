@@ -18,7 +18,7 @@ use Rattle.mme_owners.specs.SubscriberLaws.{all_give_as_due, all_give_as_touched
 use Rattle.mme_timers.specs.Running.{is_due}
 use Rattle.mme_owners.specs.Subscribers.{AreOnward, IsCounting, IsStepped, due_slots, each_after, slots_stepped, step_at, subscriber_step, tick_settled}
 use Rattle.mme_owners.specs.Touched.{touched_slots}
-use Rattle.laws_ends.specs.Clocked.{ClockedRuns, IsClocked, StaysClocked}
+use Rattle.laws_subscriber.specs.Clocked.{ClockedRuns, IsClocked, StaysClocked}
 use Rattle.mme_answering.specs.InUse.{AreInUse}
 use Rattle.mme_answering.specs.Settled.{AreFit, in_state, item_sent, sent_at, solo_at, with_solo, with_stepped}
 use Rattle.mme_routing.specs.Destinations.{for_all, for_one}

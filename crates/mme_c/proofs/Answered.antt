@@ -5,7 +5,7 @@ use Rattle.c_session.specs.declared.refusal.Refusal.{Refusal}
 use Rattle.c_session.specs.declared.session.Session.{Session}
 use Rattle.c_session.specs.Refusals.{number_of}
 use Rattle.c_session.specs.declared.lines.LinesFault.{LinesFault}
-use Rattle.c_session.specs.Lines.{IsOfMemory, made_of}
+use Rattle.c_session.specs.Lines.{IsShortOf, made_of}
 use Rattle.c_session.specs.Sessions.{Leaves, Plays, Runs, Starts, nothing}
 use Rattle.mme_c.specs.declared.provisioning.LineFault.{LineFault}
 use Rattle.mme_c.specs.Calls.{IsAnswered, IsFirst, IsKept, IsLine, IsMade, IsNew, IsStarted, IsTicked, answer_number, line_fault}
@@ -61,15 +61,14 @@ line_played text s after result p = (result, p, refl)
 
 pub new_kept : (text : List ℕ) (s : Session) (fault : LineFault) (answer : ℕ) (after : Option Session) → made_of text ≡ Ok s
     → IsKept s None answer after → IsNew None text fault answer after fault
-new_kept text s fault answer after m (inl k) =
+new_kept text s fault answer after m k =
     let P : Result Session LinesFault → Type 0 = λ made. IsMade made answer after fault fault in
-    inl (subst P (sym m) (k.0, k.1, refl))
-new_kept text s fault answer after m (inr k) = inr (inr (k.0, k.1, refl))
+    inl (subst P (sym m) (k, refl))
 
 pub new_refused : (text : List ℕ) (refused : LinesFault) (fault : LineFault)
-    → IsOfMemory refused.refusal ⊎ (made_of text ≡ Err refused)
+    → IsShortOf text refused ⊎ (made_of text ≡ Err refused)
     → IsNew None text fault (number_of refused.refusal) None (line_fault refused)
-new_refused text refused fault (inl m) = inr (inl (refused, m, refl, refl, refl))
+new_refused text refused fault (inl m) = inr (refused, m, (refl, refl, refl))
 new_refused text refused fault (inr m) =
     let P : Result Session LinesFault → Type 0 =
     λ made. IsMade made (number_of refused.refusal) None fault (line_fault refused) in

@@ -5,9 +5,9 @@ use Rattle.c_session.specs.declared.refusal.Refusal.{Refusal}
 use Rattle.c_session.specs.declared.refusal.Refusal.TheVariants as refusals
 use Rattle.c_session.specs.declared.lines.LinesFault.{LinesFault}
 use Rattle.c_session.specs.declared.session.Session.{Session}
-use Rattle.c_session.specs.Lines.{IsOfMemory, made_of}
+use Rattle.c_session.specs.Lines.{IsShortOf, made_of}
 use Rattle.c_session.specs.Refusals.{number_of}
-use Rattle.c_session.specs.Sessions.{Plays, RanFrom, lost, nothing, started, ticking, ticks}
+use Rattle.c_session.specs.Sessions.{IsLost, Plays, RanFrom, nothing, started, ticking, ticks}
 use Rattle.mme_c.specs.declared.provisioning.LineFault.{LineFault}
 
 -- the answer of a call
@@ -45,9 +45,9 @@ IsBegin wanted (Some s) answer (Some after) = IsAnswered (wanted s) s answer aft
 
 -- ---- the start
 
--- the MME runs, or memory ran out while it was made, and nothing is provisioned any more (25)
+-- the MME runs, or memory ran out while it was made, where none ran before, and nothing is provisioned any more (25)
 abbrev pub IsStarted : Result Session Refusal → Session → ℕ → Session → Type 0
-IsStarted (Ok wanted) s answer after = ((answer ≡ 0) × (after ≡ wanted)) ⊎ ((answer ≡ 25) × (after ≡ lost s))
+IsStarted (Ok wanted) s answer after = ((answer ≡ 0) × (after ≡ wanted)) ⊎ ((answer ≡ 25) × IsLost s after)
 IsStarted (Err refusal) s answer after = (answer ≡ number_of refusal) × (after ≡ s)
 
 abbrev pub IsStart : Option Session → ℕ → Option Session → Type 0
@@ -88,21 +88,22 @@ IsLine (Some s) text answer (Some after) =
 abbrev pub line_fault : LinesFault → LineFault
 line_fault fault = record { line = fault.line; refusal = number_of fault.refusal }
 
--- the MME of these lines is held, or memory ran out (4); or they are refused, with the number why and the line
-abbrev pub IsMade : Result Session LinesFault → ℕ → Option Session → LineFault → LineFault → Type 0
-IsMade (Ok wanted) answer after fault fault' = (answer ≡ 0) × (after ≡ Some wanted) × (fault' ≡ fault)
-IsMade (Err refused) answer after fault fault' =
-    (answer ≡ number_of refused.refusal) × (after ≡ None) × (fault' ≡ line_fault refused)
+-- the lines are refused: the handle stays empty, and the number why is answered and, with the line, written
+abbrev pub IsRefusedAt : LinesFault → ℕ → Option Session → LineFault → Type 0
+IsRefusedAt refused answer after fault =
+    (answer ≡ number_of refused.refusal) × (after ≡ None) × (fault ≡ line_fault refused)
 
--- memory ran out at a line
-abbrev pub IsShort : ℕ → Option Session → LineFault → Type 0
-IsShort answer after fault =
-    (refused : LinesFault) × IsOfMemory refused.refusal × (answer ≡ number_of refused.refusal) × (after ≡ None)
-    × (fault ≡ line_fault refused)
+-- the MME of these lines is held, or there is no memory for what the handle keeps (4), and no fault is written; or they are refused
+abbrev pub IsMade : Result Session LinesFault → ℕ → Option Session → LineFault → LineFault → Type 0
+IsMade (Ok wanted) answer after fault fault' = IsKept wanted None answer after × (fault' ≡ fault)
+IsMade (Err refused) answer after fault fault' = IsRefusedAt refused answer after fault'
+
+-- memory ran out at a line, or while the MME was made of all of them
+abbrev pub IsShort : List ℕ → ℕ → Option Session → LineFault → Type 0
+IsShort text answer after fault = (refused : LinesFault) × IsShortOf text refused × IsRefusedAt refused answer after fault
 
 -- an empty handle holds the MME of these lines, or stays empty. One that isn't empty keeps what it holds (22)
 abbrev pub IsNew : Option Session → List ℕ → LineFault → ℕ → Option Session → LineFault → Type 0
 IsNew None text fault answer after fault' =
-    IsMade (made_of text) answer after fault fault' ⊎ IsShort answer after fault'
-    ⊎ ((answer ≡ 4) × (after ≡ None) × (fault' ≡ fault))
+    IsMade (made_of text) answer after fault fault' ⊎ IsShort text answer after fault'
 IsNew (Some s) text fault answer after fault' = (answer ≡ 22) × (after ≡ Some s) × (fault' ≡ fault)

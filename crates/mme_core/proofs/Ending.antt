@@ -6,9 +6,9 @@ use Rattle.emm_state.specs.declared.solo.Phase.TheVariants.{Deregistered}
 use Rattle.emm_state.specs.declared.solo.Solo.{Solo}
 use Rattle.emm_machine.specs.Steps.{solo_after, solo_step}
 use Rattle.emm_machine.specs.SubscriberView.{SubscriberView}
-use Rattle.laws_ends.specs.Clocked.{IsClocked, StaysClocked}
-use Rattle.laws_ends.specs.Ends.{IsSettled}
-use Rattle.laws_ends.specs.Silent.{SilentEnds, SilentIsForgotten}
+use Rattle.laws_subscriber.specs.Clocked.{IsClocked, StaysClocked}
+use Rattle.laws_subscriber.specs.Ends.{IsSettled}
+use Rattle.laws_subscriber.specs.Silent.{SilentEnds, SilentIsForgotten}
 use Rattle.mme_core.specs.EndingRuns.{IsEndingRun}
 
 after_both : (s : Setting) (solo : Solo) (before since : List Item)

@@ -9,8 +9,8 @@ use Rattle.emm_state.specs.declared.setting.Setting.{Setting}
 use Rattle.emm_machine.specs.Freshness.{IsInUse, StaysInUse}
 use Rattle.emm_machine.specs.SubscriberView.{SubscriberView}
 use Rattle.emm_machine.specs.Words.{fresh_solo}
-use Rattle.laws_admission.specs.Sound.{IsSound, StaysSound}
-use Rattle.laws_ends.specs.Clocked.{IsClocked, StaysClocked}
+use Rattle.laws_subscriber.specs.Sound.{IsSound, StaysSound}
+use Rattle.laws_subscriber.specs.Clocked.{IsClocked, StaysClocked}
 use Rattle.mme_core.specs.FreshRuns.{AreInUse}
 use Rattle.mme_core.specs.World.{each_after, fresh_subscribers}
 

@@ -20,9 +20,9 @@ use Rattle.stranger_machine.specs.Machine.{Input, Begins, Notes, Receives, notes
 use Rattle.stranger_machine.specs.Table.{known_id, known_if, noted, stranger_at, with_input, with_stranger}
 use Rattle.mme_routing.specs.Destinations.{Destination, strangers_left}
 use Rattle.mme_routing.specs.Destinations as to
-use Rattle.laws_admission.specs.Sound.{IsSound, StaysSound}
-use Rattle.laws_ends.specs.Clocked.{IsClocked, StaysClocked}
-use Rattle.laws_ends.specs.Strangers.{IsTimed, StaysTimed}
+use Rattle.laws_subscriber.specs.Sound.{IsSound, StaysSound}
+use Rattle.laws_subscriber.specs.Clocked.{IsClocked, StaysClocked}
+use Rattle.laws_subscriber.specs.Strangers.{IsTimed, StaysTimed}
 use Rattle.mme_core.specs.declared.event.Event.{Event}
 use Rattle.mme_core.specs.declared.event.StepFault.{StepFault}
 use Rattle.mme_core.specs.Kept.{BeginsKept, IsKept, IsKnownTimed, StaysKept}

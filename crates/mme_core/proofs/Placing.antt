@@ -21,7 +21,7 @@ use Rattle.mme_answering.specs.declared.prepared.Prepared.TheVariants as prepare
 use Rattle.mme_answering.specs.Settled.{IsWaiting, settled_strangers, settled_subscribers}
 use Rattle.laws_apart.specs.Alone.{WaitsMade}
 use Rattle.laws_apart.specs.Apart.{IdsApart, NoneHasWaiting, NoTwoShare}
-use Rattle.laws_ends.specs.Strangers.{IsTimed}
+use Rattle.laws_subscriber.specs.Strangers.{IsTimed}
 use Rattle.mme_core.specs.Kept.{IsKnownTimed}
 
 -- no two subscribers have one id, and none has that of a stranger that waits

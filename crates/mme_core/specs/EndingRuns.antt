@@ -4,9 +4,9 @@ use Rattle.mme_types.specs.Events.{Item}
 use Rattle.emm_state.specs.declared.solo.Phase.TheVariants.{Deregistered, Registered}
 use Rattle.emm_state.specs.Timers.{reachable_ticks}
 use Rattle.emm_machine.specs.SubscriberView.{SubscriberView}
-use Rattle.laws_ends.specs.Clocked.{IsClocked}
-use Rattle.laws_ends.specs.Ends.{IsSettled, longest_in}
-use Rattle.laws_ends.specs.Silent.{AreSilent, ticks_among}
+use Rattle.laws_subscriber.specs.Clocked.{IsClocked}
+use Rattle.laws_subscriber.specs.Ends.{IsSettled, longest_in}
+use Rattle.laws_subscriber.specs.Silent.{AreSilent, ticks_among}
 use Rattle.mme_core.specs.GuardedRuns.{state_after}
 
 pub record IsEndingRun (w : SubscriberView) (items : List Item) : Type 0 where

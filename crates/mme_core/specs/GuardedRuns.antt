@@ -11,11 +11,11 @@ use Rattle.emm_state.specs.Actions.{is_registered}
 use Rattle.emm_machine.specs.Freshness.{sent_marks}
 use Rattle.emm_machine.specs.Steps.{solo_after, solo_answers, solo_step}
 use Rattle.emm_machine.specs.SubscriberView.{SubscriberView}
-use Rattle.laws_admission.specs.Keys.{GoesToTheProved, HasKeyOf, has_radio_key}
-use Rattle.laws_admission.specs.Marked.{IsFormUnder, IsMarked, protected_among}
-use Rattle.laws_admission.specs.Proof.{IsProved}
-use Rattle.laws_admission.specs.Sound.{is_past_proof}
-use Rattle.laws_admission.specs.Unproved.{MayMoveOn, StaysRegistered, begins_attach, is_no_message, is_path_switch, is_proved_message}
+use Rattle.laws_subscriber.specs.Keys.{GoesToTheProved, HasKeyOf, has_radio_key}
+use Rattle.laws_subscriber.specs.Marked.{IsFormUnder, IsMarked, protected_among}
+use Rattle.laws_subscriber.specs.Proof.{IsProved}
+use Rattle.laws_subscriber.specs.Sound.{is_past_proof}
+use Rattle.laws_subscriber.specs.Unproved.{MayMoveOn, StaysRegistered, begins_attach, is_no_message, is_path_switch, is_proved_message}
 
 -- the machine's state after a list of items
 abbrev pub state_after : SubscriberView → List Item → Solo

@@ -4,7 +4,7 @@ use Rattle.sorted_list.specs.Ordered.{Every, Rising}
 use Rattle.identity_slots.specs.Provisioned.{Provisioned}
 use Rattle.stranger_machine.specs.declared.table.Known.{Known}
 use Rattle.stranger_machine.specs.Table.{known_id}
-use Rattle.laws_ends.specs.Strangers.{IsTimed}
+use Rattle.laws_subscriber.specs.Strangers.{IsTimed}
 use Rattle.mme_core.specs.declared.config.Config.{Config}
 use Rattle.mme_core.specs.declared.event.Event.{Event}
 use Rattle.mme_core.specs.FreshRuns.{AreInUse}

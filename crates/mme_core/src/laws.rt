@@ -5,9 +5,8 @@ ghost use Rattle.mme_core.specs.Kept.{BeginsKept, StaysKept};
 ghost use Rattle.mme_core.specs.Laws.{Exchanges, GoesAlone, NamedById, NamedByIdentity, NamedByImsi, OneOutput, RepliesSo, SameFromMme, SameToSlot};
 
 use emm_machine::in_use_is_kept;
-use laws_admission::soundness_is_kept;
 use laws_apart::{ids_stay_apart, octets_go_made};
-use laws_ends::{clocks_are_kept, strangers_are_closed};
+use laws_subscriber::{clocks_are_kept, soundness_is_kept, strangers_are_closed};
 
 /// Two lists of events that have the same items for a slot, where those that have nothing for it are left out, tell the slot
 /// the same messages in the same order and leave it in the same state.

@@ -36,12 +36,11 @@ use emm_machine::{
     States, accepted_counts_are_fresh, sent_counts_are_fresh, vector_makes_one_context,
 };
 use identity_slots::{Provision, Slot};
-use laws_admission::{
-    keys_go_to_the_proved, protected_forms_are_marked, registered_by_proof, soundness_is_kept,
-    unproved_leaves,
-};
 use laws_apart::{associations_are_a_map, no_two_share_an_id};
-use laws_ends::{clocks_are_kept, silent_phones_end};
+use laws_subscriber::{
+    clocks_are_kept, keys_go_to_the_proved, protected_forms_are_marked, registered_by_proof,
+    silent_phones_end, soundness_is_kept, unproved_leaves,
+};
 use mme_answering::{Outs, Prepared, pass, prepare, settle};
 use mme_owners::Owners;
 use mme_routing::{Destination, Outcome, outcome_of};

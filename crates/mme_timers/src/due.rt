@@ -1,7 +1,8 @@
 //! Who is due at the next tick: strangers by their ids, subscribers by their slots.
 
-ghost use Rattle.std.specs.Prelude.{◌≡◌, None, IfOk};
+ghost use Rattle.std.specs.Prelude.{◌≡◌, Some, None, IfOk, if◌then◌else◌};
 ghost use Rattle.timer_queue.specs.Countdowns.{due_of};
+ghost use Rattle.mme_timers.specs.Running.{is_this};
 ghost use Rattle.mme_timers.specs.Due.{id_of, ids_of, is_past, owner_slot, slots_once, AreOfOwners, IsOfOwner};
 
 use identity_slots::{AssociationId, Slot};
@@ -30,27 +31,24 @@ fn id_of(owner: TimerOwner) -> Option<AssociationId>
     }
 }
 
-// The slot whose timer it is.
-fn owner_slot(owner: TimerOwner) -> Slot
-    requires { IsOfOwner owner }
-    ensures { result ≡ owner_slot owner }
+// Whether a slot was the last.
+fn is_last(slot: u32, last: Option<u32>) -> bool
+    ensures { result ≡ is_this slot last }
 {
-    match owner {
-        TimerOwner::Subscriber(number) => Slot::new(number),
-        TimerOwner::Stranger { .. } => Slot::new(0),
+    match last {
+        Some(last) => last == slot,
+        None => false,
     }
 }
 
-// Whether it is a stranger's timer, or the slot was the last.
-fn is_past(owner: TimerOwner, last: Option<u32>) -> bool
-    ensures { result ≡ is_past owner last }
+// The slot whose timer it is, unless it is a stranger's or the slot was the last.
+fn next_slot(owner: TimerOwner, last: Option<u32>) -> Option<Slot>
+    requires { IsOfOwner owner }
+    ensures { result ≡ (if is_past owner last then None else Some (owner_slot owner)) }
 {
     match owner {
-        TimerOwner::Subscriber(slot) => match last {
-            Some(last) => last == slot,
-            None => false,
-        },
-        TimerOwner::Stranger { .. } => true,
+        TimerOwner::Subscriber(slot) if !is_last(slot, last) => Some(Slot::new(slot)),
+        TimerOwner::Subscriber(_) | TimerOwner::Stranger { .. } => None,
     }
 }
 
@@ -76,8 +74,7 @@ fn slots_of(alloc: Global, timers: &[Expiry]) -> Result<Vec<Slot>, AllocError>
     let mut due = Vec::new(alloc);
     let mut last: Option<u32> = None;
     for timer in timers {
-        if !is_past(timer.owner, last) {
-            let slot = owner_slot(timer.owner);
+        if let Some(slot) = next_slot(timer.owner, last) {
             due.push(slot)?;
             last = Some(slot.get());
         }

@@ -99,7 +99,7 @@ fn push_answer(alloc: Global, answer: &Answer<'_>, out: &mut Vec<u8>) -> Result<
     ensures err { OnErr result (out.new.items ≡ out.old.items) }
 {
     comments_are_not_kept();
-    let line = write_answer(Vec::new(alloc), answer)?;
+    let line = write_answer(alloc, answer)?;
     push_both(b"# ", line.as_slice(), out)?;
     Ok(())
 }

@@ -1,3 +1,4 @@
+mod rows;
 mod run;
 
 use identity_slots::Provision;

@@ -13,7 +13,7 @@ use identity_slots::{StationNumber, number_in, station_in};
 use itoa::Buffer;
 use mme_answering::{Out, Owner};
 use nas_elements::Imsi;
-use std::alloc::AllocError;
+use std::alloc::{AllocError, Global};
 
 // The octets of a line of a message that is sent, without those of the message, at most: two words, an owner, a station, spaces and
 // LF.
@@ -41,9 +41,17 @@ pub fn sent_line(out: &Out) -> Answer<'_>
     Answer::Sent(out.owner, out.station, out.octets.as_slice())
 }
 
-/// The line of an answer, with the LF that ends it, in the room of a Vec that is given: what that held is dropped. It has no other
-/// LF, and is longer than its octets in hex by at most 80 octets. Where the room is too small and no more is given, it is dropped.
-pub fn write_answer(room: Vec<u8>, answer: &Answer<'_>) -> Result<Vec<u8>, AllocError>
+/// The line of an answer, with the LF that ends it: it has no other LF, and is longer than its octets in hex by at most 80 octets.
+pub fn write_answer(alloc: Global, answer: &Answer<'_>) -> Result<Vec<u8>, AllocError>
+    ensures text { IfOk result (λ line. line.items ≡ answer_text answer.now) }
+    ensures line { IfOk result (λ line. IsLineWithin (80 + 2 * octets_said answer.now) line.items) }
+{
+    write_answer_in(Vec::new(alloc), answer)
+}
+
+/// The same line in the room of a Vec that is given: what that held is dropped. Where the room is too small and no more is given,
+/// it is dropped.
+pub fn write_answer_in(room: Vec<u8>, answer: &Answer<'_>) -> Result<Vec<u8>, AllocError>
     ensures text { IfOk result (λ line. line.items ≡ answer_text answer.now) }
     ensures line { IfOk result (λ line. IsLineWithin (80 + 2 * octets_said answer.now) line.items) }
 {

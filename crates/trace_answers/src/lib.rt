@@ -4,5 +4,5 @@
 mod answer;
 mod laws;
 
-pub use answer::{Answer, sent_line, write_answer};
+pub use answer::{Answer, sent_line, write_answer, write_answer_in};
 pub use laws::answers_are_lines;

@@ -13,7 +13,7 @@ use nas_elements::Imsi;
 use std::alloc::Global;
 use std::io::Write;
 use std::mem;
-use trace_answers::{Answer, sent_line, write_answer};
+use trace_answers::{Answer, sent_line, write_answer_in};
 use trace_progress::PlayFault;
 
 /// Writes these octets; at `false` the writer failed, and has the first of them.
@@ -46,7 +46,7 @@ fn write_one<W: Write>(
     ensures put { GrowsBy (W.contents writer.old.inner) (W.contents writer.new.inner) (Puts (answer_text answer.now) result) }
     ensures write_failed { writer.new.failed ≡ failed_after_play writer.old.failed result }
 {
-    let Ok(line) = write_answer(mem::replace(room, Vec::new(alloc)), answer) else {
+    let Ok(line) = write_answer_in(mem::replace(room, Vec::new(alloc)), answer) else {
         return Err(PlayFault::NoMemory);
     };
     *room = line;

@@ -10,7 +10,7 @@ pub use mme_types::{AggregateBitRate, Apn, Network};
 pub use sim_words::{
     PhoneWord, RadioPlace, RadioWord, ScriptAct, ScriptLine, StationLine, parse_script_line,
 };
-pub use trace_answers::{Answer, write_answer};
+pub use trace_answers::{Answer, write_answer, write_answer_in};
 pub use trace_words::{
     LONGEST_LINE, Line, TraceFault, TraceOctets, TraceTicks, parse_line, write_line,
 };

@@ -7,7 +7,7 @@ use Rattle.mme_core.specs.Projection.{is_slot, is_station, is_stranger, projecti
 use Rattle.mme_core.specs.World.{World, events_taken, replies, strangers_in, world_run}
 use Rattle.emm_machine.specs.Freshness.{IsInUse}
 use Rattle.emm_machine.specs.Steps.{solo_after}
-use Rattle.laws_admission.specs.Sound.{IsSound}
+use Rattle.laws_subscriber.specs.Sound.{IsSound}
 use Rattle.mme_core.specs.Faults.{HasEachFault}
 use Rattle.mme_core.specs.FreshRuns.{AreInUse}
 use Rattle.mme_core.proofs.InUse.{in_use_at}

@@ -1,9 +1,0 @@
-use Rattle.std.proofs.Common.{refl}
-use Rattle.laws_admission.proofs.SoundRuns.{stays_sound}
-use Rattle.laws_admission.proofs.laws.soundness_is_kept.Goals as goal
-
-pub returns-clause-fresh : goal.returns-clause-fresh
-returns-clause-fresh c s = record { context = refl; connection = refl; challenge = tt; reachable = tt; repeat = tt }
-
-pub returns-clause-run : goal.returns-clause-run
-returns-clause-run c = stays_sound c.accepted_is_fresh.ensures.whole

@@ -1,2 +1,0 @@
-mod Left
-mod Unseen

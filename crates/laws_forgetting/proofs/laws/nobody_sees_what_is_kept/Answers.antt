@@ -1,5 +1,0 @@
-use Rattle.laws_forgetting.proofs.Unseen.{nobody_sees}
-use Rattle.laws_forgetting.proofs.laws.nobody_sees_what_is_kept.Goals as goal
-
-pub returns : goal.returns
-returns c = nobody_sees

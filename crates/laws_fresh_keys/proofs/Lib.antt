@@ -1,7 +1,0 @@
-mod Order
-mod Holding
-mod Actions
-mod Rows
-mod Runs
-mod OfMme
-mod OfMessage

@@ -1,3 +1,0 @@
-pub mod Tmsis
-pub mod Again
-pub mod Addresses

@@ -1,3 +1,0 @@
-mod Wire
-mod Bidding
-mod Plain

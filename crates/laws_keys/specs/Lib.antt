@@ -1,2 +1,0 @@
-pub mod Bidding
-pub mod Plain

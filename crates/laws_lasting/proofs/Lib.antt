@@ -1,2 +1,0 @@
-mod Lasting
-mod Strangers

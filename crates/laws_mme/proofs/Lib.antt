@@ -1,0 +1,30 @@
+mod Challenges
+mod Connections
+mod Work
+mod Wire
+mod Bidding
+mod Plain
+mod ProceduresLast
+mod StrangersWait
+pub mod SentByTouched
+pub mod Turns
+pub mod OwnersAlone
+pub mod StationsAlone
+pub mod Guards
+pub mod SameStranger
+pub mod SameStation
+pub mod EventByEvent
+mod EndingWorlds
+pub mod IdRuns
+pub mod Reached
+mod Counters
+mod TmsisApart
+mod Left
+mod Unseen
+mod KeyOrder
+mod Holding
+mod KeyActions
+mod KeyRows
+mod KeyRuns
+mod KeysOfMme
+mod KeysOfMessage

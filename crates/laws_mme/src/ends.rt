@@ -1,0 +1,33 @@
+//! What ends of itself in an MME, where phones fall silent. Each law is the contract of a function that does nothing.
+
+ghost use Rattle.laws_mme.specs.EndingWorlds.{AllAreForgotten, AllEndsInTime, EveryRunEnds, SilentSlotEnds, SilentSlotIsForgotten, TicksReachEveryone};
+
+use laws_subscriber::{
+    idle_phones_are_forgotten, procedures_end, silent_phones_end, strangers_are_closed,
+};
+use mme_core::{slots_end, worlds_are_kept};
+
+/// Ticks reach every subscriber; in 30 in a row no procedure is under way any more, nobody is paged and no stranger waits; and in
+/// 3510 each phone is deregistered that wasn't registered and connected.
+pub fn everything_ends()
+    ensures reach { TicksReachEveryone }
+    ensures all { AllEndsInTime }
+    ensures from_start { EveryRunEnds }
+    ensures forgotten { AllAreForgotten }
+{
+    worlds_are_kept();
+    procedures_end();
+    idle_phones_are_forgotten();
+    strangers_are_closed();
+}
+
+/// A phone that says nothing over a list of events, that no data comes for and whose subscription stays, is in no procedure any
+/// more once 30 of them were ticks, whatever the list has for others; and deregistered once 3510 were, if it wasn't registered and
+/// connected.
+pub fn silent_slots_end()
+    ensures procedure { SilentSlotEnds }
+    ensures forgotten { SilentSlotIsForgotten }
+{
+    slots_end();
+    silent_phones_end();
+}

@@ -1,4 +1,0 @@
-pub mod Rows
-pub mod EmmFaults
-pub mod EsmFaults
-pub mod Outcomes

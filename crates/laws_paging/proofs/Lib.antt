@@ -1,4 +1,0 @@
-mod Messages
-mod Once
-mod Paged
-mod Areas

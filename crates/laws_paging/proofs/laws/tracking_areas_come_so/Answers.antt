@@ -1,5 +1,0 @@
-use Rattle.laws_paging.proofs.Areas.{areas_come_so}
-use Rattle.laws_paging.proofs.laws.tracking_areas_come_so.Goals as goal
-
-pub returns : goal.returns
-returns c = areas_come_so c.unproved_leaves.ensures

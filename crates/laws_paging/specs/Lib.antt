@@ -1,2 +1,0 @@
-pub mod Paged
-pub mod Areas

@@ -1,4 +1,0 @@
-pub mod Runs
-pub mod Printed
-pub mod Laws
-pub mod Comments

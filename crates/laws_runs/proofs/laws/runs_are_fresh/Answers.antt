@@ -1,8 +1,0 @@
-use Rattle.laws_runs.proofs.Guards.{run_is_fresh}
-use Rattle.laws_runs.proofs.laws.runs_are_fresh.Goals as goal
-
-pub returns : goal.returns
-returns c =
-    run_is_fresh c.sent_counts_are_fresh.ensures.ahead c.sent_counts_are_fresh.ensures.once
-    c.accepted_counts_are_fresh.ensures.ahead c.accepted_counts_are_fresh.ensures.once
-    c.vector_makes_one_context.ensures.ahead c.vector_makes_one_context.ensures.once

@@ -1,8 +1,0 @@
-use Rattle.laws_runs.proofs.Steps.{replies_join, worlds_join}
-use Rattle.laws_runs.proofs.laws.runs_join.Goals as goal
-
-pub returns-clause-replies : goal.returns-clause-replies
-returns-clause-replies c = replies_join
-
-pub returns-clause-worlds : goal.returns-clause-worlds
-returns-clause-worlds c = worlds_join

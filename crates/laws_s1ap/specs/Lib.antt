@@ -1,3 +1,0 @@
-pub mod S1apFaults
-pub mod Least
-pub mod Ranged

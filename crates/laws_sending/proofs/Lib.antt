@@ -1,6 +1,0 @@
-mod Sending
-mod Outcomes
-mod Events
-mod Kept
-mod Associated
-mod Said

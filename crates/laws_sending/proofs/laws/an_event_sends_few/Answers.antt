@@ -1,5 +1,0 @@
-use Rattle.laws_sending.proofs.Events.{events_send_few}
-use Rattle.laws_sending.proofs.laws.an_event_sends_few.Goals as goal
-
-pub returns : goal.returns
-returns c = events_send_few c.what_is_encoded.ensures.decoded c.work_is_bounded.ensures

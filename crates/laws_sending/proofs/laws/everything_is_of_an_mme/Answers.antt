@@ -1,5 +1,0 @@
-use Rattle.laws_sending.proofs.Events.{everything_is_of_an_mme}
-use Rattle.laws_sending.proofs.laws.everything_is_of_an_mme.Goals as goal
-
-pub returns : goal.returns
-returns c = everything_is_of_an_mme c.what_is_encoded.ensures.decoded

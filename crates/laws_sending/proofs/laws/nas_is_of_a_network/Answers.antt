@@ -1,5 +1,0 @@
-use Rattle.laws_sending.proofs.Said.{says_of_network}
-use Rattle.laws_sending.proofs.laws.nas_is_of_a_network.Goals as goal
-
-pub returns : goal.returns
-returns c = says_of_network c.what_is_encoded.ensures.decoded

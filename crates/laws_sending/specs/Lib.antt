@@ -1,5 +1,0 @@
-pub mod Kinds
-pub mod Few
-pub mod Kept
-pub mod Associated
-pub mod Said

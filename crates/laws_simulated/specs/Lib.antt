@@ -1,5 +1,0 @@
-pub mod NasSent
-pub mod PhoneRanges
-pub mod Phones
-pub mod StationRanges
-pub mod Stations

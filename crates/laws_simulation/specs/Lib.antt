@@ -1,0 +1,9 @@
+pub mod NasSent
+pub mod PhoneRanges
+pub mod Phones
+pub mod StationRanges
+pub mod Stations
+pub mod TraceRuns
+pub mod Printed
+pub mod OwnLines
+pub mod Comments

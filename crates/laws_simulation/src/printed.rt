@@ -1,0 +1,87 @@
+//! The printed text of a trace, owner by owner, and so the comments in what a simulation prints. Each law is the contract of a
+//! function that does nothing.
+
+ghost use Rattle.laws_simulation.specs.Comments.{CommentsArePlayed, NobodyIsSimulated, NothingIsSimulated, SlotIsSimulated, StationIsSimulated, StrangerIsSimulated};
+ghost use Rattle.laws_simulation.specs.OwnLines.{NobodyIsPrinted, NobodyIsPrintedFrom, NothingIsPrinted, RunBeginsFresh, SameSlotIsPrinted, SameStationIsPrinted, SameStrangerIsPrinted, SlotIsPrinted, SlotIsPrintedFrom, StationIsPrinted, StationIsPrintedFrom, StrangerIsPrinted, StrangerIsPrintedFrom};
+
+use laws_mme::{
+    same_to_station, same_to_stranger, slots_run_alone, stations_run_alone, strangers_run_alone,
+};
+use laws_network::{everybody_is_placed, what_stations_tell_is_in_range};
+use mme_core::{ids_are_apart, same_to_slot, worlds_are_kept};
+
+/// What happens in a trace happens to an MME that nobody has spoken to before, with a slot for each who is provisioned.
+pub fn runs_begin_fresh()
+    ensures { RunBeginsFresh }
+{}
+
+/// A trace of which no line comes to an MME prints nothing.
+pub fn no_run_prints_nothing()
+    ensures { NothingIsPrinted }
+{}
+
+/// In what a trace prints, the lines of `sN` are those of slot N's machine over its projection of the trace; a slot that isn't
+/// provisioned has none. So of lines that any MME is given.
+pub fn slots_are_printed()
+    ensures trace { SlotIsPrinted }
+    ensures absent { NobodyIsPrinted }
+    ensures mme { SlotIsPrintedFrom }
+    ensures mme_absent { NobodyIsPrintedFrom }
+{
+    slots_run_alone();
+    ids_are_apart();
+}
+
+/// The lines of `xE.B` are those of the machine of the stranger with the number B at station E, over what the trace has for it.
+pub fn strangers_are_printed()
+    ensures trace { StrangerIsPrinted }
+    ensures mme { StrangerIsPrintedFrom }
+{
+    strangers_run_alone();
+    worlds_are_kept();
+    ids_are_apart();
+    everybody_is_placed();
+    what_stations_tell_is_in_range();
+}
+
+/// The lines of `eE` are those that station E's own events lead to.
+pub fn stations_are_printed()
+    ensures trace { StationIsPrinted }
+    ensures mme { StationIsPrintedFrom }
+{
+    stations_run_alone();
+    ids_are_apart();
+}
+
+/// Two traces that have the same items for a slot, where those that have nothing for it are left out, print the same lines for it;
+/// and so for a stranger, by what reaches it, and for a station, by its events.
+pub fn same_is_printed_alike()
+    ensures slot { SameSlotIsPrinted }
+    ensures stranger { SameStrangerIsPrinted }
+    ensures station { SameStationIsPrinted }
+{
+    slots_are_printed();
+    same_to_slot();
+    strangers_are_printed();
+    same_to_stranger();
+    stations_are_printed();
+    same_to_station();
+}
+
+/// In what a simulation prints, up to the end of its script or to a line that has a fault, the lines that begin with `# out` and
+/// the name of an owner are those of its own machine over what the printed trace has for it: of `sN` those of slot N's machine, of
+/// `xE.B` those of the stranger with the number B at station E, of `eE` what station E's own events lead to. They are, after `# `,
+/// what is printed for the owner where the output is played as a trace; where no line of it comes to an MME there are none.
+pub fn simulations_are_printed()
+    ensures played { CommentsArePlayed }
+    ensures nothing { NothingIsSimulated }
+    ensures slot { SlotIsSimulated }
+    ensures absent { NobodyIsSimulated }
+    ensures station { StationIsSimulated }
+    ensures stranger { StrangerIsSimulated }
+{
+    no_run_prints_nothing();
+    slots_are_printed();
+    stations_are_printed();
+    strangers_are_printed();
+}

@@ -1,5 +1,0 @@
-use Rattle.laws_stations.specs.Worlds.{speaks_to_the_ready}
-use Rattle.laws_stations.proofs.laws.only_ready_stations_are_spoken_to.Goals as goal
-
-pub returns : goal.returns
-returns c = speaks_to_the_ready c.what_stations_tell_is_in_range.ensures.entries

@@ -1,3 +1,0 @@
-mod Challenges
-mod Connections
-mod Counting

@@ -1,0 +1,10 @@
+pub mod Comes
+pub mod Sound
+pub mod Marked
+pub mod Proof
+pub mod Keys
+pub mod Unproved
+pub mod Clocked
+pub mod Ends
+pub mod Strangers
+pub mod Silent

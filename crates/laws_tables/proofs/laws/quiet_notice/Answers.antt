@@ -1,5 +1,0 @@
-use Rattle.stranger_machine.specs.TickLaws as strangers
-use Rattle.laws_tables.proofs.laws.quiet_notice.Goals as goal
-
-pub returns : goal.returns
-returns c = strangers.quiet_notice

@@ -1,5 +1,0 @@
-use Rattle.emm_machine.specs.TickLaws as subscribers
-use Rattle.laws_tables.proofs.laws.quiet_tick.Goals as goal
-
-pub returns : goal.returns
-returns c = subscribers.quiet_tick

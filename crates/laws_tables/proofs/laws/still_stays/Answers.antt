@@ -1,5 +1,0 @@
-use Rattle.emm_machine.specs.Laws as subscribers
-use Rattle.laws_tables.proofs.laws.still_stays.Goals as goal
-
-pub returns : goal.returns
-returns c = subscribers.still_stays

@@ -1,2 +1,0 @@
-pub mod Strangers
-pub mod Subscribers
