@@ -1,21 +1,27 @@
 #!/usr/bin/env python3
 """What tools/front takes: messages a second through it, and the time from a message to its answer.
 
-    front.py [PROGRAM | --library] [--only WORD ..] [--stations N ..] [--seconds N]
+    front.py [PROGRAM | --library] [--only WORD ..] [--stations N ..] [--seconds N] [--rate N] [--beside CLONE ..] [--folder FOLDER]
 
 WORD is one of these, and all of them where none is given:
   throughput  stations that each keep messages under way, as many as go; and the processor time of a message
   latency     stations that together send 20,000 messages a second
   flood       one station that sends 100 messages a second, beside 127 that send as many as go
   attaches    500 phones that attach through one station at the front's own rate, all begun at once
+  page        stations that together send 1,000 messages a second (--rate) to an MME of 32,768 subscribers, without and with 64
+              clients of the page, of all manners (browsers.py)
 
 Messages are S1 SETUP REQUESTs, 35 octets each, whose answers have 27; each connection is TCP on this machine. PROGRAM is
 ../crates/mme/out/mme where none is given; with --library the MME is in the front's own process, and so is its processor time. Times
 are of the clock, so nothing else should run; the processor time is disturbed less.
+
+Each measure is taken with --sync yes, with --sync no, and with the front of each CLONE as it is, in turn. The logs are in a folder
+of their own in FOLDER, or where temporary files are; what a sync costs is a matter of its disk.
 """
 import argparse
 import collections
 import contextlib
+import itertools
 import os
 import pathlib
 import re
@@ -37,21 +43,24 @@ ANSWER = lte.s1_setup_response(NETWORK)
 FRAMED, ANSWERED = len(REQUEST).to_bytes(2, "big") + REQUEST, len(ANSWER) + 2
 UNDER_WAY = 512  # messages that all stations together keep under way, but at least two each
 RATE, QUIET_RATE, PHONES = 20000, 100, 500
+PAGED_RATE, PAGED_STATIONS, SUBSCRIBERS, CLIENTS = 1000, 20, 32768, 64
 TICKS = os.sysconf("SC_CLK_TCK")
 AT_WILL = ("--rate", "1000000")
 LIBRARY = object()  # in a program's place: the MME in the front's own process
+FRONT = TOP / "tools" / "front"
+Way = collections.namedtuple("Way", "name front words")  # a front that is measured, and its words
 
 
 class Front:
     """A front that runs."""
 
-    def __init__(self, program, head, *words):
+    def __init__(self, program, head, *words, front=FRONT, folder=None):
         mme = ("--library",) if program is LIBRARY else ("--mme", program)
-        self.folder = tempfile.TemporaryDirectory()
+        self.folder = tempfile.TemporaryDirectory(dir=folder)
         folder = pathlib.Path(self.folder.name)
         (folder / "subscribers").write_text(head)
         self.process = subprocess.Popen(
-            [sys.executable, TOP / "tools" / "front", "run", folder / "subscribers", folder / "log", "--tcp", "--port", "0",
+            [sys.executable, front, "run", folder / "subscribers", folder / "log", "--tcp", "--port", "0",
              "--per-address", "128", "--setup-seconds", "3600", *mme, *words], stderr=subprocess.PIPE, text=True)
         self.port = None
         for line in self.process.stderr:
@@ -66,6 +75,11 @@ class Front:
         """The front's process, and its MME's where that is another."""
         children = pathlib.Path("/proc/%d/task/%d/children" % (self.process.pid, self.process.pid)).read_text().split()
         return self.process.pid, *map(int, children[:1])
+
+    def memory(self):
+        """The octets of memory that the front and its MME held at the most."""
+        texts = [pathlib.Path("/proc/%d/status" % pid).read_text() for pid in self.processes()]
+        return sum(1024 * int(re.search(r"VmHWM:\s+(\d+) kB", text)[1]) for text in texts)
 
     def seconds(self):
         """The processor time of the front, and of the MME where that is another process."""
@@ -168,32 +182,45 @@ def share(times, part):
     return 1000 * times[min(len(times) - 1, int(part * len(times)))]
 
 
+def begun(given, way, head, *words):
+    """A front of a way."""
+    return Front(given.program, head, *words, *way.words, front=way.front, folder=given.folder)
+
+
 def throughput(given):
-    print("| stations | messages a second | the front's processor time for each, in microseconds | the MME's |\n|---|---|---|---|")
-    for count in given.stations:
-        front = Front(given.program, head(), *AT_WILL)
+    print("| stations | front | messages a second | the front's processor time for each, in microseconds | the MME's |\n"
+          "|---|---|---|---|---|")
+    for count, way in itertools.product(given.stations, given.ways):
+        front = begun(given, way, head(), *AT_WILL)
         load = Load(front.port, count)
         before = front.seconds()
         times = load.at_will(given.seconds)
         spent = ["%.1f" % (1e6 * (after - at) / len(times)) for after, at in zip(front.seconds(), before)]
-        print("| %d | %d | %s |" % (count, len(times) / given.seconds, " | ".join((spent + ["within"])[:2])))
+        print("| %d | %s | %d | %s |" % (count, way.name, len(times) / given.seconds, " | ".join((spent + ["within"])[:2])))
         load.close()
         front.close()
 
 
 def latency(given):
-    print("| stations, together %d messages a second | answered | median, ms | 99 of 100 within, ms |\n|---|---|---|---|" % RATE)
-    for count in given.stations:
-        front = Front(given.program, head(), *AT_WILL)
+    print("| stations, together %d messages a second | front | answered | median, ms | 99 of 100 within, ms |\n"
+          "|---|---|---|---|---|" % RATE)
+    for count, way in itertools.product(given.stations, given.ways):
+        front = begun(given, way, head(), *AT_WILL)
         load = Load(front.port, count)
         times = load.paced(RATE, given.seconds)
-        print("| %d | %d | %.2f | %.2f |" % (count, len(times), share(times, 0.5), share(times, 0.99)))
+        print("| %d | %s | %d | %.2f | %.2f |" % (count, way.name, len(times), share(times, 0.5), share(times, 0.99)))
         load.close()
         front.close()
 
 
 def flood(given):
-    front = Front(given.program, head(), *AT_WILL)
+    print("| one station beside 127 that flood | front | answered | median, ms | 99 of 100 within, ms |\n|---|---|---|---|---|")
+    for way in given.ways:
+        flood_of(given, way)
+
+
+def flood_of(given, way):
+    front = begun(given, way, head(), *AT_WILL)
     child = os.fork()
     if child == 0:
         try:
@@ -203,24 +230,29 @@ def flood(given):
     time.sleep(2)
     load = Load(front.port, 1)
     times = load.paced(QUIET_RATE, given.seconds)
-    print("| one station beside 127 that flood | answered | median, ms | 99 of 100 within, ms |\n|---|---|---|---|")
-    print("| %d messages a second | %d | %.2f | %.2f |" % (QUIET_RATE, len(times), share(times, 0.5), share(times, 0.99)))
+    print("| %d messages a second | %s | %d | %.2f | %.2f |"
+          % (QUIET_RATE, way.name, len(times), share(times, 0.5), share(times, 0.99)))
     load.close()
     os.waitpid(child, 0)
     front.close()
 
 
 def attaches(given):
+    for way in given.ways:
+        attaches_of(given, way)
+
+
+def attaches_of(given, way):
     """A step of all phones at a time, since a step has to wait for the answers to the one before."""
     trace, station = phones.Trace(), phones.Station(0)
     made = [phones.Phone(trace, slot, [phones.Vector.made(str(slot))]) for slot in range(PHONES)]
     trace.provision(made)
-    front = Front(given.program, trace.text())
+    front = begun(given, way, trace.text())
     connection = socket.create_connection(("127.0.0.1", front.port))
     answers, said = connection.makefile("rb"), len(trace.lines)
     trace.set_up(station)
     steps = [phone.attach_steps(station, phone.slot + 1) for phone in made]
-    begun, owed = time.perf_counter(), 0
+    start, owed = time.perf_counter(), 0
     while True:
         messages = [bytes.fromhex(line.split(" ")[2]) for line in trace.lines[said:] if line.startswith("in ")]
         said = len(trace.lines)
@@ -234,9 +266,39 @@ def attaches(given):
             break
         for step in due:
             step()
-    print("%d phones attached within %.2f s, what they sent and were owed worked out among it"
-          % (PHONES, time.perf_counter() - begun))
+    print("%s: %d phones attached within %.2f s, what they sent and were owed worked out among it"
+          % (way.name, PHONES, time.perf_counter() - start))
     connection.close()
+    front.close()
+
+
+def free_port():
+    with socket.create_server(("127.0.0.1", 0)) as listener:
+        return listener.getsockname()[1]
+
+
+def page(given):
+    """The same front without the clients and then with them; each line's memory is the most that there was until its end. The
+    clients give way to the others, as if they had a machine of their own."""
+    subscribers = "".join("sub 00101%010d 0a%06x 0b000001 %08x\n" % (slot + 1, slot + 1, slot + 1) for slot in range(SUBSCRIBERS))
+    port = free_port()
+    front = Front(given.program, head() + subscribers, *AT_WILL, "--page", "127.0.0.1:%d" % port)
+    load = Load(front.port, PAGED_STATIONS)
+    load.paced(given.rate, 1)
+    print("| %d messages a second, %d subscribers | answered | median, ms | 99 of 100 within, ms | the last, ms | memory, MiB | "
+          "processor time of the front and the MME, s |\n|---|---|---|---|---|---|---|" % (given.rate, SUBSCRIBERS))
+    told = b""
+    for count in (0, CLIENTS):
+        words = ["nice", sys.executable, TOP / "bench" / "browsers.py", str(port), str(count), str(given.seconds)]
+        browsers = subprocess.Popen(words, stdout=subprocess.PIPE)
+        before = sum(front.seconds())
+        times = load.paced(given.rate, given.seconds)
+        told, _ = browsers.communicate()
+        print("| %s | %d | %.2f | %.2f | %.2f | %.1f | %.2f |" % (
+            "with %d clients of the page" % count if count else "without clients of the page", len(times), share(times, 0.5),
+            share(times, 0.99), share(times, 1), front.memory() / (1 << 20), sum(front.seconds()) - before))
+    print("told whole, by the clients' manners:", told.decode().strip())
+    load.close()
     front.close()
 
 
@@ -245,11 +307,16 @@ def main():
     mmes = words.add_mutually_exclusive_group()
     mmes.add_argument("program", metavar="PROGRAM", nargs="?", default=TOP / "crates" / "mme" / "out" / "mme")
     mmes.add_argument("--library", action="store_true")
-    measures = {measure.__name__: measure for measure in (throughput, latency, flood, attaches)}
+    measures = {measure.__name__: measure for measure in (throughput, latency, flood, attaches, page)}
     words.add_argument("--only", nargs="+", choices=measures, default=list(measures))
     words.add_argument("--stations", nargs="+", type=int, default=[1, 10, 100])
     words.add_argument("--seconds", type=float, default=5.0)
+    words.add_argument("--rate", type=int, default=PAGED_RATE)
+    words.add_argument("--beside", nargs="+", metavar="CLONE", type=pathlib.Path, default=[])
+    words.add_argument("--folder", type=pathlib.Path)
     given = words.parse_args()
+    given.ways = [Way("--sync " + sync, FRONT, ("--sync", sync)) for sync in ("yes", "no")]
+    given.ways += [Way("of " + clone.name, clone / "tools" / "front", ()) for clone in given.beside]
     if given.library:
         given.program = LIBRARY  # (a word that sets `program` would give way to the default of the one that is left out)
     for name in given.only:

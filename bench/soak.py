@@ -193,8 +193,9 @@ class Soak(phones.Trace):
             owed = "DEREGISTERED IDLE INACTIVE"
             if phone in self.registered:
                 owed = phones.IDLE if phone.station is None else phones.CONNECTED
-            if found[phone.imsi] != owed:
-                raise SystemExit("soak.py: %s is %s and is owed %s" % (phone.imsi, found[phone.imsi], owed))
+            states = found[phone.imsi]["states"]
+            if states != owed:
+                raise SystemExit("soak.py: %s is %s and is owed %s" % (phone.imsi, states, owed))
 
     def check_log(self, program):
         """The log, played, has what each station got, in its order."""

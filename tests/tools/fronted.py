@@ -12,6 +12,7 @@ import subprocess
 import sys
 import tempfile
 import termios
+import threading
 import time
 
 import tools
@@ -26,10 +27,11 @@ IMSI, NOBODY = "001010000000001", "001010000000009"
 HEAD = "mme 001 01 8001 01 internet 1000000000 1000000000\nsub %s 0a000001 0a000064 00000001\n" % IMSI
 SLOW, MANY, ENDS, KILLS, BABBLES, HANGS = b"\xf0", b"\xf1", b"\xf2", b"\xf3", b"\xf4", b"\xf5"
 REMEMBERED, OF_SLOT = b"\xf6", b"\xf7"
+PATIENCE = 60  # seconds for what takes a moment where the machine has nothing else to do
+BEGIN_SECONDS = 180  # in which a front serves, whatever it has to read
 
-# Keeps which stations are up, as the MME does, and sends each message back; these ones begin what is asked of it otherwise. It
-# counts those to be remembered, which show tells, and answers those of a slot for its subscriber, where there is one.
-STAND_IN = """#!%s
+# A program in the MME's place: it knows who is provisioned, and has further branches for each word.
+FRAME = """#!%s
 import os, sys, time
 up, known, heard = set(), [], 0
 for line in sys.stdin:
@@ -38,12 +40,18 @@ for line in sys.stdin:
         known.append(fields[0])
     elif word == "data" and fields[0] not in known:
         print("refused 5")
+%%s    sys.stdout.flush()
+""" % sys.executable
+
+# Keeps which stations are up, as the MME does, and sends each message back; these ones begin what is asked of it otherwise. It
+# counts those to be remembered, which show tells, and answers those of a slot for its subscriber, where there is one.
+STAND_IN = FRAME % """\
     elif word == "up":
         up.add(fields[0])
     elif word == "lost":
         up.remove(fields[0]) if fields[0] in up else print("refused 1")
     elif word == "show":
-        print("state", fields[0], "HEARD-%%d" %% heard if heard else "DEREGISTERED", "IDLE INACTIVE")
+        print("state", fields[0], "HEARD-%d" % heard if heard else "DEREGISTERED", "IDLE INACTIVE")
     elif word == "in" and fields[0] in up:
         kind, count = fields[1][:2], 1
         if kind == "f0":
@@ -63,18 +71,17 @@ for line in sys.stdin:
         elif kind == "f7":
             slot = int(fields[1][2:4])
             count = 0
-            print("out %%s %%s 0011" %% ("s%%d" %% slot if slot < len(known) else "e" + fields[0], fields[0]))
+            print("out %s %s 0011" % ("s%d" % slot if slot < len(known) else "e" + fields[0], fields[0]))
         for _ in range(count):
-            print("out e%%s %%s %%s" %% (fields[0], fields[0], fields[1][:30000]))
-    sys.stdout.flush()
-""" % sys.executable
+            print("out e%s %s %s" % (fields[0], fields[0], fields[1][:30000]))
+"""
 
 
 class Connected:
     """A station's connection by TCP."""
 
     def __init__(self, port):
-        self.socket = socket.create_connection(("127.0.0.1", port), timeout=20)
+        self.socket = socket.create_connection(("127.0.0.1", port), timeout=PATIENCE)
         self.socket.setsockopt(socket.IPPROTO_TCP, socket.TCP_NODELAY, 1)
         self.got = b""
 
@@ -125,7 +132,7 @@ def events_of(text):
 class Running:
     """A front that runs, in a folder of its own."""
 
-    def __init__(self, test, *words, head=HEAD, program=None, before=None, folder=None, link="--tcp"):
+    def __init__(self, test, *words, head=HEAD, program=None, before=None, folder=None, link="--tcp", environment=()):
         self.folder = folder or pathlib.Path(test.enterContext(tempfile.TemporaryDirectory()))
         self.log, self.control, self.subscribers = (self.folder / name for name in ("log", "log.control", "subscribers"))
         self.subscribers.write_text(head)
@@ -136,14 +143,17 @@ class Running:
         given = ["run", self.subscribers, self.log, link, "--port", "0", "--per-address", "128", "--setup-seconds", "3600",
                  "--answer-seconds", "120", *(["--library"] if program is LIBRARY else ["--mme", program]), *words]
         self.process = subprocess.Popen([sys.executable, tools.TOP / "tools" / "front", *map(str, given)], stderr=subprocess.PIPE,
-                                        preexec_fn=before)
+                                        preexec_fn=before, env={**os.environ, **dict(environment)})
         self.told, self.connections = b"", []
         test.addCleanup(self.end)
+        limit = threading.Timer(BEGIN_SECONDS, self.process.kill)
+        limit.start()
         for line in self.process.stderr:
             self.told += line
             if found := re.search(rb"ready: stations at \S+ port (\d+) by", line):
                 self.port = int(found[1])
                 break
+        limit.cancel()
 
     def said(self):
         """What it said so far."""
@@ -168,9 +178,9 @@ class Running:
         return events_of(self.log.read_text())
 
     def until(self, holds):
-        end = time.monotonic() + 20
+        end = time.monotonic() + PATIENCE
         while not holds():
-            assert time.monotonic() < end, "not within 20 s"
+            assert time.monotonic() < end, "not within %d s" % PATIENCE
             time.sleep(0.005)
 
     def asks(self, *words):
@@ -188,14 +198,14 @@ class Running:
     def ended(self):
         os.set_blocking(self.process.stderr.fileno(), True)
         self.told += self.process.stderr.read()
-        return self.process.wait(20), self.told.decode()
+        return self.process.wait(PATIENCE), self.told.decode()
 
     def end(self):
         for connection in self.connections:
             connection.close()
         if self.process.poll() is None:
             self.process.terminate()
-        self.process.wait(20)
+        self.process.wait(PATIENCE)
         self.process.stderr.close()
 
 

@@ -1,16 +1,22 @@
 #!/usr/bin/env python3
 """What test_front_sctp.py runs under a kernel with SCTP: a front with a stand-in for the MME, and stations at addresses of their
-own. Writes into a file, by each test's name, nothing where it passed and else why not.
+own, by SCTP, and by TCP where one vanishes. Writes into a file, by each test's name, nothing where it passed and else why not,
+as soon as that is known. Tests that stand there already aren't run again. Where none has ended for minutes, it says where each
+thread stands, and ends.
 
     sctp_inside.py RESULTS
 """
 import contextlib
+import faulthandler
 import json
+import os
 import pathlib
+import signal
 import socket
 import struct
 import subprocess
 import sys
+import tempfile
 import threading
 import time
 import traceback
@@ -18,18 +24,26 @@ import unittest
 
 sys.path.insert(0, str(pathlib.Path(__file__).resolve().parent))
 import tools
-from fronted import PROGRAM, SLOW, Running
+from fronted import PATIENCE, PROGRAM, SLOW, Running
 
 sys.path.insert(0, str(tools.TOP / "tools"))
 sys.path.insert(0, str(tools.TOP / "bench"))
 LTE = tools.module("bench/lte.py")
 PHONES = tools.module("bench/phones.py")
+import kills
+import wire
 from fronting import sctp
 del sys.path[:2]
 
 SERVER, SECOND = "10.0.0.1", "10.0.0.2"
 S1AP, OTHER_PROTOCOL = 18, 60
 RECEIVE_INFORMATION_ON, RECEIVE_INFORMATION, PRIMARY = 32, 3, 6
+# Seconds in which a peer that vanished is missed: 13 to 30 where the machine has nothing else to do; without what the front sets,
+# SCTP takes minutes, and TCP two hours.
+MISSED = 90
+STUCK = 240  # seconds in which no test ended
+LEFT_OUT = "left out: "
+STARTING = threading.Lock()  # one front starts at a time, and the others wait: five at once take half a minute on a busy machine
 COMMON = bytes.fromhex("201100170000020069000b000000f11000008001000100574001ff")  # S1 SETUP RESPONSE
 
 
@@ -69,7 +83,7 @@ class Peer:
     def __init__(self, port, number, streams=10, local_port=0):
         self.address = peer_address(number)
         self.socket = socket.socket(socket.AF_INET, socket.SOCK_STREAM, socket.IPPROTO_SCTP)
-        self.socket.settimeout(20)
+        self.socket.settimeout(PATIENCE)
         self.socket.setsockopt(socket.IPPROTO_SCTP, sctp.INIT, struct.pack("=HHHH", streams, streams, 0, 0))
         self.socket.setsockopt(socket.IPPROTO_SCTP, RECEIVE_INFORMATION_ON, 1)
         self.socket.setsockopt(socket.IPPROTO_SCTP, sctp.NODELAY, 1)
@@ -109,11 +123,19 @@ def downlink(enb_id):
     return LTE.downlink_nas(0x10001, enb_id, b"\x07\x60\x6f")
 
 
+def ready(test, *words, **others):
+    """A front that serves."""
+    with STARTING:
+        running = Running(test, "--listen", SERVER, *words, **others)
+    test.assertIn(b"ready: ", running.told)
+    return running
+
+
 class Front(unittest.TestCase):
     """One front for each test, which stations reach at two addresses."""
 
     def running(self, *words, **others):
-        return Running(self, "--listen", SERVER, "--listen", SECOND, *words, link="--sctp", **others)
+        return ready(self, "--listen", SECOND, *words, link="--sctp", **others)
 
     def lost(self, running, seconds):
         """Waits for station 0 to be lost; how long that took."""
@@ -183,23 +205,23 @@ class Front(unittest.TestCase):
         self.assertEqual(running.events(), ["up 0", "in 0 " + downlink(5).hex(), "lost 0", "up 0", "in 0 " + downlink(6).hex()])
 
     def test_vanished_while_idle(self):
-        """Noticed within 30 s, by heartbeats."""
+        """Noticed, by heartbeats."""
         running = self.running()
         peer, other = Peer(running.port, 150), Peer(running.port, 151)
         self.assertEqual(peer.says(b"here")[0], b"here")
         with cut_off(peer.address):
-            self.lost(running, 30)
+            self.lost(running, MISSED)
         self.assertEqual(other.says(b"still")[0], b"still")
 
     def test_vanished_with_data_pending(self):
-        """Noticed within 30 s, by what isn't acknowledged."""
+        """Noticed, by what isn't acknowledged."""
         running = self.running()
         peer = Peer(running.port, 152)
         for _ in range(20):
             peer.send(SLOW)
         running.until(lambda: running.events()[-1:] == ["in 0 f0"])
         with cut_off(peer.address):
-            self.lost(running, 30)
+            self.lost(running, MISSED)
 
     def test_second_address(self):
         """Where the way to the first address is cut, the association goes on by the second."""
@@ -218,7 +240,7 @@ class Front(unittest.TestCase):
         peer.send(longest)
         self.assertEqual(peer.receive()[0], longest[:15000])
         peer.send(bytes(20000))
-        self.lost(running, 20)
+        self.lost(running, PATIENCE)
         self.assertEqual(other.says(b"still")[0], b"still")
         running.until(lambda: b"a message of more than 19996 octets" in running.said())
 
@@ -236,7 +258,7 @@ class Front(unittest.TestCase):
         """A stranger's program: its lines are messages, and get their answers."""
         running = self.running()
         darn = subprocess.run(["sctp_darn", "-H", peer_address(11), "-P", "5001", "-h", SERVER, "-p", str(running.port), "-s"],
-                              input=b"hello\nworld\n", capture_output=True, timeout=20, check=False)
+                              input=b"hello\nworld\n", capture_output=True, timeout=PATIENCE, check=False)
         running.until(lambda: "lost 0" in running.events())
         self.assertEqual(running.events()[0], "up 0", darn.stderr)
         heard = bytes.fromhex("".join(line.split(" ")[2] for line in running.events() if line.startswith("in 0 ")))
@@ -251,7 +273,7 @@ class Front(unittest.TestCase):
         self.assertEqual(other.says(b"here")[0], b"here")
         for _ in range(10):
             subprocess.run(["sctp_test", "-H", peer_address(12), "-P", "5002", "-h", SERVER, "-p", str(running.port), "-s",
-                            "-c", "0", "-x", "50", "-T"], capture_output=True, timeout=60, check=False)
+                            "-c", "0", "-x", "50", "-T"], capture_output=True, timeout=PATIENCE, check=False)
             running.until(lambda: "lost 1" in running.events() or b"isn't taken" in running.said())
             if any(line.startswith("in 1 ") for line in running.events()):
                 break
@@ -277,41 +299,127 @@ class Front(unittest.TestCase):
         for line in trace.lines:
             if line.startswith("in "):
                 peer.send(bytes.fromhex(line.split(" ")[2]))
-        reading.join(20)
+        reading.join(PATIENCE)
         self.assertEqual([octets.hex() for octets in got], [octets.hex() for octets in owed])
         self.assertEqual(running.asks("show", phone.imsi), "state %s %s\n" % (phone.imsi, PHONES.IDLE))
 
+    def test_wire(self):
+        """The connections of a storm's stations: messages stay apart, and those that came before an end are still taken."""
+        running = Running(self, link="--sctp")
+        ours = wire.SctpWire(running.port)
+        self.addCleanup(ours.close)
+        for octets in (b"one", bytes(15000), b"two"):
+            ours.put(octets)
+        running.until(lambda: len(running.events()) == 4)
+        self.assertEqual(running.stop()[0], 0)
+        got = []
+        running.until(lambda: got.extend(ours.take()) or ours.has_ended)
+        self.assertEqual(got, [b"one", bytes(15000), b"two"])
+
+    def test_wire_that_is_cut(self):
+        """The end is noticed where it is told to what is sent, too."""
+        running = Running(self, link="--sctp")
+        ours = wire.SctpWire(running.port)
+        self.addCleanup(ours.close)
+        ours.put(b"one")
+        running.until(lambda: len(running.events()) == 2)
+        running.process.send_signal(signal.SIGSTOP)
+        ours.put(b"two")  # which isn't read, so the association is aborted
+        running.stop(signal.SIGKILL)
+        ours.put(b"three")
+        running.until(lambda: ours.take() or ours.has_ended)
+        self.assertTrue(ours.is_cut)
+
+    @unittest.skipUnless(PROGRAM.exists(), "the program isn't built (./mme --prove)")
+    def test_kills(self):
+        """A short storm of phones while the front is killed and begun again (bench/kills.py): nothing is used twice."""
+        given = kills.parser().parse_args("--sctp --runs 2 --run-seconds 3 --phones 5 --vectors 6 --ends kill clean".split())
+        given.mme, said = PROGRAM, []
+        with tempfile.TemporaryDirectory() as folder:
+            storm = kills.Storm(given, folder, said.append)
+            self.assertEqual(storm.blow(), 0, "\n".join(said))
+        self.assertEqual(storm.counted["beginnings that went on"], 2, "\n".join(said))
+
+
+class ByTcp(unittest.TestCase):
+    """A front that stations reach by TCP."""
+
+    lost = Front.lost
+
+    def connected(self, number):
+        """A front and a station, which has an address of its own."""
+        running = ready(self)
+        station = self.enterContext(socket.create_connection((SERVER, running.port), PATIENCE, (peer_address(number), 0)))
+        station.sendall(b"\0\4here")
+        self.assertEqual(station.recv(6), b"\0\4here")
+        return running, station
+
+    def test_tcp_vanished_while_idle(self):
+        """Noticed, by probes."""
+        running, _ = self.connected(153)
+        with cut_off(peer_address(153)):
+            self.lost(running, MISSED)
+
+    def test_tcp_vanished_with_data_pending(self):
+        """Noticed, by what isn't acknowledged."""
+        running, station = self.connected(154)
+        station.sendall(20 * (b"\0\1" + SLOW))
+        running.until(lambda: running.events()[-1:] == ["in 0 f0"])
+        with cut_off(peer_address(154)):
+            self.lost(running, MISSED)
+
 
 class Named(unittest.TestResult):
-    """A result that keeps why each test failed, by its name."""
+    """A result that keeps why each test failed, by its name, in a file."""
 
-    def __init__(self):
+    def __init__(self, path):
         super().__init__()
-        self.found = {}
+        self.path, self.writing = path, threading.Lock()
+        self.found = json.loads(path.read_text()) if path.exists() else {}
+
+    def keep(self, test, fault):
+        with self.writing:
+            faulthandler.dump_traceback_later(STUCK, exit=True)
+            self.found[name_of(test)] = fault
+            whole = self.path.with_suffix(".new")
+            whole.write_text(json.dumps(self.found))
+            os.replace(whole, self.path)
 
     def addSuccess(self, test):
-        self.found[test.id().split(".")[-1]] = None
+        self.keep(test, None)
 
     def addFailure(self, test, err):
-        self.found[test.id().split(".")[-1]] = "".join(traceback.format_exception(*err))
+        self.keep(test, "".join(traceback.format_exception(*err)))
 
     addError = addFailure
 
+    def addSkip(self, test, reason):
+        self.keep(test, LEFT_OUT + reason)
+
+
+def name_of(test):
+    return test.id().split(".")[-1]
+
+
+def all_tests():
+    return [test for case in (Front, ByTcp) for test in unittest.defaultTestLoader.loadTestsFromTestCase(case)]
+
 
 def main():
-    [path] = sys.argv[1:]
+    path = pathlib.Path(sys.argv[1])
     lay_addresses()
-    tests, result = list(unittest.defaultTestLoader.loadTestsFromTestCase(Front)), Named()
+    faulthandler.dump_traceback_later(STUCK, exit=True)
+    result = Named(path)
+    tests = [test for test in all_tests() if name_of(test) not in result.found]
     # Those that wait for a peer to be missed run beside the others.
-    waiting = [threading.Thread(target=test.run, args=(result,)) for test in tests if "vanished" in test.id()]
+    waiting = [threading.Thread(target=test.run, args=(result,)) for test in tests if "vanished" in name_of(test)]
     for thread in waiting:
         thread.start()
     for test in tests:
-        if "vanished" not in test.id():
+        if "vanished" not in name_of(test):
             test.run(result)
     for thread in waiting:
         thread.join()
-    pathlib.Path(path).write_text(json.dumps(result.found))
 
 
 if __name__ == "__main__":

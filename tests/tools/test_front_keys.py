@@ -345,10 +345,10 @@ class Resuming(unittest.TestCase):
                 ((), NO_KEYS, HEAD + VECTOR, "log keeps the vectors' keys, and this run's log is to keep no keys (--log-keys)")):
             with self.subTest(told=told):
                 ended = self.ended(*before)
-                again = Running(self, "--resume", "--keep", "1", *words, head=head, folder=ended.folder)
-                self.assertIn("the last run isn't resumed, and nobody is attached: ", again.told.decode())
+                again = Running(self, "--resume", *words, head=head, folder=ended.folder)
+                self.assertEqual(again.ended()[0], 2)
+                self.assertIn("the last run isn't resumed: ", again.told.decode())
                 self.assertIn(told, again.told.decode())
-                self.assertEqual(again.stop()[0], 0)
 
     def test_its_head_as_subscribers(self):
         """What a log without keys begins with provisions nobody, at the start or while the front runs."""

@@ -204,7 +204,7 @@ class Resuming(unittest.TestCase):
         self.assertGreater(len(older_segments(str(running.log))), 1)
 
     def test_not_whole(self):
-        """Where the log isn't whole the front says so and begins with nobody; the log is kept where that is asked for."""
+        """Where the log isn't whole the front says so and ends; where that is asked for it begins with nobody and keeps the log."""
         running = Running(self)
         station = running.station()
         self.assertEqual(station.says(REMEMBERED), REMEMBERED)
@@ -212,7 +212,9 @@ class Resuming(unittest.TestCase):
         running.until(lambda: 1 in older_segments(str(running.log) + ".counts"))
         self.assertEqual(running.stop()[0], 0)
         pathlib.Path(str(running.log) + ".counts.segment.000001").unlink()
-        again = Running(self, "--resume", "--keep", "3", folder=running.folder)
+        status, told = Running(self, "--resume", "--keep", "3", folder=running.folder).ended()
+        self.assertEqual((status, "isn't whole: its segments are 2 (--anew begins with nobody attached)" in told), (2, True), told)
+        again = Running(self, "--resume", "--anew", "--keep", "3", folder=running.folder)
         self.assertIn(b"the last run isn't resumed, and nobody is attached", again.told)
         self.assertEqual(again.asks("show", IMSI), "state %s DEREGISTERED IDLE INACTIVE\n" % IMSI)
         self.assertEqual(again.stop()[0], 0)
@@ -228,18 +230,21 @@ class Resuming(unittest.TestCase):
         again.until(lambda: b"given 1 subscriber" in again.said())
         self.assertEqual(again.asks("show", "001010000000002"), "state 001010000000002 HEARD-1 IDLE INACTIVE\n")
         self.assertEqual(again.stop()[0], 0)
-        other = Running(self, "--resume", "--keep", "1", head=HEAD.replace("8001", "8002"), folder=running.folder)
+        other = Running(self, "--resume", head=HEAD.replace("8001", "8002"), folder=running.folder)
+        self.assertEqual(other.ended()[0], 2)
         self.assertIn(b"begins with other lines than", other.told)
         self.assertIn(b": lines that were given have to stand at its end", other.told)
 
     def test_an_mme_that_cannot(self):
-        """Where the MME ends over the last log the front begins with nobody."""
+        """Where the MME ends over the last log the front does too, or begins with nobody where that is asked for."""
         running = Running(self)
         self.assertEqual(running.station().says(b"here"), b"here")
         self.assertEqual(running.stop()[0], 0)
         counts = pathlib.Path(str(running.log) + ".counts")
         counts.write_text(counts.read_text().replace("in 0 68657265", "in 0 f2"))
-        again = Running(self, "--resume", "--keep", "1", folder=running.folder)
+        status, told = Running(self, "--resume", folder=running.folder).ended()
+        self.assertEqual((status, "the last run isn't resumed: the MME ended with status 7" in told), (7, True), told)
+        again = Running(self, "--resume", "--anew", "--keep", "1", folder=running.folder)
         self.assertIn(b"nobody is attached: the MME ended with status 7", again.told)
         self.assertEqual(again.station().says(b"still"), b"still")
 
@@ -359,6 +364,7 @@ class GivenToPhones(unittest.TestCase):
         spent.is_released()
         talk.settle()
         self.assertEqual(give(running, withheld[0] + "\n"), "given 0 subscribers, 1 vector\n")
+        self.assertIn("%s %s vectors_left=1\n" % (spent.imsi, PHONES.IDLE), running.asks("phones"))
         spent.attaches(self.station, 9)
         talk.settle()
         self.check_end(running)
@@ -382,6 +388,7 @@ class GivenToPhones(unittest.TestCase):
         # (with the longer head the request was challenged, by the first vector)
         self.trace.owe("s1", self.station, LTE.release_command(LTE.id_of_slot(1, 1), 2, LTE.DETACHED))
         talk.settle()
+        self.assertIn("%s DEREGISTERED IDLE INACTIVE vectors_left=1\n" % late.imsi, running.asks("phones"))
         late.place = late.associations = 1
         late.attaches(self.station, 3)
         talk.settle()
@@ -501,7 +508,7 @@ class ControlSocket(unittest.TestCase):
         self.assertEqual(running.station().says(b"here"), b"here")
         self.assertRegex(running.asks("stations"),
                          r"^station=0 address=127\.0\.0\.1 port=\d+ set_up=False .*messages_in=1 messages_out=1")
-        self.assertEqual(running.asks("phones"), "%s DEREGISTERED IDLE INACTIVE\n" % IMSI)
+        self.assertEqual(running.asks("phones"), "%s DEREGISTERED IDLE INACTIVE vectors_left=0\n" % IMSI)
         self.assertIn("connections: 1\n", running.asks("counters"))
         self.assertIn('"connections": 1', running.asks("counters", "--json"))
         self.assertNotIn("show", running.log.read_text())

@@ -114,6 +114,16 @@ class Tcp(unittest.TestCase):
             self.assertEqual(link.take(10, 1000), [b"hello"])
             self.assertIsNone(link.half_since)
 
+    def test_who_vanishes(self):
+        """Probes begin soon, and nobody who leaves them or what was sent unanswered keeps its place for half a minute (tcp(7))."""
+        with pair() as (_, near):
+            connection = links.TcpLink(near).connection
+            idle, apart, count, user = (connection.getsockopt(socket.IPPROTO_TCP, option) for option in (
+                socket.TCP_KEEPIDLE, socket.TCP_KEEPINTVL, socket.TCP_KEEPCNT, socket.TCP_USER_TIMEOUT))
+            self.assertTrue(connection.getsockopt(socket.SOL_SOCKET, socket.SO_KEEPALIVE))
+            self.assertLess(idle + apart * count, 30)
+            self.assertTrue(0 < user < 30000)
+
     def test_send(self):
         """By one call for all that waits; what doesn't go at once waits, and what waits is known."""
         with pair() as (far, near):
@@ -284,7 +294,9 @@ class Counting(unittest.TestCase):
         for errors, left in (({}, items), ({0: 1}, items), ({0: 2}, [items[0], items[2], items[4]]),
                              ({0: 2, 1: 1, 2: 1}, items[:1])):
             batch = self.batch(*items)
-            batch.errors = errors
+            for station, count in errors.items():
+                for _ in range(count):
+                    batch.note_answer(station, is_reset=False)
             self.assertEqual(batch.counting(), [line for line, _ in left])
 
     def test_ticks(self):
@@ -354,6 +366,14 @@ class InProcess(unittest.TestCase):
         self.turn()
         self.assertEqual(self.heard, [b"slow\n"] * 3 + [b"a\n"])
 
+    def test_taken(self):
+        """Whoever waits for it to take what it was given is told, though nothing of that is answered."""
+        sizes = []
+        self.mme.taken = lambda: sizes.append(self.mme.size)
+        self.mme.give(b"quiet\n" * 3)
+        self.turn()
+        self.assertEqual((sizes[-1], self.heard), (0, []))
+
     def test_faults(self):
         """A line that is wrong, and want of memory, end it as they end the program, after the answers of before."""
         for refusal, told, status in ((soizkadur.Refusal.UNKNOWN_WORD, "line 3: fault 1", 1),
@@ -364,7 +384,7 @@ class InProcess(unittest.TestCase):
                 self.setUp()
                 self.mme.give(b"a\nb\n%d\nc\n" % refusal)
                 self.turn()
-                self.assertEqual((self.heard, self.said, self.ends), ([b"a\nb\n"], [("mme", "mme: " + told)], [status]))
+                self.assertEqual((b"".join(self.heard), self.said, self.ends), (b"a\nb\n", [("mme", "mme: " + told)], [status]))
 
     def test_ends(self):
         """One that is killed or closed plays no more, and one that is closed tells nobody."""
@@ -447,7 +467,7 @@ class Provisioning(unittest.TestCase):
 
 class Counts(unittest.TestCase):
     def test_attach(self):
-        """The steps of an attach, by the messages of an example trace."""
+        """The steps of an attach, by the messages of an example trace; that it is completed none of them says."""
         meters = Meters()
         row = (tools.TOP / "examples" / "attach_whole.trace").read_text()
         for line in row.splitlines():
@@ -456,7 +476,7 @@ class Counts(unittest.TestCase):
                 meters.count_in(int(words[1]), bytes.fromhex(words[2]))
             elif words[0] == "out" and line.startswith("# out"):
                 meters.count_out(int(words[2]), bytes.fromhex(words[3]))
-        self.assertEqual(meters.attaches, {"requested": 1, "accepted": 1, "completed": 1})
+        self.assertEqual(meters.attaches, {"requested": 1, "accepted": 1})
         self.assertEqual(meters.inward[b"\0\x0c"], 1)
 
     def test_junk(self):

@@ -7,23 +7,31 @@ import tempfile
 import unittest
 
 import kernel
+import sctp_inside
 import tools
 
-SECONDS = 240  # for all of them; they take under 60 on a machine of their own
+SECONDS = 500  # for a kernel; all tests take under 110 on a machine of their own
+KERNELS = 3  # one after the other, where one stops before each test has a verdict
 INSIDE = tools.TOP / "tests" / "tools" / "sctp_inside.py"
 
 
 @unittest.skipIf(kernel.missing(), "no user-mode-linux, kmod, iproute2, lksctp-tools or C compiler")
 class Sctp(unittest.TestCase):
     def test_inside(self):
+        names, found = {sctp_inside.name_of(test) for test in sctp_inside.all_tests()}, {}
         with tempfile.TemporaryDirectory() as folder:
             script, results = pathlib.Path(folder, "script"), pathlib.Path(folder, "results")
             script.write_text("cd %s && TMPDIR=/run PYTHONDONTWRITEBYTECODE=1 %s %s %s\n" % tuple(
                 shlex.quote(str(word)) for word in (tools.TOP, sys.executable, INSIDE, results)))
-            shown = kernel.run(script, SECONDS)
-            self.assertTrue(results.exists(), shown[-3000:])
-            found = json.loads(results.read_text())
-        self.assertGreaterEqual(len(found), 12)
-        for name, fault in found.items():
+            for _ in range(KERNELS):
+                shown = kernel.run(script, SECONDS)
+                found = json.loads(results.read_text()) if results.exists() else {}
+                if names <= found.keys():
+                    break
+                print("without a verdict: %s\n%s" % (", ".join(sorted(names - found.keys())), shown[-6000:]))
+        for name in sorted(names):
             with self.subTest(name):
+                fault = found.get(name, "no verdict")
+                if fault is not None and fault.startswith(sctp_inside.LEFT_OUT):
+                    self.skipTest(fault.removeprefix(sctp_inside.LEFT_OUT))
                 self.assertIsNone(fault, fault)

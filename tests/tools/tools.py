@@ -4,6 +4,8 @@ import importlib.util
 import pathlib
 import subprocess
 import sys
+import tempfile
+import unittest
 
 TOP = pathlib.Path(__file__).resolve().parent.parent.parent
 ROWS = TOP / "tests" / "rows"
@@ -19,6 +21,19 @@ def module(path):
     sys.modules[path.stem] = found
     loader.exec_module(found)
     return found
+
+
+class InFolder(unittest.TestCase):
+    """Tests that have files of their own."""
+
+    def setUp(self):
+        self.folder = pathlib.Path(self.enterContext(tempfile.TemporaryDirectory()))
+
+    def file(self, name, text):
+        """A file with this text, or these octets."""
+        path = self.folder / name
+        path.write_bytes(text if isinstance(text, bytes) else text.encode())
+        return path
 
 
 def ran(tool, *words, given=b"", cwd=TOP):

@@ -4,6 +4,7 @@ import contextlib
 import ipaddress
 import json
 import os
+import re
 import socket
 import sys
 import time
@@ -17,13 +18,16 @@ from fronting.faults import WRONG, told
 from fronting.front import Front
 from fronting.keys import NO, YES, Filling, read_vectors
 from fronting.listening import ControlSocket, listener_of, page_listener_of
+from fronting.locking import Lock
 from fronting.page import Page
 from fronting.provisioning import read_head
 from fronting.saying import Voice
 from fronting.segments import whole_series
+from fronting.used import LOG_END, UsedVectors
 
 S1AP_PORT = 36412  # TS 36.412 clause 7
-OF_PHONE, OF_FILE, OF_FRONT = ("data", "cancel", "show"), ("give",), ("stations", "phones", "counters")
+OF_PHONE, OF_FILE, OF_FRONT, OF_BOTH = ("data", "cancel", "show"), ("give",), ("stations", "phones", "counters"), ("health",)
+NAME = re.compile(r"(?=.{1,253}$)[a-z0-9_-]{1,63}(\.[a-z0-9_-]{1,63})*", re.IGNORECASE)  # of a machine
 
 
 def run(given):
@@ -34,16 +38,23 @@ def run(given):
         os.environ.pop("MME_EXPLAIN", None)  # by which `mme` says a line that is wrong, with the keys in it
     voice = Voice(given.log_form == "json")
     try:
-        head = read_head(runs.read_file(given.subscribers), given.subscribers, given.code)
+        if given.anew and not given.resume:
+            raise runs.Fault("--anew goes with --resume")
+        octets = runs.read_file(given.subscribers)
+        given.subscribers = "standard input" if given.subscribers == "-" else given.subscribers
+        head = read_head(octets, given.subscribers, given.code)
+        del octets
         with contextlib.ExitStack() as after:
+            after.enter_context(contextlib.closing(Lock(given.log)))
+            used = after.enter_context(contextlib.closing(UsedVectors(given.log + LOG_END)))
             listener, link = listener_of(given.listen, given.port, given.tcp)
             after.enter_context(listener)
             control = after.enter_context(contextlib.closing(ControlSocket(given.control)))
             page = None
             if given.page is not None:
                 pages = after.enter_context(page_listener_of(*given.page))
-                page = lambda front: Page(front, pages)
-            Front(given, head, voice).run(listener, link, control.listener, page)
+                page = lambda front: Page(front, pages, given.page_host)
+            Front(given, head, voice, used).run(listener, link, control.listener, page)
         return 0
     except runs.Fault as fault:
         status = getattr(fault, "status", WRONG)
@@ -73,7 +84,7 @@ def connected(path, wait):
 
 def question(given):
     """What is sent for the words of `ask`."""
-    wanted = 0 if given.word in OF_FRONT else 1
+    wanted = 0 if given.word in OF_FRONT + OF_BOTH else 1
     if len(given.more) != wanted:
         raise runs.Fault("%s has %s after it" % (given.word, runs.counted(wanted, "word")))
     if given.word in OF_FILE:
@@ -85,10 +96,12 @@ def question(given):
 def table(word, found):
     """What was told of a front, a line for each thing."""
     if word == "phones":
-        return "".join("%s %s\n" % item for item in found.items())
-    if word == "stations":
-        return "".join(" ".join("%s=%s" % item for item in station.items()) + "\n" for station in found)
-    return "".join("%s: %s\n" % (name, json.dumps(value)) for name, value in found.items())
+        lines = ["%s %s vectors_left=%d" % (imsi, phone["states"], phone["vectors_left"]) for imsi, phone in found.items()]
+    elif word == "stations":
+        lines = [" ".join("%s=%s" % item for item in station.items()) for station in found]
+    else:
+        lines = ["%s: %s" % (name, json.dumps(value)) for name, value in found.items()]
+    return "".join(versions.visible(line) + "\n" for line in lines)
 
 
 def ask(given):
@@ -99,7 +112,7 @@ def ask(given):
             asking.settimeout(limits.GIVING_SECONDS + limits.HOLD_SECONDS)
             try:
                 asking.sendall(octets)
-                answer = asking.makefile().readline()
+                answer = asking.makefile(encoding="utf-8", errors="replace", newline="\n").readline()
             except OSError as fault:
                 raise runs.Fault("%s: %s" % (given.control, told(fault))) from None
         if not answer:
@@ -113,8 +126,8 @@ def ask(given):
     if word in OF_FRONT and not given.json:
         print(table(word, json.loads(rest)), end="")
     else:
-        print(rest if word in OF_FRONT else answer, end="")
-    return 0 if word.strip() in ("taken", "state", "given", *OF_FRONT) else 1
+        print(versions.visible((rest if word in OF_FRONT else answer).removesuffix("\n")))
+    return 0 if word.strip() in ("taken", "state", "given", "serves", *OF_FRONT) else 1
 
 
 # --- A log without keys ---
@@ -172,6 +185,13 @@ def network_of(text):
         raise argparse.ArgumentTypeError(str(fault)) from None
 
 
+def name_of(text):
+    """A machine's name."""
+    if not NAME.fullmatch(text):
+        raise argparse.ArgumentTypeError("%r isn't the name of a machine" % text)
+    return text
+
+
 def page_of(text):
     """An address and a port, as 127.0.0.1:9100 or [::1]:9100."""
     address, _, port = text.rpartition(":")
@@ -181,40 +201,51 @@ def page_of(text):
 def add_interface(words):
     """The words on stations and who may ask."""
     words.add_argument("--listen", metavar="ADDRESS", type=address_of, action="append",
-                       help="where stations connect to; by SCTP it may be given for each of several addresses; 127.0.0.1, this "
-                       "machine alone, where not given")
-    words.add_argument("--port", type=whole(0, 65535), default=S1AP_PORT, help="36412 where not given; 0 for any that is free")
+                       help="where stations connect to; by SCTP may be given several times; default 127.0.0.1, for stations on "
+                       "this machine only")
+    words.add_argument("--port", type=whole(0, 65535), default=S1AP_PORT, help="default 36412; 0 for any that is free")
     links = words.add_mutually_exclusive_group()
-    links.add_argument("--sctp", action="store_true", help="by SCTP, as where neither is given")
+    links.add_argument("--sctp", action="store_true", help="by SCTP (default)")
     links.add_argument("--tcp", action="store_true", help="by TCP, with two octets of length before each message")
     words.add_argument("--allow", metavar="NETWORK", type=network_of, action="append",
-                       help="an address or a network that stations may come from, as 192.0.2.0/24; may be given several times; "
-                       "any where not given")
+                       help="an address or a network that stations may come from, such as 192.0.2.0/24; may be given several "
+                       "times; default any")
     words.add_argument("--per-address", type=whole(1, runs.STATIONS), default=limits.PER_ADDRESS, metavar="N",
-                       help="connections of one address at a time; %d where not given" % limits.PER_ADDRESS)
-    words.add_argument("--rate", type=whole(1, 1000000), default=limits.RATE, metavar="N", help="messages a second of a station")
+                       help="connections from one address at a time; default %d" % limits.PER_ADDRESS)
+    words.add_argument("--rate", type=whole(1, 1000000), default=limits.RATE, metavar="N",
+                       help="messages a second that a station may send; default %d" % limits.RATE)
     words.add_argument("--setup-seconds", type=seconds, default=limits.SETUP_SECONDS, metavar="SECONDS",
-                       help="from the connection to S1 SETUP RESPONSE")
-    words.add_argument("--control", metavar="PATH", help="of the control socket; LOG.control where not given")
+                       help="that S1 SETUP may take from the connection on; default %d" % limits.SETUP_SECONDS)
+    words.add_argument("--control", metavar="PATH", help="of the control socket; default LOG.control")
     words.add_argument("--page", metavar="ADDRESS:PORT", type=page_of,
                        help="where a browser finds the page of its state, and Prometheus /metrics; nowhere where not given")
+    words.add_argument("--page-host", metavar="NAME", type=name_of, action="append", default=[],
+                       help="a name that the page is asked for by, besides localhost and addresses; may be given several times")
 
 
 def add_log(words):
     """The words on the log, and what the front says."""
-    words.add_argument("--keep", type=whole(0, 99), default=0, metavar="N", help="older logs to keep, as LOG.1 to LOG.N")
-    words.add_argument("--resume", action="store_true", help="play the last log first and go on after it, where it is whole")
+    words.add_argument("--keep", type=whole(0, 99), default=0, metavar="N",
+                       help="how many older logs to keep, as LOG.1 to LOG.N; default 0")
+    words.add_argument("--resume", action="store_true",
+                       help="play the last log first and go on after it; if that can't be done, end with status 2")
+    words.add_argument("--anew", action="store_true",
+                       help="with --resume: if the last log can't be resumed, begin with nobody attached")
     words.add_argument("--log-keys", choices=(YES, NO), default=YES,
-                       help="whether the log keeps XRES and KASME of vectors; without them it plays once `fill` has put them back, "
-                       "and --resume needs the SUBSCRIBERS that it was begun with; yes where not given")
+                       help="whether the log keeps XRES and KASME of vectors (default yes); without them it plays once `fill` has "
+                       "put them back, and --resume needs the SUBSCRIBERS that it was begun with")
     words.add_argument("--segment-size", type=whole(1, 4096), default=limits.SEGMENT_SIZE, metavar="MIB",
-                       help="of a segment of the log; %d MiB where not given" % limits.SEGMENT_SIZE)
+                       help="size of a segment of the log; default %d MiB" % limits.SEGMENT_SIZE)
     words.add_argument("--segments", type=whole(2, 10000), default=limits.SEGMENTS, metavar="N",
-                       help="segments to keep of what happened, and of what counts; %d where not given" % limits.SEGMENTS)
+                       help="how many segments of LOG to keep, and of LOG.counts; default %d" % limits.SEGMENTS)
+    words.add_argument("--sync", choices=(YES, NO), default=YES,
+                       help="whether an answer waits until what led to it is on disk (default yes); with no, after a power cut the "
+                       "log may lack what was answered, and --resume refuses it")
     words.add_argument("--full-disk", choices=(END, REFUSE, GO_ON), default=END,
-                       help="what is done where the log can't be written: end with status 74 (as where not given), refuse stations "
-                       "for up to %d s, or go on without a log" % limits.FULL_SECONDS)
-    words.add_argument("--log", dest="log_form", choices=("text", "json"), default="text", help="the form of what it says")
+                       help="what to do if the log can't be written: end with status 74 (default), refuse stations for up to %d s, "
+                       "or go on without a log" % limits.FULL_SECONDS)
+    words.add_argument("--log", dest="log_form", choices=("text", "json"), default="text",
+                       help="the form of its messages on standard error")
 
 
 def parser(description):
@@ -224,30 +255,30 @@ def parser(description):
     versions.add_to(words)
     ways = words.add_subparsers(required=True, metavar="run|ask|fill")
     live = ways.add_parser("run", help="take stations", epilog=limits.LIMITS, **form)
-    live.add_argument("subscribers", metavar="SUBSCRIBERS", help="a file with the lines mme, sub and vec")
+    live.add_argument("subscribers", metavar="SUBSCRIBERS", help="a file with the lines mme, sub and vec, or - for standard input")
     live.add_argument("log", metavar="LOG", help="the file that gets the trace")
     add_interface(live)
     add_log(live)
-    live.add_argument("--code", metavar="HEX", help="refuse SUBSCRIBERS of another MME code than this")
+    live.add_argument("--code", metavar="HEX", help="refuse SUBSCRIBERS whose MME code isn't this one")
     live.add_argument("--answer-seconds", type=seconds, default=limits.ANSWER_SECONDS, metavar="SECONDS",
-                      help="that the MME may owe an answer; then the front ends with status 76")
+                      help="that the MME may owe an answer, default %d; then the front ends with status 76" % limits.ANSWER_SECONDS)
     live.add_argument("--second", type=seconds, default=1.0, metavar="SECONDS", help="the length of a tick, for tests")
     mmes = live.add_mutually_exclusive_group()
     mmes.add_argument("--mme", metavar="PROGRAM", default=runs.SYSTEM,
                       help="the program to run, in place of the one beside this tool")
     mmes.add_argument("--library", action="store_true",
-                      help="have the MME in the front's own process, by the library for C and Python, in place of a program")
+                      help="run the MME in the front's own process, by the library for C and Python, and start no program")
     live.set_defaults(act=run)
     asking = ways.add_parser("ask", help="ask a front that runs", **form)
     asking.add_argument("control", metavar="CONTROL", help="its control socket")
-    asking.add_argument("word", metavar="WORD", choices=sorted((*OF_PHONE, *OF_FILE, *OF_FRONT)),
-                        help="data, cancel or show, with an IMSI; give with a FILE; stations, phones or counters")
+    asking.add_argument("word", metavar="WORD", choices=sorted((*OF_PHONE, *OF_FILE, *OF_FRONT, *OF_BOTH)),
+                        help="data, cancel or show, with an IMSI; give with a FILE; stations, phones, counters or health")
     asking.add_argument("more", metavar="IMSI|FILE", nargs="*")
-    asking.add_argument("--json", action="store_true", help="print what is told of the front as JSON")
-    asking.add_argument("--wait", type=seconds, default=0.0, metavar="SECONDS", help="for a front that only begins")
+    asking.add_argument("--json", action="store_true", help="print stations, phones and counters as JSON")
+    asking.add_argument("--wait", type=seconds, default=0.0, metavar="SECONDS", help="wait for a front that is still starting")
     asking.set_defaults(act=ask)
     filling = ways.add_parser("fill", help="print a log without keys with the keys of a file", **form)
-    filling.add_argument("vectors", metavar="VECTORS", help="a file with the lines vec, as SUBSCRIBERS")
+    filling.add_argument("vectors", metavar="VECTORS", help="a file with the lines vec, such as SUBSCRIBERS")
     filling.add_argument("log", metavar="LOG", help="the log, with its earlier segments")
     filling.set_defaults(act=fill)
     return words

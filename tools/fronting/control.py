@@ -6,7 +6,7 @@ import runs
 from fronting import limits, status
 from fronting.guests import Door
 
-WORDS = {"data": 1, "cancel": 1, "show": 1, "give": 1, "stations": 0, "phones": 0, "counters": 0}
+WORDS = {"data": 1, "cancel": 1, "show": 1, "give": 1, "stations": 0, "phones": 0, "counters": 0, "health": 0}
 NOBODY = "refused %d: %s" % (runs.UNKNOWN_IMSI, runs.REFUSALS[runs.UNKNOWN_IMSI])
 
 
@@ -60,8 +60,10 @@ class Control:
                 self.tell_mme(word, runs.imsi_of(fields[0]), reply)
             elif word == "give":
                 self.give(text, reply)
+            elif word == "health":
+                self.front.exchange.ask([], None, lambda: reply("serves"))
             elif word == "phones":
-                status.states(self.front, lambda states: reply("phones " + json.dumps(states)))
+                status.phones(self.front, lambda: guest.is_open, lambda told: reply("phones " + told))
             else:
                 found = status.stations(self.front) if word == "stations" else status.counters(self.front)
                 reply("%s %s" % (word, json.dumps(found)))
@@ -78,7 +80,7 @@ class Control:
         if word == "show":
             self.front.exchange.shows.append(lambda answer: reply("state %s %s" % (answer.imsi, answer.states)))
         else:
-            reply("taken")
+            self.front.exchange.when_kept(lambda: reply("taken"))
 
     def give(self, text, reply):
         """Further subscribers and vectors."""

@@ -9,13 +9,16 @@ import time
 import runs
 
 from fronting import limits
+from fronting.associations import BEGIN_ONE, ERRORS, RESETS, is_silent
 from fronting.faults import told
+from fronting.meters import SETUP_REQUEST
 from fronting.pace import Pace
 from fronting.stations import Station, heard
 
 EVENTS = select.EPOLLIN | select.EPOLLOUT | select.EPOLLRDHUP | select.EPOLLET
 ENDING = select.EPOLLRDHUP | select.EPOLLHUP | select.EPOLLERR
 GONE = select.EPOLLIN | ENDING
+OF_ASSOCIATIONS = {RESETS, ERRORS, *BEGIN_ONE}
 
 
 def host_of(text):
@@ -27,8 +30,8 @@ def host_of(text):
 class Crowd:
     """Takes connections, gives each the lowest number that is free, and has them speak in turns."""
 
-    def __init__(self, loop, exchange, voice, meters, settings):
-        self.loop, self.exchange, self.voice, self.meters = loop, exchange, voice, meters
+    def __init__(self, loop, exchange, voice, meters, attaches, settings):
+        self.loop, self.exchange, self.voice, self.meters, self.attaches = loop, exchange, voice, meters, attaches
         self.rate, self.per_address = settings.rate, settings.per_address
         self.allowed, self.setup_seconds = settings.allow, settings.setup_seconds
         self.stations, self.used = {}, set()  # by number; the numbers that a connection had
@@ -96,6 +99,7 @@ class Crowd:
         number = next(number for number in range(runs.STATIONS) if number not in self.stations)
         exchange, key = self.exchange, b"%d" % number
         station.number, self.stations[number] = number, station
+        self.meters.ups[number] += 1
         self.addresses[station.address] += 1
         if number in self.used:
             exchange.part(lambda: station.is_lost or exchange.receivers.update({key: station}))
@@ -139,11 +143,27 @@ class Crowd:
 
     def lines_of(self, station, most, most_octets, now):
         """What a station says in its turn, as lines of the log."""
-        number, count, found = station.number, self.meters.count_in, []
+        number, count, hear, found = station.number, self.meters.count_in, self.attaches.hear, []
+        self.exchange.batch.note_station(number, station.associations)
         for octets in station.take(most, most_octets, now):
             count(number, octets)
             found.append(heard(number, octets))
+            if octets[:2] == SETUP_REQUEST:
+                station.request = octets
+            elif octets[1:2] in OF_ASSOCIATIONS:
+                self.note_associations(station, octets, found[-1])
+            hear(number, octets, found[-1])
         return found
+
+    def note_associations(self, station, octets, line):
+        """Notes what a message, and its line, says of its station's associations, and whether it is one that changes nothing."""
+        batch = self.exchange.batch
+        if octets[1:2] in BEGIN_ONE:
+            station.associations.note(octets)
+        elif is_silent(octets):
+            batch.note_still(line, True)
+        elif octets[1:2] == RESETS:
+            batch.note_reset(station.number, station.associations.is_reset_of_nobody(octets, len(self.exchange.imsis)), line)
 
     def put_in_turn(self, said):
         """Puts a line of each station after one of each other."""
@@ -156,6 +176,7 @@ class Crowd:
             for round_of_all in zip(*[lines for _, lines in said]):
                 batch.lines += round_of_all
                 batch.owners += numbers
+                batch.octets += sum(map(len, round_of_all))
             said = [(number, lines[shortest:]) for number, lines in said]
 
     def settle(self, station):

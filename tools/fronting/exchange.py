@@ -1,21 +1,30 @@
 """The exchange with the MME: what it is given, which stands in the log before, and whom its answers are for.
 
+What the MME is given at once is a turn. It plays it while the log commits it (journal.py); what it answers is held until that is
+done, and goes out in its order: messages to stations, and what those who ask are told. One turn is under way at a time, and what
+comes meanwhile is the next.
+
 Each batch of lines ends with a mark, `data` for an IMSI that nobody has. The MME refuses it and changes nothing, so its refusal
 says that all before it is answered. Marks aren't in the log.
 """
 import binascii
 import collections
+import contextlib
+import functools
 import time
 
 import runs
 
 from fronting import limits
+from fronting.challenges import AUTHENTICATION_REQUEST_DIGITS, challenged
 from fronting.faults import BABBLES, Ended, Failed, LOG_FAILS, SILENT, told
 from fronting.journal import Batch
-from fronting.meters import ERROR_INDICATION, SETUP_RESPONSE
+from fronting.meters import DOWNLINK, ERROR_INDICATION, PAGING, RESET_ACKNOWLEDGE, SETUP_RESPONSE
 from fronting.mme import MARK_ANSWER
+from fronting.used import entry_of
 
-OUT, STATION_OWNER, OWNERS = b"out ", ord("e"), b"esx"
+OUT, PHONE_OWNER, OWNERS = b"out ", ord("s"), b"esx"
+OUT_OF_PHONE = OUT + b"s"
 NUMBERS = {b"%d" % number: number for number in range(runs.STATIONS)}
 END, REFUSE, GO_ON = "end", "refuse", "go-on"  # what is done on a full disk
 
@@ -23,12 +32,20 @@ END, REFUSE, GO_ON = "end", "refuse", "go-on"  # what is done on a full disk
 class Exchange:
     """Gives the MME batches of lines, and takes its answers."""
 
-    def __init__(self, loop, voice, meters, full_disk=END):
-        self.loop, self.voice, self.meters, self.full_disk = loop, voice, meters, full_disk
+    def __init__(self, loop, voice, meters, used, full_disk=END):
+        self.loop, self.voice, self.meters, self.used, self.full_disk = loop, voice, meters, used, full_disk
         self.journal = self.program = self.make = self.mark = None
+        self.imsis = []  # by slot
+        self.replayed = None  # while a log is played, the vectors of its challenges, each as LOG.used has it
+        self.keeps_challenges = False  # whether it was said that none goes out
         self.batch, self.closed, self.marks = Batch(), [], collections.deque()
         self.receivers = dict.fromkeys(NUMBERS)  # by number, who gets what is sent for it
         self.shows = collections.deque()  # whom the next states are for
+        self.held = collections.deque()  # what waits for the log: a turn, writes beside it, what is to be done then, and with what
+        self.later = []  # what is done once the log takes the next turn
+        self.notes = {}  # by how a message begins, what notes it by the phone's slot and the station that it is sent to
+        self.note_challenge = lambda slot, station, octets: None  # which of them looks at messages that were sent before
+        self.follow = lambda batch: None  # who is told of each batch that the MME is given
         self.dirty, self.rest, self.heard_at = set(), b"", 0.0
         self.has_answered, self.held_since = False, None
         self.is_replaying = False  # whether answers are those that were given before
@@ -38,7 +55,7 @@ class Exchange:
 
     def begin(self, make, head):
         """Starts the MME with this head; `make` makes one, by the loop, what hears its answers, and what hears its words."""
-        self.make, self.mark = make, b"data %s\n" % head.unknown_imsi().encode()
+        self.make, self.mark, self.imsis = make, b"data %s\n" % head.unknown_imsi().encode(), head.imsis
         self.adopt(make(self.loop, self.hear, self.voice.say))
         self.program.give(head.text.encode("latin-1"))
 
@@ -68,12 +85,35 @@ class Exchange:
     def is_free(self):
         """Whether stations may have their turn."""
         is_held = self.is_held or self.held_since is not None
-        return not is_held and len(self.marks) < limits.IN_FLIGHT and self.program.size < limits.TURN_OCTETS
+        return (not is_held and len(self.marks) < limits.IN_FLIGHT and self.program.size < limits.TURN_OCTETS
+                and self.has_room)
+
+    @property
+    def has_room(self):
+        """Whether more may be put for the turn to come."""
+        coming = (*self.closed, self.batch)
+        return (sum([len(batch.lines) for batch in coming]) < limits.TURN_MESSAGES
+                and sum([batch.octets for batch in coming]) < limits.TURN_OCTETS)
+
+    @property
+    def takes(self):
+        """Whether the log takes the next turn."""
+        return self.journal is None or self.journal.takes
+
+    @property
+    def is_syncing(self):
+        """Whether a turn, or what stands beside the log, is being synced."""
+        return self.journal is not None and self.journal.is_under_way
+
+    @property
+    def is_quiet(self):
+        """Whether all that the MME was given is answered, and these answers are on their way."""
+        return not self.marks and not self.held and self.takes
 
     def flush(self):
         """Gives the MME what was put, once it stands in the log."""
         self.part()
-        if not self.closed or self.is_held or not self.is_written(self.closed):
+        if not self.closed or self.is_held or not self.takes or not self.is_written(self.closed):
             return
         now = time.monotonic()
         if not self.marks:
@@ -81,21 +121,19 @@ class Exchange:
         text = []
         for batch in self.closed:
             batch.given = now
-            text.append("\n".join(batch.lines).encode("latin-1") + b"\n" + self.mark)
+            self.follow(batch)
+            text.append("\n".join(batch.told()).encode("latin-1") + b"\n" + self.mark)
         self.marks.extend(self.closed)
         self.closed = []
         self.program.give(b"".join(text))
-        if self.journal is not None and self.journal.octets > limits.SETTLED_OCTETS:
-            try:
-                self.write_settled()
-            except (OSError, Failed) as fault:
-                self.log_fails(fault)
+        self.settle_much()
 
     def end_input(self):
         """Gives the MME what was put, and then no more."""
         self.is_held = False
         try:
             self.flush()
+            self.write_beside()
         except Failed as fault:
             self.voice.say("log_fails", str(fault))
         self.program.end = lambda status: None
@@ -111,50 +149,145 @@ class Exchange:
         self.program.give(octets + self.mark)
 
     def ask(self, lines, note, after):
-        """Asks the MME for states, in lines that change nothing and don't stand in the log."""
+        """Asks the MME for states, in lines that change nothing and don't stand in the log. Lines that can't be given yet, since the
+        log can't be written, come after these."""
         self.flush()
-        if self.closed:  # the log can't be written, so that lines which stand before these aren't given yet
-            after()
-            return
         batch = Batch()
         batch.given = time.monotonic()
-        batch.after.append(after)
-        self.shows.extend([note] * len(lines))
+        batch.turn = 0 if self.journal is None else self.journal.turn
+        batch.after.append(lambda: self.do(batch.turn, after))
+        place = len(self.shows) - sum(batch.questions() for batch in self.closed)
+        for _ in lines:
+            self.shows.insert(place, note)
         self.marks.append(batch)
-        self.program.give("\n".join(lines).encode("latin-1") + b"\n" + self.mark)
+        self.program.give("".join(line + "\n" for line in lines).encode("latin-1") + self.mark)
+
+    def ask_after(self, line, imsi, note):
+        """Asks the MME for a phone's states right after a line that comes into this batch, as `ask` does."""
+        self.batch.asked[line] = imsi
+        self.shows.append(note)
 
     # The log.
 
+    def write_to(self, journal):
+        """From now on what the MME is given stands in this log before."""
+        self.journal, journal.tell = journal, self.is_told
+        journal.beside.append(self.used)
+
+    def is_told(self, fault):
+        """More is committed, or there is a fault."""
+        self.release()
+        if fault is not None:
+            self.log_fails(fault)
+        elif self.takes:
+            self.log_goes_on()
+            while self.later and self.takes:
+                self.later.pop(0)()
+            self.settle_much()
+            self.flush()
+
+    def is_clear(self, turn):
+        """Whether an answer to a turn may go out now, which none does before those that are held."""
+        return not self.held and not self.used.noted and (self.journal is None or turn <= self.journal.committed)
+
+    def do(self, turn, act, *given):
+        """Does what goes out as an answer to a turn, or has it wait."""
+        if self.is_clear(turn):
+            act(*given)
+        else:
+            self.held.append((turn, self.journal.mark() if self.journal is not None else 0, act, given))
+
+    def when_kept(self, act):
+        """Has `act` be done once what was put last is answered and committed."""
+        batch = self.batch
+        batch.after.append(lambda: self.do(batch.turn, act))
+
+    def release(self):
+        """Does what waits no more."""
+        while self.held and self.may_go(*self.held[0][:2]):
+            _, _, act, given = self.held.popleft()
+            act(*given)
+
+    def may_go(self, turn, noted):
+        """Whether what waits for a turn, and for so many writes beside it, waits no more."""
+        return not self.used.noted if self.journal is None else self.journal.keeps(turn, noted)
+
+    def write_beside(self):
+        """Has it be written which vectors were used, before their challenges go out."""
+        if self.used.noted:
+            try:
+                if self.journal is None:
+                    self.used.write()
+                else:
+                    self.journal.write_beside()
+                self.keeps_challenges = False
+            except OSError as fault:
+                self.used_fails("%s: %s" % (self.used.path, told(fault)))
+        self.release()
+
+    def used_fails(self, text):
+        """It can't be written which vectors were used. Where the front goes on, their challenges go to nobody."""
+        self.log_fails(Failed(text, LOG_FAILS))
+        if self.full_disk != GO_ON:
+            return
+        self.held = collections.deque(one for one in self.held if one[2] != self.challenge)
+        self.used.forget_noted()
+        if not self.keeps_challenges:
+            self.keeps_challenges = True
+            self.voice.say("no_challenge", text + ": no phone is challenged by a vector that isn't noted there")
+
+    def look_after_used(self):
+        """Looks whether the file with the vectors that were used is still where it was, unless it is being synced."""
+        if self.journal is not None and self.journal.is_noting:
+            return
+        try:
+            if self.used.look_after():
+                self.voice.say("used_again", "%s was moved or cut, and is written again" % self.used.path)
+        except OSError as fault:
+            self.used_fails("%s: %s" % (self.used.path, told(fault)))
+        self.write_beside()
+
     def is_written(self, batches):
         """Whether the batches stand in the log, or needn't; on a full disk what was asked for is done."""
-        if self.journal is None:
-            return True
+        if self.used.noted and self.held_since is not None:
+            return False
         try:
+            if self.journal is not None and self.journal.happened.is_cut:
+                self.check_log()
+            if self.journal is None:
+                return True
             self.journal.add(batches)
         except (OSError, Failed) as fault:
             self.log_fails(fault)
             return self.journal is None
         self.tell_gone()
+        if self.journal.takes:
+            self.log_goes_on()
+        return True
+
+    def log_goes_on(self):
         if self.held_since is not None:
             self.held_since = None
             self.voice.say("log_goes_on", "the log can be written again, and the stations are heard")
-        return True
 
     def tell_gone(self):
         """Says which segments went for new ones."""
         for series, path in self.journal.take_gone():
             self.meters.gone += 1
-            meant = ("--resume and give can't use this run any more" if series is self.journal.counts
-                     else "the trace no longer plays from its beginning")
-            self.voice.say("segment_gone", "%s is the oldest segment, and removed: %s" % (path, meant), path=path)
+            self.voice.say("segment_gone", "%s is the oldest segment, and removed: %s" % (path, self.meant_by_missing(series)),
+                           path=path)
+
+    def meant_by_missing(self, series):
+        """What it means that a part of a series is missing."""
+        if series is self.journal.counts:
+            return "--resume and give can't use this run any more"
+        return "the trace no longer plays from its beginning"
 
     def log_fails(self, fault):
         """The log can't be written: the front ends, holds the stations for a while, or goes on without it, as asked."""
         text = str(fault) if isinstance(fault, Failed) else "%s: %s" % (self.journal.happened.path, told(fault))
         if self.full_disk == GO_ON:
-            self.journal.close()
-            self.journal = None
-            self.voice.say("no_log", text + ": the run goes on without a log, so that it can't be played again or resumed")
+            self.go_on_without(text)
             return
         now = time.monotonic()
         if self.full_disk == END or self.held_since is not None and now - self.held_since > limits.FULL_SECONDS:
@@ -163,26 +296,72 @@ class Exchange:
             self.held_since = now
             self.voice.say("held", text + ": stations are refused and not heard until there is room")
 
+    def go_on_without(self, text):
+        """Goes on without a log, once it is sure that no run goes on after it: what is answered from now on isn't in it."""
+        if self.journal is None:
+            return
+        try:
+            self.journal.give_up()
+        except OSError as fault:
+            raise Failed("%s: and it can't be given up: %s" % (text, told(fault)), LOG_FAILS) from None
+        self.journal.close()
+        self.journal = None
+        self.voice.say("no_log", text + ": the run goes on without a log, so that it can't be played again or resumed")
+        self.write_beside()
+        for act in self.later:
+            self.loop.after(0, act)
+        self.later = []
+
     def look_after_log(self, rolls=False):
+        """Has the log be looked after: at once, or where a turn is under way, after that."""
+        if self.journal is not None:
+            try:
+                self.journal.care(time.monotonic())
+            except (OSError, Failed) as fault:
+                self.log_fails(fault)
+        self.write_beside()
+        if self.takes:
+            self.check_log(rolls)
+        elif rolls or self.check_log not in self.later:
+            self.later.append(functools.partial(self.check_log, True) if rolls else self.check_log)
+
+    def check_log(self, rolls=False):
         """Writes what counts, and looks whether the log is still where it was."""
+        self.look_after_used()
         if self.journal is None:
             return
         try:
             for series in self.journal.series:
                 change = series.check()
                 if change:
-                    self.voice.say("log_" + change.split()[-1], "%s %s: what comes is in a new file there, and --resume and give "
-                                   "can't use this run" % (series.path, change), path=series.path)
+                    self.voice.say("log_" + change.split()[-1], "%s %s: what comes is in a new file there, and %s" % (
+                        series.path, change, self.meant_by_missing(series)), path=series.path)
                 elif rolls:
-                    series.roll()
+                    self.journal.roll(series)
             self.write_settled(rolls)
         except (OSError, Failed) as fault:
             self.log_fails(fault)
 
+    def end_log(self):
+        """Has the log be on disk, as far as what is in it may count."""
+        if self.journal is not None:
+            try:
+                self.journal.end(time.monotonic())
+            except (OSError, Failed) as fault:
+                self.voice.say("log_fails", str(fault))
+
+    def settle_much(self):
+        """Writes what counts where there is much of it."""
+        if self.journal is not None and self.journal.octets > limits.SETTLED_OCTETS:
+            try:
+                self.write_settled()
+            except (OSError, Failed) as fault:
+                self.log_fails(fault)
+
     def write_settled(self, at_once=False):
         now = time.monotonic()
         if self.journal is not None and (at_once or self.journal.is_due(now)):
-            self.journal.write_settled(now)
+            self.journal.write_settled(now, at_once)
             self.tell_gone()
 
     # From the MME.
@@ -196,40 +375,79 @@ class Exchange:
             if line == MARK_ANSWER and self.marks:
                 self.has_been_answered(self.marks.popleft())
             elif self.is_replaying:
-                pass
+                if AUTHENTICATION_REQUEST_DIGITS in line:
+                    self.take_replayed(line)
             elif line[:4] == OUT:
                 self.take_message(line)
             else:
                 self.take_other(line)
+        self.write_beside()
         if len(self.rest) > runs.LONGEST_LINE:
             raise Failed("the MME's answer is longer than %d octets" % runs.LONGEST_LINE, BABBLES)
 
     def take_message(self, line):
-        """Gives a message to whom it is for; what is for a connection that ended is nobody's."""
+        """Gives a message to whom it is for, once it may go out."""
         try:
             _, owner, number, text = line.split(b" ")
             octets = binascii.unhexlify(text) if text != b"-" else b""
             receiver = self.receivers[number]
             if owner[0] not in OWNERS:
                 raise ValueError
+            slot = int(owner[1:]) if owner[0] == PHONE_OWNER else None
         except (ValueError, KeyError, IndexError):
             raise Failed("the MME's answer is none: %s" % line[:80].decode(errors="replace"), BABBLES) from None
         kind = octets[:2]
-        self.meters.count_out(NUMBERS[number], octets)
+        if slot is not None and kind in self.notes:
+            self.notes[kind](slot, NUMBERS[number], octets)
         if not self.marks:
             raise Failed("the MME's answer is to nothing that it was given: %s" % line[:80].decode(), BABBLES)
         batch = self.marks[0]
         batch.answers += 1
-        if owner[0] == STATION_OWNER:
-            if kind == ERROR_INDICATION:
-                station = NUMBERS[number]
-                batch.errors[station] = batch.errors.get(station, 0) + 1
-            elif kind == SETUP_RESPONSE and receiver is not None:
-                receiver.is_set_up = True
-        if receiver is not None:
+        if kind in (ERROR_INDICATION, RESET_ACKNOWLEDGE):
+            batch.note_answer(NUMBERS[number], kind == RESET_ACKNOWLEDGE)
+        elif kind == SETUP_RESPONSE and receiver is not None:
+            receiver.is_set_up = True
+        act = self.challenge if kind == DOWNLINK and slot is not None and self.note_used(slot, octets) else self.hand_on
+        journal = self.journal  # what follows is is_clear, spelled out, since each message comes by here
+        if self.held or self.used.noted or journal is not None and batch.turn > journal.committed:
+            self.do(batch.turn, act, NUMBERS[number], receiver, octets, owner)
+        else:
+            act(NUMBERS[number], receiver, octets, owner)
+
+    def note_used(self, slot, octets):
+        """Notes the vector of a challenge; whether it still is to be written that it was used."""
+        rand = challenged(octets)
+        if rand is None:
+            return False
+        if slot >= len(self.imsis):
+            raise Failed("the MME's answer is for nobody: s%d" % slot, BABBLES)
+        imsi = self.imsis[slot]
+        if self.replayed is not None:
+            self.replayed.add(entry_of(imsi, rand))
+        return self.used.note(imsi, rand)
+
+    def challenge(self, number, receiver, octets, owner):
+        """A challenge goes out, whose vector stands among those that were used."""
+        self.hand_on(number, receiver, octets, owner)
+
+    def hand_on(self, number, receiver, octets, owner):
+        """A message goes out; one for a connection that ended is nobody's."""
+        self.meters.count_out(number, octets, owner)
+        if receiver is not None and not receiver.is_lost:
             receiver.link.put(octets)
             receiver.sent += 1
             self.dirty.add(receiver)
+            if owner[0] == PHONE_OWNER and octets[:2] != PAGING:
+                self.meters.places[owner] = number, self.meters.ups[number]
+
+    def take_replayed(self, line):
+        """A message that perhaps challenged a phone, before the front began."""
+        if line.startswith(OUT_OF_PHONE):
+            with contextlib.suppress(ValueError):
+                _, owner, number, text = line.split(b" ")
+                slot, octets = int(owner[1:]), binascii.unhexlify(text)
+                self.note_challenge(slot, NUMBERS.get(number), octets)
+                self.note_used(slot, octets)
 
     def take_other(self, line):
         """An answer that is no message: states that somebody asked for."""
@@ -237,17 +455,21 @@ class Exchange:
             answer = runs.answer_of(line)
         except runs.Fault as fault:
             raise Failed("the MME's answer: %s" % fault, BABBLES) from None
-        if answer.word != "state" or not self.shows:
+        if answer.word != "state" or not self.shows or not self.marks:
             raise Failed("the MME's answer is to nothing that it was given: %s" % line[:80].decode(errors="replace"), BABBLES)
-        self.shows.popleft()(answer)
+        self.do(self.marks[0].turn, self.shows.popleft(), answer)
 
     def has_been_answered(self, batch):
         """All of a batch is answered."""
         self.has_answered = True
-        if batch.answers:
-            self.meters.count_answers(self.heard_at - batch.given, batch.answers)
         for act in batch.after:
             act()
+        self.do(batch.turn, self.settle, batch)
+
+    def settle(self, batch):
+        """All of a batch is answered and committed."""
+        if batch.answers:
+            self.meters.count_answers(time.monotonic() - batch.given, batch.answers)
         if self.journal is not None and batch.place is not None:
             self.journal.settle(batch)
 

@@ -7,18 +7,27 @@ import signal
 import time
 
 from fronting import limits
+from fronting.aside import Aside
+from fronting.attaches import Attaches
+from fronting.census import Census
+from fronting.challenges import DOWNLINK, challenged
 from fronting.control import Control
 from fronting.crowd import Crowd
 from fronting.exchange import Exchange
-from fronting.faults import SILENT, Ended, Failed
+from fronting.faults import BABBLES, LOG_FAILS, SILENT, WRONG, Ended, Failed, told
 from fronting.giving import Giving
 from fronting.journal import Journal
-from fronting.keys import Missing, form_of
+from fronting.keys import YES, Missing, form_of
 from fronting.loop import Loop
-from fronting.meters import Meters
-from fronting.mme import LibraryMme, PipedMme, library
+from fronting.meters import CONTEXT_REQUEST, Meters
+from fronting.mme import LINE_IS_WRONG, LibraryMme, PipedMme, library
 from fronting.notify import Manager
-from fronting.resuming import NoResume, Standing, make_way, note_stations
+from fronting.resuming import NoResume, OF_PHONE, Standing, head_facts, make_way, note_stations, parts_of, perhaps_used
+from fronting.soundness import Soundness
+from fronting.stock import Stock
+from fronting.syncing import LOST, Syncer, why_unsure
+from fronting.teller import Teller
+from fronting.used import vector_of
 
 import runs
 
@@ -34,10 +43,11 @@ OTHER_LINES = {
 class Front:
     """The MME, the stations, and whoever asks."""
 
-    def __init__(self, settings, head, voice):
-        self.settings, self.head, self.voice = settings, head, voice
+    def __init__(self, settings, head, voice, used):
+        self.settings, self.head, self.voice, self.used = settings, head, voice, used
         self.loop, self.meters, self.manager = Loop(), Meters(), Manager(os.environ)
-        self.exchange = self.crowd = self.control = self.page = self.giving = None
+        self.exchange = self.crowd = self.control = self.page = self.giving = self.stock = self.teller = None
+        self.aside, self.census, self.attaches, self.soundness = Aside(self), Census(self), Attaches(self), Soundness(self)
         self.is_over, self.is_busy = False, False
         self.resumed, self.given = 0, 0
         self.form = form_of(settings.log_keys, head)  # of the log, as it begins
@@ -47,23 +57,78 @@ class Front:
 
     def begin(self):
         """Starts the MME, with the last log before it where that is to be resumed; it has answered then."""
-        more = self.resume() if self.settings.resume and os.path.exists(self.settings.log) else None
+        more = self.resume() if self.settings.resume and self.has_log() else None
         if more is None:
+            lost = [] if self.used.known else perhaps_used(self.settings.log)
             make_way(self.settings.log, self.settings.keep)
+            if lost:
+                self.used.add(lost)
+                self.voice.say("used_unknown", "%s is lost: all vectors of the log count as used" % self.used.path)
+            self.leave_out_used()
             journal = Journal.begun(self.settings.log, self.head, *self.log_size, self.form)
             self.start(self.head)
-            self.exchange.journal = journal
+            self.write_to(journal)
             self.exchange.replay(b"")
             self.wait()
         return more
+
+    def has_log(self):
+        """Whether a log stands that a run may go on after, since all that was answered is in it. Where that isn't known and a run is
+        to begin anew, all its vectors count as used."""
+        log = self.settings.log
+        why = why_unsure(log)
+        if why and not self.settings.anew:
+            raise Failed("%s (--anew begins with nobody attached)" % why, WRONG)
+        if why:
+            self.used.add(head_facts(log) or self.head.facts)
+            self.voice.say("not_resumed", "the last run isn't resumed, and nobody is attached: %s" % why)
+        return not why and bool(parts_of(log))
+
+    def write_to(self, journal):
+        """From now on what the MME is given stands in this log, and on disk where it is to be synced."""
+        self.exchange.write_to(journal)
+        try:
+            journal.keep_by(Syncer(self.loop) if self.settings.sync == YES else None)
+            self.used.sync()
+        except OSError as fault:
+            raise Failed("%s: %s" % (self.settings.log, told(fault)), LOG_FAILS) from None
+        if self.settings.sync != YES:
+            self.voice.say("not_synced", LOST % self.settings.log)
+
+    def leave_out_used(self):
+        """The run that begins has no vector that an earlier one used."""
+        count = sum(vector_of(line) in self.used.known for line in self.head.facts)
+        if count:
+            self.head = self.used.begun(self.head)
+            self.voice.say("used", "%s left out, used before (%s)" % (
+                "1 vector is" if count == 1 else "%d vectors are" % count, self.used.path), vectors=count)
 
     @property
     def log_size(self):
         return self.settings.segment_size << 20, self.settings.segments
 
     def start(self, head):
-        self.exchange = Exchange(self.loop, self.voice, self.meters, self.settings.full_disk)
+        self.exchange = Exchange(self.loop, self.voice, self.meters, self.used, self.settings.full_disk)
+        self.stock = Stock(head, self.has_few)
+        self.exchange.notes = {DOWNLINK: self.note_challenge}
+        self.exchange.note_challenge = self.note_challenge
         self.exchange.begin(self.make, head)
+        if self.teller is not None:
+            self.teller.end(None)
+        self.teller = Teller(self)
+        if self.settings.page is not None:
+            self.teller.begin(head)
+
+    def note_challenge(self, slot, station, octets):
+        """A message that perhaps uses a phone's next vector."""
+        rand = challenged(octets)
+        if rand is not None and slot < len(self.stock.rands):
+            self.stock.note(slot, rand)
+
+    def has_few(self, slot, left):
+        """A phone has few vectors left."""
+        self.voice.say("few_vectors", "s%d has %s left (`ask phones` has each phone's, in the order of their numbers)"
+                       % (slot, runs.counted(left, "vector")), slot=slot, left=left)
 
     def wait(self):
         """Waits until the MME has answered all that it was given."""
@@ -82,20 +147,21 @@ class Front:
                          % (self.settings.mme, limits.FIRST_SECONDS), SILENT)
 
     def resume(self):
-        """Plays the log that stands, and goes on after it. The lines of provisioning that came since; nothing where it can't be."""
+        """Plays the log that stands, and goes on after it. The lines of provisioning that came since; nothing where it can't be,
+        and a run is to begin anew."""
         try:
             standing = Standing(self.settings.log)
-            head = self.head_after(standing)
+            given = self.used.after(standing.head, self.head)
+            head = self.head_after(standing, given)
             up = self.play(standing, head)
-        except (NoResume, Missing, Ended) as fault:
-            self.voice.say("not_resumed", "the last run isn't resumed, and nobody is attached: %s" % fault)
-            if self.exchange is not None:
-                self.exchange.program.close()
+            if self.is_over:
+                return ()
+            self.check_used(head)
+        except (NoResume, Missing, Failed) as fault:
+            self.not_resumed(fault)
             return None
         seconds = standing.seconds_since()
-        self.exchange.journal = standing.journal(*self.log_size, self.form)
-        for batch in self.tail:
-            self.exchange.journal.settle(batch)
+        self.take_up(standing)
         self.exchange.put("# resumed")
         if seconds:
             self.exchange.put("tick %d" % seconds)
@@ -104,20 +170,53 @@ class Front:
         self.exchange.flush()
         self.wait()
         self.resumed = 1
-        more = self.head.facts[len(head.facts):]
         self.head = head
         self.voice.say("resumed", "the run of %s goes on: %s lost, %d s passed" % (
             self.settings.log, "1 station was" if len(up) == 1 else "%d stations were" % len(up), seconds),
             stations=len(up), seconds=seconds)
-        return more
+        return given.facts[len(head.facts):]
 
-    def head_after(self, standing):
+    def not_resumed(self, fault):
+        """The last run can't go on: ends with the status of what stays wrong, unless a run is to begin anew then."""
+        status = getattr(fault, "status", WRONG)
+        if isinstance(fault, Failed) and not isinstance(fault, Ended) and status != BABBLES:
+            raise fault
+        if self.exchange is not None:
+            self.exchange.program.close()
+            self.exchange = None
+        if not self.settings.anew:
+            raise Failed("the last run isn't resumed: %s (--anew begins with nobody attached)" % fault,
+                         WRONG if status in (LINE_IS_WRONG, BABBLES) else status)
+        self.voice.say("not_resumed", "the last run isn't resumed, and nobody is attached: %s" % fault)
+
+    def check_used(self, head):
+        """Refuses a log that hasn't each challenge whose vector was used: it isn't what the MME was given last."""
+        missing = self.used.among(head.facts) - self.exchange.replayed
+        self.exchange.replayed = None
+        if missing:
+            raise NoResume("%s has no challenge of %s that %s has: something is missing in it, or another run came after it" % (
+                self.settings.log, runs.counted(len(missing), "vector"), self.used.path))
+
+    def take_up(self, standing):
+        """The log goes on, and has first that all which stands in it is settled."""
+        try:
+            journal = standing.journal(*self.log_size, self.form)
+            if self.teller.world is not None:
+                journal.count_standing_lines()
+            self.write_to(journal)
+            for batch in self.tail:
+                journal.settle(batch)
+            journal.write_settled(time.monotonic(), at_once=True)
+        except OSError as fault:
+            raise Failed("%s: %s" % (self.settings.log, told(fault)), LOG_FAILS) from None
+
+    def head_after(self, standing, given):
         """The head to go on with after a log, whose lines those of the subscribers' file begin with."""
         log, subscribers = self.settings.log, self.settings.subscribers
         if standing.has_keys != self.form.has_keys:
             stands, wanted = ("the vectors' keys" if form.has_keys else "no keys" for form in (standing, self.form))
             raise NoResume("%s keeps %s, and this run's log is to keep %s (--log-keys)" % (log, stands, wanted))
-        head = self.form.taken_up(standing.head, self.head)
+        head = self.form.taken_up(standing.head, given)
         if head is None:
             raise NoResume("%s begins with other lines than %s%s" % (log, subscribers, OTHER_LINES[standing.has_keys]))
         return head
@@ -126,29 +225,48 @@ class Front:
         """Gives the MME what counts of a log, and what happened since that was settled; the stations that were connected."""
         up, fill = set(), self.form.filling()
         self.start(head)
-        exchange, exchange.is_replaying = self.exchange, True
+        self.stock.is_quiet = True
+        exchange, exchange.is_replaying, exchange.replayed = self.exchange, True, set()
         for piece in standing.events():
+            self.check_lines(piece, head.slots)
             note_stations(piece, up)
-            exchange.replay(fill(piece))
+            filled = fill(piece)
+            self.teller.take_before(filled)
+            exchange.replay(filled)
             while exchange.program.size and not self.is_over:
                 self.turn_before_stations()
         exchange.replay(b"")
         self.wait()
-        exchange.is_replaying = False
+        exchange.is_replaying, exchange.meters = False, Meters()  # what was sent before isn't counted as sent now
         self.tail = standing.tail_batches(fill)
         for batch, octets in zip(self.tail, standing.tail):
+            self.check_lines(octets, head.slots)
             note_stations(octets, up)
             exchange.shows.extend([lambda answer: None] * sum(line.startswith("show ") for line in batch.lines))
             exchange.marks.append(batch)
-            exchange.program.give("".join(line + "\n" for line in batch.lines).encode("latin-1") + exchange.mark)
+            lines = "".join(line + "\n" for line in batch.lines).encode("latin-1")
+            self.teller.take_before(lines)
+            exchange.program.give(lines + exchange.mark)
         self.wait()
+        self.stock.is_quiet, exchange.meters = False, self.meters
+        if self.stock.low:
+            self.voice.say("few_vectors", "%s used all vectors but %d or fewer (`ask phones` has each phone's)"
+                           % (runs.counted(len(self.stock.low), "phone"), limits.FEW_VECTORS), phones=len(self.stock.low))
         return up
+
+    def check_lines(self, octets, slots):
+        """Refuses lines of a log for an IMSI that nobody has: no run writes them, and by such a line's answer the front knows that
+        a batch is over."""
+        for imsi in OF_PHONE.findall(octets):
+            if imsi.decode() not in slots:
+                raise NoResume("%s has a line that is damaged: nobody has the IMSI %s" % (self.settings.log, imsi.decode()))
 
     def open(self, listener, link, control, page):
         """Takes stations and those who ask."""
-        self.crowd = Crowd(self.loop, self.exchange, self.voice, self.meters, self.settings)
+        self.crowd = Crowd(self.loop, self.exchange, self.voice, self.meters, self.attaches, self.settings)
         if self.resumed:
             self.crowd.used = set(range(runs.STATIONS))
+        self.exchange.notes[CONTEXT_REQUEST] = self.attaches.accept
         self.crowd.listen(listener, link)
         self.control = Control(self, control)
         if page is not None:
@@ -209,6 +327,7 @@ class Front:
         self.crowd.sweep(now)
         self.exchange.check_answers(now, self.settings.answer_seconds)
         self.exchange.look_after_log()
+        self.soundness.look()
         self.loop.after(CARE_SECONDS, self.care)
 
     def watchdog(self):
@@ -222,7 +341,9 @@ class Front:
             raise runs.Fault("something is being given already")
         if self.exchange.journal is None or not self.exchange.journal.counts.is_whole:
             raise runs.Fault("the log isn't whole since the start, so that nothing can be given")
-        self.giving = Giving(self, text.decode("latin-1").removesuffix("\n").split("\n"), reply)
+        lines = text.decode("latin-1").removesuffix("\n").split("\n")
+        self.used.check_given(lines)
+        self.giving = Giving(self, lines, reply)
 
     # The end.
 
@@ -236,6 +357,7 @@ class Front:
         if self.crowd is not None:
             self.crowd.refuse()
             self.crowd.lose_all()
+        self.turn_until(lambda: not self.exchange.is_syncing, limits.LAST_SECONDS)
         self.exchange.end_input()
         program = self.exchange.program
         self.turn_until(lambda: program.status is not None and program.is_silent, limits.LAST_SECONDS)
@@ -244,12 +366,11 @@ class Front:
                 self.voice.say("mme_stays", "the MME doesn't end with its input, so by %s" % number.name)
                 program.kill(number)
                 self.turn_until(lambda: program.status is not None, limits.SENDING_SECONDS)
+        self.turn_until(lambda: not self.exchange.is_syncing, limits.LAST_SECONDS)
         if self.crowd is not None:
+            self.crowd.send()
             self.turn_until(self.crowd.has_sent, limits.SENDING_SECONDS)
-        try:
-            self.exchange.write_settled(at_once=True)
-        except (OSError, Failed) as fault:
-            self.voice.say("log_fails", str(fault))
+        self.exchange.end_log()
         return program.status or 0
 
     def turn_until(self, holds, seconds):

@@ -13,7 +13,8 @@ import runs
 import s1ap
 
 from fronting import limits
-from fronting.mme import MARK_ANSWER
+from fronting.challenges import challenged
+from fronting.mme import MARK_ANSWER, nothing
 from fronting.segments import NUMBERED, name_of
 
 MARK = MARK_ANSWER + b"\n"
@@ -65,6 +66,7 @@ class Comparison:
         self.imsis = {imsi.encode(): imsi for imsi in imsis}
         self.old, self.new = bytearray(), bytearray()
         self.lines, self.differing, self.strangers = 0, set(), set()
+        self.challenges = {}  # by slot, the last RAND that the new MME alone used
 
     def go_on(self):
         """Compares as far as both have come."""
@@ -96,6 +98,7 @@ class Comparison:
             other = new if lines is old else old
             self.differing |= {self.changed(line) for line in lines if line not in other} - {None}
         self.note_strangers(new)
+        self.note_challenges(line for line in new if line not in old)
         old = [line for line in old if self.changed(line) is None and not self.is_stranger(line)]
         new = [line for line in new if self.changed(line) is None]
         if old != new:
@@ -109,6 +112,15 @@ class Comparison:
                 _, _, station, octets = line.split(b" ")
                 enb_id = s1ap.ids(s1ap.read(bytes.fromhex(octets.decode())))[1]
                 self.strangers.add(b"x%s.%d" % (station, -1 if enb_id is None else enb_id))
+
+    def note_challenges(self, lines):
+        """Which vectors the new MME used where the old one had none."""
+        for line in lines:
+            if line.startswith(b"out s") and self.changed(line) is not None:
+                _, owner, _, octets = line.split(b" ")
+                rand = challenged(bytes.fromhex(octets.decode()))
+                if rand is not None:
+                    self.challenges[int(owner[1:])] = rand
 
     def is_stranger(self, line):
         """Whether an answer is for a stranger who is a subscriber now."""
@@ -142,6 +154,7 @@ class Giving:
             self.go_on()
         program = self.front.exchange.make(self.front.loop, hear, self.front.voice.say)
         program.end = lambda status: self.refuse("the second MME ended with status %d" % status)
+        program.taken = self.go_on  # a head has no answers by which it would be heard that it was taken
         program.give(head.text.encode("latin-1"))
         return program
 
@@ -189,7 +202,7 @@ class Giving:
             self.is_holding = exchange.is_held = True
             self.timers.append(self.front.loop.after(limits.HOLD_SECONDS, lambda: self.refuse("the rest took too long")))
             self.front.loop.after(0, self.go_on)
-        elif exchange.marks:
+        elif not exchange.is_quiet:
             self.front.loop.after(0.001, self.go_on)
         elif not self.is_settled:
             self.is_settled = True
@@ -202,8 +215,12 @@ class Giving:
         """The second MME is the MME from now on."""
         exchange, front = self.front.exchange, self.front
         exchange.journal.lengthen(self.head, self.form)
-        before, front.head, exchange.mark = exchange.program, self.head, self.mark
+        front.teller.lengthen(front.head, self.head)
+        before, front.head, exchange.mark, exchange.imsis = exchange.program, self.head, self.mark, self.head.imsis
         exchange.adopt(self.new)
+        front.stock.lengthen(self.head)
+        for slot, rand in self.comparison.challenges.items():
+            front.stock.note(slot, rand)
         before.close()
         for imsi in sorted(self.comparison.differing):
             exchange.put("%s\ncancel %s" % (ANEW % imsi, imsi))
@@ -227,5 +244,6 @@ class Giving:
             timer.cancel()
         self.front.exchange.is_held = False
         self.front.giving = None
+        self.new.taken = nothing
         self.old.close()
         self.reading.close()

@@ -39,10 +39,10 @@ def without_keys(line):
 
 
 class Vectors:
-    """The keys of vectors by the vectors' names."""
+    """The keys of vectors by the vectors' names: of lines, and of those that were known before."""
 
-    def __init__(self, lines=()):
-        self.keys = {}
+    def __init__(self, lines=(), before=None):
+        self.keys = dict(before.keys) if before else {}
         for line in lines:
             if line.startswith("vec "):
                 self.add(line)
@@ -162,16 +162,16 @@ class Whole:
 
 
 class Keyless:
-    """A log without keys."""
+    """A log without keys; none either of the vectors that were known before the head."""
 
     has_keys, note = False, ", without keys"
 
-    def __init__(self, head):
-        self.vectors = Vectors(head.facts)
+    def __init__(self, head, before=None):
+        self.vectors = Vectors(head.facts, before)
         self.finder = Finder(self.vectors)
 
     def of(self, head):
-        return Keyless(head)
+        return Keyless(head, self.vectors)
 
     def text(self, head):
         return "".join(without_keys(line) + "\n" for line in head.facts)

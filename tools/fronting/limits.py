@@ -3,6 +3,8 @@ import os
 
 import runs
 
+# By TCP: seconds of rest until a connection is probed, between two probes, and until one that answers nothing is over.
+PROBE_AFTER, PROBE_APART, VANISHED = 5, 5, 20
 LENGTH_OCTETS = 2  # before each message by TCP
 LONGEST_MESSAGE = (runs.LONGEST_LINE - len("in %d " % (runs.STATIONS - 1))) // 2  # octets, so that its line is one of a trace
 PIECE = 1 << 16  # octets of one read of a station
@@ -26,6 +28,8 @@ ANSWER_SECONDS = 10  # without a word of the MME while an answer is due
 LAST_SECONDS = 5  # for it to end
 SENDING_SECONDS = 1  # for what waits to be sent at the end, and for an MME to end by a signal
 
+FEW_VECTORS = 3  # left of a phone, of which the front says so
+MOST_USED = 0.75  # part of the segments of a series, of which the front says so
 SEGMENT_SIZE, SEGMENTS = 64, 16  # MiB of a segment of the log, and how many are kept of each of its two series
 FULL_SECONDS = 60  # that a full disk may keep the stations waiting
 SETTLED_SECONDS, SETTLED_OCTETS = 1, 1 << 20  # what counts is written after so long, or so much
@@ -38,19 +42,27 @@ GIVING_SECONDS = 120  # for the second MME to play the log
 HOLD_SECONDS = 5  # that the stations wait while it plays the rest
 MOST_TOLD = 1 << 24  # octets that wait for one who asks, here or for the page, to read
 MOST_BROWSING, BROWSING_SECONDS, LONGEST_REQUEST = 32, 10, 8192  # connections for metrics and the page, each one's time and octets
+GUEST_RATE = 100  # connections a second of those who ask, at the control socket and for the page each
+ASIDE_SECONDS, ASIDE_REST = 0.005, 0.001  # after which a piece of work is done though messages wait, and until it is tried again
+FRESH_SECONDS = 1  # that states and pages are told again
+# Of the reasons that the page has: the subscribers of whom they are found, and the vectors; the lines and octets that wait for
+# that, and how long a piece of it takes; how many are kept and how long a fact in one is; and after how many events all is
+# forgotten that is past but for so many lines of a phone.
+MOST_TOLD_OF, MOST_TOLD_BY, MOST_UNTOLD, MOST_UNTOLD_OCTETS, TELLING_SECONDS = 1000, 20000, 20000, 1 << 22, 0.001
+MOST_REASONS, LONGEST_FACT, FORGETS_AFTER, MOST_LINES_OF_PHONE = 2000, 300, 5000, 100
 
 PAGE = os.sysconf("SC_PAGE_SIZE")
 WORDS_SAID = 10000  # lines that wait for standard error to be read; further ones are counted and left out
 
 LIMITS = """limits of a station:
-  a message of %d octets, since a line of a trace has %d at the most; a longer one ends the connection
-  %d messages a second (--rate), and %d times as many octets, after a second's worth at once; what comes faster waits in the
+  a message of %d octets, since a line of a trace has at most %d; a longer one ends the connection
+  %d messages a second (--rate) and %d times as many octets, with a second's worth at once; what comes faster waits in the
   connection, and none is lost
-  a message that has begun is whole within %d s, and S1 SETUP is answered within %d s (--setup-seconds) of the connection;
-  otherwise the connection ends
-  %d octets that wait for it to read; beyond them the connection ends
-  %d connections of one address (--per-address), and of those of --allow alone where it is given; a further one is closed at once
-Stations take turns, so a flood of one delays another's message by less than %g s. There are %d stations at the most; a further
-connection is closed at once. The fault of a connection ends that one alone.""" % (
+  %d s for a message that has begun, and %d s (--setup-seconds) from the connection to the answer to S1 SETUP; otherwise the
+  connection ends
+  %d octets that wait for the station to read them; beyond them the connection ends
+  %d connections from one address (--per-address), only from addresses of --allow if it is given; a further one is closed at once
+Stations take turns, so a flood from one delays another's message by less than %g s. There are at most %d stations; a further
+connection is closed at once. A faulty connection ends, and no other with it.""" % (
     LONGEST_MESSAGE, runs.LONGEST_LINE, RATE, OCTETS, PATIENCE, SETUP_SECONDS, MOST_WAITING, PER_ADDRESS, MOST_DELAY,
     runs.STATIONS)

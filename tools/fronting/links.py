@@ -44,6 +44,10 @@ class TcpLink(Link):
         self.received, self.last = b"", None
         connection.setsockopt(socket.IPPROTO_TCP, socket.TCP_NODELAY, 1)
         connection.setsockopt(socket.SOL_SOCKET, socket.SO_KEEPALIVE, 1)
+        for option, value in ((socket.TCP_KEEPIDLE, limits.PROBE_AFTER), (socket.TCP_KEEPINTVL, limits.PROBE_APART),
+                              (socket.TCP_KEEPCNT, (limits.VANISHED - limits.PROBE_AFTER) // limits.PROBE_APART),
+                              (socket.TCP_USER_TIMEOUT, 1000 * limits.VANISHED)):
+            connection.setsockopt(socket.IPPROTO_TCP, option, value)
 
     def read(self):
         """Reads once. A piece that is shorter than it might be is all that there is, unless the end stands after it (epoll(7))."""

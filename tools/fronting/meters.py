@@ -7,15 +7,18 @@ import time
 import s1ap
 
 ERROR_INDICATION, SETUP_RESPONSE = bytes([0, s1ap.ERROR]), bytes([s1ap.SUCCESSFUL << 5, s1ap.SETUP])
+SETUP_REQUEST, PAGING = bytes([0, s1ap.SETUP]), bytes([0, s1ap.PAGING])
+RESET_ACKNOWLEDGE = bytes([s1ap.SUCCESSFUL << 5, s1ap.RESET])
 INITIAL_MESSAGE, UPLINK, DOWNLINK = (bytes([0, code]) for code in (s1ap.INITIAL_UE, s1ap.UPLINK_NAS, s1ap.DOWNLINK_NAS))
 CONTEXT_REQUEST = bytes([0, s1ap.CONTEXT_SETUP])
 # The messages whose cause is counted.
 WITH_CAUSE = {ERROR_INDICATION, bytes([0, s1ap.RELEASE_REQUEST]), bytes([0, s1ap.RELEASE]), bytes([0, s1ap.NON_DELIVERY])}
 WITH_CAUSE |= {bytes([s1ap.UNSUCCESSFUL << 5, code]) for code in (s1ap.SETUP, s1ap.PATH_SWITCH, s1ap.CONTEXT_SETUP)}
-# Of which messages which NAS type says how an attach goes (TS 24.301 clause 9.8), and what it says.
+# Of which messages which NAS type says how an attach goes (TS 24.301 clause 9.8), and what it says. That one is completed no
+# message says (attaches.py).
 ATTACH_STEPS = {
     INITIAL_MESSAGE: {s1ap.ATTACH_REQUEST: "requested"},
-    UPLINK: {s1ap.ATTACH_REQUEST: "requested", s1ap.ATTACH_COMPLETE: "completed"},
+    UPLINK: {s1ap.ATTACH_REQUEST: "requested"},
     CONTEXT_REQUEST: {0x42: "accepted"}, DOWNLINK: {0x44: "rejected", 0x54: "authentication rejected"},
 }
 KNOWN = {bytes([outcome << 5, code]) for code, names in s1ap.NAMES.items() for outcome in range(len(names))}
@@ -47,27 +50,38 @@ class Meters:
         self.inward_causes, self.outward_causes = collections.Counter(), collections.Counter()
         self.attaches, self.losses = collections.Counter(), collections.Counter()
         self.connections = self.refused = self.protected = self.gone = 0
-        self.recent = collections.deque(maxlen=RECENT)  # the last messages: when, of which station, whether it sent them, octets
+        # The last messages: when, of which station, whether it sent them, octets, and which of the station's messages it is, or
+        # for whom the MME sent it.
+        self.recent = collections.deque(maxlen=RECENT)
+        self.heard, self.ups = collections.Counter(), collections.Counter()  # by station, its messages and its connections
+        self.places = {}  # by a phone's owner, the station that was sent something for it last, and which connection of it
         self.answered, self.seconds, self.buckets = 0, 0.0, [0] * (len(BOUNDS) + 1)
         # An attach step is looked for where its type stands after the discriminator of EMM.
         self.steps = {kind: [(bytes([s1ap.EMM, number]), number) for number in steps] for kind, steps in ATTACH_STEPS.items()}
 
     def count_in(self, station, octets):
         """What a station sent."""
-        self.count(station, True, octets, self.inward, self.inward_causes)
+        self.heard[station] += 1
+        self.recent.append((self.now, station, True, octets[:SHOWN], self.heard[station]))
+        self.count(octets, self.inward, self.inward_causes)
 
-    def count_out(self, station, octets):
-        """What a station was sent."""
-        self.count(station, False, octets, self.outward, self.outward_causes)
+    def count_out(self, station, octets, owner=b""):
+        """What a station was sent, and for whom, as the MME's answer has it."""
+        self.recent.append((self.now, station, False, octets[:SHOWN], owner))
+        self.count(octets, self.outward, self.outward_causes)
 
-    def count(self, station, is_inward, octets, messages, causes):
+    def count(self, octets, messages, causes):
         kind = octets[:2]
-        self.recent.append((self.now, station, is_inward, octets[:SHOWN]))
         messages[kind if kind in KNOWN else OTHER] += 1
         if kind in WITH_CAUSE:
             causes[kind, cause_of(octets)] += 1
         elif kind in self.steps:
             self.count_steps(kind, octets)
+
+    @property
+    def messages(self):
+        """How many there were, of which `recent` has the last."""
+        return sum(self.inward.values()) + sum(self.outward.values())
 
     def count_steps(self, kind, octets):
         for pattern, number in self.steps[kind]:

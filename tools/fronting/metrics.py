@@ -1,6 +1,8 @@
 """The metrics in Prometheus' text form (version 0.0.4)."""
 import collections
 
+import versions
+
 from fronting import status
 from fronting.meters import BOUNDS, OTHER, name_of
 
@@ -37,7 +39,7 @@ def number(value):
 def labelled(labels):
     """Labels with their values, as a metric's name has them after it."""
     def escaped(value):
-        return str(value).replace("\\", "\\\\").replace('"', '\\"').replace("\n", "\\n")
+        return versions.visible(str(value)).replace("\\", "\\\\").replace('"', '\\"')
     return "{%s}" % ",".join('%s="%s"' % (name, escaped(value)) for name, value in labels.items()) if labels else ""
 
 
@@ -55,20 +57,26 @@ def of_messages(meters):
              for (direction, name, cause), count in sorted(causes.items())])
 
 
-def text_of(front, states):
+def text_of(front):
     """All metrics; the states of the phones were asked for before."""
     text, meters, exchange = Text(), front.meters, front.exchange
     stations = front.crowd.stations.values()
     set_up = sum(station.is_set_up for station in stations)
     text.add("stations", "gauge", "Stations that are connected.",
              [({"state": "set up"}, set_up), ({"state": "connected"}, len(stations) - set_up)])
-    phones = collections.Counter(states.values())
     text.add("phones", "gauge", "Subscribers by their EMM, ECM and ESM state.",
-             [(dict(zip(("emm", "ecm", "esm"), state.split(" "))), count) for state, count in sorted(phones.items())])
+             [(dict(zip(("emm", "ecm", "esm"), state.split(" "))), count) for state, count in front.census.by_states().items()])
+    text.add("vectors_left", "gauge", "Subscribers by the vectors that they have left.",
+             [({"left": left}, count) for left, count in front.stock.by_left().items()])
+    least = front.stock.least()
+    text.add("vectors_left_minimum", "gauge", "The fewest vectors that a subscriber has left.",
+             [] if least is None else [({}, least)])
     messages, causes = of_messages(meters)
     text.add("messages_total", "counter", "S1AP messages.", messages)
     text.add("causes_total", "counter", "S1AP messages that have a cause.", causes)
-    text.add("attaches_total", "counter", "Steps of attaches.",
+    text.add("attaches_total", "counter",
+             "Steps of attaches: ATTACH REQUESTs that came; accepts, rejects and authentication rejects that were sent; and "
+             "attaches that were completed, each accept once, by the MME's own state after ATTACH COMPLETE.",
              [({"step": name}, count) for name, count in sorted(meters.attaches.items())])
     text.add("losses_total", "counter", "Connections that ended.",
              [({"why": why}, count) for why, count in sorted(meters.losses.items())])
@@ -84,9 +92,18 @@ def text_of(front, states):
 
 def add_upkeep(text, front):
     """What the front itself is like."""
-    meters, journal = front.meters, front.exchange.journal
+    meters = front.meters
     text.add("log_octets", "gauge", "Octets of the log.",
-             [({"of": series.what}, series.octets()) for series in (journal.series if journal else ())])
+             [({"of": what}, octets) for what, octets in status.log_octets(front).items()])
+    log = status.log(front).items()
+    text.add("log_segments", "gauge", "Segments of the log that there are.", [({"of": what}, of["segments"]) for what, of in log])
+    text.add("log_segments_share", "gauge", "Segments of the log that there are, as a part of those that are kept.",
+             [({"of": what}, of["share"]) for what, of in log])
+    text.add("log_whole", "gauge", "Whether all of the log since the start is there: --resume and give need what counts.",
+             [({"of": what}, int(of["whole"])) for what, of in log])
+    alarms = status.alarms(front)
+    text.add("alarm", "gauge", "Whether somebody is to look after it: few vectors or segments are left, or the log isn't whole.",
+             [({"of": what}, int(what in alarms)) for what in status.ALARMS])
     text.add("log_segments_removed_total", "counter", "Segments of the log that went for new ones.", [({}, meters.gone)])
     text.add("memory_octets", "gauge", "Memory of the processes.",
              [({"of": "front"}, status.memory()), ({"of": "mme"}, status.memory(front.exchange.program.pid))])

@@ -26,13 +26,18 @@ NOT_PACKED = ("there is no library: this package was made without it; one with i
 LINE_IS_WRONG, OUT_OF_MEMORY = 1, 4  # what the program ends with (README.md, "How it ends")
 
 
+def nothing():
+    """What is done where nobody waits for anything."""
+
+
 class Mme:
-    """What an MME is to the front: `give` and `finish` for what it is given, `hear` for a piece of its answers, `say` for its
-    words, `end` for its end. It has ended once there is a status and it is silent; `pid` is the process that it is in."""
+    """What an MME is to the front: `give` and `finish` for what it is given, `taken` for when it took some of what waited, `hear`
+    for a piece of its answers, `say` for its words, `end` for its end. It has ended once there is a status and it is silent; `pid`
+    is the process that it is in."""
 
     def __init__(self, loop, hear, say):
         self.loop, self.hear, self.say = loop, hear, say
-        self.end = lambda status: None
+        self.end, self.taken = lambda status: None, nothing
         self.pid, self.status, self.is_silent = os.getpid(), None, False
         self.waiting, self.size, self.is_last = collections.deque(), 0, False  # what it is to be given, and its octets
 
@@ -77,6 +82,7 @@ class PipedMme(Mme):
     def can_write(self, events):
         self.is_writable = True
         self.write()
+        self.taken()
 
     def write(self):
         while self.is_writable and self.waiting:
@@ -228,11 +234,12 @@ class LibraryMme(Mme):
             self.go_on()
         elif self.is_last:
             self.has_ended(0)
+        self.taken()
 
     # Its end.
 
     def fail(self, fault):
-        """Ends as the program does at a line that is wrong, and for want of memory, with the program's words."""
+        """Ends as the program does at a line that is wrong, and for lack of memory, with the program's words."""
         kinds = self.library.Refusal
         if fault in (kinds.NO_MEMORY, kinds.LOST):
             self.say("mme", "mme: out of memory")

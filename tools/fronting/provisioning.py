@@ -1,17 +1,27 @@
 """Who is provisioned: the lines `mme`, `sub` and `vec` of a trace, and what may be added to them while the front runs."""
+import ipaddress
+
 import runs
 
 from fronting.faults import Failed, WRONG
 
 
 class Head:
-    """The lines before the first event, the IMSIs by slot, and the words of the line `mme`."""
+    """The lines before the first event, the IMSIs and addresses by slot, and the words of the line `mme`."""
 
     def __init__(self, lines):
         self.lines = lines
-        self.imsis = [line.split(" ")[1] for line in lines if line.startswith("sub ")]
+        subscribers = [line.split(" ") for line in lines if line.startswith("sub ")]
+        self.imsis, self.addresses = [words[1] for words in subscribers], [words[2] for words in subscribers]  # by slot
         self.slots = {imsi: slot for slot, imsi in enumerate(self.imsis)}
         self.mme = next(line for line in lines if line.startswith("mme ")).split(" ")
+
+    def address(self, slot):
+        """The IPv4 address of a subscriber, in words where it is one."""
+        try:
+            return str(ipaddress.IPv4Address(bytes.fromhex(self.addresses[slot])))
+        except ValueError:
+            return self.addresses[slot]
 
     @property
     def text(self):

@@ -1,4 +1,5 @@
 """Taking up a log: what a run that ended has of what counts, and of what happened since that was settled."""
+import contextlib
 import datetime
 import mmap
 import os
@@ -8,16 +9,20 @@ import time
 
 import runs
 
-from fronting.journal import UNTIL, Batch, Journal, clock
+from fronting.faults import WRONG, Failed
+from fronting.journal import GIVEN_UP, UNTIL, Batch, Journal, clock
 from fronting.keys import Keyless
 from fronting.provisioning import Head
-from fronting.segments import NUMBERED, Series, name_of, older_segments
+from fronting.segments import NUMBERED, Series, mend, name_of, older_segments
+from fronting.syncing import UNSYNCED
 
 TIMES = re.compile(rb"# time ([0-9-]+ [0-9:.]+)\n")
 SETTLED, TIME = b"# settled until segment ", b"# time "
 CHANGES = re.compile(rb"^(up|lost) (\d+)$", re.MULTILINE)
+PHONE = re.compile(rb"^in [0-9]+ 000c", re.MULTILINE | re.IGNORECASE)  # an INITIAL UE MESSAGE, without which nobody is challenged
+OF_PHONE = re.compile(rb"^(?:data|cancel|show) (\d+)$", re.MULTILINE)
 PIECE = 1 << 18  # octets that the MME is given at once
-OTHERS = (".counts",)  # what belongs to a log, after its name
+OTHERS = (".counts", GIVEN_UP, UNSYNCED)  # what belongs to a log, after its name
 COMMENTS = (runs.LEFT_OUT, "# came protected: ", runs.BEGUN_ANEW)  # how lines begin that are about the line below them
 
 
@@ -40,6 +45,9 @@ def make_way(path, keep):
     """Makes an older log PATH.1, that one PATH.2, and so on up to the number to keep, each with all that belongs to it."""
     if os.path.exists(path) and not os.path.isfile(path):
         raise runs.Fault("%s: isn't a file" % path)
+    if not keep:
+        for part in parts_of(path).values():
+            raise Failed("%s: there is one already: move it away, or keep it by --keep" % part, WRONG)
     names = [path] + ["%s.%d" % (path, number) for number in range(1, keep + 1)]
     for place in range(keep, -1, -1) if keep else ():
         for end, part in parts_of(names[place]).items():
@@ -53,6 +61,12 @@ def note_stations(octets, up):
     """Notes which stations are connected after these lines."""
     for word, number in CHANGES.findall(octets):
         (up.add if word == b"up" else up.discard)(int(number))
+
+
+def whole_until(octets, start):
+    """Where the last whole line ends, of those from a place on that have no octet 0 before them."""
+    zero = octets.find(b"\0", start)
+    return octets.rfind(b"\n", 0, zero if zero >= 0 else len(octets)) + 1
 
 
 def last_of(pattern, beginning, octets):
@@ -74,15 +88,55 @@ def mapped(path):
         return mmap.mmap(file.fileno(), 0, access=mmap.ACCESS_READ)
 
 
+def head_facts(path):
+    """The lines of provisioning that a log begins with, or nothing where that can't be read."""
+    try:
+        older = older_segments(path)
+        octets = pathlib.Path(older[min(older)] if older else path).read_bytes()
+    except OSError:
+        return []
+    found = NUMBERED.search(octets)
+    return octets[:found.start()].decode("latin-1").splitlines() if found else []
+
+
+def perhaps_used(path):
+    """The lines of provisioning of a log with messages of phones, whose vectors were perhaps used."""
+    parts = map(pathlib.Path, parts_of(path).values())
+    return head_facts(path) if any(PHONE.search(part.read_bytes()) for part in parts if part.is_file()) else []
+
+
+def own_number(path, octets):
+    """The number that stands in a segment."""
+    own = NUMBERED.search(octets)
+    if not own:
+        raise NoResume("a segment of %s has no line of its number" % path)
+    return int(own[1])
+
+
 def read_series(path):
     """The segments of a series, by number."""
-    found = {number: mapped(segment) for number, segment in sorted(older_segments(path).items())}
+    mend(path)
+    found = {}
+    for number, segment in sorted(older_segments(path).items()):
+        found[number] = mapped(segment)
+        if own_number(path, found[number]) != number:
+            raise NoResume("%s is another segment than its name says" % segment)
     current = mapped(path)
-    for segment in (*found.values(), current):
-        own = NUMBERED.search(segment)
-        if not own:
-            raise NoResume("a segment of %s has no line of its number" % path)
-    return {**found, int(own[1]): current}
+    number = own_number(path, current)
+    if number <= max(found, default=0):
+        raise NoResume("%s is segment %d, and there is a later one" % (path, number))
+    return {**found, number: current}
+
+
+def check_entry(path, entry):
+    """Refuses a line of what happened that is none."""
+    line = entry.rpartition("\n")[2]
+    if line and not line.startswith("#"):
+        try:
+            word, fields = runs.fields_of(line.encode("latin-1"), runs.EVENTS)
+            runs.event_of(0, word, fields)
+        except runs.Fault as fault:
+            raise NoResume("%s has a line that is damaged: %s" % (path, fault)) from None
 
 
 def entries_of(text):
@@ -103,6 +157,8 @@ class Standing:
 
     def __init__(self, path):
         self.path = path
+        if os.path.lexists(path + GIVEN_UP):
+            raise NoResume("%s was given up, and the run went on without it (%s)" % (path, path + GIVEN_UP))
         try:
             self.counts, self.happened = read_series(path + ".counts"), read_series(path)
         except OSError as fault:
@@ -139,19 +195,26 @@ class Standing:
             end = self.counts_end if number == len(self.counts) else len(segment)
             while at < end:
                 stop = end if end - at <= PIECE else segment.rfind(b"\n", at, at + PIECE) + 1
+                if stop <= at:
+                    raise NoResume("%s.counts has a line that is damaged: it is longer than any" % self.path)
                 yield segment[at:stop]
                 at = stop
 
     def find_tail(self):
-        """What happened since: whole lines, and the place of the end of each segment's."""
+        """What happened since: whole lines, and the place of the end of each segment's. Of what wasn't synced a power cut may leave
+        zeros, and later lines after them; it wasn't answered, so it ends before them."""
         number, offset = self.settled_until()
         tail, places = [], []
         for other, octets in self.happened.items():
             if other >= number:
                 base, start = NUMBERED.search(octets).end(), offset if other == number else 0
-                end = octets.rfind(b"\n") + 1
+                end = whole_until(octets, base + start)
+                if end < len(octets) and other < max(self.happened):
+                    raise NoResume("segment %d of %s isn't whole" % (other, self.path))
                 tail.append(octets[base + start:end])
-                places.append((other, max(start, end - base)))
+                if octets[base + start - 1:base + start] not in (b"\n", b""):
+                    raise NoResume("%s has no line that ends where %s.counts says what is settled" % (self.path, self.path))
+                places.append((other, end - base))  # before that of what is settled where the disk lost what came between
                 self.happened_end = end
         if [other for other in self.happened if other >= number] != list(range(number, number + len(tail))) or not tail:
             raise NoResume("%s isn't whole since segment %d" % (self.path, number))
@@ -162,9 +225,10 @@ class Standing:
         for octets in reversed(self.happened.values()):
             found = last_of(TIMES, TIME, octets)
             if found:
-                then = datetime.datetime.strptime(found[1].decode(), "%Y-%m-%d %H:%M:%S.%f")
-                now = datetime.datetime.strptime(clock(), "%Y-%m-%d %H:%M:%S.%f")
-                return max(0, min(int((now - then).total_seconds()), runs.LONGEST_TICK))
+                with contextlib.suppress(ValueError):  # digits that are no time
+                    then = datetime.datetime.strptime(found[1].decode(), "%Y-%m-%d %H:%M:%S.%f")
+                    now = datetime.datetime.strptime(clock(), "%Y-%m-%d %H:%M:%S.%f")
+                    return max(0, min(int((now - then).total_seconds()), runs.LONGEST_TICK))
         return 0
 
     def tail_batches(self, fill):
@@ -174,6 +238,7 @@ class Standing:
             batch = Batch()
             batch.logged = entries_of(octets.decode("latin-1"))
             for entry in batch.logged:
+                check_entry(self.path, entry)
                 word, _, rest = entry.rpartition("\n")[2].partition(" ")
                 number = int(rest.partition(" ")[0]) if word == "in" else None
                 batch.add(fill(entry.encode("latin-1")).decode("latin-1"), number)
@@ -184,12 +249,16 @@ class Standing:
         return batches
 
     def journal(self, size, most, form):
-        """The log, to be written on: without what a crash left half written."""
+        """The log, to be written on: without what a crash left half written. What is mapped is let go before it is cut."""
+        numbers, count = list(self.happened), len(self.counts)
+        until = self.settled_until()
+        self.happened = self.counts = None
         for path, end in ((self.path, self.happened_end), (self.path + ".counts", self.counts_end)):
             os.truncate(path, end)
         journal = Journal(
-            Series.taken_up(self.path, "what happened", size, most, max(self.happened), min(self.happened), form.note),
-            Series.taken_up(self.path + ".counts", "what counts", size, most, len(self.counts), 1, form.note), form)
-        journal.happened.is_whole = list(self.happened) == list(range(1, len(self.happened) + 1))
-        journal.until = journal.written = self.settled_until()
+            Series.taken_up(self.path, "what happened", size, most, max(numbers), min(numbers), form.note),
+            Series.taken_up(self.path + ".counts", "what counts", size, most, count, 1, form.note), form)
+        journal.happened.is_whole = numbers == list(range(1, len(numbers) + 1))
+        journal.until = journal.written = journal.sure = until
+        journal.head_lines = len(self.head.lines)
         return journal

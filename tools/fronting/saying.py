@@ -38,7 +38,7 @@ class Voice:
 
     def line(self, event, text, fields):
         if not self.as_json:
-            return "%s: %s\n" % (versions.called(), text)
+            return "%s: %s\n" % (versions.called(), versions.visible(text))
         now = datetime.datetime.now(datetime.timezone.utc).isoformat(timespec="milliseconds")
         return json.dumps({"time": now, "event": event, "text": text, **fields}) + "\n"
 

@@ -10,6 +10,7 @@ import time
 import runs
 
 from fronting.faults import Failed, LOG_FAILS, WRONG, told
+from fronting.syncing import folder_of, sync_path
 
 NUMBERED = re.compile(rb"^# segment (\d+), begun .*\n", re.MULTILINE)
 NUMBERED_LINE = re.compile(r"# segment \d+, begun ")  # the beginning of such a line
@@ -31,7 +32,7 @@ def older_segments(path):
     prefix = os.path.basename(path) + ".segment."
     folder = pathlib.Path(path).parent
     found = [entry.name for entry in folder.iterdir() if entry.name.startswith(prefix)] if folder.is_dir() else []
-    return {int(name[len(prefix):]): str(folder / name) for name in found if name[len(prefix):].isdigit()}
+    return {int(name[len(prefix):]): str(folder / name) for name in found if re.fullmatch("[0-9]+", name[len(prefix):])}
 
 
 def whole_series(path):
@@ -42,19 +43,49 @@ def whole_series(path):
     return [name for _, name in older] + [path]
 
 
+def add_whole(file, octets, size):
+    """Adds octets to a file of this size, whole; or none of them, and raises the system's fault. How many they are."""
+    added = 0
+    try:
+        while added < len(octets):
+            added += os.write(file, octets[added:] if added else octets)
+    except OSError:
+        os.ftruncate(file, size)
+        raise
+    return added
+
+
 def open_new(path):
     """A new file for its owner alone, since vectors may be in it."""
     return os.open(path, os.O_RDWR | os.O_CREAT | os.O_EXCL | os.O_APPEND, 0o600)
 
 
+def mend(path):
+    """Ends what a crash broke off between the two names of a new segment: the new file gets its name, whatever it had since, or
+    where it was lost with what it had, the one before goes on."""
+    older, new = older_segments(path), pathlib.Path(path + ".new")
+    if not older or os.path.lexists(path) or not new.is_file():
+        return
+    begun = new.read_bytes()
+    found = NUMBERED.match(begun)
+    if found and int(found[1]) == max(older) + 1:
+        os.replace(new, path)
+    elif not begun.strip(b"\0"):
+        os.replace(older[max(older)], path)
+
+
 class Series:
-    """What one run writes, in segments of a size, of which a number is kept."""
+    """What one run writes, in segments of a size, of which a number is kept. Where it syncs, `safe` is how much of the file that is
+    written is known to be on disk, and `unsafe` what was written since. After a fault of a sync the system may take that for
+    written though it isn't, so then it is cut off and written again before the next one."""
 
     def __init__(self, path, what, size, most, head=None, note=""):
         self.path, self.what, self.most_octets, self.most, self.note = str(path), what, size, most, note
         self.is_whole = True  # whether all of it since the start is there
         self.number, self.first, self.head = 1, 1, head
         self.file, self.size, self.base = None, 0, 0
+        self.syncs, self.is_suspect, self.has_new_name = False, False, False
+        self.safe, self.unsafe = 0, []
         if head is not None:
             self.begin(head)
 
@@ -70,15 +101,25 @@ class Series:
         return series
 
     def begin(self, head=b""):
-        """Opens a file for what comes, with the line of its number."""
+        """Opens a file for what comes, with the line of its number; where that can't be, there is none."""
+        octets = head + line_of(self.number, self.note)
         try:
-            self.file, self.size = open_new(self.path), 0
-            self.write(head + line_of(self.number, self.note))
+            file = open_new(self.path)
         except FileExistsError:
             raise Failed("%s: there is one already: move it away, or keep it by --keep" % self.path, WRONG) from None
         except OSError as fault:
             raise Failed("%s: %s" % (self.path, told(fault)), WRONG if self.file is None else LOG_FAILS) from None
-        self.base = self.size
+        try:
+            add_whole(file, octets, 0)
+        except OSError as fault:
+            os.close(file)
+            os.unlink(self.path)
+            raise Failed("%s: %s" % (self.path, told(fault)), LOG_FAILS) from None
+        if self.file is not None:
+            os.close(self.file)
+        self.file, self.size, self.base = file, len(octets), len(octets)
+        self.safe, self.unsafe = 0, [octets] if self.syncs else []
+        self.has_new_name, self.is_suspect = True, False
 
     @property
     def place(self):
@@ -87,14 +128,9 @@ class Series:
 
     def write(self, octets):
         """Adds octets whole, or none of them and raises the system's fault."""
-        added = 0
-        try:
-            while added < len(octets):
-                added += os.write(self.file, octets[added:] if added else octets)
-        except OSError:
-            os.ftruncate(self.file, self.size)
-            raise
-        self.size += added
+        self.size += add_whole(self.file, octets, self.size)
+        if self.syncs:
+            self.unsafe.append(octets)
 
     def make_room(self):
         """Begins a new segment where the one that is written has its size."""
@@ -106,23 +142,76 @@ class Series:
         self.make_room()
         self.write(octets)
 
+    # On disk.
+
+    def sync_all(self):
+        """Has all its segments be on disk; the folder isn't synced."""
+        for path in self.paths():
+            sync_path(path)
+        self.is_on_disk()
+
+    def is_on_disk(self):
+        """What is written is on disk."""
+        self.safe, self.unsafe, self.is_suspect = self.size, [], False
+
+    def write_again(self):
+        """Writes what isn't safe again, where a sync of it had a fault."""
+        if self.is_suspect:
+            os.ftruncate(self.file, self.safe)
+            unsafe, self.size, self.unsafe = self.unsafe, self.safe, []
+            try:
+                self.write(b"".join(unsafe))
+            except OSError:
+                self.unsafe = unsafe
+                raise
+            self.is_suspect = False
+
+    def sync(self):
+        """Has what is written be on disk before it goes on."""
+        self.write_again()
+        try:
+            os.fdatasync(self.file)
+        except OSError:
+            self.is_suspect = True
+            raise
+        self.is_on_disk()
+
+    # Segments.
+
     def roll(self):
-        """Begins a new segment; where that can't be, nothing changes."""
-        line, new = line_of(self.number + 1, self.note), self.path + ".new"
+        """Begins a new segment; where that can't be, nothing changes. Where it syncs, all before is on disk first."""
+        line, new, older = line_of(self.number + 1, self.note), self.path + ".new", name_of(self.path, self.number)
+        if self.syncs:
+            self.sync()
         pathlib.Path(new).unlink(missing_ok=True)
         file = open_new(new)
         try:
             if os.write(file, line) < len(line):
                 raise OSError(errno.ENOSPC, os.strerror(errno.ENOSPC))
+            self.rename(file, new, older)
         except OSError:
             os.close(file)
             pathlib.Path(new).unlink(missing_ok=True)
             raise
-        os.replace(self.path, name_of(self.path, self.number))
-        os.replace(new, self.path)
         os.close(self.file)
         self.file, self.number = file, self.number + 1
         self.size = self.base = len(line)
+        self.has_new_name = True
+        self.is_on_disk()
+
+    def rename(self, file, new, older):
+        """Has the new file stand in the place of the one that is written, which gets its number. Where it syncs, the first name is
+        on disk before the second is given, so that neither file is ever without one."""
+        if self.syncs:
+            os.fsync(file)
+        os.replace(self.path, older)
+        try:
+            if self.syncs:
+                sync_path(folder_of(self.path))
+            os.replace(new, self.path)
+        except OSError:
+            os.replace(older, self.path)
+            raise
 
     def trim(self, needed):
         """Removes the segments that are too many, but none from the needed one on; those that went."""
@@ -146,16 +235,20 @@ class Series:
             return "was moved"
         if (there.st_dev, there.st_ino) != (mine.st_dev, mine.st_ino):
             raise Failed("%s: another file stands in its place" % self.path, LOG_FAILS)
-        if mine.st_size < self.size:
+        if self.is_cut:
             os.replace(self.path, name_of(self.path, self.number))
             self.number += 1
             self.go_on()
             return "was cut"
         return None
 
+    @property
+    def is_cut(self):
+        """Whether the file that is written has less than was written to it."""
+        return os.fstat(self.file).st_size < self.size
+
     def go_on(self):
         """A new file after something that is missing."""
-        os.close(self.file)
         self.number, self.is_whole = self.number + 1, False
         self.begin()
 
@@ -178,16 +271,25 @@ class Series:
         try:
             with os.fdopen(os.dup(file), "wb") as writing:
                 writing.write(head + whole[end:])
+            if self.syncs:
+                os.fsync(file)
             os.replace(new, path)
         except OSError:
             os.close(file)
             pathlib.Path(new).unlink(missing_ok=True)
             raise
+        self.has_new_name = True
         if self.number > 1:
             os.close(file)
             return
         os.close(self.file)
         self.file, self.size, self.base = file, len(head) + len(whole) - end, self.base - end + len(head)
+        self.is_on_disk()
+
+    def remove(self):
+        """Nothing was written to it but its head."""
+        self.close()
+        os.unlink(self.path)
 
     def close(self):
         os.close(self.file)

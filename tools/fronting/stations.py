@@ -1,5 +1,7 @@
 """A station: its connection, its number, its pace, and how far it has come."""
-from fronting import hearing, limits
+from fronting import hearing, identity, limits
+from fronting.associations import Associations
+from fronting.identity import Identity
 from fronting.pace import Pace
 
 import runs
@@ -22,11 +24,20 @@ class Station:
         self.link, self.address, self.port = link, address, port
         self.pace, self.octet_pace = Pace(rate), Pace(rate * limits.OCTETS)
         self.number, self.since, self.is_set_up = None, now, False
-        self.is_lost = False
+        self.is_lost, self.associations = False, Associations()
         self.heard = self.sent = 0
+        self.request = self.read = None  # its last S1 SETUP REQUEST, and the one that was read
+        self.identity = Identity()  # what stands in that
 
     def __str__(self):
         return "%s port %d" % (self.address, self.port)
+
+    def read_request(self):
+        """Reads what it said of itself last; whether that was something new."""
+        is_new = self.request != self.read
+        if is_new:
+            self.read, self.identity = self.request, identity.read(self.request)
+        return is_new
 
     def allows(self, now):
         """How many messages it may say now."""

@@ -1,10 +1,12 @@
-"""What is told of a front that runs: its stations, its phones with their states, and its counters."""
+"""What is told of a front that runs: its stations, its phones, and its counters."""
+import json
 import time
 
 from fronting import limits
 from fronting.meters import OTHER, name_of
 
-CHUNK = 1000  # subscribers whose states are asked for at once
+PIECE = 500  # phones that are told of at a time
+ALARMS = "vectors", "what happened", "what counts", "log"  # what there are alarms of
 
 
 def stations(front):
@@ -15,21 +17,23 @@ def stations(front):
              "octets_waiting": station.link.size} for number, station in sorted(front.crowd.stations.items())]
 
 
-def states(front, done):
-    """Calls `done` with the states of all subscribers by IMSI. Asking changes nothing, and isn't in the log."""
-    found, imsis = {}, list(front.head.imsis)
+def phones(front, is_wanted, done):
+    """Calls `done` with an object of JSON that has each phone by its IMSI: its states from now on, and the vectors that it has
+    left. It is made piece by piece, beside the stations' messages."""
+    count, pieces = len(front.head.imsis), []
 
-    def note(answer):
-        found[answer.imsi] = answer.states
-
-    def ask():
-        some, imsis[:CHUNK] = imsis[:CHUNK], []
-        if not some:
-            done(found)
+    def piece():
+        first = PIECE * len(pieces)
+        if not is_wanted():
             return
-        front.exchange.ask(["show " + imsi for imsi in some], note, ask)
+        if first < count or not pieces:
+            pieces.append(json.dumps({front.head.imsis[slot]: {"states": front.census.of(slot), "vectors_left": front.stock.left(slot)}
+                                      for slot in range(first, min(first + PIECE, count))})[1:-1])
+            front.aside.do(piece)
+        else:
+            done("{%s}" % ", ".join(pieces))
 
-    ask()
+    front.census.want(0, count, 0, is_wanted, lambda: front.aside.do(piece))
 
 
 def named(counts):
@@ -45,9 +49,22 @@ def by_cause(counts):
     return [{"message": name_of(kind), "cause": cause, "count": count} for (kind, cause), count in sorted(counts.items())]
 
 
+def log(front):
+    """Each series of the log: its segments, which part of those that are kept they are, and whether it is whole."""
+    found = {}
+    for series in front.soundness.series():
+        used, share = front.soundness.used(series)
+        found[series.what] = {"segments": used, "segments_kept": series.most, "share": round(share, 3), "whole": series.is_whole}
+    return found
+
+
+def log_octets(front):
+    return {series.what: front.soundness.octets(series) for series in front.soundness.series()}
+
+
 def counters(front):
     """All that is counted."""
-    meters, exchange, journal = front.meters, front.exchange, front.exchange.journal
+    meters, exchange = front.meters, front.exchange
     return {
         "seconds": round(time.time() - meters.begun, 1),
         "messages_in": named(meters.inward), "messages_out": named(meters.outward),
@@ -57,10 +74,28 @@ def counters(front):
         "answer_seconds_mean": meters.seconds / meters.answered if meters.answered else 0.0,
         "octets_waiting_for_mme": exchange.program.size, "batches_in_flight": len(exchange.marks),
         "octets_waiting_for_stations": sum(station.link.size for station in front.crowd.stations.values()),
-        "log_octets": {series.what: series.octets() for series in journal.series} if journal else {},
+        "phones_by_vectors_left": front.stock.by_left(), "fewest_vectors_left": front.stock.least(),
+        "log": log(front), "log_octets": log_octets(front),
         "log_segments_gone": meters.gone, "memory_octets": memory(), "mme_memory_octets": memory(exchange.program.pid),
         "resumed": front.resumed, "given": front.given,
     }
+
+
+def alarms(front):
+    """What somebody is to look after, in words by a name."""
+    found = {}
+    if front.stock.few():
+        found["vectors"] = "%d of %d phones have %d vectors or fewer left." % (
+            front.stock.few(), len(front.stock.rands), limits.FEW_VECTORS)
+    for series in front.soundness.series():
+        if front.soundness.is_low(series):
+            found[series.what] = "%d of %d segments of the log of %s are used." % (
+                front.soundness.used(series)[0], series.most, series.what)
+        if not series.is_whole:
+            found[series.what] = "The log of %s isn't whole since the start." % series.what
+    if front.exchange.journal is None:
+        found["log"] = "There is no log."
+    return found
 
 
 def memory(pid="self"):
