@@ -18,41 +18,44 @@
  *     }
  *     soizkadur_free(&mme);
  *
- * soizkadur_up is the connection alone: the first message of a station is S1 SETUP REQUEST, and no other is taken before it. One
- * that fits the line `mme 001 01 8001 01 ..`, of the macro eNB 1 with tracking area 1:
+ * soizkadur_up is only the connection: the first message of a station is S1 SETUP REQUEST, and no other is taken before it. This
+ * one fits the line `mme 001 01 8001 01 ..`, and is of the macro eNB 1 with tracking area 1:
  *
  *     0011001f000003003b00080000f11000000010004000070000004000f1100089400140
  *
  * WHAT IS SPOKEN. S1AP (TS 36.413) and EPS NAS (TS 24.301) of Release 8, in a profile: set-up and reset of stations, attach,
  * authentication, security mode, service request, paging, tracking area update, path switch, release and detach, with one default
- * bearer for each phone. Integrity is by 128-EIA2, which a phone has to offer, and ciphering is null. The elements of a message are
- * taken in any order. Octets that spell no message of the profile, those of an S1 SETUP REQUEST included, are answered, if at all,
- * by ERROR INDICATION with the cause and without Criticality Diagnostics. docs/PROFILE.md has each message and element.
+ * bearer for each phone. Integrity is by 128-EIA2, which a phone has to offer, and ciphering is null. The elements of a message may
+ * be in any order. Octets that aren't a message of the profile, a wrong S1 SETUP REQUEST too, are answered, if at all, by ERROR
+ * INDICATION with the cause and without Criticality Diagnostics. docs/PROFILE.md has each message and element.
  *
  * To compile and link: cc -I FOLDER test.c FOLDER/libsoizkadur.a, or with the shared object
  * cc -I FOLDER test.c -L FOLDER -lsoizkadur -Wl,-rpath,FOLDER.
  *
- * Each call does what is written over it: this is proved, for every handle and all arguments that keep the rules below, whichever
- * allocations fail (crates/mme_c/src has the contracts). Proved too: no call reads or writes outside what it is given or owns, none
- * overflows, and each returns. No call takes a lock, blocks, reads a file or a clock, or keeps a pointer that it is given.
+ * Each call does what the comment above it says: this is proved, for every handle and all arguments that keep the rules below,
+ * whichever allocations fail (crates/mme_c/src has the contracts). It is also proved that no call reads or writes outside what it
+ * is given or owns, that none overflows, and that each returns. No call takes a lock, blocks, reads a file or a clock, or keeps a
+ * pointer that it is given.
  *
- * A call that is refused answers why, a number of `enum soizkadur_refusal`; then what the handle holds, and all that the call would
- * write, is as it was. Where a call departs from this, it is said there. Of several causes the first counts: an empty handle
- * (for soizkadur_new, one that isn't empty), then the arguments from the left, then the others.
+ * A call that is refused answers why, by a number of `enum soizkadur_refusal`. What the handle holds, and everything that the call
+ * would write, is then as it was; if a call departs from this, its comment says so. If there are several causes, the first one
+ * counts: an empty handle (for soizkadur_new, one that isn't empty), then the arguments from the left, then the others.
  *
  * WHAT THE CALLER HAS TO UPHOLD. Nothing checks it.
  *
- * - A handle begins as SOIZKADUR_EMPTY (all zero), which in C can initialize it and can't be assigned to it. Its word is the
- *   library's: the caller doesn't read, write or compare it.
- * - A handle isn't copied. One that is moved (memcpy, realloc, return by value) is used at its new place alone; a copy would be
- *   freed twice.
- * - A handle stays on the thread that first used it. Different handles may be used by different threads at once, and the calls
- *   without a handle by any.
- * - No pointer to a handle or to what a call writes is NULL. A pointer to octets or to a buffer may be NULL where its length is 0.
- * - Each pointer is to as many octets, or to one whole value, as the call says, readable and where the call writes also writable,
- *   for the whole call, and aligned for its type. Nothing that a call writes overlaps another argument. No length is 2^63 or more.
- * - Each handle is freed by soizkadur_free once it isn't needed. A second call does no harm; a handle that is lost is a leak.
- * - malloc, realloc and free are of one allocator, which aligns as the C library's does.
+ * - A handle begins as SOIZKADUR_EMPTY (all zero), which in C is an initializer and can't be assigned. The word in a handle belongs
+ *   to the library: the caller doesn't read, write or compare it.
+ * - A handle isn't copied: a copy would be freed twice. One that is moved (memcpy, realloc, return by value) is used only at its
+ *   new place.
+ * - A handle stays on the thread that first used it. Different threads may use different handles at once, and any thread may make
+ *   the calls without a handle.
+ * - No pointer to a handle or to what a call writes is NULL. A pointer to octets or to a buffer may be NULL if its length is 0.
+ * - Each pointer is to as many octets, or to one whole value, as the call says. They can be read during the whole call, and written
+ *   if the call writes them, and the pointer is aligned for its type. Nothing that a call writes overlaps another argument. No
+ *   length is 2^63 or more.
+ * - Each handle is freed by soizkadur_free when it isn't needed any more. A second call does no harm; a handle that is lost is a
+ *   leak.
+ * - malloc, realloc and free belong to one allocator, which aligns as the C library's does.
  * - No call is made from a signal handler, or in the forked child of a process with threads.
  *
  * Octets are passed as a pointer and their number. An IMSI is 14 or 15 ASCII digits, without a NUL: a pointer and their number.
@@ -68,7 +71,7 @@
 extern "C" {
 #endif
 
-/* NULL, or the pointer to what this handle alone owns. */
+/* NULL, or the pointer to what only this handle owns. */
 typedef struct soizkadur_mme {
     void *at;
 } soizkadur_mme;
@@ -96,7 +99,7 @@ enum soizkadur_refusal {
     SOIZKADUR_BAD_NUMBER = 13,   /* not a number in its range, not an IMSI, or not a name as it should be */
     SOIZKADUR_BAD_OCTETS = 14,   /* not octets in hex, or not as many octets as it should be */
     SOIZKADUR_TOO_LONG = 15,     /* the line has more than 40000 octets */
-    SOIZKADUR_ORDER = 16,        /* may not stand here: what came before doesn't allow it */
+    SOIZKADUR_ORDER = 16,        /* out of order: what came before doesn't allow it */
     SOIZKADUR_PROVISION = 17,    /* the subscriber or the vector can't be taken, or nobody has the IMSI */
 
     /* of a handle */
@@ -104,14 +107,14 @@ enum soizkadur_refusal {
     SOIZKADUR_IN_USE = 22,    /* the handle isn't empty; it keeps what it holds */
     SOIZKADUR_NO_OUTPUT = 23, /* no reply or no message has this place */
     SOIZKADUR_NO_ROOM = 24,   /* the buffer is too small for the message */
-    SOIZKADUR_LOST = 25,      /* memory ran out while the MME was made of what was provisioned, of which nothing is left */
+    SOIZKADUR_LOST = 25,      /* memory ran out as the MME was started; nothing is left of what was provisioned */
 
-    /* octets that are no S1AP message (TS 36.413): 30 and the number of the first fault from the left. No call says at which
-     * octet or in which element it is: a message that is written by hand is best tried element by element */
+    /* octets that are no S1AP message (TS 36.413): 30 plus the number of the first fault from the left. No call says at which
+     * octet or in which element it is: build a message that you write by hand element by element */
     SOIZKADUR_S1AP_SYNTAX = 31,            /* they spell nothing at some place (X.691) */
     SOIZKADUR_S1AP_UNKNOWN_PROCEDURE = 32, /* a procedure that isn't of the profile */
-    SOIZKADUR_S1AP_MISSING_ELEMENT = 33,   /* an element that must stand does not */
-    SOIZKADUR_S1AP_REPEATED_ELEMENT = 34,  /* an element stands twice */
+    SOIZKADUR_S1AP_MISSING_ELEMENT = 33,   /* a mandatory element is missing */
+    SOIZKADUR_S1AP_REPEATED_ELEMENT = 34,  /* an element comes twice */
     SOIZKADUR_S1AP_REFUSED_ELEMENT = 35,   /* an unknown element is marked reject */
 
     /* of octets that are no NAS message (TS 24.301) */
@@ -141,9 +144,9 @@ typedef struct soizkadur_fault {
     uint32_t refusal;
 } soizkadur_fault;
 
-/* Makes an MME of the provisioning lines of a trace (`mme`, `sub`, `vec`, comments and empty lines, parted by LF) and starts it: no
- * station is up, no subscriber was ever seen, and the clock is 0. `mme` stands first and once, a `vec` below the `sub` of its IMSI,
- * and a line that begins with # is a comment. Fields are parted by single spaces:
+/* Makes an MME of the provisioning lines of a trace (`mme`, `sub`, `vec`, comments and empty lines, separated by LF) and starts it:
+ * no station is up, no subscriber was ever seen, and the clock is 0. `mme` comes first and only once, a `vec` below the `sub` of
+ * its IMSI, and a line that begins with # is a comment. Fields are separated by single spaces:
  *
  *     mme COUNTRY NETWORK GROUP CODE APN DOWN UP    mme 001 01 8001 01 internet 1000000000 1000000000
  *     sub IMSI ADDRESS GATEWAY TUNNEL               sub 001010000000001 0a000001 0a000064 00000001
@@ -153,68 +156,70 @@ typedef struct soizkadur_fault {
  * second, 1 to 10^10. IMSI has 14 or 15 digits; ADDRESS, the phone's, GATEWAY, its S-GW's, and TUNNEL, the S-GW's tunnel end, have
  * 8 hex digits. RAND and AUTN have 16 octets, XRES 4 to 16, KASME 32.
  * Refused: IN_USE; UNKNOWN_WORD to PROVISION, the fault of the first line that isn't taken (ORDER also for the line of an event or
- * a question, and for the last line, the empty one after the last LF, where no line is `mme`); NO_MEMORY or LOST where memory ran
- * out. An empty handle stays empty. `fault` is written where the call is refused for a line or for want of memory at a line, which
- * it names; else it is as it was, also where there is no memory for what the handle itself keeps. */
+ * a question, and for the last line, the empty one after the last LF, if no line is `mme`); NO_MEMORY if memory ran out at a line,
+ * before which all lines were taken; LOST, at the last line, if it ran out as the MME was started. An empty handle stays empty.
+ * `fault` names the line that the call is refused at, also if memory ran out there. In all other cases it is as it was: so too if
+ * there is no memory for the handle itself, which is also NO_MEMORY. */
 uint32_t soizkadur_new(soizkadur_mme *mme, const uint8_t *lines, size_t length, soizkadur_fault *fault);
 
-/* Plays one line of a trace, given without its LF: provisioning, an event, or a question. So all lines of a log, one after another
- * from an empty handle, do what the program does with the log. A comment or an empty line does nothing.
- * The first line of an event or a question starts the MME, also where it is then refused. The replies to the line of an event are
- * had as those of the event's call: `up STATION`, `lost STATION`, `in STATION OCTETS` (in hex), `tick`, `tick N` as soizkadur_tick,
- * `data IMSI` and `cancel IMSI`. `show IMSI` answers whether somebody is provisioned with the IMSI; the states are had by
- * soizkadur_states.
- * An empty handle holds after a line that was taken what the line made; after one that was refused it is empty.
- * Refused: NOT_UP to PROVISION; LOST, and then nothing is provisioned any more. NO_MEMORY may stand in place of another refusal. */
+/* Plays one line of a trace, given without its LF: provisioning, an event, or a question. So if you play a log line by line from an
+ * empty handle, you get what the program makes of it. A comment or an empty line does nothing.
+ * The first line of an event or a question starts the MME, even if the event is then refused. An event is `up STATION`,
+ * `lost STATION`, `in STATION OCTETS` (in hex), `tick`, `tick N` as soizkadur_tick, `data IMSI` or `cancel IMSI`, and leaves the
+ * replies that its own call would leave. `show IMSI` answers whether somebody is provisioned with the IMSI; soizkadur_states gives
+ * the states.
+ * After a line that is taken, a handle that was empty holds what the line made; after one that is refused, it is still empty.
+ * Refused: NOT_UP to PROVISION; LOST, if the line was to start the MME, and then nothing is provisioned any more: an MME that runs
+ * is never lost. NO_MEMORY may come in place of another refusal. */
 uint32_t soizkadur_line(soizkadur_mme *mme, const uint8_t *line, size_t length);
 
 /* ---- an MME, made call by call */
 
-/* Begins the provisioning, as the line `mme`. `plmn` is the network in 3 octets, packed as S1AP has it (TS 36.413 clause 9.2.3.8;
- * 001 01 is 00 f1 10, and 310 260 is 13 20 06);
- * `group` and `code` are the MME group ID and the MME code; `apn` is one label, 1 to 63 ASCII letters, digits and hyphens; `down`
- * and `up` are the most bits a second of all bearers of a phone, 1 to 10^10.
- * Refused: BAD_OCTETS (plmn), BAD_NUMBER (apn, down, up), ORDER where something is provisioned or the MME runs, NO_MEMORY. */
+/* Begins the provisioning, as the line `mme`. `plmn` is the network in 3 octets, packed as in S1AP (TS 36.413 clause 9.2.3.8: 001
+ * 01 is 00 f1 10, and 310 260 is 13 20 06); `group` and `code` are the MME group ID and the MME code; `apn` is one label, 1 to 63
+ * ASCII letters, digits and hyphens; `down` and `up` are the most bits a second of all bearers of a phone, 1 to 10^10.
+ * Refused: BAD_OCTETS (plmn), BAD_NUMBER (apn, down, up), ORDER if something is provisioned or the MME runs, NO_MEMORY. */
 uint32_t soizkadur_provision_new(soizkadur_mme *mme, const uint8_t *plmn, size_t plmn_length, uint16_t group, uint8_t code,
                                  const uint8_t *apn, size_t apn_length, uint64_t down, uint64_t up);
 
 /* Provisions a subscriber, as the line `sub`; its slot is the next one, from 0. `address` is its IPv4 address, `gateway` that of
- * its S-GW, and `teid` the S-GW's tunnel end: numbers, as 0x0a000001 for 10.0.0.1.
- * Refused: NO_MME for an empty handle, BAD_NUMBER (imsi), ORDER before soizkadur_provision_new and once the MME runs, PROVISION
- * where another has the IMSI or the address or 32768 are provisioned, NO_MEMORY. */
+ * its S-GW, and `teid` the S-GW's tunnel end: numbers, such as 0x0a000001 for 10.0.0.1.
+ * Refused: NO_MME for an empty handle, BAD_NUMBER (imsi), ORDER before soizkadur_provision_new and once the MME runs, PROVISION if
+ * another has the IMSI or the address or if 32768 are provisioned, NO_MEMORY. */
 uint32_t soizkadur_add(soizkadur_mme *mme, const uint8_t *imsi, size_t imsi_length, uint32_t address, uint32_t gateway,
                        uint32_t teid);
 
 /* Gives a subscriber one more authentication vector (TS 33.401 clause 6.1.2), as the line `vec`: RAND of 16 octets, AUTN of 16,
- * XRES of 4 to 16, KASME of 32. They are used in the order in which they are given. Nothing in them is checked: any octets do, and
- * a phone's RES is right where it is XRES, octet by octet and as long.
+ * XRES of 4 to 16, KASME of 32. They are used in the order in which they are given. Nothing in them is checked: any octets will do,
+ * and a phone's RES is right if it has the octets of XRES, no more and no fewer.
  * Refused: NO_MME for an empty handle, BAD_NUMBER (imsi), BAD_OCTETS (the others), ORDER before soizkadur_provision_new and once
- * the MME runs, PROVISION where nobody has the IMSI or the subscriber has 64 vectors, NO_MEMORY. */
+ * the MME runs, PROVISION if nobody has the IMSI or the subscriber has 64 vectors, NO_MEMORY. */
 uint32_t soizkadur_give(soizkadur_mme *mme, const uint8_t *imsi, size_t imsi_length, const uint8_t *rand, size_t rand_length,
                         const uint8_t *autn, size_t autn_length, const uint8_t *xres, size_t xres_length, const uint8_t *kasme,
                         size_t kasme_length);
 
-/* Starts an MME with what is provisioned. Where it runs already, nothing changes and the answer is 0.
- * Refused: NO_MME for an empty handle, ORDER where nothing is provisioned; LOST, and then nothing is provisioned any more. */
+/* Starts an MME with what is provisioned. If it runs already, nothing changes and the answer is 0.
+ * Refused: NO_MME for an empty handle, ORDER if nothing is provisioned; LOST, if no MME runs yet, and then nothing is provisioned
+ * any more. */
 uint32_t soizkadur_start(soizkadur_mme *mme);
 
-/* ---- events. Each answers 0, and then its reply is what the MME sends at it; or it is refused: NO_MME, NO_MEMORY, or as is said.
+/* ---- events. Each answers 0, and its reply is what the MME sends; or it is refused: NO_MME, NO_MEMORY, or as its comment says.
  *      A refused event leaves the MME, and the replies of the last event that was taken, as they were.
- *      An event that is to be refused for another cause is refused for that cause, whatever memory there is. */
+ *      If there is another cause, the event is refused for that one, whatever memory there is. */
 
-/* A station connects: its transport alone, so nothing is sent. Refused: BAD_NUMBER for a station above 127, ALREADY_UP. */
+/* A station connects: only its transport, so nothing is sent. Refused: BAD_NUMBER for a station above 127, ALREADY_UP. */
 uint32_t soizkadur_up(soizkadur_mme *mme, uint8_t station);
 
 /* A station's connection is lost. Refused: BAD_NUMBER for a station above 127, NOT_UP. */
 uint32_t soizkadur_lost(soizkadur_mme *mme, uint8_t station);
 
-/* A station sends one whole S1AP message. Octets that are none are no fault of the call: the MME answers them, by ERROR INDICATION
- * with the cause (TS 36.413 clause 10). Refused: BAD_NUMBER for a station above 127, NOT_UP. */
+/* A station sends one whole S1AP message. Octets that aren't one aren't refused: the MME answers them by ERROR INDICATION with the
+ * cause (TS 36.413 clause 10). Refused: BAD_NUMBER for a station above 127, NOT_UP. */
 uint32_t soizkadur_in(soizkadur_mme *mme, uint8_t station, const uint8_t *octets, size_t length);
 
-/* `count` seconds pass, 1 to 1000000, one tick after another. There is a reply for each tick, in order, and each is taken or
+/* `count` seconds pass, 1 to 1000000, one tick after another. There is a reply for each tick, in order, and each tick is taken or
  * refused by itself: CLOCK_SPENT or NO_MEMORY, as soizkadur_count answers for it; a tick that is refused changes nothing.
- * The call is refused, and no tick is taken: BAD_NUMBER (count), NO_MEMORY where there is no room for the replies. */
+ * The call is refused, and no tick is taken: BAD_NUMBER (count), NO_MEMORY if there is no room for the replies. */
 uint32_t soizkadur_tick(soizkadur_mme *mme, uint32_t count);
 
 /* Downlink data waits for a subscriber. Refused: BAD_NUMBER (imsi), UNKNOWN_IMSI. */
@@ -228,7 +233,7 @@ uint32_t soizkadur_cancel(soizkadur_mme *mme, const uint8_t *imsi, size_t imsi_l
 /* For whom a message is sent. */
 enum soizkadur_owner {
     SOIZKADUR_STATION = 1,   /* the station itself; the owner's number is the station's */
-    SOIZKADUR_STRANGER = 2,  /* a phone that no subscriber is known for; 2^31 + its station * 2^24 + its eNB UE S1AP ID */
+    SOIZKADUR_STRANGER = 2,  /* a phone whose subscriber isn't known; 2^31 + its station * 2^24 + its eNB UE S1AP ID */
     SOIZKADUR_SUBSCRIBER = 3 /* a subscriber; its slot */
 };
 
@@ -245,14 +250,13 @@ typedef struct soizkadur_output {
 size_t soizkadur_replies(soizkadur_mme *mme);
 
 /* How many messages the reply at a place has, from 0: 0 for the only one.
- * Refused: NO_MME for an empty handle; NO_OUTPUT where no reply has this place; CLOCK_SPENT or NO_MEMORY where that tick was
- * refused. */
+ * Refused: NO_MME for an empty handle; NO_OUTPUT if no reply has this place; CLOCK_SPENT or NO_MEMORY if that tick was refused. */
 uint32_t soizkadur_count(soizkadur_mme *mme, size_t reply, size_t *count);
 
 /* The message at a place, from 0, of the reply at a place: `output` says for whom, where to and how long it is, and its octets are
  * copied to the start of the buffer, the rest of which stays. Messages are to be sent in this order.
- * Refused: NO_MME for an empty handle; NO_OUTPUT where there is no such message; NO_ROOM where `room` is less than its length, and
- * then `output` is written all the same, and nothing else. */
+ * Refused: NO_MME for an empty handle; NO_OUTPUT if there is no such message; NO_ROOM if `room` is less than its length: then only
+ * `output` is written. */
 uint32_t soizkadur_out(soizkadur_mme *mme, size_t reply, size_t index, soizkadur_output *output, uint8_t *buffer, size_t room);
 
 /* ---- questions, and the end */
@@ -267,11 +271,10 @@ enum soizkadur_emm_state { /* TS 24.301 clause 5.1.3 */
     SOIZKADUR_DEREGISTERED_INITIATED = 3
 };
 
-/* A phone is IDLE from the event on at which the MME sends the UE CONTEXT RELEASE COMMAND that ends its connection: the state
- * doesn't wait for UE CONTEXT RELEASE COMPLETE. It is IDLE, too, from the event on that ends the connection without one: the
- * station is lost, is set up again or resets the interface or this connection, or another phone comes there under its eNB UE S1AP
- * ID. A UE CONTEXT RELEASE COMMAND for an older connection of the phone, or for one that wasn't taken for it, leaves it
- * CONNECTED. */
+/* A phone is IDLE from the event at which the MME sends the UE CONTEXT RELEASE COMMAND that ends its connection: the state doesn't
+ * wait for UE CONTEXT RELEASE COMPLETE. It is also IDLE from an event that ends the connection without that command: the station is
+ * lost, is set up again or resets the interface or this connection, or another phone comes there under its eNB UE S1AP ID. A UE
+ * CONTEXT RELEASE COMMAND for an older connection of the phone, or for one that wasn't taken for it, leaves it CONNECTED. */
 enum soizkadur_ecm_state { /* TS 23.401 clause 4.6.3 */
     SOIZKADUR_IDLE = 0,
     SOIZKADUR_CONNECTED = 1
@@ -300,7 +303,7 @@ uint32_t soizkadur_slot_of_imsi(soizkadur_mme *mme, const uint8_t *imsi, size_t 
  * nothing. */
 void soizkadur_free(soizkadur_mme *mme);
 
-/* ---- messages and keys, for harnesses: calls without a handle, whose answers follow from their arguments alone */
+/* ---- messages and keys, for harnesses: calls without a handle, whose answers depend only on their arguments */
 
 enum soizkadur_s1ap_kind {
     SOIZKADUR_S1_SETUP_REQUEST = 1,
@@ -328,10 +331,10 @@ enum soizkadur_s1ap_kind {
 
 typedef struct soizkadur_s1ap_message {
     uint32_t kind;          /* of `enum soizkadur_s1ap_kind` */
-    uint32_t has_mme_ue_id; /* 1 where the message names one association by its MME UE S1AP ID, else 0 */
-    uint32_t mme_ue_id;     /* that ID; 0 where there is none */
-    uint32_t has_enb_ue_id; /* 1 where the message names one association by its eNB UE S1AP ID, else 0 */
-    uint32_t enb_ue_id;     /* that ID; 0 where there is none */
+    uint32_t has_mme_ue_id; /* 1 if the message names one association by its MME UE S1AP ID, otherwise 0 */
+    uint32_t mme_ue_id;     /* that ID; 0 if there is none */
+    uint32_t has_enb_ue_id; /* 1 if the message names one association by its eNB UE S1AP ID, otherwise 0 */
+    uint32_t enb_ue_id;     /* that ID; 0 if there is none */
 } soizkadur_s1ap_message;
 
 /* The S1AP message that these octets spell (TS 36.413 clause 9), by its kind and its ids. Refused: S1AP_SYNTAX to
@@ -371,18 +374,18 @@ enum soizkadur_emm_message {
     SOIZKADUR_EMM_SERVICE_REQUEST = 0xc7
 };
 
-/* The plain EMM message that these octets spell where they are sent in this direction: `kind` is of `enum soizkadur_emm_message`.
+/* The plain EMM message that these octets spell if they are sent in this direction: `kind` is of `enum soizkadur_emm_message`.
  * Refused: BAD_NUMBER (direction), NAS_TOO_SHORT to NAS_OPTIONAL_PART. */
 uint32_t soizkadur_nas(const uint8_t *octets, size_t length, uint32_t direction, uint32_t *kind);
 
-/* A NAS message in the protected form (TS 24.301 clause 9.1); the plain message is its octets from the seventh on. */
+/* A NAS message in the protected form (TS 24.301 clause 9.1); its octets from the seventh on are the plain message. */
 typedef struct soizkadur_nas_parts {
     uint32_t header;   /* the security header type, 1 to 4 (TS 24.301 clause 9.3.1) */
     uint32_t mac;      /* the message authentication code, its first octet the highest */
     uint32_t sequence; /* the sequence number, 0 to 255 */
 } soizkadur_nas_parts;
 
-/* The parts of a NAS message in the protected form; the MAC isn't checked. It is right where soizkadur_eia2 of the octets from the
+/* The parts of a NAS message in the protected form. The MAC isn't checked; it is right if soizkadur_eia2 of the octets from the
  * sixth on is the same. Refused: NAS_NOT_PROTECTED. */
 uint32_t soizkadur_nas_protected(const uint8_t *octets, size_t length, soizkadur_nas_parts *parts);
 
@@ -392,16 +395,16 @@ uint32_t soizkadur_eia2(const uint8_t *key, size_t key_length, uint32_t count, u
                         size_t length, uint32_t *mac);
 
 /* The key KeNB, 32 octets, of KASME, 32 octets, and an uplink NAS COUNT (TS 33.401 clause A.3).
- * Refused: BAD_OCTETS where one of them hasn't its length. */
+ * Refused: BAD_OCTETS if one of them has another length. */
 uint32_t soizkadur_kenb(const uint8_t *kasme, size_t kasme_length, uint32_t count, uint8_t *key, size_t key_length);
 
 /* The next hop key NH, 32 octets, of KASME and the key before it, 32 octets each (TS 33.401 clause A.4).
- * Refused: BAD_OCTETS where one of them hasn't its length. */
+ * Refused: BAD_OCTETS if one of them has another length. */
 uint32_t soizkadur_next_hop(const uint8_t *kasme, size_t kasme_length, const uint8_t *previous, size_t previous_length,
                             uint8_t *key, size_t key_length);
 
 /* The key of NAS integrity by 128-EIA2, 16 octets, of KASME, 32 octets (TS 33.401 clause A.7).
- * Refused: BAD_OCTETS where one of them hasn't its length. */
+ * Refused: BAD_OCTETS if one of them has another length. */
 uint32_t soizkadur_nas_integrity_key(const uint8_t *kasme, size_t kasme_length, uint8_t *key, size_t key_length);
 
 #ifdef __cplusplus

@@ -4,9 +4,12 @@
 """
 import collections
 import gzip
+import heapq
+import io
 import ipaddress
 import re
 import struct
+import zlib
 
 import runs
 import s1ap
@@ -44,7 +47,10 @@ IPV4_TYPE, IPV6_TYPE = 0x0800, 0x86DD
 MME_ADDRESS = ipaddress.IPv4Address("192.0.2.1")  # TEST-NET-1
 FIRST_STATION_ADDRESS = ipaddress.IPv4Address("198.51.100.1")  # TEST-NET-2
 FIRST_STATION_PORT = 49152  # the first dynamic port (RFC 6335 clause 6)
+GZIP, PCAP, PCAP_NANOSECONDS = b"\x1f\x8b", 0xA1B2C3D4, 0xA1B23C4D
 MILLION = 10**6
+MOST_SECONDS = 1 << 32  # from the first packet to the last: what a file of pcap can say
+MOST_UNPACKED = 1 << 28  # octets of a file that was packed by gzip
 
 
 def warn(text):
@@ -73,16 +79,25 @@ def cut_at(capture):
     return runs.Fault("the file is cut: it ends within what follows packet %d" % len(capture.frames))
 
 
+def unpacked(octets):
+    """What a gzip file has in it."""
+    try:
+        with gzip.GzipFile(fileobj=io.BytesIO(octets)) as file:
+            found = file.read(MOST_UNPACKED + 1)
+    except (OSError, EOFError, zlib.error) as fault:
+        raise runs.Fault("the gzip file is damaged: %s" % fault) from None
+    if len(found) > MOST_UNPACKED:
+        raise runs.Fault("the gzip file has more than %d octets in it: unpack it before" % MOST_UNPACKED)
+    return found
+
+
 def read_capture(octets):
     """A pcap or pcapng file."""
-    if octets[:2] == b"\x1f\x8b":
-        try:
-            octets = gzip.decompress(octets)
-        except (OSError, EOFError) as fault:
-            raise runs.Fault("the gzip file is damaged: %s" % fault) from None
+    if octets[:2] == GZIP:
+        octets = unpacked(octets)
     magic = octets[:4]
     for order in "<>":
-        for value, scale in ((0xA1B2C3D4, 1000), (0xA1B23C4D, 1)):
+        for value, scale in ((PCAP, 1000), (PCAP_NANOSECONDS, 1)):
             if magic == struct.pack(order + "I", value):
                 return read_pcap(octets, order, scale)
     if magic == struct.pack("<I", SECTION):
@@ -376,12 +391,17 @@ def after(one, other, bits=32):
     return 0 < (one - other) % (1 << bits) < 1 << bits - 1
 
 
+Part = collections.namedtuple("Part", "flags stream number protocol octets")
+
+
 class Flow:
     """The DATA chunks that a station sends: each once, fragments together, the messages of a stream in its order."""
 
     def __init__(self, from_beginning=False):
         self.from_beginning = from_beginning
         self.seen, self.parts, self.held, self.next = set(), {}, {}, {}
+        self.ends = {}  # of fragments that follow each other, the first TSN and the last one, each by the other
+        self.waiting, self.place = [], 0  # the messages that are held, by the place of their TSN among all; the last such place
 
     def take(self, part):
         """The messages that a DATA chunk completes, as pairs of protocol and octets."""
@@ -389,7 +409,7 @@ class Flow:
         if tsn in self.seen:
             return []
         self.seen.add(tsn)
-        self.parts[tsn] = (part.flags, stream, number, protocol, part.body[12:])
+        self.parts[tsn] = Part(part.flags, stream, number, protocol, part.body[12:])
         whole = self.together(tsn)
         if whole is None:
             return []
@@ -400,21 +420,31 @@ class Flow:
         if after(expected, number, 16):  # given up before, and seen after all
             return [(protocol, octets)]
         self.held[stream, number] = (last, protocol, octets)
+        self.place = self.place_of(last)
+        heapq.heappush(self.waiting, (self.place, last, stream, number))
         return self.ready(stream, expected)
+
+    def place_of(self, tsn):
+        """Where a TSN is among all that were sent, by the place that was found last: TSNs come round."""
+        return self.place + ((tsn - self.place + (1 << 31)) % (1 << 32)) - (1 << 31)
+
+    def are_joined(self, one, other):
+        """Whether two fragments, of which one's TSN is after the other's, are of one message."""
+        return (one in self.parts and other in self.parts
+                and not self.parts[one].flags & ENDING and not self.parts[other].flags & BEGINNING)
 
     def together(self, tsn):
         """The last TSN and the octets of the message that a fragment belongs to, where it is whole (RFC 9260 clause 6.9)."""
-        first = last = tsn
-        while not self.parts[first][0] & BEGINNING:
-            first = (first - 1) % (1 << 32)
-            if first not in self.parts:
-                return None
-        while not self.parts[last][0] & ENDING:
-            last = (last + 1) % (1 << 32)
-            if last not in self.parts:
-                return None
+        before, following = (tsn - 1) % (1 << 32), (tsn + 1) % (1 << 32)
+        first = self.ends.pop(before) if self.are_joined(before, tsn) else tsn
+        last = self.ends.pop(following) if self.are_joined(tsn, following) else tsn
+        if not (self.parts[first].flags & BEGINNING and self.parts[last].flags & ENDING):
+            self.ends[first], self.ends[last] = last, first
+            return None
+        for end in (first, last):
+            self.ends.pop(end, None)
         places = [(first + at) % (1 << 32) for at in range((last - first) % (1 << 32) + 1)]
-        return last, b"".join(self.parts.pop(place)[4] for place in places)
+        return last, b"".join(self.parts.pop(place).octets for place in places)
 
     def ready(self, stream, number):
         """The messages of a stream whose turn it is."""
@@ -427,10 +457,10 @@ class Flow:
 
     def acknowledged(self, tsn):
         """What the other side has, and the capture lacks, isn't waited for: the messages up to this TSN, in their order."""
-        passed = [key for key, held in self.held.items() if not after(held[0], tsn)]
-        messages = []
-        for stream, number in sorted(passed, key=lambda key: (self.held[key][0] - tsn - 1) % (1 << 32)):
-            if (stream, number) in self.held:
+        messages, passed = [], self.place_of(tsn)
+        while self.waiting and self.waiting[0][0] <= passed:
+            _, last, stream, number = heapq.heappop(self.waiting)
+            if (stream, number) in self.held and self.held[stream, number][0] == last:
                 messages += self.ready(stream, number)
         return messages
 
@@ -493,6 +523,8 @@ class Reading:
 
     def pass_to(self, time):
         ticks = (time - self.start) // 10**9 - self.second
+        if self.second + ticks > MOST_SECONDS:
+            raise runs.Fault("the times of its packets are more than %d s apart" % MOST_SECONDS)
         if ticks > 0:
             self.second += ticks
         while ticks > 0:
@@ -634,7 +666,6 @@ def events_of(capture, by_port):
 # --- Both ways ---
 
 Heard = collections.namedtuple("Heard", "octets second from_mme station packet")
-GZIP, PCAP, PCAP_NANOSECONDS = b"\x1f\x8b", 0xA1B2C3D4, 0xA1B23C4D
 MAGICS = (GZIP, struct.pack("<I", SECTION),
           *(struct.pack(order + "I", value) for order in "<>" for value in (PCAP, PCAP_NANOSECONDS)))
 

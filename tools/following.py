@@ -16,11 +16,14 @@ MILLION = 10**6
 
 
 def clock_of(line):
-    """The microseconds since 1970 that a comment says, or nothing where the line is none of these."""
+    """The microseconds since 1970 that a comment says, or nothing where the line is none of these: nor is a day or an hour that
+    there isn't, and a time before."""
     found = TIME.match(line)
-    if not found:
-        return None
-    return (calendar.timegm(time.strptime(found[1].decode(), "%Y-%m-%d %H:%M:%S")) * 1000 + int(found[2])) * 1000
+    try:
+        second = calendar.timegm(time.strptime(found[1].decode(), "%Y-%m-%d %H:%M:%S")) if found else -1
+    except ValueError:
+        second = -1
+    return (second * 1000 + int(found[2])) * 1000 if second >= 0 else None
 
 
 def clock_text(clock):
@@ -103,10 +106,10 @@ class Playing:
         self.second += step.event.ticks or 0
         self.give(text, mark)
         for line in self.process.stdout:
-            [answer] = runs.read_answers(line, "the program's answers")
-            if answer.fault == runs.UNKNOWN_IMSI:
-                return step
-            step.answers.append((self.second, answer))
+            for answer in runs.read_answers(line, "the program's answers"):
+                if answer.fault == runs.UNKNOWN_IMSI:
+                    return step
+                step.answers.append((self.second, answer))
         raise runs.Fault("the program ended before the trace did")
 
     def give(self, *lines):

@@ -214,7 +214,7 @@ def lacks_keys(head):
 
 
 ANSWERS = {"out": 3, "refused": 1, "state": 4}
-OWNER = re.compile(r"e\d+|x\d+\.\d+|s\d+")
+OWNER = re.compile(r"e\d{1,3}|x\d{1,3}\.\d{1,8}|s\d{1,5}")
 
 # How a comment of a trace begins that is an answer.
 TOLD = re.compile(rb"# (?=out [esx]\d|refused \d|state \d)")
@@ -410,12 +410,17 @@ def may_follow(first, second):
     return first.nas is not None and first.nas.type in LAST_OF_CONNECTION and second.code == s1ap.RELEASE
 
 
+# How many steps are looked at for answers that fit none, besides this many for each event; and then, how many for each answer.
+LOOKS, LOOKS_OF_AN_EVENT, NEAR = 1000000, 20, 20
+
+
 class Causes:
     """Which events can have caused an answer, by what was heard and sent so far."""
 
     def __init__(self, imsis):
         self.slots = {imsi: slot for slot, imsi in enumerate(imsis)}
         self.ready, self.sent, self.due, self.from_idle = set(), collections.defaultdict(set), {}, set()
+        self.may_look = LOOKS  # at steps that don't fit, for answers that fit none
 
     def slot_of(self, heard):
         """The slot that a message names, or nothing."""
@@ -514,15 +519,23 @@ class Causes:
             first = content(step.event.octets).code == s1ap.INITIAL_UE
             (self.from_idle.add if first else self.from_idle.discard)(answer.owner)
 
+    def place_from(self, at, able, steps, answer, said):
+        """The first place from one on among the steps that are able to have answers whose step fits an answer, else this one."""
+        end = len(able) if self.may_look > 0 else min(len(able), at + NEAR)
+        for place in range(at, end):
+            if self.fits(steps[able[place]], answer, said):
+                return place
+        self.may_look -= end - at
+        return at
+
     def given(self, steps, answers):
         """The steps, each once it has its answers. One goes to the first step, not before that of the answer before, which fits it;
         else to the one before."""
         able, at, done = [place for place, step in enumerate(steps) if step.event.word not in ("up", "lost")], 0, 0
+        self.may_look += LOOKS_OF_AN_EVENT * len(steps)
         for answer in answers:
-            said, place = content(answer.octets), at
-            while place < len(able) and not self.fits(steps[able[place]], answer, said):
-                place += 1
-            at = place if place < len(able) else at
+            said = content(answer.octets)
+            at = self.place_from(at, able, steps, answer, said)
             if done < able[at]:
                 yield from steps[done:able[at]]
                 done = able[at]

@@ -1,5 +1,5 @@
-"""The version of this copy of Soizkadur: the number in VERSION, which stands nowhere else (CONTRIBUTING.md, "Versions"); and the
-names that the tools have, here and where they are installed."""
+"""The version of this copy of Soizkadur: the number in VERSION, which stands nowhere else (CONTRIBUTING.md, "Versions"); the names
+that the tools have, here and where they are installed; and how they show what others wrote."""
 import pathlib
 import re
 import sys
@@ -42,9 +42,17 @@ def as_called(text: str) -> str:
     return as_installed(text) if called().startswith(INSTALLED) else text
 
 
+def visible(text: str) -> str:
+    """A text as one line in which all can be seen: what moves a terminal's cursor, begins a line or hides what stands beside it
+    is written as in a literal of Python, as `\\x1b`. Texts that others wrote, as a station's name, are shown by this."""
+    if text.isprintable():
+        return text
+    return "".join([sign if sign.isprintable() else sign.encode("unicode_escape").decode("ascii") for sign in text])
+
+
 def complain(text) -> None:
-    """Says something on standard error, by the tool's name."""
-    print("%s: %s" % (called(), as_called(str(text))), file=sys.stderr)
+    """Says something on standard error, in a line, by the tool's name."""
+    print("%s: %s" % (called(), visible(as_called(str(text)))), file=sys.stderr)
 
 
 def add_to(parser) -> None:

@@ -64,7 +64,7 @@ _WORDS = {
     Refusal.S1AP_SYNTAX: "the octets spell no S1AP message",
     Refusal.S1AP_UNKNOWN_PROCEDURE: "an S1AP procedure that isn't known",
     Refusal.S1AP_MISSING_ELEMENT: "an S1AP element that must stand does not",
-    Refusal.S1AP_REPEATED_ELEMENT: "an S1AP element stands twice",
+    Refusal.S1AP_REPEATED_ELEMENT: "an S1AP element comes twice",
     Refusal.S1AP_REFUSED_ELEMENT: "an unknown S1AP element is marked reject",
     Refusal.NAS_TOO_SHORT: "too few octets for a NAS message type",
     Refusal.NAS_MANDATORY: "the mandatory part of the NAS message isn't of its form",

@@ -7,11 +7,11 @@
             phone.attaches(laboratory.station, phone.slot + 1)
 
 A step of a phone sends its messages, and each answer of the MME is compared with what the standards' side owes
-(`soizkadur.standards`): after it nothing is left to assert. An answer that is otherwise is an `AssertionError`, which has the run
-as a ladder chart where tools/chart is at hand. A step that the phone can't take where it is, as `authenticates` before
-`asks_to_attach`, is an `OutOfPlace`, which says what the phone lacks. A step that begins a connection takes its station and `b`,
-the eNB UE S1AP ID that the station gives it: 0 to 2^24 - 1, another for each connection that the station has at one time. With
-pytest,
+(`soizkadur.standards`): after it nothing is left to assert. If an answer differs, an `AssertionError` names what was owed and what
+came, and has the run as a ladder chart if tools/chart is there. A step that the phone can't take where it is, as `authenticates`
+before `asks_to_attach`, is an `OutOfPlace`, which says what the phone lacks. A step that begins a connection takes its station and
+`b`, the eNB UE S1AP ID that the station gives it: 0 to 2^24 - 1, another for each connection that the station has at one time. No
+time passes by itself: `laboratory.trace.say("tick 10")` lets ten seconds pass. docs/LIBRARY.md lists the steps. With pytest,
 
     from soizkadur.testing import laboratory
 

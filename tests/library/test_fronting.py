@@ -17,6 +17,7 @@ sys.path.insert(0, str(TOOLS))
 import fronted
 import test_front
 import test_front_keys
+import test_front_kills
 import test_front_log
 
 SETUP_REQUEST = bytes.fromhex("0011001f000003003b00080000f11000000010004000070000004000f1100089400140")
@@ -32,6 +33,11 @@ class Round(test_front.Round):
 
 class GivenToPhones(test_front_log.GivenToPhones):
     """Subscribers and vectors that come while it runs."""
+    program = fronted.LIBRARY
+
+
+class Storms(test_front_kills.Storms):
+    """The front killed again and again under phones."""
     program = fronted.LIBRARY
 
 

@@ -537,18 +537,33 @@ def an_attach_without_a_vector():
 
 @test
 def an_answer_that_is_not_owed_is_found():
-    """A phone that would have the MME answer otherwise fails the test, with the chart of the run."""
-    for act in (lambda phone: phone.sends(lte.authentication_response(phone.vector.xres)),
-                lambda phone: phone.owed_nas(b"\x07\x54")):
+    """A phone that would have the MME answer otherwise fails the test, with the names of what was owed and of what came, and the
+    chart of the run."""
+    for act, owed, came in (
+            (lambda phone: phone.sends(lte.authentication_response(phone.vector.xres)), "nothing", "[SECURITY MODE COMMAND]: out s0"),
+            (lambda phone: phone.owed_nas(b"\x07\x54"), "[AUTHENTICATION REJECT]: out s0", "[AUTHENTICATION REQUEST]: out s0")):
         try:
             with Laboratory(phones=1) as here:
                 challenged(here.phones[0], here.station)
                 act(here.phones[0])
         except Unexpected as unexpected:
-            assert "the MME owes" in str(unexpected), unexpected
-            assert "-- ATTACH REQUEST --" in str(unexpected), unexpected
+            _, wanted, got = re.split("\nthe MME owes\n|\nand answers\n", str(unexpected))
+            assert owed in wanted and came in got and "-- ATTACH REQUEST --" in got, unexpected
         else:
             raise AssertionError("it isn't found")
+
+
+@test
+def what_the_documents_say_of_phones():
+    """Under "Phones for tests" in docs/LIBRARY.md, each step is one of a phone, and what is to be run runs."""
+    text = (TOP / "docs" / "LIBRARY.md").read_text(encoding="utf-8")
+    part = re.search(r"\n### Phones for tests\n(.*?)\n## ", text, re.S)[1]
+    steps = re.findall(r"`(\w+)\(", part)
+    must_be([step for step in steps if not callable(getattr(FailingPhone, step, None))], [])
+    runs = [block for block in re.findall(r"(?:    .*\n|\n(?=    ))+", part) if "with Laboratory" in block]
+    must_be((len(steps) > 30, len(runs)), (True, 3))
+    for block in runs:
+        exec(textwrap.dedent(block), {"Laboratory": Laboratory})
 
 
 @test

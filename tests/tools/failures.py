@@ -111,7 +111,7 @@ def no_eia2():
 
 @failure("""\
 IMSI 001010000000001
-! line 7, 0 s: ATTACH REQUEST is refused: the phone asks for IPv6 alone, and its subscription has IPv4 (TS 24.301 clause 6.5.1.4)
+! line 7, 0 s: ATTACH REQUEST is refused: the phone asks only for IPv6, and its subscription has IPv4 (TS 24.301 clause 6.5.1.4)
   at the end: Deregistered (its attach was refused)
 """)
 def ipv6_alone():

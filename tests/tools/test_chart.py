@@ -246,6 +246,12 @@ class Text(unittest.TestCase):
         self.assertEqual(chart("-", tools.ROWS / "unknown_imsi.answers", given=trace).stdout.decode(), UNKNOWN_IMSI)
 
 
+def told_by(rows, tag, label):
+    """The line of the trace that the one row of a phone with this label says it is of."""
+    [row] = [row for row in rows if row.phone and row.phone.tag == tag and any(arrow.label == label for arrow in row.arrows)]
+    return row.where
+
+
 class Svg(unittest.TestCase):
     def test_rows(self):
         """As many arrows as in the text, faults as such, and all within the picture."""
@@ -264,6 +270,47 @@ class Svg(unittest.TestCase):
                     self.assertLessEqual(float(text.get("y")), height)
                     if text.get("text-anchor") == "start":
                         self.assertLessEqual(float(text.get("x")) + len(text.text or "") * CHART.CHARACTER, width)
+
+    def test_lines_of_the_trace(self):
+        """Each row says which line of the trace it is of: an event its own, an answer the event's (lines counted by hand)."""
+        done = chart("--svg", tools.ROWS / "unknown_imsi.trace", tools.ROWS / "unknown_imsi.answers")
+        root = xml.etree.ElementTree.fromstring(done.stdout)
+        told = [group.find(SVG + "title").text for group in root.iter(SVG + "g")]
+        lines = [line.split(" ")[0] for line in (tools.ROWS / "unknown_imsi.trace").read_text().splitlines()]
+        up = lines.index("up") + 1
+        self.assertEqual(lines[up - 1:up + 2], ["up", "in", "in"])
+        self.assertEqual(told[:3], ["line %d" % up, "line %d" % (up + 1), "answer to line %d" % (up + 1)])
+        self.assertEqual(told[3:], ["line %d" % (up + 2)] + ["answer to line %d" % (up + 2)] * 2)
+        for group in root.iter(SVG + "g"):
+            row = group.find(SVG + "rect")
+            low, high = float(row.get("y")), float(row.get("y")) + float(row.get("height"))
+            self.assertTrue(all(low <= float(line.get("y1")) <= high for line in group.iter(SVG + "line")))
+
+    def test_signs(self):
+        """A legend has what the signs mean, above the lanes."""
+        texts = list(xml.etree.ElementTree.fromstring(CHART.svg_of(*rows_of("unknown_imsi"))).iter(SVG + "text"))
+        head = min(float(text.get("y")) for text in texts if text.text == "MME")
+        signs = [text for text in texts if (text.get("class") or "").startswith("sign-")]
+        self.assertEqual([text.text.split("  ")[0] for text in signs], ["! red", "cross", "green", "2 of 4", "mouse on a row"])
+        self.assertTrue(all(float(text.get("y")) < head for text in signs))
+        self.assertEqual(len({text.get("y") for text in texts if float(text.get("y")) < head}), len(signs) + 2)
+
+    def test_no_gap(self):
+        """With many phones the first station stands a step from the last one, and each label ends between the first lane and it."""
+        trace = ATTACHES.attached(12)[0]
+        read = RUNS.read_trace(trace.text().encode())
+        rows = CHART.rows_of(read, RUNS.matched(read, RUNS.read_answers(trace.answer_text().encode())))
+        root = xml.etree.ElementTree.fromstring(CHART.svg_of(rows, 0))
+        heads = {text.text: float(text.get("x")) for text in root.iter(SVG + "text") if text.get("class") == "head"}
+        steps = {heads["P%d" % (at + 1)] - heads["P%d" % at] for at in range(1, 12)}
+        self.assertEqual(steps, {heads["E0"] - heads["P12"]})
+        label = "SECURITY MODE COMMAND"
+        where = told_by(rows, "P12", label)
+        [text] = [text for group in root.iter(SVG + "g") if group.find(SVG + "title").text == where
+                  for text in group.iter(SVG + "text") if text.text == label]
+        self.assertEqual(text.get("text-anchor"), "end")
+        self.assertLess(float(text.get("x")), heads["E0"])
+        self.assertGreater(float(text.get("x")) - CHART.CHARACTER * len(label), heads["P1"])
 
     def test_program(self):
         done = chart("--svg", tools.ROWS / "attach_whole.trace", tools.ROWS / "attach_whole.answers")

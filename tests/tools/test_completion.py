@@ -36,7 +36,7 @@ class Completion(unittest.TestCase):
 
     def test_tools(self):
         """A tool's own options, its commands, and files."""
-        self.assertEqual(offered("_mme_tool", "tools/show", "--"), sorted(["--help", "--version", "--brief", "--json"]))
+        self.assertEqual(offered("_mme_tool", "tools/show", "--"), sorted(["--help", "--version", "--brief", "--json", "--reset"]))
         self.assertEqual(offered("_mme_tool", "tools/front", ""), ["ask", "fill", "run"])
         self.assertIn("--wait", offered("_mme_tool", "tools/front", "ask", "--"))
         self.assertNotIn("--wait", offered("_mme_tool", "tools/front", "run", "--"))

@@ -27,8 +27,10 @@ import runs
 from fronting import command, faults, limits
 del sys.path[0]
 UNIT, CONTAINER, README = (tools.TOP / "deploy" / name for name in ("soizkadur@.service", "Containerfile", "README.md"))
+PACKAGE = tools.TOP / "deploy" / "package"
 INSTALLED = "/opt/soizkadur/"
 BUILT = "crates/mme/out/mme"
+LOG_FILES = {"trace", "trace.counts", "trace.used", "trace.lock"}
 MIB = 1 << 20
 
 
@@ -43,7 +45,7 @@ def analyzed(*words):
 def front_words(**values):
     """The words of the unit's front, with what systemd and the file beside it put in."""
     [line] = re.findall("^ExecStart=(.*)$", UNIT.read_text(), re.MULTILINE)
-    for name, text in (("%i", "01"), ("%t", values["runtime"]), ("%d", values["credentials"]), ("%S", values["state"]),
+    for name, text in (("%i", "01"), ("%t", values["runtime"]), ("%S", values["state"]),
                        ("${ADDRESS}", values["address"]), ("$WORDS", values["words"])):
         assert name in line, name
         line = line.replace(name, text)
@@ -66,13 +68,37 @@ class Unit(unittest.TestCase):
 
     def test_words(self):
         """The front takes them."""
-        program, *words = front_words(runtime="/run", credentials="/run/credentials", state="/var/lib", address="192.0.2.1",
-                                      words="--tcp --rate 500")
+        program, *words = front_words(runtime="/run", state="/var/lib", address="192.0.2.1", words="--tcp --rate 500")
         self.assertEqual(program, INSTALLED + "tools/front")
         given = command.parser("").parse_args(words)
         self.assertEqual((given.code, *map(str, given.listen), given.tcp, given.rate, given.keep), ("01", "192.0.2.1", True, 500, 7))
         self.assertEqual((given.subscribers, given.log, given.control),
-                         ("/run/credentials/subscribers", "/var/lib/soizkadur/01/trace", "/run/soizkadur/01/control"))
+                         ("-", "/var/lib/soizkadur/01/trace", "/run/soizkadur/01/control"))
+
+    def test_subscribers(self):
+        """Root's file is the service's standard input, which has no limit; a credential has one of a mebibyte (systemd.exec(5)),
+        and a copy would be one more file with keys. A front that reads more than that so serves, and reads none of it from a
+        path."""
+        lines = dict(re.findall(r"^(\w+)=(.*)$", UNIT.read_text(), re.MULTILINE))
+        self.assertEqual(lines.get("StandardInput"), "file:/etc/soizkadur/%i.subscribers")
+        self.assertNotIn("LoadCredential", lines)
+        folder = pathlib.Path(self.enterContext(tempfile.TemporaryDirectory()))
+        many = "".join("sub 00101%010d 0a%06x 0b000001 %08x\n" % (slot, slot, slot) for slot in range(1, 25000))
+        (folder / "given").write_text(HEAD.splitlines()[0] + "\n" + many)
+        self.assertGreater((folder / "given").stat().st_size, MIB)
+        (folder / "mme").write_text(STAND_IN)
+        (folder / "mme").chmod(0o755)
+        program, *words = front_words(runtime=str(folder), state=str(folder), address="127.0.0.1", words="--tcp --port 0")
+        (folder / "soizkadur/01").mkdir(parents=True)
+        with (open(folder / "given", "rb") as given, subprocess.Popen(
+                [tools.TOP / program.removeprefix(INSTALLED), *words, "--mme", folder / "mme"], stdin=given,
+                stderr=subprocess.DEVNULL) as running):
+            (folder / "given").unlink()
+            done = subprocess.run([tools.TOP / "tools/front", "ask", folder / "soizkadur/01/control", "show", "001010000024999",
+                                   "--wait", "60"], capture_output=True, timeout=100, check=False)
+            running.terminate()
+        self.assertEqual(done.stdout, b"state 001010000024999 DEREGISTERED IDLE INACTIVE\n")
+        self.assertEqual(running.returncode, 0)
 
     def test_limits(self):
         """Memory, tasks, files and disk are limited, with room for all that the front takes at most; the log's is as it says."""
@@ -158,17 +184,45 @@ class Unit(unittest.TestCase):
         subprocess.run(["sh", "-eu", "-c", text], cwd=tools.TOP, check=True)
         pathlib.Path(place).mkdir(parents=True)
         pathlib.Path(folder, "subscribers").write_text(HEAD)
-        program, *words = front_words(runtime=folder, credentials=folder, state=folder, address="127.0.0.1", words="--tcp --port 0")
+        program, *words = front_words(runtime=folder, state=folder, address="127.0.0.1", words="--tcp --port 0")
         for count in range(2):
-            with subprocess.Popen([folder + program, *words], stderr=subprocess.DEVNULL) as running:
+            with (open(folder + "/subscribers", "rb") as given,
+                  subprocess.Popen([folder + program, *words], stdin=given, stderr=subprocess.DEVNULL) as running):
                 done = subprocess.run([folder + "/mme-front", "ask", place + "control", "show", IMSI, "--wait", "20"],
                                       capture_output=True, timeout=60, check=False)
                 self.assertEqual(done.stdout.decode(), "state %s DEREGISTERED IDLE INACTIVE\n" % IMSI)
                 running.terminate()
             self.assertEqual(running.returncode, 0)
-            self.assertEqual({path.name for path in pathlib.Path(place).glob("trace*")}, {"trace", "trace.counts"})
+            self.assertEqual({path.name for path in pathlib.Path(place).glob("trace*")}, LOG_FILES)
             played = subprocess.run([folder + "/mme", "play", log], capture_output=True, timeout=60, check=False)
             self.assertEqual(played.stdout, done.stdout * (count + 1))
+
+
+class Package(unittest.TestCase):
+    def test_what_it_needs(self):
+        """What isn't there is told before anything is made; the help needs none of it."""
+        folder = pathlib.Path(self.enterContext(tempfile.TemporaryDirectory()))
+        for name in ("python3", "dpkg-deb"):
+            (folder / name).symlink_to(sys.executable if name == "python3" else "/bin/true")
+        for have, told in ((("python3",), "there is no dpkg-deb here, which makes the Debian package (Debian's package dpkg)"),
+                           (("python3", "dpkg-deb"), "no pandoc here, which makes the manual pages (Debian's package pandoc)")):
+            with self.subTest(told=told), tempfile.TemporaryDirectory() as path:
+                for name in have:
+                    pathlib.Path(path, name).symlink_to(folder / name)
+                done = subprocess.run([sys.executable, "-B", PACKAGE, pathlib.Path(path, "made")], capture_output=True, text=True,
+                                      timeout=60, check=False, env={"PATH": path})
+                self.assertEqual((done.returncode, done.stdout), (2, ""))
+                self.assertIn(told, done.stderr)
+                self.assertFalse(pathlib.Path(path, "made").exists())
+                helped = subprocess.run([sys.executable, "-B", PACKAGE, "--help"], capture_output=True, text=True, timeout=60,
+                                        check=False, env={"PATH": path})
+                self.assertEqual((helped.returncode, helped.stderr), (0, ""))
+
+    def test_where_it_writes(self):
+        """Into a folder that git ignores, where none is named."""
+        default = tools.module("deploy/package").parser().parse_args([]).folder
+        self.assertEqual(default, tools.TOP / "out" / "packages")
+        self.assertIn("out/", (tools.TOP / ".gitignore").read_text().splitlines())
 
 
 class Container(unittest.TestCase):
@@ -205,9 +259,21 @@ class Container(unittest.TestCase):
         """Words of the container with its folders below a folder."""
         return [str(root) + word if word.startswith("/") else word for word in words]
 
+    def given(self, *further):
+        """The front's words, with those of the file's last line where there are no further ones."""
+        _, *words = self.words("ENTRYPOINT")
+        return command.parser("").parse_args(words + (list(further) or self.words("CMD")))
+
     def test_words(self):
-        given = command.parser("").parse_args(self.words("CMD"))
-        self.assertEqual((*map(str, given.listen), given.keep, given.log), ("0.0.0.0", 7, "/var/lib/soizkadur/trace"))
+        """Where nobody says where it is to listen, it does at its own address alone."""
+        given = self.given()
+        self.assertEqual((*map(str, given.listen), given.keep, given.log), ("127.0.0.1", 7, "/var/lib/soizkadur/trace"))
+
+    def test_base(self):
+        """The image that it is made from has a whole version, and may be given by its digest."""
+        [base] = self.lines("ARG")
+        self.assertRegex(base, r"^BASE=docker\.io/library/python:3\.11\.\d+-slim-bookworm$")
+        self.assertEqual(self.lines("FROM"), ["${BASE}"])
 
     def test_commands(self):
         """README.md's words for podman fit the file: the options are known ones, and ports, folders and names are the same in
@@ -221,13 +287,14 @@ class Container(unittest.TestCase):
         self.assertEqual((build.format, build.folder, tools.TOP / build.file, run.image), ("docker", ".", CONTAINER, build.tag))
         self.assertEqual({given.name for given in (within, *others)}, {run.name})
         self.assertTrue(run.detach)
-        front = command.parser("").parse_args(self.words("CMD"))
+        front = self.given(*run.words)
+        self.assertEqual(list(map(str, front.listen)), ["0.0.0.0"])  # of the container, to which a port of this machine leads
         self.assertEqual(run.publish, ["127.0.0.1:%d:%d/%s" % (front.port, front.port, "tcp" if front.tcp else "sctp")])
         self.assertEqual(self.lines("EXPOSE"), [])
         [subscribers, log] = (volume.split(":") for volume in run.volume)
         self.assertEqual((subscribers[1:], log[1:]), ([front.subscribers, "ro"], self.lines("VOLUME")))
         self.assertEqual(str(pathlib.Path(front.log).parent), log[1])
-        [entry] = self.words("ENTRYPOINT")
+        entry, *_ = self.words("ENTRYPOINT")
         ends, seconds, *check = self.words("HEALTHCHECK")
         [limit] = re.findall(r"--timeout=(\d+)s", *self.lines("HEALTHCHECK"))
         self.assertEqual(ends, "timeout")
@@ -253,6 +320,7 @@ class Container(unittest.TestCase):
         run.add_argument("-p", "--publish", action="append")
         run.add_argument("-v", "--volume", action="append")
         run.add_argument("image")
+        run.add_argument("words", nargs=argparse.REMAINDER)
         within = commands.add_parser("exec", allow_abbrev=False)
         within.add_argument("name")
         within.add_argument("words", nargs=argparse.REMAINDER)
@@ -274,7 +342,9 @@ class Container(unittest.TestCase):
         def is_healthy(seconds=10):
             with contextlib.suppress(subprocess.TimeoutExpired):
                 check = self.within(root, self.words("HEALTHCHECK"))
-                return subprocess.run(check, stdout=subprocess.DEVNULL, timeout=seconds, check=False, **alone).returncode == 0
+                done = subprocess.run(check, stdout=subprocess.PIPE, timeout=seconds, check=False, **alone)
+                self.assertNotIn(IMSI.encode(), done.stdout)
+                return done.returncode == 0
             return False
 
         def is_healthy_without(process):
@@ -298,4 +368,4 @@ class Container(unittest.TestCase):
                 finally:
                     running.terminate()
             self.assertEqual((running.returncode, is_healthy()), (0, False))
-        self.assertEqual({path.name for path in (root / "var/lib/soizkadur").iterdir()}, {"trace", "trace.counts"})
+        self.assertEqual({path.name for path in (root / "var/lib/soizkadur").iterdir()}, LOG_FILES)

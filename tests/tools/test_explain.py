@@ -10,6 +10,7 @@ import re
 import subprocess
 import sys
 import tempfile
+import time
 import unittest
 
 import failures
@@ -19,6 +20,7 @@ EXPLAIN = tools.module("tools/explain")
 sys.path.insert(0, str(tools.TOP / "tools"))
 RUNS = importlib.import_module("runs")
 STORY = importlib.import_module("eps.story")
+MESSAGES = importlib.import_module("eps.messages")
 WORLD = importlib.import_module("eps.world")
 SKIPPING = importlib.import_module("eps.scripts")
 REASONS = importlib.import_module("eps.reasons")
@@ -31,6 +33,7 @@ del sys.path[0]
 
 PROGRAM = tools.TOP / "crates" / "mme" / "out" / "mme"
 SESSIONS, EVENTS = 4, 1000  # of random events, by each seed
+FOREIGN_GUTI = bytes.fromhex("f602f83900010212345678")  # of another network
 OTHER, NOBODYS = "001010000000008", "001010000000009"  # IMSIs without a `sub` line
 TURNED = 40  # bits of a message
 SCRIPTS = {**{path: path.with_suffix(".trace") for path in (tools.TOP / "examples").glob("*.script")},
@@ -52,6 +55,24 @@ def refused_as_nobodys(station):
     trace.owe("x0.1", station, failures.lte.downlink_nas(stranger, 1, b"\x07\x44\x08"))
     trace.owe("x0.1", station, failures.lte.release_command(stranger, 1, failures.lte.NORMAL_RELEASE))
     return ["# " + line for line in trace.answers]
+
+
+def reset_told(listed):
+    """What is told of two phones that attach at a station as eNB ids 1 and 2, a stranger who comes there as 3, and a RESET of a
+    part with this list, each item by its ids."""
+    lte, trace, station = failures.lte, failures.phones.Trace(), failures.phones.Station(0)
+    attached = [failures.phones.Phone(trace, slot, [failures.phones.Vector.made("reset %d" % slot)]) for slot in (0, 1)]
+    trace.provision(attached)
+    trace.set_up(station)
+    for phone in attached:
+        phone.attaches(station, phone.slot + 1)
+    request = lte.attach_request(1, FOREIGN_GUTI, attached[0].capability, lte.pdn_connectivity_request(1, 1, False))
+    trace.hear(station, lte.initial_ue_message(trace.network, station, 3, request))
+    trace.owe("x0.3", station, lte.downlink_nas((1 << 31) + 3, 3, bytes.fromhex("075501")))  # IDENTITY REQUEST for the IMSI
+    trace.set_back(station, *listed)
+    done = explained(trace.text(), trace.answer_text())
+    assert (done.returncode, done.stderr) == (0, b""), done
+    return done.stdout.decode().splitlines()
 
 
 def strays(trace, answers):
@@ -173,6 +194,32 @@ Nobody
             played = subprocess.run([PROGRAM, "play", path], capture_output=True, text=True, check=False, timeout=60)
             self.assertEqual((played.returncode, played.stdout.splitlines()), (0, made.answers))
 
+    def test_reset_of_a_part(self):
+        """What a RESET of a part did: the phones whose associations it lists, each once, and the ids that nobody there has."""
+        one, two = "IMSI 001010000000001", "IMSI 001010000000002"
+        nobody = ": no association of station 0 is meant by "
+        by_both = "resets 2 associations, of %s, %s" % (one, two)
+        for listed, told, gone in (
+                ([(1, None)], "resets 1 association, of " + one, [one]),
+                ([(None, 2)], "resets 1 association, of " + two, [two]),
+                ([(1, 1)], "resets 1 association, of " + one, [one]),
+                ([(1, None), (None, 1), (1, 1)], "resets 1 association, of " + one, [one]),
+                ([(1, None), (None, 2)], by_both, [one, two]),
+                ([(None, 3)], "resets 1 association, of a stranger with eNB id 3", []),
+                ([(7, None), (None, 9), (1, None)], "resets 1 association, of %s%sMME id 7, eNB id 9" % (one, nobody), [one]),
+                ([(1, 2), (None, None)], "resets nothing%sMME id 1 with eNB id 2, an item without ids" % nobody, []),
+                ([(7, None), (7, None), (8, None)], "resets nothing%sMME id 7, MME id 8" % nobody, [])):
+            with self.subTest(listed=listed):
+                lines = reset_told(listed)
+                [reset] = [line for line in lines if "RESET misc" in line]
+                clause = " (TS 36.413 clause 8.7.1.2.2)" if nobody in told else ""
+                self.assertEqual(reset.partition("RESET misc om-intervention ")[2], told + clause)
+                self.assertEqual(reset[0], "!" if clause else " ")
+                heads = [line for line in lines if line.startswith("IMSI")]
+                losses = [max(head for head in heads if lines.index(head) < at) for at, line in enumerate(lines)
+                          if "the phone loses its connection: station 0 reset the phone's association" in line]
+                self.assertEqual(losses, gone)
+
     def test_begun_anew(self):
         """A `cancel` below the front's comment is the front's, and nobody's who withdraws a subscription; so in a chart."""
         imsi, mark = "001010000000001", GIVING.ANEW + "\n"
@@ -208,6 +255,84 @@ Nobody
         for why in REASONS.Why:
             with self.subTest(why=why.name):
                 self.assertRegex(why.value.clause, r"^(TS (24|33|36)\.\d{3} clause (\d|\{clause\})|\{clause\}$|docs/SCRIPTS.md, Lines|README.md, A trace)")
+
+
+def attached_and_released(count):
+    """A trace of so many phones that attach and are released."""
+    trace, station = failures.phones.Trace(), failures.phones.Station(0)
+    made = [failures.phones.Phone(trace, slot, [failures.phones.Vector.made("%d" % slot)]) for slot in range(count)]
+    trace.provision(made)
+    trace.set_up(station)
+    for phone in made:
+        phone.attaches(station, phone.slot)
+        phone.is_released()
+    return trace
+
+
+def resets_of_nobody(count):
+    """A trace of so many phones that don't come, and as often a RESET of an association that nobody has."""
+    trace, station = failures.phones.Trace(), failures.phones.Station(0)
+    trace.provision([failures.phones.Phone(trace, slot, ()) for slot in range(count)])
+    trace.set_up(station)
+    for _ in range(count):
+        trace.set_back(station, (7, None))
+    return trace
+
+
+class Speed(unittest.TestCase):
+    def test_four_times_the_lines(self):
+        """They take some four times the time, and not sixteen times."""
+        for make, count in ((attached_and_released, 150), (resets_of_nobody, 1500)):
+            with self.subTest(trace=make.__name__):
+                times = []
+                for lines in (count, 4 * count):
+                    made = make(lines)
+                    trace, answers = RUNS.read_trace(made.text().encode()), RUNS.read_answers(made.answer_text().encode())
+                    times.append(min(self.seconds(trace, answers) for _ in range(3)))
+                self.assertLess(times[1], 7 * times[0])
+
+    def seconds(self, trace, answers):
+        """How long a run is told."""
+        begun = time.process_time()
+        run = STORY.exact_run(trace, answers)
+        self.assertIsNotNone(run)
+        "".join(EXPLAIN.text_of(EXPLAIN.entries_of(run.told), run.world, brief=True))
+        return time.process_time() - begun
+
+
+class Usual(unittest.TestCase):
+    def test_messages(self):
+        """A message that is spelled as usual is read as any other: those of the rows, and each with bits turned by a seed."""
+        rng, known = random.Random(74), set()
+        for _, trace, answers in runs_of_rows():
+            for each in trace.events + answers:
+                kind = each.octets and (each.octets[:2], len(each.octets))
+                if kind and kind not in known:
+                    known.add(kind)
+                    for octets in (each.octets, *(with_bit_turned(each.octets, rng) for _ in range(TURNED))):
+                        self.assertEqual(all_of(MESSAGES.decode(octets)), all_of(MESSAGES.decode_whole(octets)), octets.hex())
+        self.assertGreater(len(known), 100)
+
+
+def with_bit_turned(octets, rng):
+    place, turned = rng.randrange(8 * len(octets)), bytearray(octets)
+    turned[place // 8] ^= 128 >> place % 8
+    return bytes(turned)
+
+
+def all_of(message):
+    """A message with all that is told of it, numbers of enumerators and criticalities of items too."""
+    return (message.octets, message.code, message.outcome, message.criticality, message.fault, message.why,
+            [(element.id, element.criticality, element.octets, whole(element.value)) for element in message.elements])
+
+
+def whole(value):
+    """A value with what doesn't count where it is compared."""
+    if isinstance(value, dict):
+        return [(name, whole(inner)) for name, inner in value.items()]
+    if isinstance(value, list):
+        return [getattr(value, "as_written", None), *map(whole, value)]
+    return value, type(value), getattr(value, "number", None)
 
 
 class Expected(unittest.TestCase):

@@ -19,9 +19,13 @@ sys.path.insert(0, str(tools.TOP / "bench"))
 PHONES = tools.module("bench/phones.py")
 del sys.path[0]
 
-DOCUMENT = tools.TOP / "docs" / "LAB.md"
+DOCUMENT, QUESTIONS = (tools.TOP / "docs" / name for name in ("LAB.md", "QUESTIONS.md"))
 PLAY, SIM = "mme play $lab/lab.trace", "mme sim $lab/station.script"
 LIVE = re.compile("^## 8. A live station\n.*?(?=^## )", re.MULTILINE | re.DOTALL)
+ENDED = "### After it has ended\n"
+# Waits until the live station was sent so many messages: 5 and, where data came for the phone, its page.
+HAS_HEARD = "until [ $(cat $lab/station.got 2>/dev/null | wc -l) -ge %d ]; do sleep 0.1; done"
+ANSWER = "### the answer to question %d"  # between what the commands of docs/QUESTIONS.md print
 NAMES = "mkdir $lab/names"  # how the lines begin that give a clone's tools the package's names
 IMSI = "001010000000001"
 # The program in bash. For `sim` the run of a phone; for `play` the answers of that, then the states that the added `show` asks for,
@@ -66,6 +70,18 @@ def blocks(text):
     """The indented blocks of a text."""
     found = re.findall(r"(?:^    .*\n|^\n(?=    ))+", text, re.MULTILINE)
     return ["\n".join(line[4:] for line in block.strip("\n").split("\n")) for block in found]
+
+
+def answered(text):
+    """The commands of docs/QUESTIONS.md, each block with what is shown as printed by it, where `..` is left out."""
+    found = []
+    for lead, block in re.findall(r"(.*)\n\n((?:    .*\n|\n(?=    ))+)", text):
+        block = re.sub("(?m)^    ", "", block)
+        if lead == "prints":
+            found[-1][1] = block
+        else:
+            found.append([block, ""])
+    return found
 
 
 def without_names(found):
@@ -139,15 +155,32 @@ class Lab(unittest.TestCase):
             self.assertEqual((done.returncode, done.stderr), (0, ""))
             self.check_live(done.stdout, lab)
 
-    def live_blocks(self):
-        """The commands up to those of the live station, with shorter waits and other ports."""
+    def live_blocks(self, end="", more=()):
+        """The commands up to those of the live station, or up to this heading in its part, and more, with other ports; they wait
+        until the station has its answers."""
         text, port = DOCUMENT.read_text(encoding="utf-8"), str(free_port())
-        commands = "\0".join(blocks(text.partition("## 4.")[0]) + blocks(LIVE.search(text)[0]))
-        for before, after in (("--tcp", "--tcp --port " + port), ("36412", port), ("sleep 1", "sleep 0.3"), ("sleep 2", "sleep 1"),
-                              ("127.0.0.1:9101", "127.0.0.1:0")):
-            self.assertIn(before, commands)
+        live = LIVE.search(text)[0]
+        commands = "\0".join([*blocks(text.partition("## 4.")[0]), *blocks(live.partition(end)[0] if end else live), *more])
+        for before, after in (("--tcp", "--tcp --port " + port), ("36412", port), ("127.0.0.1:9101", "127.0.0.1:0"),
+                              ("sleep 2", HAS_HEARD % 5), ("sleep 1", HAS_HEARD % 6)):
+            self.assertIn(before, text)
             commands = commands.replace(before, after)
         return commands.split("\0")
+
+    @unittest.skipUnless(PROGRAM.exists(), "the program isn't built (./mme --prove)")
+    def test_questions(self):
+        """The commands of docs/QUESTIONS.md go on from those of the live station, and print what stands below them."""
+        asked = answered(QUESTIONS.read_text(encoding="utf-8"))
+        more = ["echo '%s'\n%s" % (ANSWER % place, command) for place, (command, _) in enumerate(asked)]
+        with tempfile.TemporaryDirectory() as folder:
+            commands = "\n".join(self.live_blocks(ENDED, more)).replace("lab=$(mktemp -d)", "lab=" + folder)
+            done = subprocess.run(["bash", "-euc", commands], cwd=tools.TOP, capture_output=True, timeout=240, check=False)
+        self.assertEqual((done.returncode, done.stderr.decode()), (0, ""))
+        _, *printed = re.split(ANSWER.replace("%d", r"\d+") + "\n", done.stdout.decode())
+        self.assertEqual(len(printed), len(asked))
+        for (command, shown), got in zip(asked, printed):
+            with self.subTest(command=command):
+                self.assertRegex(got.strip(), "^%s$" % ".*".join(map(re.escape, shown.strip().split(".."))))
 
     def check_live(self, printed, lab):
         """What the commands of the live station print and leave in their folder."""
@@ -156,8 +189,7 @@ class Lab(unittest.TestCase):
         self.assertEqual((lab / "station.got").read_text().splitlines(), owed)
         shown = ["state %s DEREGISTERED IDLE INACTIVE" % IMSI, "state %s REGISTERED IDLE ACTIVE" % IMSI]
         told = re.findall(r"^(?:state|taken|given \d).*", printed, re.MULTILINE)
-        again = shown[1:] + ["given 0 subscribers, 4 vectors"]
-        self.assertEqual(told, shown + ["taken"] + shown + again)
+        self.assertEqual(told, shown + ["given 0 subscribers, 4 vectors", "taken"] + shown + shown[1:])
         self.assertEqual(re.findall("^out .*? 0 (.*)", printed, re.MULTILINE), owed)
         self.assertIn("- PAGING -", printed)
 

@@ -128,7 +128,7 @@ class Pages(unittest.TestCase):
     def test_documents(self):
         """Each file of the repository that a packed document names is packed, or among those that README.md says are a clone's."""
         readme = (tools.TOP / "README.md").read_text()
-        told = re.findall("`([^`]+)`", re.search(r"The clone's alone are (.*?)\. ", readme)[1]) + ["CHANGELOG.md"]
+        told = re.findall("`([^`]+)`", re.search(r"Only a clone has (.*?)\. ", readme)[1]) + ["CHANGELOG.md"]
         for path in sorted(self.documents.rglob("*.md")):
             inside = path.relative_to(self.documents)
             for name in NAMED.findall(path.read_text()):

@@ -1,7 +1,10 @@
 """tools/show: each message of the rows and of examples/ is what tshark sees in it, and each cause has the name that tshark has."""
 import importlib
 import json
+import os
 import random
+import re
+import subprocess
 import unittest
 
 import dissection
@@ -11,6 +14,8 @@ from eps import messages, quick, render
 
 S1AP = importlib.import_module("s1ap")
 RUNS = importlib.import_module("runs")
+LTE = tools.module("bench/lte.py")
+PROGRAM = tools.TOP / "crates" / "mme" / "out" / "mme"
 FILLED = 4  # of a shape, and bits turned
 FILES = [path for kind in ("*.trace", "*.answers") for path in sorted(tools.ROWS.glob(kind))]
 FILES += sorted((tools.TOP / "examples").glob("*.trace"))
@@ -114,6 +119,80 @@ class Dissected(unittest.TestCase):
         for number, (name, _) in messages.ELEMENTS.items():
             with self.subTest(name=name):
                 self.assertEqual("id" + joined(ELEMENT_NAMES.get(name, name)), joined(names[number]))
+
+
+class Reset(unittest.TestCase):
+    """`--reset`, and the lines of docs/SCRIPTS.md, "RESET"."""
+    SECTION = (tools.TOP / "docs" / "SCRIPTS.md").read_text().partition("\n## RESET\n")[2].partition("\n## ")[0]
+    LINES = re.findall("^    (raw 0 [0-9a-f]+)$", SECTION, re.M)
+    COMMANDS = re.findall("^    tools/show (--reset .*)$", SECTION, re.M)
+    # The items of those lines, and the octets after `Reset Type`, put together by hand from X.691 and TS 36.413 clause 9.1.8.1.
+    ITEMS = [[], [(1, None)], [(None, 9)], [(1, 9)], [(1, None), (None, 9)]]
+    TYPES = ["00", "4000" "005b00024001", "4000" "005b00022009", "4000" "005b000460010009", "4001" "005b00024001" "005b00022009"]
+
+    @staticmethod
+    def printed(*words):
+        done = tools.ran("show", *words)
+        assert (done.returncode, done.stderr) == (0, b""), done
+        return done.stdout.decode().rstrip("\n")
+
+    def test_lines(self):
+        """The commands of the document print its lines, which are those made by hand."""
+        self.assertEqual([self.printed(*command.split()) for command in self.COMMANDS], self.LINES)
+        self.assertEqual([line.partition("005c00")[2][2:] for line in self.LINES], self.TYPES)
+        self.assertEqual(self.LINES, ["raw 0 " + reset_of(items).hex() for items in self.ITEMS])
+
+    def test_decoded(self):
+        """tools/show reads each as it was asked for."""
+        for line, items in zip(self.LINES, self.ITEMS, strict=True):
+            message = messages.decode(bytes.fromhex(line.split()[2]))
+            self.assertEqual((message.fault, message.name), (None, "RESET"))
+            self.assertEqual(S1AP.listed(S1AP.read(message.octets)), items or None)
+            self.assertTrue(messages.is_in_order(message))
+
+    @unittest.skipIf(dissection.IS_MISSING, "no tshark")
+    def test_dissected(self):
+        """tshark sees the same in them."""
+        sent_octets = [(bytes.fromhex(line.split()[2]), False) for line in self.LINES]
+        for (octets, _), layer in zip(sent_octets, dissection.dissected(sent_octets), strict=True):
+            self.assertEqual(dict(dissection.Ours(octets, False).found), dissection.fields_of(layer))
+
+    def test_ids(self):
+        """Ids of each size, and as many as a list has, are as the standards' formats have them."""
+        rng, edges = random.Random(14), [0, 1, 127, 128, 255, 256, 65535, 65536, (1 << 24) - 1]
+        made = [[(mme_id, None)] for mme_id in [*edges, 1 << 24, (1 << 32) - 1]] + [[(None, enb_id)] for enb_id in edges]
+        made += [[(rng.getrandbits(rng.randrange(33)), rng.choice(edges)) for _ in range(count)] for count in (2, 8, 9, 255, 256)]
+        for items in made:
+            words = [",".join(name % number for name, number in zip(("mme=%d", "enb=%d"), ids) if number is not None)
+                     for ids in items]
+            self.assertEqual(self.printed("--reset", "127", *words), "raw 127 " + reset_of(items).hex())
+
+    def test_faults(self):
+        for words, told in ((["128"], "'128' isn't a number from 0 to 127"), (["0", "1"], "'1' isn't mme=ID, enb=ID or mme="),
+                            (["0", "mme=1enb=2"], "isn't mme=ID"), (["0", ""], "isn't mme=ID"),
+                            (["0", "enb=1,mme=1"], "isn't mme=ID"), (["0", "enb=16777216"], "an eNB UE S1AP ID 16777215"),
+                            (["0", "mme=4294967296"], "is 4294967295 at"), (["0", *["mme=1"] * 257], "lists 256 associations at the most")):
+            done = tools.ran("show", "--reset", *words)
+            self.assertEqual((done.returncode, done.stdout), (2, b""))
+            self.assertIn(told, done.stderr.decode())
+
+    @unittest.skipIf(not PROGRAM.exists() and not os.environ.get("CI"), "the program isn't built")
+    def test_played(self):
+        """Played, each is acknowledged with its list, and leaves a registered phone idle (docs/TABLE.md, "RESET of a part")."""
+        script = (tools.TOP / "examples" / "attach_whole.script").read_text().rstrip("\n").replace(" 0 1\n", " 0 9\n")
+        listed = ["", *(kind[2:].replace("005b00", "005b40") for kind in self.TYPES[1:])]
+        for line, items in zip(self.LINES, listed, strict=True):
+            text = "%s\n%s\nshow 001010000000001\n" % (script, line)
+            done = subprocess.run([PROGRAM, "sim"], input=text, capture_output=True, text=True, timeout=60, check=True)
+            acknowledged, shown, state = done.stdout.splitlines()[-3:]
+            self.assertTrue(acknowledged.startswith("# out e0 0 200e00"), acknowledged)
+            self.assertTrue(acknowledged.endswith("005d40%02x%s" % (len(items) // 2, items) if items else "000000"), acknowledged)
+            self.assertEqual((shown, state), ("show 001010000000001", "# state 001010000000001 REGISTERED IDLE ACTIVE"))
+
+
+def reset_of(items):
+    """RESET of these associations, or of all, from the standards' formats."""
+    return LTE.reset(LTE.part_of_interface(*items) if items else LTE.WHOLE_INTERFACE)
 
 
 class Printed(unittest.TestCase):

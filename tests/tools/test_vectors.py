@@ -1,5 +1,6 @@
 """tools/vectors: AES by FIPS 197, HMAC by RFC 4231, Milenage by the six test sets of TS 35.207, KASME by the derivation
 written a second time in bench/lte.py."""
+import pathlib
 import tempfile
 import unittest
 
@@ -173,10 +174,116 @@ class Lines(unittest.TestCase):
             done = tools.ran("vectors", "@" + file.name, "--sqn", "000000000020", "--seed", "x")
         self.assertEqual(done.stdout.decode().splitlines(), lines("--sqn", "000000000020", "--seed", "x"))
 
+    def test_files_that_name_files(self):
+        """A file of words may name others, and one of them twice; none names itself, and there is an end to what they have."""
+        folder = self.enterContext(tempfile.TemporaryDirectory())
+
+        def named(name, text=None):
+            path = pathlib.Path(folder, name)
+            if text is not None:
+                path.write_text(text)
+            return "@%s" % path
+
+        seed = named("seed", "x")
+        given = named("given", "%s # the SIM\n--sqn 000000000020 --seed %s --amf 8000" % (named("sim", " ".join(SIM)), seed))
+        self.assertEqual(tools.ran("vectors", given).stdout.decode().splitlines(), lines("--sqn", "000000000020", "--seed", "x"))
+        chain = [named("%d" % place, named("%d" % (place + 1))) for place in range(9)]
+        wide = named("wide", " ".join([seed] * 500))
+        more = "have more than 65536 octets"
+        for word, told in ((named("itself", "# words\n" + named("itself")), "itself: a file of words that names itself"),
+                           (named("one", named("other", named("one"))), "one: a file of words that names itself"),
+                           (chain[0], "/8: a file of words within more than 7 others"), (named("long", "--seed x\n" * 8000), more),
+                           (named("fan", " ".join([wide] * 500)), more), ("@/dev/zero", "/dev/zero: files of words " + more)):
+            with self.subTest(told=told):
+                self.check_refused(word, told)
+
+    def check_refused(self, word, told):
+        done = tools.ran("vectors", word)
+        self.assertEqual((done.returncode, done.stdout), (2, b""))
+        self.assertTrue(done.stderr.decode().splitlines()[-1].startswith("vectors: error: "), done.stderr)
+        self.assertIn(told, done.stderr.decode())
+
     def test_separation_bit(self):
         done = tools.ran("vectors", *SIM, "--sqn", "000000000020", "--amf", "7fff")
         self.assertEqual(done.returncode, 0)
         self.assertIn(b"separation bit", done.stderr)
+
+
+class Lists(unittest.TestCase):
+    def setUp(self):
+        self.sets = [{name: value.hex() for name, value in given.items()} for given in test_sets()]
+        self.imsis = ["00101%010d" % number for number in range(1, 1 + len(self.sets))]
+
+    def printed(self, text, *words, status=0):
+        """What is printed for a list on standard input, and said of it."""
+        done = tools.ran("vectors", "--sims", "-", "--plmn", "001", "01", *words, given=text.encode())
+        self.assertEqual(done.returncode, status, done)
+        return done.stdout.decode(), done.stderr.decode()
+
+    def test_the_sets(self):
+        """The SIMs of all six sets, each from its own SQN: OPc, AUTN and the challenge's answer are those of the sets, by RAND."""
+        for given, imsi in zip(self.sets, self.imsis):
+            text = "# a set\n\n %s\t%s %s %s # its SQN\n" % (imsi, given["k"], given["opc"], given["sqn"])
+            out, said = self.printed(text, "--amf", "8000", "--seed", "x")
+            alone = tools.ran("vectors", "--imsi", imsi, "--plmn", "001", "01", "--k", given["k"], "--op", given["op"], "--sqn",
+                              given["sqn"], "--seed", "x " + imsi)
+            self.assertEqual((out, said), (alone.stdout.decode(), ""))
+            sqn, vector = out.splitlines()
+            self.assertEqual(sqn, "# SQN " + given["sqn"])
+            word, told, rand, autn, xres, _ = vector.split(" ")
+            functions = VECTORS.milenage(*(bytes.fromhex(each) for each in (given["k"], given["opc"], rand, given["sqn"], "8000")))
+            self.assertEqual((word, told, autn[12:], xres), ("vec", imsi, "8000" + functions.f1.hex(), functions.f2.hex()))
+
+    def test_in_order(self):
+        """A list of a file: its SIMs in their order, with the SQN of their line, else that of --sqn; the same as one by one."""
+        lines = ["%s %s %s" % (imsi, given["k"], given["opc"]) for given, imsi in zip(self.sets, self.imsis)]
+        lines[1] += " 0000000000FF"
+        with tempfile.NamedTemporaryFile("w") as file:
+            file.write("\n".join(lines))
+            file.flush()
+            words = ["--plmn", "001", "01", "--sqn", "000000000020", "--count", "2", "--seed", "lab"]
+            done = tools.ran("vectors", "--sims", file.name, *words)
+            self.assertEqual((done.returncode, done.stderr), (0, b""))
+            self.assertEqual(tools.ran("vectors", "--sims=" + file.name, *words).stdout, done.stdout)
+        printed = done.stdout.decode().splitlines()
+        self.assertEqual([line.split()[1] for line in printed if line[0] == "v"], [imsi for imsi in self.imsis for _ in range(2)])
+        wanted = ["000000000020", "000000000040"] + ["0000000000ff", "00000000011f"] + ["000000000020", "000000000040"] * 4
+        self.assertEqual([line.removeprefix("# SQN ") for line in printed if line[0] == "#"], wanted)
+        self.assertEqual(len({line.split()[2] for line in printed if line[0] == "v"}), 12)
+
+    def test_faults(self):
+        """Nothing is printed for a list with a fault, which is told with its line."""
+        good = "%s %s %s" % (self.imsis[0], self.sets[0]["k"], self.sets[0]["opc"])
+        other = good.replace(self.imsis[0], self.imsis[1])
+        sqn = ("--sqn", "000000000020")
+        for text, words, told in (
+                (good, (), "-: line 1: the SIM has no SQN, and there is no --sqn"),
+                ("%s 000000000020\n\n%s" % (good, other), (), "-: line 3: the SIM has no SQN, and there is no --sqn"),
+                ("# SIMs\n%s\n%s\n" % (good, good), sqn, "-: line 3: IMSI 001010000000001 stands in line 2 already"),
+                (good + "\n00101 1 2", sqn, "-: line 2: '00101' isn't 14 or 15 digits"),
+                (good + "\n" + other[:-1], sqn, "isn't 16 octets in hex, which are 32 digits: here are 31"),
+                (good + "\n" + other + " 20", sqn, "with its zeros, 20 is 000000000020"),
+                (good + "\n" + other + " ffffffffffe0", (*sqn, "--count", "2"), "-: line 2: the SQN after ffffffffffe0 has more"),
+                (good + "\n" + other + " 000000000020 x", sqn,
+                 "-: line 2: a SIM has the fields IMSI, K, OPc and perhaps SQN, and here are 5"),
+                (good + "\nx", sqn, "and here are 1"), ("# nobody\n", sqn, "-: there is no SIM in it"),
+                (good, (*sqn, "--imsi", self.imsis[0]), "--imsi isn't taken with --sims"),
+                (good, (*sqn, "--rand", "00" * 16), "--rand isn't taken with --sims"),
+                (good, (*sqn, "--op", "00" * 16), "--op isn't taken with --sims")):
+            with self.subTest(told=told):
+                out, said = self.printed(text, *words, status=2)
+                self.assertEqual(out, "")
+                self.assertIn(told, said.splitlines()[-1])
+        done = tools.ran("vectors", "--sims", "/nowhere", "--plmn", "001", "01")
+        self.assertEqual((done.returncode, done.stdout), (2, b""))
+        self.assertIn(b"/nowhere: No such file", done.stderr)
+
+    def test_separation_bit(self):
+        """It is warned of once."""
+        sims = [(imsi, given["k"], given["opc"], given["sqn"]) for given, imsi in zip(self.sets, self.imsis)]
+        text = "".join("%s %s %s %s\n" % sim for sim in sims)
+        _, said = self.printed(text, "--amf", "7fff")
+        self.assertEqual(said.count("separation bit"), 1)
 
 
 class Faults(unittest.TestCase):

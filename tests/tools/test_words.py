@@ -139,6 +139,7 @@ MISTAKES = {
     "an MME UE S1AP ID that was never given": lambda: on_id(NEVER_GIVEN),
     "an MME UE S1AP ID after the release": lambda: on_id(None, released=True),
     "another eNB UE S1AP ID than the connection's": lambda: on_id(None, 9),
+    "RESET of a part that lists ids of nobody": lambda: sends(lte.reset(lte.part_of_interface((NEVER_GIVEN, None)))),
     "PATH SWITCH REQUEST in the midst of an attach": switched_early,
     "PATH SWITCH REQUEST with an id that was a stranger's": of_a_stranger,
     "INITIAL CONTEXT SETUP FAILURE": not_set_up,

@@ -4,7 +4,8 @@ For test keys alone: plain Python keeps no secrets.
 """
 import functools
 import hashlib
-import hmac
+import operator
+import struct
 
 BLOCK = 16  # octets
 ROUNDS = 10
@@ -33,6 +34,8 @@ SBOX = substitution_box()
 COLUMNS = [(doubled(s), s, s, doubled(s) ^ s) for s in SBOX]
 # SubBytes and MixColumns of each row, as words (clause 5.1).
 TABLES = [[int.from_bytes(bytes(c[-row:] + c[:-row]), "big") for c in COLUMNS] for row in range(4)]
+STATE = struct.Struct(">4I")  # a state is column by column (clause 3.4)
+SHIFTED = operator.itemgetter(*((at + 4 * (at % 4)) % BLOCK for at in range(BLOCK)))  # where each octet comes from in ShiftRows
 
 
 def words(octets):
@@ -41,31 +44,29 @@ def words(octets):
 
 def round_keys(key):
     """The key schedule (clause 5.2): four words for each round and four before."""
-    made, constant = words(key), 1
-    while len(made) < 4 * (ROUNDS + 1):
-        word = made[-1]
-        if len(made) % 4 == 0:
-            word = (word << 8 | word >> 24) & 0xFFFFFFFF
-            word = int.from_bytes(word.to_bytes(4, "big").translate(SBOX), "big") ^ constant << 24
-            constant = doubled(constant)
-        made.append(made[-4] ^ word)
-    return [made[at:at + 4] for at in range(0, len(made), 4)]
+    (a, b, c, d), constant, made = words(key), 1, [words(key)]
+    for _ in range(ROUNDS):
+        a ^= (SBOX[d >> 16 & 255] ^ constant) << 24 | SBOX[d >> 8 & 255] << 16 | SBOX[d & 255] << 8 | SBOX[d >> 24]
+        b ^= a
+        c ^= b
+        d ^= c
+        made.append([a, b, c, d])
+        constant = doubled(constant)
+    return made
 
 
 def aes(keys, block):
     """AES-128 of a block, a whole number, under round keys."""
     t0, t1, t2, t3 = TABLES
-    a, b, c, d = ((block >> shift & 0xFFFFFFFF) ^ word for shift, word in zip((96, 64, 32, 0), keys[0]))
-    for k in keys[1:ROUNDS]:
-        a, b, c, d = (t0[a >> 24] ^ t1[b >> 16 & 255] ^ t2[c >> 8 & 255] ^ t3[d & 255] ^ k[0],
-                      t0[b >> 24] ^ t1[c >> 16 & 255] ^ t2[d >> 8 & 255] ^ t3[a & 255] ^ k[1],
-                      t0[c >> 24] ^ t1[d >> 16 & 255] ^ t2[a >> 8 & 255] ^ t3[b & 255] ^ k[2],
-                      t0[d >> 24] ^ t1[a >> 16 & 255] ^ t2[b >> 8 & 255] ^ t3[c & 255] ^ k[3])
-    out = 0
-    for (w, x, y, z), key in zip(((a, b, c, d), (b, c, d, a), (c, d, a, b), (d, a, b, c)), keys[ROUNDS]):
-        word = SBOX[w >> 24] << 24 | SBOX[x >> 16 & 255] << 16 | SBOX[y >> 8 & 255] << 8 | SBOX[z & 255]
-        out = out << 32 | word ^ key
-    return out
+    w, x, y, z = (word ^ key for word, key in zip(STATE.unpack(block.to_bytes(BLOCK, "big")), keys[0]))
+    for k0, k1, k2, k3 in keys[1:ROUNDS]:
+        a, b, c, d, e, f, g, h, i, j, k, l, m, n, o, p = STATE.pack(w, x, y, z)
+        w = t0[a] ^ t1[f] ^ t2[k] ^ t3[p] ^ k0
+        x = t0[e] ^ t1[j] ^ t2[o] ^ t3[d] ^ k1
+        y = t0[i] ^ t1[n] ^ t2[c] ^ t3[h] ^ k2
+        z = t0[m] ^ t1[b] ^ t2[g] ^ t3[l] ^ k3
+    last = SHIFTED(STATE.pack(w, x, y, z).translate(SBOX))
+    return int.from_bytes(bytes(last), "big") ^ int.from_bytes(STATE.pack(*keys[ROUNDS]), "big")
 
 
 class Cmac:
@@ -95,10 +96,16 @@ class Cmac:
         return self.of(count.to_bytes(4, "big") + bytes([direction << 2, 0, 0, 0]) + message)[:4]
 
 
+# HMAC (RFC 2104) of a key of 64 octets at the most: the octets that its pads make of each.
+HASHED = 64
+INNER, OUTER = (bytes(octet ^ pad for octet in range(256)) for pad in (0x36, 0x5C))
+
+
 def derived(key, code, *parameters):
     """The key derivation function (TS 33.401 annex A.1, TS 33.220 annex B.2)."""
     text = bytes([code]) + b"".join(parameter + len(parameter).to_bytes(2, "big") for parameter in parameters)
-    return hmac.new(key, text, hashlib.sha256).digest()
+    padded = key.ljust(HASHED, b"\0")
+    return hashlib.sha256(padded.translate(OUTER) + hashlib.sha256(padded.translate(INNER) + text).digest()).digest()
 
 
 @functools.lru_cache(4096)

@@ -1,12 +1,15 @@
 """Networks, identities and algorithms as S1AP and NAS write them, and as texts."""
+import functools
 import ipaddress
+
+import s1ap
 
 FILLER = "f"  # stands in the place of a digit that isn't there
 
 
 def halves(octets):
     """The half octets, the low one of each octet first."""
-    return "".join(text[1] + text[0] for text in map("{:02x}".format, octets))
+    return octets.translate(s1ap.SWAPPED).hex()
 
 
 def s1ap_plmn(octets):
@@ -42,7 +45,7 @@ def imsi_digits(octets):
 def address(bits, octets):
     """A transport layer address of N bits: IPv4, IPv6, or both (TS 36.414 clause 5.3)."""
     if bits == 32:
-        return str(ipaddress.IPv4Address(octets))
+        return "%d.%d.%d.%d" % tuple(octets)
     if bits == 128:
         return str(ipaddress.IPv6Address(octets))
     if bits == 160:
@@ -50,6 +53,7 @@ def address(bits, octets):
     return "%s (%d bits)" % (octets.hex(), bits)
 
 
+@functools.lru_cache(1 << 8)
 def algorithms(names, bits):
     """The names whose bits are set, of as many bits as there are names, the high bit first."""
     return " ".join(name for at, name in enumerate(names) if bits >> len(names) - 1 - at & 1) or "none"

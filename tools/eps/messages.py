@@ -4,13 +4,16 @@ What can be read after a fault is read too, so that it can be shown; only octets
 """
 import dataclasses
 import enum
+import functools
 
 import s1ap
+from eps import usual
 from eps.elements import ELEMENTS, MME_ID, NAS_PDU, SETUP_LIST, SOURCE_MME_ID
-from eps.per import Number, Reader, Unreadable, read_criticality, skip_additions
+from eps.per import CRITICALITIES, Number, Reader, Unreadable, read_criticality, skip_additions
 
 OUTCOMES = ("initiating", "successful", "unsuccessful")
 REJECT, IGNORE, NOTIFY = "reject", "ignore", "notify"
+LONGEST_KEPT = 64  # octets of an element whose value is kept
 PASSED_OVER = {75: "GUMMEI", 127: "CSG Id", 128: "CSG Id List"}  # elements that are skipped though they are marked reject
 
 
@@ -29,6 +32,14 @@ class Form:
 
     def ids(self):
         return [number for number, _ in self.elements]
+
+    @functools.cached_property
+    def known(self):
+        return frozenset(self.ids())
+
+    @functools.cached_property
+    def needed(self):
+        return self.known - self.optional
 
 
 def form(sender, criticality, text):
@@ -73,7 +84,7 @@ class Fault(enum.Enum):
     REPEATED_ELEMENT = "repeated element"
 
 
-@dataclasses.dataclass
+@dataclasses.dataclass(slots=True)
 class Element:
     """An element: `value` by its type, or None where it has none that is known; `octets` its open type."""
     id: int
@@ -87,7 +98,7 @@ class Element:
         return known[0] if known else PASSED_OVER.get(self.id, "element %d" % self.id)
 
 
-@dataclasses.dataclass
+@dataclasses.dataclass(slots=True)
 class Message:
     """A message of S1AP: what was read of it, and its first fault with words on it, or None."""
     octets: bytes
@@ -108,7 +119,10 @@ class Message:
 
     def get(self, number):
         """The value of the first element with this id, or None."""
-        return next((element.value for element in self.elements if element.id == number), None)
+        for element in self.elements:
+            if element.id == number:
+                return element.value
+        return None
 
     def mme_id(self):
         """The MME UE S1AP ID that the message names an association by, or None."""
@@ -128,6 +142,42 @@ class Message:
 
 def decode(octets):
     """The message that these octets are."""
+    return decode_usual(octets) or decode_whole(octets)
+
+
+def decode_usual(octets):
+    """The message that octets are which are spelled as usual and have no fault; else None. It reads what decode_whole does: what
+    stands in many messages once."""
+    found = s1ap.spans(octets)
+    form_of = found is not None and FORMS.get((octets[1], octets[0] >> 5))
+    if not form_of or not form_of.needed <= found.keys() <= form_of.known:
+        return None
+    try:
+        elements = []
+        for number, (start, end) in found.items():
+            inside, criticality = octets[start:end], octets[start - (2 if end - start < s1ap.SHORT else 3)] >> 6
+            elements.append(Element(number, CRITICALITIES[criticality], inside, value_of(number, inside)))
+    except Unreadable:
+        return None
+    return Message(octets, octets[1], octets[0] >> 5, CRITICALITIES[octets[2] >> 6], elements)
+
+
+def value_of(number, octets):
+    """The value of an element of the profile, by its id and its octets."""
+    reader = usual.READERS.get(number)
+    value = reader(octets) if reader else None
+    if value is not None:
+        return value
+    return kept_value_of(number, octets) if len(octets) <= LONGEST_KEPT else ELEMENTS[number][1].whole(octets)
+
+
+@functools.lru_cache(1 << 12)
+def kept_value_of(number, octets):
+    return ELEMENTS[number][1].whole(octets)
+
+
+def decode_whole(octets):
+    """The same, of any octets."""
     message = Message(octets)
     try:
         value = read_frame(message, Reader(octets))

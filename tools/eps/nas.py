@@ -4,11 +4,13 @@ What can be read after a fault is read too, so that it can be shown.
 """
 import dataclasses
 import enum
+import functools
 
 import s1ap
 from eps import nas_elements as forms
 from eps.nas_elements import Beyond, Refused, named
 
+KEPT = 1 << 8  # messages that aren't decoded again
 UP, DOWN = 0, 1  # directions, as a MAC takes them (TS 33.401 annex B.2.1)
 PLAIN_EMM = 0x07  # the first octet of a plain EMM message
 SERVICE_OCTETS = 4
@@ -43,7 +45,7 @@ class PastEnd(Exception):
     """An element ends after the octets."""
 
 
-@dataclasses.dataclass
+@dataclasses.dataclass(slots=True)
 class Plain:
     """A plain NAS message, or one without its protection: what was read of it, and its first fault with words on it, or None.
 
@@ -338,6 +340,7 @@ def octets_text(count):
     return "%d octet%s" % (count, "" if count == 1 else "s")
 
 
+@functools.lru_cache(KEPT)
 def decode_emm(octets, direction):
     """An EMM message, or octets that are read as one."""
     message = Plain(octets, is_esm=False)
@@ -358,6 +361,7 @@ def decode_emm(octets, direction):
     return message
 
 
+@functools.lru_cache(KEPT)
 def decode_esm(octets):
     """An ESM message, or octets that are read as one."""
     message = Plain(octets, is_esm=True)
@@ -381,7 +385,7 @@ def decode_plain(octets, direction):
     return decode_esm(octets) if octets and octets[0] & 0xF == s1ap.ESM else decode_emm(octets, direction)
 
 
-@dataclasses.dataclass
+@dataclasses.dataclass(slots=True)
 class Protected:
     """The protected form (TS 24.301 clause 9.1): header type, MAC, sequence number, and the message in it."""
     header: int

@@ -29,7 +29,7 @@ class Why(enum.Enum):
     UNKNOWN_PROCEDURE = Reason("the profile has no such procedure", S1AP + "10.3.4.1")
     MISSING_ELEMENT = Reason("an element is missing: {element}", S1AP + "10.3.5")
     REFUSED_ELEMENT = Reason("an element isn't of this message and is marked reject: {element}", S1AP + "10.3.4.2")
-    REPEATED_ELEMENT = Reason("an element stands twice: {element}", S1AP + "10.3.6")
+    REPEATED_ELEMENT = Reason("an element comes twice: {element}", S1AP + "10.3.6")
     NOT_SET_UP = Reason("station {station} isn't set up", SET_UP)
     OTHER_PLMN = Reason("the station broadcasts {broadcast}, and not the MME's network {network}", S1AP + "8.7.3.4")
     MME_MESSAGE = Reason("only an MME sends this message", S1AP + "10.4")
@@ -39,13 +39,14 @@ class Why(enum.Enum):
     ASSOCIATION_ENDED = Reason("MME id {mme_id} was of a connection that ended at line {line}: {how}", S1AP + "10.6")
     WRONG_PAIR = Reason("the pair isn't the connection's: MME id {mme_id} is of station {station} with eNB id {enb_id}",
                         S1AP + "10.6")
+    NOBODY_RESET = Reason("no association of station {station} is meant by {ids}", RESET)
     SWITCH_OF_STRANGER = Reason("MME id {mme_id} was given before the phone was known, and can't be switched", S1AP + "8.4.4.3")
-    SWITCH_UNREGISTERED = Reason("a path is switched of a registered phone alone, and this one is in {phase}", S1AP + "8.4.4.3")
+    SWITCH_UNREGISTERED = Reason("only a registered phone's path can be switched, and this one is in {phase}", S1AP + "8.4.4.3")
 
     # First messages.
     UNREADABLE_REQUEST = Reason("the request can't be read: {fault}", NAS + "7.5.1")
     UNREADABLE_ESM = Reason("the ESM message in it is no PDN CONNECTIVITY REQUEST that can be read", NAS + "7.5.1")
-    IPV6_ALONE = Reason("the phone asks for IPv6 alone, and its subscription has IPv4", NAS + "6.5.1.4")
+    IPV6_ALONE = Reason("the phone asks only for IPv6, and its subscription has IPv4", NAS + "6.5.1.4")
     NO_EIA2 = Reason("the phone doesn't have 128-EIA2, the only integrity algorithm here", KEYS + "7.2.4")
     NO_VECTOR = Reason("no vector is left: the phone was given {vectors}, and each challenge takes one", NAS + "5.4.2.2")
     FOREIGN_IDENTITY = Reason(

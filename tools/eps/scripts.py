@@ -11,6 +11,13 @@ SKIPPED = "## skipped"
 SILENT = ("station", "deaf")  # words that print nothing where they are done
 FIRST_WORDS = ("attach", "info", "foreign", "service", "tau", "switch")  # words that need a phone, and a station that is set up
 LYING = ("replay", "forge")
+PLAIN_WORDS = ("detach", "off", "idle", "deaf") + LYING  # words that have a phone alone
+# How many fields follow a word, and which of them is a station.
+COUNTS = runs.PROVISIONING | runs.EVENTS | {"raw": 2, "station": 3}
+COUNTS |= dict.fromkeys(FIRST_WORDS, 3) | dict.fromkeys(PLAIN_WORDS, 1)
+del COUNTS["in"]
+STATION_PLACES = {"station": 0, "raw": 0, "up": 0, "lost": 0} | dict.fromkeys(FIRST_WORDS, 1)
+MOST_ENB_ID = (1 << 24) - 1  # TS 36.413 clause 9.2.3.4
 FORGETS = {nas.ATTACH_REJECT, nas.TAU_REJECT, nas.SERVICE_REJECT, nas.AUTHENTICATION_REJECT, nas.DETACH_ACCEPT, nas.DETACH_REQUEST}
 
 
@@ -59,7 +66,7 @@ class Laboratory:
         """The reason that a line is skipped, with facts; or nothing where it can be done."""
         if word in ("station", "up"):
             return self.about_station(word, int(fields[0]))
-        if word not in FIRST_WORDS + LYING + ("detach", "off", "idle", "deaf"):
+        if word not in FIRST_WORDS + PLAIN_WORDS:
             return None
         phone = self.phones.get(fields[0])
         if phone is None:
@@ -174,8 +181,10 @@ class Laboratory:
                 self.reads(phone, render.Nas(message.nas(), True).plain)
 
     def switched(self, owner, place):
-        """A phone's connection has moved."""
-        phone = list(self.phones.values())[int(owner[1:])]
+        """A phone's connection has moved; where the output isn't that of the script, the owner may be none of its phones."""
+        phone = dict(zip(("s%d" % slot for slot in range(len(self.phones))), self.phones.values())).get(owner)
+        if phone is None:
+            return
         phone.pair = phone.place = place
         self.at[place] = phone
 
@@ -257,7 +266,8 @@ def is_of_phone(word, message):
     kind = message.code, message.outcome
     if kind not in STARTED.get(word, {(s1ap.INITIAL_UE, 0)}):
         return False
-    return word not in ASKED or nas.decode_emm(inside(message.nas()), nas.UP).type == ASKED[word]
+    carried = message.nas() or b""
+    return word not in ASKED or nas.decode_emm(inside(carried), nas.UP).type == ASKED[word]
 
 
 def inside(octets):
@@ -269,15 +279,29 @@ def skipped(script, output, told):
     """The lines of a script that were skipped; a fault where the output isn't that of this script."""
     laboratory = Laboratory()
     printed, found = Output(output, told, laboratory), []
-    for line, octets in enumerate(script.split(b"\n"), 1):
-        text = octets.decode("latin-1")
-        if not text or text.startswith("#"):
-            continue
-        word, *fields = text.split(" ")
-        skip = played(line, text, word, fields, laboratory, printed)
+
+    def read(line, text):
+        word, fields = fields_of(text)
+        skip = played(line, text.decode("latin-1"), word, fields, laboratory, printed)
         if skip:
             found.append(skip)
+
+    runs.lines_of(script, "the script", read)
     return found
+
+
+def fields_of(text):
+    """The word of a line and its fields, of which those are numbers that have to be."""
+    word, fields = runs.fields_of(text, COUNTS)
+    if word in STATION_PLACES:
+        runs.station_of(fields[STATION_PLACES[word]])
+    if word == "tick":
+        runs.number(fields[0], 1, runs.LONGEST_TICK)
+    elif word == "raw":
+        runs.octets_of(fields[1])
+    elif word in FIRST_WORDS:
+        runs.number(fields[2], 0, MOST_ENB_ID)
+    return word, fields
 
 
 def played(line, text, word, fields, laboratory, printed):
@@ -290,8 +314,8 @@ def played(line, text, word, fields, laboratory, printed):
         first = printed.next_of(lambda text, told: begins(word, fields, text, told, laboratory))
         reason = laboratory.why_not(word, fields)
         if first is None or (first == SKIPPED) != (reason is not None):
-            raise runs.Fault("the output isn't that of the script: line %d, %s, was %s" % (
-                line, text[:60], "not found" if first is None else "skipped" if first == SKIPPED else "done"))
+            raise runs.Fault("the output isn't that of the script: %s was %s" % (
+                text[:60], "not found" if first is None else "skipped" if first == SKIPPED else "done"))
         if reason:
             return Skip(line, text, *reason)
         laboratory.does(word, fields)

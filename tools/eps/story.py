@@ -14,7 +14,7 @@ from eps.world import World
 MOST_TOLD = 50000  # events of a run that is told where that isn't asked for
 
 
-@dataclasses.dataclass
+@dataclasses.dataclass(slots=True)
 class Answered:
     """An answer of the MME with its owner and second, and the message that is expected in its place; `fits` where it is that."""
     owner: str
@@ -31,7 +31,7 @@ class Answered:
         return answer.states if answer.word == "state" else message_name(answer.octets, True)
 
 
-@dataclasses.dataclass
+@dataclasses.dataclass(slots=True)
 class Told:
     """An event: what it was to each of its owners, what was sent for it, and how the MME did otherwise, by owner and in words."""
     event: runs.Event
@@ -44,6 +44,10 @@ class Told:
         """Who has a part in it, in order."""
         parts = [telling.owner for telling in self.tellings] + [each.owner for each in self.answered]
         return list(dict.fromkeys(parts + [owner for owner, _ in self.otherwise]))
+
+    def has_reason(self):
+        """Whether it is told why something did not do more, or that the MME did otherwise."""
+        return bool(self.otherwise) or any(telling.why for telling in self.tellings)
 
     def subject(self, telling):
         """What a telling is said of: a station's message by its innermost name, or what else the telling says."""

@@ -34,6 +34,9 @@ class Stranger:
     def is_waiting(self):
         return self.timer is not None
 
+    def is_closed(self):
+        return self.timer is None and self.holder is None
+
     def tell(self, now, role, why=None, dropped=False, lines=(), **facts):
         now.tell(self.owner, role, why, dropped, lines, **facts)
 

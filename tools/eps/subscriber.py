@@ -3,6 +3,7 @@
 Each event gives what the MME owes for it, and says what the event was and why it did not do more.
 """
 import enum
+import functools
 
 import s1ap
 from eps import context as security
@@ -52,8 +53,8 @@ TAKEN_WITHOUT_ANSWER = {
 class Subscriber:
     """What the network keeps of a subscriber, and what it does at each event."""
 
-    def __init__(self, network, profile, alarms):
-        self.network, self.profile, self.owner, self.alarms = network, profile, profile.owner, alarms
+    def __init__(self, network, profile, alarms, near):
+        self.network, self.profile, self.owner, self.alarms, self.near = network, profile, profile.owner, alarms, near
         self.phase, self.place, self.context = Phase.DEREGISTERED, None, None
         self.associations = self.tmsis = self.spent = 0
         self.tmsi = self.area = self.vector = None
@@ -65,6 +66,12 @@ class Subscriber:
         self.capability, self.combined, self.pdn_type, self.transaction, self.asks_information = b"\0\0", False, 1, 0, False
         self.from_idle = False
         self.how = "it hasn't attached yet"
+
+    def forget(self, most):
+        """Forgets which lines ended its associations and brought its counts, but for so many of the last."""
+        self.ended = dict(list(self.ended.items())[-most:])
+        if self.context:
+            self.context.accepted = dict(list(self.context.accepted.items())[-most:])
 
     # --- What everything is made of ---
 
@@ -104,6 +111,21 @@ class Subscriber:
 
     def key(self):
         return (1, self.profile.slot)
+
+    @property
+    def place(self):
+        """The association of its connection, or None."""
+        return self.connection
+
+    @place.setter
+    def place(self, place):
+        self.connection = place
+        if place:
+            self.near[place.station].add(self.profile.slot)
+
+    def is_near(self, station):
+        """Whether it is connected or paged at a station."""
+        return self.place is not None and self.place.station == station or station in self.pages
 
     def next_place(self, now):
         """An association of the phone's next id."""
@@ -625,6 +647,8 @@ class Subscriber:
             self.tell(now, "waits, and nothing is sent", Why.PAGED_ALREADY, dropped=True, subject=DATA)
             return
         self.pages = stations.broadcasting(self.area)
+        for station in self.pages:
+            self.near[station].add(self.profile.slot)
         if self.pages:
             self.tell(now, "waits, and the phone is paged", subject=DATA)
         else:
@@ -717,6 +741,7 @@ def capability_octets(message):
     return message.octets[at + 1:at + 1 + message.octets[at]]
 
 
+@functools.lru_cache(1 << 8)
 def replayed(capability):
     """The capability as SECURITY MODE COMMAND replays it (clause 9.9.3.36): EEA and EIA; of UMTS the third octet, and the fourth
     without its first bit."""
@@ -733,6 +758,7 @@ def shifted(prefix, octet):
     return identities.algorithms(identities.numbered(prefix, 1), octet << 1 & 0xFF)
 
 
+@functools.lru_cache(1 << 8)
 def nas_text_of(plmn):
     """A network as NAS writes what S1AP has."""
     mcc, mnc = plmn.split(" ")

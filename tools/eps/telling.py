@@ -8,7 +8,7 @@ from eps.elements import BOTH_IDS, CAUSE, ENB_ID, MME_ID, NAS_PDU, SETUP_LIST
 from eps.reasons import FORGERIES, REPLAYS, Mark, Why
 
 
-@dataclasses.dataclass
+@dataclasses.dataclass(slots=True)
 class Telling:
     """What something was to its owner: `role` in words, with the reason where it did not do what it seems to.
 
@@ -36,7 +36,7 @@ class Telling:
         return Mark.FORGED if self.why in FORGERIES else None
 
 
-@dataclasses.dataclass
+@dataclasses.dataclass(slots=True)
 class Said:
     """A NAS message that is expected: its type and its fields, and how it is protected, by header, vector's KASME and count."""
     type: int
@@ -48,7 +48,7 @@ class Said:
 
     def under(self, header, context):
         """The same, protected under the context's next downlink count."""
-        return dataclasses.replace(self, header=header, kasme=context.kasme, count=context.spend())
+        return Said(self.type, self.fields, self.is_esm, header, context.kasme, context.spend())
 
     def differences(self, octets):
         """How a NAS message isn't as expected, in words."""
@@ -76,8 +76,13 @@ class Said:
                 yield "the MAC is wrong for count %d" % self.count
 
 
+SETUP_NAME = messages.ELEMENTS[SETUP_LIST][0]
+
+
 def unlike(path, wanted, found):
     """How a value isn't the wanted one, in words."""
+    if wanted == found:
+        return
     if isinstance(wanted, Said) and isinstance(found, nas.Plain):
         if found.type != wanted.type or found.fault:
             yield "%s is %s" % (path, found.name)
@@ -85,7 +90,7 @@ def unlike(path, wanted, found):
     elif isinstance(wanted, dict) and isinstance(found, dict):
         for name in {**wanted, **found}:
             yield from unlike("%s %s" % (path, name), wanted.get(name), found.get(name))
-    elif wanted != found:
+    else:
         yield "%s is %s, not %s" % (path.strip(), shown(found), shown(wanted))
 
 
@@ -94,7 +99,7 @@ def shown(value):
     return "missing" if value is None else value.hex() if isinstance(value, bytes) else str(value)
 
 
-@dataclasses.dataclass
+@dataclasses.dataclass(slots=True)
 class Expected:
     """A message that the MME owes: whose it is, where it goes, what it is and holds, and what it is to the procedure.
 
@@ -140,8 +145,8 @@ class Expected:
         """How its elements aren't as expected; the NAS message by its content."""
         found = {element.name: element.value for element in message.elements if element.id != NAS_PDU}
         carried = message.nas()
-        for item in message.get(SETUP_LIST) or []:
-            item.pop("NAS-PDU", None)
+        if found.get(SETUP_NAME):
+            found[SETUP_NAME] = [{name: value for name, value in item.items() if name != "NAS-PDU"} for item in found[SETUP_NAME]]
         yield from unlike("", {messages.ELEMENTS[number][0]: value for number, value in self.values.items()}, found)
         if (carried is None) != (self.said is None):
             yield "it carries %s NAS message" % ("no" if carried is None else "a")
@@ -173,7 +178,7 @@ RADIO_UNSPECIFIED, UNKNOWN_ID, UNKNOWN_PAIR = (cause("radioNetwork " + name) for
 NOT_COMPATIBLE = cause("protocol message-not-compatible-with-receiver-state")
 
 
-@dataclasses.dataclass
+@dataclasses.dataclass(slots=True)
 class Now:
     """An event under way: its line, its second, the station and the message that was heard, and what comes of it."""
     line: int
@@ -215,7 +220,7 @@ class Now:
         self.send(owner, self.station, (s1ap.PATH_SWITCH, 2), values, "refuses the switch")
 
 
-@dataclasses.dataclass
+@dataclasses.dataclass(slots=True)
 class Place:
     """An association: its MME UE S1AP ID, its station and the eNB UE S1AP ID there, and the line that made it."""
     mme_id: int

@@ -58,6 +58,12 @@ class Alarms:
             self.known.add((second, key))
             heapq.heappush(self.heap, (second, key))
 
+    def renew(self, ends):
+        """Knows these ends, each a second and a key, and no others."""
+        self.heap, self.known = [], set()
+        for second, key in ends:
+            self.note(second, key)
+
     def due(self, until):
         """The first second with an end, not after this one, and the keys of the owners there, in their order; or None."""
         if not self.heap or self.heap[0][0] > until:

@@ -2,6 +2,7 @@
 
 It knows docs/TABLE.md and docs/PROFILE.md and not the MME. For each event it says what the MME owes and why.
 """
+import collections
 import enum
 
 import runs
@@ -10,7 +11,7 @@ from eps import messages, nas
 from eps.context import Spent
 from eps.elements import CAPACITY, CAUSE, GUMMEIS, RESET_LIST, RESET_TYPE, S_TMSI, SUPPORTED_TAS
 from eps.messages import Fault, Sender
-from eps.provisioned import FIRST_STRANGER, IDS_OF_A_SLOT, provisioned, stranger_of
+from eps.provisioned import FIRST_STRANGER, IDS_OF_A_SLOT, provisioned, stranger_of, take_line
 from eps.reasons import RESET, SCTP, SET_UP, Why
 from eps.stranger import Stranger, closed
 from eps.subscriber import Subscriber
@@ -65,9 +66,30 @@ class World:
     def __init__(self, head):
         self.network, profiles = provisioned(head)
         self.alarms, self.stations, self.strangers = Alarms(), Stations(), {}
-        self.subscribers = [Subscriber(self.network, profile, self.alarms) for profile in profiles]
+        # By station the slots that may be connected or paged there, and the eNB ids of strangers: one too many does no harm.
+        self.near, self.waiting = collections.defaultdict(set), collections.defaultdict(set)
+        self.subscribers = [Subscriber(self.network, profile, self.alarms, self.near) for profile in profiles]
         self.by_imsi = {each.profile.imsi: each for each in self.subscribers}
         self.second = 0
+
+    def lengthen(self, lines):
+        """The head has these further lines."""
+        profiles = {each.profile.imsi: each.profile for each in self.subscribers}
+        for line in lines:
+            word, *fields = line.decode("latin-1").split(" ")
+            take_line(profiles, word, fields)
+        for profile in list(profiles.values())[len(self.subscribers):]:
+            self.subscribers.append(Subscriber(self.network, profile, self.alarms, self.near))
+            self.by_imsi[profile.imsi] = self.subscribers[-1]
+
+    def forget(self, most):
+        """Forgets what it knows for reasons alone, but for the last of it, `most` of a subscriber: so a run may have no end."""
+        for subscriber in self.subscribers:
+            subscriber.forget(most)
+        self.strangers = {place: stranger for place, stranger in self.strangers.items() if not stranger.is_closed()}
+        timers = [(timer, each.key()) for each in self.subscribers for timer in (each.procedure, each.reachable)]
+        timers += [(each.timer, each.key()) for each in self.strangers.values()]
+        self.alarms.renew((timer.ends, key) for timer, key in timers if timer)
 
     # --- Events ---
 
@@ -75,7 +97,8 @@ class World:
         """What comes of an event: refusals or states as `refused K` or `state ..`, messages that are owed, and tellings."""
         now = Now(event.line, self.second, event.station)
         answer = getattr(self, "on_" + event.word)(now, event)
-        now.sent.sort(key=lambda expected: (expected.second, order_of(expected.owner)))
+        if len(now.sent) > 1:
+            now.sent.sort(key=lambda expected: (expected.second, order_of(expected.owner)))
         return answer, now.sent, now.tellings
 
     def on_up(self, now, event):
@@ -123,7 +146,8 @@ class World:
 
     def on_time(self, now, key):
         if key[0] == 0:
-            self.strangers[key[1:]].on_time(now)
+            if key[1:] in self.strangers:
+                self.strangers[key[1:]].on_time(now)
         else:
             subscriber = self.subscribers[key[1]]
             self.acting(now, subscriber, lambda: subscriber.on_time(now))
@@ -196,11 +220,22 @@ class World:
         """All connections and strangers of the station end."""
         for stranger in self.strangers_of(now.station):
             stranger.close()
-        for subscriber in self.subscribers:
+        for subscriber in self.subscribers_near(now.station):
             subscriber.on_station_gone(now, now.station, how, clause)
 
     def strangers_of(self, station):
-        return [stranger for (at, _), stranger in self.strangers.items() if at == station]
+        """The strangers of a station that aren't closed, in the order of their eNB ids."""
+        self.waiting[station] = {enb_id for enb_id in self.waiting[station] if self.is_open(station, enb_id)}
+        return [self.strangers[station, enb_id] for enb_id in sorted(self.waiting[station])]
+
+    def is_open(self, station, enb_id):
+        """Whether there is a stranger that isn't closed."""
+        return (station, enb_id) in self.strangers and not self.strangers[station, enb_id].is_closed()
+
+    def subscribers_near(self, station):
+        """The subscribers that are connected or paged at a station, in the order of their slots."""
+        self.near[station] = {slot for slot in self.near[station] if self.subscribers[slot].is_near(station)}
+        return [self.subscribers[slot] for slot in sorted(self.near[station])]
 
     def on_ready(self, now, kind):
         """A phone's message, or a RESET, of a station that is set up."""
@@ -216,19 +251,37 @@ class World:
         owner, items = station_owner(now), reset_type.get("part of S1 interface")
         if items is None:
             now.tell(owner, "resets the whole interface")
-            for stranger in self.strangers_of(now.station):
-                stranger.close()
-            for subscriber in self.subscribers:
-                subscriber.on_station_gone(now, now.station, "reset the interface", RESET)
+            self.station_gone(now, "reset the interface", RESET)
             now.send(owner, now.station, (s1ap.RESET, 1), {}, "acknowledges the reset")
             return
-        now.tell(owner, "resets %s" % runs.counted(len(items), "association"))
+        self.tell_part(now, owner, items)
         for stranger in self.strangers_of(now.station):
             if any(map(stranger.place.is_listed, items)):
                 stranger.close()
-        for subscriber in self.subscribers:
+        for subscriber in self.subscribers_near(now.station):
             subscriber.on_part_reset(now, items)
         now.send(owner, now.station, (s1ap.RESET, 1), {RESET_LIST: items}, "acknowledges the reset")
+
+    def tell_part(self, now, owner, items):
+        """Says whose associations a RESET's list means, each once however often it is listed, and which of its ids nobody has."""
+        meant = [(whose, place) for whose, place in self.associations_at(now.station) if any(map(place.is_listed, items))]
+        nobodys = dict.fromkeys(listed_text(ids) for ids in items if not any(place.is_listed(ids) for _, place in meant))
+        role = "resets nothing"
+        if meant:
+            role = "resets %s, of %s" % (runs.counted(len(meant), "association"), ", ".join(whose for whose, _ in meant))
+        if nobodys:
+            now.tell(owner, role, Why.NOBODY_RESET, station=now.station, ids=", ".join(nobodys))
+        else:
+            now.tell(owner, role)
+
+    def associations_at(self, station):
+        """Whose each association of a station is, in words, with its place."""
+        for subscriber in self.subscribers_near(station):
+            if subscriber.place and subscriber.place.station == station:
+                yield "IMSI " + subscriber.profile.imsi, subscriber.place
+        for stranger in self.strangers_of(station):
+            if stranger.is_waiting():
+                yield "a stranger with eNB id %d" % stranger.enb_id, stranger.place
 
     # --- Whose a message is ---
 
@@ -267,6 +320,7 @@ class World:
     def stranger(self, station, enb_id):
         if (station, enb_id) not in self.strangers:
             self.strangers[station, enb_id] = Stranger(station, enb_id, self.alarms)
+        self.waiting[station].add(enb_id)
         return self.strangers[station, enb_id]
 
     def on_ids(self, now, kind):
@@ -290,3 +344,9 @@ class World:
 
 def station_owner(now):
     return "e%d" % now.station
+
+
+def listed_text(ids):
+    """An item of a RESET's list in words."""
+    parts = (("MME id %d", ids.get("MME UE S1AP ID")), ("eNB id %d", ids.get("eNB UE S1AP ID")))
+    return " with ".join(words % number for words, number in parts if number is not None) or "an item without ids"

@@ -23,7 +23,7 @@ import children
 import explained
 import record
 import tried
-from words import Failed, say
+from words import BAD_WORDS, Failed, say
 
 KEPT = record.TOP / "crates" / record.NAME / "out" / "unproved"
 SMALL = HERE / "play.rt.txt"  # the program of `mme play` alone; that of `mme sim` is the same with other names
@@ -34,6 +34,7 @@ CRATE = "small"
 # What the program is given while it is taken from where it runs: it is to run for long.
 LONG_RUN = b"mme 001 01 8001 01 internet 1 1\nup 0\ntick 1000000\n"
 STEPS = {"clang": "compiling", "ld.lld": "linking"}
+NO_TOOLCHAIN = 'no toolchain here: use the package (README.md, "Install"), or put the toolchain\'s `rt` on the path'
 READ_FAILED, STATUS_READ = "mme: read failed", 3
 
 
@@ -123,10 +124,10 @@ def build(verb, target):
 
 def program_of(verb):
     """The unproved program of a verb, built where it isn't kept."""
+    if record.kit() is None:
+        raise Failed(NO_TOOLCHAIN, BAD_WORDS)
     target = KEPT / ("%s-%s" % (verb or "whole", digest(verb)[:32]))
     if not target.exists():
-        if record.kit() is None:
-            raise Failed("no proved program, and no toolchain on the path to build an unproved one")
         say("no proved program yet: this one is unproved, checked as it runs, and takes a minute or two to build; ./mme --prove "
             "proves it")
         children.catch_signals()

@@ -2,11 +2,21 @@
 from collections.abc import Callable
 
 from ..mme import Mme
-from . import phones
+from . import _s1ap, phones
 
 
 class Unexpected(AssertionError):
-    """The MME answered otherwise than the standards have it."""
+    """The MME answered otherwise than the standards have it; the text names what was owed and what came."""
+
+
+def _named(line: str) -> str:
+    """An event or an answer; if it is a message, with its name and that of the NAS message in it."""
+    word, *_, last = line.split(" ")
+    if word not in ("in", "out") or last == "-":
+        return line
+    message = _s1ap.read(bytes.fromhex(last))
+    nas = _s1ap.nas(_s1ap.carried(message))
+    return "%s%s: %s" % (_s1ap.name(message), " [%s]" % nas.name if nas else "", line)
 
 
 class Live(phones.Trace):
@@ -51,13 +61,13 @@ class Live(phones.Trace):
 
     def _fail(self, wanted: list[str]) -> None:
         told, self._told = self._told, wanted  # said once
-        line = self.lines[-1] if self.lines else "(no line)"
+        line = _named(self.lines[-1]) if self.lines else "(no line)"
         words = ["line %d: %s" % (len(self.lines), line), "the MME owes", *self._shown(wanted), "and answers", *self._shown(told)]
         raise Unexpected("\n".join(words + (["", self._chart(self.transcript())] if self._chart else [])))
 
     @staticmethod
     def _shown(answers: list[str]) -> list[str]:
-        return ["  " + answer for answer in answers] or ["  nothing"]
+        return ["  " + _named(answer) for answer in answers] or ["  nothing"]
 
     def __enter__(self):
         return self
