@@ -475,9 +475,10 @@ class Phone(phones.Phone):
             self.standing, self.waits = REGISTERED, None
 
     def is_updated(self, nas):
-        """TRACKING AREA UPDATE COMPLETE. An acceptance with the M-TMSI that it has already is one that comes again."""
+        """TRACKING AREA UPDATE COMPLETE. An acceptance with the M-TMSI that it has already is one that comes again: of what it asked
+        for last only where it left that unanswered."""
         tmsi = tmsi_of(nas, GUTI_OF_UPDATE)
-        if self.waits != UPDATE:
+        if self.waits != UPDATE or tmsi == self.tmsi and self.held != TAU_ACCEPT:
             return
         if tmsi != self.tmsi:
             self.is_accepted()

@@ -202,6 +202,28 @@ class Phone(unittest.TestCase):
             self.assertEqual(self.hears(lte.downlink_nas(1, self.phone.b, challenge)), 0)
         self.assertEqual([record.kind for record in self.phone.records], ["ATTACH REQUEST", "AUTHENTICATION FAILURE"])
 
+    def test_acceptance_that_comes_again(self):
+        """An acceptance of the update before isn't one of the next, which may not have come; one that was left unanswered is."""
+        phone, context, radio = self.phone, self.context, self.radio
+        radio.hear = lambda station, octets: None
+        radio.chance.random = lambda: 1.0
+        phone.key, phone.ksi, phone.up_count, phone.tmsi, phone.standing = context.key, 0, 6, 1, lives.REGISTERED
+        phone.station, phone.b, phone.m = radio.stations[0], 9, 1
+        first, second = (lte.tau_accept(radio.network, 1, tmsi, 0) for tmsi in (2, 3))
+        for before, accept in ((None, first), (first, second)):
+            phone.begins_update()
+            asked, accepted = phone.asked, context.accepted
+            if before is not None:
+                phone.is_updated(before)
+                self.assertEqual((phone.waits, context.accepted), (lives.UPDATE, accepted))
+            phone.is_updated(accept)
+            self.assertEqual((phone.waits, context.accepted), (None, asked))
+        radio.chance.random = lambda: 0.0
+        phone.begins_update()
+        for waits in (lives.UPDATE, None):
+            phone.is_updated(lte.tau_accept(radio.network, 1, 4, 0))
+            self.assertEqual((phone.waits, context.accepted), (waits, 10))
+
 
 class ByChance(unittest.TestCase):
     """SERVICE REQUESTs whose 16 bits of a MAC are right for two COUNTs, which a storm came upon."""
