@@ -123,6 +123,7 @@ EMM_WITH_CAUSE = {0x44, 0x4B, 0x4E, 0x5C, 0x5F, 0x60}
 ESM_WITH_CAUSE = {0xC3, 0xD1, 0xD3, 0xE8}
 
 EMM, ESM = 7, 2  # protocol discriminators (TS 24.007 clause 11.2.3.1.1)
+TYPE_PLACES = {EMM: 1, ESM: 2}  # where a plain message has its type, by its discriminator (TS 24.301 clause 9.1)
 PLAIN_HEADER, SERVICE_HEADER = 0, 12  # security header types (TS 24.301 clause 9.3.1)
 PROTECTED = 6  # octets before the message in a protected one (clause 9.1)
 IMSI_TYPE, GUTI_TYPE = 1, 6  # types of identity (clause 9.9.3.12)
@@ -256,16 +257,29 @@ def usual_bearer(octets):
     return inner, end if inner_end == len(item) else None
 
 
+def usual_pdu(octets):
+    """The NAS message in an element of its own and where it ends."""
+    return sized(octets, 0)
+
+
+WITH_A_NAS = {NAS_PDU: usual_pdu, SETUP_LIST: usual_bearer}  # the elements that one stands in
+
+
 def usual_nas(elements):
     """The NAS message in the elements of a message that is spelled as usual; None where there is none, or it isn't."""
-    try:
-        for number, read_one in ((NAS_PDU, lambda content: sized(content, 0)), (SETUP_LIST, usual_bearer)):
-            if number in elements:
-                nas_octets, end = read_one(elements[number])
-                return nas_octets if end == len(elements[number]) else None
-    except (IndexError, TypeError):
-        pass
+    for number in WITH_A_NAS:
+        if number in elements:
+            return usual_nas_of(number, elements[number])
     return None
+
+
+def usual_nas_of(number, content):
+    """The same of the element that it stands in."""
+    try:
+        nas_octets, end = WITH_A_NAS[number](content)
+        return nas_octets if end == len(content) else None
+    except (IndexError, TypeError):
+        return None
 
 
 def read(octets):
@@ -298,6 +312,25 @@ def read_from_left(octets):
     return Message(code, outcome, elements, None)
 
 
+def element(octets, wanted):
+    """The element with this id that `read` finds in a message, or nothing, without what comes after it."""
+    try:
+        at, end = sized_span(octets, 3)
+        if at is None or end > len(octets) or octets[0] >> 5 > UNSUCCESSFUL:
+            return read(octets).elements.get(wanted)
+        count, at = octets[at + 1] << 8 | octets[at + 2], at + 3
+        while count and at < end:
+            number, length, start = octets[at] << 8 | octets[at + 1], octets[at + 3], at + 4
+            if length >= SHORT:
+                return read(octets).elements.get(wanted)
+            count, at = count - 1, start + length
+            if number == wanted:
+                return octets[start:at] if at <= end else None
+    except IndexError:
+        pass
+    return None
+
+
 def name(message):
     """A message's name in the standard."""
     names = NAMES.get(message.code, ())
@@ -308,16 +341,15 @@ def name(message):
     return "S1AP procedure %d, outcome %d" % (message.code, message.outcome)
 
 
-def number_of(message, named):
+def number_in(content):
     """An id in its element of its own, or nothing."""
-    element = message.elements.get(named)
-    if element is None:
+    if content is None:
         return None
-    number = usual_number(element)
+    number = usual_number(content)
     if number is not None:
         return number
     try:
-        return Reader(element).sized_number(2)
+        return Reader(content).sized_number(2)
     except Unreadable:
         return None
 
@@ -326,7 +358,7 @@ def ids(message):
     """The MME UE S1AP ID and the eNB UE S1AP ID, each nothing where it isn't there."""
     if BOTH_IDS not in message.elements:
         named = SOURCE_MME_ID if message.code == PATH_SWITCH and message.outcome == INITIATING else MME_ID
-        return number_of(message, named), number_of(message, ENB_ID)
+        return number_in(message.elements.get(named)), number_in(message.elements.get(ENB_ID))
     pair = usual_pair(message.elements[BOTH_IDS]) if message.elements[BOTH_IDS] else None
     return pair or unusual_pair(message.elements[BOTH_IDS])
 
@@ -421,6 +453,25 @@ def carried(message):
     return None
 
 
+@functools.lru_cache(1 << 7)  # several look into the same message within moments
+def nas_in(octets):
+    """The same of a message that isn't read otherwise."""
+    for number in WITH_A_NAS:
+        content = element(octets, number)
+        if content is not None:
+            found = usual_nas_of(number, content)
+            return carried(Message(octets[1], octets[0] >> 5, {number: content}, None)) if found is None else found
+    return None
+
+
+def carries(octets, beginning):
+    """Whether a message carries a NAS message that begins so, plain or inside of its protection."""
+    if beginning not in octets:
+        return False
+    found = nas_in(octets)
+    return bool(found) and inside(found)[:len(beginning)] == beginning
+
+
 def carried_by_bearer(reader):
     """The NAS message of the first bearer to set up (TS 36.413 clause 9.1.4.1), where that one has no guaranteed rate."""
     reader.whole(1)
@@ -448,18 +499,27 @@ def nas(octets):
     """A NAS message: its security header, its type and its name; nothing where there is none."""
     if not octets:
         return None
-    header = octets[0] >> 4 if octets[0] & 0xF == EMM else PLAIN_HEADER
+    header = header_of(octets)
     if header >= SERVICE_HEADER:
         return Nas(header, SERVICE_REQUEST, octets, EMM_NAMES[SERVICE_REQUEST])
-    inside = octets[PROTECTED:] if header else octets
-    kind = type_of(inside)
-    return Nas(header, kind, inside, nas_name(inside, kind))
+    plain = inside(octets)
+    kind = type_of(plain)
+    return Nas(header, kind, plain, nas_name(plain, kind))
+
+
+def header_of(octets):
+    """The security header type of a NAS message."""
+    return octets[0] >> 4 if octets[0] & 0xF == EMM else PLAIN_HEADER
+
+
+def inside(octets):
+    """The message in a protected one; another one as it is."""
+    return octets[PROTECTED:] if PLAIN_HEADER < header_of(octets) < SERVICE_HEADER else octets
 
 
 def type_of(octets):
     """The type of a plain NAS message."""
-    domain = octets[0] & 0xF if octets else None
-    place = {EMM: 1, ESM: 2}.get(domain)
+    place = TYPE_PLACES.get(octets[0] & 0xF) if octets else None
     return octets[place] if place is not None and len(octets) > place else None
 
 
@@ -470,7 +530,7 @@ def nas_name(octets, kind):
     of_session = octets[0] & 0xF == ESM
     names, with_cause = (ESM_NAMES, ESM_WITH_CAUSE) if of_session else (EMM_TYPES, EMM_WITH_CAUSE)
     place = 3 if of_session else 2
-    text = names.get(kind, "%s type %02x" % ("ESM" if of_session else "EMM", kind))
+    text = names.get(kind) or "%s type %02x" % ("ESM" if of_session else "EMM", kind)
     return text + " cause %d" % octets[place] if kind in with_cause and len(octets) > place else text
 
 

@@ -17,6 +17,7 @@ from test_front_log import LTE, PHONES, Talk, give, whole
 
 sys.path.insert(0, str(tools.TOP / "tools"))
 import runs
+import s1ap
 from fronting import associations, challenges, journal, locking, provisioning, resuming, segments, used
 from fronting.faults import Failed
 del sys.path[0]
@@ -450,6 +451,24 @@ class OfNobody(unittest.TestCase):
         self.assertFalse(made.is_reset_of_nobody(part((None, 9))[:-1], 1))
         made.note(self.initial(10)[:9])
         self.assertFalse(made.is_reset_of_nobody(part((None, 9)), 1))
+
+    def with_both_ids(self, octets, mme_id, enb_id):
+        """A station's message with an element more, by which no message of a station names an association: an MME ignores it."""
+        message = s1ap.read(octets)
+        elements = [*message.elements.items(), LTE.pair(mme_id, enb_id)]
+        made = LTE.s1ap(message.outcome, message.code, LTE.REJECT, *((LTE.IGNORE, element) for element in elements))
+        self.assertEqual(s1ap.ids(s1ap.read(made)), (mme_id, enb_id))
+        return made
+
+    def test_both_ids(self):
+        """An association has the id of the element that is for it, whatever else a station puts beside that."""
+        made = associations.Associations()
+        made.note(self.with_both_ids(self.initial(7), 1, 9))
+        for number, is_nobodys in ((7, False), (9, True)):
+            self.assertEqual(made.is_reset_of_nobody(LTE.reset(LTE.part_of_interface((None, number))), 1), is_nobodys)
+        uplink = LTE.uplink_nas(self.network, self.station, 1, 7, b"\x07\x60\x61")
+        self.assertFalse(made.is_nobodys(self.with_both_ids(uplink, 1, 9)))
+        self.assertTrue(made.is_nobodys(self.with_both_ids(LTE.uplink_nas(self.network, self.station, 1, 8, b""), 1, 7)))
 
     def test_counting(self):
         """RESET ACKNOWLEDGE says that nothing changed where each RESET of the station is of nobody; else those count that are of

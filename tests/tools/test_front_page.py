@@ -302,7 +302,8 @@ def counted(messages):
     meters = Meters()
     for when, station, octets in messages:
         meters.now = when
-        meters.count_in(station, octets)
+        meters.count_in([octets])
+        meters.keep_in(station, [octets])
     history = History(meters, lambda: [IMSI])
     while history.read_on(meters.messages):
         pass
@@ -367,9 +368,11 @@ class Names(unittest.TestCase):
         for line in lines:
             word, *fields = line.split(" ")
             if word == "in":
-                meters.count_in(int(fields[0]), bytes.fromhex(fields[1]))
+                meters.count_in([bytes.fromhex(fields[1])])
+                meters.keep_in(int(fields[0]), [bytes.fromhex(fields[1])])
             else:
-                meters.count_out(int(fields[1]), bytes.fromhex(fields[2]), fields[0].encode())
+                meters.count_out([bytes.fromhex(fields[2])])
+                meters.keep_out([(int(fields[1]), True, bytes.fromhex(fields[2]), fields[0].encode())])
         history = History(meters, lambda: imsis)
         while history.read_on(meters.messages):
             pass
@@ -409,7 +412,8 @@ class Names(unittest.TestCase):
         meters = Meters()
         history = History(meters, lambda: [], 100)
         for _ in range(3 * RECENT):
-            meters.count_in(0, SETUP)
+            meters.count_in([SETUP])
+            meters.keep_in(0, [SETUP])
         pieces = 1
         while history.read_on(meters.messages):
             pieces += 1

@@ -20,7 +20,7 @@ sys.path.insert(0, str(tools.TOP / "bench"))
 LTE = tools.module("bench/lte.py")
 PHONES = tools.module("bench/phones.py")
 import runs as RUNS
-from fronting import giving, journal, limits, links, provisioning, resuming, sctp, segments
+from fronting import crowd, giving, journal, limits, links, provisioning, resuming, sctp, segments, stations
 from fronting.faults import Failed
 from fronting.loop import Loop
 from fronting.meters import Meters
@@ -33,6 +33,8 @@ import soizkadur
 del sys.path[0]
 
 SETUP = bytes.fromhex("201100170000020069000b000000f11000008001000100574001ff")  # S1 SETUP RESPONSE
+SETUP_REQUEST = LTE.s1_setup_request(PHONES.Network(), PHONES.Station(0))
+UPLINK = LTE.uplink_nas(PHONES.Network(), PHONES.Station(0), 0x10001, 7, b"\x07\x60\x61")
 ERROR = bytes.fromhex("000f40070000010002400110")  # ERROR INDICATION with a cause (TS 36.413 clause 9.1.8.3)
 
 
@@ -279,6 +281,30 @@ class Segments(unittest.TestCase):
                 series.close()
 
 
+class Speaking(unittest.TestCase):
+    def test_turns(self):
+        """A message of each station comes after one of each other, each station's in their order, and each is noted as its own."""
+        batch, meters = journal.Batch(), Meters()
+        settings = types.SimpleNamespace(rate=1, per_address=1, allow=(), setup_seconds=1)
+        heard = []
+        attaches = types.SimpleNamespace(hear=lambda station, octets, line: heard.append((station, octets, line)))
+        made = crowd.Crowd(None, types.SimpleNamespace(batch=batch, imsis=[]), None, meters, attaches, settings)
+        said = {5: [b"\xff\1", UPLINK, b"\xff\3"], 0: [b""], 127: [SETUP_REQUEST, b"\xff\2"]}
+        spoken = []
+        for number, messages in said.items():
+            spoken.append((stations.Station(None, "", 0, 1, 0.0), messages))
+            spoken[-1][0].number = number
+        made.hear(spoken)
+        wanted = [(5, "ff01"), (0, "-"), (127, SETUP_REQUEST.hex()), (5, UPLINK.hex()), (127, "ff02"), (5, "ff03")]
+        self.assertEqual(batch.lines, ["in %d %s" % one for one in wanted])
+        self.assertEqual((batch.owners, batch.heard), ([number for number, _ in wanted], {5: 3, 0: 1, 127: 2}))
+        self.assertEqual(batch.octets, sum(map(len, batch.lines)))
+        self.assertEqual([station.request for station, _ in spoken], [None, None, SETUP_REQUEST])
+        self.assertEqual(heard, [(5, UPLINK, "in 5 " + UPLINK.hex())])
+        self.assertEqual(meters.inward, {b"": 4, UPLINK[:2]: 1, SETUP_REQUEST[:2]: 1})
+        self.assertEqual([(row[1], row[4]) for row in meters.recent], [(5, 1), (5, 2), (5, 3), (0, 1), (127, 1), (127, 2)])
+
+
 class Counting(unittest.TestCase):
     def batch(self, *items):
         made = journal.Batch()
@@ -473,9 +499,9 @@ class Counts(unittest.TestCase):
         for line in row.splitlines():
             words = line.removeprefix("# ").split(" ")
             if words[0] == "in":
-                meters.count_in(int(words[1]), bytes.fromhex(words[2]))
+                meters.count_in([bytes.fromhex(words[2])])
             elif words[0] == "out" and line.startswith("# out"):
-                meters.count_out(int(words[2]), bytes.fromhex(words[3]))
+                meters.count_out([bytes.fromhex(words[3])])
         self.assertEqual(meters.attaches, {"requested": 1, "accepted": 1})
         self.assertEqual(meters.inward[b"\0\x0c"], 1)
 
@@ -483,7 +509,7 @@ class Counts(unittest.TestCase):
         """What is no S1AP has one name, however much of it there is."""
         meters = Meters()
         for first, second in itertools.product(range(0, 256, 5), repeat=2):
-            meters.count_in(0, bytes([first, second]))
+            meters.count_in([bytes([first, second])])
         self.assertLess(len(meters.inward), 60)
 
     def test_times(self):

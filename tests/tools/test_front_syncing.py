@@ -12,12 +12,13 @@ import tools
 from fronted import HEAD, IMSI, REMEMBERED, Running, said
 
 sys.path.insert(0, str(tools.TOP / "tools"))
-from fronting import exchange, journal, limits, provisioning, resuming, segments, syncing
+from fronting import exchange, journal, limits, provisioning, resuming, segments, syncing, used
 from fronting.faults import LOG_FAILS, Failed
 from fronting.loop import Loop
 from fronting.meters import Meters
 del sys.path[0]
 
+LTE = tools.module("bench/lte.py")
 DOWN, OTHER_DOWN = b"out s0 0 000b01\n", b"out s0 0 000b02\n"
 MARK = b"refused 5\n"
 FAULT = OSError(errno.EIO, os.strerror(errno.EIO))
@@ -378,6 +379,78 @@ class Beside(Turns):
         self.exchange.hear(OTHER_DOWN + MARK)
         self.exchange.end_log()
         self.assertEqual((self.sent, self.disk.jobs, self.exchange.is_syncing), ([], [], False))
+
+
+class Challenges(Turns):
+    """Of answers that come together, some challenge phones."""
+
+    syncer, full_disk = None, exchange.GO_ON
+
+    def setUp(self):
+        super().setUp()
+        self.journal.beside.clear()
+        self.vectors = used.UsedVectors(self.log + used.LOG_END)
+        self.addCleanup(self.vectors.close)
+        self.exchange.used, self.exchange.imsis = self.vectors, [IMSI]
+        self.journal.beside.append(self.vectors)
+
+    def challenge(self, number):
+        return LTE.downlink_nas(0x10001, 7, b"\x07\x52\x00" + bytes([number]) * 16 + b"\x10" + bytes(16))
+
+    def answers(self):
+        """What the MME answers at once, in the form of its lines; the first challenge is a repeated one."""
+        self.vectors.add(["vec %s %s - - -" % (IMSI, "01" * 16)])
+        challenges = [b"out s0 0 %s\n" % self.challenge(number).hex().encode() for number in (1, 2, 3)]
+        return b"".join((DOWN, challenges[0], OTHER_DOWN, challenges[1], DOWN, challenges[2], OTHER_DOWN, MARK))
+
+    def test_order(self):
+        """Those before the first of a new vector go out without it; the others once all the vectors are written, in their order."""
+        self.turn()
+        told, answers = [], self.answers()
+        self.exchange.note_challenge = lambda slot, rand: told.append((slot, rand[0]))
+        with unittest.mock.patch.object(self.exchange, "write_beside"):
+            self.exchange.hear(answers)
+        self.assertEqual(self.sent, [b"\0\x0b\1", self.challenge(1), b"\0\x0b\2"])
+        self.exchange.write_beside()
+        self.assertEqual(self.sent[3:], [self.challenge(2), b"\0\x0b\1", self.challenge(3), b"\0\x0b\2"])
+        self.assertEqual(told, [(0, 1), (0, 2), (0, 3)])
+        lines = pathlib.Path(self.vectors.path).read_text().split()
+        self.assertEqual(lines, [word for number in "123" for word in (IMSI, ("0" + number) * 16)])
+
+    def test_not_written(self):
+        """Where the vectors can't be written and the front goes on, their challenges go to nobody, and all else goes out."""
+        self.turn()
+        answers = self.answers()
+        with unittest.mock.patch.object(used, "add_whole", side_effect=FAULT):
+            self.exchange.hear(answers)
+        self.assertEqual(self.sent, [b"\0\x0b\1", self.challenge(1), b"\0\x0b\2", b"\0\x0b\1", b"\0\x0b\2"])
+        self.assertEqual(self.told, ["no_log", "no_challenge"])
+
+    def test_nobodys(self):
+        """A challenge for a phone that there isn't ends the front; what the MME answered before went out."""
+        self.turn()
+        with self.assertRaisesRegex(Failed, "for nobody: s1"):
+            self.exchange.hear(DOWN + b"out s1 0 %s\n" % self.challenge(2).hex().encode())
+        self.assertEqual(self.sent, [b"\0\x0b\1"])
+
+    def test_no_answer(self):
+        """So does a line that is none; what came before it goes out."""
+        for line in (b"out s0 0\n", b"out s0 128 00\n", b"out s 0 00\n", b"out q0 0 00\n", b"out s0 0 0g\n", b"out s0 0 00 00\n"):
+            with self.subTest(line=line):
+                self.turn()
+                with self.assertRaisesRegex(Failed, "the MME's answer is none: " + line.decode().strip()):
+                    self.exchange.hear(DOWN + line + OTHER_DOWN)
+                self.assertEqual(self.sent, [b"\0\x0b\1"])
+                self.sent.clear()
+
+    def test_without_a_page(self):
+        """What nobody looks at isn't kept; it is counted as where it is."""
+        for keeps in (True, False):
+            self.exchange.meters = Meters(keeps)
+            self.turn()
+            self.exchange.hear(DOWN + OTHER_DOWN + MARK)
+            self.assertEqual(sum(self.exchange.meters.outward.values()), 2)
+            self.assertEqual((len(self.exchange.meters.recent), len(self.exchange.meters.places)), (2, 1) if keeps else (0, 0))
 
 
 class Unsynced(Turns):

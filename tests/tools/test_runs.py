@@ -334,6 +334,24 @@ class Names(unittest.TestCase):
                 message = S1AP.read(bytes.fromhex(text))
                 self.assertEqual((S1AP.name(message), S1AP.listed(message), message.fault), (name, listed, None))
 
+    def test_elements(self):
+        """An element, and the NAS message, looked for alone are those of the whole message: of the rows, and of each with octets
+        turned, cut and added by a seed."""
+        chance = random.Random(84)
+        ids = S1AP.MME_ID, S1AP.CAUSE, S1AP.ENB_ID, S1AP.NAS_PDU, S1AP.SETUP_LIST, S1AP.BOTH_IDS, S1AP.RESET_TYPE, 1 << 8
+        whole = {event.octets for name in tools.playable() for event in row(name)[0].events if event.octets}
+        for octets in sorted(octets for octets in whole if len(octets) < 500):
+            for turns in (0, *[1, 2] * 10):
+                made = bytearray(octets)
+                for _ in range(turns):
+                    made[chance.randrange(min(len(made), chance.choice((9, 30, 500))))] ^= 1 << chance.randrange(8)
+                end = chance.choice((len(made), len(made), chance.randrange(len(made) + 1)))
+                made = bytes(made[:end] + bytes(chance.choice((0, 0, 1))))
+                message, said = S1AP.read(made), made.hex()
+                for number in ids:
+                    self.assertEqual(S1AP.element(made, number), message.elements.get(number), said)
+                self.assertEqual(S1AP.nas_in(made), S1AP.carried(message), said)
+
     def test_octets_of_any_kind(self):
         """Whatever the octets, reading ends and names something."""
         for name in tools.playable():

@@ -28,7 +28,7 @@ class Associations:
 
     def note(self, octets):
         """A message that may begin an association."""
-        enb_id = s1ap.ids(s1ap.read(octets))[1]
+        enb_id = s1ap.number_in(s1ap.element(octets, s1ap.ENB_ID))
         self.is_known = self.is_known and enb_id is not None and len(self.enb_ids) < MOST
         if self.is_known:
             self.enb_ids.add(enb_id)
@@ -42,9 +42,10 @@ class Associations:
         return items is not None and not any(self.may_mean_somebody(*item, slots) for item in items)
 
     def is_nobodys(self, octets):
-        """Whether a message that begins no association has an eNB UE S1AP ID under which there is none."""
+        """Whether a message that begins no association has an eNB UE S1AP ID under which there is none. That of both ids in one
+        element doesn't count: no message of a station names an association so."""
         message = s1ap.read(octets)
-        enb_id = s1ap.ids(message)[1]
+        enb_id = s1ap.number_in(message.elements.get(s1ap.ENB_ID))
         return (self.is_known and octets[1:2] not in BEGIN_ONE and not message.fault and enb_id is not None
                 and enb_id not in self.enb_ids)
 

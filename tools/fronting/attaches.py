@@ -16,11 +16,7 @@ REGISTERED = "REGISTERED "  # how the states of such a phone begin
 
 def id_with(octets, beginning):
     """The MME UE S1AP ID of a message with a NAS message of a type; None where it isn't one."""
-    if beginning not in octets:
-        return None
-    message = s1ap.read(octets)
-    nas = s1ap.nas(s1ap.carried(message))
-    return s1ap.ids(message)[0] if nas is not None and nas.octets[:2] == beginning else None
+    return s1ap.number_in(s1ap.element(octets, s1ap.MME_ID)) if s1ap.carries(octets, beginning) else None
 
 
 class Attaches:

@@ -11,7 +11,7 @@ def challenged(octets):
     """The RAND of the AUTHENTICATION REQUEST in a message; None where there is none."""
     if octets[:2] != DOWNLINK or AUTHENTICATION_REQUEST not in octets:
         return None
-    nas = s1ap.carried(s1ap.read(octets))
+    nas = s1ap.nas_in(octets)
     if nas is None or nas[:2] != AUTHENTICATION_REQUEST or len(nas) < RAND_AT + RAND_OCTETS:
         return None
     return nas[RAND_AT:RAND_AT + RAND_OCTETS]

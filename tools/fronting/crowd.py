@@ -2,6 +2,7 @@
 import collections
 import functools
 import ipaddress
+import itertools
 import re
 import select
 import time
@@ -11,14 +12,15 @@ import runs
 from fronting import limits
 from fronting.associations import BEGIN_ONE, ERRORS, RESETS, is_silent
 from fronting.faults import told
-from fronting.meters import SETUP_REQUEST
+from fronting.meters import SETUP_REQUEST, UPLINK
 from fronting.pace import Pace
-from fronting.stations import Station, heard
+from fronting.stations import Station, heard, heard_plain
 
 EVENTS = select.EPOLLIN | select.EPOLLOUT | select.EPOLLRDHUP | select.EPOLLET
 ENDING = select.EPOLLRDHUP | select.EPOLLHUP | select.EPOLLERR
 GONE = select.EPOLLIN | ENDING
 OF_ASSOCIATIONS = {RESETS, ERRORS, *BEGIN_ONE}
+LOOKED_AT = OF_ASSOCIATIONS | {UPLINK[1:], SETUP_REQUEST[1:]}  # the second octets of messages of which more is noted
 
 
 def host_of(text):
@@ -136,24 +138,48 @@ class Crowd:
             due.append((station, allowed)) if allowed else paced.append(station)
         parts = len(due) or 1
         share, octets = max(1, limits.TURN_MESSAGES // parts), limits.TURN_OCTETS // parts
-        self.put_in_turn([(station.number, self.lines_of(station, min(share, allowed), octets, now)) for station, allowed in due])
+        said = [(station, station.take(min(share, allowed), octets, now)) for station, allowed in due]
+        self.hear([(station, messages) for station, messages in said if messages])
         goes_on = [self.settle(station) for station, _ in due]
         self.wake_for(paced, now)
         return any(goes and station.allows(now) for goes, (station, _) in zip(goes_on, due))
 
-    def lines_of(self, station, most, most_octets, now):
-        """What a station says in its turn, as lines of the log."""
-        number, count, hear, found = station.number, self.meters.count_in, self.attaches.hear, []
-        self.exchange.batch.note_station(number, station.associations)
-        for octets in station.take(most, most_octets, now):
-            count(number, octets)
-            found.append(heard(number, octets))
-            if octets[:2] == SETUP_REQUEST:
-                station.request = octets
-            elif octets[1:2] in OF_ASSOCIATIONS:
-                self.note_associations(station, octets, found[-1])
-            hear(number, octets, found[-1])
-        return found
+    def hear(self, said):
+        """Stations said something in their turns: puts a message of each after one of each other."""
+        batch = self.exchange.batch
+        for station, messages in said:
+            if self.meters.keeps_messages:
+                self.meters.keep_in(station.number, messages)
+            batch.note_station(station.number, station.associations, len(messages))
+        while said:
+            shortest = min([len(messages) for _, messages in said])
+            rounds = zip(*[messages for _, messages in said])
+            self.put([station for station, _ in said] * shortest, list(itertools.chain.from_iterable(rounds)))
+            said = [(station, messages[shortest:]) for station, messages in said if len(messages) > shortest]
+
+    def put(self, stations, messages):
+        """Puts messages, each of its station, as lines of the log."""
+        batch, numbers = self.exchange.batch, [station.number for station in stations]
+        self.meters.count_in(messages)
+        lines = heard(numbers, messages)
+        for at, octets in enumerate(messages):
+            if octets[1:2] in LOOKED_AT:
+                lines[at] = self.look_at(stations[at], octets, lines[at])
+        batch.lines += lines
+        batch.owners += numbers
+        batch.octets += sum(map(len, lines))
+
+    def look_at(self, station, octets, line):
+        """Notes what a message says of its station and of phones; its line, which may be another one then."""
+        kind = octets[:2]
+        if kind == UPLINK:
+            line = heard_plain(station.number, octets) or line
+            self.attaches.hear(station.number, octets, line)
+        elif kind == SETUP_REQUEST:
+            station.request = octets
+        elif octets[1:2] in OF_ASSOCIATIONS:
+            self.note_associations(station, octets, line)
+        return line
 
     def note_associations(self, station, octets, line):
         """Notes what a message, and its line, says of its station's associations, and whether it is one that changes nothing."""
@@ -164,20 +190,6 @@ class Crowd:
             batch.note_still(line, True)
         elif octets[1:2] == RESETS:
             batch.note_reset(station.number, station.associations.is_reset_of_nobody(octets, len(self.exchange.imsis)), line)
-
-    def put_in_turn(self, said):
-        """Puts a line of each station after one of each other."""
-        batch = self.exchange.batch
-        while said := [(number, lines) for number, lines in said if lines]:
-            shortest = min([len(lines) for _, lines in said])
-            numbers = [number for number, _ in said]
-            for number in numbers:
-                batch.heard[number] = batch.heard.get(number, 0) + shortest
-            for round_of_all in zip(*[lines for _, lines in said]):
-                batch.lines += round_of_all
-                batch.owners += numbers
-                batch.octets += sum(map(len, round_of_all))
-            said = [(number, lines[shortest:]) for number, lines in said]
 
     def settle(self, station):
         """What becomes of a station that had its turn; whether it goes on."""

@@ -19,13 +19,17 @@ from fronting import limits
 from fronting.challenges import AUTHENTICATION_REQUEST_DIGITS, challenged
 from fronting.faults import BABBLES, Ended, Failed, LOG_FAILS, SILENT, told
 from fronting.journal import Batch
-from fronting.meters import DOWNLINK, ERROR_INDICATION, PAGING, RESET_ACKNOWLEDGE, SETUP_RESPONSE
+from fronting.meters import CONTEXT_REQUEST, DOWNLINK, ERROR_INDICATION, RESET_ACKNOWLEDGE, SETUP_RESPONSE
 from fronting.mme import MARK_ANSWER
 from fronting.used import entry_of
 
 OUT, PHONE_OWNER, OWNERS = b"out ", ord("s"), b"esx"
 OUT_OF_PHONE = OUT + b"s"
+NO_OCTETS = b"-"
 NUMBERS = {b"%d" % number: number for number in range(runs.STATIONS)}
+# How messages begin of which more is noted than that they go out; by one of the first two the MME may say that nothing changed.
+OF_NO_CHANGE = {ERROR_INDICATION, RESET_ACKNOWLEDGE}
+LOOKED_AT = OF_NO_CHANGE | {SETUP_RESPONSE, DOWNLINK, CONTEXT_REQUEST}
 END, REFUSE, GO_ON = "end", "refuse", "go-on"  # what is done on a full disk
 
 
@@ -43,8 +47,8 @@ class Exchange:
         self.shows = collections.deque()  # whom the next states are for
         self.held = collections.deque()  # what waits for the log: a turn, writes beside it, what is to be done then, and with what
         self.later = []  # what is done once the log takes the next turn
-        self.notes = {}  # by how a message begins, what notes it by the phone's slot and the station that it is sent to
-        self.note_challenge = lambda slot, station, octets: None  # which of them looks at messages that were sent before
+        self.note_challenge = lambda slot, rand: None  # who is told of each challenge, those that were sent before among them
+        self.note_context = lambda slot, station, octets: None  # who is told of each INITIAL CONTEXT SETUP REQUEST of a phone
         self.follow = lambda batch: None  # who is told of each batch that the MME is given
         self.dirty, self.rest, self.heard_at = set(), b"", 0.0
         self.has_answered, self.held_since = False, None
@@ -91,9 +95,10 @@ class Exchange:
     @property
     def has_room(self):
         """Whether more may be put for the turn to come."""
-        coming = (*self.closed, self.batch)
-        return (sum([len(batch.lines) for batch in coming]) < limits.TURN_MESSAGES
-                and sum([batch.octets for batch in coming]) < limits.TURN_OCTETS)
+        lines, octets = len(self.batch.lines), self.batch.octets
+        for batch in self.closed:
+            lines, octets = lines + len(batch.lines), octets + batch.octets
+        return lines < limits.TURN_MESSAGES and octets < limits.TURN_OCTETS
 
     @property
     def takes(self):
@@ -122,7 +127,7 @@ class Exchange:
         for batch in self.closed:
             batch.given = now
             self.follow(batch)
-            text.append("\n".join(batch.told()).encode("latin-1") + b"\n" + self.mark)
+            text += batch.told(), self.mark
         self.marks.extend(self.closed)
         self.closed = []
         self.program.give(b"".join(text))
@@ -230,7 +235,11 @@ class Exchange:
         self.log_fails(Failed(text, LOG_FAILS))
         if self.full_disk != GO_ON:
             return
-        self.held = collections.deque(one for one in self.held if one[2] != self.challenge)
+        # Of what waits together, all else goes out.
+        for _, _, act, given in self.held:
+            if act == self.challenge:
+                messages, challenges = given
+                messages[:] = [message for message in messages if message not in challenges]
         self.used.forget_noted()
         if not self.keeps_challenges:
             self.keeps_challenges = True
@@ -369,56 +378,91 @@ class Exchange:
     def hear(self, piece):
         """Takes a piece of the MME's answers."""
         self.heard_at = time.monotonic()
-        lines = (self.rest + piece).split(b"\n")
+        lines, messages = (self.rest + piece).split(b"\n"), []
         self.rest = lines.pop()
         for line in lines:
+            if line[:4] == OUT:
+                messages.append(line)
+                continue
+            self.take_messages(messages)
+            messages = []
             if line == MARK_ANSWER and self.marks:
                 self.has_been_answered(self.marks.popleft())
-            elif self.is_replaying:
-                if AUTHENTICATION_REQUEST_DIGITS in line:
-                    self.take_replayed(line)
-            elif line[:4] == OUT:
-                self.take_message(line)
-            else:
+            elif not self.is_replaying:
                 self.take_other(line)
+        self.take_messages(messages)
         self.write_beside()
         if len(self.rest) > runs.LONGEST_LINE:
             raise Failed("the MME's answer is longer than %d octets" % runs.LONGEST_LINE, BABBLES)
 
-    def take_message(self, line):
-        """Gives a message to whom it is for, once it may go out."""
-        try:
-            _, owner, number, text = line.split(b" ")
-            octets = binascii.unhexlify(text) if text != b"-" else b""
-            receiver = self.receivers[number]
-            if owner[0] not in OWNERS:
-                raise ValueError
-            slot = int(owner[1:]) if owner[0] == PHONE_OWNER else None
-        except (ValueError, KeyError, IndexError):
-            raise Failed("the MME's answer is none: %s" % line[:80].decode(errors="replace"), BABBLES) from None
+    def take_messages(self, lines):
+        """Takes answers in a row that are messages."""
+        if not lines:
+            return
+        if self.is_replaying:
+            for line in lines:
+                if AUTHENTICATION_REQUEST_DIGITS in line:
+                    self.take_replayed(line)
+            return
+        messages, fault = self.read_messages(lines)
+        if messages and not self.marks:
+            raise Failed("the MME's answer is to nothing that it was given: %s" % lines[0][:80].decode(), BABBLES)
+        if messages:
+            self.give_out(messages, self.marks[0])
+        if fault is not None:
+            raise Failed("the MME's answer is none: %s" % fault[:80].decode(errors="replace"), BABBLES)
+
+    def read_messages(self, lines):
+        """The messages of answers, up to the first that is none, and that: of each the slot of the phone that it is of, or nothing,
+        the number of the station that it is for, who has that number, its octets and its owner."""
+        found, receivers, unhexlify = [], self.receivers, binascii.unhexlify
+        for line in lines:
+            try:
+                _, owner, number, text = line.split(b" ")
+                if owner[0] not in OWNERS:
+                    return found, line
+                slot = int(owner[1:]) if owner[0] == PHONE_OWNER else None
+                found.append((slot, number, receivers[number], unhexlify(text) if text != NO_OCTETS else b"", owner))
+            except (ValueError, KeyError, IndexError):
+                return found, line
+        return found, None
+
+    def give_out(self, messages, batch):
+        """Gives messages, which are answers to a batch, to whom they are for, once they may go out. From a challenge on they wait
+        until its vector stands among those that were used."""
+        batch.answers += len(messages)
+        begun, challenges = 0, []  # where those begin that go out together, and which of them are challenges
+        for at, message in enumerate(messages):
+            slot, number, receiver, octets, _ = message
+            if octets[:2] not in LOOKED_AT:
+                continue
+            rand = challenged(octets) if slot is not None else None
+            if rand is None:
+                self.note(batch, slot, NUMBERS[number], receiver, octets)
+                continue
+            self.note_challenge(slot, rand)
+            if not challenges:
+                self.do(batch.turn, self.hand_on, messages[begun:at])
+                begun = at
+            if self.note_used(slot, rand):
+                challenges.append(message)
+        if challenges:
+            self.do(batch.turn, self.challenge, messages[begun:], challenges)
+        else:
+            self.do(batch.turn, self.hand_on, messages[begun:] if begun else messages)
+
+    def note(self, batch, slot, number, receiver, octets):
+        """Notes what a message says of the batch that it answers, of the station that it is for, and of a phone."""
         kind = octets[:2]
-        if slot is not None and kind in self.notes:
-            self.notes[kind](slot, NUMBERS[number], octets)
-        if not self.marks:
-            raise Failed("the MME's answer is to nothing that it was given: %s" % line[:80].decode(), BABBLES)
-        batch = self.marks[0]
-        batch.answers += 1
-        if kind in (ERROR_INDICATION, RESET_ACKNOWLEDGE):
-            batch.note_answer(NUMBERS[number], kind == RESET_ACKNOWLEDGE)
+        if kind in OF_NO_CHANGE:
+            batch.note_answer(number, kind == RESET_ACKNOWLEDGE)
         elif kind == SETUP_RESPONSE and receiver is not None:
             receiver.is_set_up = True
-        act = self.challenge if kind == DOWNLINK and slot is not None and self.note_used(slot, octets) else self.hand_on
-        journal = self.journal  # what follows is is_clear, spelled out, since each message comes by here
-        if self.held or self.used.noted or journal is not None and batch.turn > journal.committed:
-            self.do(batch.turn, act, NUMBERS[number], receiver, octets, owner)
-        else:
-            act(NUMBERS[number], receiver, octets, owner)
+        elif kind == CONTEXT_REQUEST and slot is not None:
+            self.note_context(slot, number, octets)
 
-    def note_used(self, slot, octets):
+    def note_used(self, slot, rand):
         """Notes the vector of a challenge; whether it still is to be written that it was used."""
-        rand = challenged(octets)
-        if rand is None:
-            return False
         if slot >= len(self.imsis):
             raise Failed("the MME's answer is for nobody: s%d" % slot, BABBLES)
         imsi = self.imsis[slot]
@@ -426,28 +470,31 @@ class Exchange:
             self.replayed.add(entry_of(imsi, rand))
         return self.used.note(imsi, rand)
 
-    def challenge(self, number, receiver, octets, owner):
-        """A challenge goes out, whose vector stands among those that were used."""
-        self.hand_on(number, receiver, octets, owner)
+    def challenge(self, messages, challenges):
+        """Messages go out with challenges among them, whose vectors stand among those that were used."""
+        self.hand_on(messages)
 
-    def hand_on(self, number, receiver, octets, owner):
-        """A message goes out; one for a connection that ended is nobody's."""
-        self.meters.count_out(number, octets, owner)
-        if receiver is not None and not receiver.is_lost:
-            receiver.link.put(octets)
-            receiver.sent += 1
-            self.dirty.add(receiver)
-            if owner[0] == PHONE_OWNER and octets[:2] != PAGING:
-                self.meters.places[owner] = number, self.meters.ups[number]
+    def hand_on(self, messages):
+        """Messages go out; those for a connection that ended are nobody's."""
+        self.meters.count_out([octets for _, _, _, octets, _ in messages])
+        for _, _, receiver, octets, _ in messages:
+            if receiver is not None and not receiver.is_lost:
+                receiver.link.put(octets)
+                receiver.sent += 1
+                self.dirty.add(receiver)
+        if self.meters.keeps_messages:
+            self.meters.keep_out([(NUMBERS[number], receiver is not None and not receiver.is_lost, octets, owner)
+                                  for _, number, receiver, octets, owner in messages])
 
     def take_replayed(self, line):
         """A message that perhaps challenged a phone, before the front began."""
         if line.startswith(OUT_OF_PHONE):
             with contextlib.suppress(ValueError):
                 _, owner, number, text = line.split(b" ")
-                slot, octets = int(owner[1:]), binascii.unhexlify(text)
-                self.note_challenge(slot, NUMBERS.get(number), octets)
-                self.note_used(slot, octets)
+                slot, rand = int(owner[1:]), challenged(binascii.unhexlify(text))
+                if rand is not None:
+                    self.note_challenge(slot, rand)
+                    self.note_used(slot, rand)
 
     def take_other(self, line):
         """An answer that is no message: states that somebody asked for."""

@@ -10,7 +10,6 @@ from fronting import limits
 from fronting.aside import Aside
 from fronting.attaches import Attaches
 from fronting.census import Census
-from fronting.challenges import DOWNLINK, challenged
 from fronting.control import Control
 from fronting.crowd import Crowd
 from fronting.exchange import Exchange
@@ -19,7 +18,7 @@ from fronting.giving import Giving
 from fronting.journal import Journal
 from fronting.keys import YES, Missing, form_of
 from fronting.loop import Loop
-from fronting.meters import CONTEXT_REQUEST, Meters
+from fronting.meters import Meters
 from fronting.mme import LINE_IS_WRONG, LibraryMme, PipedMme, library
 from fronting.notify import Manager
 from fronting.resuming import NoResume, OF_PHONE, Standing, head_facts, make_way, note_stations, parts_of, perhaps_used
@@ -45,7 +44,8 @@ class Front:
 
     def __init__(self, settings, head, voice, used):
         self.settings, self.head, self.voice, self.used = settings, head, voice, used
-        self.loop, self.meters, self.manager = Loop(), Meters(), Manager(os.environ)
+        self.loop, self.manager = Loop(), Manager(os.environ)
+        self.meters = Meters(keeps_messages=settings.page is not None)
         self.exchange = self.crowd = self.control = self.page = self.giving = self.stock = self.teller = None
         self.aside, self.census, self.attaches, self.soundness = Aside(self), Census(self), Attaches(self), Soundness(self)
         self.is_over, self.is_busy = False, False
@@ -110,7 +110,6 @@ class Front:
     def start(self, head):
         self.exchange = Exchange(self.loop, self.voice, self.meters, self.used, self.settings.full_disk)
         self.stock = Stock(head, self.has_few)
-        self.exchange.notes = {DOWNLINK: self.note_challenge}
         self.exchange.note_challenge = self.note_challenge
         self.exchange.begin(self.make, head)
         if self.teller is not None:
@@ -119,10 +118,9 @@ class Front:
         if self.settings.page is not None:
             self.teller.begin(head)
 
-    def note_challenge(self, slot, station, octets):
-        """A message that perhaps uses a phone's next vector."""
-        rand = challenged(octets)
-        if rand is not None and slot < len(self.stock.rands):
+    def note_challenge(self, slot, rand):
+        """A challenge uses a phone's vector."""
+        if slot < len(self.stock.rands):
             self.stock.note(slot, rand)
 
     def has_few(self, slot, left):
@@ -266,7 +264,7 @@ class Front:
         self.crowd = Crowd(self.loop, self.exchange, self.voice, self.meters, self.attaches, self.settings)
         if self.resumed:
             self.crowd.used = set(range(runs.STATIONS))
-        self.exchange.notes[CONTEXT_REQUEST] = self.attaches.accept
+        self.exchange.note_context = self.attaches.accept
         self.crowd.listen(listener, link)
         self.control = Control(self, control)
         if page is not None:

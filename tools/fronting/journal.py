@@ -13,7 +13,6 @@ disk; and what happened is removed only once a line that says more is on disk.
 """
 import binascii
 import contextlib
-import datetime
 import functools
 import os
 import re
@@ -28,14 +27,26 @@ from fronting.segments import Series
 from fronting.syncing import folder_of, forget_unsynced, note_unsynced, sync_path
 
 UNTIL = re.compile(rb"# settled until segment (\d+), octet (\d+)\n")
-SETTLED_UNTIL = "# settled until segment %d, octet %d"
+SETTLED_UNTIL = b"# settled until segment %d, octet %d\n"
 TIME = "# time %s"
 GIVEN_UP = ".counts.given-up"  # after a log's name: what counted of it until the front went on without it
 
 
 def clock():
     """The time of day as comments have it, in UTC and to the millisecond."""
-    return datetime.datetime.now(datetime.timezone.utc).strftime("%Y-%m-%d %H:%M:%S.%f")[:-3]
+    seconds, rest = divmod(time.time_ns(), 10**9)
+    return "%s.%03d" % (second_of(seconds), rest // 10**6)
+
+
+@functools.lru_cache(1)
+def second_of(seconds):
+    """The same to the second, of a time since 1970."""
+    return time.strftime("%Y-%m-%d %H:%M:%S", time.gmtime(seconds))
+
+
+def octets_of(lines):
+    """Lines as a file has them, each with its end."""
+    return "\n".join([*lines, ""]).encode("latin-1")
 
 
 class Batch:
@@ -44,11 +55,11 @@ class Batch:
     nobody, `meant` those with another, `associations` what each station may have, or nothing for one that came anew, `still` the
     lines of messages that are known to change nothing, `moving` those of messages like them that may, and `logged` what the log has
     of each line, where that isn't the line. `asked` has by a line whose states the MME is asked for right after it, `turn` is the
-    number of its turn, 0 for what stood in the log before, `octets` are those of messages alone, and `before` is how many lines of
-    the log stand before it, where that is known."""
+    number of its turn, 0 for what stood in the log before, `octets` are those of messages alone, `before` is how many lines of the
+    log stand before it, where that is known, and `whole` the lines as octets, once they were wanted."""
 
     __slots__ = ("lines", "logged", "owners", "heard", "idle", "nobodys", "meant", "associations", "still", "moving", "asked",
-                 "given", "after", "place", "time", "answers", "has_ticks", "turn", "octets", "before")
+                 "given", "after", "place", "time", "answers", "has_ticks", "turn", "octets", "before", "whole")
 
     def __init__(self):
         self.lines, self.logged, self.owners, self.heard, self.idle, self.has_ticks = [], None, [], {}, {}, False
@@ -56,7 +67,7 @@ class Batch:
         self.associations, self.still, self.moving = {}, set(), set()
         self.given, self.after, self.place, self.time, self.answers = 0.0, [], None, None, 0
         self.turn = self.octets = 0
-        self.before = None
+        self.before = self.whole = None
 
     def add(self, line, station=None):
         """A line, and the station that it is a message of."""
@@ -64,8 +75,9 @@ class Batch:
         self.owners.append(station)
         self.has_ticks = self.has_ticks or line.startswith("tick ")
 
-    def note_station(self, number, associations):
-        """A station that says something, and the associations that it may have."""
+    def note_station(self, number, associations, count=0):
+        """A station that says so many messages, and the associations that it may have."""
+        self.heard[number] = self.heard.get(number, 0) + count
         if self.associations.setdefault(number, associations) is not associations:
             self.associations[number] = None
 
@@ -85,30 +97,49 @@ class Batch:
         if not is_reset or station in self.nobodys:
             self.idle[station] = self.idle.get(station, 0) + 1
 
+    def text(self):
+        """The lines as octets. No line comes any more."""
+        if self.whole is None:
+            self.whole = octets_of(self.lines)
+        return self.whole
+
+    def logged_text(self):
+        """What the log has of them, as octets."""
+        return self.text() if self.logged is None else octets_of(self.logged)
+
     def told(self):
-        """The lines as the MME is given them: each question, which stands in no log, after its line."""
+        """What the MME is given, as octets: the lines, and each question, which stands in no log, after its line."""
         if not self.asked:
-            return self.lines
+            return self.text()
         asked, told = dict(self.asked), []
         for line in self.lines:
             told.append(line)
             if line in asked:
                 told.append("show " + asked.pop(line))
-        return told
+        return octets_of(told)
 
     def questions(self):
         """How many states the MME is asked for among its lines."""
         return len(self.asked) + sum(line.startswith("show ") for line in self.lines)
 
+    @property
+    def counts_whole(self):
+        """Whether each of its lines counts, since none is known to have changed nothing."""
+        return not self.idle and not self.still
+
     def counting(self):
         """What the log has of the lines that count: of all but those of stations whose every message changed nothing, and those of
         messages that by themselves are known to have changed nothing."""
         lines = self.lines if self.logged is None else self.logged
-        idle = {number for number, count in self.heard.items() if self.idle.get(number) == count}
-        if not self.idle and not self.still:
+        if self.counts_whole:
             return lines
+        idle = {number for number, count in self.heard.items() if self.idle.get(number) == count}
         return [logged for logged, line, owner in zip(lines, self.lines, self.owners)
                 if owner not in idle and not self.is_still(line, owner)]
+
+    def counting_text(self):
+        """The same as octets."""
+        return self.logged_text() if self.counts_whole else octets_of(self.counting())
 
     def is_still(self, line, owner):
         """Whether a message is known to have changed nothing, by what it is and by the associations that its station may have."""
@@ -193,15 +224,15 @@ class Journal:
         now, text, ends = clock(), [], []
         if now != self.last_time:
             self.last_time = now
-            text.append(TIME % now + "\n")
+            text.append(octets_of([TIME % now]))
         place, length = self.happened.place, sum(map(len, text))
         for batch in batches:
-            batch.time, batch.logged = now, self.form.written(batch.lines)
-            text.append("".join([entry + "\n" for entry in batch.logged]))
+            batch.time, batch.logged = now, None if self.form.has_keys else self.form.written(batch.lines)
+            text.append(batch.logged_text())
             length += len(text[-1])
             ends.append(length)
         if text:
-            self.happened.add("".join(text).encode("latin-1"))
+            self.happened.add(b"".join(text))
         self.count_lines(len(text) - len(batches), batches)
         self.turn += 1
         for batch, end in zip(batches, ends):
@@ -218,7 +249,7 @@ class Journal:
         self.lines, self.segment = self.lines + self.happened.number - self.segment + lines, self.happened.number
         for batch in batches:
             batch.before = self.lines
-            self.lines += len(batch.lines) + sum([line.count("\n") for line in batch.lines])
+            self.lines += batch.text().count(b"\n")
 
     def count_standing_lines(self):
         """Counts the lines that stand in a log that was taken up, where all of it is there."""
@@ -308,12 +339,12 @@ class Journal:
     def settle(self, batch):
         """What an answered batch has that counts waits to be written."""
         self.until = batch.place
-        lines = batch.counting()
         if batch.has_ticks:
-            self.settle_with_ticks(lines, batch.time)
-        elif lines:
+            self.settle_with_ticks(batch.counting(), batch.time)
+            return
+        if text := batch.counting_text():
             self.write_ticks()
-            self.keep(TIME % batch.time, *lines)
+            self.keep(octets_of([TIME % batch.time]) + text)
 
     def settle_with_ticks(self, lines, time_of_day):
         """Of lines with ticks among them: those in a row are counted, and the time of day stands before the first other line."""
@@ -324,18 +355,19 @@ class Journal:
                 continue
             self.write_ticks()
             if not has_time:
-                self.keep(TIME % time_of_day)
+                self.keep(octets_of([TIME % time_of_day]))
                 has_time = True
-            self.keep(line)
+            self.keep(octets_of([line]))
 
-    def keep(self, *lines):
-        self.settled += lines
-        self.octets += sum(map(len, lines)) + len(lines)
+    def keep(self, text):
+        """Whole lines count."""
+        self.settled.append(text)
+        self.octets += len(text)
 
     def write_ticks(self):
         """Seconds in which nothing else happened are one line."""
         if self.ticks:
-            self.keep("tick %d" % self.ticks)
+            self.keep(b"tick %d\n" % self.ticks)
             self.ticks = 0
 
     def is_due(self, now):
@@ -352,9 +384,9 @@ class Journal:
         elif self.chunk is not None or not self.takes:
             return
         self.write_ticks()
-        lines = list(self.settled) if self.syncer else self.settled + [SETTLED_UNTIL % self.until]
-        if lines:
-            self.counts.add(("\n".join(lines) + "\n").encode("latin-1"))
+        text = b"".join(self.settled) if self.syncer else b"".join(self.settled) + SETTLED_UNTIL % self.until
+        if text:
+            self.counts.add(text)
         self.settled, self.octets, self.due, self.chunk = [], 0, now, self.until
         if self.syncer is None:
             self.written, self.chunk = self.chunk, None
@@ -373,7 +405,7 @@ class Journal:
         """What counts is on disk: says up to where what happened is settled. Then segments that are too many go, but none of what
         happened since a place up to which it is settled by a line that is on disk."""
         self.sure = self.written
-        self.counts.write((SETTLED_UNTIL % self.chunk + "\n").encode("latin-1"))
+        self.counts.write(SETTLED_UNTIL % self.chunk)
         self.written, self.chunk = self.chunk, None
         self.trim()
 

@@ -65,18 +65,19 @@ class TcpLink(Link):
 
     def whole(self, most, most_octets):
         """Takes messages out of what was received: `most` at the most, and none after `most_octets` octets."""
-        received, at, messages, prefix = self.received, 0, [], limits.LENGTH_OCTETS
-        last = len(received) - prefix
-        while most and at < most_octets and at <= last:
+        received, at, messages, size = self.received, 0, [], len(self.received)
+        for _ in range(most):
+            start = at + limits.LENGTH_OCTETS
+            if start > size or at >= most_octets:
+                break
             length = received[at] << 8 | received[at + 1]
-            end = at + prefix + length
             if length > limits.LONGEST_MESSAGE:
                 self.end("a message of %d octets" % length)
                 break
-            if at + length > last:
+            if start + length > size:
                 break
-            messages.append(received[at + prefix:end])
-            at, most = end, most - 1
+            at = start + length
+            messages.append(received[start:at])
         if at:
             self.received, self.half_since = received[at:], None
         return messages

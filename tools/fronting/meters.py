@@ -1,7 +1,6 @@
 """What is counted while the front runs: messages by procedure and cause, attaches by outcome, and times from message to answer."""
 import bisect
 import collections
-import functools
 import time
 
 import s1ap
@@ -24,14 +23,16 @@ ATTACH_STEPS = {
 KNOWN = {bytes([outcome << 5, code]) for code, names in s1ap.NAMES.items() for outcome in range(len(names))}
 SHOWN = 1024  # octets of a message that are kept for the page
 RECENT = 2000  # messages that are kept for the page
+LOOKED_AT = WITH_CAUSE | ATTACH_STEPS.keys()  # how messages begin of which more is counted than that they came or went
+PHONE_OWNER = b"s"  # how the owner of what the MME sends for a phone begins
 OTHER = b""  # stands for octets that begin as no message of S1AP does
 BOUNDS = (0.0005, 0.001, 0.002, 0.005, 0.01, 0.02, 0.05, 0.1, 0.25, 0.5, 1.0, 2.5, 5.0)  # seconds
 
 
-@functools.lru_cache(1 << 12)
 def cause_of(octets):
     """The cause in a message."""
-    return s1ap.cause(s1ap.read(octets)) or ""
+    content = s1ap.element(octets, s1ap.CAUSE)
+    return "" if content is None else s1ap.cause_text(content) or ""
 
 
 def name_of(kind):
@@ -42,9 +43,10 @@ def name_of(kind):
 
 
 class Meters:
-    """The counts since the front began."""
+    """The counts since the front began, and where they are kept, the last messages."""
 
-    def __init__(self):
+    def __init__(self, keeps_messages=True):
+        self.keeps_messages = keeps_messages
         self.begun = self.now = time.time()  # the second is when the turn under way began
         self.inward, self.outward = collections.Counter(), collections.Counter()
         self.inward_causes, self.outward_causes = collections.Counter(), collections.Counter()
@@ -59,24 +61,40 @@ class Meters:
         # An attach step is looked for where its type stands after the discriminator of EMM.
         self.steps = {kind: [(bytes([s1ap.EMM, number]), number) for number in steps] for kind, steps in ATTACH_STEPS.items()}
 
-    def count_in(self, station, octets):
-        """What a station sent."""
-        self.heard[station] += 1
-        self.recent.append((self.now, station, True, octets[:SHOWN], self.heard[station]))
-        self.count(octets, self.inward, self.inward_causes)
+    def count_in(self, messages):
+        """What stations sent."""
+        self.count(messages, self.inward, self.inward_causes)
 
-    def count_out(self, station, octets, owner=b""):
-        """What a station was sent, and for whom, as the MME's answer has it."""
-        self.recent.append((self.now, station, False, octets[:SHOWN], owner))
-        self.count(octets, self.outward, self.outward_causes)
+    def count_out(self, messages):
+        """What stations were sent."""
+        self.count(messages, self.outward, self.outward_causes)
 
-    def count(self, octets, messages, causes):
-        kind = octets[:2]
-        messages[kind if kind in KNOWN else OTHER] += 1
-        if kind in WITH_CAUSE:
-            causes[kind, cause_of(octets)] += 1
-        elif kind in self.steps:
-            self.count_steps(kind, octets)
+    def count(self, messages, counts, causes):
+        kinds = [octets[:2] for octets in messages]
+        for kind, count in collections.Counter(kinds).items():
+            counts[kind if kind in KNOWN else OTHER] += count
+        if LOOKED_AT.isdisjoint(kinds):
+            return
+        for kind, octets in zip(kinds, messages):
+            if kind in WITH_CAUSE:
+                causes[kind, cause_of(octets)] += 1
+            elif kind in LOOKED_AT:
+                self.count_steps(kind, octets)
+
+    def keep_in(self, station, messages):
+        """Keeps what a station sent."""
+        now, first = self.now, self.heard[station] + 1
+        self.recent += [(now, station, True, octets[:SHOWN], place) for place, octets in enumerate(messages, first)]
+        self.heard[station] += len(messages)
+
+    def keep_out(self, sent):
+        """Keeps what stations were sent: of each message the station, whether that was there still, the octets, and for whom it is,
+        as the MME's answer has it."""
+        now = self.now
+        self.recent += [(now, station, False, octets[:SHOWN], owner) for station, _, octets, owner in sent]
+        for station, is_there, octets, owner in sent:
+            if is_there and owner[:1] == PHONE_OWNER and octets[:2] != PAGING:
+                self.places[owner] = station, self.ups[station]
 
     @property
     def messages(self):
@@ -85,10 +103,8 @@ class Meters:
 
     def count_steps(self, kind, octets):
         for pattern, number in self.steps[kind]:
-            if pattern in octets:
-                nas = s1ap.nas(s1ap.carried(s1ap.read(octets)))
-                if nas is not None and nas.type == number:
-                    self.attaches[ATTACH_STEPS[kind][number]] += 1
+            if s1ap.carries(octets, pattern):
+                self.attaches[ATTACH_STEPS[kind][number]] += 1
 
     def count_answers(self, seconds, count):
         """`count` answers came `seconds` after their messages."""

@@ -65,7 +65,8 @@ def phone_of(octets):
     """The eNB UE S1AP ID of a message that is a phone's; None where it is the station's own, or pages."""
     if octets[:2] == bytes([0, s1ap.PAGING]):
         return None
-    return s1ap.ids(s1ap.read(octets))[1]
+    alone = s1ap.element(octets, s1ap.ENB_ID)
+    return s1ap.ids(s1ap.read(octets))[1] if alone is None else s1ap.number_in(alone)
 
 
 def stream_of(octets, streams):

@@ -245,7 +245,7 @@ class Series:
     @property
     def is_cut(self):
         """Whether the file that is written has less than was written to it."""
-        return os.fstat(self.file).st_size < self.size
+        return os.lseek(self.file, 0, os.SEEK_END) < self.size
 
     def go_on(self):
         """A new file after something that is missing."""

@@ -7,14 +7,21 @@ from fronting.pace import Pace
 import runs
 
 
-def heard(number, octets):
-    """The line of a message that a station sent: what is handed on for it, after a line of comment with what came where that
-    differs."""
+IN = ["in %d " % number for number in range(runs.STATIONS)]  # how the line of a station's message begins
+
+
+def heard(numbers, messages):
+    """The lines of messages as they came, each of the station of its number."""
+    return [IN[number] + (octets.hex() or "-") for number, octets in zip(numbers, messages)]
+
+
+def heard_plain(number, octets):
+    """The lines of a message for which another one is handed on: a comment with what came, and that one. Nothing for others."""
     plain = hearing.plain(octets)
     if plain is None:
-        return "in %d %s" % (number, octets.hex() or "-")
-    came = "# came protected: in %d %s" % (number, octets.hex())
-    return "%s\nin %d %s" % (came[:runs.LONGEST_LINE], number, plain.hex())
+        return None
+    came = "# came protected: %s%s" % (IN[number], octets.hex())
+    return "%s\n%s%s" % (came[:runs.LONGEST_LINE], IN[number], plain.hex())
 
 
 class Station:
