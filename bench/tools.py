@@ -1,5 +1,6 @@
 #!/usr/bin/env python3
-"""Times tools/show --brief and tools/chart on a long run: phones attach and are released, again and again, with the MME's answers.
+"""Times tools/show --brief, tools/explain --brief and tools/chart on a long run: phones attach and are released, again and again,
+with the MME's answers.
 
     tools.py [--phones N] [--times T] [--rounds R] [--keep FOLDER]
 
@@ -65,6 +66,7 @@ def main():
         trace, answers = made(given.keep or pathlib.Path(folder), given.phones, given.times)
         measured("show --brief, the trace", lines_in(trace), given.rounds, "show", "--brief", trace)
         measured("show --brief, the answers", lines_in(answers), given.rounds, "show", "--brief", answers)
+        measured("explain --brief", lines_in(trace), given.rounds, "explain", "--brief", trace, answers)
         measured("chart", lines_in(trace), given.rounds, "chart", trace, answers)
         measured("chart --svg", lines_in(trace), given.rounds, "chart", "--svg", trace, answers)
 

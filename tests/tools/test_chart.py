@@ -19,8 +19,8 @@ SVG = "{http://www.w3.org/2000/svg}"
 
 # An attach with an IMSI that nobody has is rejected with cause 8 and released (TS 24.301 clause 5.5.1.2.5).
 UNKNOWN_IMSI = """\
-P1  IMSI 001010000000009
-E0  station 0
+P1: IMSI 001010000000009
+E0: station 0
 
 second    P1                           E0                                MME
      0    |                            |----------- connects ----------->|
@@ -35,8 +35,8 @@ second    P1                           E0                                MME
 
 # T3460 has 6 seconds and 4 repeats (TS 24.301 table 10.2.2).
 UNANSWERED = """\
-P1  IMSI 001010000000001
-E0  station 0
+P1: IMSI 001010000000001
+E0: station 0
 
 second    P1                                     E0                                MME
      0    |                                      |----------- connects ----------->|
@@ -211,7 +211,7 @@ class Text(unittest.TestCase):
         self.assertLessEqual(max(map(len, text.split("\n"))), 120)
         self.assertEqual(len(re.findall(r"- P\d+ ATTACH REQUEST -", text)), 60)
         self.assertIn("- P60 ATTACH COMPLETE -", text)
-        self.assertIn("P60  IMSI 001010000000060", text)
+        self.assertIn("P60: IMSI 001010000000060", text)
         legend = text.partition("\n\n")[0].split("\n")
         self.assertEqual((len(legend), re.findall(r"P\d+|E0", "".join(legend))), (16, ["P%d" % at for at in range(1, 61)] + ["E0"]))
 
@@ -291,7 +291,7 @@ class Svg(unittest.TestCase):
         texts = list(xml.etree.ElementTree.fromstring(CHART.svg_of(*rows_of("unknown_imsi"))).iter(SVG + "text"))
         head = min(float(text.get("y")) for text in texts if text.text == "MME")
         signs = [text for text in texts if (text.get("class") or "").startswith("sign-")]
-        self.assertEqual([text.text.split("  ")[0] for text in signs], ["! red", "cross", "green", "2 of 4", "mouse on a row"])
+        self.assertEqual([text.text.split(":")[0] for text in signs], ["! red", "cross", "green", "2 of 4", "mouse on a row"])
         self.assertTrue(all(float(text.get("y")) < head for text in signs))
         self.assertEqual(len({text.get("y") for text in texts if float(text.get("y")) < head}), len(signs) + 2)
 
@@ -316,7 +316,7 @@ class Svg(unittest.TestCase):
         done = chart("--svg", tools.ROWS / "attach_whole.trace", tools.ROWS / "attach_whole.answers")
         self.assertEqual((done.returncode, done.stderr), (0, b""))
         texts = [text.text for text in xml.etree.ElementTree.fromstring(done.stdout).iter(SVG + "text")]
-        for text in ("P1  IMSI 001010000000001", "ATTACH ACCEPT", "INITIAL CONTEXT SETUP REQUEST", "P1 REGISTERED IDLE ACTIVE"):
+        for text in ("P1: IMSI 001010000000001", "ATTACH ACCEPT", "INITIAL CONTEXT SETUP REQUEST", "P1 REGISTERED IDLE ACTIVE"):
             self.assertIn(text, texts)
 
 

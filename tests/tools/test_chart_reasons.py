@@ -135,7 +135,7 @@ class Svg(unittest.TestCase):
         done = tools.ran("chart", "--svg", tools.TOP / "examples" / "deaf.trace")
         root = xml.etree.ElementTree.fromstring(done.stdout)
         self.assertIn("2 phones at 1 station in 60 s", root.find(SVG + "title").text)
-        self.assertIn("P1  IMSI 001010000000001", root.find(SVG + "desc").text)
+        self.assertIn("P1: IMSI 001010000000001", root.find(SVG + "desc").text)
         self.assertIn("prefers-color-scheme: dark", root.find(SVG + "style").text)
         heads = [float(text.get("y")) for text in root.iter(SVG + "text") if text.get("class") == "head" and text.text == "MME"]
         steps = [after - before for before, after in zip(heads, heads[1:] + [float(root.get("height"))])]

@@ -1,6 +1,7 @@
 """tools/explain: the reasons of attaches that fail, in words written by hand; that the reader expects what every row has, and what
 the MME does over random events with lies; and that whatever else an MME did would be seen.
 """
+import contextlib
 import importlib
 import json
 import os
@@ -12,6 +13,7 @@ import sys
 import tempfile
 import time
 import unittest
+from unittest import mock
 
 import failures
 import tools
@@ -21,6 +23,7 @@ sys.path.insert(0, str(tools.TOP / "tools"))
 RUNS = importlib.import_module("runs")
 STORY = importlib.import_module("eps.story")
 MESSAGES = importlib.import_module("eps.messages")
+NAS, MACS, CIPHERS = (importlib.import_module("eps." + name) for name in ("nas", "macs", "ciphers"))
 WORLD = importlib.import_module("eps.world")
 SKIPPING = importlib.import_module("eps.scripts")
 REASONS = importlib.import_module("eps.reasons")
@@ -36,6 +39,7 @@ SESSIONS, EVENTS = 4, 1000  # of random events, by each seed
 FOREIGN_GUTI = bytes.fromhex("f602f83900010212345678")  # of another network
 OTHER, NOBODYS = "001010000000008", "001010000000009"  # IMSIs without a `sub` line
 TURNED = 40  # bits of a message
+MOST_BESIDE_READING = 24  # times what it takes to read the lines of a run, to tell it
 SCRIPTS = {**{path: path.with_suffix(".trace") for path in (tools.TOP / "examples").glob("*.script")},
            **{path: path.with_suffix(".expect") for path in (tools.TOP / "tests" / "scripts").glob("*.script")}}
 
@@ -300,6 +304,75 @@ class Speed(unittest.TestCase):
         return time.process_time() - begun
 
 
+    def test_work(self):
+        """What is worked out anew for a message isn't for each one: of four times the phones hardly more messages are read from the
+        left, and no more blocks are encrypted one by one."""
+        counts = []
+        for count in (150, 600):
+            made = attached_and_released(count)
+            trace, answers = RUNS.read_trace(made.text().encode()), RUNS.read_answers(made.answer_text().encode())
+            with contextlib.ExitStack() as patches:
+                calls = [patches.enter_context(mock.patch.object(module, name, wraps=getattr(module, name))) for module, name in (
+                    (CIPHERS, "aes"), (MESSAGES, "decode_whole"), (MESSAGES, "frame_met"), (NAS, "read_emm"), (NAS, "read_esm"))]
+                self.assertIsNotNone(STORY.exact_run(trace, answers))
+                counts.append([call.call_count for call in calls])
+            self.assertGreater(len(trace.events) + len(answers), 10 * count)
+        self.assertEqual([counts[1][0], counts[1][1]], [0, 0])
+        self.assertLess(sum(counts[1]), 100)
+
+    def test_beside_reading(self):
+        """A run is told in a few times what it takes to read its lines."""
+        made = attached_and_released(600)
+        text, answer_text = made.text().encode(), made.answer_text().encode()
+        told, read = [], []
+        for _ in range(3):
+            begun = time.process_time()
+            trace, answers = RUNS.read_trace(text), RUNS.read_answers(answer_text)
+            read.append(time.process_time() - begun)
+            told.append(self.seconds(trace, answers))
+        self.assertLess(min(told), MOST_BESIDE_READING * min(read))
+
+
+class Macs(unittest.TestCase):
+    def test_many(self):
+        """Of many messages at once the MACs are those of RFC 4493 clause 4, and of each under its key what bench/lte.py has."""
+        key = bytes.fromhex("2b7e151628aed2a6abf7158809cf4f3c")
+        text = bytes.fromhex("6bc1bee22e409f96e93d7e117393172aae2d8a571e03ac9c9eb76fac45af8e51"
+                             "30c81c46a35ce411e5fbc1191a0a52eff69f2445df4f9b17ad2b417be66c3710")
+        rng = random.Random(93)
+        for size, mac in ((0, "bb1d6929e95937287fa37d129b756746"), (16, "070a16b46b4d4144f79bdd9dd04a287c"),
+                          (40, "dfa66747de9ae63030ca32611497c827"), (64, "51f0bebf7e3b9d92fc49741779363cfe")):
+            with self.subTest(size=size):
+                others = [rng.randbytes(16) for _ in range(9)]
+                ciphers = [CIPHERS.Cmac(each) for each in (*others, key)]
+                MACS.make_subkeys(ciphers)
+                found = [each.hex() for each in MACS.macs(ciphers, 10 * [text[:size]])]
+                self.assertEqual(found[-1], mac)
+                self.assertEqual(found[:-1], [failures.lte.Cmac(each).of(text[:size]).hex() for each in others])
+
+    def test_claims(self):
+        """A wrong MAC among right ones is found: of any message, with four octets or two, once many are looked at or at the end."""
+        rng = random.Random(94)
+        made = [(rng.randbytes(32), rng.randrange(1 << 24), at % 2, rng.randbytes(rng.randrange(70)), 2 + at % 2 * 2)
+                for at in range(60)]
+        made = [(*each, mac_of(*each)) for each in made]
+        self.assertEqual([MACS.is_right(*each, mac) for *each, _, mac in made], 60 * [True])
+        for wrong in (None, 0, 1, 30, 59):
+            for most in (7, 1000):
+                with self.subTest(wrong=wrong, most=most), mock.patch.object(MACS, "MOST_CLAIMS", most):
+                    fails = self.assertRaises(MACS.Wrong) if wrong is not None else contextlib.nullcontext()
+                    with fails:
+                        claims = MACS.Claims()
+                        for at, (*each, _, mac) in enumerate(made):
+                            self.assertTrue(claims.is_right(*each, mac if at != wrong else bytes([mac[0] ^ 1]) + mac[1:]))
+                        claims.check()
+
+
+def mac_of(kasme, count, direction, message, size):
+    """The last octets of a MAC, by bench/lte.py."""
+    return failures.lte.eia2(failures.lte.Cmac(failures.lte.nas_integrity_key(kasme)), count, direction, message)[-size:]
+
+
 class Usual(unittest.TestCase):
     def test_messages(self):
         """A message that is spelled as usual is read as any other: those of the rows, and each with bits turned by a seed."""
@@ -312,6 +385,36 @@ class Usual(unittest.TestCase):
                     for octets in (each.octets, *(with_bit_turned(each.octets, rng) for _ in range(TURNED))):
                         self.assertEqual(all_of(MESSAGES.decode(octets)), all_of(MESSAGES.decode_whole(octets)), octets.hex())
         self.assertGreater(len(known), 100)
+
+    def test_nas_messages(self):
+        """A NAS message of a shape that was met is read as any other: those of the rows, and each with bits turned by a seed."""
+        rng, known = random.Random(93), set()
+        for octets, direction in nas_of_rows():
+            kind = octets[:3], len(octets), direction
+            if kind not in known:
+                known.add(kind)
+                for each in (octets, *(with_bit_turned(octets, rng) for _ in range(TURNED))):
+                    is_esm = each[0] & 0xF == 2
+                    wanted = NAS.read_esm(each) if is_esm else NAS.read_emm(each, direction)
+                    self.assertEqual(all_of_nas(NAS.decode_plain(each, direction)), all_of_nas(wanted), each.hex())
+        self.assertGreater(len(known), 60)
+
+
+def nas_of_rows():
+    """The plain NAS messages of the rows, and those inside protected ones, each with its direction."""
+    for _, trace, answers in runs_of_rows():
+        for direction, messages in ((NAS.UP, trace.events), (NAS.DOWN, answers)):
+            for carried in filter(None, (MESSAGES.decode(each.octets).nas() for each in messages if each.octets)):
+                protected = NAS.split(carried)
+                if inside := protected.inner if protected else carried:
+                    yield inside, direction
+
+
+def all_of_nas(message):
+    """A NAS message with all that is told of it, the messages in it too."""
+    fields = {name: all_of_nas(value) if isinstance(value, NAS.Plain) else whole(value) for name, value in message.fields.items()}
+    return (message.octets, message.is_esm, message.type, list(fields.items()), message.lengths, message.places, message.spare,
+            message.fault, message.why)
 
 
 def with_bit_turned(octets, rng):

@@ -106,7 +106,7 @@ def free_port():
 class Lab(unittest.TestCase):
     def test_commands(self):
         found = blocks(LIVE.sub("", DOCUMENT.read_text(encoding="utf-8")))
-        [chart] = [block for block in found if block.startswith("P1 ")]
+        [chart] = [block for block in found if block.startswith("P1: ")]
         commands = "\n".join(block for block in found if block != chart)
         self.assertEqual((commands.count(PLAY), commands.count(SIM)), (1, 1))
         with tempfile.TemporaryDirectory() as folder:
@@ -131,7 +131,7 @@ class Lab(unittest.TestCase):
     def test_with_the_package(self):
         """The same commands with the package, in a folder where nothing of a clone is, and without the lines for a clone."""
         found = without_names(blocks(LIVE.sub("", DOCUMENT.read_text(encoding="utf-8"))))
-        [chart] = [block for block in found if block.startswith("P1 ")]
+        [chart] = [block for block in found if block.startswith("P1: ")]
         with in_package() as (root, lab, elsewhere):
             commands = "\n".join(block for block in found if block != chart).replace("lab=$(mktemp -d)", "lab=%s" % lab)
             done = packed.ran(root, "bash", "-euc", commands, cwd=elsewhere)

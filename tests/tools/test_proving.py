@@ -5,6 +5,7 @@ import pathlib
 import shutil
 import signal
 import subprocess
+import sys
 import time
 import unittest
 import tempfile
@@ -31,7 +32,7 @@ if [ -e "%(room)s/edits-$name" ]; then
 fi
 [ $name != mme ] || { printf '#!/bin/sh\\necho a program\\n' >out/mme; chmod +x out/mme; }
 """
-CRATES = "low:\n# a comment\nmiddle: low std\nother:\nmme: middle\n"
+CRATES = "low:\n# a comment\nmiddle: low std\nother:\nmme: middle\nmme_c staticlib: middle\n"
 
 
 def is_running(process):
@@ -51,7 +52,7 @@ class Proving(unittest.TestCase):
             shutil.copy(tools.TOP / name, self.top / name)
         (self.top / "crates.txt").write_text(CRATES)
         (self.top / "HANDLES").write_text("Handles allowed: none.\n")
-        for name in ("low", "middle", "other", "mme"):
+        for name in ("low", "middle", "other", "mme", "mme_c"):
             for part in ("src/lib.rt", "specs/Lib.antt", "must-fail/one.edit"):
                 path = self.top / "crates" / name / part
                 path.parent.mkdir(parents=True)
@@ -207,21 +208,63 @@ class Proving(unittest.TestCase):
                          (70, "mme: the crates changed while they were proved: ./mme --prove once more"))
         self.assertEqual(self.said_of_program(), "program: not proved yet, an unproved one runs")
 
-    def test_record_of_the_gate(self):
-        """Who proves by other means writes the record too, by what stood before."""
-        record = [self.top / "tools" / "program" / "record.py"]
-        before = subprocess.run(record + ["now"], env=self.environment(), capture_output=True, check=True, timeout=60).stdout
-        self.program.parent.mkdir()
+    def of_record(self, *words, given=b""):
+        """What record.py does and prints."""
+        return subprocess.run([self.top / "tools" / "program" / "record.py", *words], input=given, env=self.environment(),
+                              capture_output=True, check=False, timeout=60)
+
+    def gate_ends(self, before):
+        """The program is there, and its record is to be written, as the gate has it."""
+        self.program.parent.mkdir(exist_ok=True)
         self.program.write_text("a program\n")
         self.program.chmod(0o755)
-        since = record + ["since", self.program]
-        subprocess.run(since, input=before, env=self.environment(), capture_output=True, check=True, timeout=60)
+        return self.of_record("since", self.program, given=before)
+
+    def test_record_of_the_gate(self):
+        """Who proves by other means writes the record too, by what stood before."""
+        before = self.of_record("now").stdout
+        self.assertEqual(self.gate_ends(before).returncode, 0)
         self.assert_proved()
         (self.program.parent / "mme.proved").unlink()
         (self.top / "crates/low/src/lib.rt").write_text("// changed\n")
-        done = subprocess.run(since, input=before, env=self.environment(), capture_output=True, check=False, timeout=60)
+        done = self.gate_ends(before)
         self.assertEqual((done.returncode, done.stdout), (1, b""))
         self.assertIn("no record says of what", self.said_of_program())
+
+    # --- The library, over what the gate left ---
+
+    def is_built(self):
+        """Whether the libraries below the library for C stand as the gate left them, of this text."""
+        code = "import record; print(record.is_built())"
+        done = subprocess.run([sys.executable, "-B", "-c", code], cwd=self.top / "tools" / "program", env=self.environment(),
+                              capture_output=True, text=True, check=True, timeout=60)
+        return done.stdout == "True\n"
+
+    def test_built_by_the_gate(self):
+        """The library for C is built over what the gate left, as long as text, libraries and toolchain are what they were then."""
+        formats = [self.top / "crates" / name / "out" / "rlib" / (name + ".rlib") / "format" for name in ("low", "middle")]
+        before = self.of_record("now").stdout
+        self.assertEqual(self.gate_ends(before).returncode, 0)
+        self.assertFalse(self.is_built(), "nothing is built")
+        for path in formats:
+            path.parent.mkdir(parents=True)
+            path.write_text("digests of %s\n" % path)
+        self.assertFalse(self.is_built(), "what was built then isn't known")
+        self.assertEqual(self.gate_ends(before).returncode, 0)
+        self.assertTrue(self.is_built())
+        self.assertEqual(self.ran("--library")[2].splitlines()[0], "mme: 3 crates stand built: the gate proved this text here")
+        for path in (*formats, self.top / "crates/low/specs/Lib.antt", self.top / "crates/mme_c/src/lib.rt", self.top / "HANDLES",
+                     self.kit / "bin" / "prover"):
+            with self.subTest(changed=path.relative_to(self.room)):
+                text = path.read_text()
+                path.write_text(text + "// more\n")
+                self.assertFalse(self.is_built())
+                path.write_text(text)
+                self.assertTrue(self.is_built())
+        (self.top / "crates/other/src/lib.rt").write_text("// changed\n")
+        self.assertTrue(self.is_built(), "it doesn't stand on that crate")
+        formats[0].unlink()
+        self.assertFalse(self.is_built())
 
     # --- Signals ---
 

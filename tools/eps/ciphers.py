@@ -31,69 +31,92 @@ def substitution_box():
 
 
 SBOX = substitution_box()
+DOUBLED = bytes(doubled(octet) & 0xFF for octet in range(256))
 COLUMNS = [(doubled(s), s, s, doubled(s) ^ s) for s in SBOX]
-# SubBytes and MixColumns of each row, as words (clause 5.1).
-TABLES = [[int.from_bytes(bytes(c[-row:] + c[:-row]), "big") for c in COLUMNS] for row in range(4)]
 STATE = struct.Struct(">4I")  # a state is column by column (clause 3.4)
 SHIFTED = operator.itemgetter(*((at + 4 * (at % 4)) % BLOCK for at in range(BLOCK)))  # where each octet comes from in ShiftRows
 
 
-def words(octets):
-    return [int.from_bytes(octets[at:at + 4], "big") for at in range(0, len(octets), 4)]
+def table_of(at):
+    """What each octet at a place of the state adds to the state, a whole number, by SubBytes, ShiftRows and MixColumns
+    (clause 5.1)."""
+    row, column = at % 4, (at // 4 - at) % 4
+    return [int.from_bytes(bytes(c[-row:] + c[:-row]), "big") << 32 * (3 - column) for c in COLUMNS]
+
+
+T0, T1, T2, T3, T4, T5, T6, T7, T8, T9, T10, T11, T12, T13, T14, T15 = map(table_of, range(BLOCK))
 
 
 def round_keys(key):
-    """The key schedule (clause 5.2): four words for each round and four before."""
-    (a, b, c, d), constant, made = words(key), 1, [words(key)]
+    """The key schedule (clause 5.2): the key, and one for each round."""
+    (a, b, c, d), constant, made = STATE.unpack(key), 1, [int.from_bytes(key, "big")]
     for _ in range(ROUNDS):
         a ^= (SBOX[d >> 16 & 255] ^ constant) << 24 | SBOX[d >> 8 & 255] << 16 | SBOX[d & 255] << 8 | SBOX[d >> 24]
         b ^= a
         c ^= b
         d ^= c
-        made.append([a, b, c, d])
+        made.append(a << 96 | b << 64 | c << 32 | d)
         constant = doubled(constant)
     return made
 
 
 def aes(keys, block):
     """AES-128 of a block, a whole number, under round keys."""
-    t0, t1, t2, t3 = TABLES
-    w, x, y, z = (word ^ key for word, key in zip(STATE.unpack(block.to_bytes(BLOCK, "big")), keys[0]))
-    for k0, k1, k2, k3 in keys[1:ROUNDS]:
-        a, b, c, d, e, f, g, h, i, j, k, l, m, n, o, p = STATE.pack(w, x, y, z)
-        w = t0[a] ^ t1[f] ^ t2[k] ^ t3[p] ^ k0
-        x = t0[e] ^ t1[j] ^ t2[o] ^ t3[d] ^ k1
-        y = t0[i] ^ t1[n] ^ t2[c] ^ t3[h] ^ k2
-        z = t0[m] ^ t1[b] ^ t2[g] ^ t3[l] ^ k3
-    last = SHIFTED(STATE.pack(w, x, y, z).translate(SBOX))
-    return int.from_bytes(bytes(last), "big") ^ int.from_bytes(STATE.pack(*keys[ROUNDS]), "big")
+    state = block ^ keys[0]
+    for key in keys[1:ROUNDS]:
+        a, b, c, d, e, f, g, h, i, j, k, l, m, n, o, p = state.to_bytes(BLOCK, "big")
+        state = (T0[a] ^ T1[b] ^ T2[c] ^ T3[d] ^ T4[e] ^ T5[f] ^ T6[g] ^ T7[h]
+                 ^ T8[i] ^ T9[j] ^ T10[k] ^ T11[l] ^ T12[m] ^ T13[n] ^ T14[o] ^ T15[p] ^ key)
+    last = SHIFTED(state.to_bytes(BLOCK, "big").translate(SBOX))
+    return int.from_bytes(bytes(last), "big") ^ keys[ROUNDS]
+
+
+def padded(message):
+    """A message in whole blocks (RFC 4493 clause 2.4)."""
+    return message if message and len(message) % BLOCK == 0 else message + b"\x80" + bytes(-(len(message) + 1) % BLOCK)
+
+
+def eia2_text(count, direction, message):
+    """What 128-EIA2 with bearer 0 is the CMAC of (TS 33.401 annex B.2.3)."""
+    return count.to_bytes(4, "big") + bytes([direction << 2, 0, 0, 0]) + message
 
 
 class Cmac:
-    """CMAC under one key (RFC 4493)."""
+    """CMAC under one key (RFC 4493); what is made of the key is made once it is needed."""
 
     def __init__(self, key):
-        self.keys = round_keys(key)
-        self.whole = self.subkey(aes(self.keys, 0))
+        self.key, self.whole, self.padded = key, None, None
+
+    @functools.cached_property
+    def keys(self):
+        return round_keys(self.key)
+
+    def make_subkeys(self, zero):
+        """Makes both of the cipher of zero (clause 2.3)."""
+        self.whole = self.subkey(zero)
         self.padded = self.subkey(self.whole)
 
     @staticmethod
     def subkey(value):
-        """The double of a block (clause 2.3)."""
+        """The double of a block."""
         return (value << 1 ^ (0x87 if value >> 127 else 0)) & (1 << 128) - 1
 
+    def subkey_of(self, message):
+        """The one that is for a message."""
+        return self.whole if message and len(message) % BLOCK == 0 else self.padded
+
     def of(self, message):
-        is_whole = message and len(message) % BLOCK == 0
-        padded = message if is_whole else message + b"\x80" + bytes(-(len(message) + 1) % BLOCK)
-        chain = 0
-        for at in range(0, len(padded) - BLOCK, BLOCK):
-            chain = aes(self.keys, chain ^ int.from_bytes(padded[at:at + BLOCK], "big"))
-        last = int.from_bytes(padded[-BLOCK:], "big") ^ (self.whole if is_whole else self.padded)
+        if self.whole is None:
+            self.make_subkeys(aes(self.keys, 0))
+        octets, chain = padded(message), 0
+        for at in range(0, len(octets) - BLOCK, BLOCK):
+            chain = aes(self.keys, chain ^ int.from_bytes(octets[at:at + BLOCK], "big"))
+        last = int.from_bytes(octets[-BLOCK:], "big") ^ self.subkey_of(message)
         return aes(self.keys, chain ^ last).to_bytes(BLOCK, "big")
 
     def eia2(self, count, direction, message):
         """128-EIA2 with bearer 0 (TS 33.401 annex B.2.3)."""
-        return self.of(count.to_bytes(4, "big") + bytes([direction << 2, 0, 0, 0]) + message)[:4]
+        return self.of(eia2_text(count, direction, message))[:4]
 
 
 # HMAC (RFC 2104) of a key of 64 octets at the most: the octets that its pads make of each.

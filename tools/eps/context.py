@@ -1,7 +1,7 @@
 """A phone's security context: its keys and counts, and why a message isn't accepted under it (TS 24.301 clause 4.4)."""
 import dataclasses
 
-from eps import ciphers, nas
+from eps import ciphers, macs, nas
 from eps.reasons import Why
 
 LAST_COUNT = (1 << 24) - 1
@@ -44,11 +44,11 @@ def estimate(last, bits, width):
 
 
 class Context:
-    """A context by the vector it came of; `accepted` has the line of each accepted uplink count."""
+    """A context by the vector it came of; `accepted` has the line of each accepted uplink count, and `is_right` says whether a
+    MAC is."""
 
-    def __init__(self, vector, before):
-        self.vector, self.kasme, self.key_set = vector, vector.kasme, vector.key_set
-        self.cipher = ciphers.nas_integrity(vector.kasme)
+    def __init__(self, vector, before, is_right=macs.is_right):
+        self.vector, self.kasme, self.key_set, self.is_right = vector, vector.kasme, vector.key_set, is_right
         self.before = before  # the vectors of earlier contexts
         self.down, self.last, self.accepted = 0, None, {}
         self.radio_key = self.next_hop = self.chaining = None
@@ -102,24 +102,19 @@ class Context:
         count = estimate(self.last, bits, width)
         if count is None:
             return Refusal(Why.COUNTS_SPENT, {})
-        if self.mac(self.cipher, count, inside, mac):
+        if self.is_right(self.kasme, count, nas.UP, inside, mac):
             self.keep(count, line)
             return None
         return self.wrong(width, bits, inside, mac, count)
 
-    @staticmethod
-    def mac(cipher, count, inside, mac):
-        """Whether a MAC is right, of which as many last octets count as there are."""
-        return cipher.eia2(count, nas.UP, inside)[-len(mac):] == mac
-
     def wrong(self, width, bits, inside, mac, count):
         """Why a MAC is wrong: by an earlier count, by another context's key, or by neither."""
         for used in range(bits, (self.last if self.last is not None else -1) + 1, 1 << width):
-            if self.mac(self.cipher, used, inside, mac):
+            if self.is_right(self.kasme, used, nas.UP, inside, mac):
                 return self.passed(used)
         for vector in self.before:
-            cipher = ciphers.nas_integrity(vector.kasme)
-            if any(self.mac(cipher, tried, inside, mac) for tried in range(bits, count + (1 << width), 1 << width)):
+            tried = range(bits, count + (1 << width), 1 << width)
+            if any(self.is_right(vector.kasme, used, nas.UP, inside, mac) for used in tried):
                 return Refusal(Why.OTHER_KEY, {"other": vector.number, "vector": self.vector.number})
         return Refusal(Why.WRONG_MAC, {"vector": self.vector.number, "count": count})
 

@@ -59,6 +59,7 @@ def algorithms(names, bits):
     return " ".join(name for at, name in enumerate(names) if bits >> len(names) - 1 - at & 1) or "none"
 
 
+@functools.cache
 def numbered(prefix, first=0, count=8):
     return tuple("%s%d" % (prefix, first + at) for at in range(count))
 

@@ -9,11 +9,12 @@ import functools
 import s1ap
 from eps import usual
 from eps.elements import ELEMENTS, MME_ID, NAS_PDU, SETUP_LIST, SOURCE_MME_ID
-from eps.per import CRITICALITIES, Number, Reader, Unreadable, read_criticality, skip_additions
+from eps.per import CRITICALITIES, ElementsOf, Number, Reader, Unreadable, read_criticality, skip_additions
+from eps.shapes import Shape, Shapes, of_octets
 
 OUTCOMES = ("initiating", "successful", "unsuccessful")
 REJECT, IGNORE, NOTIFY = "reject", "ignore", "notify"
-LONGEST_KEPT = 64  # octets of an element whose value is kept
+KEPT, LONGEST_KEPT = 1 << 10, 64  # values of an element that are kept, and the octets of the longest one
 PASSED_OVER = {75: "GUMMEI", 127: "CSG Id", 128: "CSG Id List"}  # elements that are skipped though they are marked reject
 
 
@@ -94,20 +95,34 @@ class Element:
 
     @property
     def name(self):
-        known = ELEMENTS.get(self.id)
-        return known[0] if known else PASSED_OVER.get(self.id, "element %d" % self.id)
+        return name_of(self.id)
 
 
-@dataclasses.dataclass(slots=True)
+def name_of(number):
+    """The name of an element by its id."""
+    known = ELEMENTS.get(number)
+    return known[0] if known else PASSED_OVER.get(number, "element %d" % number)
+
+
 class Message:
-    """A message of S1AP: what was read of it, and its first fault with words on it, or None."""
-    octets: bytes
-    code: int | None = None
-    outcome: int | None = None
-    criticality: str | None = None
-    elements: list = dataclasses.field(default_factory=list)
-    fault: Fault | None = None
-    why: str | None = None
+    """A message of S1AP: what was read of it, and its first fault with words on it, or None; `values` has of each id the value of
+    the first element. One that is spelled as usual has its frame."""
+    __slots__ = "octets", "code", "outcome", "criticality", "fault", "why", "values", "frame", "listed"
+
+    def __init__(self, octets, frame=None, values=None):
+        self.octets, self.frame, self.fault, self.why = octets, frame, None, None
+        if frame:
+            (self.code, self.outcome), self.criticality, self.values, self.listed = frame.kind, frame.criticality, values, None
+        else:
+            self.code = self.outcome = self.criticality = None
+            self.values, self.listed = {}, []
+
+    @property
+    def elements(self):
+        """Its elements, from the left."""
+        if self.listed is None:
+            self.listed = self.frame.elements(self.octets, self.values)
+        return self.listed
 
     @property
     def name(self):
@@ -119,20 +134,17 @@ class Message:
 
     def get(self, number):
         """The value of the first element with this id, or None."""
-        for element in self.elements:
-            if element.id == number:
-                return element.value
-        return None
+        return self.values.get(number)
 
     def mme_id(self):
         """The MME UE S1AP ID that the message names an association by, or None."""
-        return self.get(SOURCE_MME_ID if (self.code, self.outcome) == (s1ap.PATH_SWITCH, 0) else MME_ID)
+        return self.values.get(SOURCE_MME_ID if self.code == s1ap.PATH_SWITCH and self.outcome == 0 else MME_ID)
 
     def nas(self):
         """The octets of the NAS message in it, or None."""
-        carried = self.get(NAS_PDU)
-        if carried is None and self.get(SETUP_LIST):
-            carried = self.get(SETUP_LIST)[0].get("NAS-PDU")
+        carried = self.values.get(NAS_PDU)
+        if carried is None and self.values.get(SETUP_LIST):
+            carried = self.values[SETUP_LIST][0].get("NAS-PDU")
         return carried
 
     def at_fault(self, fault, why):
@@ -140,40 +152,67 @@ class Message:
             self.fault, self.why = fault, why
 
 
+class Frame:
+    """What messages have in common that are spelled as usual and differ in the octets of their elements alone: where each element
+    stands, and what reads its value."""
+
+    def __init__(self, octets, found):
+        self.kind, self.criticality = (octets[1], octets[0] >> 5), CRITICALITIES[octets[2] >> 6]
+        self.spans = found
+        self.criticalities = [CRITICALITIES[octets[start - (2 if end - start < s1ap.SHORT else 3)] >> 6]
+                              for start, end in found.values()]
+        self.readers = [(number, start, end, reader_of(number, end - start)) for number, (start, end) in found.items()]
+        self.lists = [number for number in found if isinstance(ELEMENTS[number][1], ElementsOf)]
+        self.is_in_order = are_in_order(FORMS[self.kind], self.criticality, list(zip(found, self.criticalities)))
+
+    def values(self, octets):
+        """The value of each element of a message, by its id."""
+        values = {}
+        for number, start, end, read in self.readers:
+            value = read(octets[start:end])
+            values[number] = ELEMENTS[number][1].whole(octets[start:end]) if value is None else value
+        return values
+
+    def elements(self, octets, values):
+        return [Element(number, criticality, octets[start:end], values[number])
+                for (number, (start, end)), criticality in zip(self.spans.items(), self.criticalities)]
+
+
+def reader_of(number, length):
+    """What reads the value of an element of the profile with so many octets, or answers None where it isn't spelled as usual."""
+    return usual.READERS.get(number) or (kept_reader(number) if length <= LONGEST_KEPT else ELEMENTS[number][1].whole)
+
+
+@functools.cache
+def kept_reader(number):
+    """What reads an element's value, and keeps values, which are met again and again."""
+    return functools.lru_cache(KEPT)(ELEMENTS[number][1].whole)
+
+
+FRAMES = Shapes()
+
+
 def decode(octets):
-    """The message that these octets are."""
-    return decode_usual(octets) or decode_whole(octets)
+    """The message that these octets are. One that is spelled as usual and has no fault is read by its frame, which is looked at
+    once: that reads what decode_whole does."""
+    frame = FRAMES.kept_of(octets) or frame_met(octets)
+    if frame:
+        try:
+            return Message(octets, frame, frame.values(octets))
+        except Unreadable:
+            pass
+    return decode_whole(octets)
 
 
-def decode_usual(octets):
-    """The message that octets are which are spelled as usual and have no fault; else None. It reads what decode_whole does: what
-    stands in many messages once."""
+def frame_met(octets):
+    """The frame of a message of another one than those before, which is kept; None where it isn't spelled as usual."""
     found = s1ap.spans(octets)
     form_of = found is not None and FORMS.get((octets[1], octets[0] >> 5))
     if not form_of or not form_of.needed <= found.keys() <= form_of.known:
         return None
-    try:
-        elements = []
-        for number, (start, end) in found.items():
-            inside, criticality = octets[start:end], octets[start - (2 if end - start < s1ap.SHORT else 3)] >> 6
-            elements.append(Element(number, CRITICALITIES[criticality], inside, value_of(number, inside)))
-    except Unreadable:
-        return None
-    return Message(octets, octets[1], octets[0] >> 5, CRITICALITIES[octets[2] >> 6], elements)
-
-
-def value_of(number, octets):
-    """The value of an element of the profile, by its id and its octets."""
-    reader = usual.READERS.get(number)
-    value = reader(octets) if reader else None
-    if value is not None:
-        return value
-    return kept_value_of(number, octets) if len(octets) <= LONGEST_KEPT else ELEMENTS[number][1].whole(octets)
-
-
-@functools.lru_cache(1 << 12)
-def kept_value_of(number, octets):
-    return ELEMENTS[number][1].whole(octets)
+    frame = Frame(octets, found)
+    FRAMES.keep(octets, Shape(octets, [of_octets(start, end) for start, end in found.values()], frame))
+    return frame
 
 
 def decode_whole(octets):
@@ -219,6 +258,7 @@ def read_elements(message, reader):
         element = Element(number, criticality, reader.open())
         message.elements.append(element)
         read_value(element, number in known and message.fault is None)
+        message.values.setdefault(number, element.value)
     if extended:
         skip_additions(reader)
     reader.finish()
@@ -244,7 +284,14 @@ def missing(message):
 
 def is_in_order(message):
     """Whether a message has its elements in the order and with the criticalities that a sender of the profile writes."""
+    frame = message.frame
+    if frame:
+        return frame.is_in_order and all(message.values[number].as_written for number in frame.lists)
     written = [(element.id, element.criticality) for element in message.elements]
-    expected = [pair for pair in message.form.elements if pair in written]
     items = all(getattr(element.value, "as_written", True) for element in message.elements)
-    return items and written == expected and message.criticality == message.form.criticality
+    return items and are_in_order(message.form, message.criticality, written)
+
+
+def are_in_order(form_of, criticality, written):
+    """Whether elements, as pairs of id and criticality, and the message's own criticality are as the form has them."""
+    return written == [pair for pair in form_of.elements if pair in written] and criticality == form_of.criticality

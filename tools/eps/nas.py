@@ -9,6 +9,7 @@ import functools
 import s1ap
 from eps import nas_elements as forms
 from eps.nas_elements import Beyond, Refused, named
+from eps.shapes import NAS_HEAD, Shape, Shapes, of_octets
 
 KEPT = 1 << 8  # messages that aren't decoded again
 UP, DOWN = 0, 1  # directions, as a MAC takes them (TS 33.401 annex B.2.1)
@@ -50,7 +51,8 @@ class Plain:
     """A plain NAS message, or one without its protection: what was read of it, and its first fault with words on it, or None.
 
     `lengths` has the octets of each element that stands after its length, by its name, and `places` where an element's octets
-    begin; `spare` says that a spare bit is set.
+    begin; `spare` says that a spare bit is set. `parts` has of each element that is read from octets of its own its name, where
+    they begin and end, and what makes its value of them.
     """
     octets: bytes
     is_esm: bool
@@ -61,6 +63,7 @@ class Plain:
     spare: bool = False
     fault: Fault | None = None
     why: str | None = None
+    parts: list = dataclasses.field(default_factory=list, compare=False)
 
     @property
     def name(self):
@@ -84,6 +87,16 @@ class Plain:
     def at_fault(self, fault, why):
         if self.fault is None:
             self.fault, self.why = fault, why
+
+    def like(self, octets):
+        """The message of other octets that differ from these in its parts alone, or None where one of them is at fault."""
+        fields = self.fields.copy()
+        try:
+            for name, start, end, form in self.parts:
+                fields[name] = form(octets[start:end])
+        except Refused:
+            return None
+        return Plain(octets, self.is_esm, self.type, fields, self.lengths, self.places, self.spare, parts=self.parts)
 
 
 class Cursor:
@@ -142,6 +155,7 @@ class Fixed:
 
     def take(self, cursor, message):
         message.places[self.name] = cursor.at
+        message.parts.append((self.name, cursor.at, cursor.at + self.size, forms.hexed))
         kept(message, self.name, forms.hexed, cursor.take(self.size))
 
 
@@ -156,6 +170,8 @@ class Sized:
     def take(self, cursor, message):
         octets = cursor.take(cursor.number(self.octets_of_length))
         message.lengths[self.name], message.places[self.name] = len(octets), cursor.at - len(octets)
+        if self.only is None:
+            message.parts.append((self.name, cursor.at - len(octets), cursor.at, self.form))
         kept(message, self.name, self.form, octets, self.only)
 
 
@@ -305,6 +321,7 @@ def options(cursor, message):
         name = names.get(identifier, "element %02x" % identifier)
         if name not in message.fields:
             message.fields[name], message.places[name] = option_value(name, octets), cursor.at - len(octets)
+            message.parts.append((name, cursor.at - len(octets), cursor.at, functools.partial(option_value, name)))
             message.lengths.update({name: len(octets)} if sized else {})
 
 
@@ -340,9 +357,27 @@ def octets_text(count):
     return "%d octet%s" % (count, "" if count == 1 else "s")
 
 
+EMM_SHAPES, ESM_SHAPES = {UP: Shapes(NAS_HEAD), DOWN: Shapes(NAS_HEAD)}, Shapes(NAS_HEAD)
+
+
+def decoded(shapes, octets, read):
+    """The message that `read` makes of octets. Of one that has the shape of a message that was met the parts alone are read."""
+    known = shapes.kept_of(octets)
+    message = known and known.like(octets)
+    if not message:
+        message = read(octets)
+        if not message.fault and message.parts:
+            shapes.keep(octets, Shape(octets, [of_octets(start, end) for _, start, end, _ in message.parts], message))
+    return message
+
+
 @functools.lru_cache(KEPT)
 def decode_emm(octets, direction):
     """An EMM message, or octets that are read as one."""
+    return decoded(EMM_SHAPES[direction], octets, lambda whole: read_emm(whole, direction))
+
+
+def read_emm(octets, direction):
     message = Plain(octets, is_esm=False)
     if len(octets) < 2:
         message.at_fault(Fault.TOO_SHORT, octets_text(len(octets)))
@@ -364,6 +399,10 @@ def decode_emm(octets, direction):
 @functools.lru_cache(KEPT)
 def decode_esm(octets):
     """An ESM message, or octets that are read as one."""
+    return decoded(ESM_SHAPES, octets, read_esm)
+
+
+def read_esm(octets):
     message = Plain(octets, is_esm=True)
     if len(octets) < 3:
         message.at_fault(Fault.TOO_SHORT, octets_text(len(octets)))

@@ -1,4 +1,6 @@
 """Elements of EPS NAS (TS 24.301 clause 9.9): each reads a value from the octets of its element, or refuses them."""
+import functools
+
 from causes import emm_cause, esm_cause
 from eps import identities
 from eps.per import Enumerator
@@ -139,6 +141,7 @@ def autn(octets):
 
 
 
+@functools.cache
 def timer(octet):
     """A GPRS timer (TS 24.008 clause 10.5.7.3)."""
     unit = {0: 2, 2: 360}.get(octet >> 5, 60)

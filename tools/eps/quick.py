@@ -4,86 +4,14 @@
 holes where the line is the same whatever stands there, or tells it as a number. tests/tools fills the holes at random, and
 compares each line with that of the whole decoder.
 """
-import dataclasses
 import re
 
 import s1ap
 from eps import elements, messages, nas, render
 from eps.nas_elements import IMSI_OCTETS
+from eps.shapes import Hole, Shape, Shapes, of_octets
 
-HEAD = 5  # octets by which shapes are looked up: kind, procedure, criticality, and what begins the length and the value
-MOST_HEADS, MOST_OF_A_HEAD = 1 << 12, 32  # that are kept
 KNOWN = {kind: frozenset(form.ids()) for kind, form in messages.FORMS.items()}
-
-
-@dataclasses.dataclass(frozen=True)
-class Hole:
-    """Bits of a message: the first one, and how many. `least` is the least number there, where the line tells it; `is_decimal`
-    says that each half octet is a digit."""
-    first: int
-    width: int
-    least: int | None = None
-    is_decimal: bool = False
-
-
-def of_octets(start, end, **more):
-    """A hole of whole octets."""
-    return Hole(8 * start, 8 * (end - start), **more)
-
-
-class Shape:
-    """Messages with the same octets but for holes; `kept` is what is known of them beside the numbers."""
-
-    def __init__(self, octets, holes, kept):
-        size, free, self.holes, self.digits, self.numbers, self.kept = 8 * len(octets), 0, holes, 0, [], kept
-        for hole in holes:
-            shift, mask = size - hole.first - hole.width, (1 << hole.width) - 1
-            free |= mask << shift
-            if hole.is_decimal:
-                self.digits |= mask // 15 << shift  # the low bit of each half octet
-            if hole.least is not None:
-                self.numbers.append((shift, mask, hole.least))
-        self.same = ~free
-        self.value = int.from_bytes(octets, "big") & self.same
-
-    def told(self, number):
-        """The numbers in a message, itself a number, that are told of it; None where it isn't of this shape."""
-        if number & self.same != self.value or self.digits and number >> 3 & (number >> 2 | number >> 1) & self.digits:
-            return None
-        told = []
-        for shift, mask, least in self.numbers:
-            value = number >> shift & mask
-            if value < least:
-                return None
-            told.append(value)
-        return told
-
-
-class Shapes:
-    """The shapes that were met."""
-
-    def __init__(self):
-        self.heads = {}
-
-    def find(self, octets):
-        """What is kept of a message's shape, and the numbers in it; or None."""
-        known = self.heads.get(octets[:HEAD])
-        if known:
-            number = int.from_bytes(octets, "big")
-            for shape in known:
-                told = shape.told(number)
-                if told is not None:
-                    return shape.kept, told
-        return None
-
-    def keep(self, octets, shape):
-        """Keeps the shape of a message as the first to be looked at."""
-        head = octets[:HEAD]
-        if head not in self.heads and len(self.heads) >= MOST_HEADS:
-            self.heads.clear()
-        known = self.heads.setdefault(head, [])
-        del known[MOST_OF_A_HEAD - 1:]
-        known.insert(0, shape)
 
 
 class Lines:

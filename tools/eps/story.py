@@ -6,7 +6,7 @@ import typing
 
 import progress
 import runs
-from eps import messages, render
+from eps import macs, messages, render
 from eps.elements import CAUSE
 from eps.telling import Expected
 from eps.world import World
@@ -71,12 +71,12 @@ def message_name(octets, from_mme=False):
     return "%s %s" % (name, render.cause_text(cause)) if cause else name
 
 
-def differences(expected, answered):
-    """How an answer isn't what is expected, a line or a message, in words."""
+def differences(expected, answered, is_right=macs.is_right):
+    """How an answer isn't what is expected, a line or a message, in words; `is_right` says whether a MAC is."""
     answer = answered.answer
     if isinstance(expected, str) or answer.word != "out":
         return [] if expected == line_of(answer) else ["it answers %s" % answered.text()]
-    return list(expected.differences(answer.owner, answer.station, answer.octets))
+    return list(expected.differences(answer.owner, answer.station, answer.octets, is_right))
 
 
 def line_of(answer):
@@ -93,10 +93,10 @@ def owner_of(expected):
 
 
 class Teller:
-    """Tells a run, event by event, by a world of its own."""
+    """Tells a run, event by event, by a world of its own; `is_right` says whether a MAC is."""
 
-    def __init__(self, trace):
-        self.world = World(trace.head)
+    def __init__(self, trace, is_right=macs.is_right):
+        self.world = World(trace.head, is_right)
         self.strayed = set()  # owners of which the MME did otherwise: no more of theirs is compared
 
     def owed(self, event):
@@ -156,10 +156,26 @@ class Teller:
             told.otherwise.append((owner, text))
 
 
-def story_of(trace, steps):
-    """Each event of a run, told, and the network as it is at the end."""
-    teller = Teller(trace)
-    return [teller.told(step.event, step.answers) for step in progress.over("tells event", steps, len(steps))], teller.world
+def story_of(trace, steps, brief=False):
+    """Each event of a run, told, in brief those with a reason alone; and the network as it is at the end."""
+    def tell(is_right):
+        teller = Teller(trace, is_right)
+        told = (teller.told(step.event, step.answers) for step in progress.over("tells event", steps, len(steps)))
+        return [each for each in told if not brief or each.has_reason()], teller.world
+
+    return with_claims(tell)
+
+
+def with_claims(tell):
+    """What `tell` makes of a run, which is given what says whether a MAC is right. Each is taken for right at first, and many are
+    looked at at once; if one is wrong, the run is told anew, and each is looked at as it comes."""
+    claims = macs.Claims()
+    try:
+        made = tell(claims.is_right)
+        claims.check()
+        return made
+    except macs.Wrong:
+        return tell(macs.is_right)
 
 
 # --- Which event each answer is to ---
@@ -174,45 +190,53 @@ class Run(typing.NamedTuple):
     world: World | None = None
 
 
-def exact_run(trace, answers):
+def exact_run(trace, answers, brief=False):
     """The run of a trace with its answers as the model owes them, in their order; None where they aren't those."""
-    teller, at, steps, told = Teller(trace), 0, runs.started(trace), []
+    return with_claims(lambda is_right: run_as_owed(trace, answers, brief, is_right))
+
+
+def run_as_owed(trace, answers, brief, is_right):
+    """The same, where `is_right` says whether a MAC is."""
+    teller, at, steps, told = Teller(trace, is_right), 0, runs.started(trace), []
     for step in progress.over("tells event", steps, len(steps)):
         second, owed, tellings = teller.owed(step.event)
-        own, taken = teller.owner(step.event), answers[at:at + len(owed)]
-        answered = [Answered(answer.owner or own, second, answer) for answer in taken]
-        if len(taken) < len(owed) or any(map(differences, owed, answered)):
+        taken = answers[at:at + len(owed)]
+        answered = [Answered(answer.owner or teller.owner(step.event), second, answer) for answer in taken]
+        if len(taken) < len(owed):
             return None
         for each, expected in zip(answered, owed):
+            if differences(expected, each, is_right):
+                return None
             teller.fit(each, expected, second)
         step.answers = [(each.second, each.answer) for each in answered]
-        told.append(Told(step.event, second, tellings, answered))
+        if not brief or any(telling.why for telling in tellings):
+            told.append(Told(step.event, second, tellings, answered))
         at += len(owed)
     return Run(trace, steps, told, teller.world) if at == len(answers) else None
 
 
-def matched_run(trace, answers):
+def matched_run(trace, answers, brief=False):
     """The run of a trace with answers that may be others than the model owes."""
-    return exact_run(trace, answers) or told_run(trace, runs.matched(trace, answers))
+    return exact_run(trace, answers, brief) or told_run(trace, runs.matched(trace, answers), brief)
 
 
-def told_run(trace, steps):
-    return Run(trace, steps, *story_of(trace, steps))
+def told_run(trace, steps, brief=False):
+    return Run(trace, steps, *story_of(trace, steps, brief))
 
 
-def run_of(trace_path, answers_path, program=None, most=None):
+def run_of(trace_path, answers_path, program=None, most=None, brief=False):
     """A run by the paths of its trace and answers, as runs.run_of has them; answers that are given go to the events that owe them
-    by the standards.
+    by the standards. In brief only the events that are told with a reason are kept.
 
     Where there are more than `most` events, or the trace is a log without keys, the run isn't told, and answers are matched by
     their kinds alone, which is quicker. Where it has to be told, with no `most`, a log without keys is a fault.
     """
     if answers_path is None or "-" == trace_path == answers_path:
         trace, steps = runs.run_of(trace_path, answers_path, program)
-        return Run(trace, steps) if why_untold(trace, most) else told_run(trace, steps)
+        return Run(trace, steps) if why_untold(trace, most) else told_run(trace, steps, brief)
     trace = runs.read_trace(runs.read_file(trace_path), trace_path)
     answers = runs.read_answers(runs.read_file(answers_path), answers_path)
-    return Run(trace, runs.matching(trace, answers)) if why_untold(trace, most) else matched_run(trace, answers)
+    return Run(trace, runs.matching(trace, answers)) if why_untold(trace, most) else matched_run(trace, answers, brief)
 
 
 def why_untold(trace, most=MOST_TOLD):

@@ -53,8 +53,9 @@ TAKEN_WITHOUT_ANSWER = {
 class Subscriber:
     """What the network keeps of a subscriber, and what it does at each event."""
 
-    def __init__(self, network, profile, alarms, near):
+    def __init__(self, network, profile, alarms, near, is_right):
         self.network, self.profile, self.owner, self.alarms, self.near = network, profile, profile.owner, alarms, near
+        self.is_right = is_right
         self.phase, self.place, self.context = Phase.DEREGISTERED, None, None
         self.associations = self.tmsis = self.spent = 0
         self.tmsi = self.area = self.vector = None
@@ -112,16 +113,10 @@ class Subscriber:
     def key(self):
         return (1, self.profile.slot)
 
-    @property
-    def place(self):
-        """The association of its connection, or None."""
-        return self.connection
-
-    @place.setter
-    def place(self, place):
-        self.connection = place
-        if place:
-            self.near[place.station].add(self.profile.slot)
+    def move_to(self, place):
+        """The connection is at an association."""
+        self.place = place
+        self.near[place.station].add(self.profile.slot)
 
     def is_near(self, station):
         """Whether it is connected or paged at a station."""
@@ -134,7 +129,8 @@ class Subscriber:
 
     def connect(self, now, place=None):
         """The phone's connection, at the sending station; an old one elsewhere ends."""
-        old, self.place = self.place, place or self.next_place(now)
+        old = self.place
+        self.move_to(place or self.next_place(now))
         if old and not old.is_at(now.station, now.enb_id):
             now.send_release(self.owner, old, NORMAL_RELEASE, "ends the phone's old connection")
         if old:
@@ -375,7 +371,7 @@ class Subscriber:
             now.send_switch_failure(self.owner, NOT_COMPATIBLE)
         else:
             self.tell(now, "moves the phone's connection from station %d to station %d" % (self.place.station, now.station))
-            self.place = Place(now.mme_id, now.station, now.enb_id, now.line)
+            self.move_to(Place(now.mme_id, now.station, now.enb_id, now.line))
             self.context.take_hop()
             values = {0: now.mme_id, 8: now.enb_id, SECURITY_CONTEXT: {
                 "next hop chaining count": self.context.chaining, "NH": self.context.next_hop}}
@@ -432,7 +428,7 @@ class Subscriber:
             self.on_wrong_response(now, res)
             return
         self.tell(now, "proves the phone by RES of vector %d" % self.vector.number)
-        self.context = Context(self.vector, [old for old in self.contexts if old is not self.vector])
+        self.context = Context(self.vector, [old for old in self.contexts if old is not self.vector], self.is_right)
         self.contexts.append(self.vector)
         self.phase = Phase.SECURITY_MODE
         self.send_security_mode(now)

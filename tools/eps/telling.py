@@ -2,8 +2,7 @@
 import dataclasses
 
 import s1ap
-from eps import messages, nas
-from eps.ciphers import nas_integrity
+from eps import macs, messages, nas
 from eps.elements import BOTH_IDS, CAUSE, ENB_ID, MME_ID, NAS_PDU, SETUP_LIST
 from eps.reasons import FORGERIES, REPLAYS, Mark, Why
 
@@ -50,8 +49,8 @@ class Said:
         """The same, protected under the context's next downlink count."""
         return Said(self.type, self.fields, self.is_esm, header, context.kasme, context.spend())
 
-    def differences(self, octets):
-        """How a NAS message isn't as expected, in words."""
+    def differences(self, octets, is_right):
+        """How a NAS message isn't as expected, in words; `is_right` says whether a MAC is."""
         protected = nas.split(octets)
         plain = nas.decode_plain(protected.inner if protected else octets, nas.DOWN)
         if (plain.type, plain.is_esm) != (self.type, self.is_esm):
@@ -62,9 +61,9 @@ class Said:
         if plain.spare:
             yield "a spare bit is set"
         yield from unlike("", self.fields, plain.fields)
-        yield from self.protection(protected)
+        yield from self.protection(protected, is_right)
 
-    def protection(self, protected):
+    def protection(self, protected, is_right):
         """How its protection isn't as expected."""
         header = protected.header if protected else 0
         if header != self.header:
@@ -72,11 +71,8 @@ class Said:
         elif protected:
             if protected.sequence != self.count & 0xFF:
                 yield "the sequence number is %d, not that of count %d" % (protected.sequence, self.count)
-            elif protected.mac != nas_integrity(self.kasme).eia2(self.count, nas.DOWN, protected.covered()):
+            elif not is_right(self.kasme, self.count, nas.DOWN, protected.covered(), protected.mac):
                 yield "the MAC is wrong for count %d" % self.count
-
-
-SETUP_NAME = messages.ELEMENTS[SETUP_LIST][0]
 
 
 def unlike(path, wanted, found):
@@ -89,7 +85,8 @@ def unlike(path, wanted, found):
         yield from unlike(path, wanted.fields, found.fields)
     elif isinstance(wanted, dict) and isinstance(found, dict):
         for name in {**wanted, **found}:
-            yield from unlike("%s %s" % (path, name), wanted.get(name), found.get(name))
+            if wanted.get(name) != found.get(name):
+                yield from unlike("%s %s" % (path, name), wanted.get(name), found.get(name))
     else:
         yield "%s is %s, not %s" % (path.strip(), shown(found), shown(wanted))
 
@@ -129,8 +126,8 @@ class Expected:
             parts.append("with %s%s" % (plain.name, " %s" % cause if cause else ""))
         return " ".join(parts)
 
-    def differences(self, owner, station, octets):
-        """How a message that was sent isn't this one, in words; nothing where it is."""
+    def differences(self, owner, station, octets, is_right=macs.is_right):
+        """How a message that was sent isn't this one, in words; nothing where it is. `is_right` says whether a MAC is."""
         if (owner, station) != (self.owner, self.station):
             yield "it is for %s at station %d, not for %s at station %d" % (owner, station, self.owner, self.station)
         message = messages.decode(octets)
@@ -139,19 +136,20 @@ class Expected:
             return
         if not messages.is_in_order(message):
             yield "its elements aren't written as in the profile"
-        yield from self.elements(message)
+        yield from self.elements(message, is_right)
 
-    def elements(self, message):
+    def elements(self, message, is_right):
         """How its elements aren't as expected; the NAS message by its content."""
-        found = {element.name: element.value for element in message.elements if element.id != NAS_PDU}
-        carried = message.nas()
-        if found.get(SETUP_NAME):
-            found[SETUP_NAME] = [{name: value for name, value in item.items() if name != "NAS-PDU"} for item in found[SETUP_NAME]]
-        yield from unlike("", {messages.ELEMENTS[number][0]: value for number, value in self.values.items()}, found)
+        found, carried = {number: value for number, value in message.values.items() if number != NAS_PDU}, message.nas()
+        if found.get(SETUP_LIST):
+            found[SETUP_LIST] = [{name: value for name, value in item.items() if name != "NAS-PDU"} for item in found[SETUP_LIST]]
+        if found != self.values:
+            yield from unlike("", *({messages.name_of(number): value for number, value in values.items()}
+                                    for values in (self.values, found)))
         if (carried is None) != (self.said is None):
             yield "it carries %s NAS message" % ("no" if carried is None else "a")
         elif carried is not None:
-            yield from self.said.differences(carried)
+            yield from self.said.differences(carried, is_right)
 
 
 # --- Messages of the MME ---
@@ -180,21 +178,20 @@ NOT_COMPATIBLE = cause("protocol message-not-compatible-with-receiver-state")
 
 @dataclasses.dataclass(slots=True)
 class Now:
-    """An event under way: its line, its second, the station and the message that was heard, and what comes of it."""
+    """An event under way: its line, its second, the station and the message that was heard with its ids, and what comes of it."""
     line: int
     second: int
     station: int | None = None
     message: messages.Message | None = None
+    mme_id: int | None = None
+    enb_id: int | None = None
     sent: list = dataclasses.field(default_factory=list)
     tellings: list = dataclasses.field(default_factory=list)
 
-    @property
-    def mme_id(self):
-        return self.message.mme_id()
-
-    @property
-    def enb_id(self):
-        return self.message.get(ENB_ID)
+    def hear(self, octets):
+        """A message was heard."""
+        self.message = message = messages.decode(octets)
+        self.mme_id, self.enb_id = message.mme_id(), message.values.get(ENB_ID)
 
     def tell(self, owner, role, why=None, dropped=False, lines=(), subject=None, **facts):
         self.tellings.append(Telling(owner, self.second, subject, role, why, facts, dropped, tuple(lines)))

@@ -2,12 +2,15 @@
 
 Each of `READERS` answers what the element's type reads, or nothing where the octets aren't so spelled. tests/tools compares them.
 """
+import functools
+
 import s1ap
 from eps import identities
 from eps.elements import BOTH_IDS, DONE_LIST, ELEMENTS, ENB_ID, MME_ID, NAS_PDU, SECURITY_KEY, SETUP_LIST, SOURCE_MME_ID
 from eps.elements import SWITCHED_LIST
 from eps.per import Items
 
+KEPT = 1 << 12  # ids that are kept
 KEY_OCTETS = 32
 MME_ID_OCTETS, ENB_ID_OCTETS = 4, 3  # at the most
 ADDRESS, TUNNEL = "transport layer address", "GTP-TEID"
@@ -17,8 +20,8 @@ OF_SETUP = 6  # octets of a bearer to set up before its address (TS 36.413 claus
 
 
 def id_of(most):
-    """Reads an id of so many octets."""
-    return lambda octets: s1ap.usual_number(octets) if 2 <= len(octets) <= most + 1 else None
+    """Reads an id of so many octets, and keeps those that it read: a phone's messages have the same."""
+    return functools.lru_cache(KEPT)(lambda octets: s1ap.usual_number(octets) if 2 <= len(octets) <= most + 1 else None)
 
 
 def both_ids(octets):

@@ -7,7 +7,7 @@ import enum
 
 import runs
 import s1ap
-from eps import messages, nas
+from eps import macs, messages, nas
 from eps.context import Spent
 from eps.elements import CAPACITY, CAUSE, GUMMEIS, RESET_LIST, RESET_TYPE, S_TMSI, SUPPORTED_TAS
 from eps.messages import Fault, Sender
@@ -61,16 +61,20 @@ def order_of(owner):
 
 
 class World:
-    """The network of a trace's head."""
+    """The network of a trace's head; `is_right` says whether a MAC is."""
 
-    def __init__(self, head):
+    def __init__(self, head, is_right=macs.is_right):
         self.network, profiles = provisioned(head)
         self.alarms, self.stations, self.strangers = Alarms(), Stations(), {}
         # By station the slots that may be connected or paged there, and the eNB ids of strangers: one too many does no harm.
         self.near, self.waiting = collections.defaultdict(set), collections.defaultdict(set)
-        self.subscribers = [Subscriber(self.network, profile, self.alarms, self.near) for profile in profiles]
+        self.is_right = is_right
+        self.subscribers = [self.subscriber(profile) for profile in profiles]
         self.by_imsi = {each.profile.imsi: each for each in self.subscribers}
         self.second = 0
+
+    def subscriber(self, profile):
+        return Subscriber(self.network, profile, self.alarms, self.near, self.is_right)
 
     def lengthen(self, lines):
         """The head has these further lines."""
@@ -79,7 +83,7 @@ class World:
             word, *fields = line.decode("latin-1").split(" ")
             take_line(profiles, word, fields)
         for profile in list(profiles.values())[len(self.subscribers):]:
-            self.subscribers.append(Subscriber(self.network, profile, self.alarms, self.near))
+            self.subscribers.append(self.subscriber(profile))
             self.by_imsi[profile.imsi] = self.subscribers[-1]
 
     def forget(self, most):
@@ -168,7 +172,7 @@ class World:
         if state is State.DOWN:
             now.tell(station_owner(now), "isn't heard", Why.NOT_CONNECTED, dropped=True, station=event.station)
             return "refused %d" % NOT_UP
-        now.message = messages.decode(event.octets)
+        now.hear(event.octets)
         kind = now.message.code, now.message.outcome
         if now.message.fault:
             self.on_fault(now)

@@ -1,8 +1,9 @@
 #!/usr/bin/env python3
 """Proves the crates below the library for C and builds the library: `./mme --library [PROCESSOR]`.
 
-    library.py [PROCESSOR]      what `./mme --library` does: where this machine keeps that `rt ci` proved this text, whole, the
-                                library is built over what is kept; else each crate is proved in turn, with a line for each
+    library.py [PROCESSOR]      what `./mme --library` does: after the gate here, the library is built over the crates' libraries
+                                that it left; where this machine keeps what `rt ci` proved of this text, whole, over those; else
+                                each crate is proved in turn, with a line for each
     library.py --built FOLDER [PROCESSOR]
                                 builds it in a folder over the libraries that stand built here, as `rt ci` leaves them: the crate
                                 `mme_c` is checked and compiled, the crates below it are not
@@ -30,7 +31,7 @@ import toolchain
 from kept import ran
 from words import BAD_WORDS, Failed, say
 
-CRATE = "mme_c"
+CRATE = record.LIBRARY
 FOLDER = record.TOP / "crates" / CRATE / "out" / "library"
 ARCHIVE, SHARED, PLAIN = "libsoizkadur.a", "libsoizkadur.so.1", "libsoizkadur.so"
 HEADER = record.TOP / "library" / "soizkadur.h"
@@ -215,7 +216,10 @@ def prove_and_build(begun, processor):
     record.path_of(FOLDER / ARCHIVE).unlink(missing_ok=True)
     with tempfile.TemporaryDirectory() as room:
         archive = pathlib.Path(room, "lib%s.a" % CRATE)
-        if compile_over_kept(archive, processor):
+        if record.is_built():
+            say("%d crates stand built: the gate proved this text here" % len(before["crates"]))
+            compile_over_built(archive, processor)
+        elif compile_over_kept(archive, processor):
             say("%d crates are kept: `rt ci` proved this text on this machine" % len(before["crates"]))
         else:
             archive = prove_each(begun, processor)

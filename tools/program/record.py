@@ -2,10 +2,12 @@
 """What the program was made of: a record of digests beside it, and what has changed since.
 
     record.py now             prints the digests of text and toolchain, to be given back once they are proved
-    record.py since PROGRAM   writes the record of a program that was made by then; standard input has the digests of before
+    record.py since PROGRAM   writes the record of a program that was made by then, and of the crates' libraries that stand built
+                              for the library for C; standard input has the digests of before
 
 The record (PROGRAM.proved, JSON) has the SHA-256 of the program, of each crate's text and of the toolchain. It is written where the
 text was the same before the proofs and after the build, so whoever finds all of them unchanged has the program that was proved.
+So it is of the built libraries, whose record (BUILT) has a digest of each: the library for C can be built over them.
 """
 import contextlib
 import hashlib
@@ -17,8 +19,9 @@ import sys
 import time
 
 TOP = pathlib.Path(__file__).resolve().parents[2]
-NAME = "mme"
+NAME, LIBRARY = "mme", "mme_c"
 END = ".proved"
+BUILT = pathlib.Path("crates") / LIBRARY / "out" / ("built" + END)
 PARTS = ("src", "specs", "proofs", "c")  # of a crate, which its proof reads
 # The toolchain's folders and files that a proof and a build read; of each built library the file with the digests of its others.
 TOOLCHAIN = ("KIT-ID", "WHAT", "bin", "toolchain", "c", "logic_built", "rattle/logic", "rattle/antt", "rlibs/*/format")
@@ -140,6 +143,35 @@ def toolchain():
     return {"name": toolchain_name(), "sha256": toolchain_digest(), "seen": toolchain_seen()}
 
 
+# --- Built libraries ---
+
+
+def digests_of_built(names, top=TOP):
+    """The digest of each crate's library as it stands built, of its file with the digests of its others; none if one is missing."""
+    files = [top / "crates" / name / "out" / "rlib" / (name + ".rlib") / "format" for name in names]
+    return {name: digest_of(file) for name, file in zip(names, files)} if all(map(pathlib.Path.is_file, files)) else {}
+
+
+def write_built(crates, tools, top=TOP):
+    """Writes that the libraries below the library for C, as they stand built, are of these crates' digests, all proved; nothing
+    where not all of them are built."""
+    built = digests_of_built(crates_of(LIBRARY, top)[:-1], top)
+    if built:
+        (top / BUILT).parent.mkdir(exist_ok=True)
+        told = {"toolchain": tools, "crates": crates, "built": built}
+        (top / BUILT).write_text(json.dumps(told, indent=1) + "\n", encoding="utf-8")
+
+
+def is_built(top=TOP):
+    """Whether the libraries below the library for C stand built as they were recorded, and it and they were proved of this text by
+    this toolchain."""
+    with contextlib.suppress(OSError, ValueError, KeyError):
+        told = json.loads((top / BUILT).read_text(encoding="utf-8"))
+        return (told["built"] == digests_of_built(told["built"], top) and told["crates"] == digests_of_crates(LIBRARY, top)
+                and not list(toolchain_changed(told["toolchain"])))
+    return False
+
+
 # --- Records ---
 
 
@@ -198,7 +230,7 @@ def changed(told, top=TOP):
 
 def now():
     """The digests of text and toolchain as they are."""
-    return {"crates": digests_of_crates(), "toolchain": toolchain()}
+    return {"crates": digests_of_crates(), "library": digests_of_crates(LIBRARY), "toolchain": toolchain()}
 
 
 def main(words):
@@ -209,10 +241,11 @@ def main(words):
         print(__doc__.strip(), file=sys.stderr)
         return 2
     before = json.load(sys.stdin)
-    if before["crates"] != digests_of_crates():
+    if (before["crates"], before["library"]) != (digests_of_crates(), digests_of_crates(LIBRARY)):
         print("record.py: the crates changed while they were proved: no record is written", file=sys.stderr)
         return 1
     write(pathlib.Path(words[1]), before["crates"], before["toolchain"])
+    write_built(before["library"], before["toolchain"])
     return 0
 
 
