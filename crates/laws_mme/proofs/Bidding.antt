@@ -32,7 +32,7 @@ use Rattle.laws_subscriber.specs.Sound.{StaysSound, has_security_header}
 use Rattle.laws_subscriber.specs.Unproved.{begins_attach}
 use Rattle.laws_mme.specs.Attaches.{attach_leaves}
 use Rattle.laws_mme.specs.Holds.{Any, IsSealed, KeepsState, Says, sent_holds, state_holds, step_holds}
-use Rattle.laws_mme.specs.Keeps.{AsksToAttach, MayAwait, MayChallenge, MayProtect, is_under_way}
+use Rattle.laws_mme.specs.Premises.{AsksToAttach, MayAwait, MayChallenge, MayProtect, is_under_way}
 use Rattle.laws_mme.specs.Bidding.{CommandsReplay, IsAskedWith, Replays, ReplaysIfCommand, has_new_context_header}
 use Rattle.laws_mme.proofs.Wire.{ciphered_is_not_new, in_downlink, in_setup_with, in_use_is_not_new, of_one, plain_is_not_new, protected_is_not_new}
 

@@ -15,7 +15,7 @@ use Rattle.laws_subscriber.specs.Unproved.{begins_attach}
 use Rattle.laws_mme.specs.Attaches.{attach_leaves}
 use Rattle.laws_mme.specs.Challenges.{AttachSpendsOne, VectorsAreSpentSo, VectorsOverRuns, fails_to_synchronise, may_challenge, tells_synch_failure}
 use Rattle.laws_mme.specs.Holds.{KeepsState, state_holds}
-use Rattle.laws_mme.specs.Keeps.{FailsToSynchronise, MayChallenge}
+use Rattle.laws_mme.specs.Premises.{FailsToSynchronise, MayChallenge}
 
 -- ---- what a challenge is taken for
 

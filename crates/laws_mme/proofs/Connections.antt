@@ -36,7 +36,7 @@ use Rattle.laws_subscriber.specs.Sound.{HasConnection, IsSound}
 use Rattle.laws_subscriber.specs.Unproved.{is_attach_request, is_proved_entry, is_proved_message}
 use Rattle.laws_mme.specs.Connections.{Attach, ConnectionsStay, IsOfItsStation, IsProvedBy, IsSwitchOf, ItsStation, MayEnd, Network, Proved, Switch}
 use Rattle.laws_mme.specs.Holds.{page_solo}
-use Rattle.laws_mme.specs.Walk.{at_some, either_by}
+use Rattle.laws_subscriber.specs.Choices.{at_some, either_by}
 
 true_of : (b : Bool) → not b ≡ false → b ≡ true
 true_of true e = refl

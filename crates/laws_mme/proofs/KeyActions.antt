@@ -1,5 +1,5 @@
 -- Each action keeps what is known of the radio keys, and hands out one key at most.
-use Rattle.std.proofs.Common.{◌≡◌, ◌⊎◌, inl, inr, ℕ, suc, ◌+◌, ◌-◌, ◌^◌, ◌<◌, ◌≤◌, Bool, true, false, cond, List, [], ◌++◌, All, Option, Some, None, slice_get, refl, sym, ◌∙◌, ap, subst, append-nil, arith}
+use Rattle.std.proofs.Common.{◌≡◌, ◌⊎◌, inl, inr, ℕ, suc, ◌+◌, ◌-◌, ◌^◌, ◌<◌, ◌≤◌, true, false, List, [], ◌++◌, All, Option, Some, None, slice_get, refl, sym, ◌∙◌, ap, subst, append-nil, arith}
 use Rattle.std.specs.Option.{option_map_or}
 use Rattle.std.proofs.lemmas.List.Elements.{All-push}
 use Rattle.std.proofs.lemmas.Option.{same_Some}
@@ -26,16 +26,14 @@ use Rattle.emm_state.specs.declared.solo.Phase.{Phase}
 use Rattle.emm_state.specs.declared.solo.Phase.TheVariants.{Authenticating, Registered}
 use Rattle.emm_state.specs.declared.solo.Repeat.{Repeat}
 use Rattle.emm_state.specs.declared.solo.Solo.{Solo}
-use Rattle.emm_state.specs.Actions.{association_counted, connect, connect_on, disconnected, emit, ended, fall, fallen, is_at, is_registered, leave_old, lost, protect, refuse, release, resting, seal, sealed_under, send, set_up, start, turn_away, wipe}
-use Rattle.emm_state.specs.Does.{◌>>=◌}
+use Rattle.emm_state.specs.Actions.{association_counted, connect, connect_on, disconnected, emit, ended, fall, fallen, is_registered, leave_old, lost, protect, refuse, release, resting, seal, sealed_under, send, set_up, start, turn_away, wipe}
 use Rattle.emm_machine.specs.Attaching.{counted_up, keyed, keys_of, took}
 use Rattle.emm_machine.specs.Connected.{connection_of, hop_after, hopped, next_chaining_count, standing_hop, switched}
 use Rattle.emm_machine.specs.Freshness.{HasVector, next_place}
 use Rattle.emm_machine.specs.Serving.{active}
 use Rattle.laws_subscriber.specs.Keys.{IsForConnection, has_radio_key}
 use Rattle.laws_subscriber.specs.Sound.{hop_at, is_past_proof}
-use Rattle.laws_mme.specs.Keeps.{Whenever}
-use Rattle.laws_mme.specs.Walk.{at_some, either, either_by, some}
+use Rattle.laws_subscriber.specs.Choices.{Whenever, at_some, either, either_by, nothing, some, then}
 use Rattle.laws_mme.specs.Handed.{HasKey, RadioKey}
 use Rattle.laws_mme.specs.KeysOfMessage.{IsKept, IsOfAccepted, kenb_in}
 use Rattle.laws_mme.proofs.KeyOrder.{IsUpTo, after, hop_up, key, up_to_trans}
@@ -126,51 +124,23 @@ kept d = record { phase = d.solo.phase; next_vector = d.solo.next_vector; contex
 abbrev pub spent : Context → Context
 spent x = record x { security = record x.security { down_next = x.security.down_next + 1 } }
 
-pub record IsSealed (P : Draft → Type 0) (o : Option (Sealed × Draft)) : Type 0 where
-  pub at : (y : Sealed × Draft) → o ≡ Some y → P y.1
+abbrev pub IsSealed : (Draft → Type 0) → Sealed × Draft → Type 0
+IsSealed P y = P y.1
 
 -- a spent count leaves it
 abbrev pub Spends : (Draft → Type 0) → Type 0
 Spends P =
     (d : Draft) (x : Context) → d.solo.context ≡ Some x → P d → P (record d { solo = record d.solo { context = Some (spent x) } })
 
-pub sealed_then : {P R : Draft → Type 0} {o : Option (Sealed × Draft)} (g : Sealed × Draft → Draft) → IsSealed P o
-    → ((y : Sealed × Draft) → P y.1 → R (g y)) → Whenever R (o >>= λ y. Some (g y))
-sealed_then {o = None} g h each = record { at = λ e is. absurd (cc is) }
-sealed_then {o = Some y} g h each = some (each y (h.at y refl))
-
 module _ {P : Draft → Type 0} where
-  some_sealed : (y : Sealed × Draft) → P y.1 → IsSealed P (Some y)
-  some_sealed y h = record { at = λ z is. subst (λ (x : Sealed × Draft). P x.1) (same_Some y z is) h }
-
-  sealed_if : {o : Option (Sealed × Draft)} (t : Bool) → IsSealed P o → IsSealed P (cond t o None)
-  sealed_if true h = h
-  sealed_if false h = record { at = λ y is. absurd (cc is) }
-
   sealed_at : (header : SecurityHeader) (nas : List ℕ) (d : Draft) (o : Option Context) → d.solo.context ≡ o → Spends P → P d
-      → IsSealed P (option_map_or (sealed_under header nas d) o (Some (record { form = []; under = None }, d)))
-  sealed_at header nas d None is spends h = some_sealed (record { form = []; under = None }, d) h
-  sealed_at header nas d (Some x) is spends h = sealed_if _ (some_sealed _ (spends d x is h))
+      → Whenever (IsSealed P) (option_map_or (sealed_under header nas d) o (Some (record { form = []; under = None }, d)))
+  sealed_at header nas d None is spends h = some h
+  sealed_at header nas d (Some x) is spends h = either (Whenever (IsSealed P)) _ (some (spends d x is h)) nothing
 
-  pub seals : (header : SecurityHeader) (nas : List ℕ) (d : Draft) → Spends P → P d → IsSealed P (seal header nas d)
+  pub seals : (header : SecurityHeader) (nas : List ℕ) (d : Draft) → Spends P → P d → Whenever (IsSealed P) (seal header nas d)
   unfolding seal
   seals header nas d spends h = sealed_at header nas d d.solo.context refl spends h
-
--- ---- a new connection leaves the phase and the context
-
-left_solo : (station enb_ue_id : ℕ) (d : Draft) → (leave_old station enb_ue_id d).solo ≡ d.solo
-unfolding leave_old emit
-left_solo station enb_ue_id d =
-    at_some (λ (e : Draft). e.solo ≡ d.solo) d.solo.connection
-    (λ k is. either (λ (e : Draft). e.solo ≡ d.solo) (is_at k station enb_ue_id) refl refl) (λ is. refl)
-
-pub connect_phase : (slot station enb_ue_id : ℕ) (d : Draft) → (connect slot station enb_ue_id d).solo.phase ≡ d.solo.phase
-unfolding connect connect_on association_counted
-connect_phase slot station enb_ue_id d = ap (λ (x : Solo). x.phase) (left_solo station enb_ue_id (association_counted d))
-
-pub connect_context : (slot station enb_ue_id : ℕ) (d : Draft) → (connect slot station enb_ue_id d).solo.context ≡ d.solo.context
-unfolding connect connect_on association_counted
-connect_context slot station enb_ue_id d = ap (λ (x : Solo). x.context) (left_solo station enb_ue_id (association_counted d))
 
 module _ {s : Setting} {f : RadioKey} where
   -- what the keys depend on stays
@@ -181,9 +151,6 @@ module _ {s : Setting} {f : RadioKey} where
         h.held;
     keyless = subst (λ (k : Kept). All IsKeyless k.sent) (sym same) h.keyless;
   }
-
-  pub done_if : {b : Solo} {o : Option Draft} → Whenever (IsQuiet s f) o → Whenever (IsDone s f b) o
-  done_if h = record { at = λ d is. Silent (h.at d is) }
 
   -- of the context as it is known
   pub at_context : {d : Draft} (x : Context) → d.solo.context ≡ Some x → IsQuiet s f d
@@ -319,7 +286,7 @@ module _ {s : Setting} {f : RadioKey} where
       → Whenever (IsQuiet s f) (protect header nas d)
   unfolding protect downlink
   quiet_protect {d} header nas h =
-      sealed_then _ (seals {P = IsQuiet s f} header nas d spends_quiet h)
+      then _ (seals {P = IsQuiet s f} header nas d spends_quiet h)
       (λ y q. at_some (IsQuiet s f) y.1.solo.connection (λ k is. quiet_emit k.station (downlink k y.0.form) y.0.under refl q)
       (λ is. q))
 
@@ -383,7 +350,7 @@ module _ {s : Setting} {f : RadioKey} where
       }
 
   pub seals_ready : {b : Solo} (header : SecurityHeader) (nas kenb : List ℕ) (d : Draft) → IsReady s f b kenb d
-      → IsSealed (IsReady s f b kenb) (seal header nas d)
+      → Whenever (IsSealed (IsReady s f b kenb)) (seal header nas d)
   seals_ready {b} header nas kenb d h = seals {P = IsReady s f b kenb} header nas d (spends_ready kenb) h
 
   -- what is held of a context that stands in such a phase

@@ -22,7 +22,7 @@ use Rattle.laws_subscriber.specs.Unproved.{begins_attach}
 use Rattle.laws_subscriber.specs.Clocked.{IsClocked, IsClockedIn, StaysClocked}
 use Rattle.laws_mme.specs.Attaches.{attach_leaves}
 use Rattle.laws_mme.specs.Holds.{KeepsState, state_holds}
-use Rattle.laws_mme.specs.Keeps.{is_under_way}
+use Rattle.laws_mme.specs.Premises.{is_under_way}
 use Rattle.laws_mme.specs.Left.{EverybodyHasLeft, HasLeft, HasLeftIfDeregistered, WhoIsDeregisteredHasLeft}
 
 -- ---- no M-TMSI and no bearer

@@ -19,7 +19,8 @@ use Rattle.emm_machine.specs.Steps.{solo_step}
 use Rattle.laws_subscriber.specs.Sound.{has_security_header}
 use Rattle.laws_subscriber.specs.Unproved.{begins_attach}
 use Rattle.laws_mme.specs.Holds.{Any, IsSealed, KeepsState, Says, sent_holds, state_holds}
-use Rattle.laws_mme.specs.Keeps.{MayChallenge, MaySend, is_open, is_under_way}
+use Rattle.laws_subscriber.specs.Keeps.{MaySend, is_open}
+use Rattle.laws_mme.specs.Premises.{MayChallenge, is_under_way}
 use Rattle.laws_mme.specs.Plain.{IsProtectedOrRefusal, NothingPlainIsSent, RepeatsNothingPlain, StaysWithoutPlain}
 use Rattle.laws_mme.proofs.Wire.{form_has_header, in_acknowledge, in_downlink, in_indication, in_paging, in_release, in_setup, in_setup_with, of_none, of_one, same_message}
 

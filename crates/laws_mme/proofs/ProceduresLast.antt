@@ -28,7 +28,7 @@ use Rattle.emm_machine.specs.Steps.{row, solo_step, spent}
 use Rattle.emm_machine.specs.Ticks.{ticks_after}
 use Rattle.laws_subscriber.specs.Clocked.{IsClocked, IsClockedIn, IsCounting, IsUnderWay, StaysClocked, pages}
 use Rattle.laws_subscriber.specs.Ends.{is_under_way, ticks_due}
-use Rattle.laws_mme.specs.Walk.{at_some, either_by}
+use Rattle.laws_subscriber.specs.Choices.{at_some, either_by}
 use Rattle.laws_mme.specs.Lasting.{HasCounts, LastsUntilDue}
 
 -- ---- what a tick leaves

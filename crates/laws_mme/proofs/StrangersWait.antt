@@ -10,7 +10,7 @@ use Rattle.stranger_machine.specs.Machine.{identity_repeats, identity_ticks}
 use Rattle.stranger_machine.specs.Ticks.{stranger_ticked}
 use Rattle.stranger_machine.specs.Turns.{Turn}
 use Rattle.laws_subscriber.specs.Strangers.{IsTimed, is_waiting, stranger_due}
-use Rattle.laws_mme.specs.Walk.{either_by}
+use Rattle.laws_subscriber.specs.Choices.{either_by}
 use Rattle.laws_mme.specs.Lasting.{WaitsUntilDue}
 
 -- it waits, is timed, and m ticks are due, of which n have passed

@@ -18,7 +18,7 @@ use Rattle.mme_types.specs.declared.network.Network.{Network}
 use Rattle.mme_signalling.specs.Pdus.{context_setup, downlink, error_indication, paging, path_switch_acknowledge, path_switch_failure, release_command}
 use Rattle.laws_subscriber.specs.Marked.{nas_within}
 use Rattle.laws_subscriber.specs.Sound.{has_security_header}
-use Rattle.laws_mme.specs.Keeps.{IsIndication}
+use Rattle.laws_mme.specs.Premises.{IsIndication}
 use Rattle.laws_mme.specs.Bidding.{has_new_context_header}
 
 -- ---- the NAS messages in what is built

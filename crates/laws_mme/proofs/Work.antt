@@ -55,9 +55,7 @@ use Rattle.emm_machine.specs.Messages as messages
 use Rattle.emm_machine.specs.Idle as idle
 use Rattle.emm_machine.specs.Serving as serving
 use Rattle.emm_machine.specs.Steps as steps
-use Rattle.laws_mme.specs.Holds.{then_to}
-use Rattle.laws_mme.specs.Keeps.{Whenever}
-use Rattle.laws_mme.specs.Walk.{at_some, either, some, then}
+use Rattle.laws_subscriber.specs.Choices.{Whenever, at_some, either, some, then}
 use Rattle.laws_mme.specs.Work.{SendsAtMost, paged_again}
 
 -- no more than n messages are sent so far
@@ -280,7 +278,7 @@ module _ (s : Setting) {n : ℕ} where
   detach : {d : Draft} (switch_off : Bool) → AtMost n d → Whenever (AtMost (suc (suc n))) (serving.detach switch_off d)
   unfolding serving.detach serving.detach_answered
   detach switch_off h =
-      then_to _ _ (either (Whenever (AtMost (suc n))) switch_off (some (one_more h)) (protects _ _ h)) (λ e f. forgotten _ f)
+      then _ (either (Whenever (AtMost (suc n))) switch_off (some (one_more h)) (protects _ _ h)) (λ e f. forgotten _ f)
 
 module _ (s : Setting) (m : Entry (List ℕ)) {n : ℕ} where
   served_by : {d : Draft} (r : Result ℕ SecurityFault) (x : Context) → AtMost n d

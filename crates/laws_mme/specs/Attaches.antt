@@ -26,8 +26,10 @@ use Rattle.emm_machine.specs.Attaching as attaching
 use Rattle.emm_machine.specs.Serving as serving
 use Rattle.emm_machine.specs.Steps.{row, solo_step, spent}
 use Rattle.laws_subscriber.specs.Unproved.{begins_attach, is_attach_request}
-use Rattle.laws_mme.specs.Keeps.{AsksToAttach, request_in}
-use Rattle.laws_mme.specs.Walk.{at_some, connect_next, connect_on_next, either_by}
+use Rattle.laws_subscriber.specs.Keeps.{request_in}
+use Rattle.laws_mme.specs.Premises.{AsksToAttach}
+use Rattle.laws_subscriber.specs.Choices.{at_some, either_by}
+use Rattle.laws_subscriber.specs.Walk.{connect_on_solo, connect_solo}
 
 -- ---- what it leaves
 
@@ -129,7 +131,7 @@ module _ (s : Setting) (solo : Solo) where
   entered_ends m (heards.AttachRequest combined capability esm) is begins =
       taken_or_not s solo (Initial m) combined capability esm _ (ap is_attach_request is) is
       (attach_ends s capability solo.next_vector combined esm m.tai (connect s.slot m.station m.enb_ue_id (untouched solo))
-      (connect_next s.slot m.station m.enb_ue_id (untouched solo)))
+      (ap (λ (x : Solo). x.next_vector) (connect_solo s.slot m.station m.enb_ue_id (untouched solo))))
   entered_ends m _ is begins = absurd (cc begins)
 
   claimed_ends : (id : ℕ) (m : Entry (List ℕ)) (o : Heard (List ℕ)) → heard (initial_octets m.nas) ≡ o → is_attach_request o ≡ true
@@ -139,7 +141,7 @@ module _ (s : Setting) (solo : Solo) where
   claimed_ends id m (heards.AttachRequest combined capability esm) is begins =
       taken_or_not s solo (Claim id m) combined capability esm _ (ap is_attach_request is) is
       (attach_ends s capability solo.next_vector combined esm m.tai (connect_on id m.station m.enb_ue_id (untouched solo))
-      (connect_on_next id m.station m.enb_ue_id (untouched solo)))
+      (ap (λ (x : Solo). x.next_vector) (connect_on_solo id m.station m.enb_ue_id (untouched solo))))
   claimed_ends id m _ is begins = absurd (cc begins)
 
 pub attach_leaves : (s : Setting) (solo : Solo) (item : Item) → begins_attach item ≡ true

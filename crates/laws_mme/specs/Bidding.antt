@@ -16,7 +16,7 @@ use Rattle.emm_machine.specs.Steps.{solo_after, solo_step}
 use Rattle.laws_subscriber.specs.Marked.{nas_within}
 use Rattle.laws_subscriber.specs.Sound.{IsSound}
 use Rattle.laws_subscriber.specs.Unproved.{begins_attach}
-use Rattle.laws_mme.specs.Keeps.{AsksToAttach}
+use Rattle.laws_mme.specs.Premises.{AsksToAttach}
 
 -- the last ATTACH REQUEST of a list of items has this capability, and EIA2 is in it
 pub record IsAskedWith (items : List Item) (capability : List ℕ) : Type 0 where

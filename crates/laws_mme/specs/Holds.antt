@@ -11,9 +11,10 @@ use Rattle.s1ap_elements.specs.declared.phone.Tai.{Tai}
 use Rattle.s1ap_pdus.specs.declared.pdu.Pdu.{Pdu}
 use Rattle.s1ap_pdus.specs.Pdus.{encoded}
 use Rattle.nas_messages.specs.declared.protection.SecurityHeader.{SecurityHeader}
-use Rattle.nas_messages.specs.declared.protection.SecurityHeader.TheVariants.{IntegrityProtectedCiphered}
+use Rattle.nas_messages.specs.declared.protection.SecurityHeader.TheVariants.{IntegrityProtectedCiphered, NewContext}
 use Rattle.nas_security.specs.Protecting.{protected_by}
 use Rattle.esm_machine.specs.Requests.{inactive}
+use Rattle.esm_machine.specs.Sent.{activation}
 use Rattle.esm_machine.specs.Sessions.{Session}
 use Rattle.identity_slots.specs.declared.profile.Vector.{Vector}
 use Rattle.identity_slots.specs.Ids.{id_of_slot, next_counter}
@@ -33,24 +34,28 @@ use Rattle.emm_state.specs.declared.setting.Setting.{Setting}
 use Rattle.emm_state.specs.declared.solo.Context.{Context}
 use Rattle.emm_state.specs.declared.solo.Countdown.{Countdown}
 use Rattle.emm_state.specs.declared.solo.NasTimer.{NasTimer}
-use Rattle.emm_state.specs.declared.solo.NasTimer.TheVariants.{T3413, T3460}
+use Rattle.emm_state.specs.declared.solo.NasTimer.TheVariants.{T3413, T3450, T3460}
 use Rattle.emm_state.specs.declared.solo.Phase.{Phase}
-use Rattle.emm_state.specs.declared.solo.Phase.TheVariants.{Deregistered, Authenticating, SecurityMode, Updating, Registered}
+use Rattle.emm_state.specs.declared.solo.Phase.TheVariants.{Deregistered, Authenticating, SecurityMode, EsmInformation, Accepting, Updating, Registered, Detaching}
 use Rattle.emm_state.specs.declared.solo.Protection.TheVariants.{Plain, Under}
+use Rattle.emm_state.specs.declared.solo.Repeat.{Repeat}
 use Rattle.emm_state.specs.declared.solo.Repeat.TheVariants as repeats
 use Rattle.emm_state.specs.declared.solo.Solo.{Solo}
-use Rattle.emm_state.specs.Actions.{association_counted, connect, connect_on, disconnected, emit, ended, is_at, leave_old, mac_of, next_id, protect, protect_and_await, refuse, release, resting, seal, sealed_under, send, set_up, set_up_with, start, turn_away, untouched, wipe}
+use Rattle.emm_state.specs.Actions.{association_counted, connect, connect_on, disconnected, emit, ended, fall, fallen, is_at, is_registered, leave_old, lost, mac_of, next_id, protect, protect_and_await, refuse, release, resting, seal, sealed_under, send, set_up, set_up_with, start, turn_away, untouched, wipe}
 use Rattle.emm_state.specs.Does.{◌>>=◌}
 use Rattle.emm_state.specs.KeySets.{ksi_of}
+use Rattle.emm_state.specs.Phases.{is}
 use Rattle.emm_state.specs.Timers.{reachable_ticks, repeats_of, ticks_of}
-use Rattle.emm_machine.specs.Attaching.{asking, challenged, given_tmsi, new_context, took}
+use Rattle.emm_machine.specs.Attaching.{activating, asking, challenged, given_tmsi, keyed, new_context, requesting, took}
 use Rattle.emm_machine.specs.Connected.{connection_of, hop_after, hopped, next_chaining_count, strike, struck, switched}
 use Rattle.emm_machine.specs.Idle.{emit_each, listening, lowered, may_page, page, paged, restarted}
 use Rattle.emm_machine.specs.Serving.{active, registered, updating}
 use Rattle.emm_machine.specs.Steps.{solo_step}
-use Rattle.laws_mme.specs.Keeps.{AsksToAttach, IsIndication, IsServed, IsToldAs, Keeps, MayAwait, MayBear, MayChallenge, MayProtect, MaySend, PagesAgain, Whenever, is_under_way, number_of, station_of, tai_of}
-use Rattle.laws_mme.specs.Network.{IsOfNetwork, of_authentication_request}
-use Rattle.laws_mme.specs.Walk.{at_some, either, some, step_keeps}
+use Rattle.laws_subscriber.specs.Keeps.{AcceptsDetach, AcceptsDetachUnder, Answers, ForAttach, ForSynch, IsServed, Keeps, MaySend, RefusesAttach, RefusesEsm, RefusesProof, RefusesRequest, Stage, TakesVector, TellsAgain, TellsAgainUnder, TellsPlainly, TellsStatus, TellsStatusUnder, TellsUnder, tai_of}
+use Rattle.laws_mme.specs.Premises.{AsksToAttach, IsAgain, IsIndication, IsToldAs, MayAwait, MayBear, MayChallenge, MayProtect, PagesAgain, is_under_way, number_of, station_of}
+use Rattle.laws_mme.specs.Network.{AnswersOfNetwork, IsOfNetwork, of_attach_accept, of_attach_reject, of_authentication_reject, of_authentication_request, of_detach_accept, of_emm_status, of_information_request, of_network_detach, of_reaction, of_security_mode_command, of_service_reject, of_update_accept, of_update_reject}
+use Rattle.laws_subscriber.specs.Choices.{Whenever, at_some, either, some, then}
+use Rattle.laws_subscriber.specs.Walk.{request_begins, step_keeps}
 
 -- ---- what is sent
 
@@ -231,11 +236,6 @@ after_sealing : {R : Draft → Type 0} (f : Sealed × Draft → Draft) (o : Opti
 after_sealing f None each = record { at = λ e is. absurd (cc is) }
 after_sealing f (Some y) each = some (each y refl)
 
-pub then_to : {P R : Draft → Type 0} (f : Draft → Draft) (o : Option Draft) → Whenever P o → ((d : Draft) → P d → R (f d))
-    → Whenever R (o >>= λ d. Some (f d))
-then_to f None h each = record { at = λ e is. absurd (cc is) }
-then_to f (Some d) h each = some (each d (h.at d refl))
-
 each_solo : (message : Pdu (List ℕ)) (es : List ℕ) (d : Draft) → (emit_each message es d).solo ≡ d.solo
 unfolding emit
 each_solo message [] d = refl
@@ -245,6 +245,16 @@ pub page_solo : (s : Setting) (es : List ℕ) (d : Draft) → (page s es d).solo
 unfolding page
 page_solo s es d =
     at_some (λ (e : Draft). e.solo ≡ d.solo) d.solo.tmsi (λ t is. each_solo _ es d) (λ is. refl)
+
+registered_there : (phase : Phase) → is_registered phase ≡ true → is Deregistered phase ≡ false
+registered_there Deregistered h = absurd (cc h)
+registered_there Updating h = refl
+registered_there Registered h = refl
+registered_there _ h = refl
+
+accepting_there : (phase : Phase) → is Accepting phase ≡ true → is Deregistered phase ≡ false
+accepting_there Deregistered h = absurd (cc h)
+accepting_there _ h = refl
 
 module _ (s : Setting) (solo : Solo) (item : Item) {Q : Solo → Type 0} {S : Answer → Type 0} (q : KeepsState s solo item Q)
     (a : Says s solo item Q S) where
@@ -324,7 +334,7 @@ module _ (s : Setting) (solo : Solo) (item : Item) {Q : Solo → Type 0} {S : An
       → Whenever (IsHeld Q S) (protect_and_await timer header nas d)
   unfolding start
   awaits timer header nas d may told h =
-      then_to _ (protect header nas d) (protected_so header nas d (inr may) (inl told) h)
+      then _ (protected_so header nas d (inr may) (inl told) h)
       (λ e p.
       let procedure : Option Countdown =
       Some (record { timer = timer; left = ticks_of timer; repeats = repeats_of timer }) in
@@ -539,40 +549,139 @@ module _ (s : Setting) (solo : Solo) (item : Item) {Q : Solo → Type 0} {S : An
   unfolding restarted
   restarts c d h = record { state = q.counts _ d.solo.reachable d.solo h.state; sent = h.sent }
 
-  keeps : Keeps s solo item (IsHeld Q S)
+  forgets : (cause : Cause) (d : Draft) → IsHeld Q S d → IsHeld Q S (wipe (release cause d))
+  forgets cause d h = wipes (release cause d) (releases cause d h)
+
+  fallen_so : (d : Draft) → IsHeld Q S d → IsHeld Q S (fallen d)
+  fallen_so d h = either (IsHeld Q S) (is_registered d.solo.phase) (rests d h) (wipes d h)
+
+  falls : (cause : Cause) (d : Draft) → IsHeld Q S d → IsHeld Q S (fall cause d)
+  unfolding fall
+  falls cause d h = fallen_so (release cause d) (releases cause d h)
+
+  loses : (d : Draft) → IsHeld Q S d → IsHeld Q S (lost d)
+  unfolding lost
+  loses d h = fallen_so (disconnected d) (disconnects d h)
+
+  -- ---- what is known there
+
+  told_plainly : (nas : List ℕ) → TellsPlainly solo item nas → IsToldAs solo nas
+  told_plainly nas (RefusesAttach cause is) = inl (subst IsOfNetwork (sym is) (of_attach_reject cause None))
+  told_plainly nas (RefusesEsm cause session combined capability esm answer request refused is) =
+      inl (subst IsOfNetwork (sym is) (of_attach_reject cause (Some answer)))
+  told_plainly nas (RefusesProof is) = inl (subst IsOfNetwork (sym is) of_authentication_reject)
+  told_plainly nas (AcceptsDetach is) = inl (subst IsOfNetwork (sym is) of_detach_accept)
+  told_plainly nas (TellsStatus cause is) = inl (subst IsOfNetwork (sym is) (of_emm_status cause))
+  told_plainly nas (TellsAgain ticks was) = inr (subst (λ (o : Option Repeat). IsAgain o nas) (sym was) refl)
+
+  told_under : (header : SecurityHeader) (nas : List ℕ) → TellsUnder solo item header nas
+      → MayProtect solo item header nas × IsToldAs solo nas
+  told_under header nas (AcceptsDetachUnder in_use is) = (inl in_use, inl (subst IsOfNetwork (sym is) of_detach_accept))
+  told_under header nas (TellsStatusUnder in_use cause is) = (inl in_use, inl (subst IsOfNetwork (sym is) (of_emm_status cause)))
+  told_under header nas (Answers in_use x count octets accepts came) =
+      (inl in_use, inl (subst AnswersOfNetwork came (of_reaction solo.bearer (is EsmInformation solo.phase) octets)))
+  told_under header nas (TellsAgainUnder ticks was) =
+      (inr (ticks, was), inr (subst (λ (o : Option Repeat). IsAgain o nas) (sym was) refl))
+
+  refuses_so : (nas : List ℕ) → RefusesRequest nas → IsOfNetwork nas
+  refuses_so nas told = elim told.1 [
+    | inl is ↦ subst IsOfNetwork (sym is) (of_service_reject told.0)
+    | inr is ↦ subst IsOfNetwork (sym is) (of_update_reject told.0)
+  ]
+
+  may_challenge : (at : Stage) (x : Solo) → TakesVector solo item at x → MayChallenge solo item x
+  may_challenge at x (ForAttach is next combined esm request has) = (
+    next,
+    inl (record {
+      begins = request_begins item combined x.asked.capability esm request;
+      combined = combined;
+      esm = esm;
+      request = request;
+      protects = has;
+    }),
+  )
+  may_challenge at x (ForSynch nas is same phase on plain told) =
+      (ap (λ (y : Solo). y.next_vector) same, inr (record { challenged = phase; nas = nas; carried = on.carried; plain = plain; told = told }, same))
+
+  keeps : Keeps s solo item (λ at d. IsHeld Q S d)
+  unfolding new_context keyed requesting activating given_tmsi restarted lowered wipe
   keeps = record {
-    sends = sends;
-    protects = protects;
-    awaits = awaits;
-    sets_up = sets_up;
-    sets_up_with = sets_up_with;
-    starts = starts;
-    releases = releases;
-    refuses = refuses;
+    sends = λ at nas d may to tells h. sends nas d to (told_plainly nas tells) h;
+    protects = λ at header nas d may tells h. let told = told_under header nas tells in protects header nas d told.0 told.1 h;
+    commands = λ v r h. awaits T3460 NewContext _ _ (inr (record {
+      challenged = r.phase;
+      answer = r.nas;
+      carried = r.on.carried;
+      phase = refl;
+      asked = refl;
+      header_is = refl;
+      ksi = _;
+      command = refl;
+    })) (of_security_mode_command _ _) h;
+    asks_information = λ d h. awaits _ _ _ d (inl refl) (of_information_request d.solo.bearer) h;
+    accepts_update = λ grant d same h. awaits _ _ _ d (inl refl) (of_update_accept s.network grant) h;
+    tells_detach = λ d h. awaits _ _ _ d (inl refl) of_network_detach h;
+    sets_up = λ x d has phase h. sets_up x.radio.kenb d h;
+    accepts_attach = λ x grant session d has same bearer h.
+        let told = of_attach_accept s.network grant (activation session s.network.apn s.profile.address) in
+        then _ (sets_up_with x.radio.kenb _ d told h) (λ e f. starts T3450 _ e told f);
+    closes = λ at d may left h. h;
+    forgets = λ at cause d may known h. forgets cause d h;
+    falls = λ at cause d may known h. falls cause d h;
+    loses = loses;
+    drops = λ is none h. wipes (untouched solo) h;
+    spends = λ h. wipes _ (falls _ (untouched solo) h);
+    refuses = λ m nas is told h. refuses m nas is (refuses_so nas told) h;
     turns_away = turns_away;
-    emits = λ station message d from is h. emits station message None d (a.indication station message from is) h;
-    switches = switches;
-    connects = connected;
-    connects_on = claimed;
-    disconnects = disconnects;
-    wipes = wipes;
-    ends = ends;
-    rests = rests;
-    registers = registers;
-    serves = serves;
-    updates = updates;
-    moves_on = λ phase d under h. record { state = q.moves_on phase d.solo under h.state; sent = h.sent };
-    gives_tmsi = gives_tmsi;
-    bears = λ bearer d may h. record { state = q.bears bearer d.solo may h.state; sent = h.sent };
-    asks = asks;
-    challenges = challenges;
-    makes_context = makes_context;
-    takes = takes;
+    emits = λ m message is may h.
+        emits m.station message None (untouched solo)
+        (a.indication m.station message (ap station_of is) (m.mme_ue_id, m.enb_ue_id, may.0, may.2)) h;
+    switches = λ m x w h. switches m x (untouched solo) w.is w.context h;
+    connects = λ m is h. connected m (untouched solo) is h;
+    connects_on = λ id m is h. claimed id m (untouched solo) is h;
+    clears = λ combined capability esm tai d asked h. record {
+      state = q.bears _ (wipe d).solo (inl (request_begins item combined capability esm asked.request)) (wipes d h).state;
+      sent = (wipes d h).sent;
+    };
+    asks = λ combined capability esm tai d asked has h.
+        let to_attach : AsksToAttach item capability = record {
+          begins = request_begins item combined capability esm asked.request;
+          combined = combined;
+          esm = esm;
+          request = asked.request;
+          protects = has;
+        } in
+        asks combined capability tai (requesting esm (wipe d)) to_attach asked.from refl refl h;
+    challenges = λ at v d there takes h. challenges v d there (may_challenge at d.solo takes) h;
+    makes_context = λ v r h. makes_context _ v r.phase r.there h;
+    takes = λ headers x count inner accepts h. takes _ count (untouched solo) h;
+    keys = λ x count inner phase accepts told h. takes _ count (untouched solo) h;
+    takes_on = λ m x count inner d is has accepts had h. takes _ count d h;
+    serves = λ d registered phase h. serves d h;
+    keys_on = λ x count octets d has phase had accepts h. takes _ count d h;
+    activates = λ at d may on h. record {
+      state = q.moves_on Accepting _ refl (q.bears _ _ (inr on.there) (q.tmsi d.solo on h.state));
+      sent = h.sent;
+    };
+    waits = λ d h. record { state = q.moves_on EsmInformation d.solo refl h.state; sent = h.sent };
+    updates = λ at tai initial d may h.
+        updates tai initial (given_tmsi s d) may.from
+        (gives_tmsi d (record { there = registered_there d.solo.phase may.registered; tmsis = may.tmsis }) h);
+    attaches = λ esm d phase h.
+        registers _ (record { state = q.bears _ d.solo (inr (accepting_there d.solo.phase phase)) h.state; sent = h.sent });
+    updated = λ d phase h. registers d h;
+    detaches = λ is registered linked h. record { state = q.moves_on Detaching solo refl h.state; sent = h.sent };
     pages = pages;
-    pages_again = λ es d ticks again h. pages_to es d (inr (ticks, again)) h;
-    strikes = strikes;
-    lowers = lowers;
-    restarts = restarts;
+    strikes = λ station is h. strikes station (untouched solo) is h;
+    lowers = λ is h. lowers (untouched solo) h;
+    restarts = λ c is h. restarts c (lowered (untouched solo)) h;
+    pages_again = λ c es is was h.
+        pages_to es (restarted c (lowered (untouched solo))) (inr (is, record { was = was; kept = was; tai = refl; tmsi = refl })) h;
+    goes_on = λ d is h. h;
+    gives_up = λ is h. ends (lowered (untouched solo)) h;
+    fails = λ cause is known h. falls cause (lowered (untouched solo)) h;
+    passes = λ d is h. h;
+    times_out = λ n d is out h. wipes d h;
   }
 
 -- what holds action by action holds of the state after a step, and of all that it sends

@@ -1,6 +1,5 @@
 pub mod Network
-pub mod Keeps
-pub mod Walk
+pub mod Premises
 pub mod Holds
 pub mod Attaches
 pub mod Challenges

@@ -1,6 +1,6 @@
 -- The NAS messages that a network sends (TS 24.301 clauses 8.2 and 8.3), and that those which the machine builds are such.
 use Rattle.std.specs.Prelude.{◌≡◌, ℕ, Bool, true, false, nat_lt, List, [], ◌∷◌, length, Option, Some, Result, Ok, Err}
-use Rattle.std.proofs.Common.{cond, refl}
+use Rattle.std.proofs.Common.{refl}
 use Rattle.nas_elements.specs.Capability.{replayed}
 use Rattle.nas_elements.specs.Codes.{no_bearer}
 use Rattle.nas_elements.specs.Identities.{guti_octets, tai_list_octets}
@@ -28,10 +28,7 @@ use Rattle.mme_signalling.specs.declared.cause.EmmCause.{EmmCause}
 use Rattle.mme_signalling.specs.declared.messages.Grant.{Grant}
 use Rattle.mme_signalling.specs.Causes.{emm_cause_code}
 use Rattle.mme_signalling.specs.Messages.{attach_accept, attach_reject, authentication_reject, authentication_request, cause_of_combined, detach_accept, emm_status, guti, network_detach, security_mode_command, service_reject, tai_list, update_accept, update_reject}
-
-choose : {D : Type 0} (Q : D → Type 0) {x y : D} (t : Bool) → Q x → Q y → Q (cond t x y)
-choose Q true f g = f
-choose Q false f g = g
+use Rattle.laws_subscriber.specs.Choices.{either}
 
 -- ---- the messages that a network sends
 
@@ -154,7 +151,7 @@ AnswersOfNetwork _ = Unit {0}
 
 informed_answers : (request : Option Request) (waiting : Bool) (bearer transaction : ℕ)
     → AnswersOfNetwork (informed request waiting bearer transaction)
-informed_answers request true bearer transaction = choose AnswersOfNetwork (is_transaction_of request transaction) tt tt
+informed_answers request true bearer transaction = either AnswersOfNetwork (is_transaction_of request transaction) tt tt
 informed_answers request false bearer transaction = of_status _ bearer transaction
 
 body_answers : (request : Option Request) (waiting : Bool) (bearer transaction : ℕ) (body : EsmBody (List ℕ))
@@ -186,4 +183,4 @@ read_answers session waiting octets (Err fault) = fault_answers _ _ fault
 pub of_reaction : (session : Session) (waiting : Bool) (octets : List ℕ) → AnswersOfNetwork (reaction session waiting octets)
 unfolding reaction
 of_reaction session waiting octets =
-    choose AnswersOfNetwork (nat_lt (length octets) 3) tt (read_answers session waiting octets (decoded_esm octets))
+    either AnswersOfNetwork (nat_lt (length octets) 3) tt (read_answers session waiting octets (decoded_esm octets))

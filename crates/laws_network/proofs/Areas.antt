@@ -13,7 +13,7 @@ use Rattle.laws_subscriber.specs.Sound.{HasContext}
 use Rattle.laws_subscriber.specs.Unproved.{UnprovedLeaves, begins_attach, is_no_message, is_proved_message}
 use Rattle.laws_mme.specs.Connections.{IsProvedBy}
 use Rattle.laws_mme.specs.Holds.{KeepsState, state_holds}
-use Rattle.laws_mme.specs.Keeps.{tai_of}
+use Rattle.laws_subscriber.specs.Keeps.{tai_of}
 use Rattle.laws_network.specs.Areas.{AreaIsNamed, AreasComeSo}
 
 -- ---- it stays, or is the one that the station names

@@ -19,7 +19,7 @@ use Rattle.emm_state.specs.declared.solo.Solo.{Solo}
 use Rattle.emm_machine.specs.Connected.{connection_of}
 use Rattle.emm_machine.specs.Steps.{solo_step}
 use Rattle.laws_mme.specs.Holds.{IsConnectedBy, IsIdBy, KeepsState, MayConnect, Says, step_holds}
-use Rattle.laws_mme.specs.Keeps.{IsIndication, number_of, station_of}
+use Rattle.laws_mme.specs.Premises.{IsIndication, number_of, station_of}
 use Rattle.laws_network.specs.Associated.{HasPairOf, IsAssociated, Made, Paged, Refused, Standing, Told, pair_in}
 
 -- ---- the ids in what is built

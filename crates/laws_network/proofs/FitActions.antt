@@ -1,9 +1,11 @@
 -- Each action leaves a state in range, and sends its message.
-use Rattle.std.proofs.Common.{◌≡◌, ℕ, ◌+◌, ◌^◌, ◌<◌, Bool, true, false, cond, List, [], Option, Some, None, refl, ◌∙◌, ap, subst, arith}
+use Rattle.std.proofs.Common.{◌≡◌, ℕ, ◌+◌, ◌^◌, ◌<◌, Bool, false, List, [], Option, Some, None, refl, sym, ◌∙◌, ap, subst, arith}
 use Rattle.std.specs.Prelude.{◌||◌, is_none}
 use Rattle.std.specs.Option.{option_map_or}
 use Rattle.std.proofs.lemmas.Option.{same_Some}
-use Rattle.per_streams.specs.Octet.{AreBytes}
+use Rattle.per_streams.specs.Octet.{AreBytes, all_below}
+use Rattle.esm_machine.specs.declared.request.Request.{Request}
+use Rattle.esm_machine.specs.Sessions.{transaction_of}
 use Rattle.identity_slots.specs.Ids.{id_of_slot, next_counter, slots}
 use Rattle.identity_slots.specs.declared.profile.Profile.{Profile}
 use Rattle.nas_messages.specs.declared.protection.SecurityHeader.{SecurityHeader}
@@ -25,8 +27,8 @@ use Rattle.emm_state.specs.declared.solo.NasTimer.{NasTimer}
 use Rattle.emm_state.specs.declared.solo.Repeat.{Repeat}
 use Rattle.emm_state.specs.declared.solo.Solo.{Solo}
 use Rattle.emm_state.specs.Actions.{association_counted, connect, connect_on, disconnected, emit, ended, fall, fallen, is_at, is_registered, leave_old, lost, mac_of, next_id, protect, refuse, release, resting, seal, sealed_under, send, set_up, set_up_with, start, turn_away, wipe}
-use Rattle.emm_state.specs.Does.{◌>>=◌}
 use Rattle.emm_machine.specs.Attaching.{took}
+use Rattle.laws_subscriber.specs.Choices.{Whenever, at_some, either, nothing, some, then}
 use Rattle.laws_network.specs.KeyLaws.{brief_mac}
 use Rattle.laws_network.specs.NasLaws.{brief_none, brief_protected, brief_within}
 use Rattle.laws_network.specs.Ranges.{ConnectionInRange, IsBrief, IsBriefIf, IsWritten, NetworkInRange, ProfileInRange, TaiInRange}
@@ -56,52 +58,45 @@ pub record IsFit (d : Draft) : Type 0 where
   pub solo : SoloInRange d.solo
   pub sent : d.unwritten ≡ false
 
--- where a count may be spent
-pub record FitIf (o : Option Draft) : Type 0 where
-  pub at : (d : Draft) → o ≡ Some d → IsFit d
-
 -- and what is sealed is brief
 abbrev pub IsFitSealed : Sealed × Draft → Type 0
 IsFitSealed x = IsFit x.1 × IsBrief 1100 x.0.form
 
-pub record FitSealed (o : Option (Sealed × Draft)) : Type 0 where
-  pub at : (x : Sealed × Draft) → o ≡ Some x → IsFitSealed x
+-- ---- what is in range
 
--- ---- choices
+record Parts : Type 0 where
+  connection : Option Connection
+  context : Option Context
+  tai : Tai
+  capability : List ℕ
+  request : Option Request
+  repeat : Option Repeat
+  unwritten : Bool
 
-pub at_some : {K D : Type 0} (Q : D → Type 0) {f : K → D} {d : D} (o : Option K) → ((k : K) → o ≡ Some k → Q (f k))
-    → (o ≡ None → Q d) → Q (option_map_or f o d)
-at_some Q None each none = none refl
-at_some Q (Some k) each none = each k refl
+abbrev parts : Draft → Parts
+parts d = record {
+  connection = d.solo.connection;
+  context = d.solo.context;
+  tai = d.solo.tai;
+  capability = d.solo.asked.capability;
+  request = d.solo.bearer.request;
+  repeat = d.solo.repeat;
+  unwritten = d.unwritten;
+}
 
-pub either : {D : Type 0} (Q : D → Type 0) {x y : D} (t : Bool) → Q x → Q y → Q (cond t x y)
-either Q true f g = f
-either Q false f g = g
-
-pub some : {d : Draft} → IsFit d → FitIf (Some d)
-some {d} h = record { at = λ e is. subst IsFit (same_Some d e is) h }
-
-pub none : FitIf None
-none = record { at = λ e is. absurd (cc is) }
-
-pub then : {o : Option Draft} (f : Draft → Draft) → FitIf o → ((d : Draft) → IsFit d → IsFit (f d)) → FitIf (o >>= λ d. Some (f d))
-then {o = None} f h g = none
-then {o = Some d} f h g = some (g d (h.at d refl))
-
-some_sealed : (x : Sealed) (d : Draft) → IsFit d → IsBrief 1100 x.form → FitSealed (Some (x, d))
-some_sealed x d h brief = record { at = λ y is. subst IsFitSealed (same_Some (x, d) y is) (h, brief) }
-
-none_sealed : FitSealed None
-none_sealed = record { at = λ y is. absurd (cc is) }
-
-sealed_if : (b : Bool) (o : Option (Sealed × Draft)) → FitSealed o → FitSealed (cond b o None)
-sealed_if true o h = h
-sealed_if false o h = none_sealed
-
-pub sealed_then : {o : Option (Sealed × Draft)} (f : Sealed × Draft → Draft) → FitSealed o
-    → ((x : Sealed × Draft) → IsFitSealed x → IsFit (f x)) → FitIf (o >>= λ x. Some (f x))
-sealed_then {o = None} f h g = none
-sealed_then {o = Some x} f h g = some (g x (h.at x refl))
+-- it stays so
+pub fit_by : {d e : Draft} → parts e ≡ parts d → IsFit d → IsFit e
+fit_by same h = record {
+  solo = record {
+    connection = subst (λ (p : Parts). ConnectionInRangeIf p.connection) (sym same) h.solo.connection;
+    context = subst (λ (p : Parts). ContextInRangeIf p.context) (sym same) h.solo.context;
+    tai = subst (λ (p : Parts). TaiInRange p.tai) (sym same) h.solo.tai;
+    capability = ap (λ (p : Parts). all_below 256 p.capability) same ∙ h.solo.capability;
+    transaction = subst (λ (p : Parts). transaction_of p.request < 256) (sym same) h.solo.transaction;
+    repeat = subst (λ (p : Parts). RepeatInRange p.repeat) (sym same) h.solo.repeat;
+  };
+  sent = ap (λ (p : Parts). p.unwritten) same ∙ h.sent;
+}
 
 -- ---- the connection
 
@@ -120,8 +115,7 @@ fit_disconnected {d} h = record { solo = connected_in d.solo None tt h.solo; sen
 
 pub fit_association_counted : {d : Draft} → IsFit d → IsFit (association_counted d)
 unfolding association_counted
-fit_association_counted h = let r = h.solo in
-    record { solo = record { connection = r.connection; context = r.context; tai = r.tai; capability = r.capability; transaction = r.transaction; repeat = r.repeat }; sent = h.sent }
+fit_association_counted h = fit_by refl h
 
 -- ids of slots are below those of strangers
 pub id_in_range : (slot counter : ℕ) → slot < slots → id_of_slot slot (next_counter counter) < 2 ^ 32
@@ -177,16 +171,17 @@ with_context solo x fits h = record { connection = h.connection; context = fits;
 
 sealed_at : (header : SecurityHeader) (nas : List ℕ) (d : Draft) (o : Option Context) → d.solo.context ≡ o → IsBrief 1000 nas
     → IsFit d
-    → FitSealed (option_map_or (sealed_under header nas d) o (Some (record { form = []; under = None }, d)))
+    → Whenever IsFitSealed (option_map_or (sealed_under header nas d) o (Some (record { form = []; under = None }, d)))
 sealed_at header nas d None is brief h =
-    some_sealed (record { form = []; under = None }) d h (brief_within brief_none (omega arith))
+    some (h, brief_within brief_none (omega arith))
 sealed_at header nas d (Some x) is brief h =
     let known : ContextInRange x = known_in d.solo.context x is h.solo.context in
-    sealed_if _ _ (some_sealed _ _
-    (record { solo = with_context d.solo (record x { security = record x.security { down_next = x.security.down_next + 1 } }) (record { integrity = known.integrity; radio = known.radio }) h.solo; sent = h.sent })
-    (brief_protected (mac_of x) x.security.down_next header nas (λ octets. brief_mac x.security.integrity known.integrity x.security.down_next Downlink octets) brief))
+    either (Whenever IsFitSealed) _ (some (
+      record { solo = with_context d.solo (record x { security = record x.security { down_next = x.security.down_next + 1 } }) (record { integrity = known.integrity; radio = known.radio }) h.solo; sent = h.sent },
+      brief_protected (mac_of x) x.security.down_next header nas (λ octets. brief_mac x.security.integrity known.integrity x.security.down_next Downlink octets) brief,
+    )) nothing
 
-pub fit_seal : {d : Draft} (header : SecurityHeader) (nas : List ℕ) → IsBrief 1000 nas → IsFit d → FitSealed (seal header nas d)
+pub fit_seal : {d : Draft} (header : SecurityHeader) (nas : List ℕ) → IsBrief 1000 nas → IsFit d → Whenever IsFitSealed (seal header nas d)
 unfolding seal
 fit_seal {d} header nas brief h = sealed_at header nas d d.solo.context refl brief h
 
@@ -259,10 +254,10 @@ module _ (written : AreWritten) where
   unfolding fall
   fit_fall cause known h = fit_fallen (fit_release cause known h)
 
-  pub fit_protect : {d : Draft} (header : SecurityHeader) (nas : List ℕ) → IsBrief 1000 nas → IsFit d → FitIf (protect header nas d)
+  pub fit_protect : {d : Draft} (header : SecurityHeader) (nas : List ℕ) → IsBrief 1000 nas → IsFit d → Whenever IsFit (protect header nas d)
   unfolding protect
   fit_protect header nas brief h =
-      sealed_then _ (fit_seal header nas brief h)
+      then _ (fit_seal header nas brief h)
       (λ x r. at_some IsFit x.1.solo.connection
       (λ k is. fit_emit k.station _ x.0.under (written.nas k x.0.form (connection_at x.1.solo.connection k is r.0.solo.connection) (brief_within r.1 (omega arith))) r.0) (λ is. r.0))
 
@@ -277,7 +272,7 @@ module _ (written : AreWritten) where
       (λ is. h)
 
   pub fit_set_up_with : {d : Draft} (s : Setting) (kenb nas : List ℕ) → SettingInRange s → AreBytes 32 kenb → IsBrief 1000 nas
-      → IsFit d → FitIf (set_up_with s kenb nas d)
+      → IsFit d → Whenever IsFit (set_up_with s kenb nas d)
   unfolding set_up_with
   fit_set_up_with s kenb nas setting key brief h =
-      sealed_then _ (fit_seal _ nas brief h) (λ x r. fit_set_up s kenb (Some x.0.form) x.0.under setting key r.1 r.0)
+      then _ (fit_seal _ nas brief h) (λ x r. fit_set_up s kenb (Some x.0.form) x.0.under setting key r.1 r.0)

@@ -14,7 +14,7 @@ use Rattle.identity_slots.specs.declared.profile.Profile.{Profile}
 use Rattle.mme_types.specs.declared.connection.Connection.{Connection}
 use Rattle.mme_types.specs.declared.network.Network.{Network}
 use Rattle.mme_signalling.specs.Pdus.{context_setup, downlink, error_indication, paging, path_switch_acknowledge, path_switch_failure, release_command}
-use Rattle.laws_mme.specs.Keeps.{IsIndication}
+use Rattle.laws_mme.specs.Premises.{IsIndication}
 use Rattle.laws_network.specs.Paged.{is_page, reads_page}
 
 -- ---- those that aren't

@@ -26,8 +26,7 @@ use Rattle.emm_state.specs.Actions.{disconnected, emit, ended, fall, is_register
 use Rattle.emm_machine.specs.Idle as idle
 use Rattle.emm_machine.specs.Idle.{emit_each, listening, listens, may_page, page}
 use Rattle.emm_machine.specs.Steps.{row, solo_step, spent}
-use Rattle.laws_mme.specs.Keeps.{Whenever}
-use Rattle.laws_mme.specs.Walk.{at_some, either, either_by, some, then}
+use Rattle.laws_subscriber.specs.Choices.{Whenever, at_some, either, either_by, some, then}
 use Rattle.laws_network.proofs.PlacedSteps.{are_listening}
 use Rattle.laws_network.specs.Paged.{AllWhoListen, GoesBefore}
 

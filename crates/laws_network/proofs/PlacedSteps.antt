@@ -23,8 +23,8 @@ use Rattle.emm_machine.specs.Connected.{station_gone, strike, struck}
 use Rattle.emm_machine.specs.Idle.{listening, listens}
 use Rattle.emm_machine.specs.Steps.{row, solo_step}
 use Rattle.laws_mme.specs.Holds.{IsHeld, KeepsState, MayConnect, MayPage, Says, Sends, step_holds}
-use Rattle.laws_mme.specs.Keeps.{station_of}
-use Rattle.laws_mme.specs.Walk.{at_some, either_by}
+use Rattle.laws_mme.specs.Premises.{station_of}
+use Rattle.laws_subscriber.specs.Choices.{at_some, either_by}
 use Rattle.laws_network.specs.Placed.{AreListening, IsAtReady, IsPagedThere, IsPlaced, IsReady, Listens, is_ready}
 use Rattle.laws_network.specs.Spoken.{IsNotAt, PagesElsewhere}
 

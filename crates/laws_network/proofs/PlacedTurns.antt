@@ -29,7 +29,7 @@ use Rattle.stranger_machine.specs.Machine as machine
 use Rattle.stranger_machine.specs.Machine.{Input, Welcome, Ask, Refuse, TurnAway, stranger_step}
 use Rattle.stranger_machine.specs.Table.{known_id, known_if, noted, stranger_at, with_stranger}
 use Rattle.stranger_machine.specs.Turns.{Call, Turn, as_kept, closing, identity_asked, place_of, refused, released, sent_to, stays}
-use Rattle.laws_mme.specs.Walk.{either, either_by}
+use Rattle.laws_subscriber.specs.Choices.{either, either_by}
 use Rattle.laws_network.specs.Placed.{IsReady, IsStrangerPlaced}
 use Rattle.laws_network.proofs.PlacedSteps.{ComesFromReady, not_same}
 

@@ -33,7 +33,7 @@ use Rattle.mme_core.specs.declared.event.Event.{Event}
 use Rattle.mme_core.specs.declared.event.StepFault.{StepFault}
 use Rattle.mme_core.specs.World.{World, each_after, each_known, each_sent, event_fault, fresh_subscribers, happens, items_of, outputs, reply_of, sight_moved, slot_out, station_of, station_out, station_sent, stranger_out, strangers_in, strangers_sent, subscriber_after, unless, world_after, world_moved}
 use Rattle.laws_network.specs.Received.{EntriesAreInRange}
-use Rattle.laws_mme.specs.Walk.{either}
+use Rattle.laws_subscriber.specs.Choices.{either}
 use Rattle.laws_network.specs.Placed.{AllPlaced, AreListening, BeginsPlaced, IsAtReady, IsPagedThere, IsReady, IsStrangerPlaced, IsViewPlaced, Listens, StaysPlaced, is_ready}
 use Rattle.laws_network.specs.Spoken.{IsAway, IsEmpty, IsElsewhere, IsNotAt, IsSpokenTo, LeavesEmpty, PagesElsewhere, SpeaksToTheReady}
 use Rattle.laws_network.proofs.Routing.{GoesFrom, HappensSo, IsOwnTo, MovesSo, Same, goes_to_all, happens_so}

@@ -25,7 +25,7 @@ use Rattle.emm_machine.specs.Steps.{solo_after, solo_step}
 use Rattle.emm_machine.specs.Words.{fresh_solo}
 use Rattle.laws_subscriber.specs.Marked.{nas_within}
 use Rattle.laws_mme.specs.Holds.{IsSealed, KeepsState, Says, state_holds, step_holds}
-use Rattle.laws_mme.specs.Keeps.{IsAgain, IsIndication, IsToldAs}
+use Rattle.laws_mme.specs.Premises.{IsAgain, IsIndication, IsToldAs}
 use Rattle.laws_mme.specs.Network.{IsOfNetwork, of_authentication_request}
 use Rattle.laws_network.specs.Said.{IsNasOfNetwork, NothingSaid, SaidPlain, SaidProtected, SaysOfNetwork}
 

@@ -32,8 +32,8 @@ use Rattle.stranger_machine.specs.Machine as machine
 use Rattle.stranger_machine.specs.Machine.{Input, Welcome, Ask, Refuse, TurnAway, stranger_step}
 use Rattle.stranger_machine.specs.Turns.{Call, Turn, closing, identity_asked, refused, released, sent_to, stays}
 use Rattle.laws_mme.specs.Holds.{Any, Says, sent_holds}
-use Rattle.laws_mme.specs.Keeps.{IsIndication}
-use Rattle.laws_mme.specs.Walk.{either}
+use Rattle.laws_mme.specs.Premises.{IsIndication}
+use Rattle.laws_subscriber.specs.Choices.{either}
 use Rattle.laws_network.specs.Kinds.{is_for_station, is_for_stranger, is_for_subscriber}
 
 -- ---- kinds

@@ -8,7 +8,7 @@ use Rattle.emm_machine.specs.Steps.{solo_step}
 use Rattle.laws_subscriber.specs.Sound.{IsSound}
 use Rattle.laws_subscriber.specs.Unproved.{begins_attach}
 use Rattle.laws_mme.specs.Connections.{IsProvedBy}
-use Rattle.laws_mme.specs.Keeps.{tai_of}
+use Rattle.laws_subscriber.specs.Keeps.{tai_of}
 
 -- it is the one that the station names, with an ATTACH REQUEST in the phone's name or a message that carries its MAC
 pub record AreaIsNamed (s : Setting) (solo : Solo) (item : Item) : Type 0 where

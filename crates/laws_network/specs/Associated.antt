@@ -14,7 +14,7 @@ use Rattle.emm_state.specs.declared.setting.Setting.{Setting}
 use Rattle.emm_state.specs.declared.solo.Solo.{Solo}
 use Rattle.emm_machine.specs.Steps.{solo_step}
 use Rattle.laws_mme.specs.Holds.{IsConnectedBy, next_connection}
-use Rattle.laws_mme.specs.Keeps.{IsIndication, station_of}
+use Rattle.laws_mme.specs.Premises.{IsIndication, station_of}
 
 -- the two ids of an association
 abbrev pub pair_named : UeS1apIds → Option (ℕ × ℕ)

@@ -1,32 +1,12 @@
--- Each action and each row keeps the countdowns as the phase has them, and so does the step.
-use Rattle.std.proofs.Common.{◌≡◌, ℕ, ◌-◌, ◌<◌, ◌≤◌, ◌==◌, ◌^◌, ◌&&◌, Bool, true, false, cond, not, List, [], ◌∷◌, Option, Some, None, IsSome, Result, Ok, Err, unwrap_or, slice_get, nat_lt, is_some, refl, sym, subst, ap, ◌∙◌, true≢false, arith}
+-- What each action keeps of the countdowns as the phase has them, from stage to stage, and so each step but that of a tick.
+use Rattle.std.proofs.Common.{◌≡◌, ℕ, ◌<◌, ◌==◌, ◌^◌, ◌&&◌, Bool, true, false, inl, inr, not, List, [], ◌∷◌, Option, Some, None, IsSome, nat_lt, is_some, refl, sym, subst, ap, ◌∙◌, true≢false, arith}
 use Rattle.std.specs.Option.{option_map_or}
-use Rattle.std.proofs.lemmas.Option.{same_Some}
-use Rattle.esm_machine.specs.declared.reaction.Reaction.{Reaction}
-use Rattle.esm_machine.specs.declared.reaction.Reaction.TheVariants as reactions
-use Rattle.esm_machine.specs.declared.request.Requested.{Requested}
-use Rattle.esm_machine.specs.declared.request.Requested.TheVariants.{Unreadable, Refused, Taken}
-use Rattle.identity_slots.specs.declared.profile.Vector.{Vector}
-use Rattle.identity_slots.specs.Ids.{is_of_slot}
 use Rattle.nas_messages.specs.declared.protection.SecurityHeader.{SecurityHeader}
-use Rattle.nas_security.specs.declared.fault.SecurityFault.{SecurityFault}
-use Rattle.nas_security.specs.Accepting.{Acceptance}
 use Rattle.s1ap_causes.specs.declared.cause.Cause.{Cause}
-use Rattle.s1ap_elements.specs.declared.phone.Tai.{Tai}
 use Rattle.s1ap_pdus.specs.declared.pdu.Pdu.{Pdu}
 use Rattle.mme_types.specs.declared.connection.Connection.{Connection}
-use Rattle.mme_types.specs.declared.event.Entry.{Entry}
-use Rattle.mme_types.specs.declared.event.UeBody.{UeBody}
-use Rattle.mme_types.specs.declared.event.UeBody.TheVariants as bodies
-use Rattle.mme_types.specs.declared.event.UeMessage.{UeMessage}
 use Rattle.mme_types.specs.declared.octets.Mark.{Mark}
-use Rattle.mme_types.specs.declared.stations.StationState.{StationState}
-use Rattle.mme_types.specs.Events as events
-use Rattle.mme_types.specs.Listed.{ToReset}
-use Rattle.mme_signalling.specs.declared.cause.EmmCause.{EmmCause}
-use Rattle.mme_signalling.specs.declared.heard.Heard.{Heard}
-use Rattle.mme_signalling.specs.declared.heard.Heard.TheVariants as heards
-use Rattle.mme_signalling.specs.Hearing.{heard}
+use Rattle.mme_types.specs.Events.{Item, Tick}
 use Rattle.emm_state.specs.declared.draft.Draft.{Draft}
 use Rattle.emm_state.specs.declared.draft.Sealed.{Sealed}
 use Rattle.emm_state.specs.declared.setting.Setting.{Setting}
@@ -40,17 +20,19 @@ use Rattle.emm_state.specs.declared.solo.Protection.TheVariants.{Plain, Under}
 use Rattle.emm_state.specs.declared.solo.Repeat.{Repeat}
 use Rattle.emm_state.specs.declared.solo.Repeat.TheVariants as repeats
 use Rattle.emm_state.specs.declared.solo.Solo.{Solo}
-use Rattle.emm_state.specs.Actions.{association_counted, connect, connect_on, disconnected, emit, ended, fall, fallen, is_registered, lost, protect, refuse, release, resting, seal, sealed_under, send, set_up, set_up_with, start, turn_away, untouched, wipe}
+use Rattle.emm_state.specs.Actions.{association_counted, connect, connect_on, disconnected, emit, ended, fall, fallen, is_registered, lost, protect, protect_and_await, refuse, release, resting, seal, sealed_under, send, set_up, set_up_with, start, turn_away, untouched, wipe}
 use Rattle.emm_state.specs.Does.{◌>>=◌}
 use Rattle.emm_state.specs.Phases as phases
 use Rattle.emm_state.specs.Timers.{reachable_ticks, repeats_of, ticks_of}
 use Rattle.emm_machine.specs.Attaching as attaching
 use Rattle.emm_machine.specs.Connected as connected
-use Rattle.emm_machine.specs.Messages as messages
 use Rattle.emm_machine.specs.Idle as idle
 use Rattle.emm_machine.specs.Serving as serving
 use Rattle.emm_machine.specs.Steps as steps
-use Rattle.laws_subscriber.specs.Clocked.{IsAtRest, IsClocked, IsClockedIn, IsCounting, IsPagedAtMost, IsUnderWay, pages}
+use Rattle.laws_subscriber.specs.Choices.{Whenever, at_some, either, nothing, some, then}
+use Rattle.laws_subscriber.specs.Clocked.{IsAtRest, IsClocked, IsClockedIn, IsCounting, IsPagedAtMost, IsUnderWay, NoneRuns, pages}
+use Rattle.laws_subscriber.specs.Keeps.{Asked, Begun, Cleared, ForAttach, ForSynch, Keeps, Keyed, Known, Linked, MayAccept, Moving, Serving, Stage, TakesVector, Told, WithInformation, WithKeys, may_close}
+use Rattle.laws_subscriber.specs.Walk.{linked_by, step_keeps}
 
 -- what is said of a state's phase, connection and countdowns
 abbrev pub Clocks : Type 1
@@ -59,10 +41,6 @@ Clocks = Phase → Option Connection → Option Countdown → Option Repeat → 
 -- of a step under way it is said
 pub record Holds (P : Clocks) (d : Draft) : Type 0 where
   pub holds : P d.solo.phase d.solo.connection d.solo.procedure d.solo.repeat d.solo.reachable
-
--- the same where a count may be spent
-pub record Whenever {A : Type 0} (Q : A → Type 0) (o : Option A) : Type 0 where
-  pub at : (x : A) → o ≡ Some x → Q x
 
 -- the phone is connected, and no reachable countdown runs
 abbrev IsLinked : Clocks
@@ -80,41 +58,6 @@ IsToStart timer again phase connection procedure repeat reachable =
 abbrev pub Clocked : Draft → Type 0
 Clocked = Holds IsClockedIn
 
-abbrev Busy : Draft → Type 0
-Busy = Holds IsBusy
-
-abbrev Linked : Draft → Type 0
-Linked = Holds IsLinked
-
--- ---- choices
-
-pub either : {A : Type 0} (Q : A → Type 0) {x y : A} (t : Bool) → Q x → Q y → Q (cond t x y)
-either Q true f g = f
-either Q false f g = g
-
-pub at_some : {A K : Type 0} (Q : A → Type 0) {f : K → A} {d : A} (o : Option K) → ((k : K) → Q (f k)) → Q d
-    → Q (option_map_or f o d)
-at_some Q None each h = h
-at_some Q (Some k) each h = each k
-
-pub at_some_is : {A K : Type 0} (Q : A → Type 0) {f : K → A} {d : A} (o : Option K) → ((k : K) → o ≡ Some k → Q (f k))
-    → (o ≡ None → Q d) → Q (option_map_or f o d)
-at_some_is Q None each h = h refl
-at_some_is Q (Some k) each h = each k refl
-
-pub either_by : {A : Type 0} (Q : A → Type 0) {x y : A} (t : Bool) → (t ≡ true → Q x) → (t ≡ false → Q y) → Q (cond t x y)
-either_by Q true f g = f refl
-either_by Q false f g = g refl
-
-pub some : {A : Type 0} {Q : A → Type 0} {x : A} → Q x → Whenever Q (Some x)
-some {A} {Q} {x} h = record { at = λ y is. subst Q (same_Some x y is) h }
-
-followed : {A : Type 0} {Q : A → Type 0} {P : Clocks} {o : Option A} {f : A → Draft} → Whenever Q o
-    → ((x : A) → Q x → Holds P (f x))
-    → Whenever (Holds P) (o >>= λ x. Some (f x))
-followed {o = None} h each = record { at = λ y is. absurd (cc) }
-followed {o = Some x} h each = some (each x (h.at x refl))
-
 -- ---- what a clocked state has
 
 -- one that is connected has no reachable countdown
@@ -130,12 +73,6 @@ unawaited Registered (Some c) p r n h k = h.2
 unawaited Registered None p r n h k = absurd (true≢false (sym k))
 unawaited Detaching c p r n h k = h.2
 
-linked_of : {d : Draft} → Busy d → Linked d
-linked_of {d} h = record { holds = (h.holds.1, unawaited d.solo.phase d.solo.connection d.solo.procedure d.solo.repeat d.solo.reachable h.holds.0 h.holds.1) }
-
-clocked_of : {d : Draft} → Busy d → Clocked d
-clocked_of h = record { holds = h.holds.0 }
-
 -- ---- actions that let the clocks be
 
 module _ {P : Clocks} where
@@ -146,7 +83,7 @@ module _ {P : Clocks} where
 
   kept_send : {d : Draft} (nas : List ℕ) → Holds P d → Holds P (send nas d)
   unfolding send
-  kept_send {d} nas h = at_some (Holds P) d.solo.connection (λ k. kept_emit k.station _ None h) h
+  kept_send {d} nas h = at_some (Holds P) d.solo.connection (λ k is. kept_emit k.station _ None h) (λ none. h)
 
   kept_turn_away : {d : Draft} (slot station enb_ue_id : ℕ) → Holds P d → Holds P (turn_away slot station enb_ue_id d)
   unfolding turn_away association_counted
@@ -160,7 +97,7 @@ module _ {P : Clocks} where
       → Whenever (λ (s : Sealed × Draft). Holds P s.1) (option_map_or (sealed_under header nas d) o (Some (record { form = []; under = None }, d)))
   sealed_at header nas None h = some h
   sealed_at header nas (Some x) h =
-      either (Whenever (λ (s : Sealed × Draft). Holds P s.1)) (nat_lt x.security.down_next (2 ^ 24)) (some (record { holds = h.holds })) (record { at = λ y is. absurd (cc) })
+      either (Whenever (λ (s : Sealed × Draft). Holds P s.1)) (nat_lt x.security.down_next (2 ^ 24)) (some (record { holds = h.holds })) nothing
 
   kept_seal : {d : Draft} (header : SecurityHeader) (nas : List ℕ) → Holds P d
       → Whenever (λ (s : Sealed × Draft). Holds P s.1) (seal header nas d)
@@ -170,16 +107,16 @@ module _ {P : Clocks} where
   kept_protect : {d : Draft} (header : SecurityHeader) (nas : List ℕ) → Holds P d → Whenever (Holds P) (protect header nas d)
   unfolding protect
   kept_protect header nas h =
-      followed (kept_seal header nas h) (λ s r. at_some (Holds P) s.1.solo.connection (λ k. kept_emit k.station _ _ r) r)
+      then _ (kept_seal header nas h) (λ s r. at_some (Holds P) s.1.solo.connection (λ k is. kept_emit k.station _ _ r) (λ none. r))
 
   kept_set_up : {d : Draft} (s : Setting) (kenb : List ℕ) (nas : Option (List ℕ)) (under : Option Mark) → Holds P d
       → Holds P (set_up s kenb nas under d)
   unfolding set_up
-  kept_set_up {d} s kenb nas under h = at_some (Holds P) d.solo.connection (λ k. kept_emit k.station _ under h) h
+  kept_set_up {d} s kenb nas under h = at_some (Holds P) d.solo.connection (λ k is. kept_emit k.station _ under h) (λ none. h)
 
   kept_set_up_with : {d : Draft} (s : Setting) (kenb nas : List ℕ) → Holds P d → Whenever (Holds P) (set_up_with s kenb nas d)
   unfolding set_up_with
-  kept_set_up_with s kenb nas h = followed (kept_seal _ nas h) (λ x r. kept_set_up s kenb _ _ r)
+  kept_set_up_with s kenb nas h = then _ (kept_seal _ nas h) (λ x r. kept_set_up s kenb _ _ r)
 
   kept_emit_each : (message : Pdu (List ℕ)) (es : List ℕ) (d : Draft) → Holds P d → Holds P (idle.emit_each message es d)
   kept_emit_each message [] d h = h
@@ -187,7 +124,7 @@ module _ {P : Clocks} where
 
   kept_page : {d : Draft} (s : Setting) (es : List ℕ) → Holds P d → Holds P (idle.page s es d)
   unfolding idle.page
-  kept_page {d} s es h = at_some (Holds P) d.solo.tmsi (λ t. kept_emit_each _ es d h) h
+  kept_page {d} s es h = at_some (Holds P) d.solo.tmsi (λ t is. kept_emit_each _ es d h) (λ none. h)
 
   pub kept_again : {d : Draft} (r : Repeat) (s : Setting) → Holds P d → Whenever (Holds P) (idle.again r s d)
   unfolding idle.again
@@ -204,7 +141,7 @@ IsUnlinked phase connection procedure repeat reachable = connection ≡ None
 unlinked_release : (cause : Cause) (d : Draft) → Holds IsUnlinked (release cause d)
 unfolding release disconnected
 unlinked_release cause d =
-    at_some_is (Holds IsUnlinked) d.solo.connection (λ k is. record { holds = refl }) (λ none. record { holds = none })
+    at_some (Holds IsUnlinked) d.solo.connection (λ k is. record { holds = refl }) (λ none. record { holds = none })
 
 -- what holds of a phone that is deregistered and of one that has just come to rest
 module _ (P : Clocks) (gone : P Deregistered None None None None) where
@@ -214,11 +151,6 @@ module _ (P : Clocks) (gone : P Deregistered None None None None) where
 
   pub gone_release : (cause : Cause) (d : Draft) → Holds P (wipe (release cause d))
   gone_release cause d = gone_wipe (unlinked_release cause d)
-
-  -- whatever the answer does
-  gone_left : (o : Option Draft) (cause : Cause) → Whenever (Holds P) (o >>= λ d. Some (wipe (release cause d)))
-  gone_left None cause = record { at = λ y is. absurd (cc) }
-  gone_left (Some d) cause = some (gone_release cause d)
 
   module _ (idle : P Registered None None None (Some reachable_ticks)) where
     rests_fallen : {d : Draft} → Holds IsUnlinked d → Holds P (fallen d)
@@ -253,7 +185,7 @@ gone_spent P gone solo = gone_wipe P gone (rests_fall IsUnlinked refl refl _ (un
 
 -- ---- starts
 
-linked_wipe : {d : Draft} → Holds (λ phase c p r n. IsSome c) d → Linked (wipe d)
+linked_wipe : {d : Draft} → Holds (λ phase c p r n. IsSome c) d → Holds IsLinked (wipe d)
 unfolding wipe
 linked_wipe h = record { holds = (h.holds, refl) }
 
@@ -271,13 +203,7 @@ clocked_start timer again h = record { holds = h.holds }
 
 clocked_started : {o : Option Draft} (timer : NasTimer) (again : Repeat) → Whenever (Holds (IsToStart timer again)) o
     → Whenever Clocked (o >>= λ d. Some (start timer again d))
-clocked_started timer again h = followed h (λ d k. clocked_start timer again k)
-
--- ---- attaching
-
-clocked_attach_refused : (cause : EmmCause) (esm : Option (List ℕ)) (d : Draft) → Clocked (attaching.attach_refused cause esm d)
-unfolding attaching.attach_refused
-clocked_attach_refused cause esm d = clocked_release _ _
+clocked_started timer again h = then _ h (λ d k. clocked_start timer again k)
 
 pub full : (timer : NasTimer) → (0 < ticks_of timer)
 full T3413 = omega arith
@@ -286,229 +212,11 @@ full T3450 = omega arith
 full T3460 = omega arith
 full T3489 = omega arith
 
--- the timer's countdown as it is started
-starts : (timer : NasTimer) → (timer ≡ timer) × (0 < ticks_of timer) × (ticks_of timer ≤ ticks_of timer) × (repeats_of timer ≤ repeats_of timer) × (pages timer ≡ pages timer)
-starts timer = (refl, full timer, omega arith, omega arith, refl)
-
-clocked_challenged : {d : Draft} (v : Vector) → Linked d → Clocked (attaching.challenged v d)
-unfolding attaching.challenged
-clocked_challenged v h = clocked_start _ _ (kept_send _ (record { holds = (h.holds.0, starts T3460, h.holds.1) }))
-
-clocked_challenge : {d : Draft} (s : Setting) → Linked d → Clocked (attaching.challenge s d)
-unfolding attaching.challenge
-clocked_challenge {d} s h =
-    at_some Clocked (slice_get s.vectors d.solo.next_vector) (λ v. clocked_challenged v h) (clocked_attach_refused _ _ d)
-
-clocked_attach_by : {d : Draft} (asked : Requested (List ℕ)) (s : Setting) (combined : Bool) (capability : List ℕ) (tai : Tai)
-    → Linked d
-    → Clocked (attaching.attach_by asked s combined capability tai d)
-unfolding attaching.attach_by attaching.asking
-clocked_attach_by {d} Unreadable s combined capability tai h = clocked_attach_refused _ _ d
-clocked_attach_by {d} (Refused esm) s combined capability tai h = clocked_attach_refused _ _ d
-clocked_attach_by {d} Taken s combined capability tai h =
-    either Clocked _ (clocked_challenge s (record { holds = h.holds })) (clocked_attach_refused _ _ d)
-
-clocked_attach : {d : Draft} (s : Setting) (combined : Bool) (capability esm : List ℕ) (tai : Tai)
-    → Holds (λ phase c p r n. IsSome c) d
-    → Clocked (attaching.attach s combined capability esm tai d)
-unfolding attaching.attach attaching.requesting
-clocked_attach {d} s combined capability esm tai h =
-    clocked_attach_by _ s combined capability tai (record { holds = (linked_wipe h).holds })
-
-clocked_authenticated : {d : Draft} (place : ℕ) (v : Vector) → Linked d → Whenever Clocked (attaching.authenticated place v d)
-unfolding attaching.authenticated attaching.new_context
-clocked_authenticated place v h = clocked_started _ _ (kept_protect _ _ (record { holds = (h.holds.0, starts T3460, h.holds.1) }))
-
-clocked_not_authenticated : (d : Draft) → Clocked (attaching.not_authenticated d)
-unfolding attaching.not_authenticated
-clocked_not_authenticated d = clocked_release _ _
-
-clocked_response : {d : Draft} (s : Setting) (res : List ℕ) → Busy d → Whenever Clocked (attaching.response s res d)
-unfolding attaching.response attaching.response_to
-clocked_response {d} s res h =
-    at_some (Whenever Clocked) (slice_get s.vectors (d.solo.next_vector - 1))
-    (λ v. either (Whenever Clocked) _ (clocked_authenticated _ v (linked_of h)) (some (clocked_not_authenticated d))) (some (clocked_of h))
-
-clocked_failure : {d : Draft} (s : Setting) (cause : ℕ) → Busy d → Clocked (attaching.failure s cause d)
-unfolding attaching.failure
-clocked_failure {d} s cause h = either Clocked _ (clocked_challenge s (linked_of h)) (clocked_not_authenticated d)
-
-clocked_detach_plainly : (switch_off : Bool) (d : Draft) → Clocked (attaching.detach_plainly switch_off d)
-unfolding attaching.detach_plainly
-clocked_detach_plainly switch_off d = clocked_release _ _
-
-clocked_status_plainly : {d : Draft} (cause : Option EmmCause) → Clocked d → Clocked (attaching.status_plainly cause d)
-unfolding attaching.status_plainly
-clocked_status_plainly cause h = at_some Clocked cause (λ c. kept_send _ h) h
-
-clocked_authenticating : {d : Draft} (s : Setting) (m : Heard (List ℕ)) → Busy d → Whenever Clocked (attaching.authenticating s m d)
-unfolding attaching.authenticating
-clocked_authenticating s (heards.AuthenticationResponse res) h = clocked_response s res h
-clocked_authenticating s (heards.AuthenticationFailure cause) h = some (clocked_failure s cause h)
-clocked_authenticating {d} s (heards.DetachRequest switch_off) h = some (clocked_detach_plainly switch_off d)
-clocked_authenticating s heards.Unasked h = some (clocked_of h)
-clocked_authenticating s (heards.Unreadable fault) h = some (clocked_status_plainly _ (clocked_of h))
-clocked_authenticating s _ h = some (clocked_status_plainly _ (clocked_of h))
-
-clocked_accept : {d : Draft} (s : Setting) (kenb : List ℕ) → Linked d → Whenever Clocked (attaching.accept s kenb d)
-unfolding attaching.accept attaching.activating attaching.given_tmsi
-clocked_accept s kenb h = clocked_started _ _ (kept_set_up_with s _ _ (record { holds = (h.holds.0, starts T3450, h.holds.1) }))
-
-clocked_ask_information : {d : Draft} → Linked d → Whenever Clocked (attaching.ask_information d)
-unfolding attaching.ask_information
-clocked_ask_information h = clocked_started _ _ (kept_protect _ _ (record { holds = (h.holds.0, starts T3489, h.holds.1) }))
-
-clocked_not_secured : {d : Draft} (nas : List ℕ) → Clocked d → Clocked (attaching.not_secured nas d)
-unfolding attaching.not_secured
-clocked_not_secured {d} nas h = either Clocked _ (clocked_fall _ d) h
-
-clocked_secured_by : {d : Draft} (r : Acceptance) (s : Setting) (x : Context) (nas : List ℕ) → Busy d
-    → Whenever Clocked (attaching.secured_by r s x nas d)
-unfolding attaching.secured_by attaching.secured attaching.keyed attaching.took
-clocked_secured_by (Ok found) s x nas h =
-    let linked = linked_of h in
-    either (Whenever Clocked) _ (either (Whenever Clocked) _ (clocked_ask_information (record { holds = linked.holds })) (clocked_accept s _ (record { holds = linked.holds })))
-    (some (record { holds = h.holds.0 }))
-clocked_secured_by (Err fault) s x nas h = some (clocked_not_secured nas (clocked_of h))
-
-clocked_in_security_mode : {d : Draft} (s : Setting) (nas : List ℕ) → Busy d → Whenever Clocked (attaching.in_security_mode s nas d)
-unfolding attaching.in_security_mode
-clocked_in_security_mode {d} s nas h =
-    at_some (Whenever Clocked) d.solo.context (λ x. clocked_secured_by _ s x nas h) (some (clocked_not_secured nas (clocked_of h)))
-
--- ---- a phone that is known
-
-clocked_served_by : {d : Draft} (r : Result ℕ SecurityFault) (s : Setting) (x : Context) (m : Entry (List ℕ)) → Clocked d
-    → Clocked (serving.served_by r s x m d)
-unfolding serving.served_by serving.served serving.active ended attaching.keyed attaching.took connect connect_on
-clocked_served_by (Ok count) s x m h = kept_set_up s _ None None (record { holds = (refl, refl, refl) })
-clocked_served_by (Err fault) s x m h = kept_refuse s.slot m.station m.enb_ue_id _ h
-
-clocked_service : {d : Draft} (s : Setting) (m : Entry (List ℕ)) (octets : List ℕ) → Clocked d
-    → Clocked (serving.service s m octets d)
-unfolding serving.service
-clocked_service {d} s m octets h =
-    either Clocked _
-    (at_some Clocked d.solo.context (λ x. clocked_served_by _ s x m h) (kept_refuse s.slot m.station m.enb_ue_id _ h))
-    (kept_refuse s.slot m.station m.enb_ue_id _ h)
-
-clocked_update : {d : Draft} (s : Setting) (tai : Tai) (combined initial : Bool) → Holds (λ phase c p r n. IsSome c) d
-    → Whenever Clocked (serving.update s tai combined initial d)
-unfolding serving.update serving.updating serving.active ended attaching.given_tmsi
-clocked_update s tai combined initial h = clocked_started _ _ (kept_protect _ _ (record { holds = (h.holds, starts T3450, refl) }))
-
-clocked_updated_by : {d : Draft} (r : Acceptance) (s : Setting) (x : Context) (m : Entry (List ℕ)) (combined : Bool) → Clocked d
-    → Whenever Clocked (serving.updated_by r s x m combined d)
-unfolding serving.updated_by attaching.took
-clocked_updated_by {d} (Ok found) s x m combined h =
-    clocked_update s _ combined true (record { holds = (linked_connect s.slot m.station m.enb_ue_id d).holds })
-clocked_updated_by (Err fault) s x m combined h = some (kept_refuse s.slot m.station m.enb_ue_id _ h)
-
-clocked_initial_update : {d : Draft} (s : Setting) (m : Entry (List ℕ)) (combined : Bool) → Clocked d
-    → Whenever Clocked (serving.initial_update s m combined d)
-unfolding serving.initial_update
-clocked_initial_update {d} s m combined h =
-    either (Whenever Clocked) _
-    (at_some (Whenever Clocked) d.solo.context (λ x. clocked_updated_by _ s x m combined h) (some (kept_refuse s.slot m.station m.enb_ue_id _ h)))
-    (some (kept_refuse s.slot m.station m.enb_ue_id _ h))
-
-clocked_detach : (switch_off : Bool) (d : Draft) → Whenever Clocked (serving.detach switch_off d)
-unfolding serving.detach
-clocked_detach switch_off d = gone_left IsClockedIn (refl, (refl, refl, refl)) (serving.detach_answered switch_off d) _
-
-clocked_detached_by : {d : Draft} (r : Acceptance) (s : Setting) (x : Context) (m : Entry (List ℕ)) (switch_off : Bool) → Clocked d
-    → Whenever Clocked (serving.detached_by r s x m switch_off d)
-unfolding serving.detached_by
-clocked_detached_by (Ok found) s x m switch_off h = clocked_detach switch_off _
-clocked_detached_by (Err fault) s x m switch_off h = some (kept_turn_away s.slot m.station m.enb_ue_id h)
-
-clocked_initial_detach : {d : Draft} (s : Setting) (m : Entry (List ℕ)) (switch_off : Bool) → Clocked d
-    → Whenever Clocked (serving.initial_detach s m switch_off d)
-unfolding serving.initial_detach
-clocked_initial_detach {d} s m switch_off h =
-    either (Whenever Clocked) _ (some (clocked_detach_plainly switch_off _))
-    (at_some (Whenever Clocked) d.solo.context (λ x. clocked_detached_by _ s x m switch_off h) (some (kept_turn_away s.slot m.station m.enb_ue_id h)))
-
-clocked_entered : {d : Draft} (m : Heard (List ℕ)) (s : Setting) (e : Entry (List ℕ)) → Clocked d
-    → Whenever Clocked (serving.entered m s e d)
-unfolding serving.entered
-clocked_entered {d} (heards.AttachRequest combined capability esm) s e h =
-    some (clocked_attach s combined capability esm e.tai (linked_connect s.slot e.station e.enb_ue_id d))
-clocked_entered (heards.ServiceRequest octets) s e h = some (clocked_service s e octets h)
-clocked_entered (heards.TrackingAreaUpdateRequest combined) s e h = clocked_initial_update s e combined h
-clocked_entered (heards.DetachRequest switch_off) s e h = clocked_initial_detach s e switch_off h
-clocked_entered _ s e h = some h
-
-clocked_claimed : {d : Draft} (m : Heard (List ℕ)) (s : Setting) (id : ℕ) (e : Entry (List ℕ)) → Clocked d
-    → Clocked (serving.claimed m s id e d)
-unfolding serving.claimed
-clocked_claimed {d} (heards.AttachRequest combined capability esm) s id e h =
-    clocked_attach s combined capability esm e.tai (linked_connect_on id e.station e.enb_ue_id d)
-clocked_claimed _ s id e h = h
-
-clocked_status : {d : Draft} (cause : Option EmmCause) → Clocked d → Whenever Clocked (serving.status_protected cause d)
-unfolding serving.status_protected
-clocked_status cause h = at_some (Whenever Clocked) cause (λ c. kept_protect _ _ h) (some h)
-
 -- connected no countdown runs once a procedure is over
-at_rest : (c : Option Connection) (n : Option ℕ) → IsSome c → n ≡ None → IsAtRest c None None n
-at_rest (Some k) n linked none = (refl, refl, none)
-at_rest None n linked none = absurd (true≢false (sym linked))
-
-clocked_registered : {d : Draft} → Linked d → Clocked (serving.registered d)
-unfolding serving.registered ended
-clocked_registered {d} h = record { holds = at_rest d.solo.connection d.solo.reachable h.holds.0 h.holds.1 }
-
-clocked_inner_emm : {d : Draft} (m : Heard (List ℕ)) (s : Setting) (tai : Tai) → Busy d
-    → Whenever Clocked (serving.inner_emm m s tai d)
-unfolding serving.inner_emm serving.attach_completed serving.update_completed
-clocked_inner_emm {d} (heards.AttachComplete esm) s tai h =
-    either (Whenever Clocked) _ (some (either Clocked _ (clocked_registered (record { holds = (linked_of h).holds })) (clocked_fall _ d))) (clocked_status _ (clocked_of h))
-clocked_inner_emm heards.TrackingAreaUpdateComplete s tai h =
-    either (Whenever Clocked) _ (some (either Clocked _ (clocked_fall _ _) (clocked_registered (linked_of h))))
-    (clocked_status _ (clocked_of h))
-clocked_inner_emm {d} (heards.TrackingAreaUpdateRequest combined) s tai h =
-    either (Whenever Clocked) _ (clocked_update s tai combined false (record { holds = h.holds.1 })) (clocked_status _ (clocked_of h))
-clocked_inner_emm {d} (heards.DetachRequest switch_off) s tai h = clocked_detach switch_off d
-clocked_inner_emm {d} heards.DetachAccept s tai h =
-    either (Whenever Clocked) _ (some (clocked_release _ d)) (clocked_status _ (clocked_of h))
-clocked_inner_emm heards.Unasked s tai h = some (clocked_of h)
-clocked_inner_emm (heards.Unreadable fault) s tai h = clocked_status _ (clocked_of h)
-clocked_inner_emm _ s tai h = clocked_status _ (clocked_of h)
-
-clocked_reacted : {d : Draft} (r : Reaction (List ℕ)) (s : Setting) → Busy d → Whenever Clocked (serving.reacted r s d)
-unfolding serving.reacted serving.information_came
-clocked_reacted reactions.Nothing s h = some (clocked_of h)
-clocked_reacted {d} reactions.Informed s h =
-    at_some (Whenever Clocked) d.solo.context (λ x. clocked_accept s _ (linked_of h)) (some (clocked_of h))
-clocked_reacted (reactions.Answer octets) s h = kept_protect _ octets (clocked_of h)
-
-clocked_inner_message_by : {d : Draft} (r : Acceptance) (s : Setting) (x : Context) (tai : Tai) → Busy d
-    → Whenever Clocked (serving.inner_message_by r s x tai d)
-unfolding serving.inner_message_by serving.inner_message serving.inner_esm attaching.took
-clocked_inner_message_by (Ok found) s x tai h =
-    either (Whenever Clocked) _ (clocked_reacted _ s (record { holds = h.holds })) (clocked_inner_emm (heard found.1) s tai (record { holds = h.holds }))
-clocked_inner_message_by (Err fault) s x tai h = some (clocked_of h)
-
-clocked_in_later : {d : Draft} (s : Setting) (tai : Tai) (nas : List ℕ) → Busy d → Whenever Clocked (serving.in_later s tai nas d)
-unfolding serving.in_later
-clocked_in_later {d} s tai nas h =
-    at_some (Whenever Clocked) d.solo.context (λ x. clocked_inner_message_by _ s x tai h) (some (clocked_of h))
-
-clocked_uplink : {d : Draft} (phase : Phase) (s : Setting) (tai : Tai) (nas : List ℕ) → Busy d
-    → Whenever Clocked (serving.uplink phase s tai nas d)
-unfolding serving.uplink attaching.in_authenticating
-clocked_uplink Deregistered s tai nas h = some (clocked_of h)
-clocked_uplink Authenticating s tai nas h = either (Whenever Clocked) _ (clocked_authenticating s _ h) (some (clocked_of h))
-clocked_uplink SecurityMode s tai nas h = clocked_in_security_mode s nas h
-clocked_uplink _ s tai nas h = clocked_in_later s tai nas h
-
--- ---- messages on an association, and what ends one
-
--- a connection with that id is there
-has_id : (id : ℕ) (o : Option Connection) → not (option_map_or (λ k. k.id == id) o false) ≡ false → IsSome o
-has_id id None e = absurd (true≢false e)
-has_id id (Some k) e = refl
+at_rest : (c : Option Connection) (p : Option Countdown) (r : Option Repeat) (n : Option ℕ) → IsSome c → NoneRuns p r n
+    → IsAtRest c p r n
+at_rest (Some k) p r n linked none = none
+at_rest None p r n linked none = absurd (true≢false (sym linked))
 
 -- where it moves to, all else being as it was
 moved : (k : Connection) (phase : Phase) (c : Option Connection) (p : Option Countdown) (r : Option Repeat) (n : Option ℕ)
@@ -523,46 +231,6 @@ moved k Updating c p r n h linked = (refl, h.1, h.2)
 moved k Registered (Some c) p r n h linked = h
 moved k Registered None p r n h linked = absurd (true≢false (sym linked))
 moved k Detaching c p r n h linked = (refl, h.1, h.2)
-
-clocked_switched : {d : Draft} (m : UeMessage (List ℕ)) (x : Context) → Busy d → Clocked (connected.switched m x d)
-unfolding connected.switched
-clocked_switched {d} m x h =
-    kept_emit m.station _ None
-    (record { holds = moved (connected.connection_of m) d.solo.phase d.solo.connection d.solo.procedure d.solo.repeat d.solo.reachable h.holds.0 h.holds.1 })
-
-clocked_path_switch : {d : Draft} (m : UeMessage (List ℕ)) → Clocked d → Clocked (connected.path_switch m d)
-unfolding connected.path_switch connected.not_switched
-clocked_path_switch {d} m h =
-    either_by Clocked (not (connected.has_connection_id m d)) (λ none. kept_emit m.station _ None h)
-    (λ linked. either Clocked (not (is_of_slot m.mme_ue_id)) (kept_emit m.station _ None h)
-    (either Clocked (is_registered d.solo.phase) (at_some Clocked d.solo.context (λ x. clocked_switched m x (record { holds = (h.holds, has_id m.mme_ue_id d.solo.connection linked) })) h)
-    (kept_emit m.station _ None h)))
-
-clocked_on_connection : {d : Draft} (body : UeBody (List ℕ)) (s : Setting) → Busy d
-    → Whenever Clocked (messages.on_connection body s d)
-unfolding messages.on_connection
-clocked_on_connection {d} (bodies.Uplink nas tai) s h = clocked_uplink d.solo.phase s tai nas h
-clocked_on_connection {d} (bodies.UeContextReleaseRequest cause) s h = some (clocked_fall _ d)
-clocked_on_connection {d} bodies.InitialContextSetupFailure s h = some (clocked_fall _ d)
-clocked_on_connection _ s h = some (clocked_of h)
-
-clocked_checked : {d : Draft} (s : Setting) (m : UeMessage (List ℕ)) → Clocked d → Whenever Clocked (messages.checked s m d)
-unfolding messages.checked connected.indicate
-clocked_checked {d} s m h =
-    either_by (Whenever Clocked) (not (connected.has_connection_id m d)) (λ none. some (kept_emit m.station _ None h))
-    (λ linked. either (Whenever Clocked) _
-    (clocked_on_connection m.body s (record { holds = (h.holds, has_id m.mme_ue_id d.solo.connection linked) })) (some (kept_emit m.station _ None h)))
-
-clocked_message_of : {d : Draft} (body : UeBody (List ℕ)) (s : Setting) (m : UeMessage (List ℕ)) → Clocked d
-    → Whenever Clocked (messages.message_of body s m d)
-unfolding messages.message_of
-clocked_message_of bodies.UeContextReleaseComplete s m h = some h
-clocked_message_of bodies.PathSwitch s m h = some (clocked_path_switch m h)
-clocked_message_of _ s m h = clocked_checked s m h
-
-clocked_displaced : {d : Draft} (id : ℕ) → Clocked d → Clocked (connected.displaced id d)
-unfolding connected.displaced
-clocked_displaced {d} id h = at_some Clocked d.solo.connection (λ k. either Clocked _ (clocked_lost d) h) h
 
 counting_struck : (timer : NasTimer) (station : ℕ) (p : Option Countdown) (r : Option Repeat) → IsCounting timer p r
     → IsCounting timer p (connected.struck station r)
@@ -592,81 +260,171 @@ clocked_struck station Registered (Some c) p r n h = (h.0, none_struck station r
 clocked_struck station Registered None p r n h = (paged_struck station p r h.0, h.1)
 clocked_struck station Detaching c p r n h = (h.0, counting_struck T3422 station p r h.1, h.2)
 
-clocked_station_gone : {d : Draft} (station : ℕ) → Clocked d → Clocked (connected.station_gone station d)
-unfolding connected.station_gone connected.strike
-clocked_station_gone {d} station h =
-    let rest : Clocked (connected.strike station d) =
-    record { holds = clocked_struck station d.solo.phase d.solo.connection d.solo.procedure d.solo.repeat d.solo.reachable h.holds } in
-    at_some Clocked d.solo.connection (λ k. either Clocked _ (clocked_lost (connected.strike station d)) rest) rest
-
-clocked_connections_gone : {d : Draft} (station : ℕ) (items : ToReset) → Clocked d
-    → Clocked (connected.connections_gone station items d)
-unfolding connected.connections_gone
-clocked_connections_gone {d} station items h = at_some Clocked d.solo.connection (λ k. either Clocked _ (clocked_lost d) h) h
-
--- ---- paging, and a withdrawn subscription
-
 -- where paging may begin
 to_page : (es : List ℕ) (phase : Phase) (c : Option Connection) (p : Option Countdown) (r : Option Repeat) (n : Option ℕ)
     → (phases.is Registered phase && not (is_some c) && not (is_some p)) ≡ true → IsClockedIn phase c p r n
     → IsToStart T3413 (repeats.Paging es) phase c p r n
-to_page es Registered None p r n may h = (starts T3413, h.1)
+to_page es Registered None p r n may h = ((refl, full T3413, omega arith, omega arith, refl), h.1)
 to_page es Registered (Some k) p r n may h = absurd (cc)
 to_page es _ c p r n may h = absurd (cc)
-
-clocked_data_waits : {d : Draft} (s : Setting) (stations : List StationState) → Clocked d → Clocked (idle.data_waits s stations d)
-unfolding idle.data_waits idle.paged
-clocked_data_waits {d} s stations h =
-    either_by Clocked (idle.may_page d) (λ may. clocked_start _ _ (kept_page s _
-    (record { holds = to_page _ d.solo.phase d.solo.connection d.solo.procedure d.solo.repeat d.solo.reachable may h.holds }))) (λ none. h)
-
-clocked_detach_phone : {d : Draft} → Linked d → Whenever Clocked (idle.detach_phone d)
-unfolding idle.detach_phone
-clocked_detach_phone h = clocked_started _ _ (kept_protect _ _ (record { holds = (h.holds.0, starts T3422, h.holds.1) }))
 
 none_of : {K : Type 0} (o : Option K) → is_some o ≡ false → o ≡ None
 none_of None e = refl
 none_of (Some k) e = absurd (true≢false e)
 
-clocked_cancelled : {d : Draft} (phase : Phase) → d.solo.phase ≡ phase → Clocked d → Whenever Clocked (idle.cancelled phase d)
-unfolding idle.cancelled
-clocked_cancelled {d} Registered is h =
-    either_by (Whenever Clocked) (is_some d.solo.connection) (λ linked. clocked_detach_phone (linked_of (record { holds = (h.holds, linked) })))
-    (λ none. some (clocked_wipe (record { holds = none_of d.solo.connection none })))
-clocked_cancelled {d} Updating is h =
-    let updating : IsUnderWay T3450 d.solo.connection d.solo.procedure d.solo.repeat d.solo.reachable =
-    subst (λ (p : Phase). IsClockedIn p d.solo.connection d.solo.procedure d.solo.repeat d.solo.reachable) is h.holds in
-    clocked_detach_phone (record { holds = (updating.0, updating.2) })
-clocked_cancelled Deregistered is h = some h
-clocked_cancelled Detaching is h = some h
-clocked_cancelled {d} _ is h = some (clocked_release _ d)
-
--- ---- every row but that of a tick
-
-abbrev pub is_tick : events.Item → Bool
-is_tick events.Tick = true
+abbrev pub is_tick : Item → Bool
+is_tick Tick = true
 is_tick _ = false
 
-clocked_row : {d : Draft} (s : Setting) (item : events.Item) → is_tick item ≡ false → Clocked d
-    → Whenever Clocked (steps.row s item d)
-unfolding steps.row serving.initial serving.claim
-clocked_row s events.Nothing other h = some h
-clocked_row s (events.Initial m) other h = clocked_entered _ s m h
-clocked_row s (events.Claim id m) other h = some (clocked_claimed _ s id m h)
-clocked_row s (events.Message m) other h = clocked_message_of m.body s m h
-clocked_row s (events.Displaced id) other h = some (clocked_displaced id h)
-clocked_row s (events.StationGone station) other h = some (clocked_station_gone station h)
-clocked_row s (events.ConnectionsGone station items) other h = some (clocked_connections_gone station items h)
-clocked_row s events.Tick other h = absurd (true≢false other)
-clocked_row s (events.Data stations) other h = some (clocked_data_waits s stations h)
-clocked_row {d} s events.Cancel other h = clocked_cancelled d.solo.phase refl h
+-- ---- what each action keeps, but at a tick
 
-unless : {P : Clocks} {d : Draft} (o : Option Draft) → Whenever (Holds P) o → Holds P d → Holds P (unwrap_or o d)
-unless None f h = h
-unless (Some e) f h = f.at e refl
+module _ (s : Setting) (solo : Solo) (item : Item) (other : is_tick item ≡ false) (clocked : IsClocked solo) where
+  never : {A : Type 0} → item ≡ Tick → A
+  never is = absurd (true≢false (sym (ap is_tick is) ∙ other))
 
-pub clocked_by : (s : Setting) (solo : Solo) (item : events.Item) → is_tick item ≡ false → IsClocked solo
+  abbrev In : Stage → Clocks
+  In Linked phase c p r n = IsSome c
+  In Cleared phase c p r n = IsLinked phase c p r n
+  In Asked phase c p r n = IsLinked phase c p r n
+  In Told phase c p r n = IsBusy phase c p r n
+  In Known phase c p r n = IsSome c
+  In Serving phase c p r n = IsSome c × NoneRuns p r n
+  In Keyed phase c p r n = IsLinked phase c p r n × (phase ≡ Registered → NoneRuns p r n)
+  In (Moving q) phase c p r n = IsLinked phase c p r n × (phase ≡ q)
+  In _ phase c p r n = IsClockedIn phase c p r n
+
+  abbrev P : Stage → Draft → Type 0
+  P at d = Holds (In at) d
+
+  -- a connection that was found
+  linked_so : (d : Draft) → d.solo.connection ≡ solo.connection → d.solo.reachable ≡ solo.reachable → IsSome solo.connection
+      → IsLinked d.solo.phase d.solo.connection d.solo.procedure d.solo.repeat d.solo.reachable
+  linked_so d same still linked = (
+    ap (λ (o : Option Connection). is_some o) same ∙ linked,
+    still ∙ unawaited solo.phase solo.connection solo.procedure solo.repeat solo.reachable clocked linked,
+  )
+
+  busy_linked : {d : Draft} → P Told d → IsLinked d.solo.phase d.solo.connection d.solo.procedure d.solo.repeat d.solo.reachable
+  busy_linked {d} h =
+      (h.holds.1, unawaited d.solo.phase d.solo.connection d.solo.procedure d.solo.repeat d.solo.reachable h.holds.0 h.holds.1)
+
+  closes : (at : Stage) (d : Draft) → may_close at ≡ true → P at d → Clocked d
+  closes Begun d may h = h
+  closes Told d may h = record { holds = h.holds.0 }
+  closes _ d may h = absurd (cc may)
+
+  module _ (phase : Phase) (timer : NasTimer)
+      (way : (c : Option Connection) (p : Option Countdown) (r : Option Repeat) (n : Option ℕ) → IsUnderWay timer c p r n
+      → IsClockedIn phase c p r n) (pages_not : pages timer ≡ false) where
+    -- the phase's timer may start
+    to_start : {d : Draft} (header : SecurityHeader) (nas : List ℕ) → P (Moving phase) d
+        → Holds (IsToStart timer (repeats.Nas (Under header) nas)) d
+    to_start {d} header nas h = record {
+      holds = subst
+          (λ (q : Phase). IsToStart timer (repeats.Nas (Under header) nas) q d.solo.connection d.solo.procedure d.solo.repeat d.solo.reachable)
+          (sym h.holds.1)
+          (way d.solo.connection _ _ d.solo.reachable
+          (h.holds.0.0, (refl, full timer, omega arith, omega arith, sym pages_not), h.holds.0.1));
+    }
+
+    awaits : {d : Draft} (header : SecurityHeader) (nas : List ℕ) → P (Moving phase) d
+        → Whenever Clocked (protect_and_await timer header nas d)
+    awaits header nas h = clocked_started timer _ (kept_protect header nas (to_start header nas h))
+
+  linked_at : (at : Stage) (d : Draft) → TakesVector solo item at d.solo → P at d
+      → IsLinked d.solo.phase d.solo.connection d.solo.procedure d.solo.repeat d.solo.reachable
+  linked_at at d (ForAttach is next combined esm request has) h = (subst (λ (a : Stage). P a d) is h).holds
+  linked_at at d (ForSynch nas is same phase on plain told) h =
+      linked_so d (ap (λ (x : Solo). x.connection) same) (ap (λ (x : Solo). x.reachable) same) on.linked
+
+  accepted_at : (at : Stage) (d : Draft) → MayAccept solo item at d → P at d
+      → IsLinked d.solo.phase d.solo.connection d.solo.procedure d.solo.repeat d.solo.reachable
+  accepted_at at d (WithKeys is) h = (subst (λ (a : Stage). P a d) is h).holds.0
+  accepted_at at d (WithInformation x count octets is a later now came) h = busy_linked (subst (λ (a : Stage). P a d) is h)
+
+  registers : (d e : Draft) → P Told d → e.solo.connection ≡ d.solo.connection → e.solo.reachable ≡ d.solo.reachable
+      → P Told (serving.registered e)
+  unfolding serving.registered ended
+  registers d e h same still =
+      let linked = busy_linked h in
+      let there = ap (λ (o : Option Connection). is_some o) same ∙ linked.0 in
+      record { holds = (at_rest e.solo.connection None None e.solo.reachable there (refl, refl, still ∙ linked.1), there) }
+
+  keeps : Keeps s solo item P
+  unfolding attaching.requesting attaching.asking attaching.challenged attaching.new_context attaching.took attaching.keyed attaching.activating attaching.given_tmsi serving.active serving.updating connected.switched connected.strike idle.paged ended
+  keeps = record {
+    sends = λ at nas d may to tells h. kept_send nas h;
+    protects = λ at header nas d may tells h. kept_protect header nas h;
+    commands = λ v r h. awaits SecurityMode T3460 (λ c p r n w. w) refl _ _ h;
+    asks_information = λ d h. awaits EsmInformation T3489 (λ c p r n w. w) refl _ _ h;
+    accepts_update = λ grant d same h. awaits Updating T3450 (λ c p r n w. w) refl _ _ h;
+    tells_detach = λ d h. awaits Detaching T3422 (λ c p r n w. w) refl _ _ h;
+    sets_up = λ x d has phase h. kept_set_up s _ None None (record {
+      holds = subst (λ (q : Phase). IsClockedIn q d.solo.connection d.solo.procedure d.solo.repeat d.solo.reachable) (sym phase)
+          (at_rest d.solo.connection d.solo.procedure d.solo.repeat d.solo.reachable h.holds.0.0 (h.holds.1 phase));
+    });
+    accepts_attach = λ x grant session d has same bearer h.
+        clocked_started T3450 _ (kept_set_up_with s _ _ (to_start Accepting T3450 (λ c p r n w. w) refl _ _ h));
+    closes = λ at d may left h. closes at d may h;
+    forgets = λ at cause d may known h. clocked_release cause d;
+    falls = λ at cause d may known h. clocked_fall cause d;
+    loses = λ d h. clocked_lost d;
+    drops = λ is none h. clocked_wipe (record { holds = none_of solo.connection none });
+    spends = λ h. gone_spent IsClockedIn (refl, (refl, refl, refl)) solo;
+    refuses = λ m nas is refuses h. kept_refuse s.slot m.station m.enb_ue_id nas h;
+    turns_away = λ m is h. kept_turn_away s.slot m.station m.enb_ue_id h;
+    emits = λ m message is may h. kept_emit m.station message None h;
+    switches = λ m x w h.
+        kept_emit m.station _ None (record {
+          holds = moved (connected.connection_of m) solo.phase solo.connection solo.procedure solo.repeat solo.reachable h.holds
+              (linked_by solo.connection (λ k. k.id == m.mme_ue_id) w.has);
+        });
+    connects = λ m is h. linked_connect s.slot m.station m.enb_ue_id (untouched solo);
+    connects_on = λ id m is h. linked_connect_on id m.station m.enb_ue_id (untouched solo);
+    clears = λ combined capability esm tai d asks h. record { holds = (linked_wipe h).holds };
+    asks = λ combined capability esm tai d asks has h. record { holds = h.holds };
+    challenges = λ at v d there takes h.
+        let linked = linked_at at d takes h in
+        clocked_start _ _ (kept_send _ (record { holds = (linked.0, (refl, full T3460, omega arith, omega arith, refl), linked.1) }));
+    makes_context = λ v r h. record { holds = (linked_so (untouched solo) refl refl r.on.linked, refl) };
+    takes = λ headers x count inner a h. record { holds = (h.holds, a.on.linked) };
+    keys = λ x count inner phase a told h.
+        record { holds = (linked_so (untouched solo) refl refl a.on.linked, λ is. absurd (cc (sym phase ∙ is))) };
+    takes_on = λ m x count inner d is has a had h. record { holds = h.holds };
+    serves = λ d registered phase h. record { holds = (h.holds, (refl, refl, refl)) };
+    keys_on = λ x count octets d has phase had a h. record { holds = ((h.holds.0, h.holds.1.2), λ is. h.holds.1) };
+    activates = λ at d may on h. record { holds = (accepted_at at d may h, refl) };
+    waits = λ d h. record { holds = (h.holds.0, refl) };
+    updates = λ at tai initial d may h. record { holds = ((may.linked, refl), refl) };
+    attaches = λ esm d phase h. registers d _ h refl refl;
+    updated = λ d phase h. registers d _ h refl refl;
+    detaches = λ is registered linked h. record {
+      holds = (
+        elim linked [
+          | inl there ↦ linked_so (untouched solo) refl refl there
+          | inr updating ↦
+              linked_so (untouched solo) refl refl
+              (subst (λ (q : Phase). IsClockedIn q solo.connection solo.procedure solo.repeat solo.reachable) updating clocked).0
+        ],
+        refl,
+      );
+    };
+    pages = λ stations is may h. clocked_start _ _ (kept_page s _ (record {
+      holds = to_page _ solo.phase solo.connection solo.procedure solo.repeat solo.reachable may h.holds;
+    }));
+    strikes = λ station is h. record {
+      holds = clocked_struck station solo.phase solo.connection solo.procedure solo.repeat solo.reachable h.holds;
+    };
+    lowers = λ is h. never is;
+    restarts = λ c is h. never is;
+    pages_again = λ c es is was h. never is;
+    goes_on = λ d is h. never is;
+    gives_up = λ is h. never is;
+    fails = λ cause is known h. never is;
+    passes = λ d is h. never is;
+    times_out = λ n d is out h. never is;
+  }
+
+pub clocked_by : (s : Setting) (solo : Solo) (item : Item) → is_tick item ≡ false → IsClocked solo
     → Clocked (steps.solo_step s solo item)
-unfolding steps.solo_step
-clocked_by s solo item other h =
-    unless _ (clocked_row s item other (record { holds = h })) (gone_spent IsClockedIn (refl, (refl, refl, refl)) solo)
+clocked_by s solo item other h = step_keeps s solo item (keeps s solo item other h) (record { holds = h })

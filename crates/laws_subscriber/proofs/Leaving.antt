@@ -35,7 +35,7 @@ use Rattle.emm_machine.specs.Serving as serving
 use Rattle.emm_machine.specs.Serving.{accepted_by_context}
 use Rattle.emm_machine.specs.Steps as steps
 use Rattle.laws_subscriber.specs.Unproved.{MayMoveOn, StaysRegistered, UnprovedLeaves, begins_attach, is_attach_request, is_no_message, is_path_switch, is_path_switch_body, is_proved_body, is_proved_entry, is_proved_message}
-use Rattle.laws_subscriber.proofs.Saying.{at_some, either, either_by}
+use Rattle.laws_subscriber.specs.Choices.{at_some, either, either_by}
 
 -- ---- what stays
 

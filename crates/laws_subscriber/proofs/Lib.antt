@@ -1,5 +1,4 @@
 pub mod Standing
-pub mod ConnectionRows
 pub mod ConnectionSteps
 pub mod Forms
 pub mod Saying

@@ -1,7 +1,6 @@
 -- How a step can change how far a phone has come, and what each action leaves of it.
-use Rattle.std.proofs.Common.{◌≡◌, ℕ, ◌+◌, ◌-◌, Bool, true, false, cond, List, [], ◌∷◌, Option, Some, None, slice_get, Ok, refl, sym, subst, ap, ◌∙◌, true≢false}
+use Rattle.std.proofs.Common.{◌≡◌, ℕ, ◌+◌, ◌-◌, Bool, true, false, List, [], ◌∷◌, Option, Some, None, slice_get, Ok, refl, sym, subst, ap, ◌∙◌, true≢false}
 use Rattle.std.specs.Option.{option_map_or}
-use Rattle.std.proofs.lemmas.Option.{same_Some}
 use Rattle.identity_slots.specs.declared.profile.Vector.{Vector}
 use Rattle.nas_messages.specs.declared.protection.SecurityHeader.{SecurityHeader}
 use Rattle.nas_messages.specs.declared.protection.SecurityHeader.TheVariants.{NewContextCiphered}
@@ -22,10 +21,8 @@ use Rattle.emm_state.specs.declared.solo.Phase.TheVariants.{Deregistered, Authen
 use Rattle.emm_state.specs.declared.solo.Repeat.{Repeat}
 use Rattle.emm_state.specs.declared.solo.Solo.{Solo}
 use Rattle.emm_state.specs.Actions.{association_counted, connect, connect_on, disconnected, emit, ended, fall, fallen, is_registered, leave_old, lost, mac_of, protect, refuse, release, resting, seal, sealed_under, send, set_up, set_up_with, start, turn_away, wipe}
-use Rattle.emm_state.specs.Does.{◌>>=◌}
-use Rattle.emm_machine.specs.Attaching.{took}
 use Rattle.laws_subscriber.specs.Proof.{Challenges, Responds, uplink_nas}
-use Rattle.laws_subscriber.proofs.Saying.{Whenever, at_some, either, either_by, some}
+use Rattle.laws_subscriber.specs.Choices.{Whenever, at_some, either, either_by, nothing, some, then}
 
 -- ---- parts of a registration
 
@@ -98,9 +95,6 @@ registered_part Registered e = refl
 registered_part Updating e = refl
 registered_part _ e = cc
 
-pub record IsSealedHere (b : Solo) (o : Option (Sealed × Draft)) : Type 0 where
-  pub at : (x : Sealed × Draft) → o ≡ Some x → IsHere b x.1
-
 module _ {b : Solo} where
   pub here_by : {d e : Draft} → part_of e.solo.phase ≡ part_of d.solo.phase → e.solo.next_vector ≡ d.solo.next_vector
       → place_of e.solo.context ≡ place_of d.solo.context
@@ -122,7 +116,7 @@ module _ {b : Solo} where
   unfolding disconnected
   here_disconnected h = here_by refl refl refl h
 
-  pub here_release : {d : Draft} (cause : Cause) → IsHere b d → IsHere b (release cause d)
+  here_release : {d : Draft} (cause : Cause) → IsHere b d → IsHere b (release cause d)
   unfolding release
   here_release {d} cause h =
       at_some (IsHere b) d.solo.connection (λ k is. here_disconnected (here_emit k.station _ None h)) (λ is. h)
@@ -132,7 +126,7 @@ module _ {b : Solo} where
   here_leave_old {d} station enb_ue_id h =
       at_some (IsHere b) d.solo.connection (λ k is. either (IsHere b) _ h (here_emit k.station _ None h)) (λ is. h)
 
-  here_connect_on : {d : Draft} (id station enb_ue_id : ℕ) → IsHere b d → IsHere b (connect_on id station enb_ue_id d)
+  pub here_connect_on : {d : Draft} (id station enb_ue_id : ℕ) → IsHere b d → IsHere b (connect_on id station enb_ue_id d)
   unfolding connect_on
   here_connect_on {d} id station enb_ue_id h = let left = here_leave_old {d = d} station enb_ue_id h in here_by refl refl refl left
 
@@ -158,43 +152,25 @@ module _ {b : Solo} where
   here_start timer repeat h = here_by refl refl refl h
 
   -- the same context in another state
-  pub here_context : {d : Draft} (x y : Context) → d.solo.context ≡ Some x → x.place ≡ y.place → IsHere b d
+  here_context : {d : Draft} (x y : Context) → d.solo.context ≡ Some x → x.place ≡ y.place → IsHere b d
       → IsHere b (record d { solo = record d.solo { context = Some y } })
   here_context x y is same h = record { part = h.part; next = h.next; place = sym (ap place_of is ∙ ap Some same) ∙ h.place }
 
-  pub here_took : {d : Draft} (x y : Context) (count : ℕ) → d.solo.context ≡ Some x → x.place ≡ y.place → IsHere b d
-      → IsHere b (took y count d)
-  unfolding took
-  here_took x y count is same h = record { part = h.part; next = h.next; place = sym (ap place_of is ∙ ap Some same) ∙ h.place }
-
   -- ---- protected messages
 
-  some_sealed : (x : Sealed × Draft) → IsHere b x.1 → IsSealedHere b (Some x)
-  some_sealed x h = record { at = λ y is. subst (λ (z : Sealed × Draft). IsHere b z.1) (same_Some x y is) h }
-
-  sealed_if : {o : Option (Sealed × Draft)} (t : Bool) → IsSealedHere b o → IsSealedHere b (cond t o None)
-  sealed_if true h = h
-  sealed_if false h = record { at = λ y is. absurd (cc) }
-
   sealed_at : (header : SecurityHeader) (nas : List ℕ) (d : Draft) (o : Option Context) → d.solo.context ≡ o → IsHere b d
-      → IsSealedHere b (option_map_or (sealed_under header nas d) o (Some (record { form = []; under = None }, d)))
-  sealed_at header nas d None is h = some_sealed (record { form = []; under = None }, d) h
-  sealed_at header nas d (Some x) is h = sealed_if _ (some_sealed _ (here_context x _ is refl h))
+      → Whenever (λ (y : Sealed × Draft). IsHere b y.1) (option_map_or (sealed_under header nas d) o (Some (record { form = []; under = None }, d)))
+  sealed_at header nas d None is h = some h
+  sealed_at header nas d (Some x) is h = either (Whenever (λ (y : Sealed × Draft). IsHere b y.1)) _ (some (here_context x _ is refl h)) nothing
 
-  sealed_then : {o : Option (Sealed × Draft)} (f : Sealed × Draft → Draft) → IsSealedHere b o
-      → ((x : Sealed × Draft) → IsHere b x.1 → IsHere b (f x))
-      → Whenever (IsHere b) (o >>= λ x. Some (f x))
-  sealed_then {o = None} f h each = record { at = λ e is. absurd (cc) }
-  sealed_then {o = Some x} f h each = some (each x (h.at x refl))
-
-  here_seal : {d : Draft} (header : SecurityHeader) (nas : List ℕ) → IsHere b d → IsSealedHere b (seal header nas d)
+  here_seal : {d : Draft} (header : SecurityHeader) (nas : List ℕ) → IsHere b d → Whenever (λ (y : Sealed × Draft). IsHere b y.1) (seal header nas d)
   unfolding seal
   here_seal {d} header nas h = sealed_at header nas d d.solo.context refl h
 
   pub here_protect : {d : Draft} (header : SecurityHeader) (nas : List ℕ) → IsHere b d → Whenever (IsHere b) (protect header nas d)
   unfolding protect
   here_protect header nas h =
-      sealed_then _ (here_seal header nas h)
+      then _ (here_seal header nas h)
       (λ x r. at_some (IsHere b) x.1.solo.connection (λ k is. here_emit k.station _ _ r) (λ is. r))
 
   pub here_set_up : {d : Draft} (s : Setting) (kenb : List ℕ) (nas : Option (List ℕ)) (under : Option Mark) → IsHere b d
@@ -204,12 +180,12 @@ module _ {b : Solo} where
 
   pub here_set_up_with : {d : Draft} (s : Setting) (kenb nas : List ℕ) → IsHere b d → Whenever (IsHere b) (set_up_with s kenb nas d)
   unfolding set_up_with
-  here_set_up_with s kenb nas h = sealed_then _ (here_seal _ nas h) (λ x r. here_set_up s kenb _ x.0.under r)
+  here_set_up_with s kenb nas h = then _ (here_seal _ nas h) (λ x r. here_set_up s kenb _ x.0.under r)
 
   -- ---- what ends a registration or a connection
 
   module _ {s : Setting} {item : Item} where
-    pub moves_wipe : (d : Draft) → Moves s b item (wipe d)
+    moves_wipe : (d : Draft) → Moves s b item (wipe d)
     unfolding wipe
     moves_wipe d = leaves refl
 
@@ -228,6 +204,3 @@ module _ {b : Solo} where
     pub moves_lost : {d : Draft} → IsHere b d → Moves s b item (lost d)
     unfolding lost
     moves_lost h = moves_fallen (here_disconnected h)
-
-    pub stays_if : {o : Option Draft} → Whenever (IsHere b) o → Whenever (Moves s b item) o
-    stays_if w = record { at = λ d is. stays (w.at d is) }

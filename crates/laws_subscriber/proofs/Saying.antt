@@ -1,6 +1,6 @@
 -- What each action makes of a step under way: every message sent is under its mark and without a radio key, and the context is the
 -- vector at its place.
-use Rattle.std.proofs.Common.{◌≡◌, ℕ, ◌+◌, Bool, true, false, cond, List, [], ◌∷◌, ◌++◌, All, filter, Option, Some, None, option_to_list, IsSome, refl, sym, ◌∙◌, subst, append-nil, true≢false, ◌≤◌, le_refl, arith, not}
+use Rattle.std.proofs.Common.{◌≡◌, ℕ, ◌+◌, true, false, List, [], ◌∷◌, ◌++◌, All, filter, Option, Some, None, option_to_list, IsSome, refl, sym, ◌∙◌, subst, append-nil, true≢false, ◌≤◌, le_refl, arith}
 use Rattle.std.specs.Option.{option_map_or}
 use Rattle.std.proofs.lemmas.List.Elements.{All-push, All-weaker}
 use Rattle.std.proofs.lemmas.Option.{none-some, same_Some}
@@ -10,7 +10,6 @@ use Rattle.nas_security.specs.Counts.{first_after}
 use Rattle.s1ap_causes.specs.declared.cause.Cause.{Cause}
 use Rattle.s1ap_pdus.specs.declared.pdu.Pdu.{Pdu}
 use Rattle.s1ap_pdus.specs.Pdus.{encoded}
-use Rattle.mme_types.specs.declared.connection.Connection.{Connection}
 use Rattle.mme_types.specs.declared.octets.Answer.{Answer}
 use Rattle.mme_types.specs.declared.octets.Mark.{Mark}
 use Rattle.mme_types.specs.Answers.{answer_of}
@@ -25,8 +24,8 @@ use Rattle.emm_state.specs.declared.solo.Phase.TheVariants.{Deregistered, Authen
 use Rattle.emm_state.specs.declared.solo.Repeat.{Repeat}
 use Rattle.emm_state.specs.declared.solo.Solo.{Solo}
 use Rattle.emm_state.specs.Actions.{association_counted, connect, connect_on, disconnected, emit, ended, fall, fallen, is_registered, leave_old, lost, protect, refuse, release, resting, seal, sealed_under, send, set_up, start, turn_away, wipe}
-use Rattle.emm_state.specs.Does.{◌>>=◌}
 use Rattle.emm_machine.specs.Attaching.{took}
+use Rattle.laws_subscriber.specs.Choices.{Whenever, at_some, either, either_by, nothing, some, then}
 use Rattle.laws_subscriber.specs.Keys.{GoesToTheProved, has_radio_key}
 use Rattle.laws_subscriber.specs.Marked.{AreFormsUnder, protected_within}
 use Rattle.laws_subscriber.specs.Sound.{HasContext, IsCountedIdle, IsDerived, IsOfVector, IsPlainRepeat, IsSound, has_security_header, is_past_proof}
@@ -69,15 +68,12 @@ pub record IsReady (s : Setting) (P : Solo → Type 0) (d : Draft) : Type 0 wher
   pub known : IsKnown s.vectors d.solo.context
   pub said : All (IsSaid s.vectors Keyless) d.sent
 
--- the same where a count may be spent, and where a message has its protected form
-pub record Whenever (Q : Draft → Type 0) (o : Option Draft) : Type 0 where
-  pub at : (d : Draft) → o ≡ Some d → Q d
-
 abbrev pub IsUnderIn : Setting → Sealed → Type 0
 IsUnderIn s x = AreFormsUnder s.vectors x.under (filter has_security_header (x.form ∷ []))
 
-pub record IsSealed (s : Setting) (P : Solo → Type 0) (o : Option (Sealed × Draft)) : Type 0 where
-  pub at : (x : Sealed × Draft) → o ≡ Some x → IsReady s P x.1 × IsUnderIn s x.0
+-- a message has its protected form
+abbrev pub IsSealed : Setting → (Solo → Type 0) → Sealed × Draft → Type 0
+IsSealed s P x = IsReady s P x.1 × IsUnderIn s x.0
 
 -- ---- what is known of a state
 
@@ -91,7 +87,7 @@ abbrev pub IsLinked : Solo → Type 0
 IsLinked solo = IsSome solo.connection
 
 -- a context that has given radio keys
-abbrev pub IsKeyed : Setting → Solo → Type 0
+abbrev IsKeyed : Setting → Solo → Type 0
 IsKeyed s solo = HasContext Registered s.vectors solo.context
 
 -- a challenge may go out
@@ -101,12 +97,7 @@ pub record IsBare (solo : Solo) : Type 0 where
   pub reachable : IsCountedIdle solo.reachable solo.connection
   pub repeat : IsPlainRepeat solo.repeat
 
--- past the proof and connected
-pub record IsLater (s : Setting) (solo : Solo) : Type 0 where
-  pub context : IsKeyed s solo
-  pub connection : IsSome solo.connection
-
--- and neither counted nor with anything that may not be repeated
+-- past the proof and connected, neither counted nor with anything that may not be repeated
 pub record IsProven (s : Setting) (solo : Solo) : Type 0 where
   pub context : IsKeyed s solo
   pub connection : IsSome solo.connection
@@ -219,52 +210,7 @@ spends_sound s solo x is h =
 pub spends_whatever : Spends Whatever
 spends_whatever solo x is h = tt
 
--- ---- choices
-
-pub at_some : {K D : Type 0} (Q : D → Type 0) {f : K → D} {d : D} (o : Option K) → ((k : K) → o ≡ Some k → Q (f k))
-    → (o ≡ None → Q d) → Q (option_map_or f o d)
-at_some Q None each none = none refl
-at_some Q (Some k) each none = each k refl
-
-pub either : {D : Type 0} (Q : D → Type 0) {x y : D} (t : Bool) → Q x → Q y → Q (cond t x y)
-either Q true f g = f
-either Q false f g = g
-
-pub either_by : {D : Type 0} (Q : D → Type 0) {x y : D} (t : Bool) → (t ≡ true → Q x) → (t ≡ false → Q y) → Q (cond t x y)
-either_by Q true f g = f refl
-either_by Q false f g = g refl
-
-pub true_of : (b : Bool) → not b ≡ false → b ≡ true
-true_of true e = refl
-true_of false e = cc
-
-pub connected_of : (o : Option Connection) (f : Connection → Bool) → option_map_or f o false ≡ true → IsSome o
-connected_of None f e = cc
-connected_of (Some k) f e = refl
-
-pub some : {Q : Draft → Type 0} {d : Draft} → Q d → Whenever Q (Some d)
-some {Q} {d} h = record { at = λ e is. subst Q (same_Some d e is) h }
-
-pub then : {Q R : Draft → Type 0} {o : Option Draft} (f : Draft → Draft) → Whenever Q o → ((d : Draft) → Q d → R (f d))
-    → Whenever R (o >>= λ d. Some (f d))
-then {o = None} f h each = record { at = λ e is. absurd (cc) }
-then {o = Some d} f h each = some (each d (h.at d refl))
-
-pub sealed_then : {s : Setting} {P : Solo → Type 0} {R : Draft → Type 0} {o : Option (Sealed × Draft)} (f : Sealed × Draft → Draft)
-    → IsSealed s P o
-    → ((x : Sealed × Draft) → IsReady s P x.1 → IsUnderIn s x.0 → R (f x)) → Whenever R (o >>= λ x. Some (f x))
-sealed_then {o = None} f h each = record { at = λ e is. absurd (cc) }
-sealed_then {o = Some x} f h each = some (each x (h.at x refl).0 (h.at x refl).1)
-
 module _ {s : Setting} where
-  some_sealed : {P : Solo → Type 0} (x : Sealed × Draft) → IsReady s P x.1 → IsUnderIn s x.0 → IsSealed s P (Some x)
-  some_sealed {P} x h u =
-      record { at = λ y is. subst (λ (z : Sealed × Draft). IsReady s P z.1 × IsUnderIn s z.0) (same_Some x y is) (h, u) }
-
-  sealed_if : {P : Solo → Type 0} {o : Option (Sealed × Draft)} (t : Bool) → IsSealed s P o → IsSealed s P (cond t o None)
-  sealed_if true h = h
-  sealed_if false h = record { at = λ y is. absurd (cc) }
-
   -- what is known may be less
   pub by : {P Q : Solo → Type 0} {d : Draft} → ((solo : Solo) → P solo → Q solo) → IsReady s P d → IsReady s Q d
   by {d = d} f h = record { solo = f d.solo h.solo; known = h.known; said = h.said }
@@ -330,23 +276,11 @@ module _ {s : Setting} where
   linked_connect_on {d = d} id station enb_ue_id h =
       let r = ready_leave_old {d = d} station enb_ue_id h in record { solo = refl; known = r.known; said = r.said }
 
-  later_connect_on : {d : Draft} (id station enb_ue_id : ℕ) → IsReady s (IsKeyed s) d
-      → IsReady s (IsLater s) (connect_on id station enb_ue_id d)
-  unfolding connect_on
-  later_connect_on {d} id station enb_ue_id h =
-      let r = ready_leave_old {d = d} station enb_ue_id h in record { solo = record { context = r.solo; connection = refl }; known = r.known; said = r.said }
-
   pub linked_connect : {P : Solo → Type 0} {d : Draft} (slot station enb_ue_id : ℕ) → IsReady s P d
       → IsReady s IsLinked (connect slot station enb_ue_id d)
   unfolding connect association_counted
   linked_connect slot station enb_ue_id h =
       linked_connect_on {P = Whatever} _ station enb_ue_id (record { solo = tt; known = h.known; said = h.said })
-
-  pub later_connect : {d : Draft} (slot station enb_ue_id : ℕ) → IsReady s (IsKeyed s) d
-      → IsReady s (IsLater s) (connect slot station enb_ue_id d)
-  unfolding connect association_counted
-  later_connect slot station enb_ue_id h =
-      later_connect_on _ station enb_ue_id (record { solo = h.solo; known = h.known; said = h.said })
 
   sound_counted : {d : Draft} → IsReady s (IsSound s) d → IsReady s (IsSound s) (association_counted d)
   unfolding association_counted
@@ -434,16 +368,17 @@ module _ {s : Setting} where
 
   sealed_at : {P : Solo → Type 0} (header : SecurityHeader) (nas : List ℕ) (d : Draft) (o : Option Context) → d.solo.context ≡ o
       → Spends P → IsReady s P d
-      → IsSealed s P (option_map_or (sealed_under header nas d) o (Some (record { form = []; under = None }, d)))
-  sealed_at header nas d None is spends h = some_sealed (record { form = []; under = None }, d) h refl
-  sealed_at header nas d (Some x) is spends h =
+      → Whenever (IsSealed s P) (option_map_or (sealed_under header nas d) o (Some (record { form = []; under = None }, d)))
+  sealed_at header nas d None is spends h = some (h, refl)
+  sealed_at {P} header nas d (Some x) is spends h =
       let known : IsKnown s.vectors (Some x) = subst (IsKnown s.vectors) is h.known in
-      sealed_if _ (some_sealed _
-      (record { solo = spends d.solo x is h.solo; known = known_recounted s.vectors x (x.security.down_next + 1) x.security.up_last known; said = h.said })
-      (form_is_under s.vectors x known.0 x.security.down_next header nas known.1))
+      either (Whenever (IsSealed s P)) _ (some (
+        record { solo = spends d.solo x is h.solo; known = known_recounted s.vectors x (x.security.down_next + 1) x.security.up_last known; said = h.said },
+        form_is_under s.vectors x known.0 x.security.down_next header nas known.1,
+      )) nothing
 
   pub ready_seal : {P : Solo → Type 0} {d : Draft} (header : SecurityHeader) (nas : List ℕ) → Spends P → IsReady s P d
-      → IsSealed s P (seal header nas d)
+      → Whenever (IsSealed s P) (seal header nas d)
   unfolding seal
   ready_seal {d = d} header nas spends h = sealed_at header nas d d.solo.context refl spends h
 
@@ -451,8 +386,8 @@ module _ {s : Setting} where
       → Whenever (IsReady s P) (protect header nas d)
   unfolding protect downlink
   ready_protect {P} header nas spends h =
-      sealed_then _ (ready_seal header nas spends h)
-      (λ x r u. at_some (IsReady s P) x.1.solo.connection (λ k is. ready_emit k.station (downlink k x.0.form) x.0.under u refl r) (λ is. r))
+      then _ (ready_seal header nas spends h)
+      (λ x r. at_some (IsReady s P) x.1.solo.connection (λ k is. ready_emit k.station (downlink k x.0.form) x.0.under r.1 refl r.0) (λ is. r.0))
 
   pub sound_protect : {d : Draft} (header : SecurityHeader) (nas : List ℕ) → IsReady s (IsSound s) d
       → Whenever (IsReady s (IsSound s)) (protect header nas d)
@@ -502,9 +437,6 @@ spends_key s kenb solo x is h =
 module _ {s : Setting} where
   pub done : {d : Draft} → IsReady s (IsSound s) d → IsDone s d
   done {d} h = record { sound = h.solo; said = said_keyless s.vectors d.solo d.sent h.said }
-
-  pub done_if : {o : Option Draft} → Whenever (IsReady s (IsSound s)) o → Whenever (IsDone s) o
-  done_if h = record { at = λ d is. done (h.at d is) }
 
   pub done_set_up : {d : Draft} (kenb : List ℕ) (nas : Option (List ℕ)) (under : Option Mark)
       → AreFormsUnder s.vectors under (filter has_security_header (option_to_list nas ++ [])) → IsReady s (HasKey s kenb) d

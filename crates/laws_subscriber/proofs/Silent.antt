@@ -16,7 +16,8 @@ use Rattle.emm_machine.specs.Steps as steps
 use Rattle.laws_subscriber.specs.Clocked.{IsClockedIn}
 use Rattle.laws_subscriber.specs.Ends.{ticks_due}
 use Rattle.laws_subscriber.specs.Silent.{AreSilent, SilentEnds, SilentIsForgotten, is_silent, tick_count, ticks_among}
-use Rattle.laws_subscriber.proofs.Clocked.{Holds, at_some_is, clocked_struck, either, rests_lost}
+use Rattle.laws_subscriber.specs.Choices.{at_some, either}
+use Rattle.laws_subscriber.proofs.Clocked.{Holds, clocked_struck, rests_lost}
 use Rattle.laws_subscriber.proofs.Ticking.{IsWaiting, IsWithin, gone_within, within_due, within_tick}
 use Rattle.laws_subscriber.proofs.Ending.{Within, fewer, forgotten, most_in, settled_in, waits_in}
 
@@ -59,7 +60,7 @@ within_kept s solo (events.Displaced id) m told j silent h =
     let d = untouched solo in
     let same : P d = record { holds = h } in
     let after : P (connected.displaced id d) =
-    at_some_is P solo.connection (λ k is. either P (k.id == id) (lost_within m told j d h (there solo.connection k is)) same)
+    at_some P solo.connection (λ k is. either P (k.id == id) (lost_within m told j d h (there solo.connection k is)) same)
     (λ none. same) in
     fewer told (connected.displaced id d).solo m (m - 0) j (j - 0) (omega arith) (omega arith) after.holds
 within_kept s solo (events.StationGone station) m told j silent h =
@@ -69,7 +70,7 @@ within_kept s solo (events.StationGone station) m told j silent h =
     (clocked_struck station solo.phase solo.connection solo.procedure solo.repeat solo.reachable h.0, h.1, h.2) in
     let same : P d = record { holds = struck } in
     let after : P (connected.station_gone station (untouched solo)) =
-    at_some_is P solo.connection
+    at_some P solo.connection
     (λ k is. either P (k.station == station) (lost_within m told j d struck (there solo.connection k is)) same) (λ none. same) in
     fewer told (connected.station_gone station (untouched solo)).solo m (m - 0) j (j - 0) (omega arith) (omega arith) after.holds
 within_kept s solo (events.ConnectionsGone station items) m told j silent h =
@@ -77,7 +78,7 @@ within_kept s solo (events.ConnectionsGone station items) m told j silent h =
     let d = untouched solo in
     let same : P d = record { holds = h } in
     let after : P (connected.connections_gone station items d) =
-    at_some_is P solo.connection (λ k is. either P _ (lost_within m told j d h (there solo.connection k is)) same) (λ none. same) in
+    at_some P solo.connection (λ k is. either P _ (lost_within m told j d h (there solo.connection k is)) same) (λ none. same) in
     fewer told (connected.connections_gone station items d).solo m (m - 0) j (j - 0) (omega arith) (omega arith) after.holds
 within_kept s solo events.Tick m told j silent h = (within_tick s solo m told j h).holds
 within_kept s solo (events.Data stations) m told j silent h = absurd (true≢false (sym silent))

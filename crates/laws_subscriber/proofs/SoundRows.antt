@@ -1,63 +1,45 @@
--- Each row keeps a state sound, and what it sends is under its mark and without a radio key but for the proved; so does the step.
-use Rattle.std.proofs.Common.{◌≡◌, ℕ, zero, suc, ◌+◌, ◌-◌, ◌%◌, arith, Bool, true, false, not, List, [], ◌∷◌, Option, Some, None, IsSome, is_some, Result, Ok, Err, unwrap_or, slice_get, refl, sym, subst, ap, ◌∙◌, true≢false, ◌≤◌, ◌<◌, ◌^◌, le_refl}
+-- What each action leaves of a sound state, from stage to stage, and so the step: it is sound, and what was sent is under its mark and
+-- without a radio key but for the proved.
+use Rattle.std.proofs.Common.{◌≡◌, ℕ, zero, suc, ◌+◌, ◌-◌, ◌%◌, ◌<◌, ◌≤◌, ◌^◌, ◌==◌, arith, le_refl, true, false, inl, inr, List, [], ◌∷◌, Option, Some, None, IsSome, is_some, Ok, refl, sym, ◌∙◌, ap, subst, true≢false}
 use Rattle.std.specs.Option.{option_map_or}
 use Rattle.std.proofs.lemmas.List.Elements.{All-nil}
 use Rattle.std.proofs.lemmas.Option.{same_Some}
-use Rattle.esm_machine.specs.declared.reaction.Reaction.{Reaction}
-use Rattle.esm_machine.specs.declared.reaction.Reaction.TheVariants as reactions
-use Rattle.esm_machine.specs.declared.request.Requested.{Requested}
-use Rattle.esm_machine.specs.declared.request.Requested.TheVariants.{Unreadable, Refused, Taken}
-use Rattle.eps_keys.specs.Hmac.{kenb}
-use Rattle.identity_slots.specs.declared.profile.Vector.{Vector}
-use Rattle.identity_slots.specs.Ids.{is_of_slot}
-use Rattle.nas_messages.specs.declared.protection.SecurityHeader.TheVariants.{IntegrityProtectedCiphered}
-use Rattle.nas_security.specs.declared.fault.SecurityFault.{SecurityFault}
 use Rattle.nas_messages.specs.declared.protection.SecurityHeader.{SecurityHeader}
-use Rattle.nas_security.specs.Accepting.{Acceptance, accepted}
+use Rattle.nas_messages.specs.declared.protection.SecurityHeader.TheVariants.{IntegrityProtectedCiphered}
+use Rattle.nas_security.specs.Accepting.{accepted}
 use Rattle.nas_security.specs.Context.{Mac}
 use Rattle.nas_security.specs.Counts.{first_after}
-use Rattle.s1ap_causes.specs.declared.cause.Cause.{Cause}
 use Rattle.s1ap_elements.specs.declared.phone.Tai.{Tai}
 use Rattle.s1ap_pdus.specs.declared.pdu.Pdu.{Pdu}
+use Rattle.identity_slots.specs.declared.profile.Vector.{Vector}
 use Rattle.mme_types.specs.declared.connection.Connection.{Connection}
 use Rattle.mme_types.specs.declared.connection.RadioKeys.{RadioKeys}
-use Rattle.mme_types.specs.declared.event.Entry.{Entry}
-use Rattle.mme_types.specs.declared.event.UeBody.{UeBody}
-use Rattle.mme_types.specs.declared.event.UeBody.TheVariants as bodies
 use Rattle.mme_types.specs.declared.event.UeMessage.{UeMessage}
-use Rattle.mme_types.specs.declared.stations.StationState.{StationState}
-use Rattle.mme_types.specs.Events as events
-use Rattle.mme_types.specs.Listed.{ToReset}
-use Rattle.mme_signalling.specs.declared.cause.EmmCause.{EmmCause}
-use Rattle.mme_signalling.specs.declared.cause.EmmCause.TheVariants.{IdentityNotDerived, ImplicitlyDetached}
-use Rattle.mme_signalling.specs.declared.heard.Heard.{Heard}
-use Rattle.mme_signalling.specs.declared.heard.Heard.TheVariants as heards
-use Rattle.mme_signalling.specs.Hearing.{heard}
-use Rattle.mme_signalling.specs.Messages.{attach_reject, authentication_reject, detach_accept, emm_status, service_reject, update_reject}
+use Rattle.mme_types.specs.Events.{Item}
 use Rattle.mme_signalling.specs.Pdus.{error_indication, paging, path_switch_acknowledge, path_switch_failure}
 use Rattle.emm_state.specs.declared.draft.Draft.{Draft}
 use Rattle.emm_state.specs.declared.setting.Setting.{Setting}
 use Rattle.emm_state.specs.declared.solo.Context.{Context}
-use Rattle.emm_state.specs.declared.solo.Countdown.{Countdown}
 use Rattle.emm_state.specs.declared.solo.NasTimer.{NasTimer}
-use Rattle.emm_state.specs.declared.solo.NasTimer.TheVariants.{T3413, T3422, T3450, T3460, T3489}
 use Rattle.emm_state.specs.declared.solo.Phase.{Phase}
-use Rattle.emm_state.specs.declared.solo.Phase.TheVariants.{Deregistered, Authenticating, SecurityMode, EsmInformation, Accepting, Updating, Registered, Detaching}
-use Rattle.emm_state.specs.declared.solo.Protection.TheVariants.{Plain, Under}
+use Rattle.emm_state.specs.declared.solo.Phase.TheVariants.{Deregistered, Authenticating, SecurityMode, Accepting, Updating, Registered}
 use Rattle.emm_state.specs.declared.solo.Repeat.{Repeat}
 use Rattle.emm_state.specs.declared.solo.Repeat.TheVariants as repeats
 use Rattle.emm_state.specs.declared.solo.Solo.{Solo}
-use Rattle.emm_state.specs.Actions.{emit, ended, is_registered, set_up_with, untouched}
+use Rattle.emm_state.specs.Actions.{emit, ended, is_registered, protect, protect_and_await, send, set_up_with, untouched}
+use Rattle.emm_state.specs.Phases.{is}
 use Rattle.emm_machine.specs.Attaching as attaching
 use Rattle.emm_machine.specs.Attaching.{counted_up, keys_of}
 use Rattle.emm_machine.specs.Connected as connected
-use Rattle.emm_machine.specs.Messages as messages
 use Rattle.emm_machine.specs.Idle as idle
 use Rattle.emm_machine.specs.Serving as serving
 use Rattle.emm_machine.specs.Steps as steps
-use Rattle.laws_subscriber.specs.Sound.{HasChallenge, HasConnection, HasContext, IsCountedIdle, IsDerived, IsOfVector, IsPlainRepeat, IsSound, is_past_proof, keys_after}
+use Rattle.laws_subscriber.specs.Choices.{Whenever, at_some, then}
+use Rattle.laws_subscriber.specs.Keeps.{AcceptsDetach, Asked, Begun, Cleared, Counted, Ended, ForAttach, ForSynch, Indicates, IsSwitch, Keeps, Keyed, Known, Linked, MayAccept, MayUpdate, Moving, RefusesAttach, RefusesEsm, RefusesProof, RefusesRequest, Serving, Stage, TakesVector, TellsAgain, TellsPlainly, TellsStatus, Ticked, Told, WithInformation, WithKeys, is_later, may_close, may_protect, may_say, may_update}
+use Rattle.laws_subscriber.specs.Sound.{HasChallenge, HasConnection, HasContext, IsCountedIdle, IsDerived, IsOfVector, IsPlainRepeat, IsSound, has_security_header, is_past_proof, keys_after}
+use Rattle.laws_subscriber.specs.Walk.{linked_by, step_keeps}
 use Rattle.laws_subscriber.proofs.Forms.{plain_attach_reject, plain_authentication_reject, plain_authentication_request, plain_detach_accept, plain_emm_status, plain_service_reject, plain_update_reject}
-use Rattle.laws_subscriber.proofs.Saying.{HasKey, IsBare, IsDone, IsKnown, IsLater, IsLinked, IsProven, IsReady, Proved, Whatever, Whenever, anyhow, at_some, bare_wipe, by, connected_of, context_recounted, done, done_if, done_set_up, done_start, either, either_by, idle_fall, idle_wipe, keyed_context, known_context, known_recounted, linked_connect, linked_connect_on, ready_emit, ready_protect, ready_seal, ready_send, ready_took, registered_past, rises_above, said_keyless, said_more, sealed_then, some, sound_fall, sound_forgotten, sound_lost, sound_protect, sound_recounted, sound_refuse, sound_start, sound_turn_away, spends_key, spends_whatever, then, true_of}
+use Rattle.laws_subscriber.proofs.Saying.{HasKey, IsBare, IsDone, IsKnown, IsLinked, IsProven, IsReady, Proved, Spends, Whatever, anyhow, bare_wipe, by, context_recounted, done, done_set_up, done_start, idle_fall, idle_wipe, keyed_context, known_context, known_recounted, linked_connect, linked_connect_on, ready_emit, ready_protect, ready_seal, ready_send, ready_took, registered_past, rises_above, rises_same, said_keyless, said_more, sound_fall, sound_forgotten, sound_idle, sound_lost, sound_protect, sound_recounted, sound_refuse, sound_start, sound_turn_away, spends_key}
 
 -- ---- states
 
@@ -113,194 +95,151 @@ past_challenge : (phase : Phase) (vectors : List Vector) (next : ℕ) → is_pas
 past_challenge Authenticating vectors next e = absurd (cc)
 past_challenge _ vectors next e = tt
 
--- a sound state in a phase
-context_in : (s : Setting) (solo : Solo) (phase : Phase) → solo.phase ≡ phase → IsSound s solo
-    → HasContext phase s.vectors solo.context
-context_in s solo phase is h = subst (λ (p : Phase). HasContext p s.vectors solo.context) is h.context
-
 connection_in : (s : Setting) (solo : Solo) (phase : Phase) → solo.phase ≡ phase → IsSound s solo
     → HasConnection phase solo.connection
 connection_in s solo phase is h = subst (λ (p : Phase). HasConnection p solo.connection) is h.connection
 
-proven_in : (s : Setting) (solo : Solo) (phase : Phase) → solo.phase ≡ phase → is_past_proof phase ≡ true → IsSome solo.connection
-    → IsSound s solo → IsProven s solo
-proven_in s solo phase is past linked h = proven s solo (subst (λ (p : Phase). is_past_proof p ≡ true) (sym is) past) linked h
+past_later : (phase : Phase) → is_later phase ≡ true → is_past_proof phase ≡ true
+past_later Deregistered e = absurd (cc e)
+past_later Authenticating e = absurd (cc e)
+past_later SecurityMode e = absurd (cc e)
+past_later _ e = refl
+
+past_accepting : (phase : Phase) → is Accepting phase ≡ true → is_past_proof phase ≡ true
+past_accepting Accepting e = refl
+past_accepting _ e = absurd (cc e)
+
+past_updating : (phase : Phase) → is Updating phase ≡ true → is_past_proof phase ≡ true
+past_updating Updating e = refl
+past_updating _ e = absurd (cc e)
+
+-- past the proof the context has given its radio keys
+derived_of : (s : Setting) (y : Solo) (x : Context) → is_past_proof y.phase ≡ true → y.context ≡ Some x → IsSound s y → IsDerived x
+derived_of s y x past has h =
+    let c = keyed_context y.phase s.vectors y.context past h.context in
+    subst IsDerived (same_Some c.0 x (sym c.2 ∙ has)) c.4
+
+has_key : (s : Setting) (y : Solo) (x : Context) → is_past_proof y.phase ≡ true → y.context ≡ Some x → IsSound s y
+    → HasKey s x.radio.kenb y
+has_key s y x past has h =
+    record { sound = h; past = past; context = x; kept = has; key = refl; derived = derived_of s y x past has h }
 
 -- what nas_security's law says of what is accepted
 abbrev pub WholeIsFresh : Type 0
 WholeIsFresh = (mac : Mac) (last : Option ℕ) (allowed : List SecurityHeader) (octets : List ℕ) (count : ℕ) (message : List ℕ)
     → accepted mac last allowed octets ≡ Ok (count, message) → (first_after last ≤ count) × (count < 2 ^ 24)
 
--- an answer's count is above the last that the context accepted
-abbrev IsHigh : Context → Acceptance → Type 0
-IsHigh x r = (found : ℕ × List ℕ) → r ≡ Ok found → first_after x.security.up_last ≤ found.0
+-- a plain message has no security header
+plain_refused : (nas : List ℕ) → RefusesRequest nas → has_security_header nas ≡ false
+plain_refused nas refuses = elim refuses.1 [
+  | inl is ↦ subst (λ (n : List ℕ). has_security_header n ≡ false) (sym is) (plain_service_reject refuses.0)
+  | inr is ↦ subst (λ (n : List ℕ). has_security_header n ≡ false) (sym is) (plain_update_reject refuses.0)
+]
 
-module _ (whole : WholeIsFresh) {s : Setting} where
-  -- ---- attaching
+plain_told : {solo : Solo} {item : Item} (nas : List ℕ) → IsPlainRepeat solo.repeat → TellsPlainly solo item nas
+    → has_security_header nas ≡ false
+plain_told nas kept (RefusesAttach cause is) = ap has_security_header is ∙ plain_attach_reject cause None
+plain_told nas kept (RefusesEsm cause session combined capability esm answer request refused is) =
+    ap has_security_header is ∙ plain_attach_reject cause (Some answer)
+plain_told nas kept (RefusesProof is) = ap has_security_header is ∙ plain_authentication_reject
+plain_told nas kept (AcceptsDetach is) = ap has_security_header is ∙ plain_detach_accept
+plain_told nas kept (TellsStatus cause is) = ap has_security_header is ∙ plain_emm_status cause
+plain_told nas kept (TellsAgain ticks was) = subst IsPlainRepeat was kept
 
-  sound_attach_refused : {P : Solo → Type 0} {d : Draft} (cause : EmmCause) (esm : Option (List ℕ)) → IsReady s P d
-      → IsReady s (IsSound s) (attaching.attach_refused cause esm d)
-  unfolding attaching.attach_refused
-  sound_attach_refused cause esm h = sound_forgotten _ (ready_send (attach_reject cause esm) (plain_attach_reject cause esm) h)
+-- ---- what each action keeps
 
-  sound_challenged : {d : Draft} (v : Vector) → slice_get s.vectors d.solo.next_vector ≡ Some v → IsReady s IsBare d
-      → IsReady s (IsSound s) (attaching.challenged v d)
-  unfolding attaching.challenged
-  sound_challenged {d} v there h =
-      let plain = plain_authentication_request _ v.rand v.autn in
-      sound_start _ _ plain (ready_send _ plain (record {
-        solo = record { context = h.solo.context; connection = h.solo.connection; challenge = (d.solo.next_vector, v, refl, there); reachable = h.solo.reachable; repeat = h.solo.repeat };
-        known = h.known;
-        said = h.said;
-      }))
+module _ (whole : WholeIsFresh) (s : Setting) (b : Solo) (item : Item) (found : IsSound s b) where
+  -- with the context that the step began with, but for counts
+  abbrev IsKnownIn : Solo → Type 0
+  IsKnownIn x = HasContext b.phase s.vectors x.context
 
-  sound_challenge : {d : Draft} → IsReady s IsBare d → IsReady s (IsSound s) (attaching.challenge s d)
-  unfolding attaching.challenge
-  sound_challenge {d} h =
-      at_some (IsReady s (IsSound s)) (slice_get s.vectors d.solo.next_vector) (λ v there. sound_challenged v there h)
-      (λ is. sound_attach_refused _ _ h)
+  -- neither counted nor with anything that may not be repeated
+  abbrev IsServing : Solo → Type 0
+  IsServing x = IsSome x.connection × IsCountedIdle x.reachable x.connection × IsPlainRepeat x.repeat
 
-  sound_attach_by : {d : Draft} (asked : Requested (List ℕ)) (combined : Bool) (capability : List ℕ) (tai : Tai)
-      → IsReady s IsBare d
-      → IsReady s (IsSound s) (attaching.attach_by asked s combined capability tai d)
-  unfolding attaching.attach_by attaching.asking
-  sound_attach_by Unreadable combined capability tai h = sound_attach_refused _ _ h
-  sound_attach_by (Refused esm) combined capability tai h = sound_attach_refused _ _ h
-  sound_attach_by Taken combined capability tai h =
-      either (IsReady s (IsSound s)) _
-      (sound_challenge (record {
-        solo = record { context = h.solo.context; connection = h.solo.connection; reachable = h.solo.reachable; repeat = h.solo.repeat };
-        known = h.known;
-        said = h.said;
-      })) (sound_attach_refused _ _ h)
+  -- sound, in this phase
+  abbrev IsMoving : Phase → Solo → Type 0
+  IsMoving phase x = IsSound s x × (x.phase ≡ phase)
 
-  sound_attach : {d : Draft} (combined : Bool) (capability esm : List ℕ) (tai : Tai) → IsReady s IsLinked d
-      → IsReady s (IsSound s) (attaching.attach s combined capability esm tai d)
-  unfolding attaching.attach attaching.requesting
-  sound_attach {d} combined capability esm tai h =
-      let w = bare_wipe h in
-      sound_attach_by _ combined capability tai (record {
-        solo = record { context = w.solo.context; connection = w.solo.connection; reachable = w.solo.reachable; repeat = w.solo.repeat };
-        known = w.known;
-        said = w.said;
-      })
+  abbrev P : Stage → Draft → Type 0
+  P Begun d = IsReady s (IsSound s) d
+  P Linked d = IsReady s IsLinked d
+  P Cleared d = IsReady s IsBare d
+  P Asked d = IsReady s IsBare d
+  P Told d = IsReady s (IsSound s) d
+  P Known d = IsReady s IsKnownIn d
+  P Serving d = IsReady s IsServing d
+  P Keyed d = IsReady s (IsProven s) d
+  P (Moving phase) d = IsReady s (IsMoving phase) d
+  P Counted d = IsReady s (IsSound s) d
+  P Ticked d = IsReady s (IsSound s) d
+  P Ended d = IsDone s d
 
-  sound_authenticated : {d : Draft} (place : ℕ) (v : Vector) → slice_get s.vectors place ≡ Some v → d.solo.phase ≡ Authenticating
-      → IsReady s (IsSound s) d
-      → Whenever (IsReady s (IsSound s)) (attaching.authenticated place v d)
-  unfolding attaching.authenticated attaching.new_context
-  sound_authenticated {d} place v there is h =
-      then _ (sound_protect _ _ (record {
+  says : (at : Stage) (nas : List ℕ) (d : Draft) → may_say at ≡ true → has_security_header nas ≡ false → P at d → P at (send nas d)
+  says Begun nas d may plain h = ready_send nas plain h
+  says Linked nas d may plain h = ready_send nas plain h
+  says Cleared nas d may plain h = ready_send nas plain h
+  says Asked nas d may plain h = ready_send nas plain h
+  says Told nas d may plain h = ready_send nas plain h
+  says Known nas d may plain h = ready_send nas plain h
+  says Counted nas d may plain h = ready_send nas plain h
+  says _ nas d may plain h = absurd (cc may)
+
+  spends_known : Spends IsKnownIn
+  spends_known solo x is h =
+      context_recounted b.phase s.vectors solo.context x (x.security.down_next + 1) x.security.up_last is (rises_same x.security.up_last) h
+
+  guards : (at : Stage) (header : SecurityHeader) (nas : List ℕ) (d : Draft) → may_protect at ≡ true → P at d
+      → Whenever (P at) (protect header nas d)
+  guards Told header nas d may h = sound_protect header nas h
+  guards Known header nas d may h = ready_protect header nas spends_known h
+  guards Counted header nas d may h = sound_protect header nas h
+  guards _ header nas d may h = absurd (cc may)
+
+  -- what isn't sent again leaves it
+  anyhow_at : (at : Stage) (d : Draft) → may_say at ≡ true → P at d → IsReady s Whatever d
+  anyhow_at Begun d may h = anyhow h
+  anyhow_at Linked d may h = anyhow h
+  anyhow_at Cleared d may h = anyhow h
+  anyhow_at Asked d may h = anyhow h
+  anyhow_at Told d may h = anyhow h
+  anyhow_at Known d may h = anyhow h
+  anyhow_at Counted d may h = anyhow h
+  anyhow_at _ d may h = absurd (cc may)
+
+  sound_at : (at : Stage) (d : Draft) → may_close at ≡ true → P at d → IsReady s (IsSound s) d
+  sound_at Begun d may h = h
+  sound_at Told d may h = h
+  sound_at _ d may h = absurd (cc may)
+
+  moved_sound : {d : Draft} {phase : Phase} → IsReady s (IsMoving phase) d → IsReady s (IsSound s) d
+  moved_sound h = by (λ solo p. p.0) h
+
+  awaits : {d : Draft} {phase : Phase} (timer : NasTimer) (header : SecurityHeader) (nas : List ℕ) → IsReady s (IsMoving phase) d
+      → Whenever (IsDone s) (protect_and_await timer header nas d)
+  awaits timer header nas h = then _ (sound_protect header nas (moved_sound h)) (λ e f. done (sound_start timer _ tt f))
+
+  bare_at : (at : Stage) (d : Draft) → TakesVector b item at d.solo → P at d → IsReady s IsBare d
+  bare_at at d (ForAttach is next combined esm request has) h = subst (λ (a : Stage). P a d) is h
+  bare_at at d (ForSynch nas is same phase on plain told) h =
+      let r = subst (λ (a : Stage). P a d) is h in
+      let challenged = ap (λ (x : Solo). x.phase) same ∙ phase in
+      record {
         solo = record {
-          context = (_, v, refl, record { there = there; integrity = refl; kasme = refl; ksi = refl });
-          challenge = tt;
-          connection = connection_in s d.solo Authenticating is h.solo;
-          reachable = h.solo.reachable;
-          repeat = h.solo.repeat;
+          context = subst (λ (p : Phase). HasContext p s.vectors d.solo.context) challenged r.solo.context;
+          connection = connection_in s d.solo Authenticating challenged r.solo;
+          reachable = r.solo.reachable;
+          repeat = r.solo.repeat;
         };
-        known = (v, record { there = there; integrity = refl; kasme = refl; ksi = refl });
-        said = h.said;
-      })) (λ e f. sound_start _ _ tt f)
+        known = r.known;
+        said = r.said;
+      }
 
-  sound_not_authenticated : {P : Solo → Type 0} {d : Draft} → IsReady s P d → IsReady s (IsSound s) (attaching.not_authenticated d)
-  unfolding attaching.not_authenticated
-  sound_not_authenticated h = sound_forgotten _ (ready_send authentication_reject plain_authentication_reject h)
-
-  sound_response : {d : Draft} (res : List ℕ) → d.solo.phase ≡ Authenticating → IsReady s (IsSound s) d
-      → Whenever (IsReady s (IsSound s)) (attaching.response s res d)
-  unfolding attaching.response attaching.response_to
-  sound_response {d} res is h =
-      at_some (Whenever (IsReady s (IsSound s))) (slice_get s.vectors (d.solo.next_vector - 1))
-      (λ v there. either (Whenever (IsReady s (IsSound s))) _ (sound_authenticated (d.solo.next_vector - 1) v there is h) (some (sound_not_authenticated h)))
-      (λ none. some h)
-
-  sound_failure : {d : Draft} (cause : ℕ) → d.solo.phase ≡ Authenticating → IsReady s (IsSound s) d
-      → IsReady s (IsSound s) (attaching.failure s cause d)
-  unfolding attaching.failure
-  sound_failure {d} cause is h =
-      either (IsReady s (IsSound s)) _
-      (sound_challenge (record {
-        solo = record {
-          context = context_in s d.solo Authenticating is h.solo;
-          connection = connection_in s d.solo Authenticating is h.solo;
-          reachable = h.solo.reachable;
-          repeat = h.solo.repeat;
-        };
-        known = h.known;
-        said = h.said;
-      })) (sound_not_authenticated h)
-
-  sound_detach_plainly : {P : Solo → Type 0} {d : Draft} (switch_off : Bool) → IsReady s P d
-      → IsReady s (IsSound s) (attaching.detach_plainly switch_off d)
-  unfolding attaching.detach_plainly attaching.detach_answered_plainly
-  sound_detach_plainly {P} switch_off h =
-      sound_forgotten _ (either (IsReady s P) switch_off h (ready_send detach_accept plain_detach_accept h))
-
-  sound_status_plainly : {d : Draft} (cause : Option EmmCause) → IsReady s (IsSound s) d
-      → IsReady s (IsSound s) (attaching.status_plainly cause d)
-  unfolding attaching.status_plainly
-  sound_status_plainly cause h =
-      at_some (IsReady s (IsSound s)) cause (λ c is. ready_send (emm_status c) (plain_emm_status c) h) (λ is. h)
-
-  sound_authenticating : {d : Draft} (m : Heard (List ℕ)) → d.solo.phase ≡ Authenticating → IsReady s (IsSound s) d
-      → Whenever (IsReady s (IsSound s)) (attaching.authenticating s m d)
-  unfolding attaching.authenticating
-  sound_authenticating (heards.AuthenticationResponse res) is h = sound_response res is h
-  sound_authenticating (heards.AuthenticationFailure cause) is h = some (sound_failure cause is h)
-  sound_authenticating (heards.DetachRequest switch_off) is h = some (sound_detach_plainly switch_off h)
-  sound_authenticating heards.Unasked is h = some h
-  sound_authenticating (heards.Unreadable fault) is h = some (sound_status_plainly _ h)
-  sound_authenticating _ is h = some (sound_status_plainly _ h)
-
-  -- ATTACH ACCEPT goes to the proved, with the context's key
-  done_accept : {d : Draft} (key : List ℕ) (x : Context) → d.solo.context ≡ Some x → key ≡ x.radio.kenb → IsDerived x
-      → IsReady s (IsProven s) d
-      → Whenever (IsDone s) (attaching.accept s key d)
-  unfolding attaching.accept attaching.activating attaching.given_tmsi set_up_with
-  done_accept {d} key x is same derived h =
-      let sealed = ready_seal {P = HasKey s key} IntegrityProtectedCiphered _ (spends_key s key) (record {
-        solo = record {
-          sound = record { context = h.solo.context; connection = h.solo.connection; challenge = tt; reachable = h.solo.reachable; repeat = h.solo.repeat };
-          past = refl;
-          context = x;
-          kept = is;
-          key = same;
-          derived = derived;
-        };
-        known = h.known;
-        said = h.said;
-      }) in
-      then _ (sealed_then _ sealed (λ y r u. done_set_up key (Some y.0.form) y.0.under u r)) (λ e f. done_start _ _ tt f)
-
-  sound_ask_information : {d : Draft} → IsReady s (IsProven s) d → Whenever (IsReady s (IsSound s)) (attaching.ask_information d)
-  unfolding attaching.ask_information
-  sound_ask_information h =
-      then _ (sound_protect _ _ (record {
-        solo = record { context = h.solo.context; connection = h.solo.connection; challenge = tt; reachable = h.solo.reachable; repeat = h.solo.repeat };
-        known = h.known;
-        said = h.said;
-      })) (λ e f. sound_start _ _ tt f)
-
-  sound_not_secured : {d : Draft} (nas : List ℕ) → IsReady s (IsSound s) d → IsReady s (IsSound s) (attaching.not_secured nas d)
-  unfolding attaching.not_secured
-  sound_not_secured nas h = either (IsReady s (IsSound s)) _ (sound_fall _ h) h
-
-  -- a count was accepted by the context
-  sound_took : {d : Draft} (x : Context) (count : ℕ) → d.solo.context ≡ Some x → first_after x.security.up_last ≤ count
-      → IsReady s (IsSound s) d → IsReady s (IsSound s) (attaching.took (counted_up x count) count d)
-  unfolding attaching.took
-  sound_took {d} x count is high h = record {
-    solo = sound_recounted s d.solo x x.security.down_next (Some count) is (rises_above x.security.up_last count high) h.solo;
-    known = known_recounted s.vectors x x.security.down_next (Some count) (subst (IsKnown s.vectors) is h.known);
-    said = h.said;
-  }
-
-  -- and gives the radio keys
-  proven_keyed : {d : Draft} (x : Context) (count : ℕ) → d.solo.context ≡ Some x → IsSome d.solo.connection
-      → IsReady s (IsSound s) d
+  -- the context gives radio keys
+  keyed_so : {d : Draft} (x : Context) (count : ℕ) → d.solo.context ≡ Some x → IsReady s IsServing d
       → IsReady s (IsProven s) (attaching.keyed (counted_up x count) count d)
   unfolding attaching.keyed attaching.took
-  proven_keyed {d} x count is linked h =
+  keyed_so {d} x count is h =
       let known : IsKnown s.vectors (Some x) = subst (IsKnown s.vectors) is h.known in
       let of = known.1 in
       let keyed : IsOfVector s.vectors (record (counted_up x count) { radio = keys_of x.kasme count }) known.0 =
@@ -308,167 +247,44 @@ module _ (whole : WholeIsFresh) {s : Setting} where
       record {
         solo = record {
           context = (record (counted_up x count) { radio = keys_of x.kasme count }, known.0, refl, keyed, (count, count, 0, refl, le_refl count, refl));
-          connection = linked;
-          reachable = h.solo.reachable;
-          repeat = h.solo.repeat;
+          connection = h.solo.0;
+          reachable = h.solo.1;
+          repeat = h.solo.2;
         };
         known = (known.0, keyed);
         said = h.said;
       }
 
-  done_secured : {d : Draft} (x : Context) (count : ℕ) → d.solo.context ≡ Some x → IsSome d.solo.connection
-      → IsReady s (IsSound s) d
-      → Whenever (IsDone s) (attaching.secured s (counted_up x count) count d)
-  unfolding attaching.secured attaching.keyed attaching.took
-  done_secured {d} x count is linked h =
-      let k = proven_keyed x count is linked h in
-      either (Whenever (IsDone s)) _ (done_if (sound_ask_information k))
-      (done_accept (kenb x.kasme count) (record (counted_up x count) { radio = keys_of x.kasme count }) refl refl (count, count, 0, refl, le_refl count, refl) k)
+  -- a count was accepted by the context
+  took_so : {d : Draft} (x : Context) (count : ℕ) → d.solo.context ≡ Some x → first_after x.security.up_last ≤ count
+      → IsReady s (IsSound s) d → IsReady s (IsSound s) (attaching.took (counted_up x count) count d)
+  unfolding attaching.took
+  took_so {d} x count is high h = record {
+    solo = sound_recounted s d.solo x x.security.down_next (Some count) is (rises_above x.security.up_last count high) h.solo;
+    known = known_recounted s.vectors x x.security.down_next (Some count) (subst (IsKnown s.vectors) is h.known);
+    said = h.said;
+  }
 
-  done_secured_by : {d : Draft} (r : Acceptance) (x : Context) (nas : List ℕ) → d.solo.context ≡ Some x → IsHigh x r
-      → IsSome d.solo.connection → IsReady s (IsSound s) d
-      → Whenever (IsDone s) (attaching.secured_by r s x nas d)
-  unfolding attaching.secured_by
-  done_secured_by (Ok found) x nas is high linked h =
-      either (Whenever (IsDone s)) _ (done_secured x found.0 is linked h)
-      (some (done (sound_took x found.0 is (high found refl) h)))
-  done_secured_by (Err fault) x nas is high linked h = some (done (sound_not_secured nas h))
+  proven_at : (at : Stage) (d : Draft) → MayAccept b item at d → P at d → IsReady s (IsProven s) d
+  unfolding attaching.took
+  proven_at at d (WithKeys is) h = subst (λ (a : Stage). P a d) is h
+  proven_at at d (WithInformation x count octets is a later now came) h =
+      let r = subst (λ (a : Stage). P a d) is h in
+      let past = ap (λ (e : Draft). is_past_proof e.solo.phase) now ∙ past_later b.phase later in
+      let linked = ap (λ (e : Draft). is_some e.solo.connection) now ∙ a.on.linked in
+      record { solo = proven s d.solo past linked r.solo; known = r.known; said = r.said }
 
-  done_in_security_mode : {d : Draft} (nas : List ℕ) → IsSome d.solo.connection → IsReady s (IsSound s) d
-      → Whenever (IsDone s) (attaching.in_security_mode s nas d)
-  unfolding attaching.in_security_mode
-  done_in_security_mode {d} nas linked h =
-      at_some (Whenever (IsDone s)) d.solo.context
-      (λ x is. done_secured_by _ x nas is (λ found e. (whole _ _ _ _ found.0 found.1 e).0) linked h)
-      (λ is. some (done (sound_not_secured nas h)))
+  keyed_at : (at : Stage) (tai : Tai) (d : Draft) → MayUpdate b item at d.solo tai → may_update at ≡ true → P at d
+      → HasContext Registered s.vectors d.solo.context × IsReady s Whatever d
+  keyed_at Told tai d may stage h =
+      (keyed_context d.solo.phase s.vectors d.solo.context (registered_past d.solo.phase may.registered) h.solo.context, anyhow h)
+  keyed_at Known tai d may stage h =
+      (keyed_context b.phase s.vectors d.solo.context (registered_past b.phase may.was) h.solo, anyhow h)
+  keyed_at _ tai d may stage h = absurd (cc stage)
 
-  -- ---- a phone that is known
-
-  done_served_by : {d : Draft} (r : Result ℕ SecurityFault) (x : Context) (m : Entry (List ℕ)) → d.solo.context ≡ Some x
-      → IsReady s (IsSound s) d
-      → IsDone s (serving.served_by r s x m d)
-  unfolding serving.served_by serving.served serving.active ended attaching.keyed attaching.took
-  done_served_by {d} (Ok count) x m is h =
-      let known : IsKnown s.vectors (Some x) = subst (IsKnown s.vectors) is h.known in
-      let of = known.1 in
-      let y : Context = record (counted_up x count) { radio = keys_of x.kasme count } in
-      let keyed : IsOfVector s.vectors y known.0 =
-      record { there = of.there; integrity = of.integrity; kasme = of.kasme; ksi = of.ksi } in
-      let c = linked_connect s.slot m.station m.enb_ue_id h in
-      done_set_up (kenb x.kasme count) None None refl (record {
-        solo = record {
-          sound = record { context = (y, known.0, refl, keyed, (count, count, 0, refl, le_refl count, refl)); connection = tt; challenge = tt; reachable = tt; repeat = tt };
-          past = refl;
-          context = y;
-          kept = refl;
-          key = refl;
-          derived = (count, count, 0, refl, le_refl count, refl);
-        };
-        known = (known.0, keyed);
-        said = c.said;
-      })
-  done_served_by (Err fault) x m is h = done (sound_refuse s.slot m.station m.enb_ue_id _ (plain_service_reject _) h)
-
-  done_service : {d : Draft} (m : Entry (List ℕ)) (octets : List ℕ) → IsReady s (IsSound s) d
-      → IsDone s (serving.service s m octets d)
-  unfolding serving.service
-  done_service {d} m octets h =
-      let refused = λ (cause : EmmCause). done (sound_refuse s.slot m.station m.enb_ue_id (service_reject cause) (plain_service_reject cause) h) in
-      either (IsDone s) _ (at_some (IsDone s) d.solo.context (λ x is. done_served_by _ x m is h) (λ is. refused IdentityNotDerived))
-      (refused ImplicitlyDetached)
-
-  sound_update : {d : Draft} (tai : Tai) (combined initial : Bool) → IsReady s (IsLater s) d
-      → Whenever (IsReady s (IsSound s)) (serving.update s tai combined initial d)
-  unfolding serving.update serving.updating serving.active ended attaching.given_tmsi
-  sound_update tai combined initial h =
-      then _ (sound_protect _ _ (record {
-        solo = record { context = h.solo.context; connection = h.solo.connection; challenge = tt; reachable = tt; repeat = tt };
-        known = h.known;
-        said = h.said;
-      })) (λ e f. sound_start _ _ tt f)
-
-  sound_updated_by : {d : Draft} (r : Acceptance) (x : Context) (m : Entry (List ℕ)) (combined : Bool) → d.solo.context ≡ Some x
-      → IsHigh x r → is_registered d.solo.phase ≡ true
-      → IsReady s (IsSound s) d → Whenever (IsReady s (IsSound s)) (serving.updated_by r s x m combined d)
-  unfolding serving.updated_by
-  sound_updated_by {d} (Ok found) x m combined is high registered h =
-      let context = keyed_context d.solo.phase s.vectors d.solo.context (registered_past d.solo.phase registered) h.solo.context in
-      let known : IsKnown s.vectors (Some x) = subst (IsKnown s.vectors) is h.known in
-      let up : HasContext Registered s.vectors (Some (counted_up x found.0)) =
-      context_recounted Registered s.vectors d.solo.context x x.security.down_next (Some found.0) is
-      (rises_above x.security.up_last found.0 (high found refl)) context in
-      sound_update m.tai combined true
-      (ready_took {P = IsLinked} {Q = IsLater s} (counted_up x found.0) found.0 (known_recounted s.vectors x x.security.down_next (Some found.0) known)
-      (λ solo linked. record { context = up; connection = linked })
-      (linked_connect s.slot m.station m.enb_ue_id h))
-  sound_updated_by (Err fault) x m combined is high registered h =
-      some (sound_refuse s.slot m.station m.enb_ue_id _ (plain_update_reject _) h)
-
-  sound_initial_update : {d : Draft} (m : Entry (List ℕ)) (combined : Bool) → IsReady s (IsSound s) d
-      → Whenever (IsReady s (IsSound s)) (serving.initial_update s m combined d)
-  unfolding serving.initial_update
-  sound_initial_update {d} m combined h =
-      let refused = λ (cause : EmmCause). some {Q = IsReady s (IsSound s)} (sound_refuse s.slot m.station m.enb_ue_id (update_reject cause) (plain_update_reject cause) h) in
-      either_by (Whenever (IsReady s (IsSound s))) _
-      (λ t. at_some (Whenever (IsReady s (IsSound s))) d.solo.context (λ x is. sound_updated_by _ x m combined is (λ found e. (whole _ _ _ _ found.0 found.1 e).0) t h) (λ is. refused IdentityNotDerived)) (λ t. refused ImplicitlyDetached)
-
-  -- whatever the state, a phone that is proved may leave
-  sound_detach : {P : Solo → Type 0} {d : Draft} (switch_off : Bool) → IsReady s P d
-      → Whenever (IsReady s (IsSound s)) (serving.detach switch_off d)
-  unfolding serving.detach serving.detach_answered
-  sound_detach switch_off h =
-      let w = anyhow h in
-      then _ (either (Whenever (IsReady s Whatever)) switch_off (some w) (ready_protect IntegrityProtectedCiphered detach_accept spends_whatever w))
-      (λ e f. sound_forgotten _ f)
-
-  sound_detached_by : {d : Draft} (r : Acceptance) (x : Context) (m : Entry (List ℕ)) (switch_off : Bool) → d.solo.context ≡ Some x
-      → IsReady s (IsSound s) d
-      → Whenever (IsReady s (IsSound s)) (serving.detached_by r s x m switch_off d)
-  unfolding serving.detached_by
-  sound_detached_by {d} (Ok found) x m switch_off is h =
-      let known : IsKnown s.vectors (Some x) = subst (IsKnown s.vectors) is h.known in
-      sound_detach switch_off
-      (ready_took {P = IsLinked} {Q = Whatever} (counted_up x found.0) found.0 (known_recounted s.vectors x x.security.down_next (Some found.0) known) (λ solo linked. tt)
-      (linked_connect s.slot m.station m.enb_ue_id h))
-  sound_detached_by (Err fault) x m switch_off is h = some (sound_turn_away s.slot m.station m.enb_ue_id h)
-
-  sound_initial_detach : {d : Draft} (m : Entry (List ℕ)) (switch_off : Bool) → IsReady s (IsSound s) d
-      → Whenever (IsReady s (IsSound s)) (serving.initial_detach s m switch_off d)
-  unfolding serving.initial_detach
-  sound_initial_detach {d} m switch_off h =
-      either (Whenever (IsReady s (IsSound s))) _
-      (some (sound_detach_plainly switch_off (linked_connect s.slot m.station m.enb_ue_id h)))
-      (at_some (Whenever (IsReady s (IsSound s))) d.solo.context (λ x is. sound_detached_by _ x m switch_off is h) (λ is. some (sound_turn_away s.slot m.station m.enb_ue_id h)))
-
-  done_entered : {d : Draft} (m : Heard (List ℕ)) (e : Entry (List ℕ)) → IsReady s (IsSound s) d
-      → Whenever (IsDone s) (serving.entered m s e d)
-  unfolding serving.entered
-  done_entered (heards.AttachRequest combined capability esm) e h =
-      some (done (sound_attach combined capability esm e.tai (linked_connect s.slot e.station e.enb_ue_id h)))
-  done_entered (heards.ServiceRequest octets) e h = some (done_service e octets h)
-  done_entered (heards.TrackingAreaUpdateRequest combined) e h = done_if (sound_initial_update e combined h)
-  done_entered (heards.DetachRequest switch_off) e h = done_if (sound_initial_detach e switch_off h)
-  done_entered _ e h = some (done h)
-
-  sound_claimed : {d : Draft} (m : Heard (List ℕ)) (id : ℕ) (e : Entry (List ℕ)) → IsReady s (IsSound s) d
-      → IsReady s (IsSound s) (serving.claimed m s id e d)
-  unfolding serving.claimed
-  sound_claimed (heards.AttachRequest combined capability esm) id e h =
-      sound_attach combined capability esm e.tai (linked_connect_on id e.station e.enb_ue_id h)
-  sound_claimed _ id e h = h
-
-  -- ---- protected messages on the connection
-
-  sound_status : {d : Draft} (cause : Option EmmCause) → IsReady s (IsSound s) d
-      → Whenever (IsReady s (IsSound s)) (serving.status_protected cause d)
-  unfolding serving.status_protected
-  sound_status cause h = at_some (Whenever (IsReady s (IsSound s))) cause (λ c is. sound_protect _ _ h) (λ is. some h)
-
-  -- past the proof a phone may become registered
-  sound_registered : {d : Draft} → is_past_proof d.solo.phase ≡ true → IsReady s (IsSound s) d
-      → IsReady s (IsSound s) (serving.registered d)
+  registered_so : {d : Draft} → is_past_proof d.solo.phase ≡ true → IsReady s (IsSound s) d → IsReady s (IsSound s) (serving.registered d)
   unfolding serving.registered ended
-  sound_registered {d} past h = record {
+  registered_so {d} past h = record {
     solo = record {
       context = keyed_context d.solo.phase s.vectors d.solo.context past h.solo.context;
       challenge = tt;
@@ -480,154 +296,30 @@ module _ (whole : WholeIsFresh) {s : Setting} where
     said = h.said;
   }
 
-  sound_attach_completed : {d : Draft} (esm : List ℕ) → is_past_proof d.solo.phase ≡ true → IsReady s (IsSound s) d
-      → IsReady s (IsSound s) (serving.attach_completed esm d)
-  unfolding serving.attach_completed
-  sound_attach_completed esm past h =
-      either (IsReady s (IsSound s)) _
-      (sound_registered past (record {
-        solo = record { context = h.solo.context; connection = h.solo.connection; challenge = h.solo.challenge; reachable = h.solo.reachable; repeat = h.solo.repeat };
-        known = h.known;
-        said = h.said;
-      })) (sound_fall _ h)
-
-  sound_update_completed : {d : Draft} → is_past_proof d.solo.phase ≡ true → IsReady s (IsSound s) d
-      → IsReady s (IsSound s) (serving.update_completed d)
-  unfolding serving.update_completed
-  sound_update_completed past h = let r = sound_registered past h in either (IsReady s (IsSound s)) _ (sound_fall _ r) r
-
-  sound_inner_emm : {d : Draft} (m : Heard (List ℕ)) (tai : Tai) → is_past_proof d.solo.phase ≡ true → IsSome d.solo.connection
-      → IsReady s (IsSound s) d
-      → Whenever (IsReady s (IsSound s)) (serving.inner_emm m s tai d)
-  unfolding serving.inner_emm
-  sound_inner_emm (heards.AttachComplete esm) tai past linked h =
-      either (Whenever (IsReady s (IsSound s))) _ (some (sound_attach_completed esm past h)) (sound_status _ h)
-  sound_inner_emm heards.TrackingAreaUpdateComplete tai past linked h =
-      either (Whenever (IsReady s (IsSound s))) _ (some (sound_update_completed past h)) (sound_status _ h)
-  sound_inner_emm {d} (heards.TrackingAreaUpdateRequest combined) tai past linked h =
-      either (Whenever (IsReady s (IsSound s))) _
-      (sound_update tai combined false (record {
-        solo = record { context = keyed_context d.solo.phase s.vectors d.solo.context past h.solo.context; connection = linked };
-        known = h.known;
-        said = h.said;
-      }))
-      (sound_status _ h)
-  sound_inner_emm (heards.DetachRequest switch_off) tai past linked h = sound_detach switch_off h
-  sound_inner_emm heards.DetachAccept tai past linked h =
-      either (Whenever (IsReady s (IsSound s))) _ (some (sound_forgotten _ h)) (sound_status _ h)
-  sound_inner_emm heards.Unasked tai past linked h = some h
-  sound_inner_emm (heards.Unreadable fault) tai past linked h = sound_status _ h
-  sound_inner_emm _ tai past linked h = sound_status _ h
-
-  done_information_came : {d : Draft} → is_past_proof d.solo.phase ≡ true → IsSome d.solo.connection → IsReady s (IsSound s) d
-      → Whenever (IsDone s) (serving.information_came s d)
-  unfolding serving.information_came
-  done_information_came {d} past linked h =
-      let context = keyed_context d.solo.phase s.vectors d.solo.context past h.solo.context in
-      at_some (Whenever (IsDone s)) d.solo.context
-      (λ x is. done_accept x.radio.kenb x is refl (subst IsDerived (same_Some context.0 x (sym context.2 ∙ is)) context.4)
-      (record { solo = proven s d.solo past linked h.solo; known = h.known; said = h.said }))
-      (λ is. some (done h))
-
-  done_reacted : {d : Draft} (r : Reaction (List ℕ)) → is_past_proof d.solo.phase ≡ true → IsSome d.solo.connection
-      → IsReady s (IsSound s) d
-      → Whenever (IsDone s) (serving.reacted r s d)
-  unfolding serving.reacted
-  done_reacted reactions.Nothing past linked h = some (done h)
-  done_reacted reactions.Informed past linked h = done_information_came past linked h
-  done_reacted (reactions.Answer octets) past linked h = done_if (sound_protect _ octets h)
-
-  done_inner_message : {d : Draft} (octets : List ℕ) (tai : Tai) → is_past_proof d.solo.phase ≡ true → IsSome d.solo.connection
-      → IsReady s (IsSound s) d
-      → Whenever (IsDone s) (serving.inner_message octets s tai d)
-  unfolding serving.inner_message serving.inner_esm
-  done_inner_message octets tai past linked h =
-      either (Whenever (IsDone s)) _ (done_reacted _ past linked h) (done_if (sound_inner_emm (heard octets) tai past linked h))
-
-  done_inner_message_by : {d : Draft} (r : Acceptance) (x : Context) (tai : Tai) → d.solo.context ≡ Some x → IsHigh x r
-      → is_past_proof d.solo.phase ≡ true → IsSome d.solo.connection
-      → IsReady s (IsSound s) d → Whenever (IsDone s) (serving.inner_message_by r s x tai d)
-  unfolding serving.inner_message_by attaching.took
-  done_inner_message_by (Ok found) x tai is high past linked h =
-      done_inner_message found.1 tai past linked (sound_took x found.0 is (high found refl) h)
-  done_inner_message_by (Err fault) x tai is high past linked h = some (done h)
-
-  done_in_later : {d : Draft} (tai : Tai) (nas : List ℕ) → is_past_proof d.solo.phase ≡ true → IsSome d.solo.connection
-      → IsReady s (IsSound s) d
-      → Whenever (IsDone s) (serving.in_later s tai nas d)
-  unfolding serving.in_later
-  done_in_later {d} tai nas past linked h =
-      at_some (Whenever (IsDone s)) d.solo.context
-      (λ x is. done_inner_message_by _ x tai is (λ found e. (whole _ _ _ _ found.0 found.1 e).0) past linked h)
-      (λ is. some (done h))
-
-  done_uplink : {d : Draft} (phase : Phase) (tai : Tai) (nas : List ℕ) → d.solo.phase ≡ phase → IsSome d.solo.connection
-      → IsReady s (IsSound s) d
-      → Whenever (IsDone s) (serving.uplink phase s tai nas d)
-  unfolding serving.uplink attaching.in_authenticating
-  done_uplink Deregistered tai nas is linked h = some (done h)
-  done_uplink Authenticating tai nas is linked h =
-      either (Whenever (IsDone s)) _ (done_if (sound_authenticating (heard nas) is h)) (some (done h))
-  done_uplink SecurityMode tai nas is linked h = done_in_security_mode nas linked h
-  done_uplink {d} EsmInformation tai nas is linked h =
-      done_in_later tai nas (subst (λ (p : Phase). is_past_proof p ≡ true) (sym is) refl) linked h
-  done_uplink {d} Accepting tai nas is linked h =
-      done_in_later tai nas (subst (λ (p : Phase). is_past_proof p ≡ true) (sym is) refl) linked h
-  done_uplink {d} Updating tai nas is linked h =
-      done_in_later tai nas (subst (λ (p : Phase). is_past_proof p ≡ true) (sym is) refl) linked h
-  done_uplink {d} Registered tai nas is linked h =
-      done_in_later tai nas (subst (λ (p : Phase). is_past_proof p ≡ true) (sym is) refl) linked h
-  done_uplink {d} Detaching tai nas is linked h =
-      done_in_later tai nas (subst (λ (p : Phase). is_past_proof p ≡ true) (sym is) refl) linked h
-
-  -- ---- messages on an association
-
-  done_on_connection : {d : Draft} (body : UeBody (List ℕ)) → IsSome d.solo.connection → IsReady s (IsSound s) d
-      → Whenever (IsDone s) (messages.on_connection body s d)
-  unfolding messages.on_connection
-  done_on_connection {d} (bodies.Uplink nas tai) linked h = done_uplink d.solo.phase tai nas refl linked h
-  done_on_connection (bodies.UeContextReleaseRequest cause) linked h = some (done (sound_fall _ h))
-  done_on_connection bodies.InitialContextSetupFailure linked h = some (done (sound_fall _ h))
-  done_on_connection _ linked h = some (done h)
-
-  sound_indicate : {d : Draft} (cause : Cause) (m : UeMessage (List ℕ)) → IsReady s (IsSound s) d
-      → IsReady s (IsSound s) (connected.indicate cause m d)
-  unfolding connected.indicate error_indication
-  sound_indicate cause m h = ready_emit m.station _ None refl refl h
-
-  done_checked : {d : Draft} (m : UeMessage (List ℕ)) → IsReady s (IsSound s) d → Whenever (IsDone s) (messages.checked s m d)
-  unfolding messages.checked
-  done_checked {d} m h =
-      either_by (Whenever (IsDone s)) _ (λ t. some (done (sound_indicate _ m h)))
-      (λ t. let linked = connected_of d.solo.connection _ (true_of (connected.has_connection_id m d) t) in
-      either (Whenever (IsDone s)) _ (done_on_connection m.body linked h) (some (done (sound_indicate _ m h))))
-
   -- the next hop of the context, to where the connection now is
-  done_switched : {d : Draft} (m : UeMessage (List ℕ)) (x : Context) → d.solo.context ≡ Some x → is_registered d.solo.phase ≡ true
-      → IsSome d.solo.connection
-      → IsReady s (IsSound s) d → IsDone s (connected.switched m x d)
+  switched_so : (m : UeMessage (List ℕ)) (x : Context) → IsSwitch b item m x → IsReady s (IsSound s) (untouched b)
+      → IsDone s (connected.switched m x (untouched b))
   unfolding connected.switched emit path_switch_acknowledge
-  done_switched {d} m x is registered linked h =
+  switched_so m x w h =
       let y : Context = record x { radio = connected.hopped x } in
       let k = connected.connection_of m in
-      let past = registered_past d.solo.phase registered in
-      let known : IsKnown s.vectors (Some x) = subst (IsKnown s.vectors) is h.known in
+      let past = registered_past b.phase w.registered in
+      let linked = linked_by b.connection (λ k. k.id == m.mme_ue_id) w.has in
+      let known : IsKnown s.vectors (Some x) = subst (IsKnown s.vectors) w.context h.known in
       let of = known.1 in
       let keyed : IsOfVector s.vectors y known.0 =
       record { there = of.there; integrity = of.integrity; kasme = of.kasme; ksi = of.ksi } in
-      let context = keyed_context d.solo.phase s.vectors d.solo.context past h.solo.context in
-      let derived : IsDerived x = subst IsDerived (same_Some context.0 x (sym context.2 ∙ is)) context.4 in
-      let moved : IsDerived y = moved_derived x derived in
-      let after : Solo = record d.solo { connection = Some k; context = Some y } in
+      let moved : IsDerived y = moved_derived x (derived_of s b x past w.context h.solo) in
+      let after : Solo = record b { connection = Some k; context = Some y } in
       record {
         sound = record {
-          context = later_context d.solo.phase s.vectors y known.0 past keyed moved;
-          challenge = past_challenge d.solo.phase s.vectors d.solo.next_vector past;
-          connection = registered_linked d.solo.phase k registered;
-          reachable = uncounted d.solo.reachable d.solo.connection (Some k) h.solo.reachable linked;
+          context = later_context b.phase s.vectors y known.0 past keyed moved;
+          challenge = past_challenge b.phase s.vectors b.next_vector past;
+          connection = registered_linked b.phase k w.registered;
+          reachable = uncounted b.reachable b.connection (Some k) h.solo.reachable linked;
           repeat = h.solo.repeat;
         };
-        said = said_more s.vectors (Proved after) d.sent m.station None _ _ refl refl
+        said = said_more s.vectors (Proved after) [] m.station None _ _ refl refl
             (λ octets e. record {
               proved = past;
               connection = k;
@@ -638,61 +330,10 @@ module _ (whole : WholeIsFresh) {s : Setting} where
               kept = refl;
               key = (refl, refl);
               derived = moved;
-            }) (said_keyless s.vectors after d.sent h.said);
+            }) (said_keyless s.vectors after [] h.said);
       }
 
-  done_path_switch : {d : Draft} (m : UeMessage (List ℕ)) → IsReady s (IsSound s) d → IsDone s (connected.path_switch m d)
-  unfolding connected.path_switch connected.not_switched path_switch_failure
-  done_path_switch {d} m h =
-      let failed =
-      λ (cause : Cause). done (ready_emit m.station (path_switch_failure m.mme_ue_id m.enb_ue_id cause) None refl refl h) in
-      either_by (IsDone s) (not (connected.has_connection_id m d)) (λ t. failed _)
-      (λ t. let linked = connected_of d.solo.connection _ (true_of (connected.has_connection_id m d) t) in
-      either (IsDone s) (not (is_of_slot m.mme_ue_id)) (failed _)
-      (either_by (IsDone s) (is_registered d.solo.phase) (λ r. at_some (IsDone s) d.solo.context (λ x is. done_switched m x is r linked h) (λ is. done h)) (λ r. failed _)))
-
-  done_message_of : {d : Draft} (body : UeBody (List ℕ)) (m : UeMessage (List ℕ)) → IsReady s (IsSound s) d
-      → Whenever (IsDone s) (messages.message_of body s m d)
-  unfolding messages.message_of
-  done_message_of bodies.UeContextReleaseComplete m h = some (done h)
-  done_message_of bodies.PathSwitch m h = some (done_path_switch m h)
-  done_message_of _ m h = done_checked m h
-
-  -- ---- what ends a connection without a message
-
-  sound_displaced : {d : Draft} (id : ℕ) → IsReady s (IsSound s) d → IsReady s (IsSound s) (connected.displaced id d)
-  unfolding connected.displaced
-  sound_displaced {d} id h =
-      at_some (IsReady s (IsSound s)) d.solo.connection (λ k is. either (IsReady s (IsSound s)) _ (sound_lost h) h) (λ is. h)
-
-  sound_strike : {d : Draft} (station : ℕ) → IsReady s (IsSound s) d → IsReady s (IsSound s) (connected.strike station d)
-  unfolding connected.strike
-  sound_strike {d} station h = record {
-    solo = record { context = h.solo.context; connection = h.solo.connection; challenge = h.solo.challenge; reachable = h.solo.reachable; repeat = plain_struck d.solo.repeat h.solo.repeat };
-    known = h.known;
-    said = h.said;
-  }
-    where
-      plain_struck : (o : Option Repeat) → IsPlainRepeat o → IsPlainRepeat (connected.struck station o)
-      plain_struck None p = tt
-      plain_struck (Some (repeats.Paging es)) p = tt
-      plain_struck (Some (repeats.Nas protection nas)) p = p
-
-  sound_station_gone : {d : Draft} (station : ℕ) → IsReady s (IsSound s) d
-      → IsReady s (IsSound s) (connected.station_gone station d)
-  unfolding connected.station_gone
-  sound_station_gone {d} station h =
-      let r = sound_strike station h in
-      at_some (IsReady s (IsSound s)) (connected.strike station d).solo.connection
-      (λ k is. either (IsReady s (IsSound s)) _ (sound_lost r) r) (λ is. r)
-
-  sound_connections_gone : {d : Draft} (station : ℕ) (items : ToReset) → IsReady s (IsSound s) d
-      → IsReady s (IsSound s) (connected.connections_gone station items d)
-  unfolding connected.connections_gone
-  sound_connections_gone {d} station items h =
-      at_some (IsReady s (IsSound s)) d.solo.connection (λ k is. either (IsReady s (IsSound s)) _ (sound_lost h) h) (λ is. h)
-
-  -- ---- paging, countdowns and a withdrawn subscription
+  -- ---- paging and countdowns
 
   sound_emit_each : (message : Pdu (List ℕ)) (es : List ℕ) (d : Draft)
       → ((station : ℕ) (e : Draft) → IsReady s (IsSound s) e → IsReady s (IsSound s) (emit station message None e))
@@ -706,115 +347,169 @@ module _ (whole : WholeIsFresh) {s : Setting} where
       at_some (IsReady s (IsSound s)) d.solo.tmsi
       (λ t is. sound_emit_each _ es d (λ station e r. ready_emit station _ None refl refl r) h) (λ is. h)
 
-  sound_data_waits : {d : Draft} (stations : List StationState) → IsReady s (IsSound s) d
-      → IsReady s (IsSound s) (idle.data_waits s stations d)
-  unfolding idle.data_waits idle.paged
-  sound_data_waits stations h = either (IsReady s (IsSound s)) _ (sound_start _ _ tt (sound_page _ h)) h
+  plain_struck : (station : ℕ) (o : Option Repeat) → IsPlainRepeat o → IsPlainRepeat (connected.struck station o)
+  plain_struck station None p = tt
+  plain_struck station (Some (repeats.Paging es)) p = tt
+  plain_struck station (Some (repeats.Nas protection nas)) p = p
 
-  sound_lowered : {d : Draft} → IsReady s (IsSound s) d → IsReady s (IsSound s) (idle.lowered d)
-  unfolding idle.lowered
-  sound_lowered {d} h = record {
-    solo = record {
-      context = h.solo.context;
-      challenge = h.solo.challenge;
-      connection = h.solo.connection;
-      reachable = counted_lower d.solo.reachable d.solo.connection h.solo.reachable;
-      repeat = h.solo.repeat;
+  indicated : (m : UeMessage (List ℕ)) (message : Pdu (List ℕ)) → Indicates m message → IsReady s (IsSound s) (untouched b)
+      → IsReady s (IsSound s) (emit m.station message None (untouched b))
+  unfolding error_indication path_switch_failure
+  indicated m message may h = elim may.2 [
+    | inl is ↦ subst (λ (n : Pdu (List ℕ)). IsReady s (IsSound s) (emit m.station n None (untouched b))) (sym is) (ready_emit m.station _ None refl refl h)
+    | inr is ↦ subst (λ (n : Pdu (List ℕ)). IsReady s (IsSound s) (emit m.station n None (untouched b))) (sym is) (ready_emit m.station _ None refl refl h)
+  ]
+
+  keeps : Keeps s b item P
+  unfolding attaching.requesting attaching.asking attaching.challenged attaching.new_context attaching.activating attaching.given_tmsi serving.active serving.updating connected.strike idle.paged idle.lowered idle.restarted ended set_up_with
+  keeps = record {
+    sends = λ at nas d may to tells h. says at nas d may (plain_told nas found.repeat tells) h;
+    protects = λ at header nas d may tells h. guards at header nas d may h;
+    commands = λ v r h. awaits _ _ _ h;
+    asks_information = λ d h. awaits _ _ _ h;
+    accepts_update = λ grant d same h. awaits _ _ _ h;
+    tells_detach = λ d h. awaits _ _ _ h;
+    sets_up = λ x d has phase h.
+        let p = h.solo in
+        let sound : IsSound s d.solo = record {
+          context = subst (λ (q : Phase). HasContext q s.vectors d.solo.context) (sym phase) p.context;
+          connection = subst (λ (q : Phase). HasConnection q d.solo.connection) (sym phase) tt;
+          challenge = subst (λ (q : Phase). HasChallenge q s.vectors d.solo.next_vector) (sym phase) tt;
+          reachable = p.reachable;
+          repeat = p.repeat;
+        } in
+        done_set_up x.radio.kenb None None refl
+        (record { solo = has_key s d.solo x (ap is_past_proof phase) has sound; known = h.known; said = h.said });
+    accepts_attach = λ x grant session d has same bearer h.
+        let ready : IsReady s (HasKey s x.radio.kenb) d =
+        record { solo = has_key s d.solo x (ap is_past_proof h.solo.1) has h.solo.0; known = h.known; said = h.said } in
+        then _
+        (then _ (ready_seal IntegrityProtectedCiphered _ (spends_key s x.radio.kenb) ready)
+        (λ y r. done_set_up x.radio.kenb (Some y.0.form) y.0.under r.1 r.0))
+        (λ e f. done_start _ _ tt f);
+    closes = λ at d may left h. done (sound_at at d may h);
+    forgets = λ at cause d may known h. done (sound_forgotten cause (anyhow_at at d may h));
+    falls = λ at cause d may known h. done (sound_fall cause (sound_at at d may h));
+    loses = λ d h. done (sound_lost h);
+    drops = λ is none h. done (sound_idle (idle_wipe (record { solo = none_of b.connection none; known = h.known; said = h.said })));
+    spends = λ h. done (sound_idle (idle_wipe (by (λ solo p. p.connection) (idle_fall _ h))));
+    refuses = λ m nas is refuses h. done (sound_refuse s.slot m.station m.enb_ue_id nas (plain_refused nas refuses) h);
+    turns_away = λ m is h. done (sound_turn_away s.slot m.station m.enb_ue_id h);
+    emits = λ m message is may h. done (indicated m message may h);
+    switches = λ m x w h. switched_so m x w h;
+    connects = λ m is h. linked_connect s.slot m.station m.enb_ue_id h;
+    connects_on = λ id m is h. linked_connect_on id m.station m.enb_ue_id h;
+    clears = λ combined capability esm tai d asks h.
+        let w = bare_wipe h in record {
+          solo = record { context = w.solo.context; connection = w.solo.connection; reachable = w.solo.reachable; repeat = w.solo.repeat };
+          known = w.known;
+          said = w.said;
+        };
+    asks = λ combined capability esm tai d asks has h. record {
+      solo = record { context = h.solo.context; connection = h.solo.connection; reachable = h.solo.reachable; repeat = h.solo.repeat };
+      known = h.known;
+      said = h.said;
     };
-    known = h.known;
-    said = h.said;
+    challenges = λ at v d there takes h.
+        let r = bare_at at d takes h in
+        let plain = plain_authentication_request _ v.rand v.autn in
+        done (sound_start _ _ plain (ready_send _ plain (record {
+          solo = record { context = r.solo.context; connection = r.solo.connection; challenge = (d.solo.next_vector, v, refl, there); reachable = r.solo.reachable; repeat = r.solo.repeat };
+          known = r.known;
+          said = r.said;
+        })));
+    makes_context = λ v r h. record {
+      solo = (
+        record {
+          context = (_, v, refl, record { there = r.there; integrity = refl; kasme = refl; ksi = refl });
+          challenge = tt;
+          connection = connection_in s b Authenticating r.phase found;
+          reachable = h.solo.reachable;
+          repeat = h.solo.repeat;
+        },
+        refl,
+      );
+      known = (v, record { there = r.there; integrity = refl; kasme = refl; ksi = refl });
+      said = h.said;
+    };
+    takes = λ headers x count inner a h. took_so x count a.has (whole _ _ _ _ count inner a.accepts).0 h;
+    keys = λ x count inner phase a told h.
+        keyed_so x count a.has (record { solo = (a.on.linked, h.solo.reachable, h.solo.repeat); known = h.known; said = h.said });
+    takes_on = λ m x count inner d is has a had h.
+        let up : HasContext b.phase s.vectors (Some (counted_up x count)) =
+        context_recounted b.phase s.vectors b.context x x.security.down_next (Some count) had
+        (rises_above x.security.up_last count (whole _ _ _ _ count inner a).0) found.context in
+        ready_took {P = IsLinked} {Q = IsKnownIn} (counted_up x count) count
+        (known_recounted s.vectors x x.security.down_next (Some count) (subst (IsKnown s.vectors) has h.known)) (λ solo linked. up) h;
+    serves = λ d registered phase h. record { solo = (h.solo, tt, tt); known = h.known; said = h.said };
+    keys_on = λ x count octets d has phase had a h. keyed_so x count has h;
+    activates = λ at d may on h.
+        let r = proven_at at d may h in record {
+          solo = (record { context = r.solo.context; connection = r.solo.connection; challenge = tt; reachable = r.solo.reachable; repeat = r.solo.repeat }, refl);
+          known = r.known;
+          said = r.said;
+        };
+    waits = λ d h. record {
+      solo = (record { context = h.solo.context; connection = h.solo.connection; challenge = tt; reachable = h.solo.reachable; repeat = h.solo.repeat }, refl);
+      known = h.known;
+      said = h.said;
+    };
+    updates = λ at tai initial d may h.
+        let r = keyed_at at tai d may may.stage h in record {
+          solo = (record { context = r.0; connection = may.linked; challenge = tt; reachable = tt; repeat = tt }, refl);
+          known = r.1.known;
+          said = r.1.said;
+        };
+    attaches = λ esm d phase h. registered_so (past_accepting d.solo.phase phase) (record {
+      solo = record { context = h.solo.context; connection = h.solo.connection; challenge = h.solo.challenge; reachable = h.solo.reachable; repeat = h.solo.repeat };
+      known = h.known;
+      said = h.said;
+    });
+    updated = λ d phase h. registered_so (past_updating d.solo.phase phase) h;
+    detaches = λ is registered linked h.
+        let p = proven s b (registered_past b.phase registered) (elim linked [
+          | inl there ↦ there
+          | inr phase ↦ connection_in s b Updating phase found
+        ]) found in
+        record {
+          solo = (record { context = p.context; connection = p.connection; challenge = tt; reachable = p.reachable; repeat = p.repeat }, refl);
+          known = h.known;
+          said = h.said;
+        };
+    pages = λ stations is may h. done (sound_start _ _ tt (sound_page _ h));
+    strikes = λ station is h. record {
+      solo = record { context = h.solo.context; connection = h.solo.connection; challenge = h.solo.challenge; reachable = h.solo.reachable; repeat = plain_struck station b.repeat h.solo.repeat };
+      known = h.known;
+      said = h.said;
+    };
+    lowers = λ is h. record {
+      solo = record { context = h.solo.context; challenge = h.solo.challenge; connection = h.solo.connection; reachable = counted_lower b.reachable b.connection h.solo.reachable; repeat = h.solo.repeat };
+      known = h.known;
+      said = h.said;
+    };
+    restarts = λ c is h. record {
+      solo = record { context = h.solo.context; connection = h.solo.connection; challenge = h.solo.challenge; reachable = h.solo.reachable; repeat = h.solo.repeat };
+      known = h.known;
+      said = h.said;
+    };
+    pages_again = λ c es is was h. sound_page es h;
+    goes_on = λ d is h. h;
+    gives_up = λ is h. record {
+      solo = record { context = h.solo.context; connection = h.solo.connection; challenge = h.solo.challenge; reachable = h.solo.reachable; repeat = tt };
+      known = h.known;
+      said = h.said;
+    };
+    fails = λ cause is known h. sound_fall cause h;
+    passes = λ d is h. done h;
+    times_out = λ n d is out h. done (sound_idle (idle_wipe (record {
+      solo = subst (λ (o : Option ℕ). IsCountedIdle o d.solo.connection) out h.solo.reachable;
+      known = h.known;
+      said = h.said;
+    })));
   }
-
-  sound_given_up : {d : Draft} (timer : NasTimer) → IsReady s (IsSound s) d → IsReady s (IsSound s) (idle.given_up timer d)
-  unfolding idle.given_up ended
-  sound_given_up T3413 h =
-      record { solo = record { context = h.solo.context; connection = h.solo.connection; challenge = h.solo.challenge; reachable = h.solo.reachable; repeat = tt }; known = h.known; said = h.said }
-  sound_given_up T3422 h = sound_fall _ h
-  sound_given_up T3450 h = sound_fall _ h
-  sound_given_up T3460 h = sound_fall _ h
-  sound_given_up T3489 h = sound_fall _ h
-
-  sound_again : {d : Draft} (r : Repeat) → IsPlainRepeat (Some r) → IsReady s (IsSound s) d
-      → Whenever (IsReady s (IsSound s)) (idle.again r s d)
-  unfolding idle.again
-  sound_again (repeats.Nas Plain nas) plain h = some (ready_send nas plain h)
-  sound_again (repeats.Nas (Under header) nas) plain h = sound_protect header nas h
-  sound_again (repeats.Paging es) plain h = some (sound_page es h)
-
-  sound_restarted : {d : Draft} (c : Countdown) → IsReady s (IsSound s) d → IsReady s (IsSound s) (idle.restarted c d)
-  unfolding idle.restarted
-  sound_restarted c h = record {
-    solo = record { context = h.solo.context; connection = h.solo.connection; challenge = h.solo.challenge; reachable = h.solo.reachable; repeat = h.solo.repeat };
-    known = h.known;
-    said = h.said;
-  }
-
-  sound_expired : {d : Draft} (c : Countdown) → IsReady s (IsSound s) d → Whenever (IsReady s (IsSound s)) (idle.expired c s d)
-  unfolding idle.expired
-  sound_expired {d} c h =
-      either (Whenever (IsReady s (IsSound s))) _ (some (sound_given_up _ h))
-      (at_some (Whenever (IsReady s (IsSound s))) d.solo.repeat (λ r is. sound_again r (subst IsPlainRepeat is h.solo.repeat) (sound_restarted c h)) (λ is. some h))
-
-  sound_tick : {d : Draft} → IsReady s (IsSound s) d → Whenever (IsReady s (IsSound s)) (idle.tick s d)
-  unfolding idle.tick idle.procedure_ticks idle.reachable_ticks_out
-  sound_tick {d} h =
-      let l = sound_lowered h in
-      then _ (at_some (Whenever (IsReady s (IsSound s))) (idle.lowered d).solo.procedure (λ c is. either (Whenever (IsReady s (IsSound s))) _ (sound_expired c l) (some l)) (λ is. some l))
-      (λ e f. at_some (IsReady s (IsSound s)) e.solo.reachable
-      (λ n is. either (IsReady s (IsSound s)) _
-      (by (λ solo p. p.sound) (idle_wipe (record { solo = subst (λ (o : Option ℕ). IsCountedIdle o e.solo.connection) is f.solo.reachable; known = f.known; said = f.said })))
-      f) (λ is. f))
-
-  sound_detach_phone : {d : Draft} → IsReady s (IsProven s) d → Whenever (IsReady s (IsSound s)) (idle.detach_phone d)
-  unfolding idle.detach_phone
-  sound_detach_phone h =
-      then _ (sound_protect _ _ (record {
-        solo = record { context = h.solo.context; connection = h.solo.connection; challenge = tt; reachable = h.solo.reachable; repeat = h.solo.repeat };
-        known = h.known;
-        said = h.said;
-      })) (λ e f. sound_start _ _ tt f)
-
-  sound_cancelled : {d : Draft} (phase : Phase) → d.solo.phase ≡ phase → IsReady s (IsSound s) d
-      → Whenever (IsReady s (IsSound s)) (idle.cancelled phase d)
-  unfolding idle.cancelled
-  sound_cancelled {d} Registered is h =
-      either_by (Whenever (IsReady s (IsSound s))) (is_some d.solo.connection)
-      (λ t. sound_detach_phone (record { solo = proven_in s d.solo Registered is refl t h.solo; known = h.known; said = h.said }))
-      (λ t. some (by (λ solo p. p.sound) (idle_wipe (record { solo = none_of d.solo.connection t; known = h.known; said = h.said }))))
-  sound_cancelled {d} Updating is h =
-      sound_detach_phone (record { solo = proven_in s d.solo Updating is refl (connection_in s d.solo Updating is h.solo) h.solo; known = h.known; said = h.said })
-  sound_cancelled Authenticating is h = some (sound_forgotten _ h)
-  sound_cancelled SecurityMode is h = some (sound_forgotten _ h)
-  sound_cancelled EsmInformation is h = some (sound_forgotten _ h)
-  sound_cancelled Accepting is h = some (sound_forgotten _ h)
-  sound_cancelled Deregistered is h = some h
-  sound_cancelled Detaching is h = some h
-
-  -- ---- the step
-
-  done_row : {d : Draft} (item : events.Item) → IsReady s (IsSound s) d → Whenever (IsDone s) (steps.row s item d)
-  unfolding steps.row serving.initial serving.claim
-  done_row events.Nothing h = some (done h)
-  done_row (events.Initial m) h = done_entered _ m h
-  done_row (events.Claim id m) h = some (done (sound_claimed _ id m h))
-  done_row (events.Message m) h = done_message_of m.body m h
-  done_row (events.Displaced id) h = some (done (sound_displaced id h))
-  done_row (events.StationGone station) h = some (done (sound_station_gone station h))
-  done_row (events.ConnectionsGone station items) h = some (done (sound_connections_gone station items h))
-  done_row events.Tick h = done_if (sound_tick h)
-  done_row (events.Data stations) h = some (done (sound_data_waits stations h))
-  done_row {d} events.Cancel h = done_if (sound_cancelled d.solo.phase refl h)
-
-  unless : {d : Draft} (o : Option Draft) → Whenever (IsDone s) o → IsDone s d → IsDone s (unwrap_or o d)
-  unless None w h = h
-  unless (Some e) w h = w.at e refl
-
-pub sound_untouched : (s : Setting) (b : Solo) → IsSound s b → IsReady s (IsSound s) (untouched b)
-sound_untouched s b h = record { solo = h; known = known_context b.phase s.vectors b.context h.context; said = All-nil _ }
 
 -- from a sound state each step is done
-pub done_step : WholeIsFresh → (s : Setting) (b : Solo) (item : events.Item) → IsSound s b → IsDone s (steps.solo_step s b item)
-unfolding steps.solo_step
+pub done_step : WholeIsFresh → (s : Setting) (b : Solo) (item : Item) → IsSound s b → IsDone s (steps.solo_step s b item)
 done_step whole s b item h =
-    let u = sound_untouched s b h in
-    unless whole _ (done_row whole item u) (done (by (λ solo p. p.sound) (idle_wipe (by (λ solo p. p.connection) (idle_fall _ u)))))
+    step_keeps s b item (keeps whole s b item h)
+    (record { solo = h; known = known_context b.phase s.vectors b.context h.context; said = All-nil _ })

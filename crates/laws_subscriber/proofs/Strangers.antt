@@ -18,7 +18,7 @@ use Rattle.stranger_machine.specs.Machine.{Input, Welcome, identity_repeats, ide
 use Rattle.stranger_machine.specs.Ticks.{stranger_ticked}
 use Rattle.stranger_machine.specs.Turns.{Turn}
 use Rattle.laws_subscriber.specs.Strangers.{ClosedInTime, ClosedWhenDue, IsTimed, StaysTimed, TickTakesOne, is_waiting, stranger_due}
-use Rattle.laws_subscriber.proofs.Clocked.{either, either_by}
+use Rattle.laws_subscriber.specs.Choices.{either, either_by}
 
 -- after a turn it is timed
 record Timed (t : Turn) : Type 0 where

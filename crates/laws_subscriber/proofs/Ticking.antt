@@ -20,7 +20,8 @@ use Rattle.emm_machine.specs.Idle as idle
 use Rattle.emm_machine.specs.Steps as steps
 use Rattle.laws_subscriber.specs.Clocked.{IsClocked, IsClockedIn, IsCounting, IsUnderWay, StaysClocked}
 use Rattle.laws_subscriber.specs.Ends.{ticks_due}
-use Rattle.laws_subscriber.proofs.Clocked.{Clocks, Holds, Whenever, at_some_is, clocked_by, either_by, full, gone_spent, gone_wipe, kept_again, rests_fall, some}
+use Rattle.laws_subscriber.specs.Choices.{Whenever, at_some, either_by, some}
+use Rattle.laws_subscriber.proofs.Clocked.{Clocks, Holds, clocked_by, full, gone_spent, gone_wipe, kept_again, rests_fall}
 
 -- ---- the reachable countdown, last in a tick
 
@@ -67,7 +68,7 @@ expired_to : (P : Clocks) (x : Countdown) (s : Setting) (d : Draft) → IsSome d
 unfolding idle.expired
 expired_to P x s d there over again =
     either_by (Whenever (Holds P)) (x.repeats == 0) (λ zero. some (over (is_zero x.repeats zero)))
-    (λ more. at_some_is (Whenever (Holds P)) d.solo.repeat
+    (λ more. at_some (Whenever (Holds P)) d.solo.repeat
     (λ r is. kept_again r s (again (above_zero x.repeats more))) (λ none. absurd (true≢false (sym there ∙ ap (λ (o : Option Repeat). is_some o) none))))
 
 paging_over : (P : Clocks) (t : NasTimer) (d : Draft) → t ≡ T3413 → Holds P (ended d) → Holds P (idle.given_up t d)

@@ -8,3 +8,6 @@ pub mod Clocked
 pub mod Ends
 pub mod Strangers
 pub mod Silent
+pub mod Choices
+pub mod Keeps
+pub mod Walk
