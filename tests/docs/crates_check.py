@@ -1,12 +1,13 @@
-"""Writes and compares what crates/README.md and docs/ARCHITECTURE.md have of crates.txt and of one another.
+"""Writes and compares what crates/README.md has of crates.txt.
 
-- Each crate of crates.txt has one row in each; in the former under headings that tell its family.
-- crates/README.md: the columns "Stands on" and "Used by" are those of crates.txt. A crate stands on what its line lists, without
-  what another of these stands on, libraries of the toolchain among it. Used by: who so stands on it, and how many crates list it.
-- docs/ARCHITECTURE.md: "What it does" is the sentence of crates/README.md, "Stands on" the same as there.
-- The picture of the layers is the same in both, at most 100 columns wide. It has each crate once, and none stands on one above it.
+- Each crate of crates.txt has one row, under headings that tell its family. "Stands on" and "Used by" are those of crates.txt. A
+  crate stands on what its line lists, without what another of these stands on, libraries of the toolchain among it. Used by: who so
+  stands on it, and how many crates list it.
+- "Contract" says what the layer above may use: it isn't empty, and "-" only where nobody stands on the crate.
+- The picture of the layers is at most 100 columns wide. It has each crate once, and none stands on one above it.
+- docs/ARCHITECTURE.md has neither rows of crates nor a picture of its own: each fact once.
 - No crate has more than 1,500 lines of source or 100 functions, tests left out.
-- The ways down through crates.txt, from each crate to each of those below, are at most 4,000,000: the toolchain goes each of them,
+- The ways down through crates.txt, from each crate to each of those below, are at most 1,000,000: the toolchain goes each of them,
   several times, before the first proof (docs/GATE.md). A crate that passes on what it stands on saves others a line to it.
 """
 import re
@@ -14,9 +15,11 @@ import re
 import tables
 
 PAGE, MAP = "crates/README.md", "docs/ARCHITECTURE.md"
+CELLS = 5  # of a row: crate, what it does, what it stands on, its contract, who uses it
 WIDTH = 100
 LINES, FUNCTIONS = 1500, 100
-WAYS = 4_000_000
+WAYS = 1_000_000
+PICTURE = r"^```\n(\+-.*?)^```$"
 FUNCTION = re.compile(r"^\s*(?:pub(?:\(\w+\))? )?(?:const )?(?:unsafe )?fn \w+", re.M)
 
 
@@ -83,43 +86,27 @@ def family_part(text):
     return text.index("## By family")
 
 
-def written_page():
+def written():
     """crates/README.md as it should be."""
     uses = listed()
     nearest, text = stands_on(uses), tables.text(PAGE)
     head, tail = text[:family_part(text)], text[family_part(text):]
     lines = tail.split("\n")
     for number, crate, row in rows_of(tail):
-        if crate in uses:
-            lines[number] = "| `%s` | %s | %s | %s |" % (crate, row[1], cells(nearest[crate]) or "-",
-                                                         used_by(crate, uses, nearest) or "-")
+        if crate in uses and len(row) == CELLS:
+            lines[number] = "| `%s` | %s | %s | %s | %s |" % (crate, row[1], cells(nearest[crate]) or "-", row[3],
+                                                              used_by(crate, uses, nearest) or "-")
     return head + "\n".join(lines)
 
 
-def written_map():
-    """docs/ARCHITECTURE.md as it should be, of crates/README.md."""
-    uses = listed()
-    nearest, page, text = stands_on(uses), tables.text(PAGE), tables.text(MAP)
-    does = {crate: row[1] for _, crate, row in rows_of(page[family_part(page):])}
-    lines = text.replace(picture(text), picture(page)).split("\n")
-    for number, crate, row in rows_of("\n".join(lines)):
-        if crate in uses and len(row) == 4:
-            lines[number] = "| `%s` | %s | %s | %s |" % (crate, does.get(crate, ""), cells(nearest[crate]) or "-", row[3])
-    return "\n".join(lines)
-
-
-WRITTEN = {PAGE: written_page, MAP: written_map}
-
-
 def write():
-    """Writes both pages."""
-    for path, written in WRITTEN.items():
-        (tables.TOP / path).write_text(written(), encoding="utf-8")
+    """Writes the page."""
+    (tables.TOP / PAGE).write_text(written(), encoding="utf-8")
 
 
 def picture(text):
     """The first picture of layers in a text."""
-    return re.search(r"^```\n(\+-.*?)^```$", text, re.S | re.M).group(1)
+    return re.search(PICTURE, text, re.S | re.M).group(1)
 
 
 def picture_faults(text, uses):
@@ -157,23 +144,40 @@ def size_faults(uses):
             yield "%s has %d lines and %d functions: at most %d and %d" % (crate, lines, functions, LINES, FUNCTIONS)
 
 
+def row_faults(text, uses):
+    """Crates without a row or with several, rows of no crate or of other cells, and those without a contract."""
+    rows = [(crate, row) for _, crate, row in rows_of(text[family_part(text):])]
+    there = [crate for crate, _ in rows]
+    yield from ("%s has %d rows" % (crate, there.count(crate)) for crate in uses if there.count(crate) != 1)
+    yield from ("%s is no crate" % crate for crate in there if crate not in uses)
+    used = {one for names in uses.values() for one in names}
+    for crate, row in rows:
+        if len(row) != CELLS:
+            yield "%s has a row of %d cells" % (crate, len(row))
+        elif not row[3] or row[3] == "-" and crate in used:
+            yield "%s has no contract" % crate
+
+
+def twice_told(uses):
+    """What docs/ARCHITECTURE.md has again of the page: the picture, and rows of crates."""
+    text = tables.text(MAP)
+    if re.search(PICTURE, text, re.S | re.M):
+        yield "has a picture of layers, which %s has" % PAGE
+    yield from ("has a row of %s, which %s has" % (crate, PAGE) for _, crate, _ in rows_of(text) if crate in uses)
+
+
 def checked(_words=()):
     """How many crates stand as they should, and what is wrong; prints that."""
-    uses, passed, faults = listed(), 0, []
-    for path, written in WRITTEN.items():
-        text = tables.text(path)
-        part = text[family_part(text):] if path == PAGE else text
-        there = [crate for _, crate, row in rows_of(part) if len(row) == 4]
-        faults += ["%s: %s has %d rows" % (path, crate, there.count(crate)) for crate in uses if there.count(crate) != 1]
-        faults += ["%s: %s is no crate" % (path, crate) for crate in there if crate not in uses]
-        passed += sum(there.count(crate) == 1 for crate in uses)
-        for has, owed in zip(text.split("\n"), written().split("\n")):
-            if has != owed:
-                faults.append("%s: should be %s ('tests/docs/write crates' writes it)" % (path, owed))
-    faults += ["%s: %s" % (PAGE, fault) for fault in picture_faults(tables.text(PAGE), uses)]
+    uses, text = listed(), tables.text(PAGE)
+    wrong = list(row_faults(text, uses))
+    faults = ["%s: %s" % (PAGE, fault) for fault in [*wrong, *picture_faults(text, uses)]]
+    faults += ["%s: %s" % (MAP, fault) for fault in twice_told(uses)]
+    for has, owed in zip(text.split("\n"), written().split("\n")):
+        if has != owed:
+            faults.append("%s: should be %s ('tests/docs/write crates' writes it)" % (PAGE, owed))
     faults += size_faults(uses)
     if ways(uses) > WAYS:
         faults.append("%d ways lead through crates.txt: at most %d" % (ways(uses), WAYS))
     for fault in faults:
         print("FAILED " + fault)
-    return passed, len(faults)
+    return len(uses) - len({fault.split(" ")[0] for fault in wrong} & uses.keys()), len(faults)

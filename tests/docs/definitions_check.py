@@ -1,10 +1,8 @@
 """Writes docs/DEFINITIONS.md from the specs/ of all crates, and compares it.
 
-- A row for each public definition that the contract of a public function cites, and for each whose comment names a clause of a
-  standard: its module, its name, the comment above it, and the clause. Where the comment names none, that of the module's first
-  lines stands in brackets.
-- Of a definition without a comment of its own stands its equation, where that is one short line, else its type or its section's
-  heading.
+- Of each module with public definitions that the contract of a public function cites, or whose comment or section names a clause of
+  a standard, a row for each clause with their names. Where neither names one, that of the module's first lines stands in brackets.
+  What each says is its comment, which stands above it alone.
 - What stands above the heading "By crate" is written by people.
 """
 import re
@@ -13,30 +11,22 @@ import refusals_check
 import tables
 
 DOCUMENT, MARK = "docs/DEFINITIONS.md", "## By crate\n"
-HEAD = "| Module | Definition | What it says | Standard |\n|---|---|---|---|\n"
+HEAD = "| Module | Standard | Definitions |\n|---|---|---|\n"
 STANDARD = r"(?:TS \d+\.\d+|X\.691|RFC \d+|FIPS 197)"
 DEFINITION = re.compile(r"(?:(?:abbrev|unfoldable) pub|pub (?:record|data)) (\w+)")
-SHORT = 110  # columns of an equation that is shown
 CLAUSE = r"[A-Z]?\d*(?:\.\d+)*"
 
 
 class Definition:
     """A public definition: where it stands, and what its comment, its section's heading and its module's first lines say."""
 
-    def __init__(self, module, name, comment, section, opening, text):
-        self.module, self.name, self.text = module, name, text
+    def __init__(self, module, name, comment, section, opening):
+        self.module, self.name = module, name
         self.comment, self.section, self.opening = comment, section, opening
 
     def standard(self):
         own = clauses(self.comment) or clauses(self.section)
         return own or ("(%s)" % clauses(self.opening) if clauses(self.opening) else "-")
-
-    def says(self):
-        """Its comment; else its equation, where it has one that is short; else its type, its section or its module."""
-        head = re.sub(r"^(?:abbrev |unfoldable )?pub (?:record |data )?", "", self.text[0])
-        lines = self.text[1:2] if len(self.text) == 2 else [head]
-        code = next(("`%s`" % line.replace("|", "\\|") for line in lines if len(line) <= SHORT and "`" not in line), "")
-        return bare(self.comment) or code or bare(self.section) or bare(self.opening)
 
 
 def in_one_form(cited):
@@ -53,11 +43,6 @@ def clauses(comment):
     found = [cited for cited in re.findall(r"\(([^()]*)\)", comment) if re.match(STANDARD, cited)]
     found += [cited for cited in re.findall(in_words, comment) if cited not in "; ".join(found)]
     return "; ".join(map(in_one_form, found))
-
-
-def bare(comment):
-    """A comment without the brackets that name its clauses."""
-    return re.sub(r"\s*\(%s[^()]*\)" % STANDARD, "", comment).strip().replace("|", "\\|")
 
 
 def opening_of(lines):
@@ -83,8 +68,7 @@ def definitions_of(crate):
                 section = line.strip("- ")
             found = DEFINITION.match(line)
             if found:
-                text = lines[at:lines.index("", at)] if "" in lines[at:] else lines[at:]
-                yield Definition(path.stem, found.group(1), comment_above(lines, at), section, opening_of(lines), text)
+                yield Definition(path.stem, found.group(1), comment_above(lines, at), section, opening_of(lines))
 
 
 def imports_of(text):
@@ -109,15 +93,11 @@ def cited():
 
 
 def rows_of(crate, wanted):
-    """The rows of a crate: module, names, what they say, standard."""
-    rows = []
+    """The rows of a crate: the names of each module and clause, in the order of their first ones."""
+    rows = {}
     for one in definitions_of(crate):
-        if (crate, one.module, one.name) not in wanted and not clauses(one.comment):
-            continue
-        if rows and (rows[-1][0], *rows[-1][2:]) == (one.module, one.says(), one.standard()):
-            rows[-1][1].append(one.name)
-        else:
-            rows.append((one.module, [one.name], one.says(), one.standard()))
+        if (crate, one.module, one.name) in wanted or clauses(one.comment) or clauses(one.section):
+            rows.setdefault((one.module, one.standard()), []).append(one.name)
     return rows
 
 
@@ -126,8 +106,8 @@ def written():
     wanted, text = cited(), tables.text(DOCUMENT)
     parts = [text[:text.index(MARK)] + MARK]
     for crate in refusals_check.listed():
-        rows = ["| `%s` | %s | %s | %s |" % (module, ", ".join("`%s`" % name for name in names), says, standard)
-                for module, names, says, standard in rows_of(crate, wanted)]
+        rows = ["| `%s` | %s | %s |" % (module, standard, ", ".join("`%s`" % name for name in names))
+                for (module, standard), names in rows_of(crate, wanted).items()]
         if rows:
             parts.append("\n### `%s`\n\n%s%s\n" % (crate, HEAD, "\n".join(rows)))
     return "".join(parts)

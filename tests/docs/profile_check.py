@@ -15,8 +15,7 @@ import s1ap
 del sys.path[0]
 
 KINDS = ("initiating", "successful", "unsuccessful")
-MACHINES = ("mme_types", "mme_signalling", "emm_state", "emm_attach", "emm_uplink", "emm_association", "emm_network", "emm_machine",
-            "stranger_machine", "mme_naming", "mme_routing")
+MACHINES = ("mme_types", "mme_signalling", "emm_state", "emm_uplink", "emm_network", "emm_machine", "stranger_machine", "mme_routing")
 
 
 def text_of(path):
@@ -402,7 +401,7 @@ LIMITS = {
     "ticks of a trace's line": ("trace_words/src/fields.rt", r"number\(text, 1, (1_000_000)\)"),
     "bits a second of an aggregate bit rate": ("trace_words/src/fields.rt", r"number\(text, 1, (10_000_000_000)\)"),
     "octets of an access point name": ("mme_types/src/network.rt", r"label: ArrayString<(\d+)>"),
-    "reads of a run": ("trace_player/src/watched.rt", r"MOST_TURNS: u64 = (.*);"),
+    "reads of a run": ("trace_run/src/watched.rt", r"MOST_TURNS: u64 = (.*);"),
 }
 BELOW = {"octets of a string or an open type"}  # the code has the first that isn't
 

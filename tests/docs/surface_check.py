@@ -3,7 +3,8 @@
 A name is there if the crate declares it or passes it on by `pub use`, from whatever crate below. A method is there if a public
 `impl` of the type has it, or a trait, with these types of its parameters and this result. Of the list itself: what takes the
 allocator takes it first and may answer want of memory, and no method takes it whose type keeps it; each form that is a decision has
-its call in docs/DECISIONS.md; and each type of the elements of S1AP is listed.
+its call in docs/DECISIONS.md; and each type of the elements of S1AP is listed. And of all crates: no public type has another's name,
+but for those of `SHARED`.
 """
 import functools
 import re
@@ -18,6 +19,16 @@ ELEMENTS = "s1ap_elements"  # the crate whose every type is an element
 ELEMENT = "Element"  # the trait of elements
 GENERIC = "per_bits"  # the crate of the trait and of the types that elements are aliases of
 DECIDED = "* "
+# The names that two crates declare as public types, and what each means in either.
+SHARED = {
+    "Answer": "a message of a step of one machine; a line of answers",
+    "Element": "what has a format in packed encoding; an optional element of NAS (TS 24.007 clause 11.2.1)",
+    "Listed": "an item of a RESET by its ids; a list's item with its id and criticality (TS 36.413 clause 9.3.7)",
+    "Optional": "the optional part of a NAS message (TS 24.007 clause 11.2); a row of an S1AP message that may be absent",
+    "Plmn": "a network in its NAS form (TS 24.301 clause 9.9.3.12); in its S1AP form (TS 36.413 clause 9.2.3.8)",
+    "SecurityContext": "that of NAS (TS 24.301 clause 4.4.2); the Security Context of PATH SWITCH (TS 36.413 clause 9.2.1.26)",
+    "TaiList": "that of NAS (TS 24.301 clause 9.9.3.33); that of PAGING (TS 36.413 clause 9.1.6)",
+}
 CALL = re.compile(r"([\w:]+)(?:<.*?>)?\((.*?)\)(?: -> (.*))?")
 
 
@@ -163,10 +174,21 @@ def unlisted(lines):
                   if below != GENERIC and re.search(r"^[A-Z]\w*[a-z]", name) and name not in known)
 
 
+def shared():
+    """What is wrong with the names of the public types of all crates: two declare one, or `SHARED` has one that they don't."""
+    homes = {}
+    for file in sorted(CRATES.glob("*/src/**/*.rt")):
+        for name in re.findall(r"^pub (?:struct|enum|trait|type) (\w+)", file.read_text(encoding="utf-8"), re.M):
+            homes.setdefault(name, set()).add(file.relative_to(CRATES).parts[0])
+    twice = {name: sorted(crates) for name, crates in homes.items() if len(crates) > 1}
+    yield from ("%s are two types of one name: %s" % (name, ", ".join(crates)) for name, crates in twice.items() if name not in SHARED)
+    yield from ("%s is one type, and no longer a name that is shared" % name for name in SHARED if name not in twice)
+
+
 def checked(_words=()):
     """How many crates have their surface, and how many haven't; each fault is printed. The list itself counts as one."""
     crates, decided = listed()
-    told = [*of_memory([line for lines in crates.values() for line in lines]), *without_reason(decided)]
+    told = [*shared(), *of_memory([line for lines in crates.values() for line in lines]), *without_reason(decided)]
     told += ["%s::%s isn't in the list" % (ELEMENTS, name) for name in unlisted(crates.get(ELEMENTS, []))]
     failed = bool(told)
     for crate, lines in crates.items():

@@ -162,19 +162,22 @@ CHANGES = {
     "a decision without its reason": (LIST, "    Line::push", "    * Line::push",
                                       "Line::push is a decision, and docs/DECISIONS.md"),
     "a crate that isn't there": (LIST, "front\n", "back\n", "there is no crate back"),
+    "a second type of a name": ("crates/front/src/place.rt", "pub struct Place", "pub enum Mark {}\n\npub struct Place",
+                                "Mark are two types of one name: front, low"),
 }
 
 
 class Surface(unittest.TestCase):
-    def checked(self, texts):
-        """What the check prints of a repository with these texts, and its counts."""
+    def checked(self, texts, shared=()):
+        """What the check prints of a repository with these texts, and its counts, where these types are to share a name."""
         with tempfile.TemporaryDirectory() as folder, contextlib.ExitStack() as stack:
             top, said = pathlib.Path(folder), io.StringIO()
             for path, text in texts.items():
                 (top / path).parent.mkdir(parents=True, exist_ok=True)
                 (top / path).write_text(text, encoding="utf-8")
             stack.enter_context(mock.patch.object(surface_check.tables, "TOP", top))
-            stack.enter_context(mock.patch.multiple(surface_check, CRATES=top / "crates", ELEMENTS="elements", GENERIC="low"))
+            stack.enter_context(mock.patch.multiple(surface_check, CRATES=top / "crates", ELEMENTS="elements", GENERIC="low",
+                                                     SHARED=dict.fromkeys(shared, "two things")))
             stack.enter_context(contextlib.redirect_stdout(said))
             for kept in (surface_check.declared, surface_check.passed_on):
                 kept.cache_clear()
@@ -185,6 +188,14 @@ class Surface(unittest.TestCase):
     def test_the_list_holds(self):
         said, counts = self.checked(TEXTS)
         self.assertEqual((said, counts), ("", (3, 0)))
+
+    def test_names_that_are_shared(self):
+        """Two types may have a name that is listed, and a name that is listed is one of two types."""
+        path = "crates/front/src/place.rt"
+        twice = {**TEXTS, path: TEXTS[path] + "\npub enum Mark {}\n"}
+        self.assertEqual(self.checked(twice, ["Mark"]), ("", (3, 0)))
+        said, counts = self.checked(TEXTS, ["Mark"])
+        self.assertEqual((said, counts), ("FAILED surface: Mark is one type, and no longer a name that is shared\n", (2, 1)))
 
     def test_each_change_is_told(self):
         for what, (path, old, new, told) in CHANGES.items():

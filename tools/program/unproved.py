@@ -27,9 +27,10 @@ from words import BAD_WORDS, Failed, say
 
 KEPT = record.TOP / "crates" / record.NAME / "out" / "unproved"
 SMALL = HERE / "play.rt.txt"  # the program of `mme play` alone; that of `mme sim` is the same with other names
-OF_SIM = (("Plays a trace", "Plays a script"), ("`mme play`", "`mme sim`"), ("trace_run::run_play", "sim_run::run_sim"),
+OF_SIM = (("Plays a trace", "Plays a script"), ("`mme play`", "`mme sim`"),
+          ("use trace_run::{PlayFault, Watched, run_play};", "use sim_run::run_sim;\nuse trace_run::{PlayFault, Watched};"),
           ("run_play(", "run_sim("))
-USES = {"play": ["trace_player", "trace_run"], "sim": ["trace_player", "sim_run"]}
+USES = {"play": ["trace_run"], "sim": ["trace_run", "sim_run"]}
 CRATE = "small"
 # What the program is given while it is taken from where it runs: it is to run for long.
 LONG_RUN = b"mme 001 01 8001 01 internet 1 1\nup 0\ntick 1000000\n"

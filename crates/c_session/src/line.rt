@@ -58,7 +58,8 @@ impl Session {
         station: StationNumber,
         octets: &[u8],
     ) -> Result<(), Refusal>
-        ensures { OnceStarted (started self.old) (λ s. Leaves (happened s (in_event station octets.now)) s) self.old result self.new }
+        ensures { OnceStarted (started self.old) (λ s. Leaves (happened s (in_event station octets.now)) s) self.old result
+            self.new }
     {
         self.start(alloc)?;
         self.hear_from(station, octets)

@@ -18,9 +18,9 @@ pub struct LinesFault {
 }
 
 impl Session {
-    /// An MME that runs, of the provisioning lines of a trace, which are parted by LF. The fault is that of the first line that isn't
-    /// taken: Order also for the line of an event or a question, and for the last line where none is `mme`. Where memory ran out, it
-    /// is NoMemory at a line before which all were taken, or Lost at the last line, where the MME was being made.
+    /// An MME that runs, of the provisioning lines of a trace, which are parted by LF. The fault is that of the first line that
+    /// isn't taken: Order also for the line of an event or a question, and for the last line where none is `mme`. Where memory
+    /// ran out, it is NoMemory at a line before which all were taken, or Lost at the last line, where the MME was being made.
     #[tactic(auto, using(crate::proofs::Parting::whole_stops))]
     pub fn of_lines(alloc: Global, text: &[u8]) -> Result<Session, LinesFault>
         ensures ok { IfOk result (λ s. made_of text.now ≡ Ok s) }

@@ -107,8 +107,8 @@ impl Session {
         told(give(&mut self.progress, 0, imsi, vector))
     }
 
-    /// Makes the MME of what is provisioned, where it doesn't run yet. Order where nothing is, and then all is as it was; Lost where
-    /// memory ran out, and then nothing is provisioned any more.
+    /// Makes the MME of what is provisioned, where it doesn't run yet. Order where nothing is, and then all is as it was; Lost
+    /// where memory ran out, and then nothing is provisioned any more.
     #[tactic(auto, using(crate::proofs::Left::starts_by_run))]
     pub fn start(&mut self, alloc: Global) -> Result<(), Refusal>
         ensures { Starts (started self.old) self.old result self.new }

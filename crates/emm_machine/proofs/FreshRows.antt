@@ -36,9 +36,9 @@ use Rattle.emm_state.specs.declared.solo.NasTimer.{NasTimer}
 use Rattle.emm_state.specs.declared.solo.NasTimer.TheVariants.{T3413, T3422, T3450, T3460, T3489}
 use Rattle.mme_types.specs.declared.stations.StationState.{StationState}
 use Rattle.emm_state.specs.Actions.{connect, connect_on, association_counted, emit, ended, is_at, is_registered, leave_old, untouched}
-use Rattle.emm_uplink.specs.emm_attach.Attaching as attaching
-use Rattle.emm_uplink.specs.emm_attach.Attaching.{counted_up, keyed, took}
-use Rattle.emm_association.specs.Connected as connected
+use Rattle.emm_uplink.specs.Attaching as attaching
+use Rattle.emm_uplink.specs.Attaching.{counted_up, keyed, took}
+use Rattle.emm_network.specs.Connected as connected
 use Rattle.emm_machine.specs.Messages as messages
 use Rattle.emm_machine.specs.Freshness.{next_place, next_up}
 use Rattle.mme_signalling.specs.Hearing.{heard}

@@ -21,7 +21,7 @@ use Rattle.emm_state.specs.declared.solo.Solo.{Solo}
 use Rattle.emm_state.specs.declared.solo.NasTimer.{NasTimer}
 use Rattle.mme_types.specs.Answers.{answer_of}
 use Rattle.emm_state.specs.Actions.{connect, connect_on, association_counted, disconnected, emit, ended, fall, fallen, leave_old, lost, protect, refuse, release, resting, seal, sealed_under, send, set_up, set_up_with, start, turn_away, wipe}
-use Rattle.emm_uplink.specs.emm_attach.Attaching.{counted_up, keyed, took}
+use Rattle.emm_uplink.specs.Attaching.{counted_up, keyed, took}
 use Rattle.emm_state.specs.Does.{◌>>=◌}
 use Rattle.emm_machine.specs.Freshness.{HasVector, IsAhead, IsBefore, IsBelow, IsInUse, IsOfContext, marks_of, next_down, next_place, next_up}
 use Rattle.emm_machine.proofs.Runs.{IsRun, run_append, run_front, run_narrow, run_onward}

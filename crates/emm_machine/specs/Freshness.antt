@@ -35,7 +35,8 @@ accepted_marks s solo (item ∷ items) =
 abbrev pub counts_anew : Context → List Mark → Bool
 counts_anew x marks = list_any (λ m. (m.place == x.place) && nat_lt m.count x.security.down_next) marks
 
--- the place of the context that a step makes, whose messages are sent under these: one that wasn't there before, or that counts anew
+-- the place of the context that a step makes, whose messages are sent under these: one that wasn't there before, or that counts
+-- anew
 abbrev pub place_made : Option Context → Option Context → List Mark → List ℕ
 place_made before None marks = []
 place_made None (Some y) marks = y.place ∷ []

@@ -14,7 +14,7 @@ use Rattle.emm_state.specs.declared.solo.Repeat.{Repeat}
 use Rattle.emm_state.specs.declared.solo.Repeat.TheVariants as repeats
 use Rattle.emm_state.specs.declared.solo.Solo.{Solo}
 use Rattle.emm_state.specs.Actions.{lost, untouched}
-use Rattle.emm_association.specs.Connected.{connections_gone, has_connection_id, has_pair, station_gone, strike}
+use Rattle.emm_network.specs.Connected.{connections_gone, has_connection_id, has_pair, station_gone, strike}
 use Rattle.emm_network.specs.Idle.{lowered, procedure_ticks, reachable_ticks_out, tick}
 use Rattle.emm_machine.specs.Messages.{checked, message_of, on_connection}
 use Rattle.emm_machine.specs.Steps.{row, solo_step}

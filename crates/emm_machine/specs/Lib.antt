@@ -9,7 +9,7 @@ pub mod Freshness
 pub mod Laws
 pub mod Forgetting
 -- what the rows do, for those who stand on the machine alone
-pub use Rattle.emm_uplink.specs.emm_attach.Attaching
-pub use Rattle.emm_association.specs.Connected
+pub use Rattle.emm_uplink.specs.Attaching
+pub use Rattle.emm_network.specs.Connected
 pub use Rattle.emm_network.specs.Idle
 pub use Rattle.emm_uplink.specs.Serving

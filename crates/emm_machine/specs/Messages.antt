@@ -9,7 +9,7 @@ use Rattle.mme_signalling.specs.Pdus.{cause_of_request}
 use Rattle.emm_state.specs.declared.draft.Draft.{Draft}
 use Rattle.emm_state.specs.declared.setting.Setting.{Setting}
 use Rattle.emm_state.specs.Actions.{fall}
-use Rattle.emm_association.specs.Connected.{has_connection_id, has_pair, indicate, path_switch}
+use Rattle.emm_network.specs.Connected.{has_connection_id, has_pair, indicate, path_switch}
 use Rattle.emm_uplink.specs.Serving.{uplink}
 
 -- on the connection

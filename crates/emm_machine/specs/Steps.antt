@@ -8,7 +8,7 @@ use Rattle.emm_state.specs.declared.draft.Draft.{Draft}
 use Rattle.emm_state.specs.declared.setting.Setting.{Setting}
 use Rattle.emm_state.specs.declared.solo.Solo.{Solo}
 use Rattle.emm_state.specs.Actions.{fall, untouched, wipe}
-use Rattle.emm_association.specs.Connected.{connections_gone, displaced, station_gone}
+use Rattle.emm_network.specs.Connected.{connections_gone, displaced, station_gone}
 use Rattle.emm_machine.specs.Messages.{message_of}
 use Rattle.emm_network.specs.Idle.{cancelled, data_waits, tick}
 use Rattle.emm_uplink.specs.Serving.{claim, initial}

@@ -10,7 +10,7 @@ use Rattle.emm_state.specs.declared.solo.Repeat.{Repeat}
 use Rattle.emm_state.specs.declared.solo.Repeat.TheVariants as repeats
 use Rattle.emm_state.specs.declared.solo.Solo.{Solo}
 use Rattle.emm_state.specs.Actions.{untouched}
-use Rattle.emm_association.specs.Connected.{has_connection_id, has_pair}
+use Rattle.emm_network.specs.Connected.{has_connection_id, has_pair}
 
 abbrev pub is_elsewhere : ℕ → Option Connection → Bool
 is_elsewhere station None = true

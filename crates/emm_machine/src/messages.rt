@@ -8,7 +8,7 @@ ghost use Rattle.emm_state.specs.Taking.{vectors_spent};
 ghost use Rattle.identity_slots.specs.Spending.{HasFrom};
 ghost use Rattle.mme_types.specs.Events.{message_lists};
 
-use emm_association::{has_connection_id, has_pair, indicate, path_switch};
+use emm_network::{has_connection_id, has_pair, indicate, path_switch};
 use emm_state::{Draft, Setting, StepStop, or_stop};
 use emm_uplink::uplink;
 use identity_slots::KeptVectors;

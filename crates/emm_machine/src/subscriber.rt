@@ -14,8 +14,7 @@ ghost use Rattle.emm_machine.specs.Words.{ecm_of, emm_of, fresh_solo, pages_in, 
 use crate::laws::in_use_is_kept;
 use crate::messages::{is_idle, message_of};
 use crate::passing::age;
-use emm_association::{connections_gone, displaced, station_gone};
-use emm_network::{cancelled, data_waits, tick};
+use emm_network::{cancelled, connections_gone, data_waits, displaced, station_gone, tick};
 use emm_state::{Asked, Context, Counter, Draft, Phase, Repeat, Setting, Solo, StepStop, or_stop};
 use emm_uplink::{claim, initial};
 use esm_machine::{Bearer, BearerState};

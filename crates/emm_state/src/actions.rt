@@ -60,7 +60,10 @@ impl Context {
         ensures answer { seen_accepted result ≡ accepted (mac_of self.old) self.old.security.up_last allowed.now nas.entry.now }
         ensures place { IfOk result (λ found. found.0.place ≡ self.old.place) }
         ensures state { self.new
-            ≡ record self.old { security = record self.old.security { up_last = last_after self.old.security.up_last (seen_accepted result) } } }
+            ≡ record self.old {
+              security =
+                  record self.old.security { up_last = last_after self.old.security.up_last (seen_accepted result) };
+            } }
     {
         let place = self.place;
         let (count, message) = self.security.accept(nas, allowed)?;

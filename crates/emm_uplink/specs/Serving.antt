@@ -33,7 +33,7 @@ use Rattle.emm_state.specs.declared.solo.NasTimer.TheVariants.{T3450}
 use Rattle.emm_state.specs.Actions.{connect, connect_on, ended, fall, is_registered, mac_of, protect, protect_and_await, refuse, release, set_up, turn_away, wipe}
 use Rattle.emm_state.specs.Does.{◌>>=◌}
 use Rattle.emm_state.specs.Phases.{is}
-use Rattle.emm_attach.specs.Attaching.{accept, attach, counted_up, detach_plainly, given_tmsi, in_authenticating, in_security_mode, keyed, took}
+use Rattle.emm_uplink.specs.Attaching.{accept, attach, counted_up, detach_plainly, given_tmsi, in_authenticating, in_security_mode, keyed, took}
 
 -- ---- protected messages
 

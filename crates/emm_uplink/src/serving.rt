@@ -12,7 +12,7 @@ ghost use Rattle.mme_signalling.specs.Hearing.{heard_lists};
 ghost use Rattle.emm_uplink.specs.Serving.{accepted_by_context, active, attach_completed, claim, claimed, detach, detach_answered, detached_by, entered, in_later, information_came, initial, initial_detach, initial_update, reacted, registered, served, served_by, service, status_protected, inner_message, inner_message_by, inner_emm, inner_esm, update, update_completed, update_grant, updated_by, updating, uplink};
 ghost use Rattle.mme_types.specs.Events.{entry_lists};
 
-use emm_attach::{
+use crate::attaching::{
     accept, attach, detach_plainly, given_tmsi, in_authenticating, in_security_mode, keyed,
 };
 use emm_state::{Draft, NasTimer, Phase, Setting, StepStop, is_registered, or_stop};
@@ -83,7 +83,7 @@ fn refuse_update(
 }
 
 // SERVICE REQUEST, accepted under the count by the context that stands.
-#[tactic(auto, unfolding(crate::specs::Serving::served, emm_attach::specs::Attaching::keyed, emm_attach::specs::Attaching::took, crate::specs::Serving::active, emm_state::specs::Actions::ended))]
+#[tactic(auto, unfolding(crate::specs::Serving::served, crate::specs::Attaching::keyed, crate::specs::Attaching::took, crate::specs::Serving::active, emm_state::specs::Actions::ended))]
 fn serve(
     draft: &mut Draft,
     alloc: Global,
@@ -522,7 +522,7 @@ fn inner_message(
     inner_emm(draft, alloc, setting, tai, &message)
 }
 
-#[tactic(auto, unfolding(crate::specs::Serving::in_later, crate::specs::Serving::inner_message_by, emm_attach::specs::Attaching::took))]
+#[tactic(auto, unfolding(crate::specs::Serving::in_later, crate::specs::Serving::inner_message_by, crate::specs::Attaching::took))]
 fn in_later(
     draft: &mut Draft,
     alloc: Global,

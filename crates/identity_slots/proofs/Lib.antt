@@ -1,3 +1,4 @@
 mod Imsis
 pub mod Places
 pub mod Forgetting
+pub mod HistoryValues

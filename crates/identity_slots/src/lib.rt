@@ -2,6 +2,7 @@
 //! 9.2.3.3) and M-TMSIs (TS 23.003 clause 2.4).
 #![tactic(auto)]
 
+mod history;
 mod ids;
 mod laws;
 mod profile;

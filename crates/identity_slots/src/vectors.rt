@@ -4,8 +4,8 @@ ghost use Rattle.std.specs.Prelude.{◌≡◌, ◌<◌, ◌≤◌, ◌^◌, ◌+
 ghost use Rattle.identity_slots.specs.Forgetting.{first_forgotten};
 ghost use Rattle.identity_slots.specs.Spending.{spent_before};
 
+use crate::history::History;
 use crate::profile::Vector;
-use history::History;
 use std::alloc::{AllocError, Global};
 use std::marker::Model;
 use std::mem;

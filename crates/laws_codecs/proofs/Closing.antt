@@ -9,7 +9,7 @@ use Rattle.per_bits.specs.FormatLaws.{IsBit, exact_bit, exact_closed, exact_flag
 use Rattle.per_bits.specs.Formats.{left_of, right_of}
 use Rattle.per_bits.specs.Reading.{additions_at, closed_at, enumerated_at, extended_at, root_at, small_number_at}
 use Rattle.per_bits.specs.Spelling.{SpellsClosed, SpellsNumber, SpellsString, trues}
-use Rattle.per_numbers.specs.Reading.{number_at}
+use Rattle.per_streams.specs.Reading.{number_at}
 use Rattle.laws_codecs.specs.Components.{Component, any_bits, zero_bit}
 use Rattle.laws_codecs.specs.PerFaults.{AdditionComponents, Alone, ClosedComponents, InOrder, IsZeroBit, NextOf, NumberComponents, SmallNumber, StringComponents, Whether}
 use Rattle.laws_codecs.proofs.Telling.{Tells, tells_bind, tells_map, tells_same, tells_whether}

@@ -8,7 +8,7 @@ use Rattle.per_streams.specs.Exact.{Takes}
 use Rattle.per_bits.specs.Formats.{Format, Value, raw, plain, must, done, number, octet_string}
 use Rattle.per_bits.specs.Spelling.{Spells, SpellsNumber}
 use Rattle.per_bits.specs.Reading.{read_at, complete_at}
-use Rattle.per_numbers.specs.Reading.{number_at}
+use Rattle.per_streams.specs.Reading.{number_at}
 use Rattle.per_bits.specs.FormatLaws.{exact, exact_number}
 use Rattle.s1ap_rows.specs.declared.fault.S1apFault.{S1apFault}
 use Rattle.s1ap_rows.specs.declared.fault.S1apFault.TheVariants.{Syntax, UnknownProcedure, MissingElement, RepeatedElement, RefusedElement, NoMemory}

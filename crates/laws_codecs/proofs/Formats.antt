@@ -10,7 +10,7 @@ use Rattle.per_bits.specs.FormatLaws.{complete_again, complete_takes, exact, exa
 use Rattle.per_bits.specs.Formats.{Format, Fields, Alternatives, Value, Values, Chosen, optionals, alternatives, flag_of, flags_after, left_of, right_of, number, octets, octets_between, octet_string, bit_string, bits_between, enumerated, closed, items, open_type, plain, sequence, choice, done, must, may, skip, fixed, marked, last, either}
 use Rattle.per_bits.specs.Reading.{additions_at, chosen_at, closed_at, complete_at, fields_at, optional_at, read_at, skipped_at}
 use Rattle.per_bits.specs.Spelling.{Spells, SpellsClosed, SpellsFields, SpellsNumber, SpellsOptional, SpellsWhole}
-use Rattle.per_numbers.specs.Reading.{number_at}
+use Rattle.per_streams.specs.Reading.{number_at}
 use Rattle.laws_codecs.specs.Components.{Component, any_bits, same_number, HasSpelling, IsFaultOf}
 use Rattle.laws_codecs.specs.PerFaults.{AdditionComponents, Alone, ChosenComponents, ClosedComponents, ComponentsOf, FieldComponents, HasPerFault, HasWholeFault, InOrder, IsSame, IsSkipped, NextOf, Nowhere, NumberComponents, Whether, WholeComponents}
 use Rattle.laws_codecs.proofs.Outcomes.{bad_same, good, never_both, reads}

@@ -8,7 +8,7 @@ use Rattle.per_streams.specs.Exact.{Exact, Each, exact_times}
 use Rattle.per_bits.specs.Formats.{raw, items, must, done, Fields, flag_of, flags_after}
 use Rattle.per_bits.specs.Spelling.{Spells, SpellsNumber, SpellsWhole}
 use Rattle.per_bits.specs.Reading.{read_at, whole_at, complete_at, skipped_at, additions_at, fields_at}
-use Rattle.per_numbers.specs.Reading.{number_at}
+use Rattle.per_streams.specs.Reading.{number_at}
 use Rattle.per_bits.specs.FormatLaws.{exact, exact_number, exact_bit, complete_takes, complete_again}
 use Rattle.s1ap_rows.specs.declared.fault.S1apFault.{S1apFault}
 use Rattle.s1ap_rows.specs.declared.fault.S1apFault.TheVariants.{Syntax}

@@ -3,8 +3,8 @@ use Rattle.std.proofs.Common.{ℕ, ◌-◌, ◌*◌, ◌^◌, ◌<◌, ◌≤◌
 use Rattle.std.proofs.lemmas.Grind.{common_steps}
 use Rattle.std.proofs.lemmas.Bool.{cases_lt}
 use Rattle.std.proofs.Math.Pow.{pow_mono}
-use Rattle.per_numbers.specs.Numbers.{octets_for, width_of}
-use Rattle.per_numbers.specs.NumberLaws.{octets-fit}
+use Rattle.per_streams.specs.Numbers.{octets_for, width_of}
+use Rattle.per_streams.specs.NumberLaws.{octets-fit}
 use Rattle.laws_codecs.specs.Least.{AreFewestOctets, IsLeastWidth}
 
 width_holds : (n : ℕ) → n < 256 → n < 2 ^ width_of n

@@ -8,7 +8,7 @@ use Rattle.per_streams.specs.Exact.{Bind, Each, Exact, IsBits, exact_bind, exact
 use Rattle.per_bits.specs.FormatLaws.{IsBit, exact, exact_bit, exact_closed, exact_flags, exact_number, exact_pair, exact_string}
 use Rattle.per_bits.specs.Reading.{additions_at, closed_at, read_at, skipped_at, small_number_at, whole_at}
 use Rattle.per_bits.specs.Spelling.{Spells, SpellsAdditions, SpellsClosed, SpellsNumber, SpellsString, trues}
-use Rattle.per_numbers.specs.Reading.{number_at}
+use Rattle.per_streams.specs.Reading.{number_at}
 use Rattle.s1ap_rows.specs.Reading.{frame_at}
 use Rattle.s1ap_rows.specs.Spelling.{Frame, SpellsFrame, body}
 use Rattle.laws_codecs.specs.S1apFaults.{head_at, tail_at}

@@ -4,7 +4,7 @@ use Rattle.per_streams.specs.declared.fault.PerFault.{PerFault}
 use Rattle.per_streams.specs.Bits.{Place, start, ◌>>=◌, bit_at, end_at}
 use Rattle.per_bits.specs.Spelling.{SpellsWhole}
 use Rattle.per_bits.specs.Reading.{skipped_at, additions_at}
-use Rattle.per_numbers.specs.Reading.{number_at}
+use Rattle.per_streams.specs.Reading.{number_at}
 use Rattle.s1ap_rows.specs.declared.fault.S1apFault.{S1apFault}
 use Rattle.s1ap_rows.specs.declared.fault.S1apFault.TheVariants.{Syntax, UnknownProcedure, MissingElement, RepeatedElement, RefusedElement, NoMemory}
 use Rattle.s1ap_rows.specs.Rows.{Rows, Slots, no_slots, are_distinct}

@@ -8,9 +8,9 @@ use Rattle.per_streams.specs.declared.fault.PerFault.TheVariants.{Range, NotFewe
 use Rattle.per_streams.specs.Bits.{Place, ◌>>=◌, value, take_at, align_at}
 use Rattle.per_streams.specs.BitLaws.{value_below}
 use Rattle.per_streams.specs.OctetLaws.{IsPad, exact_align}
-use Rattle.per_numbers.specs.Numbers.{width_of, octets_for}
-use Rattle.per_numbers.specs.NumberLaws.{octets-fit}
-use Rattle.per_numbers.specs.Reading.{small_at, aligned_small_at, large_at, offset_at, number_at}
+use Rattle.per_streams.specs.Numbers.{width_of, octets_for}
+use Rattle.per_streams.specs.NumberLaws.{octets-fit}
+use Rattle.per_streams.specs.Reading.{small_at, aligned_small_at, large_at, offset_at, number_at}
 use Rattle.per_bits.specs.BaseLaws.{IsSmall, exact_small}
 use Rattle.per_bits.specs.LargeLaws.{octets-some, octets-most, width-fits}
 use Rattle.laws_codecs.specs.Components.{padding_bits, number_bits, number_octets, fault_number}

@@ -6,7 +6,7 @@ use Rattle.per_streams.specs.declared.fault.PerFault.TheVariants.{Range, NotFewe
 use Rattle.per_streams.specs.Bits.{Place, ◌>>=◌, value, take_at, align_at, number_bits_at, long_length_at, length_at, open_at, whole_octets_at, aligned_octets_at, aligned_bits_at}
 use Rattle.per_streams.specs.Exact.{Exact}
 use Rattle.per_streams.specs.OctetLaws.{IsPad, exact_align}
-use Rattle.per_numbers.specs.Reading.{small_at, number_at}
+use Rattle.per_streams.specs.Reading.{small_at, number_at}
 use Rattle.per_bits.specs.BaseLaws.{IsSmall, exact_small}
 use Rattle.per_bits.specs.FormatLaws.{exact_length, exact_number}
 use Rattle.per_bits.specs.Reading.{octets_at, bits_at, between_at, bits_between_at}

@@ -7,7 +7,7 @@ use Rattle.std.proofs.lemmas.List.{take_at as take_front, drop_at as drop_front}
 use Rattle.std.proofs.Math.Pow.{pow_mono}
 use Rattle.per_streams.specs.declared.fault.PerFault.{PerFault}
 use Rattle.per_streams.specs.Bits.{Place, value}
-use Rattle.per_numbers.specs.Numbers.{octets_for}
+use Rattle.per_streams.specs.Numbers.{octets_for}
 use Rattle.laws_codecs.specs.Components.{Component, any_bits, padding_bits, zero_bit, number_bits, number_octets, length_octet, second_length_octet, same_number, end_of_octets, component_width, HasSpelling, IsBroken, IsWrong, SpellsComponent}
 
 -- ---- numbers in more octets than hold them

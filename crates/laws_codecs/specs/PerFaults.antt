@@ -8,7 +8,7 @@ use Rattle.per_streams.specs.Bits.{Place, start}
 use Rattle.per_streams.specs.Each.{SpellsEach}
 use Rattle.per_streams.specs.Exact.{Takes, IsBits}
 use Rattle.per_streams.specs.OctetLaws.{IsPad}
-use Rattle.per_numbers.specs.Numbers.{width_of, octets_for}
+use Rattle.per_streams.specs.Numbers.{width_of, octets_for}
 use Rattle.per_bits.specs.BaseLaws.{IsSmall}
 use Rattle.per_bits.specs.FormatLaws.{IsBit}
 use Rattle.per_bits.specs.Formats.{Format, Fields, Alternatives, optionals, alternatives, flag_of, flags_after, number, octets, octets_between, octet_string, bit_string, bits_between, enumerated, closed, items, open_type, plain, sequence, choice, done, must, may, skip, fixed, marked, last, either}

@@ -10,7 +10,7 @@ use Rattle.per_streams.specs.Exact.{Takes}
 use Rattle.per_bits.specs.Formats.{Format, raw}
 use Rattle.per_bits.specs.Spelling.{Spells, SpellsNumber, SpellsWhole, Whole}
 use Rattle.per_bits.specs.Reading.{skipped_at, additions_at, read_at, whole_at, complete_at}
-use Rattle.per_numbers.specs.Reading.{number_at}
+use Rattle.per_streams.specs.Reading.{number_at}
 use Rattle.s1ap_rows.specs.declared.criticality.Criticality.{Criticality}
 use Rattle.s1ap_rows.specs.declared.fault.S1apFault.{S1apFault}
 use Rattle.s1ap_rows.specs.declared.fault.S1apFault.TheVariants.{Syntax, UnknownProcedure, MissingElement, RepeatedElement, RefusedElement, NoMemory}

@@ -6,7 +6,7 @@ ghost use Rattle.s1ap_rows.specs.declared.fault.S1apFault.{S1apFault};
 ghost use Rattle.s1ap_rows.specs.declared.fault.S1apFault.TheVariants.{NoMemory};
 ghost use Rattle.s1ap_pdus.specs.declared.pdu.Pdu.{Pdu};
 ghost use Rattle.s1ap_pdus.specs.Pdus.{SpellsMessage, decoded};
-ghost use Rattle.per_numbers.specs.Numbers.{octets_for, width_of};
+ghost use Rattle.per_streams.specs.Numbers.{octets_for, width_of};
 ghost use Rattle.laws_codecs.specs.Least.{AreFewestOctets, IsLeastWidth};
 ghost use Rattle.laws_codecs.specs.Ranged.{DecodedIsInRange};
 ghost use Rattle.laws_codecs.specs.S1apFaults.{HasS1apFault};

@@ -26,7 +26,7 @@ use Rattle.stranger_machine.specs.Table.{known_id, known_if, noted, stranger_at,
 use Rattle.mme_routing.specs.Destinations.{Destination, strangers_left}
 use Rattle.mme_routing.specs.Destinations as to
 use Rattle.laws_subscriber.specs.Clocked.{IsClocked}
-use Rattle.laws_subscriber.specs.Ends.{AllElseEnds, EndsInTime, IsSettled, longest_in}
+use Rattle.laws_subscriber.specs.Ends.{AllElseEnds, EndsInTime, IsSettled, longest_in, longest_procedure}
 use Rattle.laws_subscriber.specs.Silent.{SilentEnds, SilentIsForgotten}
 use Rattle.laws_subscriber.specs.Strangers.{IsTimed, StaysTimed, TickTakesOne, is_waiting, stranger_due}
 use Rattle.mme_core.specs.declared.event.Event.{Event}
@@ -152,11 +152,11 @@ due_after stay takes (suc n) w m h each =
     subst (λ (i : ℕ). Every (IsDueWithin i) (world_run w (tick_events (suc n))).strangers) same
     (due_after stay takes n (world_after w Tick) (m - 1) (later w n h) one)
 
-most_due : (s : Stranger) → IsTimed (Some s) → stranger_due (Some s) ≤ 30
+most_due : (s : Stranger) → IsTimed (Some s) → stranger_due (Some s) ≤ longest_procedure
 most_due (Held slot) h = omega arith
 most_due (Waiting k left repeats) h = let most = h.1 in let few = h.2 in omega arith
 
-due_each : (ks : List Known) → Every IsKnownTimed ks → Every (IsDueWithin 30) ks
+due_each : (ks : List Known) → Every IsKnownTimed ks → Every (IsDueWithin longest_procedure) ks
 due_each [] each = tt
 due_each (k ∷ ks) each = (record { timed = each.0; due = most_due k.stranger each.0 }, due_each ks each.1)
 
@@ -170,7 +170,7 @@ over_each (k ∷ ks) each = (over k.stranger each.0.timed each.0.due, over_each 
 
 -- ---- what ends
 
-longest : (phase : Phase) → longest_in phase ≤ 30
+longest : (phase : Phase) → longest_in phase ≤ longest_procedure
 longest Deregistered = omega arith
 longest Authenticating = omega arith
 longest SecurityMode = omega arith
@@ -180,7 +180,7 @@ longest Updating = omega arith
 longest Registered = omega arith
 longest Detaching = omega arith
 
-settled_each : EndsInTime → (n : ℕ) → 30 ≤ n → (xs : List SubscriberView) → AreInUse xs
+settled_each : EndsInTime → (n : ℕ) → longest_procedure ≤ n → (xs : List SubscriberView) → AreInUse xs
     → Every IsSubscriberSettled (map (ticked n) xs)
 settled_each ends n long [] h = tt
 settled_each ends n long (x ∷ xs) h =
@@ -188,10 +188,11 @@ settled_each ends n long (x ∷ xs) h =
 
 pub all_ends_in_time : StaysTimed → TickTakesOne → EndsInTime → AllEndsInTime
 all_ends_in_time stay takes ends w n h clock long =
-    let none_left : 30 - n ≡ 0 = omega arith in (
+    let none_left : longest_procedure - n ≡ 0 = omega arith in (
       subst (λ (xs : List SubscriberView). Every IsSubscriberSettled xs) (sym (ticks_reach_everyone w n clock))
           (settled_each ends n long w.subscribers h.in_use),
-      over_each _ (subst (λ (i : ℕ). Every (IsDueWithin i) (world_run w (tick_events n)).strangers) none_left (due_after stay takes n w 30 clock (due_each w.strangers h.timed))),
+      over_each _ (subst (λ (i : ℕ). Every (IsDueWithin i) (world_run w (tick_events n)).strangers) none_left
+          (due_after stay takes n w longest_procedure clock (due_each w.strangers h.timed))),
     )
 
 run_append : (w : World) (before since : List Event) → world_run w (before ++ since) ≡ world_run (world_run w before) since

@@ -1,5 +1,5 @@
--- No bidding down: what the network replays in SECURITY MODE COMMAND is the capability of the ATTACH REQUEST that began the procedure,
--- and the integrity algorithm that it chooses is in it (TS 24.301 clauses 5.4.3.2, 8.2.20; TS 33.401 clause 7.2.4.4).
+-- No bidding down: what the network replays in SECURITY MODE COMMAND is the capability of the ATTACH REQUEST that began the
+-- procedure, and the integrity algorithm that it chooses is in it (TS 24.301 clauses 5.4.3.2, 8.2.20; TS 33.401 clause 7.2.4.4).
 use Rattle.std.specs.Prelude.{◌≡◌, ℕ, ◌+◌, ◌*◌, ◌==◌, Bool, true, false, List, [], ◌∷◌, ◌++◌, All, slice_index, None, Ok}
 use Rattle.s1ap_pdus.specs.declared.pdu.Pdu.{Pdu}
 use Rattle.s1ap_pdus.specs.Pdus.{decoded}

@@ -4,11 +4,10 @@ use Rattle.sorted_list.specs.Ordered.{Every}
 use Rattle.identity_slots.specs.Provisioned.{Provisioned}
 use Rattle.mme_types.specs.Events.{Item}
 use Rattle.emm_state.specs.declared.solo.Phase.TheVariants.{Deregistered, Registered}
-use Rattle.emm_state.specs.Timers.{reachable_ticks}
 use Rattle.emm_machine.specs.SubscriberView.{SubscriberView}
 use Rattle.emm_machine.specs.Ticks.{ticks_after}
 use Rattle.stranger_machine.specs.declared.table.Known.{Known}
-use Rattle.laws_subscriber.specs.Ends.{IsSettled}
+use Rattle.laws_subscriber.specs.Ends.{IsSettled, longest_procedure, longest_registration}
 use Rattle.laws_subscriber.specs.Silent.{AreSilent, ticks_among}
 use Rattle.laws_subscriber.specs.Strangers.{is_waiting}
 use Rattle.mme_core.specs.declared.config.Config.{Config}
@@ -41,10 +40,10 @@ IsSubscriberSettled x = IsSettled x.solo
 abbrev pub IsNotWaiting : Known → Type 0
 IsNotWaiting k = is_waiting (Some k.stranger) ≡ false
 
--- in 30 ticks in a row no procedure is under way any more, nobody is paged, and no stranger waits
+-- in as many ticks in a row as the longest procedure lasts, no procedure is under way any more, nobody is paged, and no stranger waits
 abbrev pub AllEndsInTime : Type 0
 AllEndsInTime =
-    (w : World) (n : ℕ) → IsKept w → HasTicks n w → 30 ≤ n
+    (w : World) (n : ℕ) → IsKept w → HasTicks n w → longest_procedure ≤ n
     → Every IsSubscriberSettled (world_run w (tick_events n)).subscribers
     × Every IsNotWaiting (world_run w (tick_events n)).strangers
 
@@ -52,14 +51,14 @@ AllEndsInTime =
 abbrev pub EveryRunEnds : Type 0
 EveryRunEnds =
     (config : Config) (p : Provisioned) (events : List Event) (n : ℕ) → HasTicks n (world_run (fresh_world config p) events)
-    → 30 ≤ n
+    → longest_procedure ≤ n
     → Every IsSubscriberSettled (world_run (fresh_world config p) (events ++ tick_events n)).subscribers
     × Every IsNotWaiting (world_run (fresh_world config p) (events ++ tick_events n)).strangers
 
--- and in 3510 each phone is deregistered that wasn't registered and connected
+-- and in the end each phone is deregistered that wasn't registered and connected
 abbrev pub AllAreForgotten : Type 0
 AllAreForgotten =
-    (w : World) (n slot : ℕ) (x : SubscriberView) → IsKept w → HasTicks n w → 30 + reachable_ticks ≤ n
+    (w : World) (n slot : ℕ) (x : SubscriberView) → IsKept w → HasTicks n w → longest_registration ≤ n
     → slice_get w.subscribers slot ≡ Some x
     → (x.solo.phase ≡ Registered → x.solo.connection ≡ None)
     → (slice_get (world_run w (tick_events n)).subscribers slot ≡ Some (ticked n x)) × ((ticked n x).solo.phase ≡ Deregistered)
@@ -75,7 +74,7 @@ abbrev pub SilentSlotEnds : Type 0
 SilentSlotEnds =
     (w : World) (events : List Event) (slot : ℕ) (x y : SubscriberView) → IsKept w → slice_get w.subscribers slot ≡ Some x
     → slice_get (world_run w events).subscribers slot ≡ Some y
-    → AreSilent (items_for w slot events) → 30 ≤ ticks_among (items_for w slot events) → IsSettled y.solo
+    → AreSilent (items_for w slot events) → longest_procedure ≤ ticks_among (items_for w slot events) → IsSettled y.solo
 
 -- and is deregistered in the end
 abbrev pub SilentSlotIsForgotten : Type 0
@@ -83,4 +82,4 @@ SilentSlotIsForgotten =
     (w : World) (events : List Event) (slot : ℕ) (x y : SubscriberView) → IsKept w → slice_get w.subscribers slot ≡ Some x
     → slice_get (world_run w events).subscribers slot ≡ Some y
     → AreSilent (items_for w slot events) → (x.solo.phase ≡ Registered → x.solo.connection ≡ None)
-    → 30 + reachable_ticks ≤ ticks_among (items_for w slot events) → y.solo.phase ≡ Deregistered
+    → longest_registration ≤ ticks_among (items_for w slot events) → y.solo.phase ≡ Deregistered

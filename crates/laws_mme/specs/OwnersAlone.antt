@@ -1,5 +1,5 @@
--- Each owner alone over a list of events, of an MME whose strangers' ids rise, as they do in every one (`well_kept`): what it is told
--- at each event, and what it becomes.
+-- Each owner alone over a list of events, of an MME whose strangers' ids rise, as they do in every one (`well_kept`): what it is
+-- told at each event, and what it becomes.
 use Rattle.std.specs.Prelude.{◌≡◌, ◌<◌, ℕ, List, length, Some, None, slice_get}
 use Rattle.sorted_list.specs.Ordered.{Rising}
 use Rattle.mme_types.specs.Events.{Item}

@@ -12,7 +12,7 @@ use Rattle.emm_machine.specs.SubscriberView.{SubscriberView}
 use Rattle.emm_machine.specs.Ticks.{AreAbove, countdowns, solo_aged, ticks_after}
 use Rattle.mme_owners.specs.SteppedView.{SteppedView}
 use Rattle.mme_owners.specs.SubscriberLaws.{each_gives, some_give}
-use Rattle.mme_timers.specs.Running.{is_due}
+use Rattle.mme_tables.specs.Running.{is_due}
 use Rattle.mme_owners.specs.Subscribers.{IsStepped, due_slots, each_after, slots_stepped, subscriber_step, tick_settled, with_stepped}
 use Rattle.mme_owners.specs.Touched.{touched_slots}
 

@@ -7,8 +7,9 @@ use laws_subscriber::{
 };
 use mme_core::{slots_end, worlds_are_kept};
 
-/// Ticks reach every subscriber; in 30 in a row no procedure is under way any more, nobody is paged and no stranger waits; and in
-/// 3510 each phone is deregistered that wasn't registered and connected.
+/// Ticks reach every subscriber. In as many in a row as the longest procedure lasts (`longest_procedure`, 30) no procedure is under
+/// way any more, nobody is paged and no stranger waits; and in `longest_registration` (3510) each phone is deregistered that wasn't
+/// registered and connected.
 pub fn everything_ends()
     ensures reach { TicksReachEveryone }
     ensures all { AllEndsInTime }
@@ -22,8 +23,8 @@ pub fn everything_ends()
 }
 
 /// A phone that says nothing over a list of events, that no data comes for and whose subscription stays, is in no procedure any
-/// more once 30 of them were ticks, whatever the list has for others; and deregistered once 3510 were, if it wasn't registered and
-/// connected.
+/// more once `longest_procedure` of them were ticks, whatever the list has for others; and deregistered once `longest_registration`
+/// were, if it wasn't registered and connected.
 pub fn silent_slots_end()
     ensures procedure { SilentSlotEnds }
     ensures forgotten { SilentSlotIsForgotten }

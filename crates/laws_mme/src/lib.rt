@@ -1,5 +1,5 @@
-//! What holds of an MME, whoever sends: of each step of one subscriber's machine and of its runs, and over every list of events of the
-//! whole MME. Each module is a subject.
+//! What holds of an MME, whoever sends: of each step of one subscriber's machine and of its runs, and over every list of events
+//! of the whole MME. Each module is a subject.
 //!
 //! No code: definitions, laws of them, and one walk that is there for its contract, one event by `Mme::step`.
 #![tactic(auto)]

@@ -19,7 +19,7 @@ use Rattle.mme_types.specs.declared.stations.StationState.{StationState}
 use Rattle.mme_types.specs.declared.stations.StationState.TheVariants.{Down, Up, Ready}
 use Rattle.stranger_machine.specs.Machine.{is_of_station}
 use Rattle.stranger_machine.specs.Turns.{sent_to}
-use Rattle.mme_naming.specs.Naming.{named_slot}
+use Rattle.mme_routing.specs.Naming.{named_slot}
 use Rattle.mme_routing.specs.Destinations.{Destination}
 use Rattle.mme_routing.specs.Destinations as to
 use Rattle.mme_routing.specs.Outcomes.{Outcome, answered, begins_anew, broadcasts, cause_of, enters, entry_routed, goes_to, indicated, message_of_slot, not_compatible, outcome_of, outcome_of_message, phone_message_if, setup_failure, setup_response, ue_message_in}

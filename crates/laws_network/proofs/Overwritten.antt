@@ -10,7 +10,7 @@ use Rattle.per_bits.specs.Formats.{octet_string}
 use Rattle.per_bits.specs.Numbers.{offset_bits, width_of}
 use Rattle.per_bits.specs.Writing.{write_string, write_whole}
 use Rattle.per_bits.specs.WritingLaws.{written}
-use Rattle.per_bits.specs.per_numbers.Writing.{write_number}
+use Rattle.per_bits.specs.per_streams.Writing.{write_number}
 use Rattle.s1ap_rows.specs.Rows.{Kept, Rows}
 use Rattle.s1ap_rows.specs.Writing.{write_frame, write_head, write_message, write_pdu}
 use Rattle.s1ap_pdus.specs.declared.pdu.Pdu.TheVariants as pdu

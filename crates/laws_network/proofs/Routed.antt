@@ -19,7 +19,7 @@ use Rattle.mme_types.specs.Events.{Cancel, Claim, Data, Item}
 use Rattle.mme_types.specs.Stations.{station_at}
 use Rattle.mme_routing.specs.Destinations.{Destination}
 use Rattle.mme_routing.specs.Destinations as to
-use Rattle.mme_naming.specs.Naming.{named_slot}
+use Rattle.mme_routing.specs.Naming.{named_slot}
 use Rattle.mme_routing.specs.Outcomes.{Outcome, begins_anew, broadcasts, enters, entry_of, entry_routed, goes_to, message_of_slot, outcome_of, outcome_of_message, phone_message_if, ue_message_in}
 use Rattle.mme_routing.specs.Resets.{reset}
 use Rattle.mme_core.specs.declared.event.Event.{Event}

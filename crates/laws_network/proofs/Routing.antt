@@ -29,7 +29,7 @@ use Rattle.mme_types.specs.Stations.{station_at}
 use Rattle.stranger_machine.specs.declared.turn.Notice.TheVariants.{Gone}
 use Rattle.stranger_machine.specs.Machine.{unknown}
 use Rattle.stranger_machine.specs.Turns.{sent_to}
-use Rattle.mme_naming.specs.Naming.{named_slot}
+use Rattle.mme_routing.specs.Naming.{named_slot}
 use Rattle.mme_routing.specs.Destinations.{Destination}
 use Rattle.mme_routing.specs.Destinations as to
 use Rattle.mme_routing.specs.Outcomes.{Outcome, answered, begins_anew, broadcasts, cause_of, enters, entry_of, entry_routed, goes_to, indicated, indication, message_of_slot, not_compatible, outcome_of, outcome_of_message, phone_message_if, setup_failure, setup_response, ue_message_in}

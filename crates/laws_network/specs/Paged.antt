@@ -83,4 +83,5 @@ pub record AllAreAsked (s : Setting) (solo : Solo) (stations : List StationState
   pub all : (station : ℕ) → Listens stations solo.tai station → Contains asked station
 
 abbrev pub AllWhoListen : Type 0
-AllWhoListen = (s : Setting) (solo : Solo) (stations : List StationState) → may_page (untouched solo) ≡ true → AllAreAsked s solo stations
+AllWhoListen = (s : Setting) (solo : Solo) (stations : List StationState) → may_page (untouched solo) ≡ true
+    → AllAreAsked s solo stations

@@ -1,7 +1,7 @@
-//! What an MME sends, to which stations, and what it takes for nothing, over every run and whatever stations send: each message has a
-//! written form, and so is sent (X.691 clause 11.9). Each module is a subject; of the written form those are `sizes` (how long a
-//! message is), `messages` (what the machines build), `subscriber` and `answers` (what one subscriber's machine sends, and what
-//! answers stations and strangers), `provisioned` and `ranges` (what an MME is given, and all of it over runs).
+//! What an MME sends, to which stations, and what it takes for nothing, over every run and whatever stations send: each message
+//! has a written form, and so is sent (X.691 clause 11.9). Each module is a subject; of the written form those are `sizes` (how
+//! long a message is), `messages` (what the machines build), `subscriber` and `answers` (what one subscriber's machine sends, and
+//! what answers stations and strangers), `provisioned` and `ranges` (what an MME is given, and all of it over runs).
 //!
 //! No code: definitions, laws of them, and a walk over what an MME is given that is there for its contract alone.
 #![tactic(auto)]

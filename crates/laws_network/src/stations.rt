@@ -18,9 +18,9 @@ pub fn garbage_reaches_nobody()
     decoded_exactly();
 }
 
-/// Each connection, and each stranger that waits or is held, is at a station that is set up, and paging that is to be sent again goes
-/// to stations that are set up and broadcast the phone's tracking area, to each once: from an MME's beginning on and over every list
-/// of events, whatever octets stations send (TS 36.413 clauses 8.5, 8.7.3).
+/// Each connection, and each stranger that waits or is held, is at a station that is set up, and paging that is to be sent again
+/// goes to stations that are set up and broadcast the phone's tracking area, to each once: from an MME's beginning on and over
+/// every list of events, whatever octets stations send (TS 36.413 clauses 8.5, 8.7.3).
 pub fn everybody_is_placed()
     ensures begins { BeginsPlaced }
     ensures stays { StaysPlaced }

@@ -29,7 +29,7 @@ use Rattle.stranger_machine.specs.declared.turn.Notice.TheVariants.{Tick, Gone, 
 use Rattle.stranger_machine.specs.Machine.{Begins, Receives, is_meant, loses, notes, stranger_step, ticks, unlists}
 use Rattle.stranger_machine.specs.Table.{known_id, stranger_at}
 use Rattle.stranger_machine.specs.Turns.{closing, stays}
-use Rattle.mme_naming.specs.Naming.{named_slot}
+use Rattle.mme_routing.specs.Naming.{named_slot}
 use Rattle.mme_routing.specs.Destinations.{Destination}
 use Rattle.mme_routing.specs.Destinations as to
 use Rattle.mme_routing.specs.Outcomes.{Outcome, begins_anew, broadcasts, enters, entry_of, entry_routed, goes_to, message_of_slot, outcome_of, outcome_of_message, phone_message_if, ue_message_in}

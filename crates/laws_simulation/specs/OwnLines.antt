@@ -48,8 +48,8 @@ NobodyIsPrinted =
     (octets : List ℕ) (run : Run) (slot : ℕ) → run_of octets ≡ Some run → slice_get run.mme.subscribers slot ≡ None → slot < slots
     → lines_for (Subscriber slot) (played_of octets).text ≡ []
 
--- the same of lines that any MME is given; that the strangers' ids rise, and that there is a slot for each subscriber, holds of each
--- MME (`Mme::well_kept`)
+-- the same of lines that any MME is given; that the strangers' ids rise, and that there is a slot for each subscriber, holds of
+-- each MME (`Mme::well_kept`)
 abbrev pub SlotIsPrintedFrom : Type 0
 SlotIsPrintedFrom =
     (w : World) (line : ℕ) (texts : List (List ℕ)) (slot : ℕ) (x : SubscriberView) → Rising known_id w.strangers

@@ -1,7 +1,8 @@
 //! What a trace and a simulation print, owner by owner, and what simulated phones and stations send: the lines of a slot, of a
 //! stranger or of a station are those of its own machine, and each message is what is written of a value of the profile.
 //!
-//! No code: definitions, laws of them, and walks over what a phone and a station are given, which are there for their contracts alone.
+//! No code: definitions, laws of them, and walks over what a phone and a station are given, which are there for their contracts
+//! alone.
 #![tactic(auto)]
 
 mod begun;

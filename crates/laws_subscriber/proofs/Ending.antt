@@ -12,7 +12,7 @@ use Rattle.emm_state.specs.declared.solo.Solo.{Solo}
 use Rattle.emm_state.specs.Timers.{reachable_ticks, repeats_of, ticks_of}
 use Rattle.emm_machine.specs.Ticks.{IsGoing, IsTimed, ticks_after}
 use Rattle.laws_subscriber.specs.Clocked.{ClockedRuns, IsAwaited, IsClocked, IsClockedIn, IsCounting, IsPagedAtMost}
-use Rattle.laws_subscriber.specs.Ends.{AllElseEnds, EndsInTime, EndsWhenDue, IdleEnds, is_under_way, longest_in, ticks_due}
+use Rattle.laws_subscriber.specs.Ends.{AllElseEnds, EndsInTime, EndsWhenDue, IdleEnds, is_under_way, longest_in, longest_registration, ticks_due}
 use Rattle.laws_subscriber.proofs.Ticking.{IsWaiting, IsWithin, within_due, within_tick}
 
 abbrev pub Within : ℕ → Bool → ℕ → Solo → Type 0
@@ -110,7 +110,7 @@ forgotten _ c p r n h w = let none = w refl in absurd (omega arith)
 
 pub waits_in : (phase : Phase) (c : Option Connection) (p : Option Countdown) (r : Option Repeat) (n : Option ℕ) (j : ℕ)
     → IsClockedIn phase c p r n → (phase ≡ Registered → c ≡ None)
-    → (is_under_way phase ≡ true → 30 + reachable_ticks ≤ j) → reachable_ticks ≤ j → IsWaiting true j phase p n
+    → (is_under_way phase ≡ true → longest_registration ≤ j) → reachable_ticks ≤ j → IsWaiting true j phase p n
 waits_in Deregistered c p r n j h idle long most = tt
 waits_in Registered (Some k) p r n j h idle long most = let none : Some k ≡ None = idle refl in absurd (cc)
 waits_in Registered None p r None j h idle long most = absurd h.1
@@ -126,7 +126,7 @@ waits_in Updating c p r n j h idle long most = λ yes. let due = counting_most T
 waits_in Detaching c p r n j h idle long most = λ yes. let due = counting_most T3422 p r h.1 in let far = long refl in omega arith
 
 ends_by : (s : Setting) (solo : Solo) (n j : ℕ) → IsClocked solo → (solo.phase ≡ Registered → solo.connection ≡ None)
-    → (is_under_way solo.phase ≡ true → 30 + reachable_ticks ≤ j)
+    → (is_under_way solo.phase ≡ true → longest_registration ≤ j)
     → reachable_ticks ≤ j → j ≤ n → (ticks_after s n solo).phase ≡ Deregistered
 ends_by s solo n j h idle long most past =
     let none_left : j - n ≡ 0 = omega arith in
@@ -143,7 +143,7 @@ idle_ends s solo n h registered idle past =
     (λ way. absurd (true≢false (sym way ∙ ap is_under_way registered))) (omega arith) past
 
 pub all_else_ends : AllElseEnds
-all_else_ends s solo n h idle past = ends_by s solo n (30 + reachable_ticks) h idle (λ way. omega arith) (omega arith) past
+all_else_ends s solo n h idle past = ends_by s solo n longest_registration h idle (λ way. omega arith) (omega arith) past
 
 -- ---- a countdown that runs is in time
 

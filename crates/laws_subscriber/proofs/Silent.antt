@@ -14,7 +14,7 @@ use Rattle.emm_state.specs.Timers.{reachable_ticks}
 use Rattle.emm_machine.specs.Connected as connected
 use Rattle.emm_machine.specs.Steps as steps
 use Rattle.laws_subscriber.specs.Clocked.{IsClockedIn}
-use Rattle.laws_subscriber.specs.Ends.{ticks_due}
+use Rattle.laws_subscriber.specs.Ends.{longest_registration, ticks_due}
 use Rattle.laws_subscriber.specs.Silent.{AreSilent, SilentEnds, SilentIsForgotten, is_silent, tick_count, ticks_among}
 use Rattle.laws_subscriber.specs.Choices.{at_some, either}
 use Rattle.laws_subscriber.proofs.Clocked.{Holds, clocked_struck, rests_lost}
@@ -105,7 +105,7 @@ silent_ends s solo items h silent long =
 
 pub silent_is_forgotten : SilentIsForgotten
 silent_is_forgotten s solo items h silent idle long =
-    let far = 30 + reachable_ticks in
+    let far = longest_registration in
     let none_left : far - ticks_among items ≡ 0 = omega arith in
     let after =
     within_run s items solo (ticks_due solo.procedure) true far silent

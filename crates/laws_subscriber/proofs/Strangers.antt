@@ -17,6 +17,7 @@ use Rattle.stranger_machine.specs.Machine as machine
 use Rattle.stranger_machine.specs.Machine.{Input, Welcome, identity_repeats, identity_ticks}
 use Rattle.stranger_machine.specs.Ticks.{stranger_ticked}
 use Rattle.stranger_machine.specs.Turns.{Turn}
+use Rattle.laws_subscriber.specs.Ends.{longest_procedure}
 use Rattle.laws_subscriber.specs.Strangers.{ClosedInTime, ClosedWhenDue, IsTimed, StaysTimed, TickTakesOne, is_waiting, stranger_due}
 use Rattle.laws_subscriber.specs.Choices.{either, either_by}
 
@@ -180,7 +181,7 @@ closed_when_due id s n h waits due =
       unheld = λ x is. subst (λ (o : Option Stranger). is_waiting o ≡ true) is waits;
     })))
 
-most_due : (s : Option Stranger) → IsTimed s → stranger_due s ≤ 30
+most_due : (s : Option Stranger) → IsTimed s → stranger_due s ≤ longest_procedure
 most_due None h = omega arith
 most_due (Some (Held slot)) h = omega arith
 most_due (Some (Waiting k left repeats)) h = let most = h.1 in let few = h.2 in omega arith

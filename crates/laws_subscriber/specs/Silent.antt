@@ -4,10 +4,9 @@ use Rattle.mme_types.specs.Events.{Item, Nothing, Initial, Claim, Message, Displ
 use Rattle.emm_state.specs.declared.setting.Setting.{Setting}
 use Rattle.emm_state.specs.declared.solo.Phase.TheVariants.{Deregistered, Registered}
 use Rattle.emm_state.specs.declared.solo.Solo.{Solo}
-use Rattle.emm_state.specs.Timers.{reachable_ticks}
 use Rattle.emm_machine.specs.Steps.{solo_after}
 use Rattle.laws_subscriber.specs.Clocked.{IsClocked}
-use Rattle.laws_subscriber.specs.Ends.{IsSettled, longest_in}
+use Rattle.laws_subscriber.specs.Ends.{IsSettled, longest_in, longest_registration}
 
 -- no message of the phone, no data for it, and its subscription stays
 abbrev pub is_silent : Item → Bool
@@ -41,9 +40,9 @@ SilentEnds =
     (s : Setting) (solo : Solo) (items : List Item) → IsClocked solo → AreSilent items → longest_in solo.phase ≤ ticks_among items
     → IsSettled (solo_after s solo items)
 
--- and in 3510 a phone is deregistered that wasn't registered and connected
+-- and in the end a phone is deregistered that wasn't registered and connected
 abbrev pub SilentIsForgotten : Type 0
 SilentIsForgotten =
     (s : Setting) (solo : Solo) (items : List Item) → IsClocked solo → AreSilent items → (solo.phase ≡ Registered
     → solo.connection ≡ None)
-    → 30 + reachable_ticks ≤ ticks_among items → (solo_after s solo items).phase ≡ Deregistered
+    → longest_registration ≤ ticks_among items → (solo_after s solo items).phase ≡ Deregistered

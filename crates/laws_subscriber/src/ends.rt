@@ -15,15 +15,15 @@ pub fn clocks_are_kept()
     ensures running { ClockedRuns }
 {}
 
-/// A procedure that nothing but time comes to is over in as many ticks as are due, and so in 30 at most, 12 of them where it asks
-/// for ESM information and 20 where it pages: the phone is registered or deregistered then (TS 24.301 clause 10.2).
+/// A procedure that nothing but time comes to is over in as many ticks as are due, and so within the most of its timer
+/// (`most_ticks`): the phone is registered or deregistered then (TS 24.301 clause 10.2).
 pub fn procedures_end()
     ensures due { EndsWhenDue }
     ensures most { EndsInTime }
 {}
 
-/// A phone that is registered and idle and that nothing but time comes to is deregistered in 3480 ticks, and any other in 3510, but
-/// for one that is registered and connected (TS 24.301 clause 5.3.5).
+/// A phone that is registered and idle and that nothing but time comes to is deregistered when the mobile reachable timer ends, and
+/// any other within `longest_registration`, but for one that is registered and connected (TS 24.301 clause 5.3.5).
 pub fn idle_phones_are_forgotten()
     ensures idle { IdleEnds }
     ensures all { AllElseEnds }
@@ -36,7 +36,7 @@ pub fn silent_phones_end()
 {}
 
 /// A stranger that waits for an identity has a tick of T3470 left and no more than its length, and no more repeats than it has,
-/// over every run; each tick takes one from what is due, and in 30 ticks that nothing else comes in it is closed (TS 24.301 clause
+/// over every run; each tick takes one from what is due, and within the most of T3470, where nothing else comes, it is closed (TS 24.301 clause
 /// 10.2).
 pub fn strangers_are_closed()
     ensures run { StaysTimed }

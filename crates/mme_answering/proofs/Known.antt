@@ -14,8 +14,8 @@ use Rattle.stranger_machine.specs.Table.{known_id, stranger_at}
 use Rattle.stranger_machine.specs.TickLaws.{quiet_notice}
 use Rattle.stranger_machine.specs.Ticks.{is_ending}
 use Rattle.stranger_machine.specs.Turns.{Turn}
-use Rattle.stranger_table.specs.Laws.{all_give_as_ending, all_known_give, some_known_give}
-use Rattle.mme_timers.specs.Waiting.{due_ids}
+use Rattle.mme_tables.specs.StrangerLaws.{all_give_as_ending, all_known_give, some_known_give}
+use Rattle.mme_tables.specs.Waiting.{due_ids}
 use Rattle.mme_answering.specs.declared.out.Out.{Out}
 use Rattle.mme_answering.specs.Settled.{known_sent}
 use Rattle.mme_answering.specs.Sending.{each_known, stranger_out}

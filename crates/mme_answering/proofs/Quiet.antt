@@ -6,9 +6,9 @@ use Rattle.sorted_list.specs.Ordered.{Rising}
 use Rattle.stranger_machine.specs.declared.table.Known.{Known}
 use Rattle.stranger_machine.specs.declared.turn.Notice.TheVariants as notices
 use Rattle.stranger_machine.specs.Table.{known_id}
-use Rattle.stranger_table.specs.Laws.{some_known_give}
+use Rattle.mme_tables.specs.StrangerLaws.{some_known_give}
 use Rattle.mme_owners.specs.SubscriberLaws.{some_give}
-use Rattle.mme_timers.specs.Waiting.{due_ids}
+use Rattle.mme_tables.specs.Waiting.{due_ids}
 use Rattle.mme_owners.specs.Subscribers.{due_slots, each_after, one_less}
 use Rattle.mme_routing.specs.Destinations.{for_all}
 use Rattle.mme_answering.specs.Settled.{item_sent, known_sent}

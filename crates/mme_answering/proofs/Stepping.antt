@@ -15,7 +15,7 @@ use Rattle.emm_machine.specs.TickLaws.{running_timed}
 use Rattle.sorted_list.specs.Ordered.{Every}
 use Rattle.mme_owners.specs.SteppedView.{SteppedView}
 use Rattle.mme_owners.specs.SubscriberLaws.{all_give_as_due, all_give_as_touched, each_gives, quiet_sent, some_give, tick_is_of_all, timed_in_range, touched_below, touched_few, touched_is_of_all}
-use Rattle.mme_timers.specs.Running.{is_due}
+use Rattle.mme_tables.specs.Running.{is_due}
 use Rattle.mme_owners.specs.Subscribers.{AreOnward, IsCounting, IsStepped, due_slots, each_after, slots_stepped, step_at, subscriber_step, tick_settled}
 use Rattle.mme_owners.specs.Touched.{touched_slots}
 use Rattle.laws_subscriber.specs.Clocked.{ClockedRuns, IsClocked, StaysClocked}

@@ -39,13 +39,15 @@ pub record PreparesTurn (id : ℕ) (t : Turn) (ks : List Known) (ws : List Subsc
   pub passing : (d : Destination) → IsPassing d p
 
 -- for the one subscriber that has an item, if it is provisioned
-pub record PreparesOne (items : ℕ → Item) (ws : List SubscriberView) (before after : List Out) (x : Option SteppedView) : Type 0 where
+pub record PreparesOne (items : ℕ → Item) (ws : List SubscriberView) (before after : List Out)
+    (x : Option SteppedView) : Type 0 where
   pub sends : after ≡ before ++ each_sent items 0 ws
   pub subscribers : with_one x ws ≡ each_after items 0 ws
   pub fits : IsFitIf ws x
 
 -- for some subscribers, by their slots, that all have an item
-pub record PreparesEach (item : Item) (called : List ℕ) (ws : List SubscriberView) (before after : List Out) (xs : List SteppedView) : Type 0 where
+pub record PreparesEach (item : Item) (called : List ℕ) (ws : List SubscriberView) (before after : List Out)
+    (xs : List SteppedView) : Type 0 where
   pub sends : after ≡ before ++ some_give (item_sent item) called ws
   pub slots : slots_stepped xs ≡ called
   pub stepped : Every (IsStepped item ws) xs

@@ -13,7 +13,7 @@ use Rattle.stranger_machine.specs.declared.turn.Notice.TheVariants as notices
 use Rattle.stranger_machine.specs.Machine.{is_of_station, notes}
 use Rattle.stranger_machine.specs.Table.{noted, stranger_at, with_stranger}
 use Rattle.stranger_machine.specs.Turns.{after_of}
-use Rattle.mme_timers.specs.Waiting.{due_ids}
+use Rattle.mme_tables.specs.Waiting.{due_ids}
 use Rattle.mme_owners.specs.SteppedView.{SteppedView}
 use Rattle.mme_owners.specs.Touched.{KeepsPlace}
 use Rattle.mme_owners.specs.Subscribers.{AreOnward, IsCounting, due_slots, slots_stepped, step_at, subscriber_step, tick_settled}

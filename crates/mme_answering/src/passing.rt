@@ -11,7 +11,8 @@ ghost use Rattle.mme_answering.specs.Sending.{each_known, each_sent};
 
 use mme_owners::Owners;
 
-/// One tick that ends nobody's countdown: it is so at once, with nothing prepared and nothing sent. Nobody is touched; takes no memory.
+/// One tick that ends nobody's countdown: it is so at once, with nothing prepared and nothing sent. Nobody is touched; takes no
+/// memory.
 pub fn pass(owners: &mut Owners)
     requires clock { owners.old.clock < 2 ^ 62 }
     requires nobody { NobodyIsDue owners.old.strangers owners.old.subscribers }

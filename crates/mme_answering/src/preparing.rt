@@ -13,7 +13,7 @@ ghost use Rattle.stranger_machine.specs.declared.turn.Notice.TheVariants as noti
 ghost use Rattle.stranger_machine.specs.Machine.{is_of_station};
 ghost use Rattle.stranger_machine.specs.Table.{stranger_at};
 ghost use Rattle.stranger_machine.specs.Turns.{call_of, turn_of};
-ghost use Rattle.mme_timers.specs.Waiting.{due_ids};
+ghost use Rattle.mme_tables.specs.Waiting.{due_ids};
 ghost use Rattle.mme_owners.specs.SubscriberLaws.{some_give};
 ghost use Rattle.mme_owners.specs.Subscribers.{IsCounting, IsOnwardAt, due_slots};
 ghost use Rattle.mme_owners.specs.Touched.{touched_slots};
@@ -32,11 +32,11 @@ use identity_slots::{AssociationId, Provision, Slot};
 use laws_subscriber::{clocks_are_kept, connections_come_so};
 use mme_owners::{Due, Owners, Stepped, Subscribers};
 use mme_routing::Destination;
+use mme_tables::Strangers;
 use mme_types::{EnbWorld, Entry, SoloEvent, StationNumber, UeMessage};
 use s1ap_elements::AssociationToReset;
 use std::alloc::{AllocError, Global};
 use stranger_machine::{Call, Notice, Turn, begins, receives};
-use stranger_table::Strangers;
 
 // A subscriber's step, on a copy: its state after it; what it sends stands after what is sent so far.
 #[tactic(auto, using(crate::proofs::Sent::sends_none))]
@@ -91,7 +91,8 @@ fn prepare_each(
     Ok(stepped)
 }
 
-// Whether a look at a slot's subscriber tells that an event leaves it as it is and that nothing is sent: a message alone is looked at.
+// Whether a look at a slot's subscriber tells that an event leaves it as it is and that nothing is sent: a message alone is
+// looked at.
 fn is_still(subscribers: &Subscribers, slot: Slot, event: &SoloEvent) -> bool
     requires { slot < length subscribers.now.subscribers }
     ensures { (stations : List StationState) → option_map (is_seen_still (item_of event.now stations))

@@ -6,18 +6,18 @@ ghost use Rattle.std.specs.Option.{option_map_or};
 ghost use Rattle.sorted_list.specs.Ordered.{at};
 ghost use Rattle.stranger_machine.specs.Table.{known_id};
 ghost use Rattle.stranger_machine.specs.declared.turn.Notice.TheVariants.{Tick};
-ghost use Rattle.mme_timers.specs.Waiting.{due_ids};
-ghost use Rattle.stranger_table.specs.Laws.{some_known_give};
+ghost use Rattle.mme_tables.specs.Waiting.{due_ids};
+ghost use Rattle.mme_tables.specs.StrangerLaws.{some_known_give};
 ghost use Rattle.mme_answering.specs.Settled.{known_sent};
 ghost use Rattle.mme_answering.specs.Sending.{each_known, owner_out, SendsSome};
 ghost use Rattle.mme_answering.specs.Short.{AreShort};
 
 use crate::out::{Out, Outs, Owner};
 use identity_slots::AssociationId;
+use mme_tables::Strangers;
 use mme_types::{Answer, Answers};
 use std::alloc::{AllocError, Global};
 use stranger_machine::Notice;
-use stranger_table::Strangers;
 
 // An answer, as it is sent for an owner.
 fn out_of(owner: &Owner, answer: Answer) -> Out

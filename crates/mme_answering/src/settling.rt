@@ -9,7 +9,7 @@ ghost use Rattle.stranger_machine.specs.declared.turn.Notice.TheVariants.{Tick};
 ghost use Rattle.stranger_machine.specs.Machine.{is_of_station};
 ghost use Rattle.stranger_machine.specs.Table.{noted, stranger_at, with_stranger};
 ghost use Rattle.stranger_machine.specs.Turns.{after_of};
-ghost use Rattle.mme_timers.specs.Waiting.{due_ids};
+ghost use Rattle.mme_tables.specs.Waiting.{due_ids};
 ghost use Rattle.mme_owners.specs.Subscribers.{due_slots, slots_stepped, tick_settled, with_stepped, AreOnward, IsCounting};
 ghost use Rattle.mme_owners.specs.Touched.{KeepsPlace};
 ghost use Rattle.mme_owners.specs.Owners.{with_one, IsFitIf, IsWaitAfter};

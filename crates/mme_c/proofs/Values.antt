@@ -26,7 +26,7 @@ use Rattle.std.specs.contracts.alloc.Global as heap
 use Rattle.std.proofs.alloc.Global.TheLaws as heap_laws
 use Rattle.std.specs.contracts.impls.GlobalAllocator.TheImpl.{ghosts}
 use Rattle.std.specs.Box.Ownership.{box_owns}
-use Rattle.loose.proofs.Values.{Loose}
+use Rattle.mme_c.proofs.LooseValues.{Loose}
 use Rattle.mme_c.specs.Ownership.{heap as global, handle_owns}
 use Rattle.c_session.specs.declared.session.Session.{Session}
 use Rattle.c_session.specs.contracts.session.Session as session

@@ -12,7 +12,8 @@ use Rattle.c_session.specs.contracts.session.Session.{the_row}
 abbrev pub heap : Global
 heap = record { memory = record { seal = tt } }
 
--- a handle with no session is null. Else the session lies at the pointer, on the heap, and the handle has the right to free its block
+-- a handle with no session is null. Else the session lies at the pointer, on the heap, and the handle has the right to free its
+-- block
 abbrev pub handle_owns : Ptr → Option Session → Fml
 handle_owns p None = feq Ptr p null_ptr
 handle_owns p (Some s) = box_owns (ghosts.dealloc_token heap) the_row p s

@@ -5,9 +5,9 @@ ghost use Rattle.std.specs.Prelude.{◌≡◌, None, Option, Some, option_map};
 ghost use Rattle.c_session.specs.declared.session.Session.{Session};
 ghost use Rattle.mme_c.specs.Calls.{IsKept};
 
+use crate::loose::Loose;
 use crate::numbers::{OK, refused};
 use c_session::{Refusal, Session};
-use loose::Loose;
 use std::alloc::Global;
 use std::marker::Model;
 use std::{mem, ptr};

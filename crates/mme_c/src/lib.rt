@@ -7,6 +7,7 @@
 mod codecs;
 mod events;
 mod handle;
+mod loose;
 mod numbers;
 mod provisioning;
 mod replies;

@@ -25,7 +25,7 @@ use Rattle.mme_core.specs.declared.event.Event.{Event}
 use Rattle.mme_core.specs.declared.event.Event.TheVariants.{Up as UpEvent, Lost as LostEvent, In as InEvent, Tick as TickEvent, Data as DataEvent, Cancel as CancelEvent}
 use Rattle.mme_core.specs.declared.event.StepFault.TheVariants.{NotUp}
 use Rattle.mme_core.specs.Laws.{Exchanges, event_name, slot_named}
-use Rattle.mme_naming.specs.Naming.{named_slot}
+use Rattle.mme_routing.specs.Naming.{named_slot}
 use Rattle.mme_core.specs.Sight.{Sight}
 use Rattle.mme_routing.specs.Destinations.{Subscriber, Stranger, for_one, item_at, strangers_left}
 use Rattle.mme_routing.specs.Outcomes.{Outcome, broadcasts, begins_anew, enters, entry_routed, entry_of, goes_to, outcome_of, outcome_of_message, setup_failure, setup_response, phone_message, phone_message_if, message_of_slot, ue_message_in}

@@ -16,7 +16,7 @@ use Rattle.mme_types.specs.declared.stations.StationState.TheVariants.{Ready}
 use Rattle.mme_types.specs.Events.{Cancel, Data, Item}
 use Rattle.mme_types.specs.declared.network.Network.{Network}
 use Rattle.mme_core.specs.Laws.{NamedById, NamedByIdentity, NamedByImsi, id_in, slot_named}
-use Rattle.mme_naming.specs.Naming.{named_slot}
+use Rattle.mme_routing.specs.Naming.{named_slot}
 use Rattle.mme_routing.specs.Destinations.{Stranger}
 use Rattle.mme_routing.specs.Outcomes.{Outcome, entry_routed, goes_to, outcome_of, outcome_of_message, message_by_id, message_of_slot, ue_message}
 use Rattle.mme_core.specs.World.{happens, to_slot}

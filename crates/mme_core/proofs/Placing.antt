@@ -12,7 +12,7 @@ use Rattle.stranger_machine.specs.declared.table.Known.{Known}
 use Rattle.stranger_machine.specs.declared.turn.After.{After}
 use Rattle.stranger_machine.specs.declared.turn.After.TheVariants as after
 use Rattle.stranger_machine.specs.Table.{known_id, stranger_at}
-use Rattle.mme_timers.specs.Waiting.{wait_of}
+use Rattle.mme_tables.specs.Waiting.{wait_of}
 use Rattle.mme_owners.specs.Owners.{IsStart, IsWaitAfter}
 use Rattle.mme_owners.specs.Placed.{place_if, AreApart}
 use Rattle.mme_owners.specs.SteppedView.{SteppedView}

@@ -18,7 +18,7 @@ use Rattle.stranger_machine.specs.Table.{known_id, stranger_at}
 use Rattle.mme_core.specs.declared.event.Event.{Event}
 use Rattle.mme_core.specs.declared.event.Event.TheVariants.{In as InEvent, Data as DataEvent, Cancel as CancelEvent}
 use Rattle.mme_answering.specs.declared.out.Out.{Out}
-use Rattle.mme_naming.specs.Naming.{named_slot}
+use Rattle.mme_routing.specs.Naming.{named_slot}
 use Rattle.mme_core.specs.Projection.{AreInOrder, Told, alone_after, answer_told, is_slot, is_station, is_stranger, item_for, own_told, owned_by, projection, stranger_input, subscriber_told, told}
 use Rattle.mme_core.specs.Sight.{Sight}
 use Rattle.mme_routing.specs.Destinations.{Destination, Subscriber}

@@ -172,8 +172,8 @@ impl Mme {
 
     /// What always holds: the strangers' ids rise and those that wait have ticks of T3470 left, there are 128 stations and as many
     /// subscribers as are provisioned, no vector of a context that stands can become one again, each subscriber's context is the
-    /// vector at its place, of its countdowns that of its phase runs alone, and no two phones share an association's id: in the list
-    /// of all associations, of subscribers and of strangers that wait, each id stands once.
+    /// vector at its place, of its countdowns that of its phase runs alone, and no two phones share an association's id: in the
+    /// list of all associations, of subscribers and of strangers that wait, each id stands once.
     pub fn well_kept(&self)
         ensures strangers { Rising known_id self.now.strangers }
         ensures stations { length self.now.sight.stations ≡ 128 }
@@ -268,8 +268,8 @@ impl Mme {
         Ok(replies)
     }
 
-    /// What an event sent is given back, and its room is used again: zeros stand in place of its octets before these are freed, since
-    /// some carry a key. Takes no memory.
+    /// What an event sent is given back, and its room is used again: zeros stand in place of its octets before these are freed,
+    /// since some carry a key. Takes no memory.
     pub fn take_back(&mut self, sent: Outs)
         ensures { self.new ≡ self.old }
     {
@@ -451,7 +451,8 @@ impl Surroundings {
         octets: &'a [u8],
     ) -> Result<Outcome<'a>, AllocError>
         ensures { IfOk result (λ h. seen_outcome self.now.stations h
-            ≡ outcome_of self.now.config.network self.now.profiles station (station_at self.now.stations station) (decoded octets.entry.now)) }
+            ≡ outcome_of self.now.config.network self.now.profiles station (station_at self.now.stations station)
+            (decoded octets.entry.now)) }
     {
         let state = self.stations.get(station);
         let network = &self.config.network;
@@ -478,8 +479,8 @@ impl Surroundings {
         }
     }
 
-    // What an event that is no message leads to, on copies: nothing is sent for its station. What is sent stands in the room that is
-    // given.
+    // What an event that is no message leads to, on copies: nothing is sent for its station. What is sent stands in the room that
+    // is given.
     fn ready_without_message(
         &self,
         owners: &mut Owners,

@@ -6,8 +6,8 @@ use Rattle.std.proofs.lemmas.Bool.Decides.{nat_tests}
 use Rattle.std.proofs.lemmas.Option.{none-some, same_Some}
 use Rattle.association_table.specs.declared.association.Association.{Association}
 use Rattle.mme_types.specs.declared.connection.Connection.{Connection}
-use Rattle.mme_associations.specs.declared.whereabouts.Whereabouts.{Whereabouts}
-use Rattle.mme_associations.specs.Whereabouts.{connection_at, waits_at, NoneConnected}
+use Rattle.mme_tables.specs.declared.whereabouts.Whereabouts.{Whereabouts}
+use Rattle.mme_tables.specs.Whereabouts.{connection_at, waits_at, NoneConnected}
 use Rattle.emm_state.specs.declared.solo.Solo.{Solo}
 use Rattle.emm_machine.specs.SubscriberView.{SubscriberView}
 use Rattle.sorted_list.specs.Ordered.{Rising}

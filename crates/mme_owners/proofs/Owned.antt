@@ -16,14 +16,14 @@ use Rattle.timer_queue.specs.declared.timer.Kind.TheVariants.{Procedure, Reachab
 use Rattle.timer_queue.specs.declared.timer.Timer.{Timer}
 use Rattle.timer_queue.specs.declared.timer.TimerOwner.{TimerOwner}
 use Rattle.timer_queue.specs.declared.timer.TimerOwner.TheVariants as owners
-use Rattle.mme_timers.specs.Changed.{changed_at}
-use Rattle.mme_timers.specs.Due.{id_of, ids_of, is_past, owner_slot, slots_once, with_id, AreOfOwners}
-use Rattle.mme_timers.specs.Joined.{due_joined}
-use Rattle.mme_timers.specs.Running.{AreQueued, IsInRange, both_retimed, running_from, with_countdown}
-use Rattle.mme_timers.specs.SlotLaws.{AreBefore, both_retimed_is, both_retimed_joined, changed_length, once_is, over_from, queued_at, queued_joined, slots_are_owners, slots_have_no_id}
-use Rattle.mme_timers.specs.WaitLaws.{changed_joined, due_ids_joined, due_owners, due_slots_joined, is_wait_at, stopped_joined, waits_before, waits_put, waits_without}
-use Rattle.mme_timers.specs.Waiting.{AreWaits, IsWait, due_ids, wait_at, wait_changed, wait_of, wait_stopped, waits_of}
-use Rattle.stranger_table.specs.Table.{StrangerTable}
+use Rattle.mme_tables.specs.Changed.{changed_at}
+use Rattle.mme_tables.specs.Due.{id_of, ids_of, is_past, owner_slot, slots_once, with_id, AreOfOwners}
+use Rattle.mme_tables.specs.Joined.{due_joined}
+use Rattle.mme_tables.specs.Running.{AreQueued, IsInRange, both_retimed, running_from, with_countdown}
+use Rattle.mme_tables.specs.SlotLaws.{AreBefore, both_retimed_is, both_retimed_joined, changed_length, once_is, over_from, queued_at, queued_joined, slots_are_owners, slots_have_no_id}
+use Rattle.mme_tables.specs.WaitLaws.{changed_joined, due_ids_joined, due_owners, due_slots_joined, is_wait_at, stopped_joined, waits_before, waits_put, waits_without}
+use Rattle.mme_tables.specs.Waiting.{AreWaits, IsWait, due_ids, wait_at, wait_changed, wait_of, wait_stopped, waits_of}
+use Rattle.mme_tables.specs.Strangers.{StrangerTable}
 use Rattle.mme_owners.specs.SteppedView.{SteppedView}
 use Rattle.mme_owners.specs.SubscriberLaws.{with_solo_is}
 use Rattle.mme_owners.specs.Subscribers.{SubscriberTable, all_countdowns, countdowns_at, due_slots, in_state, with_solo, with_stepped}

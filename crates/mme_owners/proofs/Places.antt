@@ -14,7 +14,7 @@ use Rattle.stranger_machine.specs.Laws.{noted_at}
 use Rattle.stranger_machine.specs.Machine.{identity_ticks, notes, ticks, waits}
 use Rattle.stranger_machine.specs.Table.{known_id, noted, stranger_at}
 use Rattle.stranger_machine.specs.Ticks.{is_ending}
-use Rattle.mme_timers.specs.Waiting.{due_ids, wait_at, wait_if}
+use Rattle.mme_tables.specs.Waiting.{due_ids, wait_at, wait_if}
 use Rattle.mme_owners.specs.Placed.{place_at, place_if, still_there}
 
 -- ---- those of some ids

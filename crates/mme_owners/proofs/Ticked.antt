@@ -11,12 +11,12 @@ use Rattle.stranger_machine.specs.declared.table.Known.{Known}
 use Rattle.stranger_machine.specs.declared.turn.Notice.TheVariants.{Tick}
 use Rattle.stranger_machine.specs.Table.{known_id, noted}
 use Rattle.timer_queue.specs.Countdowns.{Countdown, aged, countdown_rank}
-use Rattle.mme_timers.specs.Changed.{changed_at}
-use Rattle.mme_timers.specs.Joined.{aged_joined}
-use Rattle.mme_timers.specs.Running.{both_left_by_tick, is_due, left_by_tick, running_from}
-use Rattle.mme_timers.specs.SlotLaws.{aged_is, both_retimed_is, changed_length, over_from}
-use Rattle.mme_timers.specs.WaitLaws.{are_waits_ticked, restarted_joined, waits_before, waits_ticked}
-use Rattle.mme_timers.specs.Waiting.{AreWaits, due_ids, restarted, waits_of}
+use Rattle.mme_tables.specs.Changed.{changed_at}
+use Rattle.mme_tables.specs.Joined.{aged_joined}
+use Rattle.mme_tables.specs.Running.{both_left_by_tick, is_due, left_by_tick, running_from}
+use Rattle.mme_tables.specs.SlotLaws.{aged_is, both_retimed_is, changed_length, over_from}
+use Rattle.mme_tables.specs.WaitLaws.{are_waits_ticked, restarted_joined, waits_before, waits_ticked}
+use Rattle.mme_tables.specs.Waiting.{AreWaits, due_ids, restarted, waits_of}
 use Rattle.mme_owners.specs.SteppedView.{SteppedView}
 use Rattle.mme_owners.specs.Changed.{cleared}
 use Rattle.mme_owners.specs.SubscriberLaws.{due_below, due_no, with_solo_is}

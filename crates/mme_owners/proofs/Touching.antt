@@ -8,8 +8,8 @@ use Rattle.std.proofs.lemmas.Option.{none-some, same_Some}
 use Rattle.mme_types.specs.declared.connection.Connection.{Connection}
 use Rattle.mme_types.specs.Events.{ConnectionsGone, StationGone}
 use Rattle.mme_types.specs.Listed.{ToReset, is_listed}
-use Rattle.mme_associations.specs.declared.whereabouts.Whereabouts.{Whereabouts}
-use Rattle.mme_associations.specs.Whereabouts.{connection_at, is_concerned, is_meant, is_meant_at, is_there, nowhere, slots_where, IsFree}
+use Rattle.mme_tables.specs.declared.whereabouts.Whereabouts.{Whereabouts}
+use Rattle.mme_tables.specs.Whereabouts.{connection_at, is_concerned, is_meant, is_meant_at, is_there, nowhere, slots_where, IsFree}
 use Rattle.emm_state.specs.declared.solo.Solo.{Solo}
 use Rattle.emm_machine.specs.Still.{is_elsewhere, is_unlisted, pages}
 use Rattle.emm_machine.specs.SubscriberView.{SubscriberView}

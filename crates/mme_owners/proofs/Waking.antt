@@ -17,8 +17,8 @@ use Rattle.emm_machine.specs.Words.{states_of}
 use Rattle.emm_machine.specs.Ticks.{AreAbove, IsAbove, both_less, countdowns, less, solo_aged, ticks_after}
 use Rattle.emm_machine.specs.TickLaws.{countdowns_aged, quiet_tick, ticks_are_aged, ticks_more}
 use Rattle.sorted_list.specs.Ordered.{Every}
-use Rattle.mme_timers.specs.Running.{AreInRange, IsInRange, is_due}
-use Rattle.mme_timers.specs.SlotLaws.{changed_length}
+use Rattle.mme_tables.specs.Running.{AreInRange, IsInRange, is_due}
+use Rattle.mme_tables.specs.SlotLaws.{changed_length}
 use Rattle.mme_owners.specs.declared.record.Record.{Record}
 use Rattle.mme_owners.specs.SteppedView.{SteppedView}
 use Rattle.mme_owners.specs.Changed.{changed_at, cleared}

@@ -1,6 +1,6 @@
 -- A list in which some elements are changed.
 use Rattle.std.specs.Prelude.{ℕ, Bool, false, List, [], ◌∷◌}
-pub use Rattle.mme_timers.specs.Changed.{changed_at}
+pub use Rattle.mme_tables.specs.Changed.{changed_at}
 
 -- flags, where those at the places are off
 abbrev pub cleared : List ℕ → List Bool → List Bool

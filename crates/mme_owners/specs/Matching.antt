@@ -3,7 +3,7 @@ use Rattle.std.proofs.Common.{◌≡◌, ℕ, zero, suc, ◌+◌, List, [], ◌�
 use Rattle.std.specs.Prelude.{slice_get, Some, Bool, true, false, cond, map}
 use Rattle.std.proofs.lemmas.List.{append-nil, length_push}
 use Rattle.sorted_list.specs.Ordered.{Every}
-use Rattle.mme_associations.specs.Whereabouts.{slots_where}
+use Rattle.mme_tables.specs.Whereabouts.{slots_where}
 use Rattle.mme_owners.specs.Changed.{changed_at, cleared}
 
 -- P holds of each two that stand side by side, by their flag

@@ -6,9 +6,9 @@ use Rattle.stranger_machine.specs.declared.table.Known.{Known}
 use Rattle.stranger_machine.specs.declared.turn.After.{After}
 use Rattle.stranger_machine.specs.declared.turn.After.TheVariants as after
 use Rattle.timer_queue.specs.Countdowns.{Countdown, Countdowns}
-use Rattle.mme_timers.specs.Running.{both_retimed, running_from}
-use Rattle.mme_timers.specs.Waiting.{AreWaits, due_ids, wait_of, waits_of}
-use Rattle.stranger_table.specs.Table.{StrangerTable}
+use Rattle.mme_tables.specs.Running.{both_retimed, running_from}
+use Rattle.mme_tables.specs.Waiting.{AreWaits, due_ids, wait_of, waits_of}
+use Rattle.mme_tables.specs.Strangers.{StrangerTable}
 use Rattle.mme_owners.specs.SteppedView.{SteppedView}
 use Rattle.mme_owners.specs.Subscribers.{SubscriberTable, all_countdowns, due_slots, with_solo, IsCounting, IsOnwardAt}
 use Rattle.mme_owners.specs.Touched.{IsFreeFor}

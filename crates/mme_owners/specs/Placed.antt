@@ -1,7 +1,7 @@
 -- Where subscribers are, and strangers that wait, as the associations have it.
 use Rattle.std.specs.Prelude.{◌≡◌, ℕ, ◌==◌, ◌&&◌, if◌then◌else◌, is_some, not, List, [], ◌∷◌, Option, Some, None}
 use Rattle.association_table.specs.declared.association.Association.{Association}
-use Rattle.mme_associations.specs.Whereabouts.{ConnectionTable, waits_at, NoneWaits}
+use Rattle.mme_tables.specs.Whereabouts.{ConnectionTable, waits_at, NoneWaits}
 use Rattle.mme_types.specs.declared.connection.Connection.{Connection}
 use Rattle.emm_machine.specs.SubscriberView.{SubscriberView}
 use Rattle.stranger_machine.specs.declared.state.Stranger.{Stranger}
@@ -9,7 +9,7 @@ use Rattle.stranger_machine.specs.declared.state.Stranger.TheVariants.{Waiting, 
 use Rattle.stranger_machine.specs.declared.table.Known.{Known}
 use Rattle.stranger_machine.specs.Table.{stranger_at}
 use Rattle.stranger_machine.specs.Turns.{place_of}
-use Rattle.mme_timers.specs.Waiting.{wait_at}
+use Rattle.mme_tables.specs.Waiting.{wait_at}
 use Rattle.mme_owners.specs.SteppedView.{SteppedView}
 use Rattle.mme_owners.specs.Touched.{all_whereabouts, Has}
 

@@ -16,11 +16,11 @@ use Rattle.emm_machine.specs.SubscriberView.{SubscriberView}
 use Rattle.emm_machine.specs.Ticks.{AreAbove, AreTimed, IsAbove, IsTimed, countdowns, solo_aged}
 use Rattle.emm_machine.specs.TickLaws.{quiet_tick}
 use Rattle.sorted_list.specs.Ordered.{Every}
-use Rattle.mme_associations.specs.Whereabouts.{slots_where}
+use Rattle.mme_tables.specs.Whereabouts.{slots_where}
 use Rattle.mme_owners.specs.SteppedView.{SteppedView}
 use Rattle.mme_owners.specs.Changed.{changed_at, cleared}
 use Rattle.mme_owners.specs.Matching.{AreOff, Match, changed_by_none, cleared_all, match_changed}
-use Rattle.mme_timers.specs.Running.{AreInRange, IsInRange, is_due, is_last}
+use Rattle.mme_tables.specs.Running.{AreInRange, IsInRange, is_due, is_last}
 use Rattle.mme_owners.specs.Subscribers.{AreOnward, IsOnwardAt, IsStepped, all_countdowns, due_slots, each_after, in_state, one_less, slots_stepped, subscriber_after, subscriber_step, tick_settled, with_solo, with_stepped}
 use Rattle.mme_owners.specs.Touched.{touched_slots}
 

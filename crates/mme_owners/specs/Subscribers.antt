@@ -10,7 +10,7 @@ use Rattle.emm_machine.specs.SubscriberView.{SubscriberView}
 use Rattle.emm_machine.specs.Ticks.{countdowns, solo_aged}
 use Rattle.sorted_list.specs.Ordered.{Every}
 use Rattle.mme_owners.specs.SteppedView.{SteppedView}
-use Rattle.mme_timers.specs.Running.{AreInRange, due_from}
+use Rattle.mme_tables.specs.Running.{AreInRange, due_from}
 
 pub record SubscriberTable : Type 0 where
   pub clock : ℕ

@@ -2,8 +2,8 @@
 use Rattle.std.specs.Prelude.{◌≡◌, ℕ, not, List, [], ◌∷◌, map, slice_get, slice_set, Some}
 use Rattle.mme_types.specs.Events.{Item}
 use Rattle.mme_types.specs.declared.connection.Connection.{Connection}
-use Rattle.mme_associations.specs.declared.whereabouts.Whereabouts.{Whereabouts}
-use Rattle.mme_associations.specs.Whereabouts.{connection_at, slots_where}
+use Rattle.mme_tables.specs.declared.whereabouts.Whereabouts.{Whereabouts}
+use Rattle.mme_tables.specs.Whereabouts.{connection_at, slots_where}
 use Rattle.emm_state.specs.declared.solo.Solo.{Solo}
 use Rattle.emm_machine.specs.Still.{pages, still}
 use Rattle.emm_machine.specs.SubscriberView.{SubscriberView}

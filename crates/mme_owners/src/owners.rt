@@ -2,7 +2,7 @@
 
 ghost use Rattle.std.specs.Prelude.{◌≡◌, ◌+◌, ◌*◌, ◌<◌, ◌≤◌, ◌==◌, ◌^◌, ◌++◌, ◌∷◌, ◌↔◌, ℕ, [], false, length, map, slice_get, if◌then◌else◌, IfOk, IsSome, None, OnErr, OnOk, option_map, true};
 ghost use Rattle.identity_slots.specs.Ids.{slots, station_in};
-ghost use Rattle.mme_associations.specs.Whereabouts.{nowhere, waits_at, NoneConnected};
+ghost use Rattle.mme_tables.specs.Whereabouts.{nowhere, waits_at, NoneConnected};
 ghost use Rattle.mme_types.specs.Events.{ConnectionsGone, StationGone};
 ghost use Rattle.emm_machine.specs.Ticks.{countdowns};
 ghost use Rattle.emm_machine.specs.Words.{states_of};
@@ -12,7 +12,7 @@ ghost use Rattle.stranger_machine.specs.Machine.{closes, is_of_station, noted_st
 ghost use Rattle.stranger_machine.specs.Table.{known_id, noted, stranger_at, with_stranger};
 ghost use Rattle.stranger_machine.specs.Turns.{after_of};
 ghost use Rattle.stranger_machine.specs.declared.turn.Notice.TheVariants.{Tick};
-ghost use Rattle.mme_timers.specs.Waiting.{due_ids};
+ghost use Rattle.mme_tables.specs.Waiting.{due_ids};
 ghost use Rattle.mme_owners.specs.Subscribers.{due_slots, one_less, slots_stepped, tick_settled, with_solo, with_stepped, AreCounting, AreOnward, IsCounting, IsOnwardAt};
 ghost use Rattle.mme_owners.specs.Touched.{all_whereabouts, touched_slots, whereabouts, KeepsPlace};
 ghost use Rattle.mme_owners.specs.Owners.{with_one, IsFitIf, IsFreeIf, IsWaitAfter, NobodyIsDue};
@@ -23,8 +23,7 @@ use crate::records::Records;
 use crate::stepped::Stepped;
 use emm_machine::{States, Subscriber};
 use identity_slots::{AssociationId, Slot, station_in};
-use mme_associations::Connections;
-use mme_timers::Due;
+use mme_tables::{Connections, Due};
 use mme_types::{Connection, StationNumber};
 use s1ap_elements::AssociationToReset;
 use std::alloc::{AllocError, Global};
@@ -371,8 +370,8 @@ impl Owners {
         leave(&mut self.connections, &self.records, ended);
     }
 
-    /// One tick that ends nobody's countdown: each that runs has a tick less. Nobody is touched; takes no memory. The strangers' ids
-    /// rise.
+    /// One tick that ends nobody's countdown: each that runs has a tick less. Nobody is touched; takes no memory. The strangers'
+    /// ids rise.
     pub fn pass(&mut self)
         requires clock { self.old.clock < 2 ^ 62 }
         requires nobody { NobodyIsDue self.old.strangers self.old.subscribers }

@@ -3,7 +3,7 @@
 ghost use Rattle.std.specs.Prelude.{◌≡◌, ◌+◌, ◌<◌, ◌≤◌, ℕ, length, slice_set};
 ghost use Rattle.emm_machine.specs.Still.{pages};
 ghost use Rattle.sorted_list.specs.Ordered.{Every};
-ghost use Rattle.mme_associations.specs.Whereabouts.{waits_at, IsFree, NoneWaits};
+ghost use Rattle.mme_tables.specs.Whereabouts.{waits_at, IsFree, NoneWaits};
 ghost use Rattle.mme_owners.specs.Touched.{whereabouts, with_whereabouts, KeepsConnection};
 ghost use Rattle.mme_owners.specs.Placed.{place_in_state, still_there};
 
@@ -11,7 +11,7 @@ use crate::records::Records;
 use crate::stepped::Stepped;
 use emm_state::{Repeat, Solo};
 use identity_slots::{AssociationId, Slot};
-use mme_associations::{Connections, Whereabouts};
+use mme_tables::{Connections, Whereabouts};
 use mme_types::Connection;
 use stranger_machine::Stranger;
 

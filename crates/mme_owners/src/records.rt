@@ -2,13 +2,13 @@
 
 ghost use Rattle.std.specs.Prelude.{◌≡◌, ◌+◌, ◌*◌, ◌<◌, ◌≤◌, ◌^◌, ◌++◌, ◌∷◌, ◌↔◌, [], false, length, map, slice_get, IfOk, None, OnErr, OnOk, option_map};
 ghost use Rattle.identity_slots.specs.Ids.{slots};
-ghost use Rattle.mme_associations.specs.Whereabouts.{nowhere};
+ghost use Rattle.mme_tables.specs.Whereabouts.{nowhere};
 ghost use Rattle.emm_machine.specs.Ticks.{countdowns};
 ghost use Rattle.emm_machine.specs.Words.{states_of};
 ghost use Rattle.sorted_list.specs.Ordered.{Every, Rising, put, without};
 ghost use Rattle.stranger_machine.specs.Table.{known_id, noted};
 ghost use Rattle.stranger_machine.specs.declared.turn.Notice.TheVariants.{Tick};
-ghost use Rattle.mme_timers.specs.Waiting.{due_ids, wait_at, wait_of};
+ghost use Rattle.mme_tables.specs.Waiting.{due_ids, wait_at, wait_of};
 ghost use Rattle.mme_owners.specs.Subscribers.{due_slots, one_less, slots_stepped, tick_settled, with_solo, with_stepped, AreCounting, AreOnward, IsCounting, IsOnwardAt};
 ghost use Rattle.mme_owners.specs.Owners.{IsStart, NobodyIsDue};
 
@@ -17,12 +17,10 @@ use crate::stepped::Stepped;
 use crate::subscribers::Subscribers;
 use emm_machine::{States, Subscriber};
 use identity_slots::{AssociationId, Slot};
-use mme_associations::Connections;
-use mme_timers::{Due, change_wait, find_due, retime, stop_wait, wait_of};
+use mme_tables::{Connections, Due, Strangers, change_wait, find_due, retime, stop_wait, wait_of};
 use std::alloc::{AllocError, Global};
 use std::marker::Model;
 use stranger_machine::Stranger;
-use stranger_table::Strangers;
 use timer_queue::Timers;
 
 /// Strangers and subscribers, and the queue of their countdowns; a contract sees the clock, each stranger and each subscriber as it
@@ -210,7 +208,8 @@ impl Records {
         stop_wait(&mut self.timers, id, before);
     }
 
-    /// The stranger with an id is that, and T3470 runs as it says, where there is room for a countdown; refused, all are as they were.
+    /// The stranger with an id is that, and T3470 runs as it says, where there is room for a countdown; refused, all are as they
+    /// were.
     pub(crate) fn put(&mut self, id: AssociationId, stranger: Stranger) -> Result<(), AllocError>
         requires wait { IsStart id (wait_of stranger) }
         requires room { 1 ≤ self.old.room }

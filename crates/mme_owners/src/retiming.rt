@@ -2,14 +2,13 @@
 
 ghost use Rattle.std.specs.Prelude.{◌≡◌, ◌+◌, ◌*◌, ◌≤◌, length};
 ghost use Rattle.sorted_list.specs.Ordered.{Every};
-ghost use Rattle.mme_timers.specs.Waiting.{restarted, AreWaits};
+ghost use Rattle.mme_tables.specs.Waiting.{restarted, AreWaits};
 ghost use Rattle.mme_owners.specs.Subscribers.{IsCounting};
 ghost use Rattle.mme_owners.specs.Owners.{all_retimed};
 
 use crate::stepped::Stepped;
 use identity_slots::AssociationId;
-use mme_timers::{change_wait, retime_found};
-use stranger_table::Strangers;
+use mme_tables::{Strangers, change_wait, retime_found};
 use timer_queue::Timers;
 
 /// The countdowns of slots are those that were prepared, where those that they have are looked up; takes no memory.

@@ -3,7 +3,7 @@
 ghost use Rattle.std.specs.Prelude.{◌≡◌, ◌+◌, ◌<◌, ◌≤◌, ◌^◌, ◌++◌, ◌∷◌, [], length, slice_get, IfOk, OnErr, OnOk, Some, None, option_map};
 ghost use Rattle.identity_slots.specs.Ids.{slots};
 ghost use Rattle.mme_types.specs.Events.{Message, item_of, message_lists};
-ghost use Rattle.mme_associations.specs.Whereabouts.{nowhere};
+ghost use Rattle.mme_tables.specs.Whereabouts.{nowhere};
 ghost use Rattle.emm_machine.specs.Still.{still};
 ghost use Rattle.emm_machine.specs.Ticks.{countdowns};
 ghost use Rattle.emm_machine.specs.Words.{states_of};
@@ -18,7 +18,7 @@ use crate::stepped::Stepped;
 use emm_machine::{States, Subscriber};
 use emm_state::Draft;
 use identity_slots::Slot;
-use mme_associations::Connections;
+use mme_tables::Connections;
 use mme_types::{EnbWorld, SoloEvent, UeMessage};
 use std::alloc::{AllocError, Global};
 use std::marker::Model;
@@ -146,7 +146,8 @@ impl Subscribers {
         Some(self.records[place].subscriber.states())
     }
 
-    /// Whether a message leaves a slot's subscriber as it is and nothing is sent for it, by a look at the connection; takes no memory.
+    /// Whether a message leaves a slot's subscriber as it is and nothing is sent for it, by a look at the connection; takes no
+    /// memory.
     pub fn is_still(&self, slot: Slot, message: &UeMessage<&[u8]>) -> bool
         requires { slot < length self.now.subscribers }
         ensures { option_map (λ w. still w.solo (Message (message_lists message.now))) (slice_get self.now.subscribers slot)

@@ -3,3 +3,4 @@ pub mod Outcome
 pub mod Outcomes
 pub mod Resets
 pub mod Seen
+pub mod Naming

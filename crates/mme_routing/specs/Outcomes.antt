@@ -30,7 +30,7 @@ use Rattle.mme_types.specs.Events.{Initial, Message}
 use Rattle.stranger_machine.specs.Machine.{unknown}
 use Rattle.stranger_machine.specs.Turns.{sent_to}
 use Rattle.mme_routing.specs.Destinations.{Subscriber, Beginner, Stranger}
-use Rattle.mme_naming.specs.Naming.{named_slot}
+use Rattle.mme_routing.specs.Naming.{named_slot}
 pub use Rattle.mme_routing.specs.Outcome.{Outcome, answered, begins_anew, goes_to, indication, not_compatible}
 use Rattle.mme_routing.specs.Resets.{reset}
 

@@ -15,9 +15,9 @@ ghost use Rattle.mme_routing.specs.Outcomes.{begins_anew, broadcasts, cause_of, 
 
 use crate::answers::{cause_of, indication, sent_again, setup_failure};
 use crate::destination::Destination;
+use crate::naming::named_slot;
 use crate::resets::reset;
 use identity_slots::{AssociationId, Provision};
-use mme_naming::named_slot;
 use mme_types::{
     Answers, Entry, Network, SentOctets, SoloEvent, StationNumber, StationState, UeBody, UeMessage,
     is_broadcast,

@@ -115,8 +115,8 @@ impl SentOctets {
         let _ = &self.octets;
     }
 
-    /// Zeros stand in place of the octets of a message that may carry a key: of INITIAL CONTEXT SETUP REQUEST, which has KeNB, and of
-    /// PATH SWITCH REQUEST ACKNOWLEDGE, which has NH (TS 36.413 clauses 9.1.4.1 and 9.1.5.9). Takes no memory.
+    /// Zeros stand in place of the octets of a message that may carry a key: of INITIAL CONTEXT SETUP REQUEST, which has KeNB,
+    /// and of PATH SWITCH REQUEST ACKNOWLEDGE, which has NH (TS 36.413 clauses 9.1.4.1 and 9.1.5.9). Takes no memory.
     pub fn forget(&mut self)
         ensures { self.new ≡ without_key self.old }
     {

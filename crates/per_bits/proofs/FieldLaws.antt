@@ -12,7 +12,7 @@ use Rattle.per_streams.specs.declared.fault.PerError.TheVariants.{NoMemory, Faul
 use Rattle.per_streams.specs.Bits.{Place, pad, bits, value, take_at, align_at, aligned_bits_at}
 use Rattle.per_streams.specs.BitLaws.{length-bits, value_below, value-push, bits-value}
 use Rattle.per_streams.specs.PartLaws.{bits-split, bits-join, bit-is}
-use Rattle.per_numbers.specs.Writing.{Wrote}
+use Rattle.per_streams.specs.Writing.{Wrote}
 use Rattle.per_bits.specs.declared.kept.Kept.{Kept}
 use Rattle.per_bits.specs.declared.kept.Kept.TheVariants.{Number}
 use Rattle.per_bits.specs.Kept.{IsKept, kept_bits}

@@ -11,7 +11,7 @@ use Rattle.per_streams.specs.Bits.{◌>>=◌, Fails, bits, octet_bits, pad, padd
 use Rattle.per_streams.specs.BitLaws.{length-bits, length-octet_bits}
 use Rattle.per_streams.specs.OctetLaws.{bytes-octets_of}
 use Rattle.per_streams.specs.WholeOctets.{bytes-below}
-use Rattle.per_numbers.specs.Writing.{Wrote}
+use Rattle.per_streams.specs.Writing.{Wrote}
 use Rattle.per_bits.specs.Spelling.{length_octets}
 use Rattle.per_bits.specs.Writing.{count_after, write_string, write_whole}
 use Rattle.per_bits.specs.WritingLaws.{padded-bits}

@@ -8,7 +8,7 @@ use Rattle.per_streams.specs.declared.fault.PerError.{PerError}
 use Rattle.per_streams.specs.declared.fault.PerError.TheVariants as errors
 use Rattle.per_streams.specs.Bits.{Place, ◌>>=◌, Fails, open_at, bit_at}
 use Rattle.per_streams.specs.Each.{times}
-use Rattle.per_numbers.specs.Writing.{Wrote}
+use Rattle.per_streams.specs.Writing.{Wrote}
 use Rattle.per_bits.specs.Reading.{whole_at, inside_at}
 use Rattle.per_bits.specs.Spelling.{trues}
 use Rattle.per_bits.specs.Writing.{write_each}

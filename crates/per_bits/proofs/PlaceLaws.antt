@@ -1,7 +1,7 @@
 -- What is written depends on where in an octet it begins, and on nothing else before it.
 use Rattle.std.proofs.Common.{◌≡◌, ℕ, ◌+◌, ◌-◌, ◌%◌, Bool, false, cond, ltb, List, [], ◌∷◌, ◌++◌, length, replicate, Option, Some, None, refl, ap, ◌∙◌, inl, inr, ◌⊎◌, arith}
 use Rattle.per_streams.specs.Bits.{bits, octet_bits, pad, padded}
-use Rattle.per_numbers.specs.Numbers.{offset_bits, octets_for, whole, width_of}
+use Rattle.per_streams.specs.Numbers.{offset_bits, octets_for, whole, width_of}
 use Rattle.per_bits.specs.Formats.{Format, number, octets, octets_between, octet_string, bit_string, bits_between, enumerated, closed, items, open_type, plain, sequence, choice, Fields, done, must, may, skip, fixed, marked, Alternatives, last, either, Value, Values, Chosen, alternatives}
 use Rattle.per_bits.specs.Spelling.{length_octets}
 use Rattle.per_bits.specs.Writing.{presence, index_of}

@@ -5,10 +5,10 @@ use Rattle.per_streams.specs.declared.fault.PerFault.{PerFault}
 use Rattle.per_streams.specs.declared.fault.PerFault.TheVariants.{Range}
 use Rattle.per_streams.specs.Octet.{all_below}
 use Rattle.per_streams.specs.Bits.{octet_bits, pad, ◌>>=◌, padded}
-use Rattle.per_numbers.specs.Numbers.{whole}
+use Rattle.per_streams.specs.Numbers.{whole}
 use Rattle.per_bits.specs.Formats.{Format, number, octets, octets_between, octet_string, bit_string, bits_between, enumerated, closed, items, open_type, plain, sequence, choice, Fields, done, must, may, skip, fixed, marked, Alternatives, last, either, Value, Values, Chosen, alternatives}
 use Rattle.per_bits.specs.Writing.{presence, index_of, write_at, write_fields, write_chosen, write_octets, write_aligned, write_length, write_string, write_bits, write_enumerated, write_each, write_whole, write_optional}
-use Rattle.per_numbers.specs.Writing.{write_number}
+use Rattle.per_streams.specs.Writing.{write_number}
 use Rattle.per_bits.specs.Written.{aligned_form, length_form, string_form, name_form, each_form, optional_form, written, written_fields, written_chosen, number_fits, string_fits, name_fits, each_fits, optional_fits, writable, writable_fields, writable_chosen}
 
 -- bits after the bits so far where a test holds, and else Range

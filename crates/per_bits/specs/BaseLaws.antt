@@ -6,7 +6,7 @@ use Rattle.per_streams.specs.declared.fault.PerFault.TheVariants.{Range}
 use Rattle.per_streams.specs.Bits.{value, bits, octet_bits, pad, IsBytes, ◌>>=◌, take_at, whole_octets_at, aligned_octets_at}
 use Rattle.per_bits.specs.Spelling.{SpellsOctets}
 use Rattle.per_bits.specs.Reading.{octets_at}
-use Rattle.per_numbers.specs.Reading.{small_at}
+use Rattle.per_streams.specs.Reading.{small_at}
 use Rattle.per_streams.specs.BitLaws.{value-bits, bits-value, length-bits}
 use Rattle.per_streams.specs.Exact.{Exact, IsBits, exact_take, Bind, exact_bind, Nothing, exact_ok, Never, exact_err, exact_same, Cond, exact_cond}
 use Rattle.per_streams.specs.OctetLaws.{AreOctets, AlignedStep, exact_whole_octets, exact_aligned_octets}

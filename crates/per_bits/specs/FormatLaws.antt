@@ -8,9 +8,9 @@ use Rattle.per_streams.specs.Bits.{value, bits, Place, start, octet_bits, pad, â
 use Rattle.per_bits.specs.Formats.{Format, number, octets, octets_between, octet_string, bit_string, bits_between, enumerated, closed, items, open_type, plain, sequence, choice, Fields, done, must, may, skip, fixed, marked, Alternatives, last, either, Value, Values, optionals, alternatives, flag_of, flags_after, left_of, right_of}
 use Rattle.per_bits.specs.Spelling.{IfLeft, IfRight, SpellsNumber, SpellsAligned, SpellsBits, SpellsAlignedBits, length_octets, SpellsLength, SpellsString, SpellsClosed, SpellsEnumerated, SpellsOptional, SpellsSkipped, trues, SpellsAdditions, Whole, Spells, SpellsFields, SpellsChosen, SpellsWhole}
 use Rattle.per_streams.specs.Each.{SpellsEach, times}
-use Rattle.per_numbers.specs.Numbers.{offset_bits, width_of}
+use Rattle.per_streams.specs.Numbers.{offset_bits, width_of}
 use Rattle.per_bits.specs.Reading.{between_at, bits_at, bits_between_at, closed_at, small_number_at, extended_at, root_at, enumerated_at, optional_at, skipped_at, additions_at, whole_at, inside_at, read_at, fields_at, chosen_at, complete_at}
-use Rattle.per_numbers.specs.Reading.{offset_at, small_at, large_at, number_at}
+use Rattle.per_streams.specs.Reading.{offset_at, small_at, large_at, number_at}
 use Rattle.per_streams.specs.Exact.{Exact, Takes, IsBits, exact_take, Bind, exact_bind, Nothing, exact_ok, Never, exact_err, exact_same, Each, exact_times, Cond, exact_cond}
 use Rattle.per_streams.specs.BitLaws.{ok_is, bind_ok, okay, value_below, bits-value, value-bits, length-bits}
 use Rattle.per_bits.specs.BaseLaws.{exact_octets, IsSmall, exact_small}

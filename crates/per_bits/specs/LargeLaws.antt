@@ -6,9 +6,9 @@ use Rattle.std.proofs.lemmas.List.{append-nil}
 use Rattle.std.proofs.Math.Pow.{pow_mono}
 use Rattle.per_streams.specs.declared.fault.PerFault.TheVariants.{Range, NotFewest}
 use Rattle.per_streams.specs.Bits.{value, bits, pad, ◌>>=◌, take_at, align_at}
-use Rattle.per_numbers.specs.Numbers.{octets_for, width_of}
-use Rattle.per_numbers.specs.NumberLaws.{octets-fit, octets-mono}
-use Rattle.per_numbers.specs.Reading.{small_at, large_at}
+use Rattle.per_streams.specs.Numbers.{octets_for, width_of}
+use Rattle.per_streams.specs.NumberLaws.{octets-fit, octets-mono}
+use Rattle.per_streams.specs.Reading.{small_at, large_at}
 use Rattle.per_streams.specs.BitLaws.{value_below, value-bits, bits-value, length-bits}
 use Rattle.per_streams.specs.Exact.{Exact, IsBits, exact_take, Bind, exact_bind, Nothing, exact_ok, Never, exact_err, exact_same, Cond, exact_cond}
 use Rattle.per_streams.specs.OctetLaws.{IsPad, exact_align}

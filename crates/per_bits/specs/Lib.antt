@@ -11,7 +11,6 @@ pub mod LargeLaws
 pub mod FormatLaws
 pub mod WritingLaws
 -- whole numbers, for those who stand on the formats
-pub use Rattle.per_numbers.specs.Numbers
+pub use Rattle.per_streams.specs.Numbers
 -- crates below, passed on with all of their definitions
 pub use Rattle.per_streams.specs as per_streams
-pub use Rattle.per_numbers.specs as per_numbers

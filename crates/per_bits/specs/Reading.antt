@@ -7,7 +7,7 @@ use Rattle.per_streams.specs.declared.fault.PerFault.TheVariants.{Range, Alterna
 use Rattle.per_streams.specs.declared.fault.PerError.{PerError}
 use Rattle.per_streams.specs.Bits.{Place, start, ◌>>=◌, take_at, end_at, whole_octets_at, aligned_octets_at, open_at, bit_at, aligned_bits_at, Fails}
 use Rattle.per_streams.specs.Each.{times}
-use Rattle.per_numbers.specs.Reading.{number_at}
+use Rattle.per_streams.specs.Reading.{number_at}
 use Rattle.per_bits.specs.Formats.{left_of, right_of, Format, Fields, Alternatives, Value, Values, Chosen, optionals, alternatives, flag_of, flags_after, number, octets, octets_between, octet_string, bit_string, bits_between, enumerated, closed, items, open_type, plain, sequence, choice, done, must, may, skip, fixed, marked, last, either}
 use Rattle.per_bits.specs.Spelling.{trues}
 

@@ -5,7 +5,7 @@ use Rattle.per_streams.specs.Bits.{Place, ◌>>=◌}
 use Rattle.per_bits.specs.Formats.{Format, Value, extensions}
 use Rattle.per_bits.specs.Reading.{read_at, skipped_at, additions_at}
 use Rattle.per_bits.specs.Writing.{write_at}
-use Rattle.per_numbers.specs.Writing.{write_number}
+use Rattle.per_streams.specs.Writing.{write_number}
 
 -- iE-Extensions, then extension additions, each where it stands
 abbrev pub later_at : Bool → Bool → Place → Result (Unit {0} × Place) PerFault

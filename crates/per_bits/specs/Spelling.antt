@@ -3,7 +3,7 @@ use Rattle.std.specs.Prelude.{◌≡◌, ℕ, zero, suc, ◌+◌, ◌-◌, ◌^�
 use Rattle.std.proofs.Common.{inl, inr}
 use Rattle.per_streams.specs.Bits.{octet_bits, pad, IsBytes}
 use Rattle.per_streams.specs.Each.{SpellsEach}
-use Rattle.per_numbers.specs.Numbers.{whole}
+use Rattle.per_streams.specs.Numbers.{whole}
 use Rattle.per_bits.specs.Formats.{Format, Fields, Alternatives, Value, Values, Chosen, optionals, alternatives, flag_of, flags_after, number, octets, octets_between, octet_string, bit_string, bits_between, enumerated, closed, items, open_type, plain, sequence, choice, done, must, may, skip, fixed, marked, last, either}
 
 abbrev pub IfSomeOr : {A : Type 0} → Option A → Type 0 → (A → Type 0) → Type 0

@@ -6,7 +6,7 @@ use Rattle.per_streams.specs.declared.fault.PerFault.TheVariants.{Range}
 use Rattle.per_streams.specs.Octet.{all_below}
 use Rattle.per_streams.specs.Bits.{octet_bits, padded, pad, ◌>>=◌}
 use Rattle.per_bits.specs.Formats.{Format, number, octets, octets_between, octet_string, bit_string, bits_between, enumerated, closed, items, open_type, plain, sequence, choice, Fields, done, must, may, skip, fixed, marked, Alternatives, last, either, Value, Values, Chosen, alternatives}
-use Rattle.per_numbers.specs.Writing.{write_number}
+use Rattle.per_streams.specs.Writing.{write_number}
 use Rattle.per_bits.specs.Spelling.{length_octets}
 
 unfoldable pub write_octets : ℕ → List ℕ → List Bool → Result (List Bool) PerFault

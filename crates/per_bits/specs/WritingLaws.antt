@@ -6,12 +6,12 @@ use Rattle.per_streams.specs.declared.fault.PerFault.{PerFault}
 use Rattle.per_streams.specs.declared.fault.PerFault.TheVariants.{Range}
 use Rattle.per_streams.specs.Bits.{octet_bits, pad, padding, IsBytes, ◌>>=◌, padded}
 use Rattle.per_bits.specs.Formats.{Format, number, octets, octets_between, octet_string, bit_string, bits_between, enumerated, closed, items, open_type, plain, sequence, choice, Fields, done, must, may, skip, fixed, marked, Alternatives, last, either, Value, Values, Chosen, optionals, alternatives}
-use Rattle.per_numbers.specs.Numbers.{offset_bits}
+use Rattle.per_streams.specs.Numbers.{offset_bits}
 use Rattle.per_bits.specs.Spelling.{length_octets, SpellsNumber, SpellsOctets, SpellsAligned, SpellsBits, SpellsAlignedBits, SpellsLength, SpellsString, SpellsClosed, SpellsEnumerated, SpellsOptional, Whole, Spells, SpellsFields, SpellsChosen, SpellsWhole}
 use Rattle.per_streams.specs.Each.{SpellsEach}
 use Rattle.per_bits.specs.Reading.{complete_at}
 use Rattle.per_bits.specs.Writing.{write_at, write_fields, write_chosen, write_each, write_optional, presence, index_of, write_octets, write_aligned, write_length, write_string, write_bits, write_enumerated, write_whole, complete_write}
-use Rattle.per_numbers.specs.Writing.{write_number}
+use Rattle.per_streams.specs.Writing.{write_number}
 use Rattle.per_streams.specs.Octet.{all_below}
 use Rattle.per_streams.specs.BitLaws.{bind_ok, where_ok, ok_is}
 use Rattle.per_streams.specs.OctetLaws.{bits-octets_of}

@@ -3,7 +3,7 @@ use Rattle.std.specs.Prelude.{◌≡◌, ℕ, ◌+◌, ◌-◌, ◌^◌, ◌&&�
 use Rattle.std.proofs.Common.{inl, inr}
 use Rattle.per_streams.specs.Octet.{all_below}
 use Rattle.per_streams.specs.Bits.{octet_bits, pad, padded}
-use Rattle.per_numbers.specs.Numbers.{whole}
+use Rattle.per_streams.specs.Numbers.{whole}
 use Rattle.per_bits.specs.Spelling.{length_octets}
 use Rattle.per_bits.specs.Formats.{Format, number, octets, octets_between, octet_string, bit_string, bits_between, enumerated, closed, items, open_type, plain, sequence, choice, Fields, done, must, may, skip, fixed, marked, Alternatives, last, either, Value, Values, Chosen, alternatives}
 use Rattle.per_bits.specs.Writing.{presence, index_of}

@@ -4,14 +4,13 @@ ghost use Rattle.std.specs.Prelude.{◌≡◌, ◌+◌, ◌-◌, ◌*◌, ◌++�
 ghost use Rattle.per_streams.specs.Bits.{Gives, Answers, bits, octet_bits, aligned_bits_at};
 ghost use Rattle.per_streams.specs.Octet.{IsString};
 ghost use Rattle.per_bits.specs.Reading.{bits_between_at, read_at};
-ghost use Rattle.per_numbers.specs.Reading.{number_at};
+ghost use Rattle.per_streams.specs.Reading.{number_at};
 ghost use Rattle.per_bits.specs.Formats.{bits_between};
 ghost use Rattle.per_bits.specs.Writing.{write_at};
-ghost use Rattle.per_numbers.specs.Writing.{Wrote};
+ghost use Rattle.per_streams.specs.Writing.{Wrote};
 
 use crate::element::Element;
-use per_numbers::{offset_of, put_number};
-use per_streams::{BitReader, BitWriter, PerError, PerFault};
+use per_streams::{BitReader, BitWriter, PerError, PerFault, offset_of, put_number};
 use std::alloc::Global;
 use std::marker::Model;
 
@@ -78,7 +77,7 @@ impl<'a, const MIN: u64, const MAX: u64> Element<'a> for BitString<'a, MIN, MAX>
 
     ghost view = { λ s. s };
 
-    #[tactic(auto, unfolding(crate::specs::Reading::bits_between_at, per_numbers::specs::Reading::number_at))]
+    #[tactic(auto, unfolding(crate::specs::Reading::bits_between_at, per_streams::specs::Reading::number_at))]
     fn read(_alloc: Global, reader: &mut BitReader<'a>) -> Result<Self, PerError> {
         let over = offset_of(MAX.saturating_sub(MIN), reader)?;
         let (octets, last, more) = take_string(MIN + over, reader)?;

@@ -4,17 +4,16 @@ ghost use Rattle.std.specs.Prelude.{◌≡◌, ◌++◌, ◌∷◌, ◌≤◌, [
 ghost use Rattle.per_streams.specs.declared.fault.PerFault.TheVariants.{Alternative};
 ghost use Rattle.per_streams.specs.Bits.{Answers};
 ghost use Rattle.per_bits.specs.Reading.{closed_at};
-ghost use Rattle.per_numbers.specs.Reading.{number_at};
-ghost use Rattle.per_numbers.specs.Writing.{write_number, Wrote};
+ghost use Rattle.per_streams.specs.Reading.{number_at};
+ghost use Rattle.per_streams.specs.Writing.{write_number, Wrote};
 ghost use Rattle.per_bits.specs.Sequences.{write_alternative};
 
 use crate::element::Element;
-use per_numbers::{offset_of, put_root};
-use per_streams::{BitReader, BitWriter, PerError, PerFault};
+use per_streams::{BitReader, BitWriter, PerError, PerFault, offset_of, put_root};
 use std::alloc::Global;
 
 /// The index of an alternative, the last of which has index `last`; an extension bit of 1 is Alternative.
-#[tactic(auto, unfolding(per_numbers::specs::Reading::number_at))]
+#[tactic(auto, unfolding(per_streams::specs::Reading::number_at))]
 #[inline(always)]
 pub fn take_choice(last: u64, reader: &mut BitReader) -> Result<u64, PerFault>
     ensures exact { Answers (λ n. n) result reader.new (closed_at Alternative (number_at 0 last) reader.old) }

@@ -5,7 +5,7 @@ ghost use Rattle.per_streams.specs.Bits.{Place, Gives};
 ghost use Rattle.per_bits.specs.Formats.{Format, Value};
 ghost use Rattle.per_bits.specs.Reading.{read_at};
 ghost use Rattle.per_bits.specs.Writing.{write_at};
-ghost use Rattle.per_numbers.specs.Writing.{Wrote};
+ghost use Rattle.per_streams.specs.Writing.{Wrote};
 
 use per_streams::{BitReader, BitWriter, PerError};
 use std::alloc::Global;

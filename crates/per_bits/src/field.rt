@@ -7,7 +7,7 @@ ghost use Rattle.per_bits.specs.Kept.{IsKept, kept_bits, kept_of, kept-back};
 ghost use Rattle.per_bits.specs.Reading.{bits_at, read_at};
 ghost use Rattle.per_bits.specs.Formats.{bit_string};
 ghost use Rattle.per_bits.specs.Writing.{write_at, write_bits};
-ghost use Rattle.per_numbers.specs.Writing.{Wrote};
+ghost use Rattle.per_streams.specs.Writing.{Wrote};
 
 use crate::element::Element;
 use crate::kept::Kept;

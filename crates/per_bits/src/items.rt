@@ -4,14 +4,13 @@ ghost use Rattle.std.specs.Prelude.{◌≡◌, ◌≤◌, ◌-◌, ◌↔◌, �
 ghost use Rattle.per_streams.specs.Bits.{Place, Gives};
 ghost use Rattle.per_bits.specs.Formats.{Format, Value, items};
 ghost use Rattle.per_bits.specs.Reading.{read_at};
-ghost use Rattle.per_numbers.specs.Reading.{number_at};
+ghost use Rattle.per_streams.specs.Reading.{number_at};
 ghost use Rattle.per_streams.specs.Each.{times};
 ghost use Rattle.per_bits.specs.Writing.{write_at, write_each};
-ghost use Rattle.per_numbers.specs.Writing.{Wrote, write_number};
+ghost use Rattle.per_streams.specs.Writing.{Wrote, write_number};
 
 use crate::element::Element;
-use per_numbers::{offset_of, put_number};
-use per_streams::{BitReader, BitWriter, PerError};
+use per_streams::{BitReader, BitWriter, PerError, offset_of, put_number};
 use std::alloc::{AllocError, Global};
 use std::marker::Model;
 
@@ -117,7 +116,7 @@ impl<'a, T: Element<'a>, const MIN: usize, const MAX: usize> Element<'a> for Ite
 
     ghost view = { λ v. map T.view v };
 
-    #[tactic(auto, unfolding(per_numbers::specs::Reading::number_at))]
+    #[tactic(auto, unfolding(per_streams::specs::Reading::number_at))]
     fn read(alloc: Global, reader: &mut BitReader<'a>) -> Result<Self, PerError> {
         let more = offset_of(MAX.saturating_sub(MIN) as u64, reader)?;
         let values = read_times::<T>(alloc, MIN + more as usize, reader)?;

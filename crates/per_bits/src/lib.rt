@@ -31,8 +31,7 @@ pub use open::{
     count_after, put_length, read_complete, read_open, take_length, take_open, take_small_number,
     write_complete, write_counted, write_open,
 };
-pub use per_numbers::{Whole, offset_of, put_number};
-pub use per_streams::{BitReader, BitWriter, PerError, PerFault};
+pub use per_streams::{BitReader, BitWriter, PerError, PerFault, Whole, offset_of, put_number};
 pub use sequence::{
     put_flags, put_three_flags, read_pair, read_three, read_two, skip_later, take_flags,
     take_three_flags,

@@ -6,7 +6,7 @@ ghost use Rattle.per_streams.specs.Bits.{Gives};
 ghost use Rattle.per_bits.specs.Reading.{octets_at, read_at};
 ghost use Rattle.per_bits.specs.Formats.{octets};
 ghost use Rattle.per_bits.specs.Writing.{write_at, write_octets};
-ghost use Rattle.per_numbers.specs.Writing.{Wrote};
+ghost use Rattle.per_streams.specs.Writing.{Wrote};
 
 use crate::element::Element;
 use per_streams::{BitReader, BitWriter, PerError};

@@ -6,11 +6,10 @@ ghost use Rattle.per_bits.specs.Formats.{open_type};
 ghost use Rattle.per_bits.specs.Reading.{read_at, whole_at, small_number_at, complete_at, GivesWhole, inside_at};
 ghost use Rattle.per_bits.specs.Spelling.{length_octets};
 ghost use Rattle.per_bits.specs.Writing.{count_after, write_at, write_length, write_string, complete_write};
-ghost use Rattle.per_numbers.specs.Writing.{Wrote};
+ghost use Rattle.per_streams.specs.Writing.{Wrote};
 
 use crate::element::Element;
-use per_numbers::offset_of;
-use per_streams::{BitReader, BitWriter, PerError, PerFault};
+use per_streams::{BitReader, BitWriter, PerError, PerFault, offset_of};
 use std::alloc::Global;
 
 // A length below 128 is one octet; one below 16384 is two, the first of them 128 to 191; more comes in fragments
@@ -166,7 +165,7 @@ pub fn count_after(place: usize, writer: &mut BitWriter) -> Result<(), PerError>
 }
 
 /// Reads a normally small number (X.691 clause 11.6) from 0 to 63; a first bit of 1 is Range.
-#[tactic(auto, unfolding(per_numbers::specs::Reading::number_at))]
+#[tactic(auto, unfolding(per_streams::specs::Reading::number_at))]
 pub fn take_small_number(reader: &mut BitReader) -> Result<u64, PerFault>
     ensures exact { Answers (λ n. n) result reader.new (small_number_at reader.old) }
     ensures within { IfOk result (λ n. n ≤ 63) }

@@ -4,14 +4,13 @@
 ghost use Rattle.std.specs.Prelude.{◌≡◌, ◌+◌, ◌≤◌, true};
 ghost use Rattle.per_streams.specs.Bits.{Answers, Gives, bit_at, open_at};
 ghost use Rattle.per_bits.specs.Reading.{skipped_at, additions_at, read_at, Counts};
-ghost use Rattle.per_numbers.specs.Reading.{number_at};
+ghost use Rattle.per_streams.specs.Reading.{number_at};
 ghost use Rattle.per_streams.specs.Each.{times};
 ghost use Rattle.per_bits.specs.Formats.{extensions, raw};
 ghost use Rattle.per_bits.specs.Spelling.{trues};
 
 use crate::open::{take_open, take_small_number};
-use per_numbers::offset_of;
-use per_streams::{BitReader, PerFault};
+use per_streams::{BitReader, PerFault, offset_of};
 
 /// The greatest id of an element (TS 36.413 clause 9.3.7).
 pub const GREATEST_ID: u64 = 65535;
@@ -78,7 +77,7 @@ pub fn skip_extensions(present: bool, reader: &mut BitReader) -> Result<(), PerF
 }
 
 // out of line, as mostly there are none
-#[tactic(auto, unfolding(per_numbers::specs::Reading::number_at))]
+#[tactic(auto, unfolding(per_streams::specs::Reading::number_at))]
 #[inline(never)]
 fn pass_extensions(reader: &mut BitReader) -> Result<(), PerFault>
     ensures { Answers (λ _. tt) result reader.new (skipped_at true (read_at extensions) reader.old) }
@@ -96,7 +95,7 @@ fn pass_raw(count: u64, reader: &mut BitReader) -> Result<(), PerFault>
     Ok(())
 }
 
-#[tactic(auto, unfolding(per_numbers::specs::Reading::number_at, per_streams::specs::Each::times))]
+#[tactic(auto, unfolding(per_streams::specs::Reading::number_at, per_streams::specs::Each::times))]
 fn pass_one(reader: &mut BitReader) -> Result<(), PerFault>
     ensures { Answers (λ _. tt) result reader.new (skipped_at true (read_at raw) reader.old) }
 {

@@ -4,14 +4,13 @@ ghost use Rattle.std.specs.Prelude.{◌≡◌, length, OnOk, ◌<◌};
 ghost use Rattle.per_streams.specs.Bits.{Gives};
 ghost use Rattle.per_bits.specs.Formats.{octet_string, octets_between};
 ghost use Rattle.per_bits.specs.Reading.{between_at, read_at};
-ghost use Rattle.per_numbers.specs.Reading.{number_at};
+ghost use Rattle.per_streams.specs.Reading.{number_at};
 ghost use Rattle.per_bits.specs.Writing.{write_at, write_aligned, write_length, write_string};
-ghost use Rattle.per_numbers.specs.Writing.{Wrote};
+ghost use Rattle.per_streams.specs.Writing.{Wrote};
 
 use crate::element::Element;
 use crate::open::{put_length, take_open};
-use per_numbers::{offset_of, put_number};
-use per_streams::{BitReader, BitWriter, PerError, PerFault};
+use per_streams::{BitReader, BitWriter, PerError, PerFault, offset_of, put_number};
 use std::alloc::Global;
 
 /// Up to 16383 octets after their length, lent by the encoding (X.691 clause 17.8).
@@ -67,7 +66,7 @@ impl<'a, const MIN: u64, const MAX: u64> Element<'a> for SizedString<'a, MIN, MA
 
     ghost view = { λ s. s.octets.now };
 
-    #[tactic(auto, unfolding(crate::specs::Reading::between_at, per_numbers::specs::Reading::number_at))]
+    #[tactic(auto, unfolding(crate::specs::Reading::between_at, per_streams::specs::Reading::number_at))]
     fn read(_alloc: Global, reader: &mut BitReader<'a>) -> Result<Self, PerError> {
         let more = offset_of(MAX.saturating_sub(MIN), reader)?;
         let octets = reader.take_octets((MIN + more) as usize)?;

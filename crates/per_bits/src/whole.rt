@@ -5,11 +5,10 @@ ghost use Rattle.per_streams.specs.Bits.{Gives};
 ghost use Rattle.per_bits.specs.Formats.{number};
 ghost use Rattle.per_bits.specs.Reading.{read_at};
 ghost use Rattle.per_bits.specs.Writing.{write_at};
-ghost use Rattle.per_numbers.specs.Writing.{Wrote};
+ghost use Rattle.per_streams.specs.Writing.{Wrote};
 
 use crate::element::Element;
-use per_numbers::{Whole, put_number};
-use per_streams::{BitReader, BitWriter, PerError};
+use per_streams::{BitReader, BitWriter, PerError, Whole, put_number};
 use std::alloc::Global;
 
 impl<'a, const LO: u64, const HI: u64> Element<'a> for Whole<LO, HI> {

@@ -5,7 +5,7 @@ ghost use Rattle.per_streams.specs.Bits.{Gives};
 ghost use Rattle.per_bits.specs.Formats.{closed};
 ghost use Rattle.per_bits.specs.Reading.{read_at, optional_at};
 ghost use Rattle.per_bits.specs.Writing.{write_at, write_optional};
-ghost use Rattle.per_numbers.specs.Writing.{Wrote};
+ghost use Rattle.per_streams.specs.Writing.{Wrote};
 
 use crate::element::Element;
 use per_streams::{BitReader, BitWriter, PerError, PerFault};

@@ -9,3 +9,7 @@ pub mod Times
 pub mod WholeOctets
 pub mod TwoOctets
 pub mod PlaceLaws
+pub mod Numbers
+pub mod NumberLaws
+pub mod Reading
+pub mod Writing

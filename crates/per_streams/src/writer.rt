@@ -121,7 +121,8 @@ impl BitWriter {
         requires some { 0 < count }
         requires count { count ≤ 8 }
         requires fits { number < 2 ^ count }
-        ensures ok { IfOk result (λ octet. self.new ++ bits 8 octet ≡ (self.old ++ bits count number) ++ pad (length self.old + count)) }
+        ensures ok { IfOk result (λ octet. self.new ++ bits 8 octet
+            ≡ (self.old ++ bits count number) ++ pad (length self.old + count)) }
         ensures whole { IfOk result (λ _. length self.new % 8 ≡ 0) }
         ensures memory { OnErr result (result ≡ Err NoMemory) }
     {

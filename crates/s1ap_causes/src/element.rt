@@ -5,7 +5,7 @@ ghost use Rattle.per_bits.specs.per_streams.Bits.{Gives};
 ghost use Rattle.per_bits.specs.Reading.{read_at};
 ghost use Rattle.per_bits.specs.Formats.{enumerated};
 ghost use Rattle.per_bits.specs.Writing.{write_at};
-ghost use Rattle.per_bits.specs.per_numbers.Writing.{Wrote};
+ghost use Rattle.per_bits.specs.per_streams.Writing.{Wrote};
 ghost use Rattle.per_bits.specs.Names.{view_of_name, IsName};
 ghost use Rattle.s1ap_causes.specs.Causes.{cause, typed_radio_network, typed_transport, typed_nas, typed_protocol, typed_misc, typed_cause};
 

@@ -5,7 +5,7 @@ ghost use Rattle.per_streams.specs.Bits.{Gives};
 ghost use Rattle.per_bits.specs.Formats.{octet_string};
 ghost use Rattle.per_bits.specs.Reading.{read_at, fields_at, skipped_at, optional_at};
 ghost use Rattle.per_bits.specs.Writing.{write_at, write_fields, write_optional};
-ghost use Rattle.per_numbers.specs.Writing.{Wrote};
+ghost use Rattle.per_streams.specs.Writing.{Wrote};
 ghost use Rattle.s1ap_elements.specs.Formats.{ambr, arp, gbr, qos, erab_ends, erab_to_be_setup, erab_tunnel};
 ghost use Rattle.s1ap_elements.specs.Bearers.{typed_ambr, typed_arp, typed_gbr, typed_qos, erab_to_be_setup_lists, typed_erab_to_be_setup, typed_erab_tunnel};
 

@@ -3,8 +3,8 @@
 ghost use Rattle.std.specs.Prelude.{◌≡◌};
 ghost use Rattle.per_streams.specs.Bits.{Gives};
 ghost use Rattle.per_streams.specs.Each.{times};
-ghost use Rattle.per_numbers.specs.Reading.{number_at};
-ghost use Rattle.per_numbers.specs.Writing.{Wrote};
+ghost use Rattle.per_streams.specs.Reading.{number_at};
+ghost use Rattle.per_streams.specs.Writing.{Wrote};
 ghost use Rattle.per_bits.specs.Reading.{read_at};
 ghost use Rattle.per_bits.specs.Writing.{write_at};
 ghost use Rattle.s1ap_elements.specs.Formats.{item};
@@ -34,7 +34,7 @@ impl<'a, T: Element<'a>, const ID: u16, const CRITICALITY: u8> Element<'a>
 
     ghost view = { λ c. (T.view c.value, tt) };
 
-    #[tactic(auto, unfolding(per_numbers::specs::Reading::number_at, per_streams::specs::Each::times))]
+    #[tactic(auto, unfolding(per_streams::specs::Reading::number_at, per_streams::specs::Each::times))]
     fn read(alloc: Global, reader: &mut BitReader<'a>) -> Result<Self, PerError> {
         let id = offset_of(GREATEST_ID, reader)?;
         if id != ID as u64 {

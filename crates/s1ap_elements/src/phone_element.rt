@@ -4,7 +4,7 @@ ghost use Rattle.std.specs.Prelude.{◌≡◌};
 ghost use Rattle.per_streams.specs.Bits.{Gives};
 ghost use Rattle.per_bits.specs.Reading.{read_at};
 ghost use Rattle.per_bits.specs.Writing.{write_at};
-ghost use Rattle.per_numbers.specs.Writing.{Wrote};
+ghost use Rattle.per_streams.specs.Writing.{Wrote};
 ghost use Rattle.per_bits.specs.Names.{view_of_name, IsName};
 ghost use Rattle.s1ap_elements.specs.Formats.{tai, tai_item, eutran_cgi, s_tmsi, ue_paging_id, rrc_cause, cn_domain, ue_id_pair, ue_s1ap_ids, security_capabilities, security_context};
 ghost use Rattle.s1ap_elements.specs.Phones.{typed_tai, typed_tai_item, typed_eutran_cgi, typed_s_tmsi, ue_paging_id_lists, typed_ue_paging_id, typed_rrc_cause, typed_cn_domain, typed_ue_id_pair, typed_ue_s1ap_ids, typed_security_capabilities, typed_security_context};
@@ -263,7 +263,7 @@ impl<'a> Element<'a> for CnDomain {
 
     ghost view = { typed_cn_domain };
 
-    #[tactic(auto, unfolding(per_numbers::specs::Reading::number_at))]
+    #[tactic(auto, unfolding(per_streams::specs::Reading::number_at))]
     fn read(_alloc: Global, reader: &mut BitReader<'a>) -> Result<Self, PerError> {
         match offset_of(1, reader)? {
             0 => Ok(CnDomain::Ps),

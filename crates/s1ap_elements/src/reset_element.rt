@@ -5,7 +5,7 @@ ghost use Rattle.per_streams.specs.Bits.{Answers, Gives, bit_at};
 ghost use Rattle.per_streams.specs.Each.{times};
 ghost use Rattle.per_bits.specs.Reading.{read_at};
 ghost use Rattle.per_bits.specs.Writing.{write_at};
-ghost use Rattle.per_numbers.specs.Writing.{Wrote};
+ghost use Rattle.per_streams.specs.Writing.{Wrote};
 ghost use Rattle.per_bits.specs.Names.{view_of_name, IsName};
 ghost use Rattle.s1ap_elements.specs.Formats.{listed_association, reset_type};
 ghost use Rattle.s1ap_elements.specs.Resets.{typed_reset_all, typed_listed_association, typed_reset_type};

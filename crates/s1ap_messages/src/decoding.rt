@@ -4,9 +4,9 @@ ghost use Rattle.std.specs.Prelude.{◌≡◌};
 ghost use Rattle.s1ap_rows.specs.Answers.{Answers};
 ghost use Rattle.s1ap_pdus.specs.Pdus.{lists, decoded};
 
+use crate::procedures::message_type_of;
 use crate::{context, interface, movement, setup, transport};
 use s1ap_pdus::{MessageType, S1apFault, S1apPdu, named_again};
-use s1ap_procedures::message_type_of;
 use s1ap_rows::read_frame;
 use std::alloc::Global;
 

@@ -14,6 +14,7 @@ mod context;
 mod decoding;
 mod interface;
 mod movement;
+mod procedures;
 mod setup;
 mod transport;
 

@@ -6,10 +6,10 @@ use Rattle.std.proofs.lemmas.Bool.Decides.{nat_tests}
 use Rattle.per_streams.specs.declared.fault.PerFault.TheVariants.{Range}
 use Rattle.per_streams.specs.Octet.{all_below}
 use Rattle.per_streams.specs.Bits.{◌>>=◌, bits, octet_bits, octets_of_bits, pad, padding, padded}
-use Rattle.per_bits.specs.per_numbers.Numbers.{offset_bits, whole, width_of}
+use Rattle.per_bits.specs.per_streams.Numbers.{offset_bits, whole, width_of}
 use Rattle.per_bits.specs.Spelling.{length_octets}
 use Rattle.per_bits.specs.Writing.{write_aligned, write_length, write_string, write_whole}
-use Rattle.per_bits.specs.per_numbers.Writing.{write_number}
+use Rattle.per_bits.specs.per_streams.Writing.{write_number}
 use Rattle.per_streams.specs.BitLaws.{bind_ok, where_ok, ok_is, length-bits, length-octet_bits}
 use Rattle.s1ap_rows.specs.Criticalities.{criticality_number}
 use Rattle.s1ap_pdus.specs.Pdus.{longest}

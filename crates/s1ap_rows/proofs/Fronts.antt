@@ -6,8 +6,8 @@ use Rattle.per_streams.specs.declared.fault.PerFault.TheVariants.{Range}
 use Rattle.per_streams.specs.Bits.{bits, octet_bits, pad, padding}
 use Rattle.per_streams.specs.BitLaws.{bits-zero, length-bits}
 use Rattle.per_streams.specs.PartLaws.{bits-join}
-use Rattle.per_numbers.specs.Numbers.{offset_bits}
-use Rattle.per_numbers.specs.Writing.{write_number}
+use Rattle.per_streams.specs.Numbers.{offset_bits}
+use Rattle.per_streams.specs.Writing.{write_number}
 use Rattle.s1ap_rows.specs.Rows.{Rows, ie, end, needed, optional, unkept, Kept, row_count}
 use Rattle.s1ap_rows.specs.Writing.{count_of, write_front, write_head}
 use Rattle.s1ap_rows.proofs.Heads.{criticality_written, id_written, mark_octet, two_octets}

@@ -4,7 +4,7 @@ use Rattle.per_streams.specs.declared.fault.PerFault.{PerFault}
 use Rattle.s1ap_rows.specs.declared.fault.S1apFault.{S1apFault}
 use Rattle.s1ap_rows.specs.declared.fault.S1apFault.TheVariants as faults
 use Rattle.per_streams.specs.Bits.{Place}
-use Rattle.per_numbers.specs.Reading.{number_at}
+use Rattle.per_streams.specs.Reading.{number_at}
 use Rattle.s1ap_rows.specs.Rows.{Rows, Slots}
 use Rattle.s1ap_rows.specs.Reading.{put_at, elements_at}
 use Rattle.s1ap_rows.specs.Answers.{FailsAs}

@@ -7,8 +7,8 @@ use Rattle.per_streams.specs.BitLaws.{bits-zero, length-bits}
 use Rattle.per_streams.specs.PartLaws.{bits-join}
 use Rattle.per_bits.specs.Formats.{Format, Value, open_type}
 use Rattle.per_bits.specs.Writing.{write_at}
-use Rattle.per_numbers.specs.Numbers.{offset_bits, width_of}
-use Rattle.per_numbers.specs.Writing.{write_number}
+use Rattle.per_streams.specs.Numbers.{offset_bits, width_of}
+use Rattle.per_streams.specs.Writing.{write_number}
 use Rattle.s1ap_rows.specs.declared.criticality.Criticality.{Criticality}
 use Rattle.s1ap_rows.specs.declared.criticality.Criticality.TheVariants as criticalities
 use Rattle.s1ap_rows.specs.Criticalities.{criticality_number}

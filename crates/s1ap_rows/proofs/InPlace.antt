@@ -10,7 +10,7 @@ use Rattle.per_streams.specs.Bits.{◌>>=◌, Fails, bits, pad, padded}
 use Rattle.per_streams.specs.BitLaws.{length-bits}
 use Rattle.per_bits.specs.Formats.{Format, Value, number, open_type}
 use Rattle.per_bits.specs.Writing.{count_after, write_at, write_string, write_whole}
-use Rattle.per_numbers.specs.Writing.{write_number}
+use Rattle.per_streams.specs.Writing.{write_number}
 use Rattle.per_bits.proofs.OpenLaws.{StandsAfter, open_fails, open_room, open_written}
 use Rattle.per_bits.proofs.Placed.{Placed, placed_at, placed_nothing, placed_then, placed_after}
 use Rattle.per_bits.proofs.WrittenLaws.{put_if}

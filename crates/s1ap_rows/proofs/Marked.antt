@@ -6,8 +6,8 @@ use Rattle.per_streams.specs.Bits.{Place, bits, octet_bits, pad, padding, length
 use Rattle.per_streams.specs.BitLaws.{bits-zero, length-bits}
 use Rattle.per_streams.specs.PartLaws.{bits-join}
 use Rattle.per_streams.specs.TwoOctets.{past_two, Stand}
-use Rattle.per_numbers.specs.Numbers.{offset_bits, width_of, whole}
-use Rattle.per_numbers.specs.Reading.{number_at}
+use Rattle.per_streams.specs.Numbers.{offset_bits, width_of, whole}
+use Rattle.per_streams.specs.Reading.{number_at}
 use Rattle.per_bits.specs.Spelling.{length_octets}
 use Rattle.per_bits.specs.FormatLaws.{exact_number, exact_length}
 use Rattle.s1ap_rows.specs.Reading.{marked_at}

@@ -6,7 +6,7 @@ use Rattle.per_streams.specs.declared.fault.PerFault.TheVariants.{Range}
 use Rattle.per_streams.specs.Bits.{◌>>=◌, padded}
 use Rattle.per_bits.specs.Formats.{Format, Value, number, octet_string, open_type, raw}
 use Rattle.per_bits.specs.Writing.{write_at, write_each, write_string, write_whole, complete_write}
-use Rattle.per_numbers.specs.Writing.{write_number}
+use Rattle.per_streams.specs.Writing.{write_number}
 use Rattle.per_bits.specs.Written.{number_fits, string_fits, written, writable}
 use Rattle.per_bits.proofs.WrittenLaws.{put_if, writes, whole_written}
 use Rattle.s1ap_rows.specs.declared.criticality.Criticality.{Criticality}

@@ -7,9 +7,9 @@ use Rattle.per_streams.specs.Bits.{◌>>=◌}
 use Rattle.per_bits.specs.Formats.{closed, number}
 use Rattle.per_bits.specs.Spelling.{Spells, SpellsClosed, SpellsNumber, Whole}
 use Rattle.per_bits.specs.Reading.{closed_at, read_at, whole_at}
-use Rattle.per_numbers.specs.Reading.{number_at}
+use Rattle.per_streams.specs.Reading.{number_at}
 use Rattle.per_bits.specs.Writing.{write_at, write_string, write_whole}
-use Rattle.per_numbers.specs.Writing.{write_number}
+use Rattle.per_streams.specs.Writing.{write_number}
 use Rattle.per_streams.specs.BitLaws.{bind_ok}
 use Rattle.per_streams.specs.Exact.{Exact}
 use Rattle.per_bits.specs.FormatLaws.{exact, exact_pair, exact_closed, exact_number, whole_takes, whole_again}

@@ -8,7 +8,7 @@ use Rattle.per_streams.specs.Bits.{Place, start, ◌>>=◌, bit_at, open_at, end
 use Rattle.per_bits.specs.Formats.{Format, Value, raw, plain, items, must, done, number, octet_string, Fields, flag_of, flags_after}
 use Rattle.per_streams.specs.Each.{times}
 use Rattle.per_bits.specs.Reading.{read_at, whole_at, complete_at, skipped_at, additions_at, fields_at}
-use Rattle.per_numbers.specs.Reading.{number_at}
+use Rattle.per_streams.specs.Reading.{number_at}
 use Rattle.per_bits.specs.Spelling.{SpellsWhole}
 use Rattle.per_bits.specs.FormatLaws.{complete_takes, complete_again}
 use Rattle.per_streams.specs.BitLaws.{bind_ok, ok_is}

@@ -7,7 +7,7 @@ use Rattle.s1ap_rows.specs.declared.fault.S1apFault.TheVariants.{Syntax, Missing
 use Rattle.per_streams.specs.Bits.{Place, start, ◌>>=◌, bit_at, open_at, end_at}
 use Rattle.per_bits.specs.Formats.{Format, Value}
 use Rattle.per_bits.specs.Reading.{closed_at, skipped_at, additions_at, read_at, complete_at}
-use Rattle.per_numbers.specs.Reading.{number_at}
+use Rattle.per_streams.specs.Reading.{number_at}
 use Rattle.s1ap_rows.specs.Rows.{Rows, ie, end, needed, optional, unkept, Slots, Kept, no_slots}
 use Rattle.s1ap_rows.specs.Spelling.{may_skip, Raw, id_of, criticality_of, octets_of, has_id, body, Frame}
 

@@ -7,7 +7,7 @@ use Rattle.per_streams.specs.Bits.{◌>>=◌, padded}
 use Rattle.per_bits.specs.Formats.{Format, Value, open_type, raw}
 use Rattle.per_bits.specs.Spelling.{SpellsWhole}
 use Rattle.per_bits.specs.Writing.{write_at, write_each, write_string, write_whole, complete_write}
-use Rattle.per_numbers.specs.Writing.{write_number}
+use Rattle.per_streams.specs.Writing.{write_number}
 use Rattle.per_streams.specs.BitLaws.{bind_ok}
 use Rattle.per_bits.specs.WritingLaws.{complete_written}
 use Rattle.s1ap_rows.specs.declared.criticality.Criticality.{Criticality}

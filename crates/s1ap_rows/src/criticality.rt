@@ -2,7 +2,7 @@
 
 ghost use Rattle.std.specs.Prelude.{◌≡◌};
 ghost use Rattle.per_streams.specs.Bits.{Answers};
-ghost use Rattle.per_numbers.specs.Reading.{number_at};
+ghost use Rattle.per_streams.specs.Reading.{number_at};
 ghost use Rattle.s1ap_rows.specs.Criticalities.{criticality_number, criticality_named};
 
 use per_bits::{BitReader, LAST_CRITICALITY, PerFault, offset_of};
@@ -43,7 +43,7 @@ impl Criticality {
 }
 
 /// Takes a criticality (TS 36.413 clause 9.3.7).
-#[tactic(auto, unfolding(per_numbers::specs::Reading::number_at))]
+#[tactic(auto, unfolding(per_streams::specs::Reading::number_at))]
 #[inline(always)]
 pub fn take_criticality(reader: &mut BitReader) -> Result<Criticality, PerFault>
     ensures { Answers criticality_number result reader.new (number_at 0 2 reader.old) }

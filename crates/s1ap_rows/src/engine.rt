@@ -2,8 +2,8 @@
 
 ghost use Rattle.std.specs.Prelude.{true, ◌↔◌, ◌≡◌, ◌%◌, ◌/◌, ◌≤◌, OnErr, option_map};
 ghost use Rattle.per_streams.specs.Bits.{Place, Answers};
-ghost use Rattle.per_numbers.specs.Reading.{number_at};
-ghost use Rattle.per_numbers.specs.Writing.{Wrote};
+ghost use Rattle.per_streams.specs.Reading.{number_at};
+ghost use Rattle.per_streams.specs.Writing.{Wrote};
 ghost use Rattle.s1ap_rows.specs.Criticalities.{criticality_number};
 ghost use Rattle.s1ap_rows.specs.Spelling.{may_skip};
 ghost use Rattle.s1ap_rows.specs.Reading.{marked_at, pass_at, fill_slot, elements_at, fill_at};
@@ -131,7 +131,7 @@ pub fn pass(id: u16, reader: &mut BitReader) -> Result<(), S1apFault>
     }
 }
 
-#[tactic(auto, unfolding(per_numbers::specs::Reading::number_at))]
+#[tactic(auto, unfolding(per_streams::specs::Reading::number_at))]
 fn take_id(reader: &mut BitReader) -> Result<u16, PerFault>
     ensures { Answers (λ n. n) result reader.new (number_at 0 65535 reader.old) }
 {
@@ -155,7 +155,7 @@ fn read_elements<'a, M: Message<'a>>(
 }
 
 /// The elements of a message, from its octets.
-#[tactic(auto, unfolding(per_numbers::specs::Reading::number_at, crate::specs::Reading::fill_at))]
+#[tactic(auto, unfolding(per_streams::specs::Reading::number_at, crate::specs::Reading::fill_at))]
 pub fn fill_message<'a, M: Message<'a>>(
     alloc: Global,
     octets: &'a [u8],

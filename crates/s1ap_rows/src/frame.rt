@@ -2,9 +2,9 @@
 
 ghost use Rattle.std.specs.Prelude.{◌≡◌, ◌≤◌, [], IfOk};
 ghost use Rattle.per_bits.specs.Reading.{whole_at, closed_at};
-ghost use Rattle.per_numbers.specs.Reading.{number_at};
+ghost use Rattle.per_streams.specs.Reading.{number_at};
 ghost use Rattle.per_streams.specs.Each.{times};
-ghost use Rattle.per_numbers.specs.Writing.{Wrote};
+ghost use Rattle.per_streams.specs.Writing.{Wrote};
 ghost use Rattle.s1ap_rows.specs.Criticalities.{criticality_number};
 ghost use Rattle.s1ap_rows.specs.Reading.{frame_at};
 ghost use Rattle.s1ap_rows.specs.Writing.{write_front};
@@ -40,7 +40,7 @@ pub struct Frame<'a> {
 }
 
 /// The frame that octets spell, or their first fault.
-#[tactic(auto, unfolding(crate::specs::Reading::frame_at, per_bits::specs::Reading::whole_at, per_numbers::specs::Reading::number_at, per_streams::specs::Each::times))]
+#[tactic(auto, unfolding(crate::specs::Reading::frame_at, per_bits::specs::Reading::whole_at, per_streams::specs::Reading::number_at, per_streams::specs::Each::times))]
 pub fn read_frame<'a>(octets: &'a [u8]) -> Result<Frame<'a>, PerFault>
     ensures kinds { IfOk result (λ f. f.kind ≤ 2) }
     ensures exact { AnswersWhole (λ f. (f.kind, (f.code, (criticality_number f.criticality, (f.octets.now, tt)))))

@@ -2,7 +2,7 @@
 
 ghost use Rattle.std.specs.Prelude.{◌≡◌, ◌≤◌, ◌+◌, OnErr};
 ghost use Rattle.per_bits.specs.Reading.{GivesWhole};
-ghost use Rattle.per_numbers.specs.Writing.{Wrote};
+ghost use Rattle.per_streams.specs.Writing.{Wrote};
 ghost use Rattle.s1ap_rows.specs.Rows.{Rows, Slots, Kept, row_count, no_slots};
 ghost use Rattle.s1ap_rows.specs.Reading.{put_at, kept_of, message_at};
 ghost use Rattle.s1ap_rows.specs.Writing.{count_of, write_rows, write_pdu};

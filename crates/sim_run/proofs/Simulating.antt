@@ -16,9 +16,9 @@ use Rattle.trace_progress.specs.declared.progress.Progress.{Progress}
 use Rattle.trace_progress.specs.declared.progress.Progress.TheVariants.{Nothing}
 use Rattle.trace_progress.specs.Text.{prepended, play, played_text, lines_of, played_of, breaks}
 use Rattle.trace_progress.specs.TextLaws.{lines_of-nil, play-nil, prepended-ends}
-use Rattle.trace_lines.specs.trace_player.Watching.{failed_after_play}
-use Rattle.trace_lines.specs.OneLine.{IsOfLine}
-use Rattle.trace_lines.specs.Lines.{PlaysAll, StopsAt, PlaysEach}
+use Rattle.trace_run.specs.Watching.{failed_after_play}
+use Rattle.trace_run.specs.OneLine.{IsOfLine}
+use Rattle.trace_run.specs.Lines.{PlaysAll, StopsAt, PlaysEach}
 use Rattle.sim_lines.specs.sim_printing.Printed.{answers_in, Speaks, Prints, PrintsScriptLine}
 use Rattle.sim_lines.specs.sim_printing.PrintLaws.{kept_in-append, Speaks-nil, Speaks-then}
 use Rattle.sim_run.specs.declared.player.ScriptPlayer.{ScriptPlayer}

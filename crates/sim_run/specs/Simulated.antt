@@ -10,7 +10,7 @@ use Rattle.trace_progress.specs.declared.fault.PlayFault.TheVariants.{Trace, Rea
 use Rattle.trace_progress.specs.declared.progress.Progress.{Progress}
 use Rattle.trace_progress.specs.declared.progress.Progress.TheVariants.{Nothing}
 use Rattle.trace_progress.specs.Text.{played_text, lines_of, played_of}
-use Rattle.trace_lines.specs.Lines.{ReadsFarEnough}
+use Rattle.trace_run.specs.Lines.{ReadsFarEnough}
 use Rattle.sim_lines.specs.Faults.{ends_provisioning, script_fault}
 use Rattle.sim_lines.specs.sim_printing.Printed.{answers_in, Speaks}
 

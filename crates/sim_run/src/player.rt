@@ -9,7 +9,7 @@ ghost use Rattle.sim_run.specs.Simulated.{WritesLine};
 use sim_lines::{Script, play_script_line};
 use std::alloc::Global;
 use std::io::Write;
-use trace_lines::{PlayFault, PlaysLines, Watched, write_whole};
+use trace_run::{PlayFault, PlaysLines, Watched, write_whole};
 
 /// How far a script has been played.
 #[derive(Drop)]

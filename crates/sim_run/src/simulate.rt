@@ -7,7 +7,7 @@ ghost use Rattle.sim_run.specs.Simulated.{Simulates};
 use crate::player::ScriptPlayer;
 use std::alloc::Global;
 use std::io::{Read, Write};
-use trace_lines::{MOST_TURNS, PlayFault, Watched, play_lines};
+use trace_run::{MOST_TURNS, PlayFault, Watched, play_lines};
 
 /// Simulates the script that the reader gives: what comes of each line is written, as a trace with its answers, before the next
 /// line is played. What has been written is flushed before each read after the first.

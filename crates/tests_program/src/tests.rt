@@ -10,8 +10,7 @@ use std::alloc::Global;
 use std::io;
 use std::io::{BufWriter, Read, Write};
 use std::process::Abort;
-use trace_lines::{PlayFault, Progress, Watched, play_lines};
-use trace_run::Player;
+use trace_run::{PlayFault, Player, Progress, Watched, play_lines};
 use trace_words::TraceFault;
 
 const SETUP: &[u8] =

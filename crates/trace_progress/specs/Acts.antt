@@ -50,8 +50,8 @@ RunsAs wanted Nothing = ⊥
 RunsAs wanted (Provisioning config provisioned) = ⊥
 RunsAs wanted (Running world) = wanted ≡ Ok world
 
--- the same, or the line of that number has the fault that was met, or memory for the MME was refused: then nothing is provisioned any
--- more
+-- the same, or the line of that number has the fault that was met, or memory for the MME was refused: then nothing is provisioned
+-- any more
 abbrev pub Runs : ℕ → Result World TraceFault → Result (Unit {0}) PlayFault → Progress → Type 0
 Runs line wanted (Ok _) new = RunsAs wanted new
 Runs line wanted (Err NoMemory) new = new ≡ Nothing

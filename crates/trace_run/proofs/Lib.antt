@@ -1,1 +1,9 @@
 pub mod Played
+pub mod Unbroken
+pub mod Feeding
+pub mod Running
+pub mod Answered
+pub mod Ticks
+pub mod Heard
+pub mod Left
+pub mod Unrun

@@ -8,8 +8,8 @@ use Rattle.trace_progress.specs.declared.fault.PlayFault.TheVariants.{Trace, Rea
 use Rattle.trace_progress.specs.declared.progress.Progress.{Progress}
 use Rattle.trace_progress.specs.Text.{played_text, played_of}
 use Rattle.trace_progress.specs.Acts.{IsPrefix}
-use Rattle.trace_lines.specs.Lines.{ReadsFarEnough}
-use Rattle.trace_lines.specs.trace_player.Leaving.{LeftByLine}
+use Rattle.trace_run.specs.Lines.{ReadsFarEnough}
+use Rattle.trace_run.specs.Leaving.{LeftByLine}
 
 -- the line that these octets say is refused with that fault
 abbrev pub LeftOnceRead : Progress → List ℕ → PlayFault → Progress → Type 0

@@ -4,10 +4,12 @@ ghost use Rattle.std.specs.Prelude.{◌≡◌, ◌⊎◌, ◌≤◌, true, false
 ghost use Rattle.std.specs.Io.KnownBytes.{IsAtEnd};
 ghost use Rattle.trace_run.specs.Play.{Plays};
 
+use crate::lines::play_lines;
 use crate::player::Player;
+use crate::watched::{MOST_TURNS, Watched};
 use std::alloc::Global;
 use std::io::{Read, Write};
-use trace_lines::{MOST_TURNS, PlayFault, Watched, play_lines};
+use trace_progress::PlayFault;
 
 /// Plays the trace that the reader gives, and writes the answers of each event before the next one.
 /// What has been answered is flushed before each read after the first.

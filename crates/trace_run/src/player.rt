@@ -6,9 +6,12 @@ ghost use Rattle.trace_progress.specs.Text.{line_effect};
 ghost use Rattle.trace_progress.specs.Acts.{Acts};
 ghost use Rattle.trace_run.specs.Play.{LeftByText};
 
+use crate::acts::act_on_line;
+use crate::playing::PlaysLines;
+use crate::watched::Watched;
 use std::alloc::Global;
 use std::io::Write;
-use trace_lines::{PlayFault, PlaysLines, Progress, Watched, act_on_line, fault_in_line};
+use trace_progress::{PlayFault, Progress, fault_in_line};
 use trace_words::parse_line;
 
 /// How far a trace has been played.

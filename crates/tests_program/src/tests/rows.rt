@@ -3,7 +3,7 @@
 use crate::tests::{RESPONSE, SETUP, must};
 use mme_main::run_play;
 use std::alloc::Global;
-use trace_lines::{PlayFault, Watched};
+use trace_run::{PlayFault, Watched};
 use trace_words::TraceFault;
 
 const EMPTY_OCTETS: &[u8] = b"mme 001 01 8001 01 internet 1000000000 1000000000\n\

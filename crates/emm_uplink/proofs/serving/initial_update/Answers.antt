@@ -1,5 +1,5 @@
 use Rattle.std.proofs.Common.{rules, Some}
-use Rattle.emm_attach.specs.Attaching.{counted_up, took}
+use Rattle.emm_uplink.specs.Attaching.{counted_up, took}
 use Rattle.emm_uplink.specs.Serving.{initial_update, updated_by}
 use Rattle.emm_uplink.proofs.Connecting.{connect_beside}
 use Rattle.emm_uplink.proofs.serving.initial_update.Goals as goal

@@ -1,7 +1,7 @@
 use Rattle.std.proofs.Common.{◌∙◌, IsSome, Some, ap, refl, subst, sym}
 use Rattle.emm_state.specs.Actions.{ended}
 use Rattle.emm_state.specs.declared.draft.Draft.{Draft}
-use Rattle.emm_attach.specs.Attaching.{keyed}
+use Rattle.emm_uplink.specs.Attaching.{keyed}
 use Rattle.emm_uplink.specs.Serving.{active, served}
 use Rattle.emm_uplink.proofs.Connecting.{connect_keeps}
 use Rattle.emm_uplink.proofs.serving.serve.Goals as goal

@@ -1,6 +1,6 @@
 use Rattle.std.proofs.Common.{rules, refl, Some}
 use Rattle.emm_state.specs.Actions.{ended}
-use Rattle.emm_attach.specs.Attaching.{counted_up, keyed, took}
+use Rattle.emm_uplink.specs.Attaching.{counted_up, keyed, took}
 use Rattle.emm_uplink.specs.Serving.{active, served, served_by, service}
 use Rattle.emm_uplink.proofs.Connecting.{connect_beside}
 use Rattle.emm_uplink.proofs.serving.service.Goals as goal

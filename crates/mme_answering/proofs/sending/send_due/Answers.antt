@@ -1,7 +1,7 @@
 use Rattle.std.proofs.Common.{◌++◌, List, ◌∙◌, ap}
 use Rattle.std.proofs.lemmas.Result.{on_ok_weaker, on_err_weaker}
 use Rattle.stranger_machine.specs.declared.turn.Notice.TheVariants.{Tick}
-use Rattle.stranger_table.specs.Laws.{some_known_give}
+use Rattle.mme_tables.specs.StrangerLaws.{some_known_give}
 use Rattle.mme_answering.specs.declared.out.Out.{Out}
 use Rattle.mme_answering.specs.Settled.{known_sent}
 use Rattle.mme_answering.proofs.Known.{due_known}

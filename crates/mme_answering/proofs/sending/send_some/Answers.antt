@@ -5,7 +5,7 @@ use Rattle.std.proofs.lemmas.Result.{err_from_is_err_and}
 use Rattle.sorted_list.specs.Ordered.{at}
 use Rattle.stranger_machine.specs.declared.turn.Notice.TheVariants.{Tick}
 use Rattle.stranger_machine.specs.Table.{known_id}
-use Rattle.stranger_table.specs.Laws.{some_known_give}
+use Rattle.mme_tables.specs.StrangerLaws.{some_known_give}
 use Rattle.mme_answering.specs.Settled.{known_sent}
 use Rattle.mme_answering.proofs.Sent.{SentBut, some_sent}
 use Rattle.mme_answering.proofs.sending.send_some.Goals as goal

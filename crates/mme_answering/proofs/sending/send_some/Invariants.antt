@@ -1,6 +1,6 @@
 use Rattle.std.proofs.Common.{◌≡◌, ◌++◌, drop}
 use Rattle.stranger_machine.specs.declared.turn.Notice.TheVariants.{Tick}
-use Rattle.stranger_table.specs.Laws.{some_known_give}
+use Rattle.mme_tables.specs.StrangerLaws.{some_known_give}
 use Rattle.mme_answering.specs.Settled.{known_sent}
 use Rattle.mme_answering.proofs.Sent.{SentBut}
 use Rattle.mme_answering.proofs.sending.send_some.Given as goal

@@ -1,7 +1,7 @@
 use Rattle.std.proofs.Common.{◌≡◌, ◌∙◌, Option, None, refl, sym, ap, subst}
 use Rattle.std.specs.Prelude.{◌==◌, if◌then◌else◌, IsSome, Some}
 use Rattle.mme_types.specs.declared.connection.Connection.{Connection}
-use Rattle.mme_associations.specs.Whereabouts.{waits_at, NoneConnected}
+use Rattle.mme_tables.specs.Whereabouts.{waits_at, NoneConnected}
 use Rattle.mme_owners.proofs.owners.begin_wait.Goals as goal
 
 pub begin_wait-requires-clause-free : goal.begin_wait-requires-clause-free

@@ -1,6 +1,6 @@
 use Rattle.std.proofs.Common.{◌≡◌, ◌<◌, Option, length, sym, ◌∙◌, ap, subst}
 use Rattle.std.specs.Prelude.{slice_set}
-use Rattle.mme_associations.specs.Whereabouts.{IsFree, NoneWaits}
+use Rattle.mme_tables.specs.Whereabouts.{IsFree, NoneWaits}
 use Rattle.emm_state.specs.declared.solo.Solo.{Solo}
 use Rattle.mme_owners.specs.SteppedView.{SteppedView}
 use Rattle.mme_owners.specs.Touched.{all_whereabouts, whereabouts, IsFreeFor}

@@ -1,5 +1,5 @@
 use Rattle.std.proofs.Common.{◌≡◌, ◌≤◌, ℕ, drop}
-use Rattle.mme_associations.specs.Whereabouts.{waits_at}
+use Rattle.mme_tables.specs.Whereabouts.{waits_at}
 use Rattle.mme_owners.specs.Placed.{still_there}
 use Rattle.mme_owners.proofs.placing.leave.Given as goal
 

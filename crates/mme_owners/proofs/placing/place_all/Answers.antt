@@ -1,7 +1,7 @@
 use Rattle.std.proofs.Common.{◌≡◌, ◌<◌, ◌+◌, ◌∷◌, length, drop, sym, ◌∙◌, ap, subst, arith}
 use Rattle.std.specs.Prelude.{slice_set}
 use Rattle.std.proofs.lemmas.List.{drop_more, length-set}
-use Rattle.mme_associations.specs.Whereabouts.{IsFree, NoneWaits}
+use Rattle.mme_tables.specs.Whereabouts.{IsFree, NoneWaits}
 use Rattle.emm_state.specs.declared.solo.Solo.{Solo}
 use Rattle.sorted_list.specs.Ordered.{Every}
 use Rattle.mme_owners.specs.SteppedView.{SteppedView}

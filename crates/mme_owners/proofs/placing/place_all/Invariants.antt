@@ -1,5 +1,5 @@
 use Rattle.std.proofs.Common.{◌≡◌, ◌<◌, ◌≤◌, ◌+◌, ℕ, drop, length}
-use Rattle.mme_associations.specs.Whereabouts.{waits_at, AreApart}
+use Rattle.mme_tables.specs.Whereabouts.{waits_at, AreApart}
 use Rattle.sorted_list.specs.Ordered.{Every}
 use Rattle.mme_owners.specs.SteppedView.{SteppedView}
 use Rattle.mme_owners.specs.Touched.{with_whereabouts, KeepsConnection}

@@ -1,8 +1,8 @@
 use Rattle.std.proofs.Common.{◌≡◌, ◌+◌, ◌∷◌, None, drop, length, sym, ◌∙◌, ap, subst, arith}
 use Rattle.std.proofs.lemmas.List.{drop_more}
-use Rattle.mme_timers.specs.Running.{IsInRange}
-use Rattle.mme_timers.specs.WaitLaws.{is_wait_at}
-use Rattle.mme_timers.specs.Waiting.{restarted, wait_changed}
+use Rattle.mme_tables.specs.Running.{IsInRange}
+use Rattle.mme_tables.specs.WaitLaws.{is_wait_at}
+use Rattle.mme_tables.specs.Waiting.{restarted, wait_changed}
 use Rattle.mme_owners.proofs.Owned.{in_range}
 use Rattle.mme_owners.proofs.retiming.restart.Goals as goal
 

@@ -1,5 +1,5 @@
 use Rattle.std.proofs.Common.{◌≡◌, ◌+◌, ◌≤◌, drop, length}
-use Rattle.mme_timers.specs.Waiting.{restarted}
+use Rattle.mme_tables.specs.Waiting.{restarted}
 use Rattle.mme_owners.proofs.retiming.restart.Given as goal
 
 -- who is left, and what they lead to

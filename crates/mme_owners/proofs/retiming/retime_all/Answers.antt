@@ -1,7 +1,7 @@
 use Rattle.std.proofs.Common.{◌≡◌, ◌+◌, ◌∷◌, drop, length, sym, ◌∙◌, ap, subst, arith}
 use Rattle.std.proofs.lemmas.List.{drop_more}
 use Rattle.sorted_list.specs.Ordered.{Every}
-use Rattle.mme_timers.specs.Running.{AreInRange, both_retimed}
+use Rattle.mme_tables.specs.Running.{AreInRange, both_retimed}
 use Rattle.mme_owners.specs.SteppedView.{SteppedView}
 use Rattle.mme_owners.specs.Subscribers.{IsCounting}
 use Rattle.mme_owners.specs.Owners.{all_retimed}

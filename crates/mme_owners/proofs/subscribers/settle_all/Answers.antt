@@ -1,7 +1,7 @@
 use Rattle.std.proofs.Common.{◌<◌, ◌∷◌, ◌∙◌, sym, ap, subst, arith, length}
 use Rattle.std.specs.Vec.Iter.{into_iter_items}
 use Rattle.sorted_list.specs.Ordered.{Every}
-use Rattle.mme_timers.specs.SlotLaws.{changed_length}
+use Rattle.mme_tables.specs.SlotLaws.{changed_length}
 use Rattle.mme_owners.specs.SteppedView.{SteppedView}
 use Rattle.mme_owners.specs.Records.{renewed, touched_views, with_records}
 use Rattle.mme_owners.specs.Subscribers.{AreOnward}

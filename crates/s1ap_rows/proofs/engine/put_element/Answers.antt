@@ -1,7 +1,7 @@
 use Rattle.std.proofs.Common.{◌++◌, Bool, List, Result, length, refl, sym, subst}
 use Rattle.per_streams.specs.Bits.{bits, pad}
 use Rattle.per_streams.specs.declared.fault.PerFault.{PerFault}
-use Rattle.per_numbers.specs.Writing.{Wrote}
+use Rattle.per_streams.specs.Writing.{Wrote}
 use Rattle.s1ap_rows.specs.Criticalities.{criticality_number}
 use Rattle.s1ap_rows.proofs.Heads.{criticality_few, element_written, headed}
 use Rattle.s1ap_rows.proofs.engine.put_element.Goals as goal

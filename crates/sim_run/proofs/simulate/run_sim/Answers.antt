@@ -1,5 +1,5 @@
 use Rattle.std.proofs.Common.{sym, ap, ◌∙◌}
-use Rattle.trace_lines.specs.trace_player.Watching.{failed_after_play, IsErrOf-failed}
+use Rattle.trace_run.specs.Watching.{failed_after_play, IsErrOf-failed}
 use Rattle.sim_run.proofs.Simulating.{SimTells-each}
 use Rattle.sim_run.proofs.simulate.run_sim.Goals as goal
 

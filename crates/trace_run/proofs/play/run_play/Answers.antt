@@ -1,5 +1,5 @@
 use Rattle.std.proofs.Common.{sym, ap, ◌∙◌}
-use Rattle.trace_lines.specs.trace_player.Watching.{failed_after_play, IsErrOf-failed}
+use Rattle.trace_run.specs.Watching.{failed_after_play, IsErrOf-failed}
 use Rattle.trace_run.proofs.Played.{WritesFor-each}
 use Rattle.trace_run.proofs.play.run_play.Goals as goal
 

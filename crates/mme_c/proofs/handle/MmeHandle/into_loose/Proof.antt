@@ -24,7 +24,7 @@ use Rattle.std.proofs.ResultValues.{and_tt}
 use Rattle.std.proofs.alloc.Calls.{Al, Goes-blank, handle_tells}
 use Rattle.std.proofs.raw_atomic.Walks.{proved_at, leaves}
 use Rattle.std.specs.contracts.impls.GlobalAllocator.TheImpl.{ghosts, dict}
-use Rattle.loose.proofs.Values.{both, loose_good, loose_in}
+use Rattle.mme_c.proofs.LooseValues.{both, loose_good, loose_in}
 use Rattle.mme_c.proofs.Values.{R, Z, LZ, Lo, H, word, word_good, handle_out, either}
 use Rattle.mme_c.specs.contracts.handle.MmeHandle.into_loose as f
 use Rattle.mme_c.proofs.handle.MmeHandle.into_loose.Statement.{statement}

@@ -18,7 +18,7 @@ use denote.Triple.Walked.{Stays, stay_dropped, walk_of}
 use Rattle.std.proofs.alloc.Calls.{Goes-blank}
 use Rattle.std.proofs.raw_atomic.Walks.{proved_at, leaves}
 use Rattle.std.specs.contracts.impls.GlobalAllocator.TheImpl.{ghosts}
-use Rattle.loose.proofs.Values.{both, loose_good, loose_out}
+use Rattle.mme_c.proofs.LooseValues.{both, loose_good, loose_out}
 use Rattle.c_session.specs.declared.session.Session.{Session}
 use Rattle.mme_c.proofs.Values.{R, Z, LZ, Lo, word, word_good, handle_in}
 use Rattle.mme_c.specs.contracts.handle.MmeHandle.of as f

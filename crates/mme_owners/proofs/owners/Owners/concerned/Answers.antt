@@ -1,6 +1,6 @@
 use Rattle.std.proofs.Common.{◌≡◌, ◌∙◌, ap, subst, IfOk}
 use Rattle.mme_types.specs.Events.{StationGone}
-use Rattle.mme_associations.specs.Whereabouts.{is_concerned, slots_where}
+use Rattle.mme_tables.specs.Whereabouts.{is_concerned, slots_where}
 use Rattle.mme_owners.specs.Touched.{touched_slots}
 use Rattle.mme_owners.specs.Owners.{OwnersView}
 use Rattle.mme_owners.proofs.Touching.{concerned_is}

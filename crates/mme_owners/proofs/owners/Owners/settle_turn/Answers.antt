@@ -1,6 +1,6 @@
 use Rattle.std.proofs.Common.{List, Option, sym, ◌∙◌, ap, subst}
 use Rattle.std.specs.Prelude.{◌==◌, if◌then◌else◌, IsSome, Some}
-use Rattle.mme_associations.specs.Whereabouts.{waits_at}
+use Rattle.mme_tables.specs.Whereabouts.{waits_at}
 use Rattle.emm_machine.specs.SubscriberView.{SubscriberView}
 use Rattle.mme_types.specs.declared.connection.Connection.{Connection}
 use Rattle.stranger_machine.specs.declared.table.Known.{Known}

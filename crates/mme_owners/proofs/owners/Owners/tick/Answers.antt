@@ -3,7 +3,7 @@ use Rattle.sorted_list.specs.Ordered.{Every}
 use Rattle.mme_owners.specs.SteppedView.{SteppedView}
 use Rattle.mme_owners.specs.Subscribers.{AreOnward, due_slots}
 use Rattle.mme_owners.specs.Touched.{all_whereabouts, with_whereabouts, KeepsConnection, KeepsPlace}
-use Rattle.mme_timers.specs.Waiting.{due_ids}
+use Rattle.mme_tables.specs.Waiting.{due_ids}
 use Rattle.mme_owners.specs.Owners.{OwnersView}
 use Rattle.mme_owners.specs.Placed.{place_at, still_there}
 use Rattle.mme_owners.proofs.Places.{still_noted}

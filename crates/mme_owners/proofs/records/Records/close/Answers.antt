@@ -1,6 +1,6 @@
 use Rattle.std.proofs.Common.{sym, ◌∙◌, ap, subst}
-use Rattle.mme_timers.specs.WaitLaws.{are_waits_without}
-use Rattle.mme_timers.specs.Waiting.{AreWaits, wait_stopped}
+use Rattle.mme_tables.specs.WaitLaws.{are_waits_without}
+use Rattle.mme_tables.specs.Waiting.{AreWaits, wait_stopped}
 use Rattle.mme_owners.specs.Owners.{countdowns_of}
 use Rattle.mme_owners.proofs.Owned.{closed}
 use Rattle.mme_owners.proofs.records.Records.close.Goals as goal

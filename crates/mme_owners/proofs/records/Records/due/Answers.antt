@@ -1,5 +1,5 @@
 use Rattle.std.proofs.Common.{◌≡◌, ◌∙◌, ap, subst, IfOk}
-use Rattle.mme_timers.specs.Waiting.{due_ids}
+use Rattle.mme_tables.specs.Waiting.{due_ids}
 use Rattle.mme_owners.specs.Subscribers.{due_slots}
 use Rattle.mme_owners.specs.Owners.{RecordsView}
 use Rattle.mme_owners.proofs.Owned.{due_is_of_owners, due_strangers, due_subscribers}

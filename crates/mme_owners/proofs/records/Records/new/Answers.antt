@@ -1,5 +1,5 @@
 use Rattle.std.proofs.Common.{[], sym, ◌∙◌, ap, subst}
-use Rattle.mme_timers.specs.Waiting.{AreWaits}
+use Rattle.mme_tables.specs.Waiting.{AreWaits}
 use Rattle.mme_owners.specs.Owners.{countdowns_of}
 use Rattle.mme_owners.proofs.records.Records.new.Goals as goal
 

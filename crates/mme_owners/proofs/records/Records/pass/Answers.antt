@@ -3,8 +3,8 @@ use Rattle.sorted_list.specs.Ordered.{Every}
 use Rattle.stranger_machine.specs.declared.turn.Notice.TheVariants.{Tick}
 use Rattle.stranger_machine.specs.Table.{noted}
 use Rattle.timer_queue.specs.Countdowns.{aged}
-use Rattle.mme_timers.specs.WaitLaws.{are_waits_ticked}
-use Rattle.mme_timers.specs.Waiting.{AreWaits, due_ids, restarted}
+use Rattle.mme_tables.specs.WaitLaws.{are_waits_ticked}
+use Rattle.mme_tables.specs.Waiting.{AreWaits, due_ids, restarted}
 use Rattle.mme_owners.specs.SteppedView.{SteppedView}
 use Rattle.mme_owners.specs.Subscribers.{AreOnward, IsCounting, one_less, slots_stepped, tick_settled}
 use Rattle.mme_owners.specs.Owners.{NobodyIsDue, RecordsView, countdowns_of}

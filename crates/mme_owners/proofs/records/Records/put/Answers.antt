@@ -1,7 +1,7 @@
 use Rattle.std.proofs.Common.{sym, ◌∙◌, ap, subst}
-use Rattle.mme_timers.specs.Running.{IsInRange}
-use Rattle.mme_timers.specs.WaitLaws.{are_waits_put}
-use Rattle.mme_timers.specs.Waiting.{AreWaits, wait_at, wait_changed, wait_of}
+use Rattle.mme_tables.specs.Running.{IsInRange}
+use Rattle.mme_tables.specs.WaitLaws.{are_waits_put}
+use Rattle.mme_tables.specs.Waiting.{AreWaits, wait_at, wait_changed, wait_of}
 use Rattle.mme_owners.specs.Owners.{AreRecords, countdowns_of}
 use Rattle.mme_owners.proofs.Owned.{changed, in_range, is_wait}
 use Rattle.mme_owners.proofs.records.Records.put.Goals as goal

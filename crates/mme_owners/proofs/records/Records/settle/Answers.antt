@@ -1,5 +1,5 @@
 use Rattle.std.proofs.Common.{◌<◌, length, sym, ◌∙◌, ap, subst}
-use Rattle.mme_timers.specs.Running.{AreInRange, AreQueued, both_retimed}
+use Rattle.mme_tables.specs.Running.{AreInRange, AreQueued, both_retimed}
 use Rattle.mme_owners.specs.Subscribers.{IsOnwardAt}
 use Rattle.mme_owners.specs.Owners.{RecordsView, countdowns_of}
 use Rattle.mme_owners.proofs.Owned.{known_at, settled}

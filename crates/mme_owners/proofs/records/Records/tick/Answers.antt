@@ -1,8 +1,8 @@
 use Rattle.std.proofs.Common.{◌+◌, sym, ◌∙◌, ap, subst}
 use Rattle.sorted_list.specs.Ordered.{Every}
 use Rattle.timer_queue.specs.Countdowns.{aged}
-use Rattle.mme_timers.specs.WaitLaws.{are_waits_ticked}
-use Rattle.mme_timers.specs.Waiting.{AreWaits, due_ids, restarted}
+use Rattle.mme_tables.specs.WaitLaws.{are_waits_ticked}
+use Rattle.mme_tables.specs.Waiting.{AreWaits, due_ids, restarted}
 use Rattle.mme_owners.specs.SteppedView.{SteppedView}
 use Rattle.mme_owners.specs.Subscribers.{AreOnward, IsCounting, due_slots, tick_settled}
 use Rattle.mme_owners.specs.Owners.{RecordsView, all_retimed, countdowns_of}

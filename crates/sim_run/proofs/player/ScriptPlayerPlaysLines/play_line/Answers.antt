@@ -1,7 +1,7 @@
 use Rattle.std.proofs.Common.{[], ◌∷◌, ap, ◌∙◌}
 use Rattle.sim_words.specs.Kept.{kept_in}
-use Rattle.trace_lines.specs.trace_player.OctetLaws.{Appends-nil, Appends-same}
-use Rattle.trace_lines.specs.trace_player.Watching.{failed_after_octets}
+use Rattle.trace_run.specs.OctetLaws.{Appends-nil, Appends-same}
+use Rattle.trace_run.specs.Watching.{failed_after_octets}
 use Rattle.sim_run.proofs.Simulating.{WritesLine-printed, WritesLine-fault, PrintsScriptLine-place, failed-script_line}
 use Rattle.sim_run.proofs.player.ScriptPlayerPlaysLines.play_line.Goals as goal
 

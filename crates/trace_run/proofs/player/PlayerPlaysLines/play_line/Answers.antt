@@ -1,8 +1,8 @@
 use Rattle.std.proofs.Common.{◌≡◌, Err, sym, subst}
 use Rattle.trace_progress.specs.declared.fault.PlayFault.{PlayFault}
 use Rattle.trace_progress.specs.Effects.{effect_of}
-use Rattle.trace_lines.specs.OneLine.{IsOfLine}
-use Rattle.trace_lines.specs.trace_player.Watching.{failed_after_play}
+use Rattle.trace_run.specs.OneLine.{IsOfLine}
+use Rattle.trace_run.specs.Watching.{failed_after_play}
 use Rattle.trace_run.proofs.Played.{in_line-place, in_line-unwritten, Acts-place}
 use Rattle.trace_run.proofs.player.PlayerPlaysLines.play_line.Goals as goal
 

@@ -1,8 +1,0 @@
-use Rattle.std.proofs.Common.{rules, refl}
-use Rattle.emm_attach.specs.Attaching.{in_security_mode, keyed, secured, secured_by, took}
-use Rattle.emm_attach.proofs.attaching.in_security_mode.Goals as goal
-
--- src/attaching.rt:455:1
-pub returns-then-is_complete : goal.returns-then-is_complete
-unfolding in_security_mode secured_by secured keyed took
-returns-then-is_complete c = let done = c.secured.ensures _ refl in search rules

@@ -1,4 +1,0 @@
-pub mod Lookups
-pub mod Gathered
-pub mod Changed
-pub mod Meant

@@ -1,3 +1,0 @@
-pub mod Whereabouts
-pub mod Kept
-pub mod Items

@@ -1,0 +1,9 @@
+pub mod Lookups
+pub mod Gathered
+pub mod ChangedPlaces
+pub mod Meant
+pub mod KeptStrangers
+pub mod Now
+pub mod Ending
+pub mod Stepping
+pub mod Passing

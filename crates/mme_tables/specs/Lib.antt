@@ -1,0 +1,15 @@
+pub mod Whereabouts
+pub mod KeptPlaces
+pub mod Items
+pub mod Changed
+pub mod Due
+pub mod Joined
+pub mod Running
+pub mod SlotLaws
+pub mod WaitLaws
+pub mod Waiting
+pub mod StrangerRows
+pub mod Strangers
+pub mod Ended
+pub mod KeptStrangers
+pub mod StrangerLaws

@@ -1,4 +1,0 @@
-pub mod Numbers
-pub mod NumberLaws
-pub mod Reading
-pub mod Writing

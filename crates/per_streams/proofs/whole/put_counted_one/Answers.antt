@@ -1,0 +1,12 @@
+use Rattle.std.proofs.Common.{Bool, List, Ok, ap}
+use Rattle.std.proofs.lemmas.List.{append-nil}
+use Rattle.per_streams.specs.Bits.{bits}
+use Rattle.per_streams.proofs.Octets.{counted}
+use Rattle.per_streams.proofs.whole.put_counted_one.Goals as goal
+
+pub returns : goal.returns
+returns c =
+    ap (λ (l : List Bool). Ok l)
+    (counted c.args.writer.now c.fill_octet.new.self (bits 8 c.in_ok-head.head) (bits 8 c.args.number) c.put_whole.new.self _
+    c.args.wide 0 c.in_ok-head.ensures.ok
+    c.in_ok-put_whole.ensures.ok (append-nil (bits 8 c.args.number)))

@@ -1,5 +1,0 @@
-pub mod Kept
-pub mod Now
-pub mod Ending
-pub mod Stepping
-pub mod Passing

@@ -1,5 +1,0 @@
-pub mod Rows
-pub mod Table
-pub mod Ended
-pub mod Kept
-pub mod Laws

@@ -1,3 +1,0 @@
-pub mod Unbroken
-pub mod Feeding
-pub mod Running

@@ -1,4 +1,0 @@
-pub mod OctetLaws
-pub mod FrontLaws
-pub mod Leaving
-pub mod Watching
